@@ -1,0 +1,100 @@
+-- The elements of a pattern, computed from its bytes.
+use Rattle.std.specs.Prelude.{ℕ, zero, suc, ◌+◌, Bool, true, false, not, ◌&&◌, ◌||◌, ◌==◌, nat_le, if◌then◌else◌, List, [], ◌∷◌, map, length, drop, take, slice_index_or, min, position, Option, Some, None}
+use Rattle.std.specs.List.{list_all}
+
+-- A to Z become a to z
+abbrev pub folded : ℕ → ℕ
+folded b = if nat_le 65 b && nat_le b 90 then b + 32 else b
+
+-- what is compared: a byte as it is, or folded
+abbrev pub compared_byte : Bool → ℕ → ℕ
+compared_byte cased b = if cased then b else folded b
+
+abbrev pub compared : Bool → List ℕ → List ℕ
+compared cased text = map (compared_byte cased) text
+
+-- an element that takes exactly one byte
+pub data OneByte : Type 0 where
+  any_byte : OneByte
+  this_byte : ℕ → OneByte
+  one_of : List (ℕ × ℕ) → OneByte
+  none_of : List (ℕ × ℕ) → OneByte
+
+pub data Element : Type 0 where
+  any_bytes : Element
+  one : OneByte → Element
+
+-- the ranges, as pairs, that the bytes of a set spell
+abbrev pub ranges : List ℕ → List (ℕ × ℕ)
+ranges [] = []
+ranges (low ∷ []) = (low, low) ∷ []
+ranges (low ∷ dash ∷ []) = (low, low) ∷ (dash, dash) ∷ []
+ranges (low ∷ dash ∷ high ∷ rest) =
+    if dash == 45 then (low, high) ∷ ranges rest else (low, low) ∷ ranges (dash ∷ high ∷ rest)
+
+abbrev pub in_ranges : List (ℕ × ℕ) → ℕ → Bool
+in_ranges [] b = false
+in_ranges (range ∷ rest) b = (nat_le range.0 b && nat_le b range.1) || in_ranges rest b
+
+abbrev pub admits : OneByte → ℕ → Bool
+admits any_byte b = true
+admits (this_byte x) b = x == b
+admits (one_of set) b = in_ranges set b
+admits (none_of set) b = not (in_ranges set b)
+
+-- whether a set begins with `!` or `^`
+abbrev pub is_negated : List ℕ → Bool
+is_negated [] = false
+is_negated (b ∷ _) = b == 33 || b == 94
+
+-- the bytes of a set behind its negation
+abbrev pub body : List ℕ → List ℕ
+body rest = if is_negated rest then drop 1 rest else rest
+
+-- how many bytes stand between the first member and the first `]` behind it
+abbrev pub end_of_set : List ℕ → Option ℕ
+end_of_set rest = position (λ b. b == 93) (drop 1 (body rest))
+
+abbrev pub set_of : Option ℕ → List ℕ → OneByte
+set_of None rest = this_byte 91
+set_of (Some k) rest =
+    let set = ranges (take (k + 1) (body rest)) in
+    if is_negated rest then none_of set else one_of set
+
+abbrev pub set_width : Option ℕ → List ℕ → ℕ
+set_width None rest = 0
+set_width (Some k) rest = (k + 2) + (if is_negated rest then 1 else 0)
+
+-- the one-byte element that begins with the byte `first`, which isn't `*`
+abbrev pub one_byte : ℕ → List ℕ → OneByte
+one_byte first rest =
+    if first == 63 then any_byte
+    else (if first == 92 then this_byte (slice_index_or rest 0 92)
+    else (if first == 91 then set_of (end_of_set rest) rest
+    else this_byte first))
+
+-- how many bytes it has behind the first
+abbrev pub width_behind : ℕ → List ℕ → ℕ
+width_behind first rest =
+    if first == 92 then min 1 (length rest)
+    else (if first == 91 then set_width (end_of_set rest) rest
+    else 0)
+
+abbrev pub element : ℕ → List ℕ → Element
+element first rest = if first == 42 then any_bytes else one (one_byte first rest)
+
+-- the elements of a text of which so many bytes belong to an element before
+abbrev pub elements_behind : ℕ → List ℕ → List Element
+elements_behind k [] = []
+elements_behind zero (b ∷ rest) = element b rest ∷ elements_behind (width_behind b rest) rest
+elements_behind (suc k) (b ∷ rest) = elements_behind k rest
+
+unfoldable pub elements : List ℕ → List Element
+elements text = elements_behind 0 text
+
+abbrev pub is_special : ℕ → Bool
+is_special b = b == 42 || b == 63 || b == 91 || b == 92
+
+-- a text in which each byte is itself
+abbrev pub is_plain : List ℕ → Bool
+is_plain text = list_all (λ b. not (is_special b)) text

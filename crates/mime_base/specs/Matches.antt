@@ -1,0 +1,39 @@
+-- What it is for a name to match the elements of a pattern.
+use Rattle.std.specs.Prelude.{◌≡◌, ℕ, Bool, true, false, ◌&&◌, ◌||◌, List, [], ◌∷◌, drop, length, ◌≤◌, ◌-◌, IsTrue}
+use Rattle.mime_base.specs.Elements.{Element, any_bytes, one, OneByte, admits, elements, compared}
+
+-- by cases: `*` matches by some cut, any other element takes one byte that it admits
+abbrev pub Matches : List Element → List ℕ → Type 0
+Matches [] name = name ≡ []
+Matches (any_bytes ∷ rest) name = (cut : ℕ) × Matches rest (drop cut name)
+Matches (one element ∷ rest) [] = ⊥
+Matches (one element ∷ rest) (b ∷ name) = IsTrue (admits element b) × Matches rest name
+
+abbrev pub RuleMatches : List ℕ → Bool → List ℕ → Type 0
+RuleMatches pattern cased name = Matches (elements (compared cased pattern)) (compared cased name)
+
+-- the same as a test, which computes
+abbrev pub is_empty : List ℕ → Bool
+is_empty [] = true
+is_empty (_ ∷ _) = false
+
+abbrev pub some_ending : (List ℕ → Bool) → List ℕ → Bool
+some_ending test [] = test []
+some_ending test (b ∷ name) = test (b ∷ name) || some_ending test name
+
+abbrev pub takes_one : OneByte → (List ℕ → Bool) → List ℕ → Bool
+takes_one element test [] = false
+takes_one element test (b ∷ name) = admits element b && test name
+
+unfoldable pub matches : List Element → List ℕ → Bool
+matches [] name = is_empty name
+matches (any_bytes ∷ rest) name = some_ending (matches rest) name
+matches (one element ∷ rest) name = takes_one element (matches rest) name
+
+unfoldable pub rule_matches : List ℕ → Bool → List ℕ → Bool
+rule_matches pattern cased name = matches (elements (compared cased pattern)) (compared cased name)
+
+-- the name has this ending, at the byte `from` or behind it
+abbrev pub EndsSo : Bool → List ℕ → List ℕ → ℕ → Type 0
+EndsSo cased ending name from =
+    (length ending ≤ length name - from) × (compared cased ending ≡ compared cased (drop (length name - length ending) name))

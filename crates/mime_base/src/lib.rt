@@ -1,0 +1,21 @@
+//! The types of a MIME type lookup, and the definitions that the crates above share.
+//!
+//! A type name and a pattern keep their limits by their types, matching is by the definition of a
+//! pattern's elements, and what matching costs is counted in a [`Meter`].
+#![tactic(auto)]
+
+mod class;
+mod database;
+mod host;
+mod memory;
+mod meter;
+mod name;
+mod rule;
+
+pub use class::{Class, class_of, class_of_bytes};
+pub use database::Database;
+pub use host::Host;
+pub use memory::OutOfMemory;
+pub use meter::Meter;
+pub use name::{NameFault, Pattern, TypeName};
+pub use rule::GlobRule;

@@ -1,0 +1,2 @@
+//! What the words of mimelook's command line ask for.
+#![tactic(auto)]

@@ -1,0 +1,2 @@
+//! Readers of the generated text files of a `mime` folder.
+#![tactic(auto)]

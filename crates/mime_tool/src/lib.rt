@@ -1,0 +1,2 @@
+//! The program mimelook, over whatever holds its files and takes its answers.
+#![tactic(auto)]
