@@ -1,7 +1,7 @@
 //! Type names and patterns: texts of bytes that keep the limits of their kind.
 //!
-//! That a type is `MEDIA/SUBTYPE` and that a pattern is a glob is the public specification's
-//! ("Storing the MIME database"). The limits on their bytes and lengths are this project's own.
+//! That a type is `MEDIA/SUBTYPE` and that a pattern is a glob is the public specification's ("Directory
+//! layout" and "The glob files"). The limits on their bytes and lengths are this project's own.
 
 ghost use Rattle.std.specs.Prelude.{◌≡◌, ◌<◌, true, false, length, MatchResult};
 ghost use Rattle.std.specs.List.{list_all};
