@@ -1,5 +1,5 @@
 -- The walk of `plain` over its options, in each order.
-use Rattle.std.proofs.Common.{Bool, true, false, true, false, List, [], ◌∷◌, Option, Some, None, refl, codes}
+use Rattle.std.proofs.Common.{Bool, true, false, List, [], ◌∷◌, Option, Some, None, refl, codes}
 use Rattle.clap.specs.Walk.{Row, Text, Waiting, Walk, idle, nothing_held, option, used, walk_from}
 use Rattle.clap.specs.Simple.{filled, with_index}
 use Rattle.clap.proofs.OnLiterals.{clap_on_literals}

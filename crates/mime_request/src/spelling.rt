@@ -30,11 +30,15 @@ pub fn plain_without_name_only()
         ≡ refused (MissingRequiredArgument ∷ []) }
 {}
 
-/// `--help`, alone or behind the command, asks for help; no words at all are a mistake.
+/// `--help`, alone or behind the command, asks for help; no words at all are a mistake, and so are
+/// words with no FILE.
 pub fn words_without_files()
     ensures help { meaning_of (codes "--help" ∷ []) ≡ refused (DisplayHelp ∷ []) }
-    ensures help_of_plain { meaning_of (codes "plain" ∷ codes "--help" ∷ []) ≡ refused (DisplayHelp ∷ []) }
+    ensures help_of_plain { meaning_of (codes "plain" ∷ codes "--help" ∷ [])
+        ≡ refused (DisplayHelp ∷ []) }
     ensures nothing { meaning_of [] ≡ refused (MissingSubcommand ∷ []) }
+    ensures no_file { meaning_of (codes "plain" ∷ codes "--name-only" ∷ codes "-d" ∷ [] ∷ [])
+        ≡ refused (MissingRequiredArgument ∷ []) }
 {}
 
 /// The parts of DIRS: an empty one counts for nothing, one path is itself, and a colon stands
