@@ -1,0 +1,42 @@
+-- The command line of mimelook: its commands and what each takes.
+use Rattle.std.specs.Prelude.{Some, true, codes}
+use Rattle.clap.specs.Lexer.{usize_max}
+use Rattle.clap.specs.Walk.{Rule}
+use Rattle.clap.specs.Simple.{App, new_app, new_rule, on_top, with_rule, with_subcommand}
+use Rattle.clap.specs.declared.builder.action.ArgAction.TheVariants.{SetTrue}
+
+-- `-d DIRS`
+abbrev pub directories_rule : Rule
+directories_rule = record (new_rule (codes "dirs")) {
+  short = Some 100;
+  value_names = 1;
+  required = true;
+}
+
+-- `--name-only`
+abbrev pub name_only_rule : Rule
+name_only_rule = record (new_rule (codes "name-only")) {
+  long = Some (codes "name-only");
+  action = Some SetTrue;
+}
+
+-- `FILE...`
+abbrev pub files_rule : Rule
+files_rule = record (new_rule (codes "file")) {
+  range = Some (record { start_inclusive = 1; end_inclusive = usize_max });
+  value_names = 1;
+  required = true;
+}
+
+-- `plain -d DIRS [--name-only] FILE...`
+abbrev pub plain : App
+plain = with_rule (with_rule (with_rule (new_app (codes "plain")) directories_rule) name_only_rule)
+    files_rule
+
+-- `mimelook`, without its own name among the words: it wants a command
+abbrev pub mimelook : App
+mimelook = with_subcommand (on_top (λ s. record s {
+  no_binary_name = true;
+  subcommand_required = true;
+  disable_help_subcommand = true;
+}) (new_app (codes "mimelook"))) plain.top
