@@ -1,2 +1,8 @@
 //! Readers of the generated text files of a `mime` folder.
 #![tactic(auto)]
+
+mod globs2;
+mod lines;
+mod names;
+
+pub use globs2::{GlobsFile, read_globs2};
