@@ -1,3 +1,6 @@
 pub mod Lines
 pub mod Names
 pub mod Globs2
+pub mod Pairs
+pub mod Globs2Rows
+pub mod PairsRows

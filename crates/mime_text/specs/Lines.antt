@@ -1,5 +1,5 @@
 -- The lines of a text, their fields and their numbers.
-use Rattle.std.specs.Prelude.{ℕ, ◌+◌, ◌==◌, Bool, true, if◌then◌else◌, List, [], ◌∷◌, ◌↔◌, Contains}
+use Rattle.std.specs.Prelude.{ℕ, ◌+◌, ◌==◌, ◌↔◌, Bool, true, if◌then◌else◌, List, [], ◌∷◌, Contains}
 use Rattle.std.specs.List.{onto_first, slice_split}
 
 -- the bytes up to each newline (10), and those behind the last newline, if any
@@ -11,7 +11,7 @@ lines (b ∷ rest) = if b == 10 then [] ∷ lines rest else onto_first b (lines 
 abbrev pub fields : ℕ → List ℕ → List (List ℕ)
 fields separator line = slice_split (λ b. b == separator) line
 
--- an empty line, and one that begins with # (35), is passed over
+-- an empty line, or one that begins with # (35)
 abbrev pub is_passed : List ℕ → Bool
 is_passed [] = true
 is_passed (b ∷ _) = b == 35
@@ -21,6 +21,10 @@ abbrev pub numbers : (List ℕ → Bool) → ℕ → List (List ℕ) → List �
 numbers test n [] = []
 numbers test n (line ∷ more) =
     if test line then n ∷ numbers test (n + 1) more else numbers test (n + 1) more
+
+-- the numbers of the bad lines of a text, counted from 1
+unfoldable pub skipped_of : (List ℕ → Bool) → List ℕ → List ℕ
+skipped_of is_bad text = numbers is_bad 1 (lines text)
 
 -- a list has just the members of another, in whatever order and however often
 abbrev pub HasJust : List (List ℕ) → List (List ℕ) → Type 0

@@ -4,5 +4,7 @@
 mod globs2;
 mod lines;
 mod names;
+mod pairs;
 
 pub use globs2::{GlobsFile, read_globs2};
+pub use pairs::{PairsFile, read_pairs};

@@ -1,0 +1,1 @@
+-- Rows of aliases and subclasses, computed.
