@@ -87,3 +87,6 @@ fn spelled(alloc: Global, line: &[u8]) -> Result<PairLine, OutOfMemory>
     };
     Ok(PairLine::Pair(Pair { name, target }))
 }
+
+#[cfg(test)]
+mod tests;
