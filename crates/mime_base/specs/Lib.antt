@@ -1,5 +1,6 @@
 pub mod Names
 pub mod Meter
+pub mod Folding
 pub mod Elements
 pub mod Matches
 pub mod Class

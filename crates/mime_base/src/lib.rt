@@ -6,6 +6,9 @@
 
 mod class;
 mod database;
+mod elements;
+mod folding;
+mod glob;
 mod host;
 mod memory;
 mod meter;
@@ -14,6 +17,8 @@ mod rule;
 
 pub use class::{Class, class_of, class_of_bytes};
 pub use database::Database;
+pub use folding::fold;
+pub use glob::glob_matches;
 pub use host::Host;
 pub use memory::OutOfMemory;
 pub use meter::Meter;
