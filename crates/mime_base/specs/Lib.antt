@@ -3,6 +3,7 @@ pub mod Meter
 pub mod Folding
 pub mod Elements
 pub mod Matches
+pub mod Attempt
 pub mod Class
 pub mod Kept
 pub mod Subclass
