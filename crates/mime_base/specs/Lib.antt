@@ -8,3 +8,5 @@ pub mod Class
 pub mod Kept
 pub mod Subclass
 pub mod Choice
+pub mod PatternRows
+pub mod LimitRows

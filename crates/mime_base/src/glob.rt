@@ -28,7 +28,8 @@ pub fn glob_matches(pattern: &[u8], cased: bool, name: &[u8], meter: &mut Meter)
     ensures answer { result ≡ rule_matches pattern.now cased name.now }
     ensures meaning { IsTrue result ↔ RuleMatches pattern.now cased name.now }
     ensures nodes { meter.new.nodes ≡ meter.old.nodes }
-    ensures rises { raised meter.old.bytes (least_tests result (elements (compared cased pattern.now))) ≤ meter.new.bytes }
+    ensures least { raised meter.old.bytes (least_tests result (elements (compared cased pattern.now))) ≤ meter.new.bytes }
+    ensures rises { meter.old.bytes ≤ meter.new.bytes }
     ensures cost { meter.new.bytes ≤ meter.old.bytes + (length pattern.now + 1) * (length name.now + 1) }
 {
     let searched = search(pattern, cased, name);
