@@ -1,8 +1,12 @@
 pub mod Names
 pub mod Meter
+pub mod Folding
 pub mod Elements
 pub mod Matches
+pub mod Attempt
 pub mod Class
 pub mod Kept
 pub mod Subclass
 pub mod Choice
+pub mod PatternRows
+pub mod LimitRows

@@ -4,8 +4,12 @@
 //! pattern's elements, and what matching costs is counted in a [`Meter`].
 #![tactic(auto)]
 
+mod attempt;
 mod class;
 mod database;
+mod elements;
+mod folding;
+mod glob;
 mod host;
 mod memory;
 mod meter;
@@ -15,6 +19,8 @@ mod rule;
 
 pub use class::{Class, class_of, class_of_bytes};
 pub use database::Database;
+pub use folding::fold;
+pub use glob::glob_matches;
 pub use host::Host;
 pub use memory::OutOfMemory;
 pub use meter::Meter;
