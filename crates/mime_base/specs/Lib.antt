@@ -4,6 +4,8 @@ pub mod Folding
 pub mod Elements
 pub mod Matches
 pub mod Class
+pub mod Greatest
 pub mod Kept
+pub mod Rank
 pub mod Subclass
 pub mod Choice

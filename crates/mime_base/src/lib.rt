@@ -13,6 +13,7 @@ mod host;
 mod memory;
 mod meter;
 mod name;
+mod ranking;
 mod rule;
 
 pub use class::{Class, class_of, class_of_bytes};
@@ -23,4 +24,5 @@ pub use host::Host;
 pub use memory::OutOfMemory;
 pub use meter::Meter;
 pub use name::{NameFault, Pattern, TypeName};
+pub use ranking::{Best, rank_of, rank_of_rule, rank_prefers};
 pub use rule::GlobRule;
