@@ -9,3 +9,4 @@ pub mod Kept
 pub mod Rank
 pub mod Subclass
 pub mod Choice
+pub mod KeptRows
