@@ -1,5 +1,5 @@
 -- Keeping the elements of the greatest number.
-use Rattle.std.proofs.Common.{◌≡◌, ℕ, ◌+◌, ◌*◌, ◌<◌, ◌≤◌, ◌==◌, inl, inr, List, [], ◌∷◌, ◌++◌, max, refl, sym, ap, ◌∙◌, arith, eq-eqb}
+use Rattle.std.proofs.Common.{◌≡◌, ℕ, ◌+◌, ◌*◌, ◌<◌, ◌≤◌, ◌==◌, Bool, true, false, cond, inl, inr, List, [], ◌∷◌, ◌++◌, map, max, refl, sym, ap, ◌∙◌, arith, eq-eqb}
 use Rattle.std.specs.List.{All, filter}
 use Rattle.std.proofs.lemmas.Bool.{ne_eqb, cases_order}
 use Rattle.std.proofs.lemmas.List.{append-nil}
@@ -77,6 +77,25 @@ module _ {X : Type 0} (f : X → ℕ) where
         let zero : greatest f xs ≡ 0 = ap (greatest f) no in absurd (omega arith))
     | inr (inr more) ↦ absurd (cc (cons-more x xs more))
   ]
+
+-- over the values of a function
+module _ {X Y : Type 0} (f : Y → ℕ) (value : X → Y) where
+  greatest-map : (xs : List X) → greatest f (map value xs) ≡ greatest (λ x. f (value x)) xs
+  greatest-map [] = refl
+  greatest-map (x ∷ xs) = ap (max (f (value x))) (greatest-map xs)
+
+  filter-map : (p : Y → Bool) (xs : List X) → filter p (map value xs) ≡ map value (filter (λ x. p (value x)) xs)
+  filter-map p [] = refl
+  filter-map p (x ∷ xs) = by_cases (p (value x)) (filter-map p xs)
+    where
+      by_cases : (b : Bool) → filter p (map value xs) ≡ map value (filter (λ y. p (value y)) xs) →
+          cond b (value x ∷ filter p (map value xs)) (filter p (map value xs))
+          ≡ map value (cond b (x ∷ filter (λ y. p (value y)) xs) (filter (λ y. p (value y)) xs))
+      by_cases true rest = ap (λ ys. value x ∷ ys) rest
+      by_cases false rest = rest
+
+  pub of_greatest-map : (xs : List X) → of_greatest f (map value xs) ≡ map value (of_greatest (λ x. f (value x)) xs)
+  of_greatest-map xs = rw greatest-map (filter-map (λ y. f y == greatest (λ x. f (value x)) xs) xs)
 
 -- a product of a lesser number is less by its factor
 lift : (a b base : ℕ) → a < b → a * base + base ≤ b * base
