@@ -101,3 +101,6 @@ impl<T: Drop> Best<T> {
         items
     }
 }
+
+#[cfg(test)]
+mod tests;

@@ -59,3 +59,6 @@ pub fn look_up_plain<'a>(
         }),
     }
 }
+
+#[cfg(test)]
+mod tests;
