@@ -7,7 +7,7 @@ use Rattle.mime_base.specs.Class.{class_of}
 use Rattle.mime_base.specs.Greatest.{greatest, of_greatest}
 use Rattle.mime_base.specs.Kept.{earliness, any_cased, of_first_class, heaviest, longest, cased_if_any, preferred}
 use Rattle.mime_base.specs.Names.{is_pattern}
-use Rattle.mime_base.specs.Rank.{rank, IsRanked, RankPrefers}
+use Rattle.mime_base.specs.Rank.{rank, FitsRank, GreatestRankIsPreferred}
 use Rattle.mime_base.specs.declared.rule.GlobRule.{GlobRule}
 use Rattle.mime_base.proofs.Greatest.{of_greatest-of_greatest}
 
@@ -64,12 +64,12 @@ abbrev by_length : GlobRule → ℕ
 by_length rule = by_weight rule * 65536 + length rule.pattern
 
 -- one preference after another
-pub rank-prefers : RankPrefers
+pub of_greatest-rank_of_rule : GreatestRankIsPreferred
 unfolding rank preferred
-rank-prefers rules ranked =
+of_greatest-rank_of_rule rules ranked =
     sym (cased_if_any-is (longest (heaviest (of_first_class rules)))
-    ∙ ap (λ kept. of_greatest flag (longest kept)) (of_greatest-of_greatest 256 by_class (λ r. r.weight) rules (All-weaker IsRanked (λ r. r.weight < 256) (λ r is. is.0) rules ranked))
-    ∙ ap (of_greatest flag) (of_greatest-of_greatest 65536 by_weight (λ r. length r.pattern) rules (All-weaker IsRanked (λ r. length r.pattern < 65536) (λ r is. is.1) rules ranked))
+    ∙ ap (λ kept. of_greatest flag (longest kept)) (of_greatest-of_greatest 256 by_class (λ r. r.weight) rules (All-weaker FitsRank (λ r. r.weight < 256) (λ r is. is.0) rules ranked))
+    ∙ ap (of_greatest flag) (of_greatest-of_greatest 65536 by_weight (λ r. length r.pattern) rules (All-weaker FitsRank (λ r. length r.pattern < 65536) (λ r is. is.1) rules ranked))
     ∙ of_greatest-of_greatest 2 by_length flag rules (λ k d h. below_two (get_or rules k d).cased))
   where
     below_two : (b : Bool) → cond b 1 0 < 2

@@ -57,6 +57,12 @@ pub star_weight :
 unfolding kept_rules preferred rule_matches matches elements class_of
 star_weight = refl
 
+pub conflict_textual :
+    kept_types (line 50 (codes "application/msword") (codes "*.doc") false ∷ line 50 (codes "text/x-notes") (codes "*.doc") false ∷ []) (codes "a.doc")
+    ≡ codes "application/msword" ∷ codes "text/x-notes" ∷ []
+unfolding kept_rules preferred rule_matches matches elements class_of
+conflict_textual = refl
+
 pub text_is_plain : is_by_itself (codes "text/x-notes") (codes "text/plain") ≡ true
 unfolding is_by_itself
 text_is_plain = refl

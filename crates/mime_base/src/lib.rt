@@ -24,5 +24,5 @@ pub use host::Host;
 pub use memory::OutOfMemory;
 pub use meter::Meter;
 pub use name::{NameFault, Pattern, TypeName};
-pub use ranking::{Best, rank_of, rank_of_rule, rank_prefers};
+pub use ranking::{Best, greatest_rank_is_preferred, rank_of, rank_of_rule};
 pub use rule::GlobRule;

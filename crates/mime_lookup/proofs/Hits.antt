@@ -8,10 +8,10 @@ use denote.Bor.{Bor}
 use Rattle.mime_base.specs.Greatest.{of_greatest}
 use Rattle.mime_base.specs.Kept.{hits, kept_rules}
 use Rattle.mime_base.specs.Matches.{rule_matches}
-use Rattle.mime_base.specs.Rank.{best, rank_of_rule, IsRanked}
+use Rattle.mime_base.specs.Rank.{best, rank_of_rule, FitsRank}
 use Rattle.mime_base.specs.declared.rule.GlobRule.{GlobRule}
 use Rattle.mime_base.proofs.Greatest.{of_greatest-map}
-use Rattle.mime_base.proofs.Ranks.{rank-prefers}
+use Rattle.mime_base.proofs.Ranks.{of_greatest-rank_of_rule}
 
 -- an offer without its reference, and the offer of a rule
 abbrev offered : ℕ × Bor GlobRule → ℕ × GlobRule
@@ -25,13 +25,13 @@ pub record KeepsBest (kept : List (ℕ × Bor GlobRule)) (rules : List GlobRule)
   pub offers : List (ℕ × Bor GlobRule)
   pub kept_is : kept ≡ best offers
   pub offers_are : map offered offers ≡ map offer_of rules
-  pub ranked : All IsRanked rules
+  pub ranked : All FitsRank rules
 
 pub keeps_none : KeepsBest [] []
-keeps_none = record { offers = []; kept_is = refl; offers_are = refl; ranked = All-nil IsRanked }
+keeps_none = record { offers = []; kept_is = refl; offers_are = refl; ranked = All-nil FitsRank }
 
 pub keeps_more : (kept new : List (ℕ × Bor GlobRule)) (rules : List GlobRule) (rank : ℕ) (rule : Bor GlobRule) → KeepsBest kept rules →
-    rank ≡ rank_of_rule rule.now → IsRanked rule.now →
+    rank ≡ rank_of_rule rule.now → FitsRank rule.now →
     ((offers : List (ℕ × Bor GlobRule)) → kept ≡ best offers → new ≡ best (offers ++ (rank, rule) ∷ [])) → KeepsBest new (rules ++ rule.now ∷ [])
 keeps_more kept new rules rank rule so_far rank_is ranked says = record {
   offers = so_far.offers ++ (rank, rule) ∷ [];
@@ -41,7 +41,7 @@ keeps_more kept new rules rank rule so_far rank_is ranked says = record {
       ∙ ap (λ front. front ++ (rank, rule.now) ∷ []) so_far.offers_are
       ∙ ap (λ n. map offer_of rules ++ (n, rule.now) ∷ []) rank_is
       ∙ sym (map-append offer_of rules (rule.now ∷ []));
-  ranked = All-push IsRanked rules rule.now so_far.ranked ranked;
+  ranked = All-push FitsRank rules rule.now so_far.ranked ranked;
 }
 
 pub keeps_all : (kept : List (ℕ × Bor GlobRule)) (rules : List GlobRule) (name : List ℕ) → KeepsBest kept (hits rules name) →
@@ -59,7 +59,7 @@ keeps_all kept rules name so_far =
     ∙ ap (map (λ (offer : ℕ × GlobRule). offer.1)) best_offers
     ∙ map-map (λ (offer : ℕ × GlobRule). offer.1) offer_of (of_greatest rank_of_rule found)
     ∙ map-id (of_greatest rank_of_rule found)
-    ∙ rank-prefers found so_far.ranked
+    ∙ of_greatest-rank_of_rule found so_far.ranked
 
 -- one rule more
 module _ (rules : List GlobRule) (name : List ℕ) (i : ℕ) (rule : GlobRule) (within : i < length rules) (is : rule ≡ get_or rules i rule) where
