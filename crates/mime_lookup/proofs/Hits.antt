@@ -2,7 +2,7 @@
 use Rattle.std.proofs.Common.{◌≡◌, ℕ, ◌+◌, ◌<◌, true, false, cond, List, [], ◌∷◌, ◌++◌, length, take, get_or, map, refl, sym, ap, ◌∙◌}
 use Rattle.std.specs.List.{All}
 use Rattle.std.proofs.lemmas.List.{append-nil, map-append, map-id}
-use Rattle.std.proofs.lemmas.List.Elements.{All-nil, All-push, filter_more}
+use Rattle.std.proofs.lemmas.List.Elements.{All-push, filter_more}
 use Rattle.std.proofs.lemmas.Simd.{map-map}
 use denote.Bor.{Bor}
 use Rattle.mime_base.specs.Greatest.{of_greatest}
@@ -27,9 +27,7 @@ pub record KeepsBest (kept : List (ℕ × Bor GlobRule)) (rules : List GlobRule)
   pub offers_are : map offered offers ≡ map offer_of rules
   pub ranked : All FitsRank rules
 
-pub keeps_none : KeepsBest [] []
-keeps_none = record { offers = []; kept_is = refl; offers_are = refl; ranked = All-nil FitsRank }
-
+-- an offer more
 pub keeps_more : (kept new : List (ℕ × Bor GlobRule)) (rules : List GlobRule) (rank : ℕ) (rule : Bor GlobRule) → KeepsBest kept rules →
     rank ≡ rank_of_rule rule.now → FitsRank rule.now →
     ((offers : List (ℕ × Bor GlobRule)) → kept ≡ best offers → new ≡ best (offers ++ (rank, rule) ∷ [])) → KeepsBest new (rules ++ rule.now ∷ [])
@@ -44,6 +42,7 @@ keeps_more kept new rules rank rule so_far rank_is ranked says = record {
   ranked = All-push FitsRank rules rule.now so_far.ranked ranked;
 }
 
+-- after the last rule
 pub keeps_all : (kept : List (ℕ × Bor GlobRule)) (rules : List GlobRule) (name : List ℕ) → KeepsBest kept (hits rules name) →
     map (λ rule. rule.now) (map (λ offer. offer.1) kept) ≡ kept_rules rules name
 unfolding kept_rules
@@ -61,7 +60,7 @@ keeps_all kept rules name so_far =
     ∙ map-id (of_greatest rank_of_rule found)
     ∙ of_greatest-rank_of_rule found so_far.ranked
 
--- one rule more
+-- one rule more, which is a hit or a miss
 module _ (rules : List GlobRule) (name : List ℕ) (i : ℕ) (rule : GlobRule) (within : i < length rules) (is : rule ≡ get_or rules i rule) where
   hits-more : hits (take (i + 1) rules) name ≡ hits (take i rules) name ++ cond (rule_matches rule.pattern rule.cased name) (rule ∷ []) []
   hits-more =
