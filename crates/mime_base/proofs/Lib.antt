@@ -5,3 +5,6 @@ pub mod Attempts
 pub mod Slides
 pub mod Costs
 pub mod Endings
+pub mod Greatest
+pub mod Offers
+pub mod Ranks

@@ -15,6 +15,7 @@ mod memory;
 mod meter;
 mod name;
 mod pair;
+mod ranking;
 mod rule;
 
 pub use class::{Class, class_of, class_of_bytes};
@@ -26,4 +27,5 @@ pub use memory::OutOfMemory;
 pub use meter::Meter;
 pub use name::{NameFault, Pattern, TypeName};
 pub use pair::Pair;
+pub use ranking::{Best, greatest_rank_is_preferred, rank_of, rank_of_rule};
 pub use rule::GlobRule;
