@@ -1,0 +1,6 @@
+pub mod Zeros
+pub mod Prefixes
+pub mod Mirroring
+pub mod Numbers
+pub mod Masks
+pub mod Windows

@@ -6,3 +6,7 @@ pub mod Class
 pub mod Kept
 pub mod Subclass
 pub mod Choice
+pub mod Bytes
+pub mod Texts
+pub mod Masking
+pub mod Mirrored

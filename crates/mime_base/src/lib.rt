@@ -4,15 +4,22 @@
 //! pattern's elements, and what matching costs is counted in a [`Meter`].
 #![tactic(auto)]
 
+mod byte_fault;
 mod class;
+mod comparing;
+mod counted;
 mod database;
 mod host;
+mod masking;
 mod memory;
 mod meter;
 mod name;
 mod rule;
 
+pub use byte_fault::ByteFault;
 pub use class::{Class, class_of, class_of_bytes};
+pub use comparing::same_name;
+pub use counted::Counted;
 pub use database::Database;
 pub use host::Host;
 pub use memory::OutOfMemory;

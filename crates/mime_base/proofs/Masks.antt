@@ -1,0 +1,54 @@
+-- Bytes under a mask, byte by byte.
+use Rattle.std.proofs.Common.{◌≡◌, ℕ, zero, suc, ◌+◌, ◌<◌, List, [], ◌∷◌, length, get_or, bit_and, refl, ap, ◌∙◌, arith}
+use Rattle.mime_base.specs.Masking.{group_of, in_order, kept, mask_over, masked}
+use Rattle.mime_base.specs.Mirrored.{mirrored}
+use Rattle.mime_base.specs.declared.host.Host.{Host}
+use Rattle.mime_base.proofs.Mirroring.{mirrors}
+
+length-masked : (bytes mask : List ℕ) → length (masked bytes mask) ≡ length bytes
+length-masked [] mask = refl
+length-masked (b ∷ bytes) [] = refl
+length-masked (b ∷ bytes) (m ∷ mask) = ap suc (length-masked bytes mask)
+
+get_or-masked : (bytes mask : List ℕ) (i : ℕ) → i < length bytes → i < length mask
+    → get_or (masked bytes mask) i 0 ≡ bit_and (get_or bytes i 0) (get_or mask i 255)
+get_or-masked [] mask i below in_mask = absurd (omega arith)
+get_or-masked (b ∷ bytes) [] i below in_mask = absurd (omega arith)
+get_or-masked (b ∷ bytes) (m ∷ mask) zero below in_mask = refl
+get_or-masked (b ∷ bytes) (m ∷ mask) (suc i) below in_mask = get_or-masked bytes mask i (omega arith) (omega arith)
+
+length-mask_over : (value mask : List ℕ) → length (mask_over value mask) ≡ length value
+length-mask_over [] mask = refl
+length-mask_over (v ∷ value) [] = ap suc (length-mask_over value [])
+length-mask_over (v ∷ value) (m ∷ mask) = ap suc (length-mask_over value mask)
+
+get_or-mask_over : (value mask : List ℕ) (i : ℕ) → i < length value → get_or (mask_over value mask) i 255 ≡ get_or mask i 255
+get_or-mask_over [] mask i below = absurd (omega arith)
+get_or-mask_over (v ∷ value) [] zero below = refl
+get_or-mask_over (v ∷ value) [] (suc i) below = get_or-mask_over value [] i (omega arith)
+get_or-mask_over (v ∷ value) (m ∷ mask) zero below = refl
+get_or-mask_over (v ∷ value) (m ∷ mask) (suc i) below = get_or-mask_over value mask i (omega arith)
+
+-- a byte of what is as long as the value, under its mask
+module _ (value mask : List ℕ) (word : ℕ) (host : Host) where
+  abbrev pub place : ℕ → ℕ
+  place i = mirrored (group_of word host (length value)) i
+
+  abbrev pub bits : ℕ → ℕ
+  bits i = get_or mask (place i) 255
+
+  pub length-kept : (bytes : List ℕ) → length (kept value mask word host bytes) ≡ length bytes
+  length-kept bytes = length-masked bytes (in_order word host (mask_over value mask))
+
+  pub get_or-kept : (bytes : List ℕ) (i : ℕ) → length bytes ≡ length value → i < length value
+      → get_or (kept value mask word host bytes) i 0 ≡ bit_and (get_or bytes i 0) (bits i)
+  get_or-kept bytes i same below =
+      let over = mask_over value mask in
+      let size = length-mask_over value mask in
+      let moves = mirrors word host over in
+      let inside : i < length over = omega arith in
+      let here = get_or-masked bytes (in_order word host over) i (omega arith) (omega (arith, moves.size)) in
+      let there : get_or (in_order word host over) i 255 ≡ get_or over (place i) 255 =
+      moves.moved i 255 inside ∙ ap (λ (n : ℕ). get_or over (mirrored (group_of word host n) i) 255) size in
+      let kept_bits = get_or-mask_over value mask (place i) ((mirrors word host value).within i below) in
+      here ∙ ap (bit_and (get_or bytes i 0)) (there ∙ kept_bits)
