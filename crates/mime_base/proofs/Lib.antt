@@ -4,3 +4,6 @@ pub mod Mirroring
 pub mod Numbers
 pub mod Masks
 pub mod Windows
+pub mod Standing
+pub mod TextsStand
+pub mod TextFaults

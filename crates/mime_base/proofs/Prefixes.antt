@@ -1,5 +1,5 @@
 -- Lists that are equal as far as they reach.
-use Rattle.std.proofs.Common.{◌≡◌, ℕ, suc, ◌+◌, ◌≤◌, ◌==◌, ◌&&◌, nat_eq, Bool, true, false, cond, List, [], ◌∷◌, length, refl, sym, ap, ◌∙◌, arith}
+use Rattle.std.proofs.Common.{◌≡◌, ℕ, suc, ◌+◌, ◌≤◌, ◌==◌, ◌&&◌, nat_eq, Bool, true, false, cond, List, [], ◌∷◌, length, take, refl, sym, ap, ◌∙◌, arith}
 use Rattle.std.proofs.lemmas.Bool.{eq-eqb, eqb-true, ne_eqb}
 use Rattle.std.proofs.lemmas.Bool.Decides.{nat_tests}
 use Rattle.std.specs.List.{common_prefix_len}
@@ -41,3 +41,21 @@ bytes_eq-prefix (x ∷ xs) (y ∷ ys) same =
         → (cond test (1 + common_prefix_len nat_eq xs ys) 0 == suc (length xs)) ≡ (test && bytes_eq xs ys)
     both true rest = rest
     both false rest = ne_eqb 0 (suc (length xs)) (λ e. omega arith)
+
+-- a list begins with another if that is equal as far as it reaches
+pub front_by_prefix : (xs ys : List ℕ) → common_prefix_len nat_eq xs ys ≡ length xs → take (length xs) ys ≡ xs
+front_by_prefix [] ys whole = refl
+front_by_prefix (x ∷ xs) [] whole = absurd (omega arith)
+front_by_prefix (x ∷ xs) (y ∷ ys) whole =
+    let a = longer (x == y) (common_prefix_len nat_eq xs ys) (length xs) whole in
+    let first = eqb-true x y a.0 in
+    let rest = front_by_prefix xs ys a.1 in
+    rw (first, rest) refl
+
+pub prefix_by_front : (xs ys : List ℕ) → take (length xs) ys ≡ xs → common_prefix_len nat_eq xs ys ≡ length xs
+prefix_by_front [] ys is = refl
+prefix_by_front (x ∷ xs) [] is = absurd cc
+prefix_by_front (x ∷ xs) (y ∷ ys) is =
+    let first : x ≡ y = cc in
+    let rest : take (length xs) ys ≡ xs = cc in
+    rw (eq-eqb x y first) (omega (arith, prefix_by_front xs ys rest))

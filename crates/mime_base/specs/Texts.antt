@@ -12,6 +12,11 @@ abbrev pub HasNoZero : List ℕ → Type 0
 HasNoZero [] = Unit {0}
 HasNoZero (b ∷ bytes) = (b ≢ 0) × HasNoZero bytes
 
+-- what a cache may hold as a text: no zero byte, and at most 256 bytes with the zero behind it
+pub record IsText (text : List ℕ) : Type 0 where
+  pub no_zero : HasNoZero text
+  pub short : length text < 256
+
 -- a text with its zero
 abbrev pub ended : List ℕ → List ℕ
 ended text = text ++ 0 ∷ []

@@ -5,6 +5,7 @@
 #![tactic(auto)]
 
 mod byte_fault;
+mod byte_laws;
 mod class;
 mod comparing;
 mod counted;
@@ -17,6 +18,7 @@ mod name;
 mod rule;
 
 pub use byte_fault::ByteFault;
+pub use byte_laws::{appended_stands, reading_stays, standing_reads_back, texts_are_read};
 pub use class::{Class, class_of, class_of_bytes};
 pub use comparing::same_name;
 pub use counted::Counted;
