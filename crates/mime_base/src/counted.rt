@@ -228,3 +228,6 @@ fn unended(front: &[u8], at: u64) -> ByteFault
         ByteFault::OutOfRange(at)
     }
 }
+
+#[cfg(test)]
+mod tests;
