@@ -15,7 +15,8 @@ use std::cmp::Ordering;
 pub fn same_name(left: &[u8], right: &[u8], meter: &mut Meter) -> bool
     ensures same { IsTrue result ↔ (left.now ≡ right.now) }
     ensures nodes { meter.new.nodes ≡ meter.old.nodes }
-    ensures bytes { meter.new.bytes ≡ raised meter.old.bytes (common_prefix_len nat_eq left.now right.now + 1) }
+    ensures bytes { meter.new.bytes
+        ≡ raised meter.old.bytes (common_prefix_len nat_eq left.now right.now + 1) }
     ensures limit { common_prefix_len nat_eq left.now right.now ≤ length left.now }
     ensures rises { meter.old.bytes ≤ meter.new.bytes }
 {

@@ -150,13 +150,16 @@ impl<'a> Counted<'a> {
     ) -> Result<bool, ByteFault>
         requires { size ≡ length window.now }
         ensures equal { IfOk result (λ equal. (both_lie self.now at mask_at size ≡ true)
-            × (equal ≡ window_equals (value_at self.now at size) (optional_mask self.now mask_at size) word host window.now)) }
+            × (equal ≡ window_equals (value_at self.now at size)
+            (optional_mask self.now mask_at size) word host window.now)) }
         ensures fault { IfErr result (λ fault. (both_lie self.now at mask_at size ≡ false)
             × (fault ≡ ByteFault.OutOfRange (if lies self.now at size then mask_at else at))) }
         ensures nodes { meter.new.nodes ≡ meter.old.nodes }
         ensures bytes { OnOk result (meter.new.bytes ≡ raised meter.old.bytes
-            (min (equal_bytes (value_at self.now at size) (optional_mask self.now mask_at size) word host window.now + 1) size)) }
-        ensures none { OnErr result (meter.new.bytes ≡ meter.old.bytes) }
+            (min (equal_bytes (value_at self.now at size)
+            (optional_mask self.now mask_at size) word host window.now + 1) size)) }
+        ensures bytes_at_fault { OnErr result (meter.new.bytes ≡ meter.old.bytes) }
+        ensures limit { meter.new.bytes ≤ meter.old.bytes + size }
         ensures rises { meter.old.bytes ≤ meter.new.bytes }
     {
         if window.is_empty() {
