@@ -22,20 +22,22 @@ length-mask_over [] mask = refl
 length-mask_over (v ∷ value) [] = ap suc (length-mask_over value [])
 length-mask_over (v ∷ value) (m ∷ mask) = ap suc (length-mask_over value mask)
 
-get_or-mask_over : (value mask : List ℕ) (i : ℕ) → i < length value → get_or (mask_over value mask) i 255 ≡ get_or mask i 255
+get_or-mask_over : (value mask : List ℕ) (i : ℕ) → i < length value
+    → get_or (mask_over value mask) i 255 ≡ get_or mask i 255
 get_or-mask_over [] mask i below = absurd (omega arith)
 get_or-mask_over (v ∷ value) [] zero below = refl
 get_or-mask_over (v ∷ value) [] (suc i) below = get_or-mask_over value [] i (omega arith)
 get_or-mask_over (v ∷ value) (m ∷ mask) zero below = refl
 get_or-mask_over (v ∷ value) (m ∷ mask) (suc i) below = get_or-mask_over value mask i (omega arith)
 
+-- where a byte of the value stood before its groups were reversed
+abbrev pub place : List ℕ → ℕ → Host → ℕ → ℕ
+place value word host i = mirrored (group_of word host (length value)) i
+
 -- a byte of what is as long as the value, under its mask
 module _ (value mask : List ℕ) (word : ℕ) (host : Host) where
-  abbrev pub place : ℕ → ℕ
-  place i = mirrored (group_of word host (length value)) i
-
   abbrev pub bits : ℕ → ℕ
-  bits i = get_or mask (place i) 255
+  bits i = get_or mask (place value word host i) 255
 
   pub length-kept : (bytes : List ℕ) → length (kept value mask word host bytes) ≡ length bytes
   length-kept bytes = length-masked bytes (in_order word host (mask_over value mask))
@@ -48,7 +50,7 @@ module _ (value mask : List ℕ) (word : ℕ) (host : Host) where
       let moves = mirrors word host over in
       let inside : i < length over = omega arith in
       let here = get_or-masked bytes (in_order word host over) i (omega arith) (omega (arith, moves.size)) in
-      let there : get_or (in_order word host over) i 255 ≡ get_or over (place i) 255 =
+      let there : get_or (in_order word host over) i 255 ≡ get_or over (place value word host i) 255 =
       moves.moved i 255 inside ∙ ap (λ (n : ℕ). get_or over (mirrored (group_of word host n) i) 255) size in
-      let kept_bits = get_or-mask_over value mask (place i) ((mirrors word host value).within i below) in
+      let kept_bits = get_or-mask_over value mask (place value word host i) ((mirrors word host value).within i below) in
       here ∙ ap (bit_and (get_or bytes i 0)) (there ∙ kept_bits)

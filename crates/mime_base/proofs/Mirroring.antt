@@ -39,20 +39,31 @@ get_or-reversed_fours (a ∷ b ∷ c ∷ d ∷ rest) (suc zero) e even below = r
 get_or-reversed_fours (a ∷ b ∷ c ∷ d ∷ rest) (suc (suc zero)) e even below = refl
 get_or-reversed_fours (a ∷ b ∷ c ∷ d ∷ rest) (suc (suc (suc zero))) e even below = refl
 get_or-reversed_fours (a ∷ b ∷ c ∷ d ∷ rest) (suc (suc (suc (suc i)))) e even below =
-    let place : suc (suc (suc (suc (i + 3 - 2 * (i % 4))))) ≡ suc (suc (suc (suc i))) + 3 - 2 * (suc (suc (suc (suc i))) % 4) = omega arith in
-    get_or-reversed_fours rest i e (omega arith) (omega arith) ∙ ap (λ (n : ℕ). get_or (a ∷ b ∷ c ∷ d ∷ rest) n e) place
+    let place : suc (suc (suc (suc (i + 3 - 2 * (i % 4))))) ≡ suc (suc (suc (suc i))) + 3 - 2 * (suc (suc (suc (suc i))) % 4) =
+    omega arith in
+    get_or-reversed_fours rest i e (omega arith) (omega arith)
+    ∙ ap (λ (n : ℕ). get_or (a ∷ b ∷ c ∷ d ∷ rest) n e) place
 
 -- what reversal by a group that divides the bytes keeps and moves
 pub record Mirrors (group : ℕ) (bytes : List ℕ) : Type 0 where
   pub size : length (reversed_groups group bytes) ≡ length bytes
-  pub moved : (i e : ℕ) → i < length bytes → get_or (reversed_groups group bytes) i e ≡ get_or bytes (mirrored group i) e
+  pub moved : (i e : ℕ) → i < length bytes
+      → get_or (reversed_groups group bytes) i e ≡ get_or bytes (mirrored group i) e
   pub within : (i : ℕ) → i < length bytes → mirrored group i < length bytes
 
 by_twos : (bytes : List ℕ) → length bytes % 2 ≡ 0 → Mirrors 2 bytes
-by_twos bytes even = record { size = length-reversed_twos bytes; moved = λ i e. get_or-reversed_twos bytes i e even; within = λ i below. omega arith }
+by_twos bytes even = record {
+  size = length-reversed_twos bytes;
+  moved = λ i e. get_or-reversed_twos bytes i e even;
+  within = λ i below. omega arith;
+}
 
 by_fours : (bytes : List ℕ) → length bytes % 4 ≡ 0 → Mirrors 4 bytes
-by_fours bytes even = record { size = length-reversed_fours bytes; moved = λ i e. get_or-reversed_fours bytes i e even; within = λ i below. omega arith }
+by_fours bytes even = record {
+  size = length-reversed_fours bytes;
+  moved = λ i e. get_or-reversed_fours bytes i e even;
+  within = λ i below. omega arith;
+}
 
 by_ones : (bytes : List ℕ) → Mirrors 1 bytes
 by_ones bytes = record { size = refl; moved = λ i e below. refl; within = λ i below. below }
@@ -61,13 +72,15 @@ divides : (group size : ℕ) (test : Bool) → (test && (size % group == 0)) ≡
 divides group size true h = eqb-true (size % group) 0 h
 divides group size false h = absurd cc
 
--- the group of a word divides the bytes
-little : (bytes : List ℕ) (two four : Bool) → (two ≡ true → length bytes % 2 ≡ 0) → (four ≡ true → length bytes % 4 ≡ 0)
+little : (bytes : List ℕ) (two four : Bool) → (two ≡ true → length bytes % 2 ≡ 0)
+    → (four ≡ true → length bytes % 4 ≡ 0)
     → Mirrors (cond two 2 (cond four 4 1)) bytes
 little bytes true four by2 by4 = by_twos bytes (by2 refl)
 little bytes false true by2 by4 = by_fours bytes (by4 refl)
 little bytes false false by2 by4 = by_ones bytes
 
+-- the group of a word divides the bytes
 pub mirrors : (word : ℕ) (host : Host) (bytes : List ℕ) → Mirrors (group_of word host (length bytes)) bytes
 mirrors word Big bytes = by_ones bytes
-mirrors word Little bytes = little bytes _ _ (divides 2 (length bytes) (word == 2)) (divides 4 (length bytes) (word == 4))
+mirrors word Little bytes =
+    little bytes _ _ (divides 2 (length bytes) (word == 2)) (divides 4 (length bytes) (word == 4))

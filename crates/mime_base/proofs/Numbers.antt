@@ -16,11 +16,13 @@ fields_from-is c at i zero (x ∷ numbers) size each = absurd (omega arith)
 fields_from-is c at i (suc n) [] size each = absurd (omega arith)
 fields_from-is c at i (suc n) (x ∷ numbers) size each =
     let first : x ≡ field c at i = each 0 (omega arith) ∙ ap (field c at) (omega arith) in
-    let rest = fields_from-is c at (suc i) n numbers (omega arith) (λ k below. each (suc k) (omega arith) ∙ ap (field c at) (omega arith)) in
+    let rest = fields_from-is c at (suc i) n numbers (omega arith)
+    (λ k below. each (suc k) (omega arith) ∙ ap (field c at) (omega arith)) in
     rw (first, ← rest) refl
 
 -- a number of the bytes of a record is one of the record
-number-of_record : (c : List ℕ) (at k n : ℕ) → k < n → big_number 4 (drop (4 * k) (value_at c at (4 * n))) ≡ field c at k
+number-of_record : (c : List ℕ) (at k n : ℕ) → k < n
+    → big_number 4 (drop (4 * k) (value_at c at (4 * n))) ≡ field c at k
 unfolding field
 number-of_record c at k n below =
     let size : 4 * n ≡ 4 * k + 4 * (n - k) = omega arith in
@@ -34,22 +36,25 @@ pub fields-read : (c record_bytes numbers : List ℕ) (at n : ℕ) → record_by
     → IsRead big_number 4 record_bytes numbers → length numbers ≡ n → numbers ≡ fields c at n
 fields-read c record_bytes numbers at n is read size =
     fields_from-is c at 0 n numbers size (λ k below.
-    read k (omega arith) ∙ ap (λ b. big_number 4 (drop (4 * k) b)) is ∙ number-of_record c at k n below ∙ ap (field c at) (omega arith))
+    read k (omega arith) ∙ ap (λ b. big_number 4 (drop (4 * k) b)) is ∙ number-of_record c at k n below
+    ∙ ap (field c at) (omega arith))
 
 length-card_bytes : (n : ℕ) → length (card_bytes n) ≡ 4
 unfolding card_bytes
 length-card_bytes n = length-bytes_high_first 4 n
 
-field-written : (c : List ℕ) (at i n : ℕ) (rest : List ℕ) → n < 2 ^ 32 → drop (at + 4 * i) c ≡ card_bytes n ++ rest → field c at i ≡ n
+field-written : (c : List ℕ) (at i n : ℕ) (rest : List ℕ) → n < 2 ^ 32
+    → drop (at + 4 * i) c ≡ card_bytes n ++ rest → field c at i ≡ n
 unfolding field card_bytes
 field-written c at i n rest small is = ap (big_number 4) is ∙ big_number-reads_back 4 n rest small
 
-fields_from-written : (c : List ℕ) (at i : ℕ) (numbers back : List ℕ) → AreCards numbers → drop (at + 4 * i) c ≡ cards numbers ++ back
-    → fields_from c at i (length numbers) ≡ numbers
+fields_from-written : (c : List ℕ) (at i : ℕ) (numbers back : List ℕ) → AreCards numbers
+    → drop (at + 4 * i) c ≡ cards numbers ++ back → fields_from c at i (length numbers) ≡ numbers
 fields_from-written c at i [] back small is = refl
 fields_from-written c at i (n ∷ numbers) back small is =
     let here : drop (at + 4 * i) c ≡ card_bytes n ++ (cards numbers ++ back) =
-    is ∙ ap (λ xs. xs ++ back) (flat_map-cons card_bytes n numbers) ∙ append_assoc (card_bytes n) (cards numbers) back in
+    is ∙ ap (λ xs. xs ++ back) (flat_map-cons card_bytes n numbers)
+    ∙ append_assoc (card_bytes n) (cards numbers) back in
     let first = field-written c at i n (cards numbers ++ back) (small 0) here in
     let next : drop (at + 4 * suc i) c ≡ cards numbers ++ back =
     ap (λ (k : ℕ). drop k c) (omega arith) ∙ sym (drop-drop 4 (at + 4 * i) c) ∙ ap (drop 4) here
@@ -71,7 +76,8 @@ field-more c more at i inside =
     ap (big_number 4) (drop-append-le (at + 4 * i) c more (omega arith))
     ∙ big_from-append 4 (drop (at + 4 * i) c) more (omega (arith, length-drop (at + 4 * i) c))
 
-fields_from-more : (c more : List ℕ) (at i n : ℕ) → at + 4 * (i + n) ≤ length c → fields_from (c ++ more) at i n ≡ fields_from c at i n
+fields_from-more : (c more : List ℕ) (at i n : ℕ) → at + 4 * (i + n) ≤ length c
+    → fields_from (c ++ more) at i n ≡ fields_from c at i n
 fields_from-more c more at i zero inside = refl
 fields_from-more c more at i (suc n) inside =
     rw (field-more c more at i (omega arith), fields_from-more c more at (suc i) n (omega arith)) refl

@@ -15,7 +15,8 @@ longer true n k e = (refl, omega arith)
 longer false n k e = absurd (omega arith)
 
 -- two lists are equal if both reach no further than they are equal
-pub equal_by_prefix : (xs ys : List ℕ) → common_prefix_len nat_eq xs ys ≡ length xs → common_prefix_len nat_eq xs ys ≡ length ys → xs ≡ ys
+pub equal_by_prefix : (xs ys : List ℕ) → common_prefix_len nat_eq xs ys ≡ length xs
+    → common_prefix_len nat_eq xs ys ≡ length ys → xs ≡ ys
 equal_by_prefix [] [] left right = refl
 equal_by_prefix [] (y ∷ ys) left right = absurd (omega arith)
 equal_by_prefix (x ∷ xs) [] left right = absurd (omega arith)
@@ -30,7 +31,8 @@ eqb-suc : (n k : ℕ) → (1 + n == suc k) ≡ (n == k)
 eqb-suc n k = grind (arith, nat_tests)
 
 -- lists of one length are equal if one is equal as far as it reaches
-pub bytes_eq-prefix : (xs ys : List ℕ) → length xs ≡ length ys → (common_prefix_len nat_eq xs ys == length xs) ≡ bytes_eq xs ys
+pub bytes_eq-prefix : (xs ys : List ℕ) → length xs ≡ length ys
+    → (common_prefix_len nat_eq xs ys == length xs) ≡ bytes_eq xs ys
 bytes_eq-prefix [] [] same = refl
 bytes_eq-prefix [] (y ∷ ys) same = absurd (omega arith)
 bytes_eq-prefix (x ∷ xs) [] same = absurd (omega arith)

@@ -27,7 +27,8 @@ none_if_whole (b ∷ bytes) whole = each (b == 0) refl whole (λ h. none_if_whol
     each false is long rest = (λ e. absurd (cc (eq-eqb b 0 e)), rest (omega arith))
 
 -- what a refusal tells of the test before it
-refused : {X Y : Type 0} (test : Bool) (x : X) (y z : Y) → cond test (Ok x) (Err y) ≡ Err z → (test ≡ false) × (y ≡ z)
+refused : {X Y : Type 0} (test : Bool) (x : X) (y z : Y)
+    → cond test (Ok x) (Err y) ≡ Err z → (test ≡ false) × (y ≡ z)
 refused true x y z e = absurd cc
 refused false x y z e = (refl, cc)
 
@@ -35,7 +36,8 @@ refused false x y z e = (refl, cc)
 long : (room at : ℕ) (bytes : List ℕ) → (unended room at bytes ≡ LongText at) ↔ (length bytes ≡ room)
 long room at bytes = (by (length bytes == room) refl, λ e. rw (eq-eqb (length bytes) room e) refl)
   where
-    by : (test : Bool) → (length bytes == room) ≡ test → cond test (LongText at) (OutOfRange at) ≡ LongText at → length bytes ≡ room
+    by : (test : Bool) → (length bytes == room) ≡ test → cond test (LongText at) (OutOfRange at) ≡ LongText at
+        → length bytes ≡ room
     by true is e = eqb-true (length bytes) room is
     by false is e = absurd cc
 
@@ -43,7 +45,8 @@ long room at bytes = (by (length bytes == room) refl, λ e. rw (eq-eqb (length b
 outside : (room at : ℕ) (bytes : List ℕ) → (unended room at bytes ≡ OutOfRange at) ↔ (length bytes ≢ room)
 outside room at bytes = (by (length bytes == room) refl, λ n. rw (ne_eqb (length bytes) room n) refl)
   where
-    by : (test : Bool) → (length bytes == room) ≡ test → cond test (LongText at) (OutOfRange at) ≡ OutOfRange at → length bytes ≢ room
+    by : (test : Bool) → (length bytes == room) ≡ test → cond test (LongText at) (OutOfRange at) ≡ OutOfRange at
+        → length bytes ≢ room
     by true is e = absurd cc
     by false is e = λ h. absurd (cc (eq-eqb (length bytes) room h))
 
@@ -57,11 +60,14 @@ module _ (room : ℕ) (some : 0 < room) (c : List ℕ) (at : ℕ) where
   -- bytes are no text exactly if they have no zero
   none_read : HasNoZero bytes → text_in room at bytes ≡ Err (unended room at bytes)
   none_read none =
-      rw (le-ltb (length (before_zero bytes)) (length bytes) (omega (arith, ap length (before_zero-none bytes none)))) refl
+      let all = before_zero-none bytes none in
+      rw (le-ltb (length (before_zero bytes)) (length bytes) (omega (arith, ap length all))) refl
 
-  unread : (fault : ByteFault) → text_in room at bytes ≡ Err fault → HasNoZero bytes × (unended room at bytes ≡ fault)
+  unread : (fault : ByteFault) → text_in room at bytes ≡ Err fault
+      → HasNoZero bytes × (unended room at bytes ≡ fault)
   unread fault e =
-      let r = refused (nat_lt (length (before_zero bytes)) (length bytes)) (before_zero bytes) (unended room at bytes) fault e in
+      let r = refused (nat_lt (length (before_zero bytes)) (length bytes)) (before_zero bytes)
+      (unended room at bytes) fault e in
       (none_if_whole bytes (ltb-false (length (before_zero bytes)) (length bytes) r.0), r.1)
 
   long_in : (text_in room at bytes ≡ Err (LongText at)) ↔ ((at + room ≤ length c) × HasNoZero bytes)
@@ -78,10 +84,12 @@ module _ (room : ℕ) (some : 0 < room) (c : List ℕ) (at : ℕ) where
 
   -- there is no order exactly if there is no text and the key begins with the bytes
   order_refused : (key : List ℕ) (fault : ByteFault)
-      → (order_in room at bytes key ≡ Err fault) ↔ ((text_in room at bytes ≡ Err fault) × (take (length bytes) key ≡ bytes))
+      → (order_in room at bytes key ≡ Err fault)
+      ↔ ((text_in room at bytes ≡ Err fault) × (take (length bytes) key ≡ bytes))
   order_refused key fault = (
     λ e.
-        let r = refused (nat_lt (shared bytes key) (length bytes)) (slice_cmp nat_cmp (before_zero bytes) key) (unended room at bytes) fault e in
+        let r = refused (nat_lt (shared bytes key) (length bytes)) (slice_cmp nat_cmp (before_zero bytes) key)
+        (unended room at bytes) fault e in
         let whole = ltb-false (shared bytes key) (length bytes) r.0 in
         let reach = common_prefix_len-le nat_eq (before_zero bytes) key in
         let shorter = length-before_zero bytes in
@@ -98,15 +106,18 @@ module _ (room : ℕ) (some : 0 < room) (c : List ℕ) (at : ℕ) where
         rw (le-ltb (shared bytes key) (length bytes) (omega arith)) (ap Err u.1),
   )
 
-pub text_at-long : (c : List ℕ) (at : ℕ) → (text_at c at ≡ Err (LongText at)) ↔ ((at + 256 ≤ length c) × HasNoZero (front 256 c at))
+pub text_at-long : (c : List ℕ) (at : ℕ)
+    → (text_at c at ≡ Err (LongText at)) ↔ ((at + 256 ≤ length c) × HasNoZero (front 256 c at))
 unfolding text_at
 text_at-long c at = long_in 256 (omega arith) c at
 
-pub text_at-outside : (c : List ℕ) (at : ℕ) → (text_at c at ≡ Err (OutOfRange at)) ↔ ((length c < at + 256) × HasNoZero (front 256 c at))
+pub text_at-outside : (c : List ℕ) (at : ℕ)
+    → (text_at c at ≡ Err (OutOfRange at)) ↔ ((length c < at + 256) × HasNoZero (front 256 c at))
 unfolding text_at
 text_at-outside c at = outside_in 256 (omega arith) c at
 
 pub order_at-refused : (c : List ℕ) (at : ℕ) (key : List ℕ) (fault : ByteFault)
-    → (order_at c at key ≡ Err fault) ↔ ((text_at c at ≡ Err fault) × (take (length (front 256 c at)) key ≡ front 256 c at))
+    → (order_at c at key ≡ Err fault)
+    ↔ ((text_at c at ≡ Err fault) × (take (length (front 256 c at)) key ≡ front 256 c at))
 unfolding text_at order_at
 order_at-refused c at key fault = order_refused 256 (omega arith) c at key fault

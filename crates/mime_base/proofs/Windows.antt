@@ -9,7 +9,8 @@ use Rattle.mime_base.proofs.Masks.{bits, get_or-kept, length-kept, place}
 use Rattle.mime_base.proofs.Mirroring.{mirrors}
 use Rattle.mime_base.proofs.Prefixes.{bytes_eq-prefix}
 
-module _ (value mask : List ℕ) (word : ℕ) (host : Host) (window : List ℕ) (same : length window ≡ length value) where
+module _ (value mask : List ℕ) (word : ℕ) (host : Host) (window : List ℕ)
+    (same : length window ≡ length value) where
   abbrev pub left : List ℕ
   left = kept value mask word host window
 
@@ -20,16 +21,20 @@ module _ (value mask : List ℕ) (word : ℕ) (host : Host) (window : List ℕ) 
   left_size = length-kept value mask word host window
 
   right_size : length right ≡ length window
-  right_size = length-kept value mask word host (in_order word host value) ∙ (mirrors word host value).size ∙ sym same
+  right_size =
+      length-kept value mask word host (in_order word host value) ∙ (mirrors word host value).size ∙ sym same
 
-  -- byte i of the window, byte p of the value before its groups were reversed, and the bits k kept of both
-  module _ (i p k : ℕ) (below : i < length window) (place_is : p ≡ place value mask word host i) (bits_are : k ≡ get_or mask p 255) where
+  -- byte i of the window and byte p of the value, which stood there before the groups were reversed,
+  -- and the bits k kept of both
+  module _ (i p k : ℕ) (below : i < length window) (place_is : p ≡ place value word host i)
+      (bits_are : k ≡ get_or mask p 255) where
     kept_bits : k ≡ bits value mask word host i
     kept_bits = bits_are ∙ ap (λ (n : ℕ). get_or mask n 255) place_is
 
     left_byte : get_or left i 0 ≡ bit_and (get_or window i 0) k
     left_byte =
-        get_or-kept value mask word host window i same (omega arith) ∙ ap (bit_and (get_or window i 0)) (sym kept_bits)
+        get_or-kept value mask word host window i same (omega arith)
+        ∙ ap (bit_and (get_or window i 0)) (sym kept_bits)
 
     right_byte : get_or right i 0 ≡ bit_and (get_or value p 0) k
     right_byte =
@@ -48,7 +53,8 @@ module _ (value mask : List ℕ) (word : ℕ) (host : Host) (window : List ℕ) 
 
     -- a byte that does not is counted
     pub goes_on : bit_and (get_or window i 0) k ≡ bit_and (get_or value p 0) k
-        → common_prefix_len nat_eq (drop i left) (drop i right) ≡ 1 + common_prefix_len nat_eq (drop (i + 1) left) (drop (i + 1) right)
+        → common_prefix_len nat_eq (drop i left) (drop i right)
+        ≡ 1 + common_prefix_len nat_eq (drop (i + 1) left) (drop (i + 1) right)
     goes_on equal =
         common_prefix_len-drop_yes nat_eq left right i 0 0 (omega (arith, left_size)) (omega (arith, right_size))
         (eq-eqb _ _ (left_byte ∙ equal ∙ sym right_byte))
@@ -61,16 +67,19 @@ module _ (value mask : List ℕ) (word : ℕ) (host : Host) (window : List ℕ) 
 
   -- what the count tells of the window
   pub counted : (n : ℕ) → n ≡ common_prefix_len nat_eq left right
-      → (n ≡ equal_bytes value mask word host window) × ((n == length window) ≡ window_equals value mask word host window)
+      → (n ≡ equal_bytes value mask word host window)
+      × ((n == length window) ≡ window_equals value mask word host window)
   unfolding equal_bytes window_equals
   counted n is = (
     is,
-    ap (λ (k : ℕ). k == length window) is ∙ ap (λ (k : ℕ). common_prefix_len nat_eq left right == k) (sym left_size)
+    ap (λ (k : ℕ). k == length window) is
+        ∙ ap (λ (k : ℕ). common_prefix_len nat_eq left right == k) (sym left_size)
         ∙ bytes_eq-prefix left right (left_size ∙ sym right_size),
   )
 
 -- no bytes equal no bytes
-pub nothing_equals : (value mask : List ℕ) (word : ℕ) (host : Host) (window : List ℕ) → length value ≡ 0 → length window ≡ 0
+pub nothing_equals : (value mask : List ℕ) (word : ℕ) (host : Host) (window : List ℕ)
+    → length value ≡ 0 → length window ≡ 0
     → true ≡ window_equals value mask word host window
 nothing_equals value mask word host window no_value no_window =
     let same : length window ≡ length value = omega arith in

@@ -11,7 +11,8 @@ not_true true differs = absurd (differs refl)
 not_true false differs = refl
 
 -- the bytes up to a zero that has none before it
-pub before_zero-take : (bytes : List ℕ) (i : ℕ) → i < length bytes → ((k : ℕ) → k < i → (get_or bytes k 0 == 0) ≡ true → ⊥)
+pub before_zero-take : (bytes : List ℕ) (i : ℕ) → i < length bytes
+    → ((k : ℕ) → k < i → (get_or bytes k 0 == 0) ≡ true → ⊥)
     → (get_or bytes i 0 == 0) ≡ true → before_zero bytes ≡ take i bytes
 before_zero-take [] i below others stop = absurd (omega arith)
 before_zero-take (b ∷ bytes) zero below others stop = rw stop refl
@@ -21,7 +22,8 @@ before_zero-take (b ∷ bytes) (suc i) below others stop =
     rw (first, rest) refl
 
 -- all bytes, where none is a zero
-pub before_zero-all : (bytes : List ℕ) → ((k : ℕ) → k < length bytes → (get_or bytes k 0 == 0) ≡ true → ⊥) → before_zero bytes ≡ bytes
+pub before_zero-all : (bytes : List ℕ)
+    → ((k : ℕ) → k < length bytes → (get_or bytes k 0 == 0) ≡ true → ⊥) → before_zero bytes ≡ bytes
 before_zero-all [] others = refl
 before_zero-all (b ∷ bytes) others =
     let first = not_true (b == 0) (others 0 (omega arith)) in
@@ -40,7 +42,8 @@ pub length-before_zero : (bytes : List ℕ) → length (before_zero bytes) ≤ l
 length-before_zero [] = omega arith
 length-before_zero (b ∷ bytes) = shorter (b == 0) (length-before_zero bytes)
   where
-    shorter : (test : Bool) → length (before_zero bytes) ≤ length bytes → length (cond test [] (b ∷ before_zero bytes)) ≤ suc (length bytes)
+    shorter : (test : Bool) → length (before_zero bytes) ≤ length bytes
+        → length (cond test [] (b ∷ before_zero bytes)) ≤ suc (length bytes)
     shorter true rest = omega arith
     shorter false rest = omega arith
 
@@ -50,8 +53,10 @@ told false x e = refl
 
 -- without a zero and without a difference there is no text
 pub text_in-untold : (room at : ℕ) (bytes key : List ℕ) (order : Ordering)
-    → None ≡ cond (nat_lt (shared bytes key) (length bytes)) (Some order) None → text_in room at bytes ≡ Err (unended room at bytes)
+    → None ≡ cond (nat_lt (shared bytes key) (length bytes)) (Some order) None
+    → text_in room at bytes ≡ Err (unended room at bytes)
 text_in-untold room at bytes key order e =
     let reach = common_prefix_len-le nat_eq (before_zero bytes) key in
-    let whole = ltb-false (shared bytes key) (length bytes) (told (nat_lt (shared bytes key) (length bytes)) order e) in
+    let untold = told (nat_lt (shared bytes key) (length bytes)) order e in
+    let whole = ltb-false (shared bytes key) (length bytes) untold in
     rw (le-ltb (length (before_zero bytes)) (length bytes) (omega arith)) refl

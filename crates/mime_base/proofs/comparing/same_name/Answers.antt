@@ -4,7 +4,9 @@ use Rattle.mime_base.proofs.Prefixes.{common_prefix_len-self, equal_by_prefix}
 use Rattle.mime_base.proofs.comparing.same_name.Goals as goal
 
 pub returns-then-common-left-clause-same : goal.returns-then-common-left-clause-same
-returns-then-common-left-clause-same c = grind (arith, nat_tests, common_prefix_len-self, equal_by_prefix c.args.left.now c.args.right.now)
+returns-then-common-left-clause-same c =
+    grind (arith, nat_tests, common_prefix_len-self, equal_by_prefix c.args.left.now c.args.right.now)
 
 pub returns-else-common-left-clause-same : goal.returns-else-common-left-clause-same
-returns-else-common-left-clause-same c = grind (arith, nat_tests, common_prefix_len-self c.args.left.now)
+returns-else-common-left-clause-same c =
+    grind (arith, nat_tests, common_prefix_len-self c.args.left.now)
