@@ -1,6 +1,6 @@
 -- Bytes under a mask, byte by byte.
 use Rattle.std.proofs.Common.{◌≡◌, ℕ, zero, suc, ◌+◌, ◌<◌, List, [], ◌∷◌, length, get_or, bit_and, refl, ap, ◌∙◌, arith}
-use Rattle.mime_base.specs.Masking.{group_of, in_order, kept, mask_over, masked}
+use Rattle.mime_base.specs.Masking.{group_of, in_order, under_mask, mask_over, masked}
 use Rattle.mime_base.specs.Mirrored.{mirrored}
 use Rattle.mime_base.specs.declared.host.Host.{Host}
 use Rattle.mime_base.proofs.Mirroring.{mirrors}
@@ -39,12 +39,12 @@ module _ (value mask : List ℕ) (word : ℕ) (host : Host) where
   abbrev pub bits : ℕ → ℕ
   bits i = get_or mask (place value word host i) 255
 
-  pub length-kept : (bytes : List ℕ) → length (kept value mask word host bytes) ≡ length bytes
-  length-kept bytes = length-masked bytes (in_order word host (mask_over value mask))
+  pub length-under_mask : (bytes : List ℕ) → length (under_mask value mask word host bytes) ≡ length bytes
+  length-under_mask bytes = length-masked bytes (in_order word host (mask_over value mask))
 
-  pub get_or-kept : (bytes : List ℕ) (i : ℕ) → length bytes ≡ length value → i < length value
-      → get_or (kept value mask word host bytes) i 0 ≡ bit_and (get_or bytes i 0) (bits i)
-  get_or-kept bytes i same below =
+  pub get_or-under_mask : (bytes : List ℕ) (i : ℕ) → length bytes ≡ length value → i < length value
+      → get_or (under_mask value mask word host bytes) i 0 ≡ bit_and (get_or bytes i 0) (bits i)
+  get_or-under_mask bytes i same below =
       let over = mask_over value mask in
       let size = length-mask_over value mask in
       let moves = mirrors word host over in

@@ -3,29 +3,29 @@ use Rattle.std.proofs.Common.{◌≡◌, ℕ, suc, ◌+◌, ◌<◌, ◌≤◌, 
 use Rattle.std.proofs.lemmas.Bool.{eq-eqb, ne_eqb}
 use Rattle.std.proofs.lemmas.List.Sums.{common_prefix_len-drop_no, common_prefix_len-drop_yes, common_prefix_len-le}
 use Rattle.std.specs.List.{common_prefix_len}
-use Rattle.mime_base.specs.Masking.{equal_bytes, in_order, kept, window_equals}
+use Rattle.mime_base.specs.Masking.{equal_bytes, in_order, under_mask, window_equals}
 use Rattle.mime_base.specs.declared.host.Host.{Host}
-use Rattle.mime_base.proofs.Masks.{bits, get_or-kept, length-kept, place}
+use Rattle.mime_base.proofs.Masks.{bits, get_or-under_mask, length-under_mask, place}
 use Rattle.mime_base.proofs.Mirroring.{mirrors}
 use Rattle.mime_base.proofs.Prefixes.{bytes_eq-prefix}
 
 module _ (value mask : List ℕ) (word : ℕ) (host : Host) (window : List ℕ)
     (same : length window ≡ length value) where
   abbrev pub left : List ℕ
-  left = kept value mask word host window
+  left = under_mask value mask word host window
 
   abbrev pub right : List ℕ
-  right = kept value mask word host (in_order word host value)
+  right = under_mask value mask word host (in_order word host value)
 
   left_size : length left ≡ length window
-  left_size = length-kept value mask word host window
+  left_size = length-under_mask value mask word host window
 
   right_size : length right ≡ length window
   right_size =
-      length-kept value mask word host (in_order word host value) ∙ (mirrors word host value).size ∙ sym same
+      length-under_mask value mask word host (in_order word host value) ∙ (mirrors word host value).size ∙ sym same
 
   -- byte i of the window and byte p of the value, which stood there before the groups were reversed,
-  -- and the bits k kept of both
+  -- and the bits k that the mask keeps of both
   module _ (i p k : ℕ) (below : i < length window) (place_is : p ≡ place value word host i)
       (bits_are : k ≡ get_or mask p 255) where
     kept_bits : k ≡ bits value mask word host i
@@ -33,13 +33,13 @@ module _ (value mask : List ℕ) (word : ℕ) (host : Host) (window : List ℕ)
 
     left_byte : get_or left i 0 ≡ bit_and (get_or window i 0) k
     left_byte =
-        get_or-kept value mask word host window i same (omega arith)
+        get_or-under_mask value mask word host window i same (omega arith)
         ∙ ap (bit_and (get_or window i 0)) (sym kept_bits)
 
     right_byte : get_or right i 0 ≡ bit_and (get_or value p 0) k
     right_byte =
         let moves = mirrors word host value in
-        get_or-kept value mask word host (in_order word host value) i moves.size (omega arith)
+        get_or-under_mask value mask word host (in_order word host value) i moves.size (omega arith)
         ∙ ap (λ (b : ℕ). bit_and b (bits value mask word host i)) (moves.moved i 0 (omega arith))
         ∙ ap (λ (n : ℕ). bit_and (get_or value n 0) (bits value mask word host i)) (sym place_is)
         ∙ ap (bit_and (get_or value p 0)) (sym kept_bits)
