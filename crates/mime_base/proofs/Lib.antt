@@ -8,3 +8,12 @@ pub mod Endings
 pub mod Greatest
 pub mod Offers
 pub mod Ranks
+pub mod Zeros
+pub mod Prefixes
+pub mod Mirroring
+pub mod Numbers
+pub mod Masks
+pub mod Windows
+pub mod Standing
+pub mod TextsStand
+pub mod TextFaults

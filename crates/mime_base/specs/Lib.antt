@@ -13,3 +13,7 @@ pub mod Choice
 pub mod PatternRows
 pub mod LimitRows
 pub mod KeptRows
+pub mod Bytes
+pub mod Texts
+pub mod Masking
+pub mod Mirrored

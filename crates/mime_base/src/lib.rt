@@ -5,12 +5,17 @@
 #![tactic(auto)]
 
 mod attempt;
+mod byte_fault;
+mod byte_laws;
 mod class;
+mod comparing;
+mod counted;
 mod database;
 mod elements;
 mod folding;
 mod glob;
 mod host;
+mod masking;
 mod memory;
 mod meter;
 mod name;
@@ -18,7 +23,11 @@ mod pair;
 mod ranking;
 mod rule;
 
+pub use byte_fault::ByteFault;
+pub use byte_laws::{appended_stands, reading_stays, standing_reads_back, texts_are_read};
 pub use class::{Class, class_of, class_of_bytes};
+pub use comparing::same_name;
+pub use counted::Counted;
 pub use database::Database;
 pub use folding::fold;
 pub use glob::glob_matches;

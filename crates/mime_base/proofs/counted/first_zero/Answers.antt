@@ -1,0 +1,7 @@
+use Rattle.std.proofs.Common.{List, ℕ}
+use Rattle.std.specs.Prelude.{Option, Some, None}
+use Rattle.mime_base.proofs.Zeros.{first_zero-is}
+use Rattle.mime_base.proofs.counted.first_zero.Goals as goal
+
+pub returns : goal.returns
+returns c = first_zero-is c.args.bytes.now c.memchr.result c.memchr.ensures
