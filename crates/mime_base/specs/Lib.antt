@@ -6,3 +6,4 @@ pub mod Class
 pub mod Kept
 pub mod Subclass
 pub mod Choice
+pub mod Magic

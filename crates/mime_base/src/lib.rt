@@ -7,15 +7,19 @@
 mod class;
 mod database;
 mod host;
+mod matchlet;
 mod memory;
 mod meter;
 mod name;
 mod rule;
+mod section;
 
 pub use class::{Class, class_of, class_of_bytes};
 pub use database::Database;
 pub use host::Host;
+pub use matchlet::Matchlet;
 pub use memory::OutOfMemory;
 pub use meter::Meter;
 pub use name::{NameFault, Pattern, TypeName};
 pub use rule::GlobRule;
+pub use section::Section;

@@ -1,0 +1,16 @@
+pub mod MagicSteps
+pub mod MagicFronts
+pub mod MagicNumbers
+pub mod MagicParts
+pub mod MagicLines
+pub mod MagicEntries
+pub mod MagicHeads
+pub mod MagicSections
+pub mod MagicLoops
+pub mod MagicLinesAgain
+pub mod MagicSectionsAgain
+pub mod MagicRuns
+pub mod MagicStack
+pub mod MagicAllowed
+pub mod MagicKeeping
+pub mod MagicLaws

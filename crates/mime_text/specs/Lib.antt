@@ -1,0 +1,5 @@
+pub mod MagicEntries
+pub mod MagicReading
+pub mod MagicText
+pub mod MagicForest
+pub mod MagicFile
