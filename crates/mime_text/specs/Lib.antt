@@ -3,3 +3,4 @@ pub mod MagicReading
 pub mod MagicText
 pub mod MagicForest
 pub mod MagicFile
+pub mod MagicRows
