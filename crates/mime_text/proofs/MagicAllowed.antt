@@ -32,10 +32,10 @@ mask_fits size text (Some mask) is = eq-eqb (length mask) size is.1
 
 own_allowed : (text : List ℕ) (own : Own) (b : ℕ) → AreBytes text → IsBody text own b → own.start + own.range + length own.value < 4294967296 → is_allowed own ≡ true
 own_allowed text own b bytes body sum =
-    let parts : AreBytes (body.start ++ (61 ∷ body.high ∷ body.low ∷ (own.value ++ (body.mask ++ (body.word ++ body.range))))) = subst AreBytes body.whole bytes in
+    let parts : AreBytes (body.start ++ (61 ∷ body.high ∷ body.low ∷ (own.value ++ body.options))) = subst AreBytes body.whole bytes in
     let behind = (bytes_of_two body.start _ parts).1 in
     let small : length own.value < 65536 = omega (arith, body.size, behind.1.0, behind.1.1.0) in
-    and_from _ _ (and_from _ _ (and_from _ _ (lt-ltb _ _ sum) (lt-ltb _ _ small)) body.word_fits) (mask_fits (length own.value) body.mask own.mask body.mask_is)
+    and_from _ _ (and_from _ _ (and_from _ _ (lt-ltb _ _ sum) (lt-ltb _ _ small)) body.options_are.word_fits) (mask_fits (length own.value) body.options_are.mask own.mask body.options_are.mask_is)
 
 abbrev AllowedSaying : Saying → Type 0
 AllowedSaying (kept own) = is_allowed own ≡ true
@@ -58,9 +58,10 @@ entry_allowed : (limit : ℕ) (text : List ℕ) (i : Item) → AreBytes text →
 entry_allowed limit text i bytes (inl is) = subst AllowedItem (sym is.1) (record { shallow = omega arith; says_so = tt })
 entry_allowed limit text i bytes (inr is) =
     let l = is.1 in
-    let whole : AreBytes (l.indent ++ (62 ∷ (l.body ++ l.first ∷ l.end))) = subst AreBytes l.whole bytes in
-    let behind = (bytes_of_two l.indent _ whole).1 in
-    record { shallow = l.shallow; says_so = end_allowed l.body l.own l.first l.end i.says (bytes_of_two l.body _ behind.1).0 l.body_is l.end_is }
+    let r = l.rest_is in
+    let whole : AreBytes (l.indent ++ 62 ∷ l.rest) = subst AreBytes l.whole bytes in
+    let rest : AreBytes (r.body ++ r.first ∷ r.end) = subst AreBytes r.whole (bytes_of_two l.indent _ whole).1.1 in
+    record { shallow = l.shallow; says_so = end_allowed r.body r.own r.first r.end i.says (bytes_of_two r.body _ rest).0 r.body_is r.end_is }
 
 lines_allowed : (limit : ℕ) (text : List ℕ) (is : List Item) → AreBytes text → AreLines limit text is → AllowedItems is
 lines_allowed limit text [] bytes are = tt

@@ -5,7 +5,7 @@ use Rattle.mime_text.specs.declared.magic.fault.Fault.TheVariants.{BadNumber, Ba
 use Rattle.mime_base.specs.Magic.{Own}
 use Rattle.mime_text.specs.MagicEntries.{Saying, kept, ignored, Item}
 use Rattle.mime_text.specs.MagicReading.{◌>>=◌, indent_at, start_at, value_at, mask_at, word_at, range_at, row_at, end_at, body_at, line_at}
-use Rattle.mime_text.specs.MagicText.{IsBody, IsEnd, IsLine}
+use Rattle.mime_text.specs.MagicText.{AreOptions, IsBody, IsEnd, IsLine}
 use Rattle.mime_text.proofs.MagicSteps.{bind_ok, guard_off, chosen, ok_is}
 use Rattle.mime_text.proofs.MagicFronts.{row_takes}
 use Rattle.mime_text.proofs.MagicParts.{start_takes, indent_takes, value_takes, mask_takes, word_takes, range_takes, PassesMask, Passes, ends_are}
@@ -31,8 +31,11 @@ end_takes left own (b ∷ bytes) x e =
           (record { first = b; end = a.0.0 ++ 10 ∷ []; parts = ap (λ (t : List ℕ). b ∷ t) (s.0 ∙ sym (append_assoc a.0.0 (10 ∷ []) a.0.1)); is = (eqb-false b 10 h.0, (a.0.0, refl, s.1)) })
     ]
 
-pub regroup_body : (s v m w r tail : List ℕ) (high low : ℕ) → (s ++ (61 ∷ high ∷ low ∷ (v ++ (m ++ (w ++ r))))) ++ tail ≡ s ++ (61 ∷ high ∷ low ∷ (v ++ (m ++ (w ++ (r ++ tail)))))
-regroup_body s v m w r tail high low = simp append_assoc
+pub regroup_options : (m w r tail : List ℕ) → (m ++ (w ++ r)) ++ tail ≡ m ++ (w ++ (r ++ tail))
+regroup_options m w r tail = simp append_assoc
+
+pub regroup_body : (s v options tail : List ℕ) (high low : ℕ) → (s ++ (61 ∷ high ∷ low ∷ (v ++ options))) ++ tail ≡ s ++ (61 ∷ high ∷ low ∷ (v ++ (options ++ tail)))
+regroup_body s v options tail high low = simp append_assoc
 
 pub regroup_line : (indent body end rest : List ℕ) (first : ℕ) → (indent ++ (62 ∷ (body ++ first ∷ end))) ++ rest ≡ indent ++ (62 ∷ (body ++ (first ∷ (end ++ rest))))
 regroup_line indent body end rest first = simp append_assoc
@@ -58,20 +61,15 @@ body_takes bytes x e =
     let range = range_takes d.0.1 f.0 f.1 in
     let w1 : d.0.1 ≡ range.text ++ f.0.1 = range.parts in
     let m1 : c.0.1 ≡ word.0.text ++ (range.text ++ f.0.1) = word.0.parts ∙ ap (λ (t : List ℕ). word.0.text ++ t) w1 in
-    let v1 : b.0.1 ≡ mask.text ++ (word.0.text ++ (range.text ++ f.0.1)) = mask.parts ∙ ap (λ (t : List ℕ). mask.text ++ t) m1 in
-    let s1 : a.0.1 ≡ value.0 ∷ value.1 ∷ (b.0.0 ++ (mask.text ++ (word.0.text ++ (range.text ++ f.0.1)))) = value.2 ∙ ap (λ (t : List ℕ). value.0 ∷ value.1 ∷ (b.0.0 ++ t)) v1 in
-    let whole : bytes ≡ start.0 ++ (61 ∷ value.0 ∷ value.1 ∷ (b.0.0 ++ (mask.text ++ (word.0.text ++ (range.text ++ f.0.1))))) = start.1 ∙ ap (λ (t : List ℕ). start.0 ++ 61 ∷ t) s1 in
-    let text : List ℕ = start.0 ++ (61 ∷ value.0 ∷ value.1 ∷ (b.0.0 ++ (mask.text ++ (word.0.text ++ range.text)))) in
-    let is : (b : ℕ) (tail : List ℕ) → f.0.1 ≡ b ∷ tail → IsBody text own b = λ k tail h. record {
-      start = start.0;
-      high = value.0;
-      low = value.1;
+    let options : List ℕ = mask.text ++ (word.0.text ++ range.text) in
+    let v1 : b.0.1 ≡ options ++ f.0.1 = mask.parts ∙ ap (λ (t : List ℕ). mask.text ++ t) m1 ∙ sym (regroup_options mask.text word.0.text range.text f.0.1) in
+    let s1 : a.0.1 ≡ value.0 ∷ value.1 ∷ (b.0.0 ++ (options ++ f.0.1)) = value.2 ∙ ap (λ (t : List ℕ). value.0 ∷ value.1 ∷ (b.0.0 ++ t)) v1 in
+    let whole : bytes ≡ start.0 ++ (61 ∷ value.0 ∷ value.1 ∷ (b.0.0 ++ (options ++ f.0.1))) = start.1 ∙ ap (λ (t : List ℕ). start.0 ++ 61 ∷ t) s1 in
+    let options_are : (b : ℕ) (tail : List ℕ) → f.0.1 ≡ b ∷ tail → AreOptions options own b = λ k tail h. record {
       mask = mask.text;
       word = word.0.text;
       range = range.text;
       whole = refl;
-      start_is = start.2;
-      size = value.3;
       mask_is = mask.is;
       word_is = word.0.is;
       word_fits = word.1;
@@ -82,7 +80,11 @@ body_takes bytes x e =
           (subst (λ (t : List ℕ). Passes 43 range.text t) h range.passes);
     } in
     subst (λ (y : Own × List ℕ). Bodied bytes y.0 y.1) (ok_is (own, f.0.1) x f.2)
-    (record { text = text; parts = whole ∙ sym (regroup_body start.0 b.0.0 mask.text word.0.text range.text f.0.1 value.0 value.1); is = is })
+    (record {
+      text = start.0 ++ (61 ∷ value.0 ∷ value.1 ∷ (b.0.0 ++ options));
+      parts = whole ∙ sym (regroup_body start.0 b.0.0 options f.0.1 value.0 value.1);
+      is = λ k tail h. record { start = start.0; high = value.0; low = value.1; options = options; whole = refl; start_is = start.2; size = value.3; options_are = options_are k tail h };
+    })
 
 pub record Lined (limit : ℕ) (bytes : List ℕ) (line : Item) (rest : List ℕ) : Type 0 where
   pub text : List ℕ
@@ -107,5 +109,13 @@ line_takes limit bytes x e =
       text = text;
       parts = indent.1 ∙ ap (λ (t : List ℕ). indent.0 ++ 62 ∷ t) (body.parts ∙ ap (λ (t : List ℕ). body.text ++ t) end.parts) ∙ sym regroup;
       some = omega (arith, length-append indent.0 (62 ∷ (body.text ++ end.first ∷ end.end)));
-      is = record { indent = indent.0; body = body.text; own = b.0.0; first = end.first; end = end.end; whole = refl; indent_is = indent.2; allowed = ltb-false _ _ g.0; shallow = leb-false _ _ k.0; body_is = body.is end.first (end.end ++ c.0.1) end.parts; end_is = end.is };
+      is = record {
+        indent = indent.0;
+        rest = body.text ++ end.first ∷ end.end;
+        whole = refl;
+        indent_is = indent.2;
+        allowed = ltb-false _ _ g.0;
+        shallow = leb-false _ _ k.0;
+        rest_is = record { body = body.text; own = b.0.0; first = end.first; end = end.end; whole = refl; body_is = body.is end.first (end.end ++ c.0.1) end.parts; end_is = end.is };
+      };
     })

@@ -12,7 +12,7 @@ use Rattle.mime_text.proofs.MagicNumbers.{number_again}
 use Rattle.mime_text.proofs.MagicSteps.{bind_on}
 use Rattle.mime_text.proofs.MagicFronts.{row_again}
 use Rattle.mime_text.proofs.MagicParts.{Passes, PassesMask}
-use Rattle.mime_text.proofs.MagicLines.{regroup_body, regroup_line}
+use Rattle.mime_text.proofs.MagicLines.{regroup_options, regroup_body, regroup_line}
 
 pub byte_again : (want : ℕ) (wrong : Fault) (rest : List ℕ) → byte_at want wrong (want ∷ rest) ≡ Ok rest
 unfolding byte_at
@@ -109,26 +109,30 @@ more_behind text b tail = omega (arith, length-append text (b ∷ tail))
 pub body_again : (text : List ℕ) (own : Own) (b : ℕ) (tail : List ℕ) → IsBody text own b → body_at (text ++ b ∷ tail) ≡ Ok (own, b ∷ tail)
 unfolding body_at
 body_again text own b tail body =
+    let o = body.options_are in
     let r1 : List ℕ = b ∷ tail in
-    let w1 : List ℕ = body.range ++ r1 in
-    let m1 : List ℕ = body.word ++ w1 in
-    let v1 : List ℕ = body.mask ++ m1 in
+    let w1 : List ℕ = o.range ++ r1 in
+    let m1 : List ℕ = o.word ++ w1 in
+    let v1 : List ℕ = o.mask ++ m1 in
     let s1 : List ℕ = body.high ∷ body.low ∷ (own.value ++ v1) in
-    ap (λ (t : List ℕ). body_at (t ++ r1)) body.whole
-    ∙ ap body_at (regroup_body body.start own.value body.mask body.word body.range r1 body.high body.low)
+    let options : body.options ++ r1 ≡ v1 = ap (λ (t : List ℕ). t ++ r1) o.whole ∙ regroup_options o.mask o.word o.range r1 in
+    let whole : text ++ r1 ≡ body.start ++ (61 ∷ s1) =
+    ap (λ (t : List ℕ). t ++ r1) body.whole ∙ regroup_body body.start own.value body.options r1 body.high body.low
+    ∙ ap (λ (t : List ℕ). body.start ++ (61 ∷ body.high ∷ body.low ∷ (own.value ++ t))) options in
+    ap body_at whole
     ∙ bind_on (start_at (body.start ++ 61 ∷ s1)) (own.start, s1) _ (own, r1) (start_again body.start own.start s1 body.start_is)
     (bind_on (value_at s1) (own.value, v1) _ (own, r1) (value_again body.high body.low own.value v1 body.size)
-    (bind_on (mask_at (length own.value) v1) (own.mask, m1) _ (own, r1) (mask_again (length own.value) body.mask own.mask m1 body.mask_is (mask_passes body.mask body.word body.range own.word own.range b tail body.ends body.word_is body.range_is))
-    (bind_on (word_at (length own.value) m1) (own.word, w1) _ (own, r1) (word_again (length own.value) body.word own.word w1 body.word_is body.word_fits (word_passes body.mask body.word body.range own.range b tail body.ends body.range_is) (more_behind body.range b tail))
-    (bind_on (range_at w1) (own.range, r1) _ (own, r1) (range_again body.range own.range r1 body.range_is (range_passes body.mask body.word body.range b tail body.ends) (omega arith))
-    refl))))
+    (bind_on (mask_at (length own.value) v1) (own.mask, m1) _ (own, r1) (mask_again (length own.value) o.mask own.mask m1 o.mask_is (mask_passes o.mask o.word o.range own.word own.range b tail o.ends o.word_is o.range_is))
+    (bind_on (word_at (length own.value) m1) (own.word, w1) _ (own, r1) (word_again (length own.value) o.word own.word w1 o.word_is o.word_fits (word_passes o.mask o.word o.range own.range b tail o.ends o.range_is) (more_behind o.range b tail))
+    (bind_on (range_at w1) (own.range, r1) _ (own, r1) (range_again o.range own.range r1 o.range_is (range_passes o.mask o.word o.range b tail o.ends) (omega arith)) refl))))
 
 pub line_again : (limit : ℕ) (text : List ℕ) (line : Item) (rest : List ℕ) → IsLine limit text line → line_at limit (text ++ rest) ≡ Ok (line, rest)
 unfolding line_at
 line_again limit text line rest is =
-    let tail : List ℕ = is.body ++ (is.first ∷ (is.end ++ rest)) in
-    let whole : text ++ rest ≡ is.indent ++ 62 ∷ tail = ap (λ (t : List ℕ). t ++ rest) is.whole ∙ regroup_line is.indent is.body is.end rest is.first in
+    let r = is.rest_is in
+    let tail : List ℕ = r.body ++ (r.first ∷ (r.end ++ rest)) in
+    let whole : text ++ rest ≡ is.indent ++ 62 ∷ tail = ap (λ (t : List ℕ). t ++ rest) (is.whole ∙ ap (λ (t : List ℕ). is.indent ++ 62 ∷ t) r.whole) ∙ regroup_line is.indent r.body r.end rest r.first in
     bind_on (indent_at (text ++ rest)) (line.indent, tail) _ (line, rest) (ap indent_at whole ∙ indent_again is.indent line.indent tail is.indent_is)
     (cond-false (ltb limit line.indent) _ _ (le-ltb limit line.indent is.allowed) ∙ cond-false (leb 64 line.indent) _ _ (lt-leb 64 line.indent is.shallow)
-    ∙ bind_on (body_at tail) (is.own, is.first ∷ (is.end ++ rest)) _ (line, rest) (body_again is.body is.own is.first (is.end ++ rest) is.body_is)
-    (bind_on (end_at (length (text ++ rest)) is.own (is.first ∷ (is.end ++ rest))) (line.says, rest) _ (line, rest) (end_again (length (text ++ rest)) is.own is.first is.end line.says rest is.end_is) refl))
+    ∙ bind_on (body_at tail) (r.own, r.first ∷ (r.end ++ rest)) _ (line, rest) (body_again r.body r.own r.first (r.end ++ rest) r.body_is)
+    (bind_on (end_at (length (text ++ rest)) r.own (r.first ∷ (r.end ++ rest))) (line.says, rest) _ (line, rest) (end_again (length (text ++ rest)) r.own r.first r.end line.says rest r.end_is) refl))

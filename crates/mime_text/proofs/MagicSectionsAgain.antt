@@ -53,8 +53,9 @@ none_behind p text rest never =
 
 line_ends : (limit : ℕ) (text : List ℕ) (line : Item) → IsLine limit text line → (init : List ℕ) × (text ≡ init ++ 10 ∷ [])
 line_ends limit text line is =
-    let end : (tail : List ℕ) × (is.first ∷ is.end ≡ tail ++ 10 ∷ []) = ends_so is.own is.first is.end line.says is.end_is in
-    (is.indent ++ (62 ∷ (is.body ++ end.0)), is.whole ∙ ap (λ (t : List ℕ). is.indent ++ (62 ∷ (is.body ++ t))) end.1 ∙ regroup_end is.indent is.body end.0)
+    let r = is.rest_is in
+    let end : (tail : List ℕ) × (r.first ∷ r.end ≡ tail ++ 10 ∷ []) = ends_so r.own r.first r.end line.says r.end_is in
+    (is.indent ++ (62 ∷ (r.body ++ end.0)), is.whole ∙ ap (λ (t : List ℕ). is.indent ++ 62 ∷ t) (r.whole ∙ ap (λ (t : List ℕ). r.body ++ t) end.1) ∙ regroup_end is.indent r.body end.0)
   where
     ends_so : (own : Own) (b : ℕ) (end : List ℕ) (says : Saying) → IsEnd own b end says → (tail : List ℕ) × (b ∷ end ≡ tail ++ 10 ∷ [])
     ends_so own b end (kept l) is = ([], ap (λ (k : ℕ). k ∷ end) is.1 ∙ ap (λ (t : List ℕ). 10 ∷ t) is.2)
@@ -103,7 +104,7 @@ entry_starts : (limit : ℕ) (text : List ℕ) (line : Item) → IsEntry limit t
 entry_starts limit text line (inl (inl is, same)) = subst Starts (sym is) (62, _, refl, refl)
 entry_starts limit text line (inl (inr (inl is), same)) = subst Starts (sym is) (62, _, refl, refl)
 entry_starts limit text line (inl (inr (inr is), same)) = subst Starts (sym is) (62, _, refl, refl)
-entry_starts limit text line (inr is) = subst Starts (sym is.1.whole) (indent_starts is.1.indent line.indent (is.1.body ++ is.1.first ∷ is.1.end) is.1.indent_is)
+entry_starts limit text line (inr is) = subst Starts (sym is.1.whole) (indent_starts is.1.indent line.indent is.1.rest is.1.indent_is)
 
 pub lines_again : (room limit : ℕ) (text : List ℕ) (lines : List Item) (rest : List ℕ) → AreLines limit text lines → EndsLines rest → length (text ++ rest) ≤ room → lines_at room limit (text ++ rest) ≡ Ok (lines, rest)
 lines_again room limit text [] [] are ends enough = ap (λ (t : List ℕ). lines_at room limit (t ++ [])) are ∙ lines_none room limit

@@ -47,22 +47,28 @@ goes_on mask (w ∷ word) [] b = is_digit b || (b == 43)
 goes_on (m ∷ mask) [] [] b = (b == 126) || (b == 43)
 goes_on [] [] [] b = (b == 38) || ((b == 126) || (b == 43))
 
--- from the start to the range, where the byte b comes next
-pub record IsBody (text : List ℕ) (own : Own) (b : ℕ) : Type 0 where
-  pub start : List ℕ
-  pub high : ℕ
-  pub low : ℕ
+-- the mask, the word and the range of a line, where the byte b comes next
+pub record AreOptions (text : List ℕ) (own : Own) (b : ℕ) : Type 0 where
   pub mask : List ℕ
   pub word : List ℕ
   pub range : List ℕ
-  pub whole : text ≡ start ++ (61 ∷ high ∷ low ∷ (own.value ++ (mask ++ (word ++ range))))
-  pub start_is : IsNumber start own.start
-  pub size : length own.value ≡ 256 * high + low
+  pub whole : text ≡ mask ++ (word ++ range)
   pub mask_is : IsMask (length own.value) mask own.mask
   pub word_is : IsOptional 126 word own.word
   pub word_fits : fits_word own.word (length own.value) ≡ true
   pub range_is : IsOptional 43 range own.range
   pub ends : goes_on mask word range b ≡ false
+
+-- from the start to the range, where the byte b comes next; the length has two bytes, the higher first
+pub record IsBody (text : List ℕ) (own : Own) (b : ℕ) : Type 0 where
+  pub start : List ℕ
+  pub high : ℕ
+  pub low : ℕ
+  pub options : List ℕ
+  pub whole : text ≡ start ++ (61 ∷ high ∷ low ∷ (own.value ++ options))
+  pub start_is : IsNumber start own.start
+  pub size : length own.value ≡ 256 * high + low
+  pub options_are : AreOptions options own b
 
 abbrev pub NoNewline : List ℕ → Type 0
 NoNewline bytes = AllByRecursion (λ b. b ≢ 10) bytes
@@ -73,19 +79,25 @@ IsEnd own b text (kept line) = (line ≡ own) × (b ≡ 10) × (text ≡ []) × 
 IsEnd own b text ignored = (b ≢ 10) × ((junk : List ℕ) × (text ≡ junk ++ 10 ∷ []) × NoNewline junk)
 IsEnd own b text marker = ⊥
 
--- a line whose indent may be at most `limit`
-pub record IsLine (limit : ℕ) (text : List ℕ) (line : Item) : Type 0 where
-  pub indent : List ℕ
+-- a line behind its `>`
+pub record IsRest (text : List ℕ) (says : Saying) : Type 0 where
   pub body : List ℕ
   pub own : Own
   pub first : ℕ
   pub end : List ℕ
-  pub whole : text ≡ indent ++ (62 ∷ (body ++ first ∷ end))
+  pub whole : text ≡ body ++ first ∷ end
+  pub body_is : IsBody body own first
+  pub end_is : IsEnd own first end says
+
+-- a line whose indent may be at most `limit`
+pub record IsLine (limit : ℕ) (text : List ℕ) (line : Item) : Type 0 where
+  pub indent : List ℕ
+  pub rest : List ℕ
+  pub whole : text ≡ indent ++ 62 ∷ rest
   pub indent_is : IsIndent indent line.indent
   pub allowed : line.indent ≤ limit
   pub shallow : line.indent < 64
-  pub body_is : IsBody body own first
-  pub end_is : IsEnd own first end line.says
+  pub rest_is : IsRest rest line.says
 
 abbrev pub IsMarker : List ℕ → Type 0
 IsMarker text = (text ≡ plain) ⊎ ((text ≡ short) ⊎ (text ≡ sized))

@@ -22,3 +22,6 @@ pub use fault::MagicFault;
 pub use file::MagicFile;
 pub use laws::{forest_is_by_runs, magic_text_or_fault};
 pub use read::read_magic;
+
+#[cfg(test)]
+mod tests;
