@@ -17,3 +17,4 @@ pub mod Bytes
 pub mod Texts
 pub mod Masking
 pub mod Mirrored
+pub mod Magic

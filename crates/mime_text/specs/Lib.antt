@@ -5,3 +5,9 @@ pub mod Pairs
 pub mod LinesRows
 pub mod Globs2Rows
 pub mod PairsRows
+pub mod MagicEntries
+pub mod MagicReading
+pub mod MagicText
+pub mod MagicForest
+pub mod MagicFile
+pub mod MagicRows

@@ -8,3 +8,6 @@ mod pairs;
 
 pub use globs2::{GlobsFile, read_globs2};
 pub use pairs::{PairsFile, read_pairs};
+mod magic;
+
+pub use magic::{MagicFault, MagicFile, forest_is_by_runs, magic_text_or_fault, read_magic};

@@ -1,0 +1,68 @@
+-- A marker or a line against the grammar: what is read is spelled so.
+use Rattle.std.proofs.Common.{◌≡◌, ℕ, ◌<◌, List, ◌++◌, length, length-append, Option, Some, None, Ok, refl, sym, ap, subst, ◌∙◌, append_assoc, arith, inl, inr, ◌⊎◌}
+use Rattle.mime_text.specs.MagicEntries.{marker, Item}
+use Rattle.mime_text.specs.MagicReading.{line_at, plain, short, sized, behind, or_else, marker_at, marked, entry_at}
+use Rattle.mime_text.specs.MagicText.{IsMarker, BeginsMarker, IsEntry}
+use Rattle.mime_text.proofs.MagicSteps.{ok_is}
+use Rattle.mime_text.proofs.MagicFronts.{behind_again, behind_takes}
+use Rattle.mime_text.proofs.MagicLines.{line_takes}
+
+or_some : (o p : Option (List ℕ)) (x : List ℕ) → or_else o p ≡ Some x → (o ≡ Some x) ⊎ (p ≡ Some x)
+or_some (Some y) p x e = inl e
+or_some None p x e = inr e
+
+or_none : (o p : Option (List ℕ)) → or_else o p ≡ None → (o ≡ None) × (p ≡ None)
+or_none (Some y) p e = absurd cc
+or_none None p e = (refl, e)
+
+pub marker_takes : (bytes rest : List ℕ) → marker_at bytes ≡ Some rest → (text : List ℕ) × (bytes ≡ text ++ rest) × (0 < length text) × IsMarker text
+unfolding marker_at
+marker_takes bytes rest e =
+    elim (or_some (behind plain bytes) (or_else (behind short bytes) (behind sized bytes)) rest e) [
+      | inl a ↦ (plain, behind_takes plain bytes rest a, omega arith, inl refl)
+      | inr b ↦ elim (or_some (behind short bytes) (behind sized bytes) rest b) [
+        | inl a ↦ (short, behind_takes short bytes rest a, omega arith, inr (inl refl))
+        | inr a ↦ (sized, behind_takes sized bytes rest a, omega arith, inr (inr refl))
+      ]
+    ]
+
+not_behind : (p text rest : List ℕ) → behind p (text ++ rest) ≡ None → (more : List ℕ) → text ≡ p ++ more → ⊥
+not_behind p text rest e more is =
+    let s : behind p (text ++ rest) ≡ Some (more ++ rest) = ap (λ (t : List ℕ). behind p (t ++ rest)) is ∙ ap (behind p) (append_assoc p more rest) ∙ behind_again p (more ++ rest) in
+    cc
+
+no_marker : (text rest : List ℕ) → marker_at (text ++ rest) ≡ None → BeginsMarker text → ⊥
+unfolding marker_at
+no_marker text rest e (front, more, is, parts) =
+    let a = or_none (behind plain (text ++ rest)) (or_else (behind short (text ++ rest)) (behind sized (text ++ rest))) e in
+    let b = or_none (behind short (text ++ rest)) (behind sized (text ++ rest)) a.1 in
+    elim is [
+      | inl p ↦ not_behind plain text rest a.0 more (parts ∙ ap (λ (t : List ℕ). t ++ more) p)
+      | inr q ↦ elim q [
+        | inl p ↦ not_behind short text rest b.0 more (parts ∙ ap (λ (t : List ℕ). t ++ more) p)
+        | inr p ↦ not_behind sized text rest b.1 more (parts ∙ ap (λ (t : List ℕ). t ++ more) p)
+      ]
+    ]
+
+pub record Entered (limit : ℕ) (bytes : List ℕ) (line : Item) (rest : List ℕ) : Type 0 where
+  pub text : List ℕ
+  pub parts : bytes ≡ text ++ rest
+  pub shorter : length rest < length bytes
+  pub shallow : line.indent < 64
+  pub is : IsEntry limit text line
+
+pub entry_takes : (limit : ℕ) (bytes : List ℕ) (x : Item × List ℕ) → entry_at limit bytes ≡ Ok x → Entered limit bytes x.0 x.1
+unfolding entry_at
+entry_takes limit bytes x e =
+    let go : (o : Option (List ℕ)) → marker_at bytes ≡ o → marked o (line_at limit bytes) ≡ Ok x → Entered limit bytes x.0 x.1 = λ o.
+    elim o as (λ o. marker_at bytes ≡ o → marked o (line_at limit bytes) ≡ Ok x → Entered limit bytes x.0 x.1) [
+      | Some rest ↦ λ is h.
+          let m = marker_takes bytes rest is in
+          subst (λ (y : Item × List ℕ). Entered limit bytes y.0 y.1) (ok_is (record { indent = 0; says = marker }, rest) x h)
+          (record { text = m.0; parts = m.1; shorter = omega (arith, ap length m.1, length-append m.0 rest, m.2); shallow = omega arith; is = inl (m.3, refl) })
+      | None ↦ λ is h.
+          let l = line_takes limit bytes x h in
+          let none : marker_at (l.text ++ x.1) ≡ None = ap marker_at (sym l.parts) ∙ is in
+          record { text = l.text; parts = l.parts; shorter = omega (arith, ap length l.parts, length-append l.text x.1, l.some); shallow = l.is.shallow; is = inr (no_marker l.text x.1 none, l.is) }
+    ] in
+    go (marker_at bytes) refl e

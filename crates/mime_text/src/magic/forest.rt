@@ -1,0 +1,109 @@
+//! The lines of a section as a forest, by their indents.
+//!
+//! The entries are taken from the last to the first. A stack holds those that are no deeper than any
+//! before them so far, the nearest on top: an entry takes the deeper ones off it as its children. So
+//! each value is moved at most once a level, and nothing recurses.
+
+ghost use Rattle.std.specs.Prelude.{◌≡◌, ◌∷◌, [], IfOk, MatchOption, OnOk, nat_lt, true};
+ghost use Rattle.mime_base.specs.Magic.{forest_of, trees};
+ghost use Rattle.mime_text.specs.MagicEntries.{plain_items, saying};
+ghost use Rattle.mime_text.specs.MagicForest.{deeper, forest, kept_trees, others, stack, top, tree_of};
+
+use super::entry::{Entry, Said};
+use mime_base::Matchlet;
+use std::alloc::{AllocError, Global};
+
+/// An entry that is no deeper than any before it, and its matchlet if the line is kept.
+#[derive(Debug, Drop)]
+pub struct Root {
+    indent: u32,
+    matchlet: Option<Matchlet>,
+}
+
+/// The nearest root, if it is deeper.
+fn pop_deeper(roots: &mut Vec<Root>, indent: u32) -> Option<Root>
+    ensures { MatchOption result
+        ((deeper indent (stack roots.old.items) ≡ []) × (others indent (stack roots.old.items) ≡ stack roots.new.items))
+        (λ r. (stack roots.old.items ≡ top r ∷ stack roots.new.items) × (nat_lt indent r.indent ≡ true)) }
+{
+    match roots.last() {
+        Some(last) if last.indent > indent => roots.pop(),
+        _ => None,
+    }
+}
+
+/// Takes the roots that are deeper off the stack, and gives their matchlets.
+fn take_deeper(
+    alloc: Global,
+    roots: &mut Vec<Root>,
+    indent: u32,
+) -> Result<Vec<Matchlet>, AllocError>
+    ensures taken { IfOk result (λ v. trees v.items ≡ kept_trees (deeper indent (stack roots.old.items))) }
+    ensures left { OnOk result (stack roots.new.items ≡ others indent (stack roots.old.items)) }
+{
+    let mut children = Vec::new(alloc);
+    while let Some(root) = pop_deeper(roots, indent) {
+        if let Some(matchlet) = root.matchlet {
+            children.push(matchlet)?;
+        }
+    }
+    Ok(children)
+}
+
+/// The entry as a root over its children.
+fn root_over(entry: Entry, children: Vec<Matchlet>) -> Root
+    ensures { top result ≡ record {
+      indent = entry.indent;
+      tree = tree_of (saying entry.said) (forest_of (trees children.items));
+    } }
+{
+    let indent = entry.indent;
+    match entry.said {
+        Said::Kept(line) => {
+            let matchlet = Matchlet {
+                start: line.start,
+                range: line.range,
+                word: line.word,
+                value: line.value,
+                mask: line.mask,
+                children,
+            };
+            Root {
+                indent,
+                matchlet: Some(matchlet),
+            }
+        }
+        Said::Ignored | Said::Marker => Root {
+            indent,
+            matchlet: None,
+        },
+    }
+}
+
+/// The matchlets of all roots.
+fn matchlets(alloc: Global, roots: Vec<Root>) -> Result<Vec<Matchlet>, AllocError>
+    ensures { IfOk result (λ v. trees v.items ≡ kept_trees (stack roots.items)) }
+{
+    let mut roots = roots;
+    let mut matchlets = Vec::new(alloc);
+    while let Some(root) = roots.pop() {
+        if let Some(matchlet) = root.matchlet {
+            matchlets.push(matchlet)?;
+        }
+    }
+    Ok(matchlets)
+}
+
+/// The forest of the entries.
+#[tactic(auto, unfolding(crate::specs::MagicForest::forest))]
+pub fn grow(alloc: Global, entries: Vec<Entry>) -> Result<Vec<Matchlet>, AllocError>
+    ensures { IfOk result (λ v. forest_of (trees v.items) ≡ forest (plain_items entries.items)) }
+{
+    let mut entries = entries;
+    let mut roots = Vec::new(alloc);
+    while let Some(entry) = entries.pop() {
+        let children = take_deeper(alloc, &mut roots, entry.indent)?;
+        roots.push(root_over(entry, children))?;
+    }
+    matchlets(alloc, roots)
+}

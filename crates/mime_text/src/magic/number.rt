@@ -1,0 +1,61 @@
+//! Decimal numbers below 2^32, and single bytes that have to stand somewhere.
+
+ghost use Rattle.std.specs.Prelude.{◌≡◌, min};
+ghost use Rattle.mime_text.specs.MagicReading.{Finds, byte_at, digits_at, is_digit, number_at};
+
+use super::fault::Fault;
+
+/// The least number that is too large.
+pub const LIMIT: u64 = 4_294_967_296;
+
+pub fn is_digit(b: u8) -> bool
+    ensures { result ≡ is_digit b }
+{
+    b'0' <= b && b <= b'9'
+}
+
+/// The value of the digits at the front, at most [`LIMIT`], and what is behind them.
+fn digits(bytes: &[u8]) -> (u64, &[u8])
+    ensures value { result.0 ≡ min (digits_at 0 bytes.now).0 4294967296 }
+    ensures rest { result.1.now ≡ (digits_at 0 bytes.now).1 }
+{
+    let mut value: u64 = 0;
+    let mut rest = bytes;
+    while let Some((b, after)) = rest.split_first() {
+        if !is_digit(*b) {
+            break;
+        }
+        value = (value * 10 + u64::from(*b - b'0')).min(LIMIT);
+        rest = after;
+    }
+    (value, rest)
+}
+
+/// A number and what is behind it. It ends at the first byte that is no digit, and is judged there.
+#[tactic(auto, unfolding(crate::specs::MagicReading::number_at, crate::specs::MagicReading::judged))]
+pub fn number(bytes: &[u8]) -> Result<(u32, &[u8]), Fault>
+    ensures { Finds (λ x. (x.0, x.1.now)) result (number_at bytes.now) }
+{
+    let (value, rest) = digits(bytes);
+    if rest.is_empty() {
+        return Err(Fault::Truncated(0));
+    }
+    if rest.len() == bytes.len() || value >= LIMIT {
+        return Err(Fault::BadNumber(bytes.len()));
+    }
+    Ok((value as u32, rest))
+}
+
+/// What is behind the byte `want`, which has to stand here.
+#[tactic(auto, unfolding(crate::specs::MagicReading::byte_at))]
+pub fn byte(want: u8, wrong: Fault, bytes: &[u8]) -> Result<&[u8], Fault>
+    ensures { Finds (λ x. x.now) result (byte_at want wrong bytes.now) }
+{
+    let Some((b, rest)) = bytes.split_first() else {
+        return Err(Fault::Truncated(0));
+    };
+    if *b != want {
+        return Err(wrong);
+    }
+    Ok(rest)
+}

@@ -1,0 +1,134 @@
+//! A section of `magic`: its head `[priority:type]`, its lines and deletion markers.
+
+ghost use Rattle.std.specs.Prelude.{◌≡◌, MatchOption, None, Some, length};
+ghost use Rattle.mime_text.specs.MagicEntries.{plain_item, plain_items, plain_part};
+ghost use Rattle.mime_text.specs.MagicReading.{Finds, Gives, behind, entry_at, head_at, head_of, kind_of, lines_at, marker_at, section_at, starts_line};
+
+use super::entry::{Entry, Said, Spelled};
+use super::fault::{Fault, ReadError};
+use super::line::{line, row};
+use super::number::{byte, is_digit, number};
+use mime_base::{NameFault, TypeName};
+use std::alloc::Global;
+
+/// What stands behind a front, where it is one.
+pub fn behind<'a>(front: &[u8], bytes: &'a [u8]) -> Option<&'a [u8]>
+    ensures { MatchOption result (behind front.now bytes.now ≡ None) (λ x. behind front.now bytes.now ≡ Some x.now) }
+{
+    bytes.strip_prefix(front)
+}
+
+/// What stands behind a deletion marker, where there is one.
+#[tactic(auto, unfolding(crate::specs::MagicReading::marker_at))]
+fn marker(bytes: &[u8]) -> Option<&[u8]>
+    ensures { MatchOption result (marker_at bytes.now ≡ None) (λ x. marker_at bytes.now ≡ Some x.now) }
+{
+    if let Some(rest) = behind(b">0=__NOMAGIC__\n", bytes) {
+        return Some(rest);
+    }
+    if let Some(rest) = behind(b">0__NOMAGIC__\n", bytes) {
+        return Some(rest);
+    }
+    behind(b">0=\x00\x0b__NOMAGIC__\n", bytes)
+}
+
+/// A marker, or a line whose indent may be at most `limit`.
+#[tactic(auto, unfolding(crate::specs::MagicReading::entry_at))]
+fn entry(alloc: Global, limit: u32, bytes: &[u8]) -> Result<(Entry, &[u8]), ReadError>
+    ensures { Gives (λ x. (plain_item x.0, x.1.now)) result (entry_at limit bytes.now) }
+{
+    if let Some(rest) = marker(bytes) {
+        let entry = Entry {
+            indent: 0,
+            said: Said::Marker,
+        };
+        return Ok((entry, rest));
+    }
+    line(alloc, limit, bytes)
+}
+
+fn starts_line(b: u8) -> bool
+    ensures { result ≡ starts_line b }
+{
+    b == b'>' || is_digit(b)
+}
+
+/// The lines of a section, up to a byte that starts none.
+fn lines(alloc: Global, bytes: &[u8]) -> Result<(Vec<Entry>, &[u8]), ReadError>
+    ensures { Gives (λ x. (plain_items x.0.items, x.1.now)) result (lines_at (length bytes.now) 0 bytes.now) }
+{
+    let mut entries = Vec::new(alloc);
+    let mut rest = bytes;
+    let mut limit = 0;
+    while let Some((b, _)) = rest.split_first() {
+        if !starts_line(*b) {
+            break;
+        }
+        let (next, after) = entry(alloc, limit, rest)?;
+        limit = next.indent + 1;
+        entries.push(next)?;
+        rest = after;
+    }
+    Ok((entries, rest))
+}
+
+/// The type before the last byte, a `]`.
+#[tactic(auto, unfolding(crate::specs::MagicReading::kind_of))]
+fn kind(alloc: Global, wrong: Fault, bytes: &[u8]) -> Result<TypeName, ReadError>
+    ensures { Gives (λ kind. kind) result (kind_of wrong bytes.now) }
+{
+    match bytes {
+        [name @ .., b']'] => match TypeName::new(alloc, name) {
+            Ok(kind) => Ok(kind),
+            Err(NameFault::OutOfMemory) => Err(ReadError::OutOfMemory),
+            Err(_) => Err(ReadError::Fault(wrong)),
+        },
+        _ => Err(ReadError::Fault(wrong)),
+    }
+}
+
+/// The priority and the type of a head, whose bytes behind the `[` these are.
+#[tactic(auto, unfolding(crate::specs::MagicReading::head_of))]
+fn head_row(alloc: Global, wrong: Fault, row: &[u8]) -> Result<(u32, TypeName), ReadError>
+    ensures { Gives (λ x. (x.0, x.1)) result (head_of wrong row.now) }
+{
+    let (priority, rest) = number(row)?;
+    let rest = byte(b':', wrong, rest)?;
+    let kind = kind(alloc, wrong, rest)?;
+    Ok((priority, kind))
+}
+
+/// The priority and the type of a section, and what is behind its head.
+#[tactic(auto, unfolding(crate::specs::MagicReading::head_at))]
+fn head(alloc: Global, bytes: &[u8]) -> Result<((u32, TypeName), &[u8]), ReadError>
+    ensures { Gives (λ x. ((x.0.0, x.0.1), x.1.now)) result (head_at bytes.now) }
+{
+    let wrong = Fault::BadSection(bytes.len());
+    match bytes {
+        [] => Err(ReadError::Fault(Fault::Truncated(0))),
+        [b'[', rest @ ..] => {
+            let (row, rest) = row(rest)?;
+            match head_row(alloc, wrong, row) {
+                Ok(head) => Ok((head, rest)),
+                Err(ReadError::OutOfMemory) => Err(ReadError::OutOfMemory),
+                Err(ReadError::Fault(_)) => Err(ReadError::Fault(wrong)),
+            }
+        }
+        [_, ..] => Err(ReadError::Fault(wrong)),
+    }
+}
+
+/// A section and what is behind it.
+#[tactic(auto, unfolding(crate::specs::MagicReading::section_at))]
+pub fn section(alloc: Global, bytes: &[u8]) -> Result<(Spelled, &[u8]), ReadError>
+    ensures { Gives (λ x. (plain_part x.0, x.1.now)) result (section_at bytes.now) }
+{
+    let ((priority, kind), rest) = head(alloc, bytes)?;
+    let (entries, rest) = lines(alloc, rest)?;
+    let part = Spelled {
+        priority,
+        kind,
+        entries,
+    };
+    Ok((part, rest))
+}

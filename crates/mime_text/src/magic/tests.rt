@@ -1,0 +1,184 @@
+use super::*;
+use std::test::Fail;
+
+struct Row {
+    text: &'static [u8],
+    /// The value of each line of indent 0, and those of its children.
+    lines: &'static [(&'static [u8], &'static [&'static [u8]])],
+    deleted: &'static [&'static [u8]],
+}
+
+const ROWS: [Row; 9] = [
+    Row {
+        text: b"",
+        lines: &[],
+        deleted: &[],
+    },
+    Row {
+        text: b"MIME-Magic\x00\n[50:t/a]\n",
+        lines: &[],
+        deleted: &[],
+    },
+    Row {
+        text: b"MIME-Magic\x00\n[50:t/a]\n>0__NOMAGIC__\n",
+        lines: &[],
+        deleted: &[b"t/a"],
+    },
+    Row {
+        text: b"MIME-Magic\x00\n[50:t/a]\n>0=\x00\x0b__NOMAGIC__\n",
+        lines: &[],
+        deleted: &[b"t/a"],
+    },
+    Row {
+        text: b"MIME-Magic\x00\n[50:t/a]\n>0=__NOMAGIC__\n>0=\x00\x01c\n",
+        lines: &[(b"c", &[])],
+        deleted: &[b"t/a"],
+    },
+    Row {
+        text: b"MIME-Magic\x00\n[50:t/a]\n>0=\x00\x01a+3~2\n",
+        lines: &[],
+        deleted: &[],
+    },
+    Row {
+        text: b"MIME-Magic\x00\n[50:t/a]\n>0=\x00\x01a?zz\n1>0=\x00\x01b\n>0=\x00\x01c\n",
+        lines: &[(b"c", &[])],
+        deleted: &[],
+    },
+    Row {
+        text: b"MIME-Magic\x00\n[50:t/a]\n>4294967293=\x00\x01a\n",
+        lines: &[(b"a", &[])],
+        deleted: &[],
+    },
+    Row {
+        text: b"MIME-Magic\x00\n[50:t/a]\n>0=\x00\x01a\n1>0=\x00\x01b\n1>0=\x00\x01c\n[9:t/b]\n>0__NOMAGIC__\n[9:t/c]\n>0=\x00\x00\n>0__NOMAGIC__\n",
+        lines: &[(b"a", &[b"b", b"c"]), (b"", &[])],
+        deleted: &[b"t/b", b"t/c"],
+    },
+];
+
+#[test]
+fn rows(rt: HostRuntime) -> Result<(), Fail> {
+    for row in &ROWS {
+        let file = read_magic(rt.alloc(), row.text)?;
+        let mut wanted = row.lines.iter();
+        for line in file
+            .sections
+            .iter()
+            .flat_map(|section| section.lines.iter())
+        {
+            let (value, children) = wanted.next().ok_or("a line too much")?;
+            assert_eq!(rt; line.value.as_slice(), *value);
+            assert_eq!(rt; line.children.len(), children.len());
+            for (child, value) in line.children.iter().zip(*children) {
+                assert_eq!(rt; child.value.as_slice(), *value);
+            }
+        }
+        assert!(rt; wanted.next().is_none());
+        assert_eq!(rt; file.deleted.len(), row.deleted.len());
+        for (kind, want) in file.deleted.iter().zip(row.deleted) {
+            assert_eq!(rt; kind.bytes(), *want);
+        }
+    }
+    Ok(())
+}
+
+#[test]
+fn line_of_all_parts(rt: HostRuntime) -> Result<(), Fail> {
+    let text = b"MIME-Magic\x00\n[0080:t/a]\n>4=\x00\x02ab&\xdf\xff~2+3\n";
+    let file = read_magic(rt.alloc(), text)?;
+    assert_eq!(rt; file.sections.len(), 1);
+    for section in &file.sections {
+        assert_eq!(rt; section.priority, 80);
+        assert_eq!(rt; section.kind.bytes(), b"t/a".as_slice());
+        assert_eq!(rt; section.lines.len(), 1);
+        for line in &section.lines {
+            assert_eq!(rt; (line.start, line.range, line.word), (4, 3, 2));
+            assert_eq!(rt; line.value.as_slice(), b"ab".as_slice());
+            let mask = line.mask.as_ref().ok_or("no mask")?;
+            assert_eq!(rt; mask.as_slice(), b"\xdf\xff".as_slice());
+        }
+    }
+    Ok(())
+}
+
+#[test]
+fn faults(rt: HostRuntime) -> Result<(), Fail> {
+    let rows: [(&[u8], MagicFault, &str); 10] = [
+        (b"MIME", MagicFault::NoHeader(0), "magic no header at 0"),
+        (
+            b"MIME-Magic\x00\n[50:t/a]\n>0=\x00\x05ab\n",
+            MagicFault::Truncated(29),
+            "magic truncated at 29",
+        ),
+        (
+            b"MIME-Magic\x00\n[x:t/a]\n",
+            MagicFault::BadSection(12),
+            "magic bad section at 12",
+        ),
+        (
+            b"MIME-Magic\x00\n[50:t/a]\n>=\x00\x01a\n",
+            MagicFault::BadNumber(22),
+            "magic bad number at 22",
+        ),
+        (
+            b"MIME-Magic\x00\n[50:t/a]\n>4294967294=\x00\x01a\n",
+            MagicFault::BadNumber(21),
+            "magic bad number at 21",
+        ),
+        (
+            b"MIME-Magic\x00\n[50:t/a]\n>0=\x00\x03abc~2\n",
+            MagicFault::BadWord(30),
+            "magic bad word at 30",
+        ),
+        (
+            b"MIME-Magic\x00\n[50:t/a]\n1>0=\x00\x01a\n",
+            MagicFault::BadIndent(21),
+            "magic bad indent at 21",
+        ),
+        (
+            b"MIME-Magic\x00\n[50:t/a]\n>0=__NOMAGIC__x\n",
+            MagicFault::Truncated(37),
+            "magic truncated at 37",
+        ),
+        (
+            b"MIME-Magic\x00\n>0__NOMAGIC__\n",
+            MagicFault::BadSection(12),
+            "magic bad section at 12",
+        ),
+        (
+            b"MIME-Magic\x00\n[50:t/a]\n>0__NOMAG",
+            MagicFault::BadNumber(22),
+            "magic bad number at 22",
+        ),
+    ];
+    for (text, want, message) in rows {
+        let fault = read_magic(rt.alloc(), text).err().ok_or("no fault")?;
+        assert_eq!(rt; fault, want);
+        assert_eq!(rt; fault.to_string(rt.alloc())?.as_str(), message);
+    }
+    Ok(())
+}
+
+#[test]
+fn levels(rt: HostRuntime) -> Result<(), Fail> {
+    let mut text = Vec::from_slice(rt.alloc(), b"MIME-Magic\x00\n[50:t/a]\n")?;
+    for indent in 0..64u8 {
+        text.push(b'0' + indent / 10)?;
+        text.push(b'0' + indent % 10)?;
+        text.extend_from_slice(b">0=\x00\x01a\n")?;
+    }
+    let file = read_magic(rt.alloc(), &text)?;
+    assert_eq!(rt; file.sections.len(), 1);
+    text.extend_from_slice(b"64>0=\x00\x01a\n")?;
+    let fault = read_magic(rt.alloc(), &text).err().ok_or("no fault")?;
+    assert_eq!(rt; fault, MagicFault::TooDeep(597));
+    assert_eq!(rt;
+        fault.to_string(rt.alloc())?.as_str(),
+        "magic too deep at 597"
+    );
+    assert_eq!(rt;
+        MagicFault::OutOfMemory.to_string(rt.alloc())?.as_str(),
+        "out of memory"
+    );
+    Ok(())
+}
