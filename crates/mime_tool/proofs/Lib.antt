@@ -1,1 +1,3 @@
+pub mod Plains
+pub mod Runs
 pub mod Sinks

@@ -3,7 +3,10 @@ use Rattle.std.proofs.Common.{◌≡◌, ◌∙◌, ◌+◌, ◌<◌, ℕ, List,
 use Rattle.std.specs.List.{flat_map}
 use Rattle.std.proofs.lemmas.List.{take-append-drop}
 use Rattle.std.proofs.lemmas.Grind.{flat_map-append}
+use Rattle.std.specs.Prelude.{IsErrAnd}
+use Rattle.mime_base.specs.declared.memory.OutOfMemory.{OutOfMemory as NoMemory}
 use Rattle.mime_tool.specs.Sink.{Takes, Wrote, WroteFront}
+use Rattle.mime_tool.specs.Stop.{Says}
 use Rattle.mime_tool.specs.declared.sink.SinkFault.{SinkFault}
 use Rattle.mime_tool.specs.declared.sink.SinkFault.TheVariants as fault
 
@@ -58,7 +61,7 @@ takes_no_more a b fault.OutOfMemory x y p = front_longer a b x y p
 takes_no_more a b fault.Failed x y p = p
 
 -- the bytes of a list are those up to an index, those at it, and those behind
-flat_map-split : {X : Type 0} (f : X → List ℕ) (xs : List X) (i : ℕ) (d : X) → i < length xs → flat_map f (take i xs) ++ (f (get_or xs i d) ++ flat_map f (drop (i + 1) xs)) ≡ flat_map f xs
+pub flat_map-split : {X : Type 0} (f : X → List ℕ) (xs : List X) (i : ℕ) (d : X) → i < length xs → flat_map f (take i xs) ++ (f (get_or xs i d) ++ flat_map f (drop (i + 1) xs)) ≡ flat_map f xs
 flat_map-split f xs i d lt =
     sym (flat_map-append f (take i xs) (get_or xs i d ∷ drop (i + 1) xs)) ∙ ap (flat_map f) (ap (λ t. take i xs ++ t) (sym (rw add-one (drop-cons xs i d lt))) ∙ take-append-drop i xs)
 
@@ -66,3 +69,13 @@ flat_map-split f xs i d lt =
 pub takes_pieces : {X : Type 0} (f : X → List ℕ) (xs : List X) (i : ℕ) (d : X) (a b c : Option (List ℕ)) (e : SinkFault) → i < length xs → Wrote a b (flat_map f (take i xs)) → Takes b c (Err e) (f (get_or xs i d)) → Takes a c (Err e) (flat_map f xs)
 takes_pieces f xs i d a b c e lt before here =
     subst (λ (bs : List ℕ). Takes a c (Err e) bs) (flat_map-split f xs i d lt) (takes-append a b c (Err e) (flat_map f (take i xs)) _ before (takes_no_more b c e (f (get_or xs i d)) (flat_map f (drop (i + 1) xs)) here))
+
+-- memory ran out before anything was said
+pub says_failed : (Q : NoMemory → Type 0) (s : Option (List ℕ)) (r : Result (Unit {0}) NoMemory) (bs : List ℕ) → IsErrAnd r Q → Says s s r bs
+says_failed Q s (Ok _) bs h = absurd h
+says_failed Q s (Err _) bs h = front_nothing s bs
+
+-- memory ran out in the middle of one message of several
+pub says_no_more : (Q : NoMemory → Type 0) (a b c : Option (List ℕ)) (e : NoMemory) (r : Result (Unit {0}) NoMemory) (x y z : List ℕ) → Wrote a b x → Says b c (Err e) y → IsErrAnd r Q → Says a c r (x ++ (y ++ z))
+says_no_more Q a b c e (Ok _) x y z p q h = absurd h
+says_no_more Q a b c e (Err _) x y z p q h = front-append a b c x (y ++ z) p (front_longer b c y z q)

@@ -1,2 +1,5 @@
 pub mod Files
+pub mod Plain
+pub mod Run
 pub mod Sink
+pub mod Stop

@@ -1,11 +1,14 @@
 //! The program mimelook, over whatever holds its files and takes its output.
 //!
-//! [`run`] goes from the words of the command line to written bytes and an exit status. The crate
+//! `run` goes from the words of the command line to written bytes and an exit status. The crate
 //! above hands it the real files and streams.
 #![tactic(auto)]
 
 mod files;
+mod plain;
 mod sink;
+mod status;
+mod stop;
 mod system;
 
 pub use files::{FileFault, Files};
