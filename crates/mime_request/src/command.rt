@@ -9,7 +9,8 @@ use clap::{Arg, ArgAction, Command};
 use std::alloc::{AllocError, Global};
 
 const EXAMPLE: &str = "Example:
-  mimelook plain -d ~/.local/share --name-only notes.txt photo.jpeg";
+  $ mimelook plain -d /usr/share --name-only notes.txt
+  notes.txt: text/plain";
 
 fn directories<'a>(alloc: Global) -> Arg<'a>
     ensures rule { rule_of result ≡ directories_rule }
@@ -19,7 +20,7 @@ fn directories<'a>(alloc: Global) -> Arg<'a>
         .short('d')
         .value_name("DIRS")
         .required(true)
-        .help("The data directory that holds mime/globs2, or \"\" for none")
+        .help("The data directory whose mime/globs2 has the rules; \"\" is none")
 }
 
 fn name_only<'a>(alloc: Global) -> Arg<'a>
@@ -29,7 +30,7 @@ fn name_only<'a>(alloc: Global) -> Arg<'a>
     Arg::new(alloc, "name-only")
         .long("name-only")
         .action(ArgAction::SetTrue)
-        .help("Go by the names alone, and open no file")
+        .help("Go by the names alone; this is needed, since content is not looked at yet")
 }
 
 fn files<'a>(alloc: Global) -> Arg<'a>
@@ -40,7 +41,7 @@ fn files<'a>(alloc: Global) -> Arg<'a>
         .value_name("FILE")
         .required(true)
         .num_args(1..)
-        .help("The files to tell the types of; behind -- one may begin with -")
+        .help("The files to tell the types of; put -- before one that begins with -")
 }
 
 /// The command `plain`, as it stands below `mimelook`.
@@ -67,6 +68,7 @@ pub(crate) fn mimelook_command<'a>(alloc: Global) -> Result<Command<'a>, AllocEr
         .no_binary_name(true)
         .subcommand_required(true)
         .disable_help_subcommand(true);
+    let command = command.bin_name("mimelook")?;
     let plain = plain_command(alloc)?;
     let command = command.subcommand(plain)?;
     Ok(command)

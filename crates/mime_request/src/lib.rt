@@ -7,5 +7,9 @@
 
 mod command;
 mod request;
+mod spelling;
+#[cfg(test)]
+mod tests;
 
 pub use request::{Request, request_of};
+pub use spelling::{flag_first_spelling_of_plain, parts_of_directories, usual_spelling_of_plain};

@@ -1,0 +1,61 @@
+-- The walk of `plain` over its FILEs.
+use Rattle.std.proofs.Common.{◌≡◌, ℕ, true, false, List, [], ◌∷◌, ◌++◌, ◌<◌, ◌^◌, not, Some, None, arith, refl, codes, length, append_assoc, append-nil}
+use Rattle.std.specs.List.{list_all}
+use Rattle.std.proofs.lemmas.Bool.Decides.{nat_tests}
+use Rattle.clap.specs.Lexer.{usize_max}
+use Rattle.clap.specs.Walk.{Row, Text, Walk, positional}
+use Rattle.clap.specs.Simple.{Shape, built_leaf, inherited, marked_built, with_leaf_noted}
+use Rattle.clap.specs.Faults.{settle_fault}
+use Rattle.clap.specs.Kinds.{Kinds, or_else, range_kinds, values_kinds}
+use Rattle.clap.specs.declared.builder.value_parser.ValueParser.TheVariants as vp
+use Rattle.clap.proofs.OnLiterals.{clap_on_literals}
+use Rattle.mime_request.specs.CommandLine.{mimelook, plain}
+use Rattle.mime_request.specs.Spelling.{is_option}
+use Rattle.mime_request.proofs.PlainWords.{IsPlainWord, neither, plain_word}
+use Rattle.mime_request.proofs.Walks.{Goes, Leads, ends, goes}
+
+-- `plain` as clap builds it below `mimelook`
+abbrev pub plain_shape : Shape
+plain_shape = built_leaf (inherited (with_leaf_noted (marked_built mimelook.top)) plain.top)
+
+-- behind these files, where the options before them gave these rows
+abbrev pub in_files : List Row → List Text → Walk
+in_files rows files = record {
+  held = record { rows = rows; pending = Some (codes "file", files); skip = 0 };
+  waiting = positional;
+  position = 1;
+  is_trailing = false;
+  stopped = None;
+}
+
+next_file : (rows : List Row) (file : Text) (files : List Text) → IsPlainWord file → Goes plain_shape [] (in_files rows files) file (in_files rows (files ++ file ∷ []))
+unfolding clap_on_literals
+next_file rows file files h = record {
+  no_fault = rw (h.no_dashes, h.no_long, h.no_short) refl;
+  moves = rw (h.no_dashes, h.no_long, h.no_short) refl;
+}
+
+pub over_files : (rows : List Row) (before files : List Text) → list_all (λ word. not (is_option word)) files ≡ true → Leads plain_shape [] (in_files rows before) files (in_files rows (before ++ files))
+over_files rows before [] h = rw (append-nil before) (ends (in_files rows before))
+over_files rows before (file ∷ files) h =
+    let both = neither (is_option file) (list_all (λ word. not (is_option word)) files) h in
+    let rest : Leads plain_shape [] (in_files rows (before ++ file ∷ [])) files (in_files rows (before ++ file ∷ files)) =
+    rw (append_assoc before (file ∷ []) files) at (over_files rows (before ++ file ∷ []) files both.1) in
+    goes _ _ _ file files (next_file rows file before (plain_word file both.0)) rest
+
+-- any text is a value
+values_fit : (files : List Text) → values_kinds false vp.String files ≡ []
+values_fit [] = refl
+values_fit (v ∷ vs) = values_fit vs
+
+range_fits : (n : ℕ) → 0 < n → n < 2 ^ 64 → range_kinds 1 usize_max n ≡ []
+range_fits n some few = grind (arith, nat_tests)
+
+pub neither_fault : (a b : Kinds) → a ≡ [] → b ≡ [] → or_else a b ≡ []
+neither_fault a b p q = rw p q
+
+pub files_fit : (rows : List Row) (file : Text) (files : List Text) → length (file ∷ files) < 2 ^ 64 → settle_fault plain_shape.rules false (in_files rows (file ∷ files)).held ≡ []
+unfolding clap_on_literals
+files_fit rows file files few =
+    neither_fault (range_kinds 1 usize_max (length (file ∷ files))) (values_kinds false vp.String (file ∷ files))
+    (range_fits (length (file ∷ files)) (omega arith) few) (values_fit (file ∷ files))

@@ -1,0 +1,34 @@
+-- The usual spellings of a command line.
+use Rattle.std.specs.Prelude.{◌≡◌, ◌<◌, ◌^◌, ◌==◌, Bool, true, false, not, List, [], ◌∷◌, codes, length}
+use Rattle.std.specs.List.{list_all}
+use Rattle.clap.specs.Walk.{Text}
+
+-- a hyphen (45) begins an option
+abbrev pub is_option : Text → Bool
+is_option [] = false
+is_option (x ∷ xs) = x == 45
+
+-- no options, and at least one
+abbrev pub are_files : List Text → Bool
+are_files [] = false
+are_files (file ∷ files) = list_all (λ word. not (is_option word)) (file ∷ files)
+
+-- a path in DIRS: not empty, and with no colon (58)
+abbrev pub is_path : Text → Bool
+is_path [] = false
+is_path (x ∷ xs) = list_all (λ b. not (b == 58)) (x ∷ xs)
+
+-- `plain -d DIRS --name-only FILE...`
+abbrev pub plain_words : Text → List Text → List Text
+plain_words dirs files = codes "plain" ∷ codes "-d" ∷ dirs ∷ codes "--name-only" ∷ files
+
+-- `plain --name-only -d DIRS FILE...`
+abbrev pub plain_words_flag_first : Text → List Text → List Text
+plain_words_flag_first dirs files =
+    codes "plain" ∷ codes "--name-only" ∷ codes "-d" ∷ dirs ∷ files
+
+-- none of the words could be taken for an option, and there are fewer than memory can hold
+pub record AreUsual (dirs : Text) (files : List Text) : Type 0 where
+  pub plain_dirs : is_option dirs ≡ false
+  pub plain_files : are_files files ≡ true
+  pub few : length files < 2 ^ 64

@@ -1,0 +1,32 @@
+//! What usual command lines ask for, with no word of clap.
+
+ghost use Rattle.std.specs.Prelude.{◌≡◌, ◌<◌, ◌≤◌, List, [], ◌∷◌, ◌++◌, length, slice_get, true};
+ghost use Rattle.clap.specs.Walk.{Text};
+ghost use Rattle.clap.specs.declared.error.kind.ErrorKind.TheVariants.{TooManyValues};
+ghost use Rattle.mime_request.specs.Request.{asks, meaning_of, parts, plain, refused};
+ghost use Rattle.mime_request.specs.Spelling.{AreUsual, is_path, plain_words, plain_words_flag_first};
+
+/// `plain -d DIRS --name-only FILE...` asks for these files, from the one directory of DIRS or from
+/// none; several directories are refused.
+pub fn usual_spelling_of_plain()
+    ensures asked { (dirs : Text) (files : List Text) → AreUsual dirs files
+        → length (parts dirs) ≤ 1
+        → meaning_of (plain_words dirs files) ≡ asks (plain (slice_get (parts dirs) 0) files) }
+    ensures several { (dirs : Text) (files : List Text) → AreUsual dirs files
+        → 1 < length (parts dirs)
+        → meaning_of (plain_words dirs files) ≡ refused (TooManyValues ∷ []) }
+{}
+
+/// `plain --name-only -d DIRS FILE...` asks for the same.
+pub fn flag_first_spelling_of_plain()
+    ensures { (dirs : Text) (files : List Text) → AreUsual dirs files
+        → meaning_of (plain_words_flag_first dirs files) ≡ meaning_of (plain_words dirs files) }
+{}
+
+/// The parts of DIRS: an empty one counts for nothing, one path is itself, and a colon stands
+/// between parts.
+pub fn parts_of_directories()
+    ensures none { parts [] ≡ [] }
+    ensures one { (path : Text) → is_path path ≡ true → parts path ≡ path ∷ [] }
+    ensures more { (left right : Text) → parts (left ++ 58 ∷ right) ≡ parts left ++ parts right }
+{}
