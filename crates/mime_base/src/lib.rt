@@ -10,6 +10,7 @@ mod host;
 mod memory;
 mod meter;
 mod name;
+mod pair;
 mod rule;
 
 pub use class::{Class, class_of, class_of_bytes};
@@ -18,4 +19,5 @@ pub use host::Host;
 pub use memory::OutOfMemory;
 pub use meter::Meter;
 pub use name::{NameFault, Pattern, TypeName};
+pub use pair::Pair;
 pub use rule::GlobRule;

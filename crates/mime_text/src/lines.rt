@@ -1,0 +1,82 @@
+//! The lines of a text.
+//!
+//! A line is the bytes up to a newline; what stands behind the last newline is a line where it
+//! isn't empty. A carriage return is an ordinary byte. This project's own.
+
+ghost use Rattle.std.specs.Prelude.{◌≡◌, ◌<◌, ◌∷◌, length, slice_index};
+ghost use Rattle.mime_text.specs.Lines.{fields, is_passed, lines};
+
+use bstr::{ByteSlice, Split};
+use memchr::memchr;
+use std::marker::Model;
+
+/// The lines of a text, first to last.
+#[derive(Drop)]
+pub struct Lines<'a> {
+    rest: &'a [u8],
+}
+
+impl<'a> Model for Lines<'a> {
+    ghost use Rattle.std.specs.Prelude.{ℕ, List};
+    ghost use Rattle.mime_text.specs.Lines.{lines};
+
+    ghost Value = { List (List ℕ) };
+
+    ghost view = { λ s. lines s.rest.now };
+}
+
+impl<'a> Lines<'a> {
+    pub fn new(text: &'a [u8]) -> Lines<'a>
+        ensures { result ≡ lines text.now }
+    {
+        Lines { rest: text }
+    }
+}
+
+impl<'a> Iterator for Lines<'a> {
+    ghost use Rattle.std.specs.Iterator.{YieldsFirstRef, item_count};
+
+    type Item = &'a [u8];
+
+    ghost next_gives = { YieldsFirstRef (λ left. left) };
+
+    ghost remaining = { item_count (λ left. left) };
+
+    fn next(&mut self) -> Option<&'a [u8]> {
+        if self.rest.is_empty() {
+            return None;
+        }
+        let (line, rest) = cut_line(self.rest);
+        self.rest = rest;
+        Some(line)
+    }
+}
+
+/// The first line of a text, and the bytes behind its newline.
+fn cut_line(text: &[u8]) -> (&[u8], &[u8])
+    requires { 0 < length text.now }
+    ensures { lines text.now ≡ result.0.now ∷ lines result.1.now }
+{
+    match memchr(b'\n', text) {
+        Some(end) => (&text[..end], &text[end + 1..]),
+        None => (text, &[]),
+    }
+}
+
+/// Whether a line says nothing: it is empty or a comment.
+pub fn is_passed(line: &[u8]) -> bool
+    ensures { result ≡ is_passed line.now }
+{
+    match line.first() {
+        Some(first) => *first == b'#',
+        None => true,
+    }
+}
+
+/// The fields of a line, between the separators of one byte.
+pub fn fields<'a, 's>(line: &'a [u8], separator: &'s [u8]) -> Split<'a, 's>
+    requires { length separator.now ≡ 1 }
+    ensures { result ≡ fields (slice_index separator.now 0) line.now }
+{
+    line.split_str(separator)
+}

@@ -1,0 +1,30 @@
+//! Fields that are to be names.
+
+ghost use Rattle.std.specs.Prelude.{◌≡◌, IfOk};
+ghost use Rattle.mime_base.specs.Names.{is_pattern, is_type_name};
+ghost use Rattle.mime_text.specs.Names.{name_by};
+
+use mime_base::{NameFault, OutOfMemory, Pattern, TypeName};
+use std::alloc::Global;
+
+/// The type name that a field spells, or `None` where it is past the limits of one.
+pub fn type_name_of(alloc: Global, field: &[u8]) -> Result<Option<TypeName>, OutOfMemory>
+    ensures { IfOk result (λ name. name ≡ name_by is_type_name field.now) }
+{
+    match TypeName::new(alloc, field) {
+        Ok(name) => Ok(Some(name)),
+        Err(NameFault::OutOfMemory) => Err(OutOfMemory),
+        Err(_) => Ok(None),
+    }
+}
+
+/// The pattern that a field spells, or `None` where it is past the limits of one.
+pub fn pattern_of(alloc: Global, field: &[u8]) -> Result<Option<Pattern>, OutOfMemory>
+    ensures { IfOk result (λ pattern. pattern ≡ name_by is_pattern field.now) }
+{
+    match Pattern::new(alloc, field) {
+        Ok(pattern) => Ok(Some(pattern)),
+        Err(NameFault::OutOfMemory) => Err(OutOfMemory),
+        Err(_) => Ok(None),
+    }
+}

@@ -1,0 +1,45 @@
+use super::*;
+use std::test::Fail;
+
+struct Row {
+    text: &'static [u8],
+    pairs: &'static [(&'static [u8], &'static [u8])],
+    skipped: &'static [u64],
+}
+
+const ROWS: [Row; 4] = [
+    Row {
+        text: b"a/b c/d\nx y\na/b e/f\n# z",
+        pairs: &[(b"a/b", b"c/d"), (b"a/b", b"e/f")],
+        skipped: &[2],
+    },
+    Row {
+        text: b"",
+        pairs: &[],
+        skipped: &[],
+    },
+    Row {
+        text: b"# a\n\n#a/b c/d\n",
+        pairs: &[],
+        skipped: &[],
+    },
+    Row {
+        text: b"\na/b c/d\na/b  c/d\n",
+        pairs: &[(b"a/b", b"c/d")],
+        skipped: &[3],
+    },
+];
+
+#[test]
+fn rows(rt: HostRuntime) -> Result<(), Fail> {
+    for row in &ROWS {
+        let file = read_pairs(rt.alloc(), row.text)?;
+        assert_eq!(rt; file.pairs.len(), row.pairs.len());
+        for (pair, want) in file.pairs.iter().zip(row.pairs) {
+            assert_eq!(rt; pair.name.bytes(), want.0);
+            assert_eq!(rt; pair.target.bytes(), want.1);
+        }
+        assert_eq!(rt; file.skipped.as_slice(), row.skipped);
+    }
+    Ok(())
+}
