@@ -1,17 +1,6 @@
 -- The elements of a pattern, computed from its bytes.
-use Rattle.std.specs.Prelude.{ℕ, zero, suc, ◌+◌, Bool, true, false, not, ◌&&◌, ◌||◌, ◌==◌, nat_le, if◌then◌else◌, List, [], ◌∷◌, map, length, drop, take, slice_index_or, min, position, Option, Some, None}
+use Rattle.std.specs.Prelude.{ℕ, zero, suc, ◌+◌, Bool, true, false, not, ◌&&◌, ◌||◌, ◌==◌, nat_le, if◌then◌else◌, List, [], ◌∷◌, length, drop, take, slice_index_or, min, position, Option, Some, None}
 use Rattle.std.specs.List.{list_all}
-
--- A to Z become a to z
-abbrev pub folded : ℕ → ℕ
-folded b = if nat_le 65 b && nat_le b 90 then b + 32 else b
-
--- what is compared: a byte as it is, or folded
-abbrev pub compared_byte : Bool → ℕ → ℕ
-compared_byte cased b = if cased then b else folded b
-
-abbrev pub compared : Bool → List ℕ → List ℕ
-compared cased text = map (compared_byte cased) text
 
 -- an element that takes exactly one byte
 pub data OneByte : Type 0 where

@@ -1,8 +1,12 @@
 pub mod Names
 pub mod Meter
+pub mod Folding
 pub mod Elements
 pub mod Matches
 pub mod Class
+pub mod Greatest
 pub mod Kept
+pub mod Rank
 pub mod Subclass
 pub mod Choice
+pub mod KeptRows

@@ -1,6 +1,7 @@
 -- What it is for a name to match the elements of a pattern.
 use Rattle.std.specs.Prelude.{◌≡◌, ℕ, Bool, true, false, ◌&&◌, ◌||◌, List, [], ◌∷◌, drop, length, ◌≤◌, ◌-◌, IsTrue}
-use Rattle.mime_base.specs.Elements.{Element, any_bytes, one, OneByte, admits, elements, compared}
+use Rattle.mime_base.specs.Elements.{Element, any_bytes, one, OneByte, admits, elements}
+use Rattle.mime_base.specs.Folding.{compared}
 
 -- by cases: `*` matches by some cut, any other element takes one byte that it admits
 abbrev pub Matches : List Element → List ℕ → Type 0

@@ -6,18 +6,25 @@
 
 mod class;
 mod database;
+mod elements;
+mod folding;
+mod glob;
 mod host;
 mod memory;
 mod meter;
 mod name;
 mod pair;
+mod ranking;
 mod rule;
 
 pub use class::{Class, class_of, class_of_bytes};
 pub use database::Database;
+pub use folding::fold;
+pub use glob::glob_matches;
 pub use host::Host;
 pub use memory::OutOfMemory;
 pub use meter::Meter;
 pub use name::{NameFault, Pattern, TypeName};
 pub use pair::Pair;
+pub use ranking::{Best, rank_of, rank_of_rule, rank_prefers};
 pub use rule::GlobRule;

@@ -1,0 +1,103 @@
+//! One number for the four preferences among hits, and the hits of the greatest number so far.
+//!
+//! Of the rules that match a name, those are kept that come first by class, then by weight, by the
+//! length of the pattern and by case ("Recommended checking order"; the order of the classes and
+//! the preference for case-sensitive rules are this project's own). A [`rank_of`] a hit puts the
+//! four into one comparison, and a [`Best`] keeps what is preferred in one pass.
+
+ghost use Rattle.std.specs.Prelude.{◌≡◌, ℕ, List, [], ◌∷◌, ◌++◌, map, OnOk, OnErr, All};
+ghost use Rattle.mime_base.specs.Rank.{best, rank, rank_of_rule, IsRanked, RankPrefers};
+
+use crate::class::{Class, class_of_bytes};
+use crate::memory::OutOfMemory;
+use crate::rule::GlobRule;
+use std::alloc::Global;
+use std::marker::Model;
+
+/// The rank of a hit: of two hits, the one that is preferred has the greater rank.
+///
+/// The length is that of the pattern, in bytes.
+#[tactic(auto, unfolding(crate::specs::Rank::rank))]
+pub fn rank_of(class: Class, weight: u8, length: u16, cased: bool) -> u32
+    ensures { result ≡ rank class weight length cased }
+{
+    let earliness = match class {
+        Class::Literal => 2,
+        Class::Suffix => 1,
+        Class::Full => 0,
+    };
+    ((earliness * 256 + u32::from(weight)) * 65536 + u32::from(length)) * 2 + u32::from(cased)
+}
+
+/// The rank of a rule that matches.
+pub fn rank_of_rule(rule: &GlobRule) -> u32
+    ensures rank { result ≡ rank_of_rule rule.now }
+    ensures limits { IsRanked rule.now }
+{
+    let pattern = rule.pattern.bytes();
+    rank_of(
+        class_of_bytes(pattern),
+        rule.weight,
+        pattern.len() as u16,
+        rule.cased,
+    )
+}
+
+/// The law of ranks: the hits of the greatest rank are those that are preferred.
+pub fn rank_prefers()
+    ensures { RankPrefers }
+{}
+
+/// What was offered with the greatest rank so far, in the order in which it came.
+#[derive(Debug, Drop)]
+pub struct Best<T> {
+    rank: u32,
+    items: Vec<T>,
+}
+
+impl<T> Model for Best<T> {
+    ghost use Rattle.std.specs.Prelude.{◌≡◌, ℕ, List, [], map};
+
+    ghost Value = { List (ℕ × T) };
+
+    ghost view = { λ best. map (λ item. (best.rank, item)) best.items.items };
+
+    ghost invariant = { λ best. best.items.items ≡ [] → best.rank ≡ 0 };
+}
+
+impl<T: Drop> Best<T> {
+    /// Nothing yet.
+    pub fn new(alloc: Global) -> Best<T>
+        ensures { result ≡ [] }
+    {
+        Best {
+            rank: 0,
+            items: Vec::new(alloc),
+        }
+    }
+
+    /// Keeps the item if nothing kept has a greater rank, and drops what has a lesser one.
+    pub fn offer(&mut self, rank: u32, item: T) -> Result<(), OutOfMemory>
+        ensures kept { (offers : List (ℕ × T)) → self.old ≡ best offers →
+            OnOk result (self.new ≡ best (offers ++ (rank, item) ∷ [])) }
+        ensures unchanged { OnErr result (self.new ≡ self.old) }
+    {
+        if rank < self.rank {
+            return Ok(());
+        }
+        if rank > self.rank {
+            self.items.clear();
+        }
+        self.items.push(item)?;
+        self.rank = rank;
+        Ok(())
+    }
+
+    /// The items that were kept.
+    pub fn into_items(self) -> Vec<T>
+        ensures { result.items ≡ map (λ offer. offer.1) self }
+    {
+        let Best { rank: _, items } = self;
+        items
+    }
+}

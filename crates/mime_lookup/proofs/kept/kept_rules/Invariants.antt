@@ -1,0 +1,10 @@
+use Rattle.std.proofs.Common.{◌≡◌, take}
+use Rattle.mime_base.specs.Kept.{hits}
+use Rattle.mime_lookup.proofs.Hits.{KeepsBest}
+use Rattle.mime_lookup.proofs.kept.kept_rules.Given as goal
+
+abbrev pub invariant-loop-rule : goal.invariant-loop-rule
+invariant-loop-rule l = record {
+  kept : KeepsBest l.best (hits (take l.rule-index l.rules) l.name);
+  nodes : l.meter.nodes ≡ l.initial.meter.nodes;
+}
