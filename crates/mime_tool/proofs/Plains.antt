@@ -1,7 +1,8 @@
 -- From the rules of a directory and lines to a run of `plain`.
 use Rattle.std.proofs.Common.{◌≡◌, ℕ, List, [], ◌++◌, Option, Some, None, IfSome, Result, Ok, Err, refl, sym, ap, subst, string_bytes}
 use Rattle.mime_base.specs.declared.rule.GlobRule.{GlobRule}
-use Rattle.mime_text.specs.Globs2.{rules_of, skipped_of}
+use Rattle.mime_text.specs.Globs2.{is_bad_rule, rules_of}
+use Rattle.mime_text.specs.Lines.{skipped_of}
 use Rattle.mime_tool.specs.Plain.{IsLines, IsPlainBy, ReadsRules, Typed, all_ignored, lines_run, plain_run, said, silent}
 use Rattle.mime_tool.specs.Run.{Ends, IsCut, Run, Sinks, Writes, stopped_at}
 use Rattle.mime_tool.specs.Sink.{Wrote, WroteFront}

@@ -5,7 +5,8 @@ use Rattle.std.specs.List.{after_last, flat_map, list_all}
 use Rattle.mime_base.specs.Choice.{Chooses}
 use Rattle.mime_base.specs.Subclass.{no_pairs}
 use Rattle.mime_base.specs.declared.rule.GlobRule.{GlobRule}
-use Rattle.mime_text.specs.Globs2.{rules_of, skipped_of}
+use Rattle.mime_text.specs.Globs2.{is_bad_rule, rules_of}
+use Rattle.mime_text.specs.Lines.{skipped_of}
 use Rattle.mime_base.specs.declared.memory.OutOfMemory.{OutOfMemory as NoMemory}
 use Rattle.mime_tool.specs.Files.{Stored, bytes, nothing, unreadable}
 use Rattle.mime_tool.specs.Run.{Run, stopped_at}
@@ -62,7 +63,7 @@ silent = record { status = 0; out = []; err = [] }
 
 -- what is said of the lines of a text that spell nothing
 abbrev pub all_ignored : List ℕ → List ℕ → List ℕ
-all_ignored path text = flat_map (ignored path) (skipped_of text)
+all_ignored path text = flat_map (ignored path) (skipped_of is_bad_rule text)
 
 -- the lines by the rules of a text, which lies at this path
 abbrev pub plain_run : List ℕ → List ℕ → List (List ℕ) → List Typed → Run
