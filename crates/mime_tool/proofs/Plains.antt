@@ -38,7 +38,7 @@ ends_behind bs path files o o' e e' e'' (Err stop.OutOfMemory) w p = record {
 }
 
 -- the run over no file
-plain_none : (text : Option (List ℕ)) (path : List ℕ) → (run : Run) × IsPlainBy text path [] run × (rest : List ℕ) × (run.err ≡ said text path ++ rest)
+pub plain_none : (text : Option (List ℕ)) (path : List ℕ) → (run : Run) × IsPlainBy text path [] run × (rest : List ℕ) × (run.err ≡ said text path ++ rest)
 plain_none None path = (stopped_at path silent, refl, (stopped_at path silent).err, refl)
 plain_none (Some bs) path = (behind (all_ignored path bs) silent, plain_lines bs path [] silent (lines_none (rules_of bs)), [], refl)
 
@@ -51,7 +51,12 @@ ends_unread text path files o e e' stop.CannotWrite p = absurd p
 ends_unread text path files o e e' stop.OutOfMemory p =
     let none = plain_none text path in
     record {
-      front = []; rest = files; split = refl; run = none.0; is_run = none.1; out = front_nothing o none.0.out;
+      front = [];
+      rest = files;
+      split = refl;
+      run = none.0;
+      is_run = none.1;
+      out = front_nothing o none.0.out;
       err = subst (λ (bs : List ℕ). WroteFront e e' bs) (sym none.3) (front_longer e e' (said text path) none.2 p);
     }
 

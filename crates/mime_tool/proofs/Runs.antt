@@ -29,7 +29,13 @@ writes-append a b c x y p q = (wrote-append a.out b.out c.out x.out y.out p.0 q.
 -- memory ran out before anything was written
 pub cut_nothing : (IsRun : List (List ℕ) → Run → Type 0) (files : List (List ℕ)) (s : Sinks) (run : Run) → IsRun [] run → IsCut IsRun files s s
 cut_nothing IsRun files s run is = record {
-  front = []; rest = files; split = refl; run = run; is_run = is; out = front_nothing s.out run.out; err = front_nothing s.err run.err;
+  front = [];
+  rest = files;
+  split = refl;
+  run = run;
+  is_run = is;
+  out = front_nothing s.out run.out;
+  err = front_nothing s.err run.err;
 }
 
 -- ---- lines
@@ -68,14 +74,14 @@ lines_run-append xs ys s t = rw (list_all-append fits xs ys, flat_map-append typ
 pub lines-append : (rules : List GlobRule) (xs ys : List (List ℕ)) (a b : Run) → IsLines rules xs a → IsLines rules ys b → IsLines rules (xs ++ ys) (joined a b)
 lines-append rules xs ys a b p q =
     let files = map-append (λ (t : Typed). t.file) p.0 q.0 ∙ ap (λ (fs : List (List ℕ)). fs ++ map (λ (t : Typed). t.file) q.0) p.1.same_files
-        ∙ ap (λ (fs : List (List ℕ)). filter fits xs ++ fs) q.1.same_files ∙ sym (filter-append fits xs ys) in
+    ∙ ap (λ (fs : List (List ℕ)). filter fits xs ++ fs) q.1.same_files ∙ sym (filter-append fits xs ys) in
     let kinds = All-append (IsTyped rules) p.0 q.0 p.1.kinds q.1.kinds in
     (p.0 ++ q.0, record { same_files = files; kinds = kinds }, rw (p.2, q.2) (lines_run-append xs ys p.0 q.0))
 
 -- lines never stop at a file that can't be read
 pub no_stop : (rules : List GlobRule) (files : List (List ℕ)) (path : List ℕ) (run : Run) → IsLines rules files (stopped_at path run) → ⊥
 no_stop rules files path run p =
-    let go : (all : Bool) → ◌≡◌ {A = ℕ} 3 (if all then 0 else 1) → ⊥ = elim [ | true ↦ λ h. cc | false ↦ λ h. cc ] in
+    let go : (all : Bool) → ◌≡◌ {A = ℕ} 3 (if all then 0 else 1) → ⊥ = elim [ true ↦ λ h. cc | false ↦ λ h. cc ] in
     go (list_all fits files) (ap (λ (r : Run). r.status) p.2)
 
 -- lines behind others
@@ -111,7 +117,13 @@ pub ends_untaken : (rules : List GlobRule) (file kind : List ℕ) (o o' e : Opti
     → Takes o o' (Err f) (type_line (record { file = file; kind = kind })) → Ends (IsLines rules) (file ∷ []) (record { out = o; err = e }) (record { out = o'; err = e }) (Err (stop_of f))
 ends_untaken rules file kind o o' e fault.Failed p took = took
 ends_untaken rules file kind o o' e fault.OutOfMemory p took = record {
-  front = file ∷ []; rest = []; split = refl; run = _; is_run = line_typed rules file kind p.0 p.1; out = took; err = front_nothing e [];
+  front = file ∷ [];
+  rest = [];
+  split = refl;
+  run = _;
+  is_run = line_typed rules file kind p.0 p.1;
+  out = took;
+  err = front_nothing e [];
 }
 
 -- the name is too long, and that is said
@@ -123,7 +135,13 @@ ends_too_long rules file o e e' test said = (_, line_too_long rules file test, r
 pub ends_unsaid : (rules : List GlobRule) (file : List ℕ) (o e e' : Option (List ℕ)) → fits file ≡ false → WroteFront e e' (too_long file)
     → Ends (IsLines rules) (file ∷ []) (record { out = o; err = e }) (record { out = o; err = e' }) (Err stop.OutOfMemory)
 ends_unsaid rules file o e e' test said = record {
-  front = file ∷ []; rest = []; split = refl; run = _; is_run = line_too_long rules file test; out = front_nothing o []; err = said;
+  front = file ∷ [];
+  rest = [];
+  split = refl;
+  run = _;
+  is_run = line_too_long rules file test;
+  out = front_nothing o [];
+  err = said;
 }
 
 -- ---- texts of names

@@ -79,3 +79,36 @@ says_failed Q s (Err _) bs h = front_nothing s bs
 pub says_no_more : (Q : NoMemory → Type 0) (a b c : Option (List ℕ)) (e : NoMemory) (r : Result (Unit {0}) NoMemory) (x y z : List ℕ) → Wrote a b x → Says b c (Err e) y → IsErrAnd r Q → Says a c r (x ++ (y ++ z))
 says_no_more Q a b c e (Ok _) x y z p q h = absurd h
 says_no_more Q a b c e (Err _) x y z p q h = front-append a b c x (y ++ z) p (front_longer b c y z q)
+
+-- whatever a flush answers, nothing is added
+pub flushed : (a b : Option (List ℕ)) (r : Result (Unit {0}) SinkFault) → Takes a b r [] → Wrote a b []
+flushed None b r p = tt
+flushed (Some xs) b (Ok _) p = p
+flushed (Some xs) b (Err fault.OutOfMemory) p =
+    let none : p.0 ≡ [] = empty_front p.0 p.1 (sym p.2) in
+    p.3 ∙ ap Some (ap (λ (bs : List ℕ). xs ++ bs) none)
+  where
+    empty_front : (x y : List ℕ) → x ++ y ≡ [] → x ≡ []
+    empty_front [] y h = refl
+    empty_front (b ∷ x) y h = cc
+flushed (Some xs) b (Err fault.Failed) p = cc
+
+-- bytes, and then nothing
+pub wrote_kept : (a b c : Option (List ℕ)) (x : List ℕ) → Wrote a b x → Wrote b c [] → Wrote a c x
+wrote_kept a b c x p q = subst (λ (bs : List ℕ). Wrote a c bs) (append-nil x) (wrote-append a b c x [] p q)
+
+-- a front of bytes, and then nothing
+pub front_kept : (a b c : Option (List ℕ)) (x : List ℕ) → WroteFront a b x → Wrote b c [] → WroteFront a c x
+front_kept None b c x p q = tt
+front_kept (Some xs) b c x p q =
+    let kept = subst (λ (s : Option (List ℕ)). Wrote s c []) p.3 q in
+    (p.0, p.1, p.2, kept ∙ ap Some (append-nil (xs ++ p.0)))
+
+-- all of it is a front of it
+pub front_all : (a b : Option (List ℕ)) (x : List ℕ) → Wrote a b x → WroteFront a b x
+front_all a b x p = subst (λ (bs : List ℕ). WroteFront a b bs) (append-nil x) (front_whole a b x [] p)
+
+-- whatever was said is a front of it
+pub said_front : (a b : Option (List ℕ)) (r : Result (Unit {0}) NoMemory) (x : List ℕ) → Says a b r x → WroteFront a b x
+said_front a b (Ok _) x p = front_all a b x p
+said_front a b (Err _) x p = p
