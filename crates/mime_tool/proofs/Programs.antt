@@ -57,7 +57,13 @@ performs_kept stored (asks (plain dir files)) old mid o (Ok status) p kept = (p.
 performs_kept stored (asks (plain dir files)) old mid o (Err (stop.CannotRead path)) p kept = (p.0, p.1, (wrote_kept old.out mid.out o p.0.out p.2.0 kept, p.2.1))
 performs_kept stored (asks (plain dir files)) old mid o (Err stop.CannotWrite) p kept = p
 performs_kept stored (asks (plain dir files)) old mid o (Err stop.OutOfMemory) p kept = record {
-  front = p.front; rest = p.rest; split = p.split; run = p.run; is_run = p.is_run; out = front_kept old.out mid.out o p.run.out p.out kept; err = p.err;
+  front = p.front;
+  rest = p.rest;
+  split = p.split;
+  run = p.run;
+  is_run = p.is_run;
+  out = front_kept old.out mid.out o p.run.out p.out kept;
+  err = p.err;
 }
 performs_kept stored (refused kinds) old mid o (Ok status) p kept = (p.0, p.1, shows_kept (is_help p.0) old mid o status p.2 kept)
 performs_kept stored (refused kinds) old mid o (Err (stop.CannotRead path)) p kept = p

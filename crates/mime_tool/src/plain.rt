@@ -1,6 +1,6 @@
 //! The command `plain`: types by the names alone, from the text files of a data directory.
 
-ghost use Rattle.std.specs.Prelude.{◌≡◌, IfOk, IfSome, [], ◌∷◌, ◌++◌, codes, option_map};
+ghost use Rattle.std.specs.Prelude.{◌≡◌, IfOk, IfSome, [], ◌∷◌, option_map};
 ghost use Rattle.std.specs.List.{flat_map};
 ghost use Rattle.clap.specs.Walk.{texts};
 ghost use Rattle.mime_tool.specs.Plain.{IsKindOf, IsLines, IsPlain, ParsesRules, Reads, ReadsRules, base_name, globs_path, ignored, path_in, text_of, text_in, too_long, type_line};

@@ -1,6 +1,6 @@
 //! Where output goes. This project's own.
 
-ghost use Rattle.std.specs.Prelude.{◌≡◌, ℕ, List, Option, Some, None, [], map, sum};
+ghost use Rattle.std.specs.Prelude.{ℕ, List, Option, Some, None, []};
 ghost use Rattle.std.specs.List.{flat_map};
 ghost use Rattle.mime_tool.specs.Sink.{Takes};
 

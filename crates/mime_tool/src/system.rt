@@ -1,6 +1,7 @@
 //! The files and the streams of the system, of which nothing is known. This project's own.
 
-ghost use Rattle.std.specs.Prelude.{◌≡◌, ◌≤◌, ℕ, List, Option, None, [], IfOk, IfSome, OnOk, length};
+ghost use Rattle.std.specs.Prelude.{◌≡◌, ◌≢◌, ◌≤◌, None, [], IfOk, IfSome, OnOk, length};
+ghost use Rattle.std.specs.IoError.{error_kind};
 ghost use Rattle.std.specs.Io.KnownBytes.{Appends, Keeps, ReadConsumes};
 ghost use Rattle.mime_tool.specs.Sink.{Takes};
 
@@ -95,7 +96,10 @@ fn read_block<R: Read>(
     }
 }
 
-fn file_fault(error: &io::Error) -> FileFault {
+fn file_fault(error: &io::Error) -> FileFault
+    ensures memory { error_kind error.now ≡ ErrorKind.OutOfMemory → result ≡ FileFault.OutOfMemory }
+    ensures failed { error_kind error.now ≢ ErrorKind.OutOfMemory → result ≡ FileFault.Failed }
+{
     if error.kind() == ErrorKind::OutOfMemory {
         FileFault::OutOfMemory
     } else {
@@ -105,21 +109,13 @@ fn file_fault(error: &io::Error) -> FileFault {
 
 /// A writer as a [`Sink`], of which nothing is known.
 #[derive(Drop)]
-pub struct Stream<W: Write + Drop>(W);
-
-impl<W: Write + Drop> Stream<W> {
-    /// A sink that writes to this writer.
-    pub fn new(writer: W) -> Self
-        ensures { result.0 ≡ writer }
-    {
-        Stream(writer)
-    }
-}
+pub struct Stream<W: Write + Drop>(pub W);
 
 impl<W: Write + Drop> Sink for Stream<W> {
     fn put(&mut self, bytes: &[u8]) -> Result<(), SinkFault>
         ensures unknown { Takes None None result bytes.now }
-        ensures written { OnOk result (Appends (W.contents self.old.0) (W.contents self.new.0) bytes.now) }
+        ensures written { OnOk result
+            (Appends (W.contents self.old.0) (W.contents self.new.0) bytes.now) }
     {
         match self.0.write_all(bytes) {
             Ok(()) => Ok(()),
@@ -138,7 +134,10 @@ impl<W: Write + Drop> Sink for Stream<W> {
     }
 }
 
-fn sink_fault(error: &io::Error) -> SinkFault {
+fn sink_fault(error: &io::Error) -> SinkFault
+    ensures memory { error_kind error.now ≡ ErrorKind.OutOfMemory → result ≡ SinkFault.OutOfMemory }
+    ensures failed { error_kind error.now ≢ ErrorKind.OutOfMemory → result ≡ SinkFault.Failed }
+{
     if error.kind() == ErrorKind::OutOfMemory {
         SinkFault::OutOfMemory
     } else {

@@ -28,8 +28,8 @@ fn run_system(rt: &HostRuntime) -> io::Result<u8> {
     let alloc = rt.alloc();
     let words = env::args(rt)?.skip(1).collect::<Vec<String>>(alloc)?;
     let mut files = SystemFiles::new(rt);
-    let mut out = Stream::new(BufWriter::with_capacity(alloc, BUFFER, rt.stdout())?);
-    let mut err = Stream::new(rt.stderr());
+    let mut out = Stream(BufWriter::with_capacity(alloc, BUFFER, rt.stdout())?);
+    let mut err = Stream(rt.stderr());
     Ok(run(alloc, words.as_slice(), &mut files, &mut out, &mut err))
 }
 

@@ -70,9 +70,9 @@ fn names_what_a_stream_fails_with(rt: HostRuntime) -> Result<(), Fail> {
         ),
     ];
     for (steps, want) in rows {
-        assert_eq!(rt; Stream::new(Script::new(steps)).put(b"hi"), want);
+        assert_eq!(rt; Stream(Script::new(steps)).put(b"hi"), want);
     }
-    let mut full = Stream::new(Script::new(&[Step::Faults(1, ErrorKind::StorageFull)]));
+    let mut full = Stream(Script::new(&[Step::Faults(1, ErrorKind::StorageFull)]));
     assert_eq!(rt; full.flush(), Err(SinkFault::Failed));
     assert_eq!(rt; full.flush(), Ok(()));
     Ok(())
