@@ -1,0 +1,4 @@
+pub mod Plains
+pub mod Programs
+pub mod Runs
+pub mod Sinks

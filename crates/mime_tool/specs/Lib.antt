@@ -1,0 +1,6 @@
+pub mod Files
+pub mod Plain
+pub mod Program
+pub mod Run
+pub mod Sink
+pub mod Stop

@@ -1,0 +1,21 @@
+-- What sinks hold.
+use Rattle.std.specs.Prelude.{◌≡◌, ℕ, List, ◌++◌, Option, Some, None, Result, Ok, Err}
+use Rattle.mime_tool.specs.declared.sink.SinkFault.{SinkFault}
+use Rattle.mime_tool.specs.declared.sink.SinkFault.TheVariants.{Failed, OutOfMemory}
+
+-- known bytes grow by these
+abbrev pub Wrote : Option (List ℕ) → Option (List ℕ) → List ℕ → Type 0
+Wrote None new bs = Unit {0}
+Wrote (Some xs) new bs = new ≡ Some (xs ++ bs)
+
+-- known bytes grow by what these begin with
+abbrev pub WroteFront : Option (List ℕ) → Option (List ℕ) → List ℕ → Type 0
+WroteFront None new bs = Unit {0}
+WroteFront (Some xs) new bs =
+    (front : List ℕ) × (rest : List ℕ) × (bs ≡ front ++ rest) × (new ≡ Some (xs ++ front))
+
+-- all the bytes are taken, or memory runs out in the middle of them, or the sink isn't known
+abbrev pub Takes : Option (List ℕ) → Option (List ℕ) → Result (Unit {0}) SinkFault → List ℕ → Type 0
+Takes old new (Ok _) bs = Wrote old new bs
+Takes old new (Err OutOfMemory) bs = WroteFront old new bs
+Takes old new (Err Failed) bs = old ≡ None

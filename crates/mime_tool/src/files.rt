@@ -1,0 +1,38 @@
+//! Where files come from. This project's own.
+
+ghost use Rattle.std.specs.Prelude.{◌≡◌, ℕ, List, Option, None, IfSome};
+ghost use Rattle.mime_tool.specs.Files.{Stored, Tells};
+
+use std::alloc::{AllocError, Global};
+use thiserror::Error;
+
+/// Why a file was not read.
+#[derive(Clone, Copy, Debug, PartialEq, Eq, Error)]
+pub enum FileFault {
+    /// The file is there and can't be read, or is past a limit of its reader.
+    #[error("cannot read")]
+    Failed,
+    /// There was no memory for its bytes.
+    #[error("out of memory")]
+    OutOfMemory,
+}
+
+impl From<AllocError> for FileFault {
+    fn from(_error: AllocError) -> FileFault {
+        FileFault::OutOfMemory
+    }
+}
+
+/// Files, by their paths.
+pub trait Files {
+    // What is stored at each path, where that is known.
+    ghost tells: { Self → Option (List ℕ → Stored) } = { λ _. None };
+
+    /// All the bytes of a file, or `None` where there is no such file.
+    ///
+    /// Errors: [`FileFault::Failed`] for a file that is there and can't be read, a directory too;
+    /// [`FileFault::OutOfMemory`] where there is no memory for it.
+    fn whole(&mut self, alloc: Global, path: &str) -> Result<Option<Vec<u8>>, FileFault>
+        ensures told { IfSome (tells self.old) (λ stored. Tells (stored path.now) result) }
+        ensures stays { tells self.new ≡ tells self.old };
+}

@@ -1,0 +1,70 @@
+//! Where output goes. This project's own.
+
+ghost use Rattle.std.specs.Prelude.{ℕ, List, Option, Some, None, []};
+ghost use Rattle.std.specs.List.{flat_map};
+ghost use Rattle.mime_tool.specs.Sink.{Takes};
+
+use std::alloc::AllocError;
+use thiserror::Error;
+
+/// Why bytes were not taken.
+#[derive(Clone, Copy, Debug, PartialEq, Eq, Error)]
+pub enum SinkFault {
+    /// They could not be written.
+    #[error("cannot write")]
+    Failed,
+    /// There was no memory for them.
+    #[error("out of memory")]
+    OutOfMemory,
+}
+
+/// What takes bytes.
+///
+/// A sink may hold bytes back until it is flushed. After a fault it may have taken some of the
+/// bytes of that call.
+pub trait Sink {
+    // The bytes that it took, where they are known. Such a sink fails only for want of memory.
+    ghost holds: { Self → Option (List ℕ) } = { λ _. None };
+
+    /// Takes all the bytes.
+    fn put(&mut self, bytes: &[u8]) -> Result<(), SinkFault>
+        ensures { Takes (holds self.old) (holds self.new) result bytes.now };
+
+    /// Hands on what it held back.
+    fn flush(&mut self) -> Result<(), SinkFault>
+        ensures { Takes (holds self.old) (holds self.new) result [] };
+}
+
+impl Sink for Vec<u8> {
+    ghost holds = { λ bytes. Some bytes.items };
+
+    fn put(&mut self, bytes: &[u8]) -> Result<(), SinkFault> {
+        match self.extend_from_slice(bytes) {
+            Ok(()) => Ok(()),
+            Err(_) => Err(SinkFault::OutOfMemory),
+        }
+    }
+
+    fn flush(&mut self) -> Result<(), SinkFault> {
+        Ok(())
+    }
+}
+
+/// Puts the pieces, one behind the other.
+pub(crate) fn put_all<S: Sink>(sink: &mut S, pieces: &[&[u8]]) -> Result<(), SinkFault>
+    ensures { Takes (S.holds sink.old) (S.holds sink.new) result
+        (flat_map (λ piece. piece.now) pieces.now) }
+{
+    for piece in pieces {
+        sink.put(piece)?;
+    }
+    Ok(())
+}
+
+/// Puts the bytes, and flushes.
+pub(crate) fn put_now<S: Sink>(sink: &mut S, bytes: &[u8]) -> Result<(), SinkFault>
+    ensures { Takes (S.holds sink.old) (S.holds sink.new) result bytes.now }
+{
+    sink.put(bytes)?;
+    sink.flush()
+}

@@ -1,0 +1,146 @@
+//! The files and the streams of the system, of which nothing is known. This project's own.
+
+ghost use Rattle.std.specs.Prelude.{◌≡◌, ◌≢◌, ◌≤◌, None, [], IfOk, IfSome, OnOk, length};
+ghost use Rattle.std.specs.IoError.{error_kind};
+ghost use Rattle.std.specs.Io.KnownBytes.{Appends, Keeps, ReadConsumes};
+ghost use Rattle.mime_tool.specs.Sink.{Takes};
+
+use crate::files::{FileFault, Files};
+use crate::sink::{Sink, SinkFault};
+use std::alloc::Global;
+use std::fs::File;
+use std::io::{ErrorKind, Read, Write};
+use std::{io, rt};
+
+/// The longest file that is read whole, in bytes.
+const LONGEST_FILE: usize = 4_294_967_296;
+
+/// How many interrupted reads of a file are tried again.
+const RETRIES: u32 = 1_000;
+
+/// How many bytes are asked for at once.
+const BLOCK: usize = 65_536;
+
+/// The files of the system.
+///
+/// A file that doesn't exist is none; any other that can't be opened or read, a directory too, is
+/// [`FileFault::Failed`].
+#[derive(Drop)]
+pub struct SystemFiles<'r, R: rt::Files>(&'r R);
+
+impl<'r, R: rt::Files> SystemFiles<'r, R> {
+    /// The files that this runtime reaches.
+    pub fn new(rt: &'r R) -> Self {
+        SystemFiles(rt)
+    }
+}
+
+impl<R: rt::Files> Files for SystemFiles<'_, R> {
+    fn whole(&mut self, alloc: Global, path: &str) -> Result<Option<Vec<u8>>, FileFault> {
+        match File::open(self.0, path) {
+            Ok(mut file) => Ok(Some(read_whole(alloc, LONGEST_FILE, &mut file)?)),
+            Err(error) => {
+                if error.kind() == ErrorKind::NotFound {
+                    Ok(None)
+                } else {
+                    Err(file_fault(&error))
+                }
+            }
+        }
+    }
+}
+
+/// All the bytes that a reader still gives, at most `limit`.
+///
+/// An interrupted read is tried again, 1,000 times in all. [`FileFault::Failed`] comes with the next
+/// interruption, with any other error of the reader, and with more than `limit` bytes.
+pub fn read_whole<R: Read>(alloc: Global, limit: usize, file: &mut R) -> Result<Vec<u8>, FileFault>
+    ensures bytes { IfOk result (λ v. IfSome (R.remaining file.old) (λ xs. v.items ≡ xs)) }
+    ensures limited { IfOk result (λ v. length v.items ≤ limit) }
+{
+    let mut bytes = Vec::new(alloc);
+    let mut block = [0u8; BLOCK];
+    let mut retries = RETRIES;
+    for _ in 0..u64::MAX {
+        let count = read_block(file, &mut block, &mut retries)?;
+        if count == 0 {
+            return Ok(bytes);
+        }
+        if count > limit - bytes.len() {
+            return Err(FileFault::Failed);
+        }
+        bytes.extend_from_slice(&block[..count])?;
+    }
+    Err(FileFault::Failed)
+}
+
+// One read, tried again while it is interrupted and retries are left. Gives how many bytes came.
+fn read_block<R: Read>(
+    file: &mut R,
+    block: &mut [u8],
+    retries: &mut u32,
+) -> Result<usize, FileFault>
+    ensures within { IfOk result (λ count. count ≤ length block.new) }
+    ensures bytes { ReadConsumes (R.remaining file.old) (R.remaining file.new) result block.new }
+{
+    loop {
+        match file.read(block) {
+            Ok(count) => return Ok(count),
+            Err(error) => {
+                if error.kind() != ErrorKind::Interrupted || *retries == 0 {
+                    return Err(file_fault(&error));
+                }
+                *retries -= 1;
+            }
+        }
+    }
+}
+
+fn file_fault(error: &io::Error) -> FileFault
+    ensures memory { error_kind error.now ≡ ErrorKind.OutOfMemory → result ≡ FileFault.OutOfMemory }
+    ensures failed { error_kind error.now ≢ ErrorKind.OutOfMemory → result ≡ FileFault.Failed }
+{
+    if error.kind() == ErrorKind::OutOfMemory {
+        FileFault::OutOfMemory
+    } else {
+        FileFault::Failed
+    }
+}
+
+/// A writer as a [`Sink`], of which nothing is known.
+#[derive(Drop)]
+pub struct Stream<W: Write + Drop>(pub W);
+
+impl<W: Write + Drop> Sink for Stream<W> {
+    fn put(&mut self, bytes: &[u8]) -> Result<(), SinkFault>
+        ensures unknown { Takes None None result bytes.now }
+        ensures written { OnOk result
+            (Appends (W.contents self.old.0) (W.contents self.new.0) bytes.now) }
+    {
+        match self.0.write_all(bytes) {
+            Ok(()) => Ok(()),
+            Err(error) => Err(sink_fault(&error)),
+        }
+    }
+
+    fn flush(&mut self) -> Result<(), SinkFault>
+        ensures unknown { Takes None None result [] }
+        ensures kept { Keeps (W.contents self.old.0) (W.contents self.new.0) }
+    {
+        match self.0.flush() {
+            Ok(()) => Ok(()),
+            Err(error) => Err(sink_fault(&error)),
+        }
+    }
+}
+
+fn sink_fault(error: &io::Error) -> SinkFault
+    ensures memory { error_kind error.now ≡ ErrorKind.OutOfMemory → result ≡ SinkFault.OutOfMemory }
+    ensures failed { error_kind error.now ≢ ErrorKind.OutOfMemory → result ≡ SinkFault.Failed }
+{
+    if error.kind() == ErrorKind::OutOfMemory {
+        SinkFault::OutOfMemory
+    } else {
+        SinkFault::Failed
+    }
+}

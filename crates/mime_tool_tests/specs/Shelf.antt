@@ -1,0 +1,20 @@
+-- What is stored at each path of a shelf.
+use Rattle.std.specs.Prelude.{ℕ, List, [], ◌∷◌, Option, Some, None, if◌then◌else◌}
+use Rattle.std.specs.Borrow.{Bor}
+use Rattle.std.specs.Str.{bytes_eq}
+use Rattle.mime_tool.specs.Files.{Stored, bytes, nothing, unreadable}
+use Rattle.mime_tool_tests.specs.declared.shelf.Entry.{Entry}
+use Rattle.mime_tool_tests.specs.declared.shelf.Entry.TheVariants.{Bytes, Unreadable}
+
+abbrev pub stored : Option Entry → Stored
+stored None = nothing
+stored (Some (Bytes bs)) = bytes bs.now
+stored (Some Unreadable) = unreadable
+
+-- the first entry of this path
+abbrev pub entry_in : List (Bor (List ℕ) × Entry) → List ℕ → Option Entry
+entry_in [] path = None
+entry_in (named ∷ entries) path = if bytes_eq named.0.now path then Some named.1 else entry_in entries path
+
+abbrev pub stored_at : List (Bor (List ℕ) × Entry) → List ℕ → Stored
+stored_at entries path = stored (entry_in entries path)
