@@ -1,5 +1,4 @@
-//! Matching of a name against a pattern, with no memory ("Glob patterns" of the public
-//! specification).
+//! Matching of a name against a pattern, with no memory ("The glob files").
 //!
 //! A pattern's elements are tried from star to star. Behind a star the elements up to the next one
 //! are tried at each place of the name in turn; the first place where they go is as good as any

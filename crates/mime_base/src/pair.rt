@@ -4,7 +4,7 @@ use crate::name::TypeName;
 
 /// A line of `aliases` or `subclasses`: two types, of which the second says more of the first.
 ///
-/// In "The aliases files" it is an alias and the type that it stands for; in "Subclassing" a type
+/// In "Directory layout" it is an alias and the type that it stands for; in "Subclassing" a type
 /// and one of its parents.
 #[derive(Debug, Drop)]
 pub struct Pair {

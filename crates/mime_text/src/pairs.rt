@@ -1,4 +1,4 @@
-//! Reader of `aliases` ("The aliases files") and `subclasses` ("Subclassing").
+//! Reader of `aliases` ("Directory layout") and `subclasses` ("Subclassing").
 //!
 //! A line is two types with one space between them: an alias and its type, or a type and its parent.
 
