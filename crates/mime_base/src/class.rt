@@ -45,3 +45,25 @@ pub fn is_plain(text: &[u8]) -> bool
 {
     text.iter().all(|byte| !(*byte == b'*' || *byte == b'?' || *byte == b'[' || *byte == b'\\'))
 }
+
+#[cfg(test)]
+mod tests {
+    use super::*;
+    use std::test::Fail;
+
+    #[test]
+    fn classes(rt: HostRuntime) -> Result<(), Fail> {
+        let rows: [(&[u8], Class); 5] = [
+            (b"makefile", Class::Literal),
+            (b"*", Class::Suffix),
+            (b"*.tar.gz", Class::Suffix),
+            (b"*.g?", Class::Full),
+            (b"a*", Class::Full),
+        ];
+        for (text, class) in rows {
+            let pattern = Pattern::new(rt.alloc(), text)?;
+            assert_eq!(rt; class_of(&pattern), class, "{text:?}");
+        }
+        Ok(())
+    }
+}

@@ -147,3 +147,6 @@ fn count_agreeing(text: &[u8], cased: bool, other: &[u8]) -> usize
         .take_while(|(a, b)| as_compared(cased, **a) == as_compared(cased, **b))
         .count()
 }
+
+#[cfg(test)]
+mod tests;

@@ -81,7 +81,7 @@ impl TypeName {
 /// It has 1 to 255 bytes, none of which is a zero byte, a newline or a colon.
 #[derive(Debug, Drop)]
 pub struct Pattern {
-    text: Vec<u8>,
+    glob: Vec<u8>,
 }
 
 impl Model for Pattern {
@@ -90,9 +90,9 @@ impl Model for Pattern {
 
     ghost Value = { List ℕ };
 
-    ghost view = { λ pattern. pattern.text.items };
+    ghost view = { λ pattern. pattern.glob.items };
 
-    ghost invariant = { λ pattern. is_pattern pattern.text.items ≡ true };
+    ghost invariant = { λ pattern. is_pattern pattern.glob.items ≡ true };
 }
 
 impl Pattern {
@@ -106,7 +106,7 @@ impl Pattern {
             return Err(NameFault::BadPattern);
         }
         match Vec::from_slice(alloc, bytes) {
-            Ok(text) => Ok(Pattern { text }),
+            Ok(glob) => Ok(Pattern { glob }),
             Err(_) => Err(NameFault::OutOfMemory),
         }
     }
@@ -116,7 +116,7 @@ impl Pattern {
         ensures text { result.now ≡ self.now }
         ensures limits { is_pattern self.now ≡ true }
     {
-        &self.text
+        &self.glob
     }
 }
 
@@ -157,3 +157,6 @@ fn is_pattern(bytes: &[u8]) -> bool
 {
     0 < bytes.len() && bytes.len() <= LONGEST && are_pattern_bytes(bytes)
 }
+
+#[cfg(test)]
+mod tests;
