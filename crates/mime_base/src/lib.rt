@@ -4,6 +4,7 @@
 //! pattern's elements, and what matching costs is counted in a [`Meter`].
 #![tactic(auto)]
 
+mod attempt;
 mod class;
 mod database;
 mod elements;
