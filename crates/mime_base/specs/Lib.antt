@@ -18,3 +18,4 @@ pub mod Texts
 pub mod Masking
 pub mod Mirrored
 pub mod Magic
+pub mod SubclassRows
