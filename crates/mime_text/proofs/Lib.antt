@@ -10,6 +10,7 @@ pub mod MagicHeads
 pub mod MagicSections
 pub mod MagicLoops
 pub mod MagicLinesAgain
+pub mod MagicEntriesAgain
 pub mod MagicSectionsAgain
 pub mod MagicRuns
 pub mod MagicStack

@@ -7,14 +7,17 @@ use Rattle.mime_text.proofs.MagicSteps.{ok_is}
 use Rattle.mime_text.proofs.MagicFronts.{behind_again, behind_takes}
 use Rattle.mime_text.proofs.MagicLines.{line_takes}
 
+-- one of two searches found it
 or_some : (o p : Option (List ℕ)) (x : List ℕ) → or_else o p ≡ Some x → (o ≡ Some x) ⊎ (p ≡ Some x)
 or_some (Some y) p x e = inl e
 or_some None p x e = inr e
 
+-- neither of two searches found it
 or_none : (o p : Option (List ℕ)) → or_else o p ≡ None → (o ≡ None) × (p ≡ None)
 or_none (Some y) p e = absurd cc
 or_none None p e = (refl, e)
 
+-- a marker that is read is spelled so
 pub marker_takes : (bytes rest : List ℕ) → marker_at bytes ≡ Some rest → (text : List ℕ) × (bytes ≡ text ++ rest) × (0 < length text) × IsMarker text
 unfolding marker_at
 marker_takes bytes rest e =
@@ -26,11 +29,13 @@ marker_takes bytes rest e =
       ]
     ]
 
+-- where a front is not found, the text has it not
 not_behind : (p text rest : List ℕ) → behind p (text ++ rest) ≡ None → (more : List ℕ) → text ≡ p ++ more → ⊥
 not_behind p text rest e more is =
     let s : behind p (text ++ rest) ≡ Some (more ++ rest) = ap (λ (t : List ℕ). behind p (t ++ rest)) is ∙ ap (behind p) (append_assoc p more rest) ∙ behind_again p (more ++ rest) in
     cc
 
+-- where no marker is found, the text begins with none
 no_marker : (text rest : List ℕ) → marker_at (text ++ rest) ≡ None → BeginsMarker text → ⊥
 unfolding marker_at
 no_marker text rest e (front, more, is, parts) =
@@ -44,6 +49,7 @@ no_marker text rest e (front, more, is, parts) =
       ]
     ]
 
+-- the text of an entry, and what is behind it
 pub record Entered (limit : ℕ) (bytes : List ℕ) (line : Item) (rest : List ℕ) : Type 0 where
   pub text : List ℕ
   pub parts : bytes ≡ text ++ rest
@@ -51,6 +57,7 @@ pub record Entered (limit : ℕ) (bytes : List ℕ) (line : Item) (rest : List �
   pub shallow : line.indent < 64
   pub is : IsEntry limit text line
 
+-- an entry that is read is spelled so
 pub entry_takes : (limit : ℕ) (bytes : List ℕ) (x : Item × List ℕ) → entry_at limit bytes ≡ Ok x → Entered limit bytes x.0 x.1
 unfolding entry_at
 entry_takes limit bytes x e =

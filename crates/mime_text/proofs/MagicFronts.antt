@@ -9,11 +9,13 @@ use Rattle.mime_text.specs.MagicReading.{◌>>=◌, behind, plain, short, sized,
 use Rattle.mime_text.specs.MagicText.{NoNewline}
 use Rattle.mime_text.proofs.MagicSteps.{bind_ok, bind_on, chosen, ok_is}
 
+-- behind a front stands the rest
 pub behind_again : (p rest : List ℕ) → behind p (p ++ rest) ≡ Some rest
 unfolding behind
 behind_again [] rest = refl
 behind_again (b ∷ p) rest = cond-true (eqb b b) _ _ (eq-eqb b b refl) ∙ behind_again p rest
 
+-- and only there
 pub behind_takes : (p bytes rest : List ℕ) → behind p bytes ≡ Some rest → bytes ≡ p ++ rest
 unfolding behind
 behind_takes [] bytes rest e = cc
@@ -43,6 +45,7 @@ marker_last bytes a b =
 
 -- ---- rows
 
+-- a row that is read ends in a newline and has none
 pub row_takes : (bytes : List ℕ) (x : List ℕ × List ℕ) → row_at bytes ≡ Ok x → (bytes ≡ x.0 ++ 10 ∷ x.1) × NoNewline x.0
 unfolding row_at
 row_takes [] x e = absurd cc
@@ -58,15 +61,18 @@ row_takes (b ∷ bytes) x e =
           (ap (λ (t : List ℕ). b ∷ t) r.0, (eqb-false b 10 h.0, r.1))
     ]
 
+-- a row goes on with any other byte
 row_on : (b : ℕ) (bytes front rest : List ℕ) → eqb b 10 ≡ false → row_at bytes ≡ Ok (front, rest) → row_at (b ∷ bytes) ≡ Ok (b ∷ front, rest)
 unfolding row_at
 row_on b bytes front rest other e = cond-false (eqb b 10) _ _ other ∙ bind_on (row_at bytes) (front, rest) _ (b ∷ front, rest) e refl
 
+-- such a row is read
 pub row_again : (row rest : List ℕ) → NoNewline row → row_at (row ++ 10 ∷ rest) ≡ Ok (row, rest)
 unfolding row_at
 row_again [] rest is = refl
 row_again (b ∷ row) rest is = row_on b (row ++ 10 ∷ rest) row rest (ne_eqb b 10 is.0) (row_again row rest is.1)
 
+-- the row ends at the first newline
 row_cut : (bytes : List ℕ) (k : ℕ) → k < length bytes → ((j : ℕ) → j < k → eqb (get_or bytes j 0) 10 ≡ true → ⊥) → eqb (get_or bytes k 0) 10 ≡ true → row_at bytes ≡ Ok (take k bytes, drop (k + 1) bytes)
 unfolding row_at
 row_cut [] k low before at = absurd (omega arith)
@@ -77,6 +83,7 @@ row_cut (b ∷ bytes) (suc k) low before at =
     let n : suc k + 1 ≡ suc (k + 1) = omega arith in
     row_on b bytes (take k bytes) (drop (k + 1) bytes) other rest ∙ sym (ap (λ (m : ℕ). Ok (b ∷ take k bytes, drop m (b ∷ bytes))) n)
 
+-- without a newline there is no row
 row_none : (bytes : List ℕ) → ((j : ℕ) → j < length bytes → eqb (get_or bytes j 0) 10 ≡ true → ⊥) → row_at bytes ≡ Err (Truncated 0)
 unfolding row_at
 row_none [] never = refl

@@ -20,6 +20,7 @@ ends_in (x ∷ y ∷ bytes) b is some =
     let next : get_or (y ∷ bytes) (length (y ∷ bytes) - 1) 0 ≡ b = sym (ap (λ (m : ℕ). get_or (x ∷ y ∷ bytes) m 0) k) ∙ is in
     ap (λ (t : List ℕ). x ∷ t) (ends_in (y ∷ bytes) b next some) ∙ sym (ap (λ (m : ℕ). take m (x ∷ y ∷ bytes) ++ b ∷ []) k)
 
+-- a type and its bracket
 pub kind_takes : (wrong : Fault) (bytes kind : List ℕ) → kind_of wrong bytes ≡ Ok kind → (bytes ≡ kind ++ 93 ∷ []) × (is_type_name kind ≡ true)
 unfolding kind_of
 kind_takes wrong bytes kind e =
@@ -27,18 +28,21 @@ kind_takes wrong bytes kind e =
     let p = and_parts (eqb (get_or bytes (length bytes - 1) 0) 93) (is_type_name (take (length bytes - 1) bytes)) g.0 in
     subst (λ (k : List ℕ). (bytes ≡ k ++ 93 ∷ []) × (is_type_name k ≡ true)) (ok_is (take (length bytes - 1) bytes) kind g.1) (ends_in bytes 93 (eqb-true _ _ p.0) (omega arith), p.1)
 
+-- the text of a head, and what is behind it
 pub record Headed (bytes : List ℕ) (priority : ℕ) (kind rest : List ℕ) : Type 0 where
   pub text : List ℕ
   pub parts : bytes ≡ 91 ∷ (text ++ (58 ∷ (kind ++ (93 ∷ 10 ∷ rest))))
   pub priority_is : IsNumber text priority
   pub kind_is : is_type_name kind ≡ true
 
+-- the row of a head behind its first byte
 pub record HeadRow (row : List ℕ) (priority : ℕ) (kind : List ℕ) : Type 0 where
   pub text : List ℕ
   pub parts : row ≡ text ++ (58 ∷ (kind ++ 93 ∷ []))
   pub priority_is : IsNumber text priority
   pub kind_is : is_type_name kind ≡ true
 
+-- such a row that is read is spelled so
 pub head_row_takes : (wrong : Fault) (row : List ℕ) (x : ℕ × List ℕ) → head_of wrong row ≡ Ok x → HeadRow row x.0 x.1
 unfolding head_of
 head_row_takes wrong row x e =
@@ -51,13 +55,16 @@ head_row_takes wrong row x e =
     subst (λ (y : ℕ × List ℕ). HeadRow row y.0 y.1) (ok_is (a.0.0, c.0) x c.2)
     (record { text = n.text; parts = n.parts ∙ ap (λ (t : List ℕ). n.text ++ t) (colon ∙ ap (λ (t : List ℕ). 58 ∷ t) kind.0); priority_is = n.is; kind_is = kind.1 })
 
+-- what goes well keeps its value
 instead_ok : {A : Type 0} (wrong : Fault) (r : Result A Fault) (x : A) → instead wrong r ≡ Ok x → r ≡ Ok x
 instead_ok wrong (Ok y) x e = e
 instead_ok wrong (Err f) x e = absurd cc
 
+-- the row of a head before the rest
 pub regroup_head : (text kind rest : List ℕ) → (text ++ (58 ∷ (kind ++ 93 ∷ []))) ++ 10 ∷ rest ≡ text ++ (58 ∷ (kind ++ (93 ∷ 10 ∷ rest)))
 regroup_head text kind rest = simp append_assoc
 
+-- a head that is read is spelled so
 pub head_takes : (bytes : List ℕ) (x : (ℕ × List ℕ) × List ℕ) → head_at bytes ≡ Ok x → Headed bytes x.0.0 x.0.1 x.1
 unfolding head_at
 head_takes [] x e = absurd cc

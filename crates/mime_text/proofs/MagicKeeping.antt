@@ -12,21 +12,26 @@ use Rattle.mime_text.specs.MagicFile.{with_forest, unless_bare, kept_sections, i
 
 -- ---- kept sections
 
+-- a section before others
 unless_bare-append : (s : PlainSection) (f : Forest) (xs ys : List PlainSection) → unless_bare s f (xs ++ ys) ≡ unless_bare s f xs ++ ys
 unless_bare-append s bare xs ys = refl
 unless_bare-append s (line own children rest) xs ys = refl
 
+-- a section behind others
 kept_sections-push : (ps : List Part) (p : Part) → kept_sections (ps ++ p ∷ []) ≡ kept_sections ps ++ unless_bare (with_forest p) (with_forest p).lines []
 kept_sections-push [] p = refl
 kept_sections-push (q ∷ ps) p = ap (unless_bare (with_forest q) (with_forest q).lines) (kept_sections-push ps p) ∙ unless_bare-append (with_forest q) (with_forest q).lines (kept_sections ps) (unless_bare (with_forest p) (with_forest p).lines [])
 
+-- the same over the code's values
 kept_so_far : (ss : List Spelled) (s : Spelled) → kept_sections (plain_parts (ss ++ s ∷ [])) ≡ kept_sections (plain_parts ss) ++ unless_bare (with_forest (plain_part s)) (with_forest (plain_part s)).lines []
 kept_so_far ss s = ap kept_sections (map_push plain_part ss s) ∙ kept_sections-push (plain_parts ss) (plain_part s)
 
+-- without lines it is left out
 no_lines : (s : PlainSection) (ms : List Matchlet) → length ms ≤ 0 → unless_bare s (forest_of (trees ms)) [] ≡ []
 no_lines s [] e = refl
 no_lines s (m ∷ ms) e = absurd (omega (arith, e))
 
+-- with lines it is kept
 some_lines : (s : PlainSection) (ms : List Matchlet) → 0 < length ms → unless_bare s (forest_of (trees ms)) [] ≡ s ∷ []
 some_lines s [] e = absurd (omega (arith, e))
 some_lines s (m ∷ ms) e = refl
@@ -52,10 +57,12 @@ leaves kept ss s m so_far is none =
 abbrev pub any_marker : List Entry → Bool
 any_marker es = list_any (λ e. is_marker (saying e.said)) es
 
+-- that is whether their plain values hold one
 any_marker-holds : (es : List Entry) → any_marker es ≡ list_any (λ i. is_marker i.says) (plain_items es)
 any_marker-holds [] = refl
 any_marker-holds (e ∷ es) = ap (λ (b : Bool). is_marker (saying e.said) || b) (any_marker-holds es)
 
+-- the types of sections one behind another
 deleted_kinds-append : (ps qs : List Part) → deleted_kinds (ps ++ qs) ≡ deleted_kinds ps ++ deleted_kinds qs
 deleted_kinds-append [] qs = refl
 deleted_kinds-append (p ∷ ps) qs =
@@ -66,6 +73,7 @@ deleted_kinds-append (p ∷ ps) qs =
     ] in
     go (holds_marker p)
 
+-- the same over the code's values
 deleted_so_far : (ss : List Spelled) (s : Spelled) → deleted_kinds (plain_parts (ss ++ s ∷ [])) ≡ deleted_kinds (plain_parts ss) ++ cond (any_marker s.entries.items) (s.kind ∷ []) []
 deleted_so_far ss s =
     ap deleted_kinds (map_push plain_part ss s) ∙ deleted_kinds-append (plain_parts ss) (plain_part s ∷ [])

@@ -15,6 +15,7 @@ use Rattle.mime_text.proofs.MagicSteps.{ok_is}
 use Rattle.mime_text.proofs.MagicSections.{whole_takes}
 use Rattle.mime_text.proofs.MagicSectionsAgain.{whole_again}
 
+-- a text spells sections or has a fault
 pub spells_or_fails : (text : List ℕ) → ((parts : List Part) × MagicText text parts) ⊎ ((fault : MagicFault) × (magic_fault text ≡ Some fault))
 unfolding magic_fault
 spells_or_fails text =
@@ -25,15 +26,18 @@ spells_or_fails text =
     ] in
     go (whole text) refl
 
+-- never both
 pub no_fault : (text : List ℕ) (parts : List Part) → MagicText text parts → magic_fault text ≡ None
 unfolding magic_fault
 no_fault text parts is = ap (fault_in (length text)) (whole_again text parts is)
 
+-- and it spells no two lists
 pub one_list : (text : List ℕ) (a b : List Part) → MagicText text a → MagicText text b → a ≡ b
 one_list text a b is_a is_b = ok_is a b (sym (whole_again text a is_a) ∙ whole_again text b is_b)
 
 -- ---- a file that was read
 
+-- a file of what was read is the file of what the text spells
 same_file : (read : Result (List Part) Fault) (file : code.MagicFile) (parts : List Part) → IsFileOfRead read file → read ≡ Ok parts → IsFileOf parts file
 same_file read file parts is e =
     let same : is.parts ≡ parts = ok_is is.parts parts (sym is.is_read ∙ e) in
@@ -42,9 +46,11 @@ same_file read file parts is e =
       deleted = λ kind. subst (λ (kinds : List (List ℕ)). Contains file.deleted.items kind ↔ Contains kinds kind) (is.deleted ∙ ap deleted_kinds same) (λ h. h, λ h. h);
     }
 
+-- what was read is spelled so
 pub file_found : (text : List ℕ) (file : code.MagicFile) → IsFileOfRead (whole text) file → (parts : List Part) × MagicText text parts × IsFileOf parts file
 file_found text file is = (is.parts, whole_takes text is.parts is.is_read, same_file (whole text) file is.parts is is.is_read)
 
+-- what is spelled so was read
 pub file_only : (text : List ℕ) (file : code.MagicFile) (parts : List Part) → IsFileOfRead (whole text) file → MagicText text parts → IsFileOf parts file
 file_only text file parts given spelled = same_file (whole text) file parts given (whole_again text parts spelled)
 
@@ -53,6 +59,7 @@ pub error_only : (text : List ℕ) (e : ReadError) (parts : List Part) → Fails
 error_only text errors.OutOfMemory parts fails spelled = refl
 error_only text (errors.Fault fault) parts fails spelled = let is = whole_again text parts spelled in absurd cc
 
+-- a reader's error is want of memory or the text's first fault
 pub error_exact : (text : List ℕ) (e : ReadError) → Fails e (whole text) → IsFaultOf text (placed_error (length text) e)
 unfolding magic_fault
 error_exact text errors.OutOfMemory fails = inl refl

@@ -10,12 +10,14 @@ use Rattle.mime_text.proofs.MagicSteps.{bind_ok, guard_off, chosen, ok_is}
 use Rattle.mime_text.proofs.MagicFronts.{row_takes}
 use Rattle.mime_text.proofs.MagicParts.{start_takes, indent_takes, value_takes, mask_takes, word_takes, range_takes, PassesMask, Passes, ends_are}
 
+-- the text of an end, and what is behind it
 pub record Ended (own : Own) (bytes : List ℕ) (says : Saying) (rest : List ℕ) : Type 0 where
   pub first : ℕ
   pub end : List ℕ
   pub parts : bytes ≡ first ∷ (end ++ rest)
   pub is : IsEnd own first end says
 
+-- an end that is read is spelled so
 pub end_takes : (left : ℕ) (own : Own) (bytes : List ℕ) (x : Saying × List ℕ) → end_at left own bytes ≡ Ok x → Ended own bytes x.0 x.1
 unfolding end_at
 end_takes left own [] x e = absurd cc
@@ -31,20 +33,25 @@ end_takes left own (b ∷ bytes) x e =
           (record { first = b; end = a.0.0 ++ 10 ∷ []; parts = ap (λ (t : List ℕ). b ∷ t) (s.0 ∙ sym (append_assoc a.0.0 (10 ∷ []) a.0.1)); is = (eqb-false b 10 h.0, (a.0.0, refl, s.1)) })
     ]
 
+-- mask, word and range before the rest
 pub regroup_options : (m w r tail : List ℕ) → (m ++ (w ++ r)) ++ tail ≡ m ++ (w ++ (r ++ tail))
 regroup_options m w r tail = simp append_assoc
 
+-- a body before the rest
 pub regroup_body : (s v options tail : List ℕ) (high low : ℕ) → (s ++ (61 ∷ high ∷ low ∷ (v ++ options))) ++ tail ≡ s ++ (61 ∷ high ∷ low ∷ (v ++ (options ++ tail)))
 regroup_body s v options tail high low = simp append_assoc
 
+-- a line before the rest
 pub regroup_line : (indent body end rest : List ℕ) (first : ℕ) → (indent ++ (62 ∷ (body ++ first ∷ end))) ++ rest ≡ indent ++ (62 ∷ (body ++ (first ∷ (end ++ rest))))
 regroup_line indent body end rest first = simp append_assoc
 
+-- the text of a body, and what is behind it
 pub record Bodied (bytes : List ℕ) (own : Own) (rest : List ℕ) : Type 0 where
   pub text : List ℕ
   pub parts : bytes ≡ text ++ rest
   pub is : (b : ℕ) (tail : List ℕ) → rest ≡ b ∷ tail → IsBody text own b
 
+-- a body that is read is spelled so
 pub body_takes : (bytes : List ℕ) (x : Own × List ℕ) → body_at bytes ≡ Ok x → Bodied bytes x.0 x.1
 unfolding body_at
 body_takes bytes x e =
@@ -86,12 +93,14 @@ body_takes bytes x e =
       is = λ k tail h. record { start = start.0; high = value.0; low = value.1; options = options; whole = refl; start_is = start.2; size = value.3; options_are = options_are k tail h };
     })
 
+-- the text of a line, and what is behind it
 pub record Lined (limit : ℕ) (bytes : List ℕ) (line : Item) (rest : List ℕ) : Type 0 where
   pub text : List ℕ
   pub parts : bytes ≡ text ++ rest
   pub some : 0 < length text
   pub is : IsLine limit text line
 
+-- a line that is read is spelled so
 pub line_takes : (limit : ℕ) (bytes : List ℕ) (x : Item × List ℕ) → line_at limit bytes ≡ Ok x → Lined limit bytes x.0 x.1
 unfolding line_at
 line_takes limit bytes x e =

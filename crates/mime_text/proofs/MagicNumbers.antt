@@ -7,24 +7,29 @@ use Rattle.mime_text.specs.MagicReading.{digits_at, judged, number_at, is_digit}
 use Rattle.mime_text.proofs.MagicSteps.{guard_off, ok_is}
 use Rattle.mime_text.specs.MagicText.{value_of, AreDigits, IsNumber}
 
+-- a digit goes on
 pub digit_on : (n b : ℕ) (bytes : List ℕ) → is_digit b ≡ true → digits_at n (b ∷ bytes) ≡ digits_at (n * 10 + (b - 48)) bytes
 unfolding digits_at
 digit_on n b bytes digit = cond-true (is_digit b) _ _ digit
 
+-- another byte ends the number
 pub digit_off : (n b : ℕ) (bytes : List ℕ) → is_digit b ≡ false → digits_at n (b ∷ bytes) ≡ (n, b ∷ bytes)
 unfolding digits_at
 digit_off n b bytes digit = cond-false (is_digit b) _ _ digit
 
+-- so does the end
 pub digit_none : (n : ℕ) → digits_at n [] ≡ (n, [])
 unfolding digits_at
 digit_none n = refl
 
 -- ---- numbers against the grammar
 
+-- no digit comes next
 abbrev pub Stops : List ℕ → Type 0
 Stops [] = Unit {0}
 Stops (b ∷ rest) = is_digit b ≡ false
 
+-- the digits that are read, and what is behind them
 pub record Digits (n : ℕ) (bytes : List ℕ) : Type 0 where
   pub text : List ℕ
   pub parts : bytes ≡ text ++ (digits_at n bytes).1
@@ -32,6 +37,7 @@ pub record Digits (n : ℕ) (bytes : List ℕ) : Type 0 where
   pub value : value_of n text ≡ (digits_at n bytes).0
   pub stops : Stops (digits_at n bytes).1
 
+-- digits that are read are spelled so
 pub digits_take : (n : ℕ) (bytes : List ℕ) → Digits n bytes
 digits_take n [] = let e = digit_none n in record { text = []; parts = rw e refl; digits = tt; value = rw e refl; stops = rw e tt }
 digits_take n (b ∷ bytes) =
@@ -45,18 +51,22 @@ digits_take n (b ∷ bytes) =
           record { text = []; parts = rw e refl; digits = tt; value = rw e refl; stops = rw e other }
     ]
 
+-- digits that are spelled so are read
 pub digits_again : (n : ℕ) (text rest : List ℕ) → AreDigits text → Stops rest → digits_at n (text ++ rest) ≡ (value_of n text, rest)
 digits_again n [] [] digits stops = digit_none n
 digits_again n [] (b ∷ rest) digits stops = digit_off n b rest stops
 digits_again n (d ∷ text) rest digits stops = digit_on n d (text ++ rest) digits.0 ∙ digits_again (n * 10 + (d - 48)) text rest digits.1 stops
 
+-- where something was taken, it is not empty
 absurd_or : (bytes text rest : List ℕ) → bytes ≡ text ++ rest → (length rest ≡ length bytes → ⊥) → 0 < length text
 absurd_or bytes [] rest parts ne = absurd (ne (ap length (sym parts)))
 absurd_or bytes (b ∷ text) rest parts ne = omega arith
 
+-- where it is not empty, something was taken
 longer : (text rest : List ℕ) → 0 < length text → length rest ≡ length (text ++ rest) → ⊥
 longer text rest some e = omega (arith, length-append text rest)
 
+-- what a number has passed
 judged_ok : (here : Fault) (size : ℕ) (d x : ℕ × List ℕ) → judged here size d ≡ Ok x → (d ≡ x) × (length d.1 ≡ size → ⊥) × (d.0 < 4294967296) × (0 < length d.1)
 unfolding judged
 judged_ok here size (n, []) x e = absurd cc
@@ -65,6 +75,7 @@ judged_ok here size (n, b ∷ rest) x e =
     let o = or_parts (eqb (length (b ∷ rest)) size) (leb 4294967296 n) g.0 in
     (ok_is (n, b ∷ rest) x g.1, eqb-false _ _ o.0, leb-false _ _ o.1, omega arith)
 
+-- the text of a number, and what is behind it
 pub record Numbered (bytes : List ℕ) (n : ℕ) (rest : List ℕ) : Type 0 where
   pub text : List ℕ
   pub parts : bytes ≡ text ++ rest
@@ -72,6 +83,7 @@ pub record Numbered (bytes : List ℕ) (n : ℕ) (rest : List ℕ) : Type 0 wher
   pub stops : Stops rest
   pub more : 0 < length rest
 
+-- a number that is read is spelled so
 pub number_takes : (bytes : List ℕ) (x : ℕ × List ℕ) → number_at bytes ≡ Ok x → Numbered bytes x.0 x.1
 unfolding number_at
 number_takes bytes x e =
@@ -80,6 +92,7 @@ number_takes bytes x e =
     let some : 0 < length d.text = absurd_or bytes d.text (digits_at 0 bytes).1 d.parts j.1 in
     subst (λ (y : ℕ × List ℕ). Numbered bytes y.0 y.1) j.0 (record { text = d.text; parts = d.parts; is = record { digits = d.digits; some = some; value = d.value; small = j.2 }; stops = d.stops; more = j.3 })
 
+-- a number that is spelled so is read
 pub number_again : (text : List ℕ) (n : ℕ) (b : ℕ) (rest : List ℕ) → IsNumber text n → is_digit b ≡ false → number_at (text ++ b ∷ rest) ≡ Ok (n, b ∷ rest)
 unfolding number_at judged
 number_again text n b rest is stops =

@@ -10,6 +10,7 @@ use Rattle.mime_text.specs.MagicText.{IsNumber, IsIndent, IsOptional, IsMask, go
 use Rattle.mime_text.proofs.MagicSteps.{bind_ok, guard_off, guard_on, chosen, ok_is}
 use Rattle.mime_text.proofs.MagicNumbers.{Stops, number_takes}
 
+-- a byte
 pub byte_takes : (want : ℕ) (wrong : Fault) (bytes rest : List ℕ) → byte_at want wrong bytes ≡ Ok rest → bytes ≡ want ∷ rest
 unfolding byte_at
 byte_takes want wrong [] rest e = absurd cc
@@ -24,14 +25,17 @@ behind_number want wrong bytes x e =
     let c = byte_takes want wrong a.0.1 b.0 b.1 in
     subst (λ (y : ℕ × List ℕ). (text : List ℕ) × (bytes ≡ text ++ want ∷ y.1) × IsNumber text y.0) (ok_is (a.0.0, b.0) x b.2) (n.text, n.parts ∙ ap (λ (t : List ℕ). n.text ++ t) c, n.is)
 
+-- a start and its `=`
 pub start_takes : (bytes : List ℕ) (x : ℕ × List ℕ) → start_at bytes ≡ Ok x → (text : List ℕ) × (bytes ≡ text ++ 61 ∷ x.1) × IsNumber text x.0
 unfolding start_at
 start_takes bytes x e = behind_number 61 (BadNumber (length bytes)) bytes x e
 
+-- a number is an indent
 as_indent : (text : List ℕ) (n : ℕ) → IsNumber text n → IsIndent text n
 as_indent [] n is = absurd (omega (arith, is.some))
 as_indent (b ∷ text) n is = is
 
+-- an indent and its `>`
 pub indent_takes : (bytes : List ℕ) (x : ℕ × List ℕ) → indent_at bytes ≡ Ok x → (text : List ℕ) × (bytes ≡ text ++ 62 ∷ x.1) × IsIndent text x.0
 unfolding indent_at
 indent_takes [] x e = absurd cc
@@ -45,6 +49,7 @@ indent_takes (b ∷ bytes) x e =
           (n.0, n.1, as_indent n.0 x.0 n.2)
     ]
 
+-- so many bytes
 pub bytes_take : (n : ℕ) (bytes : List ℕ) (x : List ℕ × List ℕ) → bytes_at n bytes ≡ Ok x → (bytes ≡ x.0 ++ x.1) × (length x.0 ≡ n)
 unfolding bytes_at
 bytes_take n bytes x e =
@@ -52,6 +57,7 @@ bytes_take n bytes x e =
     let long : n ≤ length bytes = ltb-false _ _ g.0 in
     subst (λ (y : List ℕ × List ℕ). (bytes ≡ y.0 ++ y.1) × (length y.0 ≡ n)) (ok_is (take n bytes, drop n bytes) x g.1) (sym (take-append-drop n bytes), omega (arith, length-take n bytes))
 
+-- a value behind its length
 pub value_takes : (bytes : List ℕ) (x : List ℕ × List ℕ) → value_at bytes ≡ Ok x → (high : ℕ) × (low : ℕ) × (bytes ≡ high ∷ low ∷ (x.0 ++ x.1)) × (length x.0 ≡ 256 * high + low)
 unfolding value_at
 value_takes [] x e = absurd cc
@@ -66,21 +72,25 @@ Passes mark text [] = Unit {0}
 Passes mark [] (b ∷ rest) = eqb b mark ≡ false
 Passes mark (t ∷ text) (b ∷ rest) = is_digit b ≡ false
 
+-- behind a mask of no bytes stands no `&`
 abbrev pub PassesMask : List ℕ → List ℕ → Type 0
 PassesMask text [] = Unit {0}
 PassesMask [] (b ∷ rest) = eqb b 38 ≡ false
 PassesMask (t ∷ text) (b ∷ rest) = Unit {0}
 
+-- the text of a mask, and what is behind it
 pub record Masked (size : ℕ) (bytes : List ℕ) (mask : Option (List ℕ)) (rest : List ℕ) : Type 0 where
   pub text : List ℕ
   pub parts : bytes ≡ text ++ rest
   pub is : IsMask size text mask
   pub passes : PassesMask text rest
 
+-- a mask that is there ends by its length
 passes_mask : (b : ℕ) (text rest : List ℕ) → PassesMask (b ∷ text) rest
 passes_mask b text [] = tt
 passes_mask b text (c ∷ rest) = tt
 
+-- a mask
 pub mask_takes : (size : ℕ) (bytes : List ℕ) (x : Option (List ℕ) × List ℕ) → mask_at size bytes ≡ Ok x → Masked size bytes x.0 x.1
 unfolding mask_at
 mask_takes size [] x e = subst (λ (y : Option (List ℕ) × List ℕ). Masked size [] y.0 y.1) (ok_is (None, []) x e) (record { text = []; parts = refl; is = refl; passes = tt })
@@ -95,25 +105,30 @@ mask_takes size (b ∷ bytes) x e =
       | inr h ↦ subst (λ (y : Option (List ℕ) × List ℕ). Masked size (b ∷ bytes) y.0 y.1) (ok_is (None, b ∷ bytes) x h.1) (record { text = []; parts = refl; is = refl; passes = h.0 })
     ]
 
+-- the text of a word or a range, and what is behind it
 pub record Optioned (mark : ℕ) (bytes : List ℕ) (n : ℕ) (rest : List ℕ) : Type 0 where
   pub text : List ℕ
   pub parts : bytes ≡ text ++ rest
   pub is : IsOptional mark text n
   pub passes : Passes mark text rest
 
+-- behind a number stands no digit
 as_passes : (mark b : ℕ) (text rest : List ℕ) → Stops rest → Passes mark (b ∷ text) rest
 as_passes mark b text [] stops = tt
 as_passes mark b text (c ∷ rest) stops = stops
 
+-- another byte than the mark
 optioned_none : (mark b : ℕ) (bytes : List ℕ) → eqb b mark ≡ false → Optioned mark (b ∷ bytes) 1 (b ∷ bytes)
 optioned_none mark b bytes other = record { text = []; parts = refl; is = refl; passes = other }
 
+-- the mark and a number
 optioned_some : (mark b : ℕ) (bytes : List ℕ) (x : ℕ × List ℕ) → eqb b mark ≡ true → number_at bytes ≡ Ok x → Optioned mark (b ∷ bytes) x.0 x.1
 optioned_some mark b bytes x same e =
     let is : b ≡ mark = eqb-true b mark same in
     let n = number_takes bytes x e in
     record { text = mark ∷ n.text; parts = ap (λ (k : ℕ). k ∷ bytes) is ∙ ap (λ (t : List ℕ). mark ∷ t) n.parts; is = (refl, n.is); passes = as_passes mark mark n.text x.1 n.stops }
 
+-- a word
 pub word_takes : (size : ℕ) (bytes : List ℕ) (x : ℕ × List ℕ) → word_at size bytes ≡ Ok x → Optioned 126 bytes x.0 x.1 × (fits_word x.0 size ≡ true)
 unfolding word_at
 word_takes size [] x e = subst (λ (y : ℕ × List ℕ). Optioned 126 [] y.0 y.1 × (fits_word y.0 size ≡ true)) (ok_is (1, []) x e) (record { text = []; parts = refl; is = refl; passes = tt }, refl)
@@ -126,6 +141,7 @@ word_takes size (b ∷ bytes) x e =
       | inr h ↦ subst (λ (y : ℕ × List ℕ). Optioned 126 (b ∷ bytes) y.0 y.1 × (fits_word y.0 size ≡ true)) (ok_is (1, b ∷ bytes) x h.1) (optioned_none 126 b bytes h.0, refl)
     ]
 
+-- a range
 pub range_takes : (bytes : List ℕ) (x : ℕ × List ℕ) → range_at bytes ≡ Ok x → Optioned 43 bytes x.0 x.1
 unfolding range_at
 range_takes [] x e = subst (λ (y : ℕ × List ℕ). Optioned 43 [] y.0 y.1) (ok_is (1, []) x e) (record { text = []; parts = refl; is = refl; passes = tt })
@@ -135,6 +151,7 @@ range_takes (b ∷ bytes) x e =
       | inr h ↦ subst (λ (y : ℕ × List ℕ). Optioned 43 (b ∷ bytes) y.0 y.1) (ok_is (1, b ∷ bytes) x h.1) (optioned_none 43 b bytes h.0)
     ]
 
+-- what passes each of these goes on with none
 pub ends_are : (mask word range : List ℕ) (b : ℕ) (tail : List ℕ) → PassesMask mask (word ++ (range ++ b ∷ tail)) → Passes 126 word (range ++ b ∷ tail) → Passes 43 range (b ∷ tail) → goes_on mask word range b ≡ false
 ends_are mask word (r ∷ range) b tail m w r' = r'
 ends_are mask (w ∷ word) [] b tail m p q = or_from (is_digit b) (eqb b 43) p q

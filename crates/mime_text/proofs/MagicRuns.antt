@@ -5,6 +5,7 @@ use Rattle.mime_text.specs.MagicEntries.{Saying, kept, ignored, marker, Item}
 use Rattle.mime_base.specs.Magic.{Forest, Tree, forest_of}
 use Rattle.mime_text.specs.MagicForest.{Top, and_tree, deeper, others, kept_trees, top_over, tops, tree_of, forest, run, behind_run, with_children, IsByRuns}
 
+-- the deeper ones among the deeper
 deeper_deeper : (d e : ℕ) (ts : List Top) → d < e → deeper e (deeper d ts) ≡ deeper e ts
 deeper_deeper d e [] lt = refl
 deeper_deeper d e (t ∷ ts) lt =
@@ -15,6 +16,7 @@ deeper_deeper d e (t ∷ ts) lt =
           ap (deeper e) (cond-false (ltb d t.indent) (t ∷ deeper d ts) [] no_d) ∙ sym (cond-false (ltb e t.indent) (t ∷ deeper e ts) [] no_e)
     ]
 
+-- the deeper ones behind the deeper
 others_deeper : (d e : ℕ) (ts : List Top) → d < e → others e (deeper d ts) ≡ deeper d (others e ts)
 others_deeper d e [] lt = refl
 others_deeper d e (t ∷ ts) lt =
@@ -30,6 +32,7 @@ others_deeper d e (t ∷ ts) lt =
           ap (others e) (cond-false (ltb d t.indent) (t ∷ deeper d ts) [] no_d) ∙ sym (cond-false (ltb d t.indent) (t ∷ deeper d ts) [] no_d) ∙ ap (deeper d) (sym (cond-false (ltb e t.indent) (others e ts) (t ∷ ts) no_e))
     ]
 
+-- what is behind both runs
 others_others : (d e : ℕ) (ts : List Top) → d < e → others d (others e ts) ≡ others d ts
 others_others d e [] lt = refl
 others_others d e (t ∷ ts) lt =
@@ -40,6 +43,7 @@ others_others d e (t ∷ ts) lt =
       | inr no_e ↦ ap (others d) (cond-false (ltb e t.indent) (others e ts) (t ∷ ts) no_e)
     ]
 
+-- the tops of a run
 tops_run : (d : ℕ) (is : List Item) → tops (run d is) ≡ deeper d (tops is)
 unfolding tops
 tops_run d [] = refl
@@ -57,6 +61,7 @@ tops_run d (i ∷ is) =
       | inr off ↦ ap tops (cond-false (ltb d i.indent) (i ∷ run d is) [] off) ∙ sym (cond-false (ltb d i.indent) _ _ off)
     ]
 
+-- the tops behind a run
 tops_behind : (d : ℕ) (is : List Item) → tops (behind_run d is) ≡ others d (tops is)
 unfolding tops
 tops_behind d [] = refl
@@ -66,11 +71,13 @@ tops_behind d (i ∷ is) =
       | inr off ↦ ap tops (cond-false (ltb d i.indent) (behind_run d is) (i ∷ is) off) ∙ sym (cond-false (ltb d i.indent) _ _ off)
     ]
 
+-- a line before trees
 trees_with : (says : Saying) (children : Forest) (gs : List Tree) → forest_of (and_tree (tree_of says children) gs) ≡ with_children says children (forest_of gs)
 trees_with (kept own) children gs = refl
 trees_with ignored children gs = refl
 trees_with marker children gs = refl
 
+-- the forest in the words of runs
 pub forest_by_runs : IsByRuns forest
 unfolding forest tops
 forest_by_runs = record {

@@ -13,12 +13,14 @@ abbrev pub EndsLines : List ℕ → Type 0
 EndsLines [] = Unit {0}
 EndsLines (b ∷ rest) = starts_line b ≡ false
 
+-- the text of lines, and what is behind them
 pub record TheLines (limit : ℕ) (bytes : List ℕ) (lines : List Item) (rest : List ℕ) : Type 0 where
   pub text : List ℕ
   pub parts : bytes ≡ text ++ rest
   pub are : AreLines limit text lines
   pub ends : EndsLines rest
 
+-- lines that are read are spelled so
 pub lines_take : (room limit : ℕ) (bytes : List ℕ) (x : List Item × List ℕ) → length bytes ≤ room → lines_at room limit bytes ≡ Ok x → TheLines limit bytes x.0 x.1
 unfolding lines_at
 lines_take zero limit [] x enough e = subst (λ (y : List Item × List ℕ). TheLines limit [] y.0 y.1) (ok_is ([], []) x e) (record { text = []; parts = refl; are = refl; ends = tt })
@@ -41,15 +43,18 @@ lines_take (suc room) limit (b ∷ bytes) x enough e =
       | inr h ↦ subst (λ (y : List Item × List ℕ). TheLines limit (b ∷ bytes) y.0 y.1) (ok_is ([], b ∷ bytes) x h.1) (record { text = []; parts = refl; are = refl; ends = h.0 })
     ]
 
+-- the text of a section, and what is behind it
 pub record TheSection (bytes : List ℕ) (section : Part) (rest : List ℕ) : Type 0 where
   pub text : List ℕ
   pub parts : bytes ≡ text ++ rest
   pub shorter : length rest < length bytes
   pub is : IsSection text section
 
+-- a section before the rest
 pub regroup_section : (text kind lines rest : List ℕ) → (91 ∷ (text ++ (58 ∷ (kind ++ (93 ∷ 10 ∷ lines))))) ++ rest ≡ 91 ∷ (text ++ (58 ∷ (kind ++ (93 ∷ 10 ∷ (lines ++ rest)))))
 regroup_section text kind lines rest = simp append_assoc
 
+-- a section that is read is spelled so
 pub section_takes : (bytes : List ℕ) (x : Part × List ℕ) → section_at bytes ≡ Ok x → TheSection bytes x.0 x.1
 unfolding section_at
 section_takes bytes x e =
@@ -67,6 +72,7 @@ section_takes bytes x e =
       is = record { priority = head.text; lines = lines.text; whole = refl; priority_is = head.priority_is; kind_is = head.kind_is; lines_are = lines.are };
     })
 
+-- sections that are read are spelled so
 pub sections_take : (room : ℕ) (bytes : List ℕ) (x : List Part) → length bytes ≤ room → sections_at room bytes ≡ Ok x → AreSections bytes x
 unfolding sections_at
 sections_take zero [] x enough e = subst (λ (y : List Part). AreSections [] y) (ok_is [] x e) refl
@@ -79,10 +85,12 @@ sections_take (suc room) (b ∷ bytes) x enough e =
     let others = sections_take room a.0.1 c.0 (omega (arith, first.shorter, enough)) c.1 in
     subst (λ (y : List Part). AreSections (b ∷ bytes) y) (ok_is (a.0.0 ∷ c.0) x c.2) (first.text, a.0.1, first.parts, first.is, others)
 
+-- and behind the header
 below_takes : (bytes : List ℕ) (o : Option (List ℕ)) (x : List Part) → behind header bytes ≡ o → below_header (length bytes) o ≡ Ok x → MagicText bytes x
 below_takes bytes None x is e = absurd cc
 below_takes bytes (Some rest) x is e = inr (rest, behind_takes header bytes rest is, sections_take (length rest) rest x (omega arith) e)
 
+-- a text that is read is spelled so
 pub whole_takes : (bytes : List ℕ) (x : List Part) → whole bytes ≡ Ok x → MagicText bytes x
 unfolding whole
 whole_takes [] x e = inl (refl, sym (ok_is [] x e))

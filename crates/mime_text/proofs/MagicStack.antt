@@ -1,13 +1,14 @@
 -- The stack of roots.
 use Rattle.std.proofs.Common.{◌≡◌, ℕ, ◌<◌, true, ltb, List, [], ◌∷◌, ◌++◌, map, Option, Some, None, MatchOption, sym, ap, ◌∙◌, append_assoc}
-use Rattle.std.proofs.lemmas.Bool.{lt-ltb, cond-true}
+use Rattle.std.proofs.lemmas.Bool.{lt-ltb}
 use Rattle.std.proofs.lemmas.List.{reverse-append, append-nil}
 use Rattle.std.specs.Option.{option_to_list}
 use Rattle.mime_text.specs.declared.magic.forest.Root.{Root}
 use Rattle.mime_text.specs.MagicEntries.{Item}
 use Rattle.mime_base.specs.Magic.{Tree, forest_of}
-use Rattle.mime_text.specs.MagicForest.{Top, and_tree, top, top_over, stack, deeper, others, kept_trees, tops, tree_of, forest}
+use Rattle.mime_text.specs.MagicForest.{Top, top, top_over, stack, deeper, others, kept_trees, tops, tree_of}
 
+-- a root that is pushed is on top
 pub stack-push : (rs : List Root) (r : Root) → stack (rs ++ r ∷ []) ≡ top r ∷ stack rs
 stack-push rs r = ap (λ (x : List Root). map top x) (reverse-append rs (r ∷ []))
 
@@ -16,18 +17,7 @@ pub record Takes (d : ℕ) (all now : List Top) (front : List Tree) : Type 0 whe
   pub taken : kept_trees (deeper d all) ≡ front ++ kept_trees (deeper d now)
   pub left : others d all ≡ others d now
 
-pub takes_on : (d : ℕ) (all : List Top) (t : Top) (ts : List Top) (front : List Tree) → Takes d all (t ∷ ts) front → ltb d t.indent ≡ true → Takes d all ts (front ++ and_tree t.tree [])
-takes_on d all t ts front so_far deep =
-    let one : kept_trees (deeper d (t ∷ ts)) ≡ and_tree t.tree (kept_trees (deeper d ts)) = ap kept_trees (cond-true (ltb d t.indent) (t ∷ deeper d ts) [] deep) in
-    let go : (o : Option Tree) → front ++ and_tree o (kept_trees (deeper d ts)) ≡ (front ++ and_tree o []) ++ kept_trees (deeper d ts) = λ o. elim o as (λ o. front ++ and_tree o (kept_trees (deeper d ts)) ≡ (front ++ and_tree o []) ++ kept_trees (deeper d ts)) [
-      | None ↦ sym (append_assoc front [] (kept_trees (deeper d ts)))
-      | Some g ↦ sym (append_assoc front (g ∷ []) (kept_trees (deeper d ts)))
-    ] in
-    record {
-      taken = so_far.taken ∙ ap (λ (x : List Tree). front ++ x) one ∙ go t.tree;
-      left = so_far.left ∙ cond-true (ltb d t.indent) (others d ts) (t ∷ ts) deep;
-    }
-
+-- what popping the last root does, where it is deeper
 pub popped : (d : ℕ) (all left : List Root) (o : Option Root) (r : Root) → o ≡ Some r → all ≡ left ++ option_to_list o → d < r.indent
     → MatchOption o ((deeper d (stack all) ≡ []) × (others d (stack all) ≡ stack left)) (λ r. (stack all ≡ top r ∷ stack left) × (ltb d r.indent ≡ true))
 popped d all left None r is parts deep = absurd cc
@@ -39,20 +29,13 @@ popped d all left (Some x) r is parts deep =
 pub record TakesAll (all now : List Top) (front : List Tree) : Type 0 where
   pub taken : kept_trees all ≡ front ++ kept_trees now
 
-pub takes_next : (all : List Top) (t : Top) (ts : List Top) (front : List Tree) → TakesAll all (t ∷ ts) front → TakesAll all ts (front ++ and_tree t.tree [])
-takes_next all t ts front so_far =
-    let go : (o : Option Tree) → front ++ and_tree o (kept_trees ts) ≡ (front ++ and_tree o []) ++ kept_trees ts = λ o. elim o as (λ o. front ++ and_tree o (kept_trees ts) ≡ (front ++ and_tree o []) ++ kept_trees ts) [
-      | None ↦ sym (append_assoc front [] (kept_trees ts))
-      | Some g ↦ sym (append_assoc front (g ∷ []) (kept_trees ts))
-    ] in
-    record { taken = so_far.taken ∙ go t.tree }
-
 -- what the loop over the entries keeps
 pub record Grows (all left : List Item) (roots : List Top) : Type 0 where
   pub tail : List Item
   pub parts : all ≡ left ++ tail
   pub are : roots ≡ tops tail
 
+-- one entry more
 pub grows_on : (all left before : List Item) (i : Item) (old new : List Top) → Grows all before old → before ≡ left ++ i ∷ []
     → new ≡ top_over i old ∷ others i.indent old → Grows all left new
 unfolding tops
@@ -62,10 +45,7 @@ grows_on all left before i old new so_far is made = record {
   are = made ∙ ap (λ (o : List Top). top_over i o ∷ others i.indent o) so_far.are;
 }
 
-pub is_forest_of : (all left : List Item) (roots : List Top) → Grows all left roots → left ≡ [] → forest_of (kept_trees roots) ≡ forest all
-unfolding forest
-is_forest_of all left roots so_far is = ap (λ (t : List Top). forest_of (kept_trees t)) (so_far.are ∙ ap tops (sym (so_far.parts ∙ ap (λ (t : List Item). t ++ so_far.tail) is)))
-
+-- as the loop begins
 pub grows_from : (all : List Item) (roots : List Top) → roots ≡ [] → Grows all all roots
 unfolding tops
 grows_from all roots is = record { tail = []; parts = sym (append-nil all); are = is }

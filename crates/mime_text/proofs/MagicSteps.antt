@@ -3,6 +3,7 @@ use Rattle.std.proofs.Common.{◌≡◌, Bool, true, false, cond, Result, Ok, Er
 use Rattle.mime_text.specs.declared.magic.fault.Fault.{Fault}
 use Rattle.mime_text.specs.MagicReading.{◌>>=◌}
 
+-- a result that is right
 abbrev done : {A : Type 0} → A → Result A Fault
 done x = Ok x
 

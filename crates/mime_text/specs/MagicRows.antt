@@ -1,6 +1,6 @@
 -- Texts of magic with what the definitions make of them. Each law computes.
-use Rattle.std.specs.Prelude.{◌≡◌, ℕ, zero, suc, ◌+◌, ◌/◌, ◌%◌, List, [], ◌∷◌, ◌++◌, codes, Result, Ok, Err, Option, Some, None, refl}
-use Rattle.mime_base.specs.Magic.{Own, Forest, bare, line, PlainSection}
+use Rattle.std.specs.Prelude.{◌≡◌, ℕ, zero, suc, ◌+◌, ◌/◌, ◌%◌, List, [], ◌∷◌, ◌++◌, codes, Result, Ok, Some, None, refl}
+use Rattle.mime_base.specs.Magic.{bare, line, PlainSection}
 use Rattle.mime_base.specs.Names.{is_type_name}
 use Rattle.mime_text.specs.declared.magic.fault.Fault.{Fault}
 use Rattle.mime_text.specs.declared.magic.fault.MagicFault.TheVariants.{NoHeader, Truncated, BadSection, BadNumber, BadWord, BadIndent, TooDeep}
