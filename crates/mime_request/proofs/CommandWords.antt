@@ -1,13 +1,13 @@
 -- The walk of `mimelook` over `plain` and the words behind it.
-use Rattle.std.proofs.Common.{◌≡◌, ◌∙◌, false, List, [], ◌∷◌, ◌++◌, Some, is_some, ap, refl, codes, append_assoc, append-nil}
-use Rattle.clap.specs.Walk.{Names, Text, Walk, finished, idle, nothing_held, rows_after, settled, walk, walk_from}
+use Rattle.std.proofs.Common.{◌≡◌, ◌∙◌, true, false, List, [], ◌∷◌, ◌++◌, Some, is_some, ap, refl, codes, append_assoc, append-nil}
+use Rattle.clap.specs.Walk.{Names, Text, Walk, idle, nothing_held, rows_after, walk, walk_from}
 use Rattle.clap.specs.Simple.{Shape, built, entered, names_of, subcommand_of}
-use Rattle.clap.specs.Faults.{check_fault, defaults_fault, entered_fault, fault_of, level_fault, settle_fault}
-use Rattle.clap.specs.Kinds.{Kinds, or_else}
+use Rattle.clap.specs.Faults.{entered_fault, fault_of, level_fault}
+use Rattle.clap.specs.Kinds.{Kinds}
 use Rattle.clap.proofs.OnLiterals.{clap_on_literals}
 use Rattle.mime_request.specs.CommandLine.{mimelook}
-use Rattle.mime_request.proofs.FileWords.{neither_fault, plain_shape}
-use Rattle.mime_request.proofs.Walks.{Goes, Leads, ends, goes, no_walk_fault, walk_leads}
+use Rattle.mime_request.proofs.FileWords.{plain_shape}
+use Rattle.mime_request.proofs.Walks.{Goes, Leads, end_fault, ends, goes, no_level_fault, walk_leads}
 
 abbrev top : Shape
 top = (built mimelook).top
@@ -44,7 +44,7 @@ over_command : (words : List Text) → Leads top commands (walk_from nothing_hel
 over_command words = goes _ _ _ _ words meets_plain (passes_all [] words)
 
 command_walk : (words : List Text) → walk top.rules commands nothing_held (codes "plain" ∷ words) ≡ at_plain words
-command_walk words = walk_leads top commands (walk_from nothing_held) (at_plain words) (codes "plain" ∷ words) (over_command words)
+command_walk words = walk_leads top commands (at_plain words) (codes "plain" ∷ words) (over_command words)
 
 enters_plain : (words : List Text) → entered (built mimelook) (Some (codes "plain", words)) ≡ Some (codes "plain", rows_after plain_shape.rules [] words)
 unfolding clap_on_literals
@@ -54,31 +54,20 @@ plain_fault : (words : List Text) → entered_fault (built mimelook) (Some (code
 unfolding clap_on_literals
 plain_fault words = refl
 
-settle_fits : (words : List Text) → settle_fault top.rules false (at_plain words).held ≡ []
+ends_well : (words : List Text) → end_fault top true (at_plain words).held ≡ []
 unfolding clap_on_literals
-settle_fits words = refl
+ends_well words = refl
 
-defaults_fit : (words : List Text) → defaults_fault (settled top.rules (at_plain words).held).rows top.rules ≡ []
-unfolding clap_on_literals
-defaults_fit words = refl
-
-check_fits : (words : List Text) → check_fault top (finished top.rules (at_plain words).held) (is_some (entered (built mimelook) (at_plain words).stopped)) ≡ []
-unfolding clap_on_literals
-check_fits words = refl
-
-abbrev end_fault : Walk → Kinds
-end_fault w = or_else (entered_fault (built mimelook) w.stopped)
-    (or_else (settle_fault top.rules false w.held)
-    (or_else (defaults_fault (settled top.rules w.held).rows top.rules)
-    (check_fault top (finished top.rules w.held) (is_some (entered (built mimelook) w.stopped)))))
+-- the fault of a walk that ends so
+abbrev fault_at : List Text → Walk → Kinds
+fault_at words w = level_fault top commands nothing_held words (is_some (entered (built mimelook) w.stopped)) (entered_fault (built mimelook) w.stopped)
 
 -- words that `plain` takes are no fault
 pub fault_of-plain : (words : List Text) → level_fault plain_shape [] nothing_held words false [] ≡ [] → fault_of mimelook (codes "plain" ∷ words) ≡ []
 fault_of-plain words fits =
-    let end : end_fault (at_plain words) ≡ [] = neither_fault _ _ (plain_fault words ∙ fits)
-    (neither_fault _ _ (settle_fits words) (neither_fault _ _ (defaults_fit words) (check_fits words))) in
-    neither_fault _ _ (no_walk_fault top commands (walk_from nothing_held) (at_plain words) (codes "plain" ∷ words) (over_command words))
-    (ap end_fault (command_walk words) ∙ end)
+    let taken : level_fault top commands nothing_held (codes "plain" ∷ words) true (entered_fault (built mimelook) (Some (codes "plain", words))) ≡ [] =
+    no_level_fault top commands (at_plain words) (codes "plain" ∷ words) true _ (over_command words) (plain_fault words ∙ fits) (ends_well words) in
+    ap (fault_at (codes "plain" ∷ words)) (command_walk words) ∙ taken
 
 pub subcommand_of-plain : (words : List Text) → subcommand_of mimelook (codes "plain" ∷ words) ≡ Some (codes "plain", rows_after plain_shape.rules [] words)
 subcommand_of-plain words = ap (λ (w : Walk). entered (built mimelook) w.stopped) (command_walk words) ∙ enters_plain words

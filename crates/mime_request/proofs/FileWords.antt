@@ -6,13 +6,13 @@ use Rattle.clap.specs.Lexer.{usize_max}
 use Rattle.clap.specs.Walk.{Row, Text, Walk, positional}
 use Rattle.clap.specs.Simple.{Shape, built_leaf, inherited, marked_built, with_leaf_noted}
 use Rattle.clap.specs.Faults.{settle_fault}
-use Rattle.clap.specs.Kinds.{Kinds, or_else, range_kinds, values_kinds}
+use Rattle.clap.specs.Kinds.{range_kinds, values_kinds}
 use Rattle.clap.specs.declared.builder.value_parser.ValueParser.TheVariants as vp
 use Rattle.clap.proofs.OnLiterals.{clap_on_literals}
 use Rattle.mime_request.specs.CommandLine.{mimelook, plain}
 use Rattle.mime_request.specs.Spelling.{is_option}
 use Rattle.mime_request.proofs.PlainWords.{IsPlainWord, neither, plain_word}
-use Rattle.mime_request.proofs.Walks.{Goes, Leads, ends, goes}
+use Rattle.mime_request.proofs.Walks.{Goes, Leads, ends, goes, neither_fault}
 
 -- `plain` as clap builds it below `mimelook`
 abbrev pub plain_shape : Shape
@@ -50,9 +50,6 @@ values_fit (v ∷ vs) = values_fit vs
 
 range_fits : (n : ℕ) → 0 < n → n < 2 ^ 64 → range_kinds 1 usize_max n ≡ []
 range_fits n some few = grind (arith, nat_tests)
-
-pub neither_fault : (a b : Kinds) → a ≡ [] → b ≡ [] → or_else a b ≡ []
-neither_fault a b p q = rw p q
 
 pub files_fit : (rows : List Row) (file : Text) (files : List Text) → length (file ∷ files) < 2 ^ 64 → settle_fault plain_shape.rules false (in_files rows (file ∷ files)).held ≡ []
 unfolding clap_on_literals

@@ -3,6 +3,7 @@ pub mod DirectoryParts
 pub mod FileWords
 pub mod Meanings
 pub mod OptionWords
+pub mod PlainEnds
 pub mod PlainWords
 pub mod UsualWords
 pub mod Walks

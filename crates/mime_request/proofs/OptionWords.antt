@@ -1,24 +1,28 @@
--- The walk of `plain` over its options, in either order.
-use Rattle.std.proofs.Common.{◌≡◌, true, false, List, [], ◌∷◌, Option, Some, None, refl, codes}
-use Rattle.clap.specs.Walk.{Row, Text, Waiting, Walk, finished, idle, nothing_held, option, used, walk_from}
+-- The walk of `plain` over its options, in each order.
+use Rattle.std.proofs.Common.{Bool, true, false, List, [], ◌∷◌, Option, Some, None, refl, codes}
+use Rattle.clap.specs.Walk.{Row, Text, Waiting, Walk, idle, nothing_held, option, used, walk_from}
 use Rattle.clap.specs.Simple.{filled, with_index}
-use Rattle.clap.specs.Faults.{check_fault, defaults_fault}
 use Rattle.clap.proofs.OnLiterals.{clap_on_literals}
-use Rattle.mime_request.specs.CommandLine.{directories_rule, files_rule, name_only_rule}
-use Rattle.mime_request.specs.Request.{plain_meaning, plain_of, parts}
+use Rattle.mime_request.specs.CommandLine.{directories_rule, name_only_rule}
 use Rattle.mime_request.proofs.FileWords.{in_files, plain_shape}
 use Rattle.mime_request.proofs.PlainWords.{IsPlainWord}
 use Rattle.mime_request.proofs.Walks.{Goes, Leads, goes}
 
--- which of the options comes first
+-- where the flag `--name-only` stands
 pub data Order : Type 0 where
   directories_first : Order
   flag_first : Order
+  flag_absent : Order
+
+abbrev pub has_flag : Order → Bool
+has_flag flag_absent = false
+has_flag _ = true
 
 -- the words behind `plain`
 abbrev pub option_words : Order → Text → List Text → List Text
 option_words directories_first dirs files = codes "-d" ∷ dirs ∷ codes "--name-only" ∷ files
 option_words flag_first dirs files = codes "--name-only" ∷ codes "-d" ∷ dirs ∷ files
+option_words flag_absent dirs files = codes "-d" ∷ dirs ∷ files
 
 abbrev flag_used : List Row → List Row
 flag_used = used (with_index 1 (filled name_only_rule)) []
@@ -29,6 +33,7 @@ directories_used dirs = used (with_index 1 (filled directories_rule)) (dirs ∷ 
 abbrev pub option_rows : Order → Text → List Row
 option_rows directories_first dirs = flag_used (directories_used dirs [])
 option_rows flag_first dirs = directories_used dirs (flag_used [])
+option_rows flag_absent dirs = directories_used dirs []
 
 -- between two options, or before the first file
 abbrev between : List Row → Option (Text × List Text) → Waiting → Walk
@@ -84,6 +89,13 @@ file_behind_dirs dirs file h = record {
   moves = rw (h.no_dashes, h.no_long, h.no_short) refl;
 }
 
+file_without_flag : (dirs file : Text) → IsPlainWord file → Goes plain_shape [] (behind_dirs [] dirs) file (in_files (option_rows flag_absent dirs) (file ∷ []))
+unfolding clap_on_literals
+file_without_flag dirs file h = record {
+  no_fault = rw (h.no_dashes, h.no_long, h.no_short) refl;
+  moves = rw (h.no_dashes, h.no_long, h.no_short) refl;
+}
+
 -- over the options and the first file
 pub over_options : (o : Order) (dirs file : Text) (files : List Text) (end : Walk) → IsPlainWord dirs → IsPlainWord file → Leads plain_shape [] (in_files (option_rows o dirs) (file ∷ [])) files end
     → Leads plain_shape [] (walk_from nothing_held) (option_words o dirs (file ∷ files)) end
@@ -91,28 +103,5 @@ over_options directories_first dirs file files end d f rest =
     goes _ _ _ _ _ option_d (goes _ _ _ _ _ (directories [] dirs d) (goes _ _ _ _ _ (flag_behind dirs) (goes _ _ _ _ _ (file_behind_flag dirs file f) rest)))
 over_options flag_first dirs file files end d f rest =
     goes _ _ _ _ _ flag_before (goes _ _ _ _ _ option_d_behind (goes _ _ _ _ _ (directories (flag_used []) dirs d) (goes _ _ _ _ _ (file_behind_dirs dirs file f) rest)))
-
--- ---- behind the last file
-
-abbrev pub all_rows : Order → Text → List Text → List Row
-all_rows o dirs files = used (with_index 1 (filled files_rule)) files (option_rows o dirs)
-
-pub rows_are : (o : Order) (dirs file : Text) (files : List Text) → finished plain_shape.rules (in_files (option_rows o dirs) (file ∷ files)).held ≡ all_rows o dirs (file ∷ files)
-unfolding clap_on_literals
-rows_are directories_first dirs file files = refl
-rows_are flag_first dirs file files = refl
-
-pub defaults_fit : (o : Order) (dirs file : Text) (files : List Text) → defaults_fault (all_rows o dirs (file ∷ files)) plain_shape.rules ≡ []
-unfolding clap_on_literals
-defaults_fit directories_first dirs file files = refl
-defaults_fit flag_first dirs file files = refl
-
-pub nothing_missing : (o : Order) (dirs file : Text) (files : List Text) → check_fault plain_shape (all_rows o dirs (file ∷ files)) false ≡ []
-unfolding clap_on_literals
-nothing_missing directories_first dirs file files = refl
-nothing_missing flag_first dirs file files = refl
-
-pub rows_mean : (o : Order) (dirs file : Text) (files : List Text) → plain_meaning (all_rows o dirs (file ∷ files)) ≡ plain_of (parts dirs) true (Some (file ∷ files))
-unfolding clap_on_literals
-rows_mean directories_first dirs file files = refl
-rows_mean flag_first dirs file files = refl
+over_options flag_absent dirs file files end d f rest =
+    goes _ _ _ _ _ option_d (goes _ _ _ _ _ (directories [] dirs d) (goes _ _ _ _ _ (file_without_flag dirs file f) rest))

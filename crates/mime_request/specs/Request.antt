@@ -35,7 +35,7 @@ parts_of None = []
 parts_of (Some dirs) = parts dirs
 
 abbrev pub is_on : Option Text → Bool
-is_on = λ flag. option_map_or (λ text. bytes_eq text (codes "true")) flag false
+is_on flag = option_map_or (λ text. bytes_eq text (codes "true")) flag false
 
 -- at most one directory, the names alone, and files
 abbrev pub plain_of : List Text → Bool → Option (List Text) → Meaning

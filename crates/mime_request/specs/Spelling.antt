@@ -27,6 +27,10 @@ abbrev pub plain_words_flag_first : Text → List Text → List Text
 plain_words_flag_first dirs files =
     codes "plain" ∷ codes "--name-only" ∷ codes "-d" ∷ dirs ∷ files
 
+-- `plain -d DIRS FILE...`
+abbrev pub plain_words_without_flag : Text → List Text → List Text
+plain_words_without_flag dirs files = codes "plain" ∷ codes "-d" ∷ dirs ∷ files
+
 -- none of the words could be taken for an option, and there are fewer than memory can hold
 pub record AreUsual (dirs : Text) (files : List Text) : Type 0 where
   pub plain_dirs : is_option dirs ≡ false

@@ -12,4 +12,7 @@ mod spelling;
 mod tests;
 
 pub use request::{Request, request_of};
-pub use spelling::{flag_first_spelling_of_plain, parts_of_directories, usual_spelling_of_plain};
+pub use spelling::{
+    flag_first_spelling_of_plain, parts_of_directories, plain_without_name_only,
+    usual_spelling_of_plain, words_without_files,
+};
