@@ -1,6 +1,6 @@
 -- The lines of a text, their fields and their numbers.
-use Rattle.std.specs.Prelude.{ℕ, ◌+◌, ◌==◌, ◌↔◌, Bool, true, if◌then◌else◌, List, [], ◌∷◌, Contains}
-use Rattle.std.specs.List.{onto_first, slice_split}
+use Rattle.std.specs.Prelude.{ℕ, ◌==◌, ◌↔◌, Bool, true, if◌then◌else◌, List, [], ◌∷◌, map, filter, Contains}
+use Rattle.std.specs.List.{enumerate_from, onto_first, slice_split}
 
 -- the bytes up to each newline (10), and those behind the last newline, if any
 abbrev pub lines : List ℕ → List (List ℕ)
@@ -16,11 +16,10 @@ abbrev pub is_passed : List ℕ → Bool
 is_passed [] = true
 is_passed (b ∷ _) = b == 35
 
--- the rising numbers of the lines that pass a test, where the first line has the number n
+-- the numbers of the lines that pass a test, where the first line has the number n
 abbrev pub numbers : (List ℕ → Bool) → ℕ → List (List ℕ) → List ℕ
-numbers test n [] = []
-numbers test n (line ∷ more) =
-    if test line then n ∷ numbers test (n + 1) more else numbers test (n + 1) more
+numbers test n text_lines =
+    map (λ line. line.0) (filter (λ line. test line.1) (enumerate_from n text_lines))
 
 -- the numbers of the bad lines of a text, counted from 1
 unfoldable pub skipped_of : (List ℕ → Bool) → List ℕ → List ℕ

@@ -26,6 +26,7 @@ impl<'a> Model for Lines<'a> {
 }
 
 impl<'a> Lines<'a> {
+    /// The lines of this text.
     pub fn new(text: &'a [u8]) -> Lines<'a>
         ensures { result ≡ lines text.now }
     {
@@ -63,7 +64,7 @@ fn cut_line(text: &[u8]) -> (&[u8], &[u8])
     }
 }
 
-/// Whether a line says nothing: it is empty or a comment.
+/// Whether a line is empty or a comment.
 pub fn is_passed(line: &[u8]) -> bool
     ensures { result ≡ is_passed line.now }
 {
@@ -73,7 +74,7 @@ pub fn is_passed(line: &[u8]) -> bool
     }
 }
 
-/// The fields of a line, between the separators of one byte.
+/// The fields of a line, which stand between the separators.
 pub fn fields<'a, 's>(line: &'a [u8], separator: &'s [u8]) -> Split<'a, 's>
     requires { length separator.now ≡ 1 }
     ensures { result ≡ fields (slice_index separator.now 0) line.now }

@@ -1,6 +1,6 @@
 //! Fields that are to be names.
 
-ghost use Rattle.std.specs.Prelude.{◌≡◌, IfOk};
+ghost use Rattle.std.specs.Prelude.{◌≡◌, false, IfOk};
 ghost use Rattle.mime_base.specs.Names.{is_pattern, is_type_name};
 ghost use Rattle.mime_text.specs.Names.{name_by};
 
@@ -9,7 +9,8 @@ use std::alloc::Global;
 
 /// The type name that a field spells, or `None` where it is past the limits of one.
 pub fn type_name_of(alloc: Global, field: &[u8]) -> Result<Option<TypeName>, OutOfMemory>
-    ensures { IfOk result (λ name. name ≡ name_by is_type_name field.now) }
+    ensures name { IfOk result (λ name. name ≡ name_by is_type_name field.now) }
+    ensures refused { is_type_name field.now ≡ false → result ≡ Ok None }
 {
     match TypeName::new(alloc, field) {
         Ok(name) => Ok(Some(name)),
@@ -20,7 +21,8 @@ pub fn type_name_of(alloc: Global, field: &[u8]) -> Result<Option<TypeName>, Out
 
 /// The pattern that a field spells, or `None` where it is past the limits of one.
 pub fn pattern_of(alloc: Global, field: &[u8]) -> Result<Option<Pattern>, OutOfMemory>
-    ensures { IfOk result (λ pattern. pattern ≡ name_by is_pattern field.now) }
+    ensures pattern { IfOk result (λ pattern. pattern ≡ name_by is_pattern field.now) }
+    ensures refused { is_pattern field.now ≡ false → result ≡ Ok None }
 {
     match Pattern::new(alloc, field) {
         Ok(pattern) => Ok(Some(pattern)),

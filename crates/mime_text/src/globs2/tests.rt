@@ -2,6 +2,7 @@ use super::*;
 use std::test::Fail;
 
 struct Row {
+    name: &'static str,
     text: &'static [u8],
     rules: &'static [(u8, &'static [u8], &'static [u8], bool)],
     deleted: &'static [&'static [u8]],
@@ -10,36 +11,42 @@ struct Row {
 
 const ROWS: [Row; 6] = [
     Row {
+        name: "globs2-lines",
         text: b"50:t/a\n300:t/a:*.x\n50:t/a:*.y:cs,zz:more",
         rules: &[(50, b"t/a", b"*.y", true)],
         deleted: &[],
         skipped: &[1, 2],
     },
     Row {
+        name: "noglobs-marker",
         text: b"0:t/a:__NOGLOBS__\n50:t/a:*.new\n",
         rules: &[(50, b"t/a", b"*.new", false)],
         deleted: &[b"t/a"],
         skipped: &[],
     },
     Row {
+        name: "no bytes",
         text: b"",
         rules: &[],
         deleted: &[],
         skipped: &[],
     },
     Row {
+        name: "comments alone",
         text: b"# a\n\n#50:t/a:*.x\n",
         rules: &[],
         deleted: &[],
         skipped: &[],
     },
     Row {
+        name: "last line without a newline",
         text: b"50:t/a:*.x\n60:t/b:y",
         rules: &[(50, b"t/a", b"*.x", false), (60, b"t/b", b"y", false)],
         deleted: &[],
         skipped: &[],
     },
     Row {
+        name: "last line with a newline",
         text: b"50:t/a:*.x\n60:t/b:y\n",
         rules: &[(50, b"t/a", b"*.x", false), (60, b"t/b", b"y", false)],
         deleted: &[],
@@ -50,19 +57,20 @@ const ROWS: [Row; 6] = [
 #[test]
 fn rows(rt: HostRuntime) -> Result<(), Fail> {
     for row in &ROWS {
+        let name = row.name;
         let file = read_globs2(rt.alloc(), row.text)?;
-        assert_eq!(rt; file.rules.len(), row.rules.len());
+        assert_eq!(rt; file.rules.len(), row.rules.len(), "{name}");
         for (rule, want) in file.rules.iter().zip(row.rules) {
-            assert_eq!(rt; rule.weight, want.0);
-            assert_eq!(rt; rule.kind.bytes(), want.1);
-            assert_eq!(rt; rule.pattern.bytes(), want.2);
-            assert_eq!(rt; rule.cased, want.3);
+            assert_eq!(rt; rule.weight, want.0, "{name}");
+            assert_eq!(rt; rule.kind.bytes(), want.1, "{name}");
+            assert_eq!(rt; rule.pattern.bytes(), want.2, "{name}");
+            assert_eq!(rt; rule.cased, want.3, "{name}");
         }
-        assert_eq!(rt; file.deleted.len(), row.deleted.len());
+        assert_eq!(rt; file.deleted.len(), row.deleted.len(), "{name}");
         for (kind, want) in file.deleted.iter().zip(row.deleted) {
-            assert_eq!(rt; kind.bytes(), *want);
+            assert_eq!(rt; kind.bytes(), *want, "{name}");
         }
-        assert_eq!(rt; file.skipped.as_slice(), row.skipped);
+        assert_eq!(rt; file.skipped.as_slice(), row.skipped, "{name}");
     }
     Ok(())
 }

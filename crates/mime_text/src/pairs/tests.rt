@@ -2,6 +2,7 @@ use super::*;
 use std::test::Fail;
 
 struct Row {
+    name: &'static str,
     text: &'static [u8],
     pairs: &'static [(&'static [u8], &'static [u8])],
     skipped: &'static [u64],
@@ -9,37 +10,42 @@ struct Row {
 
 const ROWS: [Row; 4] = [
     Row {
+        name: "first-alias-pair",
         text: b"a/b c/d\nx y\na/b e/f\n# z",
         pairs: &[(b"a/b", b"c/d"), (b"a/b", b"e/f")],
         skipped: &[2],
     },
     Row {
+        name: "no bytes",
         text: b"",
         pairs: &[],
         skipped: &[],
     },
     Row {
+        name: "comments alone",
         text: b"# a\n\n#a/b c/d\n",
         pairs: &[],
         skipped: &[],
     },
     Row {
-        text: b"\na/b c/d\na/b  c/d\n",
+        name: "two spaces",
+        text: b"\na/b  c/d\na/b c/d\n",
         pairs: &[(b"a/b", b"c/d")],
-        skipped: &[3],
+        skipped: &[2],
     },
 ];
 
 #[test]
 fn rows(rt: HostRuntime) -> Result<(), Fail> {
     for row in &ROWS {
+        let name = row.name;
         let file = read_pairs(rt.alloc(), row.text)?;
-        assert_eq!(rt; file.pairs.len(), row.pairs.len());
+        assert_eq!(rt; file.pairs.len(), row.pairs.len(), "{name}");
         for (pair, want) in file.pairs.iter().zip(row.pairs) {
-            assert_eq!(rt; pair.name.bytes(), want.0);
-            assert_eq!(rt; pair.target.bytes(), want.1);
+            assert_eq!(rt; pair.name.bytes(), want.0, "{name}");
+            assert_eq!(rt; pair.target.bytes(), want.1, "{name}");
         }
-        assert_eq!(rt; file.skipped.as_slice(), row.skipped);
+        assert_eq!(rt; file.skipped.as_slice(), row.skipped, "{name}");
     }
     Ok(())
 }
