@@ -14,6 +14,7 @@ module _ {X : Type 0} (f : X → ℕ) where
   filter-above n (x ∷ xs) above =
       rw (ne_eqb (f x) n (λ e. omega arith), filter-above n xs (omega arith))
 
+  -- the greatest number of two lists
   greatest-append : (xs ys : List X) → greatest f (xs ++ ys) ≡ max (greatest f xs) (greatest f ys)
   greatest-append [] ys = omega arith
   greatest-append (x ∷ xs) ys = (let e = greatest-append xs ys in omega arith)
@@ -34,6 +35,7 @@ module _ {X : Type 0} (f : X → ℕ) where
       let top : greatest f (xs ++ ys) ≡ greatest f ys = (let e = greatest-append xs ys in omega arith) in
       rw (top, filter-append, same)
 
+  -- one element is the greatest
   of_greatest-one : (x : X) → of_greatest f (x ∷ []) ≡ x ∷ []
   of_greatest-one x =
       let top : f x ≡ max (f x) 0 = omega arith in
@@ -61,6 +63,7 @@ module _ {X : Type 0} (f : X → ℕ) where
   cons-more : (x : X) (xs : List X) → greatest f xs < f x → of_greatest f (x ∷ xs) ≡ x ∷ []
   cons-more x xs more = of_greatest-front (x ∷ []) xs (omega arith) ∙ of_greatest-one x
 
+  -- a bound of each number is one of the greatest
   greatest-below : (n : ℕ) (xs : List X) → 0 < n → All (λ x. f x < n) xs → greatest f xs < n
   greatest-below n [] some all = some
   greatest-below n (x ∷ xs) some all =

@@ -1,6 +1,10 @@
 pub mod Sets
-pub mod Search
-pub mod Steps
+pub mod Places
+pub mod Matching
+pub mod Attempts
+pub mod Slides
+pub mod Costs
+pub mod Endings
 pub mod Greatest
 pub mod Offers
 pub mod Ranks

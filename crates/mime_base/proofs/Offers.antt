@@ -7,6 +7,7 @@ use Rattle.mime_base.specs.Rank.{best}
 use Rattle.mime_base.proofs.Greatest.{of_greatest-none, push-less, push-same, push-more}
 
 module _ {X : Type 0} where
+  -- the greatest rank
   abbrev top : List (ℕ × X) → ℕ
   top offers = greatest (λ offer. offer.0) offers
 
@@ -23,6 +24,7 @@ module _ {X : Type 0} where
         eqb-true rank (top offers) (All-head (λ offer. (offer.0 == top offers) ≡ true) (rank, item) (ranked rank rest)
         (All-same (λ offer. (offer.0 == top offers) ≡ true) _ _ (sym (ap (ranked rank) is) ∙ kept) (filter_passes (λ offer. offer.0 == top offers) offers)))
 
+    -- what is kept after a new offer, by its rank
     module _ (new : ℕ) (item : X) where
       pub offer-less : new < rank → ranked rank items ≡ best (offers ++ (new, item) ∷ [])
       offer-less less =

@@ -7,10 +7,11 @@ use Rattle.mime_base.specs.Class.{class_of}
 use Rattle.mime_base.specs.Greatest.{greatest, of_greatest}
 use Rattle.mime_base.specs.Kept.{earliness, any_cased, of_first_class, heaviest, longest, cased_if_any, preferred}
 use Rattle.mime_base.specs.Names.{is_pattern}
-use Rattle.mime_base.specs.Rank.{rank, IsRanked, RankPrefers}
+use Rattle.mime_base.specs.Rank.{rank, FitsRank, GreatestRankIsPreferred}
 use Rattle.mime_base.specs.declared.rule.GlobRule.{GlobRule}
 use Rattle.mime_base.proofs.Greatest.{of_greatest-of_greatest}
 
+-- the length of a pattern fits its place
 pub is_pattern-short : (text : List ℕ) → is_pattern text ≡ true → length text ≤ 255
 unfolding is_pattern
 is_pattern-short text is = leb-true (length text) 255 (middle (nat_lt 0 (length text)) _ _ is)
@@ -22,6 +23,7 @@ is_pattern-short text is = leb-true (length text) 255 (middle (nat_lt 0 (length 
 abbrev flag : GlobRule → ℕ
 flag rule = cond rule.cased 1 0
 
+-- the greatest flag tells whether any rule is case-sensitive
 greatest-flag : (rules : List GlobRule) → greatest flag rules ≡ cond (any_cased rules) 1 0
 greatest-flag [] = refl
 greatest-flag (rule ∷ rules) = rw (greatest-flag rules) (by_cases rule.cased (any_cased rules))
@@ -32,6 +34,7 @@ greatest-flag (rule ∷ rules) = rw (greatest-flag rules) (by_cases rule.cased (
     by_cases false true = refl
     by_cases false false = refl
 
+-- without one all are kept
 none_cased : (rules : List GlobRule) → any_cased rules ≡ false → filter (λ rule. flag rule == 0) rules ≡ rules
 none_cased [] none = refl
 none_cased (rule ∷ rules) none = by_cases rule.cased refl (none_cased rules)
@@ -43,6 +46,7 @@ none_cased (rule ∷ rules) none = by_cases rule.cased refl (none_cased rules)
         let test : (flag rule == 0) ≡ true = ap (λ b. cond b 1 0 == 0) is in
         rw test (ap (λ others. rule ∷ others) (rest (sym (ap (λ b. b || any_cased rules) is) ∙ none)))
 
+-- the last preference is one by a number too
 cased_if_any-is : (rules : List GlobRule) → cased_if_any rules ≡ of_greatest flag rules
 cased_if_any-is rules = by_cases (any_cased rules) refl
   where
@@ -54,6 +58,7 @@ cased_if_any-is rules = by_cases (any_cased rules) refl
     by_cases true is = rw (greatest-flag rules, is) (filter_agree (λ rule. rule.cased) (λ rule. flag rule == 1) (λ rule. by_flag rule.cased) rules)
     by_cases false is = rw (greatest-flag rules, is) (sym (none_cased rules is))
 
+-- the number of the first preference, of the first two and of the first three
 abbrev by_class : GlobRule → ℕ
 by_class rule = earliness (class_of rule.pattern)
 
@@ -64,12 +69,12 @@ abbrev by_length : GlobRule → ℕ
 by_length rule = by_weight rule * 65536 + length rule.pattern
 
 -- one preference after another
-pub rank-prefers : RankPrefers
+pub of_greatest-rank_of_rule : GreatestRankIsPreferred
 unfolding rank preferred
-rank-prefers rules ranked =
+of_greatest-rank_of_rule rules ranked =
     sym (cased_if_any-is (longest (heaviest (of_first_class rules)))
-    ∙ ap (λ kept. of_greatest flag (longest kept)) (of_greatest-of_greatest 256 by_class (λ r. r.weight) rules (All-weaker IsRanked (λ r. r.weight < 256) (λ r is. is.0) rules ranked))
-    ∙ ap (of_greatest flag) (of_greatest-of_greatest 65536 by_weight (λ r. length r.pattern) rules (All-weaker IsRanked (λ r. length r.pattern < 65536) (λ r is. is.1) rules ranked))
+    ∙ ap (λ kept. of_greatest flag (longest kept)) (of_greatest-of_greatest 256 by_class (λ r. r.weight) rules (All-weaker FitsRank (λ r. r.weight < 256) (λ r is. is.0) rules ranked))
+    ∙ ap (of_greatest flag) (of_greatest-of_greatest 65536 by_weight (λ r. length r.pattern) rules (All-weaker FitsRank (λ r. length r.pattern < 65536) (λ r is. is.1) rules ranked))
     ∙ of_greatest-of_greatest 2 by_length flag rules (λ k d h. below_two (get_or rules k d).cased))
   where
     below_two : (b : Bool) → cond b 1 0 < 2

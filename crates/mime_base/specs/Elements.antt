@@ -1,5 +1,5 @@
 -- The elements of a pattern, computed from its bytes.
-use Rattle.std.specs.Prelude.{ℕ, zero, suc, ◌+◌, Bool, true, false, not, ◌&&◌, ◌||◌, ◌==◌, nat_le, if◌then◌else◌, List, [], ◌∷◌, length, drop, take, slice_index_or, min, position, Option, Some, None}
+use Rattle.std.specs.Prelude.{◌≡◌, ℕ, zero, suc, ◌+◌, Bool, true, false, not, ◌&&◌, ◌||◌, ◌==◌, nat_le, if◌then◌else◌, List, [], ◌∷◌, length, drop, take, slice_index_or, min, position, Option, Some, None}
 use Rattle.std.specs.List.{list_all}
 
 -- an element that takes exactly one byte
@@ -54,6 +54,12 @@ abbrev pub set_width : Option ℕ → List ℕ → ℕ
 set_width None rest = 0
 set_width (Some k) rest = (k + 2) + (if is_negated rest then 1 else 0)
 
+-- a `[` before these bytes begins a set of these members, and this stands behind it
+abbrev pub IsSet : List ℕ → Bool → List ℕ → List ℕ → Type 0
+IsSet behind negated members rest =
+    (k : ℕ) × (end_of_set behind ≡ Some k) × (negated ≡ is_negated behind)
+    × (members ≡ take (k + 1) (body behind)) × (rest ≡ drop (set_width (Some k) behind) behind)
+
 -- the one-byte element that begins with the byte `first`, which isn't `*`
 abbrev pub one_byte : ℕ → List ℕ → OneByte
 one_byte first rest =
@@ -80,6 +86,12 @@ elements_behind (suc k) (b ∷ rest) = elements_behind k rest
 
 unfoldable pub elements : List ℕ → List Element
 elements text = elements_behind 0 text
+
+-- how many of the elements take one byte
+abbrev pub singles : List Element → ℕ
+singles [] = 0
+singles (any_bytes ∷ elements) = singles elements
+singles (one _ ∷ elements) = suc (singles elements)
 
 abbrev pub is_special : ℕ → Bool
 is_special b = b == 42 || b == 63 || b == 91 || b == 92

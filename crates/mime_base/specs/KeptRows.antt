@@ -1,10 +1,9 @@
--- Worked rows of the kept rules and of the subclass rule, computed.
+-- Worked rows of the kept rules, which compute.
 use Rattle.std.specs.Prelude.{◌≡◌, ℕ, Bool, true, false, refl, codes, List, [], ◌∷◌, map}
 use Rattle.mime_base.specs.Class.{class_of}
 use Rattle.mime_base.specs.Elements.{elements}
 use Rattle.mime_base.specs.Kept.{kept_rules, preferred}
 use Rattle.mime_base.specs.Matches.{matches, rule_matches}
-use Rattle.mime_base.specs.Subclass.{is_by_itself}
 use Rattle.mime_base.specs.declared.rule.GlobRule.{GlobRule}
 
 -- the rule of a line `weight:type:pattern`, with or without the flag `cs`
@@ -39,17 +38,17 @@ pub weight_before_length :
 unfolding kept_rules preferred rule_matches matches elements class_of
 weight_before_length = refl
 
-pub case_preference_capital : kept_types sources (codes "main.C") ≡ codes "text/x-c++src" ∷ []
+pub case_preference-capital : kept_types sources (codes "main.C") ≡ codes "text/x-c++src" ∷ []
 unfolding kept_rules preferred rule_matches matches elements class_of
-case_preference_capital = refl
+case_preference-capital = refl
 
-pub case_preference_small : kept_types sources (codes "main.c") ≡ codes "text/x-csrc" ∷ []
+pub case_preference-small : kept_types sources (codes "main.c") ≡ codes "text/x-csrc" ∷ []
 unfolding kept_rules preferred rule_matches matches elements class_of
-case_preference_small = refl
+case_preference-small = refl
 
-pub case_preference_mixed : kept_types archives (codes "Foo.TAR.gz") ≡ codes "application/x-compressed-tar" ∷ []
+pub case_preference-mixed : kept_types archives (codes "Foo.TAR.gz") ≡ codes "application/x-compressed-tar" ∷ []
 unfolding kept_rules preferred rule_matches matches elements class_of
-case_preference_mixed = refl
+case_preference-mixed = refl
 
 pub star_weight :
     kept_types (line 50 (codes "t/any") (codes "*") false ∷ line 10 (codes "t/g") (codes "*.gz") false ∷ []) (codes "a.gz")
@@ -57,18 +56,8 @@ pub star_weight :
 unfolding kept_rules preferred rule_matches matches elements class_of
 star_weight = refl
 
-pub text_is_plain : is_by_itself (codes "text/x-notes") (codes "text/plain") ≡ true
-unfolding is_by_itself
-text_is_plain = refl
-
-pub application_is_bytes : is_by_itself (codes "application/x") (codes "application/octet-stream") ≡ true
-unfolding is_by_itself
-application_is_bytes = refl
-
-pub inode_is_no_bytes : is_by_itself (codes "inode/x") (codes "application/octet-stream") ≡ false
-unfolding is_by_itself
-inode_is_no_bytes = refl
-
-pub application_is_no_text : is_by_itself (codes "application/x") (codes "text/plain") ≡ false
-unfolding is_by_itself
-application_is_no_text = refl
+pub conflict_textual :
+    kept_types (line 50 (codes "application/msword") (codes "*.doc") false ∷ line 50 (codes "text/x-notes") (codes "*.doc") false ∷ []) (codes "a.doc")
+    ≡ codes "application/msword" ∷ codes "text/x-notes" ∷ []
+unfolding kept_rules preferred rule_matches matches elements class_of
+conflict_textual = refl

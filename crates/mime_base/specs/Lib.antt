@@ -3,10 +3,14 @@ pub mod Meter
 pub mod Folding
 pub mod Elements
 pub mod Matches
+pub mod Attempt
 pub mod Class
 pub mod Greatest
 pub mod Kept
 pub mod Rank
 pub mod Subclass
 pub mod Choice
+pub mod PatternRows
+pub mod LimitRows
 pub mod KeptRows
+pub mod SubclassRows

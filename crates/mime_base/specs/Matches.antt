@@ -1,6 +1,6 @@
 -- What it is for a name to match the elements of a pattern.
-use Rattle.std.specs.Prelude.{◌≡◌, ℕ, Bool, true, false, ◌&&◌, ◌||◌, List, [], ◌∷◌, drop, length, ◌≤◌, ◌-◌, IsTrue}
-use Rattle.mime_base.specs.Elements.{Element, any_bytes, one, OneByte, admits, elements}
+use Rattle.std.specs.Prelude.{◌≡◌, ℕ, Bool, true, false, ◌&&◌, ◌||◌, List, [], ◌∷◌, drop, length, min, ◌-◌, IsTrue}
+use Rattle.mime_base.specs.Elements.{Element, any_bytes, one, OneByte, admits, elements, singles}
 use Rattle.mime_base.specs.Folding.{compared}
 
 -- by cases: `*` matches by some cut, any other element takes one byte that it admits
@@ -34,7 +34,11 @@ matches (one element ∷ rest) name = takes_one element (matches rest) name
 unfoldable pub rule_matches : List ℕ → Bool → List ℕ → Bool
 rule_matches pattern cased name = matches (elements (compared cased pattern)) (compared cased name)
 
--- the name has this ending, at the byte `from` or behind it
-abbrev pub EndsSo : Bool → List ℕ → List ℕ → ℕ → Type 0
-EndsSo cased ending name from =
-    (length ending ≤ length name - from) × (compared cased ending ≡ compared cased (drop (length name - length ending) name))
+-- the name ends so
+abbrev pub EndsSo : Bool → List ℕ → List ℕ → Type 0
+EndsSo cased ending name = compared cased ending ≡ compared cased (drop (length name - length ending) name)
+
+-- at least so many tests of elements: of each that takes a byte if the name matches, else one, if there is one
+abbrev pub least_tests : Bool → List Element → ℕ
+least_tests true elements = singles elements
+least_tests false elements = min 1 (singles elements)

@@ -1,109 +1,122 @@
-//! The elements of a pattern that take one byte, read where they stand.
+//! The elements of a pattern that take one byte, read where they stand in its text.
+//!
+//! What the public specification calls a glob is a list of elements: `*`, and those that take one
+//! byte. How a text spells sets and escapes is this project's own; nothing is parsed ahead.
 
-ghost use Rattle.std.specs.Prelude.{◌≡◌, ℕ, ◌+◌, ◌<◌, ◌≤◌, ◌==◌, Some, None, IfSome, length, drop, position, if◌then◌else◌};
-ghost use Rattle.mime_base.specs.Elements.{ranges, in_ranges, admits, one_byte, width_behind, is_plain, is_negated, body, set_of, set_width, end_of_set};
-ghost use Rattle.mime_base.specs.Folding.{folded, compared_byte, compared};
+ghost use Rattle.std.specs.Prelude.{◌≡◌, Bool, ◌∷◌, [], ◌+◌, ◌<◌, ◌==◌, IsNone, IfSome, None, is_some, drop, length, position};
+ghost use Rattle.mime_base.specs.Elements.{IsSet, admits, end_of_set, in_ranges, is_negated, one_byte, ranges, width_behind};
+ghost use Rattle.mime_base.specs.Folding.{compared, compared_byte};
 
 use crate::folding::as_compared;
 
-/// Whether the byte is in the set that these bytes spell.
-fn in_set(members: &[u8], cased: bool, byte: u8) -> bool
+/// What stands behind an element, if the element admits a byte.
+///
+/// The element begins with the byte `first`, which is no `*`, and `first` and `byte` are as they are
+/// compared.
+pub fn behind_admitting<'a>(first: u8, behind: &'a [u8], cased: bool, byte: u8) -> Option<&'a [u8]>
+    ensures admits { is_some result ≡ admits (one_byte first (compared cased behind.now)) byte }
+    ensures behind { IfSome result (λ rest. rest.now ≡ drop (width_behind first (compared cased behind.now)) behind.now) }
+{
+    match first {
+        b'?' => Some(behind),
+        b'\\' => match behind {
+            [escaped, rest @ ..] => (as_compared(cased, *escaped) == byte).then_some(rest),
+            [] => (byte == b'\\').then_some(behind),
+        },
+        b'[' => match set_behind(behind) {
+            Some(set) => (is_member(set.members, cased, byte) != set.is_negated).then_some(
+                set.rest,
+            ),
+            None => (byte == b'[').then_some(behind),
+        },
+        _ => (first == byte).then_some(behind),
+    }
+}
+
+/// A set of bytes.
+#[derive(Clone, Copy)]
+struct Set<'a> {
+    /// Whether it is all bytes but its members.
+    is_negated: bool,
+    /// Bytes and ranges of bytes, as they are spelled.
+    members: &'a [u8],
+    /// What stands behind its `]`.
+    rest: &'a [u8],
+}
+
+/// The set that begins with a `[` before these bytes, if it has an end.
+fn set_behind<'a>(behind: &'a [u8]) -> Option<Set<'a>>
+    ensures none { IsNone result → end_of_set behind.now ≡ None }
+    ensures set { IfSome result (λ set. IsSet behind.now set.is_negated set.members.now set.rest.now) }
+{
+    let is_negated = is_negated(behind);
+    let body = if is_negated { &behind[1..] } else { behind };
+    match end_of_body(body) {
+        Some(end) => Some(Set {
+            is_negated,
+            members: &body[..end + 1],
+            rest: &body[end + 2..],
+        }),
+        None => None,
+    }
+}
+
+/// How many bytes stand between the first member and the first `]` behind it.
+fn end_of_body(body: &[u8]) -> Option<usize>
+    ensures end { result ≡ position (λ b. b == 93) (drop 1 body.now) }
+    ensures within { IfSome result (λ end. end + 1 < length body.now) }
+{
+    body.iter().skip(1).position(|byte| *byte == b']')
+}
+
+/// Whether these are the bytes of a set that is negated.
+fn is_negated(behind: &[u8]) -> bool
+    ensures { result ≡ is_negated behind.now }
+{
+    matches!(behind, [b'!' | b'^', ..])
+}
+
+/// Whether a byte, as it is compared, is one of the members that a set spells.
+fn is_member(members: &[u8], cased: bool, byte: u8) -> bool
     ensures { result ≡ in_ranges (ranges (compared cased members.now)) byte }
 {
-    let mut i: usize = 0;
-    while i < members.len() {
-        let low = as_compared(cased, members[i]);
-        if i + 2 < members.len() && members[i + 1] == b'-' {
-            let high = as_compared(cased, members[i + 2]);
-            if low <= byte && byte <= high {
-                return true;
-            }
-            i += 3;
-        } else {
-            if low == byte {
-                return true;
-            }
-            i += 1;
+    let mut members = members;
+    while let Some(range) = first_range(members) {
+        if as_compared(cased, range.low) <= byte && byte <= as_compared(cased, range.high) {
+            return true;
         }
+        members = range.rest;
     }
     false
 }
 
-fn first_end(text: &[u8]) -> Option<usize>
-    ensures place { result ≡ position (λ b. b == 93) text.now }
-    ensures within { IfSome result (λ k. k < length text.now) }
-{
-    text.iter().position(|b| *b == b']')
+/// A range of bytes; a byte that stands for itself is a range of one.
+#[derive(Clone, Copy)]
+struct Range<'a> {
+    low: u8,
+    high: u8,
+    /// The members behind it.
+    rest: &'a [u8],
 }
 
-fn negates(rest: &[u8]) -> bool
-    ensures { result ≡ is_negated rest.now }
+/// The range at the front of a set's members.
+fn first_range<'a>(members: &'a [u8]) -> Option<Range<'a>>
+    ensures none { IsNone result → members.now ≡ [] }
+    ensures shorter { IfSome result (λ range. length range.rest.now < length members.now) }
+    ensures range { IfSome result (λ range. (cased : Bool) → ranges (compared cased members.now)
+        ≡ (compared_byte cased range.low, compared_byte cased range.high) ∷ ranges (compared cased range.rest.now)) }
 {
-    match rest.first() {
-        None => false,
-        Some(b) => *b == b'!' || *b == b'^',
-    }
-}
-
-/// The bytes of a set behind its negation.
-fn body_of(rest: &[u8], negated: bool) -> &[u8]
-    requires { negated ≡ is_negated rest.now }
-    ensures { result.now ≡ body rest.now }
-{
-    if negated { &rest[1..] } else { rest }
-}
-
-/// Where, behind its first byte, the body of a set ends.
-fn body_end(body: &[u8]) -> Option<usize>
-    ensures place { result ≡ position (λ b. b == 93) (drop 1 body.now) }
-    ensures within { IfSome result (λ k. k + 1 < length body.now) }
-{
-    if body.is_empty() {
-        return None;
-    }
-    first_end(&body[1..])
-}
-
-/// How many bytes the set behind a `[` takes up, where it admits the byte.
-fn set_admitted(rest: &[u8], cased: bool, byte: u8) -> Option<usize>
-    ensures within { IfSome result (λ k. k ≤ length rest.now) }
-    ensures answer { let set = compared cased rest.now in result ≡ (if admits (set_of (end_of_set set) set) byte then Some (set_width (end_of_set set) set) else None) }
-{
-    let negated = negates(rest);
-    let body = body_of(rest, negated);
-    match body_end(body) {
-        None => { if byte == b'[' { Some(0) } else { None } }
-        Some(k) => {
-            let inside = in_set(&body[..k + 1], cased, byte);
-            if inside == negated {
-                None
-            } else if negated {
-                Some(k + 3)
-            } else {
-                Some(k + 2)
-            }
-        }
-    }
-}
-
-/// How many bytes the element that begins with `first` has behind it, where it admits the byte.
-pub fn admitted(first: u8, rest: &[u8], cased: bool, byte: u8) -> Option<usize>
-    ensures within { IfSome result (λ k. k ≤ length rest.now) }
-    ensures answer { let behind = compared cased rest.now in result ≡ (if admits (one_byte first behind) byte then Some (width_behind first behind) else None) }
-{
-    match first {
-        b'?' => Some(0),
-        b'\\' => match rest.first() {
-            None => { if byte == b'\\' { Some(0) } else { None } }
-            Some(x) => {
-                if as_compared(cased, *x) == byte {
-                    Some(1)
-                } else {
-                    None
-                }
-            }
-        },
-        b'[' => set_admitted(rest, cased, byte),
-        _ => { if first == byte { Some(0) } else { None } }
+    match members {
+        [low, b'-', high, rest @ ..] => Some(Range {
+            low: *low,
+            high: *high,
+            rest,
+        }),
+        [byte, rest @ ..] => Some(Range {
+            low: *byte,
+            high: *byte,
+            rest,
+        }),
+        [] => None,
     }
 }

@@ -4,6 +4,7 @@
 //! pattern's elements, and what matching costs is counted in a [`Meter`].
 #![tactic(auto)]
 
+mod attempt;
 mod class;
 mod database;
 mod elements;
@@ -26,5 +27,5 @@ pub use memory::OutOfMemory;
 pub use meter::Meter;
 pub use name::{NameFault, Pattern, TypeName};
 pub use pair::Pair;
-pub use ranking::{Best, rank_of, rank_of_rule, rank_prefers};
+pub use ranking::{Best, greatest_rank_is_preferred, rank_of, rank_of_rule};
 pub use rule::GlobRule;

@@ -2,11 +2,11 @@
 //!
 //! Of the rules that match a name, those are kept that come first by class, then by weight, by the
 //! length of the pattern and by case ("Recommended checking order"; the order of the classes and
-//! the preference for case-sensitive rules are this project's own). A [`rank_of`] a hit puts the
-//! four into one comparison, and a [`Best`] keeps what is preferred in one pass.
+//! the preference for case-sensitive rules are this project's own). The rank of a hit makes one
+//! comparison of the four, and a [`Best`] keeps what is preferred in one pass.
 
 ghost use Rattle.std.specs.Prelude.{◌≡◌, ℕ, List, [], ◌∷◌, ◌++◌, map, OnOk, OnErr, All};
-ghost use Rattle.mime_base.specs.Rank.{best, rank, rank_of_rule, IsRanked, RankPrefers};
+ghost use Rattle.mime_base.specs.Rank.{best, rank, rank_of_rule, FitsRank, GreatestRankIsPreferred};
 
 use crate::class::{Class, class_of_bytes};
 use crate::memory::OutOfMemory;
@@ -21,6 +21,7 @@ use std::marker::Model;
 pub fn rank_of(class: Class, weight: u8, length: u16, cased: bool) -> u32
     ensures { result ≡ rank class weight length cased }
 {
+    // A weight is below 256, a length below 65,536 and the flag below 2.
     let earliness = match class {
         Class::Literal => 2,
         Class::Suffix => 1,
@@ -32,7 +33,7 @@ pub fn rank_of(class: Class, weight: u8, length: u16, cased: bool) -> u32
 /// The rank of a rule that matches.
 pub fn rank_of_rule(rule: &GlobRule) -> u32
     ensures rank { result ≡ rank_of_rule rule.now }
-    ensures limits { IsRanked rule.now }
+    ensures limits { FitsRank rule.now }
 {
     let pattern = rule.pattern.bytes();
     rank_of(
@@ -44,8 +45,8 @@ pub fn rank_of_rule(rule: &GlobRule) -> u32
 }
 
 /// The law of ranks: the hits of the greatest rank are those that are preferred.
-pub fn rank_prefers()
-    ensures { RankPrefers }
+pub fn greatest_rank_is_preferred()
+    ensures { GreatestRankIsPreferred }
 {}
 
 /// What was offered with the greatest rank so far, in the order in which it came.
@@ -76,7 +77,7 @@ impl<T: Drop> Best<T> {
         }
     }
 
-    /// Keeps the item if nothing kept has a greater rank, and drops what has a lesser one.
+    /// Keeps the item unless something kept has a greater rank, and drops what has a lesser one.
     pub fn offer(&mut self, rank: u32, item: T) -> Result<(), OutOfMemory>
         ensures kept { (offers : List (ℕ × T)) → self.old ≡ best offers →
             OnOk result (self.new ≡ best (offers ++ (rank, item) ∷ [])) }
@@ -101,3 +102,6 @@ impl<T: Drop> Best<T> {
         items
     }
 }
+
+#[cfg(test)]
+mod tests;

@@ -17,6 +17,7 @@ nothing_above : (kind : List ℕ) → above no_pairs kind ≡ []
 unfolding above parents
 nothing_above kind = refl
 
+-- so the path from a type to the base has no step
 by_itself-from_is_a : (kind base : List ℕ) → IsA no_pairs kind base → is_by_itself kind base ≡ true
 by_itself-from_is_a kind base ([], is) = is
 by_itself-from_is_a kind base (next ∷ path, step) =
@@ -38,12 +39,15 @@ module _ (base other : List ℕ) where
       )
 
   module _ {X : Type 0} (kind_of : X → List ℕ) (xs : List X) (i : ℕ) (fail : All (λ x. Fails (kind_of x)) (take i xs)) where
+    -- the same of the types
     front_fails : All Fails (map kind_of (take i xs))
     front_fails = All-map Fails kind_of (take i xs) fail
 
+    -- one more that fails
     pub fail_more : (x : X) → i < length xs → x ≡ get_or xs i x → Fails (kind_of x) → All (λ y. Fails (kind_of y)) (take (i + 1) xs)
     fail_more x within is fails = All-more (λ y. Fails (kind_of y)) xs i x within fail (subst (λ y. Fails (kind_of y)) is fails)
 
+    -- the next one is it
     pub first-here : (x : X) → i < length xs → x ≡ get_or xs i x → is_by_itself (kind_of x) base ≡ true →
         IsFirst no_pairs base other (map kind_of xs) (kind_of x)
     first-here x within is by_itself =
@@ -52,6 +56,7 @@ module _ (base other : List ℕ) where
         subst (λ ys. IsFirst no_pairs base other ys (kind_of x)) (sym (map-append kind_of (take i xs) (x ∷ drop (i + 1) xs)) ∙ ap (map kind_of) parts)
         (first-behind (map kind_of (take i xs)) (kind_of x ∷ map kind_of (drop (i + 1) xs)) (kind_of x) front_fails (inl (([], by_itself), refl)))
 
+    -- none is it
     pub first-nowhere : length xs ≤ i → IsFirst no_pairs base other (map kind_of xs) other
     first-nowhere all =
         subst (λ ys. IsFirst no_pairs base other ys other) (append-nil (map kind_of (take i xs)) ∙ ap (map kind_of) (take_all i xs all))
@@ -66,6 +71,7 @@ one_type base first (kind ∷ kinds) answer all (inl found) =
 one_type base first (kind ∷ kinds) answer all (inr later) =
     one_type base first kinds answer (and_parts (bytes_eq first kind) (list_all (bytes_eq first) kinds) all).1 later.1
 
+-- whether the types are one type need not be asked
 pub chooses-from_first : {X : Type 0} (kind_of : X → List ℕ) (base : List ℕ) (xs : List X) (answer : List ℕ) (d : X) → 0 < length xs →
     IsFirst no_pairs base (kind_of (get_or xs 0 d)) (map kind_of xs) answer → ChoosesAmong no_pairs (map kind_of xs) base answer
 chooses-from_first kind_of base [] answer d some is = absurd (omega arith)

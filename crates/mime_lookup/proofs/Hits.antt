@@ -1,17 +1,17 @@
 -- What is kept of the rules that match, in one pass over them.
-use Rattle.std.proofs.Common.{◌≡◌, ℕ, ◌+◌, ◌<◌, true, false, cond, List, [], ◌∷◌, ◌++◌, length, take, get_or, map, refl, sym, ap, ◌∙◌}
+use Rattle.std.proofs.Common.{◌≡◌, ℕ, ◌+◌, ◌<◌, true, false, cond, List, [], ◌∷◌, ◌++◌, length, take, get_or, map, sym, ap, ◌∙◌}
 use Rattle.std.specs.List.{All}
 use Rattle.std.proofs.lemmas.List.{append-nil, map-append, map-id}
-use Rattle.std.proofs.lemmas.List.Elements.{All-nil, All-push, filter_more}
+use Rattle.std.proofs.lemmas.List.Elements.{All-push, filter_more}
 use Rattle.std.proofs.lemmas.Simd.{map-map}
 use denote.Bor.{Bor}
 use Rattle.mime_base.specs.Greatest.{of_greatest}
 use Rattle.mime_base.specs.Kept.{hits, kept_rules}
 use Rattle.mime_base.specs.Matches.{rule_matches}
-use Rattle.mime_base.specs.Rank.{best, rank_of_rule, IsRanked}
+use Rattle.mime_base.specs.Rank.{best, rank_of_rule, FitsRank}
 use Rattle.mime_base.specs.declared.rule.GlobRule.{GlobRule}
 use Rattle.mime_base.proofs.Greatest.{of_greatest-map}
-use Rattle.mime_base.proofs.Ranks.{rank-prefers}
+use Rattle.mime_base.proofs.Ranks.{of_greatest-rank_of_rule}
 
 -- an offer without its reference, and the offer of a rule
 abbrev offered : ℕ × Bor GlobRule → ℕ × GlobRule
@@ -25,13 +25,11 @@ pub record KeepsBest (kept : List (ℕ × Bor GlobRule)) (rules : List GlobRule)
   pub offers : List (ℕ × Bor GlobRule)
   pub kept_is : kept ≡ best offers
   pub offers_are : map offered offers ≡ map offer_of rules
-  pub ranked : All IsRanked rules
+  pub ranked : All FitsRank rules
 
-pub keeps_none : KeepsBest [] []
-keeps_none = record { offers = []; kept_is = refl; offers_are = refl; ranked = All-nil IsRanked }
-
+-- an offer more
 pub keeps_more : (kept new : List (ℕ × Bor GlobRule)) (rules : List GlobRule) (rank : ℕ) (rule : Bor GlobRule) → KeepsBest kept rules →
-    rank ≡ rank_of_rule rule.now → IsRanked rule.now →
+    rank ≡ rank_of_rule rule.now → FitsRank rule.now →
     ((offers : List (ℕ × Bor GlobRule)) → kept ≡ best offers → new ≡ best (offers ++ (rank, rule) ∷ [])) → KeepsBest new (rules ++ rule.now ∷ [])
 keeps_more kept new rules rank rule so_far rank_is ranked says = record {
   offers = so_far.offers ++ (rank, rule) ∷ [];
@@ -41,9 +39,10 @@ keeps_more kept new rules rank rule so_far rank_is ranked says = record {
       ∙ ap (λ front. front ++ (rank, rule.now) ∷ []) so_far.offers_are
       ∙ ap (λ n. map offer_of rules ++ (n, rule.now) ∷ []) rank_is
       ∙ sym (map-append offer_of rules (rule.now ∷ []));
-  ranked = All-push IsRanked rules rule.now so_far.ranked ranked;
+  ranked = All-push FitsRank rules rule.now so_far.ranked ranked;
 }
 
+-- after the last rule
 pub keeps_all : (kept : List (ℕ × Bor GlobRule)) (rules : List GlobRule) (name : List ℕ) → KeepsBest kept (hits rules name) →
     map (λ rule. rule.now) (map (λ offer. offer.1) kept) ≡ kept_rules rules name
 unfolding kept_rules
@@ -59,9 +58,9 @@ keeps_all kept rules name so_far =
     ∙ ap (map (λ (offer : ℕ × GlobRule). offer.1)) best_offers
     ∙ map-map (λ (offer : ℕ × GlobRule). offer.1) offer_of (of_greatest rank_of_rule found)
     ∙ map-id (of_greatest rank_of_rule found)
-    ∙ rank-prefers found so_far.ranked
+    ∙ of_greatest-rank_of_rule found so_far.ranked
 
--- one rule more
+-- one rule more, which is a hit or a miss
 module _ (rules : List GlobRule) (name : List ℕ) (i : ℕ) (rule : GlobRule) (within : i < length rules) (is : rule ≡ get_or rules i rule) where
   hits-more : hits (take (i + 1) rules) name ≡ hits (take i rules) name ++ cond (rule_matches rule.pattern rule.cased name) (rule ∷ []) []
   hits-more =

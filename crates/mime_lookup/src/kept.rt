@@ -13,7 +13,8 @@ pub fn kept_rules<'a>(
     name: &[u8],
     meter: &mut Meter,
 ) -> Result<Vec<&'a GlobRule>, OutOfMemory>
-    ensures kept { IfOk result (λ kept. map (λ rule. rule.now) kept.items ≡ kept_rules rules.now name.now) }
+    ensures kept { IfOk result
+        (λ kept. map (λ rule. rule.now) kept.items ≡ kept_rules rules.now name.now) }
     ensures nodes { meter.new.nodes ≡ meter.old.nodes }
 {
     let mut best = Best::new(alloc);

@@ -1,5 +1,4 @@
-//! Lookup by trying every rule of a database. This project's own: every other lookup answers the
-//! same types.
+//! Lookup by trying every rule of a database.
 
 ghost use Rattle.std.specs.Prelude.{◌≡◌, ◌<◌, ◌≤◌, length, IfOk, IfErr, MatchResult};
 ghost use Rattle.mime_base.specs.Choice.{Chooses};
@@ -16,10 +15,12 @@ use std::alloc::Global;
 /// The longest name that is looked up, in bytes.
 const LONGEST_NAME: usize = 4096;
 
-/// The type that the checking order gives to a name, where content is not available.
+/// The type that the checking order gives to a name ("Recommended checking order"), where content
+/// is not available.
 ///
-/// A name of more than 4,096 bytes is refused before anything else. What the meter counts has no
-/// promised bound.
+/// A name of more than 4,096 bytes is [`Cause::NameTooLong`], before anything else; any other name
+/// stops for want of memory alone. The meter counts the bytes that matching counts, with no
+/// promised bound, and no record.
 pub fn look_up_plain<'a>(
     alloc: Global,
     database: &'a Database,
@@ -59,3 +60,6 @@ pub fn look_up_plain<'a>(
         }),
     }
 }
+
+#[cfg(test)]
+mod tests;

@@ -1,86 +1,57 @@
-use Rattle.std.proofs.Common.{◌≡◌, ◌+◌, ◌-◌, ◌*◌, ◌≤◌, length, drop, take, ◌∙◌, sym, arith, length-drop}
+use Rattle.std.proofs.Common.{◌∷◌, length, sym, ◌∙◌, ap, arith, length-drop, zero-add}
+use Rattle.std.proofs.lemmas.List.{drop-map}
 use Rattle.std.proofs.lemmas.Slice.{between_to_end}
-use Rattle.mime_base.proofs.Steps.{star_step, one_step, none_step, none_end, over_end, end_step, end_end, end_found, paid, jumped, plain_end}
+use Rattle.mime_base.specs.Elements.{any_bytes, elements}
+use Rattle.mime_base.specs.Matches.{matches}
+use Rattle.mime_base.specs.Folding.{compared, compared_byte}
+use Rattle.mime_base.specs.declared.attempt.Stop.TheVariants.{Star}
+use Rattle.mime_base.proofs.Attempts.{goes-decided, goes-owed}
+use Rattle.mime_base.proofs.Costs.{star-paid}
+use Rattle.mime_base.proofs.Endings.{matches-ending, singles-plain}
+use Rattle.mime_base.proofs.Matching.{rule_matches-compared}
+use Rattle.mime_base.proofs.Places.{singles-length}
+use Rattle.mime_base.proofs.Slides.{decided-answer, least-last, owed-answer, star-unanswered}
 use Rattle.mime_base.proofs.glob.search.Goals as goal
 
-pub returns-then-from-name-clause-found : goal.returns-then-from-name-clause-found
-returns-then-from-name-clause-found c = end_found _ _ _ _ _ _ _ _ c.loop-at.invariant.tried (omega arith) (omega arith)
+pub returns-in-Some-clause-found : goal.returns-in-Some-clause-found
+returns-in-Some-clause-found c =
+    sym (rule_matches-compared c.args.pattern.now c.args.cased c.args.name.now
+    ∙ goes-decided _ _ _ _ _ c.attempt-front.ensures.goes
+    ∙ decided-answer _ _ _ _ c.in-Some.ensures)
 
-pub returns-then-not-starred-clause-found : goal.returns-then-not-starred-clause-found
-returns-then-not-starred-clause-found c = end_end _ _ _ _ _ _ _ _ c.loop-at.invariant.tried (omega arith) (omega arith) c.if-not-starred.true
+pub returns-in-Some-clause-least : goal.returns-in-Some-clause-least
+returns-in-Some-clause-least c =
+    let owed = goes-owed _ _ _ _ _ c.attempt-front.ensures.goes in
+    let least = owed-answer _ (elements (compared c.args.cased c.args.pattern.now)) (elements (compared c.args.cased c.attempt-front.result.behind.now)) _ c.in-Some.ensures in
+    omega arith
 
-pub loop-at-preserved-then-at-pattern : goal.loop-at-preserved-then-at-pattern
-loop-at-preserved-then-at-pattern c =
-    let more : c.loop-at.start * length c.args.pattern.now + length c.args.pattern.now ≤ (c.loop-at.start + (length c.args.name.now - c.loop-at.from)) * length c.args.pattern.now =
-    jumped (length c.args.pattern.now) c.loop-at.start (length c.args.name.now - c.loop-at.from) (omega arith) in
+pub loop-next-init : goal.loop-next-init
+loop-next-init c =
+    let star = star-unanswered _ c.in_default.ensures in
+    let goes = rw star at c.attempt-front.ensures.goes in
+    let start = c.attempt-front.result.passed in
+    let left = between_to_end c.args.name.now start (length c.args.name.now) (omega arith) in
+    let paid = simp zero-add at (star-paid (length c.args.pattern.now) (length c.args.name.now) 0 0 c.attempt-front.result.tests start
+    (length c.attempt-front.result.behind.now) (omega arith) (c.attempt-front.ensures.star star) (omega (arith, c.attempt-front.ensures.passed))) in
+    let owed = goes-owed Star start (elements (compared c.args.cased c.args.pattern.now)) (compared c.args.cased c.args.name.now)
+    (elements (compared c.args.cased c.attempt-front.result.behind.now)) goes in
     record {
-      in_pattern = omega arith;
-      in_name = omega arith;
-      in_order = omega arith;
-      behind = omega arith;
-      taken = omega arith;
-      tests = omega arith;
-      tried = end_step _ _ _ _ _ _ _ _ c.loop-at.invariant.tried (omega arith) (omega arith) c.if-not-starred.false (omega arith);
+      same = rule_matches-compared c.args.pattern.now c.args.cased c.args.name.now
+          ∙ goes-decided Star start _ _ (elements (compared c.args.cased c.attempt-front.result.behind.now)) goes
+          ∙ ap (matches (any_bytes ∷ elements (compared c.args.cased c.attempt-front.result.behind.now)))
+          (drop-map (compared_byte c.args.cased) start c.args.name.now ∙ ap (compared c.args.cased) (sym left));
+      spent = rw (left, length-drop start c.args.name.now) (omega arith);
+      owed = omega (arith, singles-length c.args.cased c.args.pattern.now);
     }
 
-pub loop-at-preserved-then-first-eq42 : goal.loop-at-preserved-then-first-eq42
-loop-at-preserved-then-first-eq42 c =
-    let more : c.loop-at.start * length c.args.pattern.now + (c.loop-at.from - c.loop-at.start) ≤ c.loop-at.from * length c.args.pattern.now =
-    paid (length c.args.pattern.now) c.loop-at.start c.loop-at.from (omega arith) (omega arith) in
-    record {
-      in_pattern = omega arith;
-      in_name = omega arith;
-      in_order = omega arith;
-      behind = omega arith;
-      taken = omega arith;
-      tests = omega arith;
-      tried = star_step _ _ _ _ _ _ _ _ c.loop-at.invariant.tried c.as_compared-first.result c.as_compared-first.ensures c.if-first-eq42.true (omega arith) (omega arith);
-    }
+pub returns-clause-found : goal.returns-clause-found
+returns-clause-found c =
+    sym (c.loop-next.invariant.same
+    ∙ matches-ending c.loop-next.behind.now c.args.cased c.loop-next.left.now (sym c.loop-next-test.ensures) _ c.compare_ending-last.ensures.found)
 
-pub returns-then-from-name-2-clause-found : goal.returns-then-from-name-2-clause-found
-returns-then-from-name-2-clause-found c =
-    over_end _ _ _ _ _ _ _ _ c.loop-at.invariant.tried c.as_compared-first.result c.as_compared-first.ensures c.if-first-eq42.false (omega arith) (omega arith) (omega arith)
-
-pub loop-at-preserved-in-Some : goal.loop-at-preserved-in-Some
-loop-at-preserved-in-Some c =
-    let within : c.in-Some.behind ≤ length (drop (c.loop-at.at + 1) c.args.pattern.now) =
-    rw (between_to_end c.args.pattern.now (c.loop-at.at + 1) (length c.args.pattern.now) (omega arith)) at c.in-Some.ensures.within in
-    record {
-      in_pattern = omega (arith, length-drop (c.loop-at.at + 1) c.args.pattern.now);
-      in_name = omega arith;
-      in_order = omega arith;
-      behind = omega arith;
-      taken = omega arith;
-      tests = omega arith;
-      tried = one_step _ _ _ _ _ _ _ _ c.loop-at.invariant.tried c.as_compared-first.result c.as_compared-first.ensures c.if-first-eq42.false (omega arith)
-          _ (sym (between_to_end c.args.pattern.now (c.loop-at.at + 1) (length c.args.pattern.now) (omega arith)))
-          c.as_compared-byte.result c.as_compared-byte.ensures (omega arith) c.in-Some.behind c.in-Some.ensures.answer (omega arith);
-    }
-
-pub returns-then-not-starred-2-clause-found : goal.returns-then-not-starred-2-clause-found
-returns-then-not-starred-2-clause-found c =
-    none_end _ _ _ _ _ _ _ _ c.loop-at.invariant.tried c.as_compared-first.result c.as_compared-first.ensures c.if-first-eq42.false (omega arith)
-    _ (sym (between_to_end c.args.pattern.now (c.loop-at.at + 1) (length c.args.pattern.now) (omega arith)))
-    c.as_compared-byte.result c.as_compared-byte.ensures (omega arith) c.in-None.ensures.answer c.if-not-starred-2.true
-
-pub loop-at-preserved : goal.loop-at-preserved
-loop-at-preserved c =
-    record {
-      in_pattern = omega arith;
-      in_name = omega arith;
-      in_order = omega arith;
-      behind = omega arith;
-      taken = omega arith;
-      tests = omega arith;
-      tried = none_step _ _ _ _ _ _ _ _ c.loop-at.invariant.tried c.as_compared-first.result c.as_compared-first.ensures c.if-first-eq42.false (omega arith)
-          _ (sym (between_to_end c.args.pattern.now (c.loop-at.at + 1) (length c.args.pattern.now) (omega arith)))
-          c.as_compared-byte.result c.as_compared-byte.ensures (omega arith) c.in-None.ensures.answer c.if-not-starred-2.false;
-    }
-
-pub returns-then-is_plain-clause-found : goal.returns-then-is_plain-clause-found
-returns-then-is_plain-clause-found c =
-    let rest : drop (c.loop-at.at + 1) c.args.pattern.now ≡ take (length c.args.pattern.now - (c.loop-at.at + 1)) (drop (c.loop-at.at + 1) c.args.pattern.now) =
-    sym (between_to_end c.args.pattern.now (c.loop-at.at + 1) (length c.args.pattern.now) (omega arith)) in
-    plain_end c.args.pattern.now c.args.cased c.args.name.now (c.loop-at.at + 1) c.loop-at.from
-    (star_step _ _ _ _ _ _ _ _ c.loop-at.invariant.tried c.as_compared-first.result c.as_compared-first.ensures c.if-first-eq42.true (omega arith) (omega arith))
-    _ rest (sym c.is_plain.ensures ∙ c.if-is_plain.true) (omega arith) c.search_end.result.found c.search_end.ensures.found
+pub returns-clause-least : goal.returns-clause-least
+returns-clause-least c =
+    let single = singles-plain c.args.cased c.loop-next.behind.now (sym c.loop-next-test.ensures) in
+    let least = least-last c.compare_ending-last.result.found (elements (compared c.args.cased c.args.pattern.now)) c.loop-next.tests
+    (length c.loop-next.behind.now) c.compare_ending-last.result.tests (rw single at c.loop-next.invariant.owed) c.compare_ending-last.ensures.least in
+    omega arith

@@ -1,18 +1,16 @@
-use Rattle.std.proofs.Common.{◌+◌, ◌*◌, ◌≤◌, length, ◌-◌}
+use Rattle.std.proofs.Common.{◌≡◌, ◌+◌, ◌*◌, ◌≤◌, ◌∷◌, length}
+use Rattle.mime_base.specs.Elements.{any_bytes, elements, singles}
 use Rattle.mime_base.specs.Folding.{compared}
-use Rattle.mime_base.proofs.Search.{Tried}
+use Rattle.mime_base.specs.Matches.{matches, rule_matches}
+use Rattle.mime_base.specs.Meter.{raised}
 use Rattle.mime_base.proofs.glob.search.Given as goal
 
-abbrev pub invariant-loop-at : goal.invariant-loop-at
-invariant-loop-at l = record {
-  in_pattern : l.at ≤ length l.pattern;
-  in_name : l.from ≤ length l.name;
-  in_order : l.start ≤ l.from;
-  behind : l.behind_star ≤ l.at;
-  taken : l.from - l.start ≤ l.at - l.behind_star;
-  tests : l.tests ≤ l.start * length l.pattern;
-  tried : Tried (compared l.cased l.pattern) (compared l.cased l.name) l.at l.from l.behind_star l.start l.starred;
+abbrev pub invariant-loop-next : goal.invariant-loop-next
+invariant-loop-next l = record {
+  same : rule_matches l.pattern l.cased l.name ≡ matches (any_bytes ∷ elements (compared l.cased l.behind)) (compared l.cased l.left);
+  spent : l.tests + length l.behind * (length l.left + 1) ≤ length l.pattern * (length l.name + 1);
+  owed : singles (elements (compared l.cased l.pattern)) ≤ raised l.tests (singles (elements (compared l.cased l.behind)));
 }
 
-abbrev pub decreases-loop-at : goal.decreases-loop-at
-decreases-loop-at l = (length l.name + 1 - l.start) * (length l.pattern + 1) + (length l.pattern - l.at)
+abbrev pub decreases-loop-next : goal.decreases-loop-next
+decreases-loop-next l = length l.behind

@@ -1,0 +1,28 @@
+use super::*;
+use std::test::Fail;
+
+#[test]
+fn keeps_the_best_in_their_order(rt: HostRuntime) -> Result<(), Fail> {
+    let weight_60 = rank_of(Class::Suffix, 60, 4, false);
+    let longer = rank_of(Class::Suffix, 50, 7, false);
+    let literal = rank_of(Class::Literal, 0, 1, false);
+    let cased = rank_of(Class::Literal, 0, 1, true);
+    let rows: [(&[(u32, u8)], &[u8]); 5] = [
+        (&[], &[]),
+        (&[(0, 1), (0, 2)], &[1, 2]),
+        (&[(longer, 1), (weight_60, 2), (longer, 3)], &[2]),
+        (&[(literal, 1), (weight_60, 2), (literal, 3)], &[1, 3]),
+        (
+            &[(literal, 1), (cased, 2), (literal, 3), (cased, 4)],
+            &[2, 4],
+        ),
+    ];
+    for (offers, want) in rows {
+        let mut best = Best::new(rt.alloc());
+        for (rank, item) in offers {
+            best.offer(*rank, *item)?;
+        }
+        assert_eq!(rt; best.into_items().as_slice(), want);
+    }
+    Ok(())
+}
