@@ -3,11 +3,12 @@ use Rattle.std.proofs.Common.{◌≡◌, ℕ, List, [], ◌++◌, Option, Some, 
 use Rattle.mime_base.specs.declared.rule.GlobRule.{GlobRule}
 use Rattle.mime_text.specs.Globs2.{is_bad_rule, rules_of}
 use Rattle.mime_text.specs.Lines.{skipped_of}
-use Rattle.mime_tool.specs.Plain.{IsLines, IsPlainBy, ReadsRules, Typed, all_ignored, lines_run, plain_run, said, silent}
-use Rattle.mime_tool.specs.Run.{Ends, IsCut, Run, Sinks, Writes, stopped_at}
+use Rattle.mime_tool.specs.Plain.{IsPlainBy, Typed, all_ignored, lines_run, plain_run, silent}
+use Rattle.mime_tool.specs.Run.{IsCut, Run, Sinks, Writes, stopped_at}
 use Rattle.mime_tool.specs.Sink.{Wrote, WroteFront}
 use Rattle.mime_tool.specs.declared.stop.Stop.{Stop}
 use Rattle.mime_tool.specs.declared.stop.Stop.TheVariants as stop
+use Rattle.mime_tool.specs.Steps.{Ends, IsLines, ReadsRules, said}
 use Rattle.mime_tool.proofs.Sinks.{front-append, front_longer, front_nothing, wrote-append, wrote_nothing, wrote_unknown}
 use Rattle.mime_tool.proofs.Runs.{lines_none, no_stop}
 

@@ -11,14 +11,15 @@ use Rattle.mime_request.proofs.OptionWords.{directories_first}
 use Rattle.mime_request.proofs.UsualWords.{meaning_of-usual, plain_of-one}
 use Rattle.mime_tool.specs.Files.{Stored}
 use Rattle.mime_tool.specs.Plain.{IsPlain, path_in, text_in}
-use Rattle.mime_tool.specs.Program.{Answers, Performs, Shows, ShowsBy, ShowsKind, ShowsOr, Tells, is_help}
-use Rattle.mime_tool.specs.Run.{Ends, Finishes, IsCut, Run, Sinks, cannot_read, out_of_memory, stopped_at}
+use Rattle.mime_tool.specs.Program.{Answers, Shows, ShowsBy, is_help}
+use Rattle.mime_tool.specs.Run.{Finishes, IsCut, Run, Sinks, cannot_read, out_of_memory, stopped_at}
 use Rattle.mime_tool.specs.Sink.{Takes, Wrote, WroteFront}
 use Rattle.mime_tool.specs.Stop.{stop_of}
 use Rattle.mime_tool.specs.declared.sink.SinkFault.{SinkFault}
 use Rattle.mime_tool.specs.declared.sink.SinkFault.TheVariants as fault
 use Rattle.mime_tool.specs.declared.stop.Stop.{Stop}
 use Rattle.mime_tool.specs.declared.stop.Stop.TheVariants as stop
+use Rattle.mime_tool.specs.Steps.{Ends, Performs, ShowsKind, ShowsOr, Tells}
 use Rattle.mime_tool.proofs.Plains.{plain_none}
 use Rattle.mime_tool.proofs.Runs.{cut_nothing}
 use Rattle.mime_tool.proofs.Sinks.{front-append, front_all, front_kept, wrote_kept, wrote_unknown}

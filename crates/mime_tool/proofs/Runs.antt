@@ -9,14 +9,15 @@ use Rattle.clap.specs.Walk.{texts}
 use Rattle.mime_base.specs.Choice.{Chooses}
 use Rattle.mime_base.specs.Subclass.{no_pairs}
 use Rattle.mime_base.specs.declared.rule.GlobRule.{GlobRule}
-use Rattle.mime_tool.specs.Plain.{AreTyped, IsLines, Typed, base_name, complaint, fits, lines_run, silent, too_long, type_line}
-use Rattle.mime_tool.specs.Run.{Ends, IsCut, Run, Sinks, Writes, stopped_at}
+use Rattle.mime_tool.specs.Plain.{AreTyped, Typed, base_name, complaint, fits, lines_run, silent, too_long, type_line}
+use Rattle.mime_tool.specs.Run.{IsCut, Run, Sinks, Writes, stopped_at}
 use Rattle.mime_tool.specs.Sink.{Takes, Wrote, WroteFront}
 use Rattle.mime_tool.specs.Stop.{stop_of}
 use Rattle.mime_tool.specs.declared.sink.SinkFault.{SinkFault}
 use Rattle.mime_tool.specs.declared.sink.SinkFault.TheVariants as fault
 use Rattle.mime_tool.specs.declared.stop.Stop.{Stop}
 use Rattle.mime_tool.specs.declared.stop.Stop.TheVariants as stop
+use Rattle.mime_tool.specs.Steps.{Ends, IsLines}
 use Rattle.mime_tool.proofs.Sinks.{front-append, front_longer, front_nothing, wrote-append, wrote_nothing, wrote_unknown}
 
 -- one run behind another

@@ -1,18 +1,13 @@
 -- What `plain` prints by the names alone.
-use Rattle.std.specs.Prelude.{◌≡◌, ◌==◌, ℕ, Bool, true, false, List, [], ◌++◌, Option, Some, None, Result, Ok, Err, Vec, All, codes, decimal, filter, map, nat_le, length, string_bytes, if◌then◌else◌}
-use Rattle.std.specs.declared.alloc.Global.{Global}
+use Rattle.std.specs.Prelude.{◌≡◌, ◌==◌, ℕ, Bool, List, [], ◌++◌, Option, Some, None, All, codes, decimal, filter, map, nat_le, length, if◌then◌else◌}
 use Rattle.std.specs.List.{after_last, flat_map, list_all}
 use Rattle.mime_base.specs.Choice.{Chooses}
 use Rattle.mime_base.specs.Subclass.{no_pairs}
 use Rattle.mime_base.specs.declared.rule.GlobRule.{GlobRule}
 use Rattle.mime_text.specs.Globs2.{is_bad_rule, rules_of}
 use Rattle.mime_text.specs.Lines.{skipped_of}
-use Rattle.mime_base.specs.declared.memory.OutOfMemory.{OutOfMemory as NoMemory}
 use Rattle.mime_tool.specs.Files.{Stored, bytes, nothing, unreadable}
 use Rattle.mime_tool.specs.Run.{Run, stopped_at}
-use Rattle.mime_tool.specs.Sink.{Wrote, WroteFront}
-use Rattle.mime_tool.specs.declared.stop.Stop.{Stop}
-use Rattle.mime_tool.specs.declared.stop.Stop.TheVariants.{CannotRead, CannotWrite, OutOfMemory}
 
 -- the name of a file: what stands behind its last slash (47)
 abbrev pub base_name : List ℕ → List ℕ
@@ -50,11 +45,6 @@ lines_run files typed = record {
   err = flat_map complaint files;
 }
 
--- the lines of these files by these rules
-abbrev pub IsLines : List GlobRule → List (List ℕ) → Run → Type 0
-IsLines rules files run =
-    (typed : List Typed) × AreTyped rules (filter fits files) typed × (run ≡ lines_run files typed)
-
 abbrev pub ignored : List ℕ → ℕ → List ℕ
 ignored path number = codes "mimelook: " ++ (path ++ (codes ": line " ++ (decimal number ++ codes " ignored\n")))
 
@@ -70,11 +60,6 @@ abbrev pub plain_run : List ℕ → List ℕ → List (List ℕ) → List Typed 
 plain_run text path files typed =
     let lines = lines_run files typed in
     record lines { err = all_ignored path text ++ lines.err }
-
--- the type of a file's name, or none where that name is too long
-abbrev pub IsKindOf : List GlobRule → List ℕ → Option (List ℕ) → Type 0
-IsKindOf rules file None = fits file ≡ false
-IsKindOf rules file (Some kind) = (fits file ≡ true) × Chooses no_pairs rules (base_name file) kind
 
 -- the text of a file: an empty one where there is no file, and none where it can't be read
 abbrev pub text_of : Stored → Option (List ℕ)
@@ -104,30 +89,3 @@ IsPlainBy (Some text) path files run =
 -- the run of `plain` for these files, where this is stored at each path
 abbrev pub IsPlain : (List ℕ → Stored) → Option (List ℕ) → List (List ℕ) → Run → Type 0
 IsPlain stored dir files run = IsPlainBy (text_in stored dir) (path_in dir) files run
-
--- the bytes are the text; or there is none, and the stop names the path
-abbrev pub Reads : Option (List ℕ) → List ℕ → Result (Vec ℕ Global) Stop → Type 0
-Reads text path (Ok v) = text ≡ Some v.items
-Reads text path (Err (CannotRead p)) = (text ≡ None) × (string_bytes p ≡ path)
-Reads text path (Err CannotWrite) = ⊥
-Reads text path (Err OutOfMemory) = Unit {0}
-
--- the rules are those of the text, whose lines that spell nothing are reported; or memory ran out
-abbrev pub ParsesRules : List ℕ → List ℕ → Option (List ℕ) → Option (List ℕ) → Result (Vec GlobRule Global) NoMemory → Type 0
-ParsesRules text path old new (Ok rules) =
-    (rules.items ≡ rules_of text) × Wrote old new (all_ignored path text)
-ParsesRules text path old new (Err _) = WroteFront old new (all_ignored path text)
-
--- what is said of the lines of a text, if there is one, that spell nothing
-abbrev pub said : Option (List ℕ) → List ℕ → List ℕ
-said None path = []
-said (Some text) path = all_ignored path text
-
--- the same of a text that may not be readable: then the stop names its path
-abbrev pub ReadsRules : Option (List ℕ) → List ℕ → Option (List ℕ) → Option (List ℕ) → Result (Vec GlobRule Global) Stop → Type 0
-ReadsRules text path old new (Ok rules) =
-    (bs : List ℕ) × (text ≡ Some bs) × (rules.items ≡ rules_of bs) × Wrote old new (said text path)
-ReadsRules text path old new (Err (CannotRead p)) =
-    (text ≡ None) × (string_bytes p ≡ path) × Wrote old new (said text path)
-ReadsRules text path old new (Err CannotWrite) = ⊥
-ReadsRules text path old new (Err OutOfMemory) = WroteFront old new (said text path)

@@ -1,8 +1,6 @@
 -- What a run of the program comes to.
-use Rattle.std.specs.Prelude.{◌≡◌, ◌⊎◌, ℕ, List, ◌++◌, Option, None, Result, Ok, Err, codes, string_bytes}
+use Rattle.std.specs.Prelude.{◌≡◌, ◌⊎◌, ℕ, List, ◌++◌, Option, codes}
 use Rattle.mime_tool.specs.Sink.{Wrote, WroteFront}
-use Rattle.mime_tool.specs.declared.stop.Stop.{Stop}
-use Rattle.mime_tool.specs.declared.stop.Stop.TheVariants.{CannotRead, CannotWrite, OutOfMemory}
 
 -- an exit status, and what is written on standard output and on standard error
 pub record Run : Type 0 where
@@ -28,8 +26,8 @@ out_of_memory = codes "mimelook: out of memory\n"
 abbrev pub stopped_at : List ℕ → Run → Run
 stopped_at path run = record { status = 3; out = run.out; err = run.err ++ cannot_read path }
 
--- memory ran out: a front was written of a run over a front of the files, where IsRun says what a run
--- over files is
+-- memory ran out: what was written is a front of a run over a front of the files; IsRun says what a
+-- run over files is
 pub record IsCut (IsRun : List (List ℕ) → Run → Type 0) (files : List (List ℕ)) (old new : Sinks) : Type 0 where
   pub front : List (List ℕ)
   pub rest : List (List ℕ)
@@ -39,23 +37,17 @@ pub record IsCut (IsRun : List (List ℕ) → Run → Type 0) (files : List (Lis
   pub out : WroteFront old.out new.out run.out
   pub err : WroteFront old.err new.err run.err
 
--- the run is done but for a last message, which its stop still owes
-abbrev pub Ends : (List (List ℕ) → Run → Type 0) → List (List ℕ) → Sinks → Sinks → Result ℕ Stop → Type 0
-Ends IsRun files old new (Ok status) =
-    (run : Run) × IsRun files run × (status ≡ run.status) × Writes old new run
-Ends IsRun files old new (Err (CannotRead path)) =
-    (run : Run) × IsRun files (stopped_at (string_bytes path) run) × Writes old new run
-Ends IsRun files old new (Err CannotWrite) = old.out ≡ None
-Ends IsRun files old new (Err OutOfMemory) = IsCut IsRun files old new
-
--- the sinks hold the bytes of the run, and the status is that of the run
+-- a run over the files: the status is its status, and its bytes are written
 abbrev pub IsDone : (List (List ℕ) → Run → Type 0) → List (List ℕ) → Sinks → Sinks → ℕ → Type 0
 IsDone IsRun files old new status =
     (run : Run) × IsRun files run × (status ≡ run.status) × Writes old new run
 
--- the run is done; or the status is 4, and what the sinks hold was cut short, but for a message or a
--- front of it
+-- the run was cut short, and behind it stands the message of that or a front of it
+abbrev pub IsCutAndSaid : (List (List ℕ) → Run → Type 0) → List (List ℕ) → Sinks → Sinks → Type 0
+IsCutAndSaid IsRun files old new =
+    (cut : Sinks) × IsCut IsRun files old cut × (new.out ≡ cut.out) × WroteFront cut.err new.err out_of_memory
+
+-- the run is done; or the status is 4, and it was cut short
 abbrev pub Finishes : (List (List ℕ) → Run → Type 0) → List (List ℕ) → Sinks → Sinks → ℕ → Type 0
 Finishes IsRun files old new status =
-    IsDone IsRun files old new status
-    ⊎ ((status ≡ 4) × ((cut : Sinks) × IsCut IsRun files old cut × (new.out ≡ cut.out) × WroteFront cut.err new.err out_of_memory))
+    IsDone IsRun files old new status ⊎ ((status ≡ 4) × IsCutAndSaid IsRun files old new)

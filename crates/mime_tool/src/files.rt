@@ -2,6 +2,7 @@
 
 ghost use Rattle.std.specs.Prelude.{◌≡◌, ℕ, List, Option, None, IfSome};
 ghost use Rattle.mime_tool.specs.Files.{Stored, Tells};
+ghost use Rattle.mime_tool.specs.declared.files.FileFault.TheVariants.{OutOfMemory};
 
 use std::alloc::{AllocError, Global};
 use thiserror::Error;
@@ -18,6 +19,8 @@ pub enum FileFault {
 }
 
 impl From<AllocError> for FileFault {
+    ghost from_gives = { λ _ fault. fault ≡ OutOfMemory };
+
     fn from(_error: AllocError) -> FileFault {
         FileFault::OutOfMemory
     }

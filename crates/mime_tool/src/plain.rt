@@ -3,10 +3,10 @@
 ghost use Rattle.std.specs.Prelude.{◌≡◌, IfOk, IfSome, [], ◌∷◌, option_map};
 ghost use Rattle.std.specs.List.{flat_map};
 ghost use Rattle.clap.specs.Walk.{texts};
-ghost use Rattle.mime_tool.specs.Plain.{IsKindOf, IsLines, IsPlain, ParsesRules, Reads, ReadsRules, base_name, globs_path, ignored, path_in, text_of, text_in, too_long, type_line};
-ghost use Rattle.mime_tool.specs.Run.{Ends};
+ghost use Rattle.mime_tool.specs.Plain.{IsPlain, base_name, globs_path, ignored, path_in, text_of, text_in, too_long, type_line};
 ghost use Rattle.mime_tool.specs.Sink.{Takes};
 ghost use Rattle.mime_tool.specs.Stop.{Says};
+ghost use Rattle.mime_tool.specs.Steps.{Ends, IsKindOf, IsLines, ParsesRules, Reads, ReadsRules};
 
 use crate::files::{FileFault, Files};
 use crate::sink::{Sink, SinkFault, put_all};

@@ -6,8 +6,9 @@ ghost use Rattle.clap.specs.Values.{kind_of};
 ghost use Rattle.mime_request.specs.Request.{asked, asks, meaning_of, parts};
 ghost use Rattle.mime_request.specs.Spelling.{AreUsual, plain_words};
 ghost use Rattle.mime_tool.specs.Plain.{IsPlain};
-ghost use Rattle.mime_tool.specs.Program.{Answers, Performs, ShowsKind, Tells};
+ghost use Rattle.mime_tool.specs.Program.{Answers};
 ghost use Rattle.mime_tool.specs.Run.{Finishes};
+ghost use Rattle.mime_tool.specs.Steps.{Performs, ShowsKind, Tells};
 
 use crate::files::Files;
 use crate::plain::print_types;

@@ -10,6 +10,8 @@ fn tells_missing_files_from_unreadable_ones(rt: HostRuntime) -> Result<(), Fail>
     let mut files = SystemFiles::new(&rt);
     let empty = files.whole(rt.alloc(), "/dev/null")?;
     assert!(rt; empty.is_some_and(|bytes| bytes.is_empty()));
+    let system = files.whole(rt.alloc(), "/proc/sys/kernel/ostype")?;
+    assert_eq!(rt; system.ok_or("no file")?.as_slice(), b"Linux\n".as_slice());
     let missing = files.whole(rt.alloc(), "/dev/no-such-file")?;
     assert!(rt; missing.is_none());
     for path in ["/", "/dev/null/below"] {

@@ -1,7 +1,6 @@
 use Rattle.std.proofs.Common.{Ok, take}
 use Rattle.clap.specs.Walk.{texts}
-use Rattle.mime_tool.specs.Run.{Ends}
-use Rattle.mime_tool.specs.Plain.{IsLines}
+use Rattle.mime_tool.specs.Steps.{Ends, IsLines}
 use Rattle.mime_tool.proofs.plain.print_lines.Given as goal
 
 abbrev pub invariant-loop-name : goal.invariant-loop-name
