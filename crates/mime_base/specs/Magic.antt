@@ -1,5 +1,5 @@
 -- Sections and lines of magic as plain values, and what magic can spell of them.
-use Rattle.std.specs.Prelude.{ℕ, zero, suc, ◌+◌, ◌%◌, Bool, true, false, ◌&&◌, ◌||◌, ◌==◌, nat_lt, nat_le, List, [], ◌∷◌, map, length, Option, Some, None}
+use Rattle.std.specs.Prelude.{ℕ, zero, suc, ◌+◌, ◌%◌, Bool, true, false, ◌&&◌, ◌||◌, ◌==◌, nat_lt, List, [], ◌∷◌, map, length, Option, Some, None}
 use Rattle.std.specs.List.{list_all}
 use Rattle.std.specs.Global.{Vec}
 use Rattle.mime_base.specs.declared.matchlet.Matchlet.{Matchlet}
@@ -14,6 +14,10 @@ pub record Own : Type 0 where
   pub word : ℕ
   pub value : List ℕ
   pub mask : Option (List ℕ)
+
+abbrev pub own_of : ℕ → ℕ → ℕ → List ℕ → Option (List ℕ) → Own
+own_of start range word value mask =
+    record { start = start; range = range; word = word; value = value; mask = mask }
 
 -- no line; or a first line, its children, and the lines behind it
 pub data Forest : Type 0 where
@@ -43,7 +47,7 @@ mask_bytes (Some mask) = Some mask.items
 -- a matchlet whose children are trees already
 abbrev pub tree_over : Matchlet-F Tree → Tree
 tree_over m = record {
-  own = record { start = m.start; range = m.range; word = m.word; value = m.value.items; mask = mask_bytes m.mask };
+  own = own_of m.start m.range m.word m.value.items (mask_bytes m.mask);
   children = forest_of m.children.items;
 }
 
@@ -54,7 +58,8 @@ abbrev pub trees : List Matchlet → List Tree
 trees matchlets = map tree matchlets
 
 abbrev pub plain_section : Section → PlainSection
-plain_section s = record { priority = s.priority; kind = s.kind; lines = forest_of (trees s.lines.items) }
+plain_section s =
+    record { priority = s.priority; kind = s.kind; lines = forest_of (trees s.lines.items) }
 
 abbrev pub plain_sections : List Section → List PlainSection
 plain_sections sections = map plain_section sections

@@ -13,7 +13,10 @@ use std::alloc::Global;
 pub fn fold(alloc: Global, bytes: &[u8]) -> Result<Vec<u8>, OutOfMemory>
     ensures { IfOk result (λ text. text.items ≡ map folded bytes.now) }
 {
-    let text = bytes.iter().map(|byte| fold_byte(*byte)).collect(alloc)?;
+    let mut text = Vec::with_capacity(alloc, bytes.len())?;
+    for byte in bytes {
+        text.push(fold_byte(*byte))?;
+    }
     Ok(text)
 }
 

@@ -3,9 +3,9 @@
 /// A line of `magic`, and the lines below it ("The magic files").
 ///
 /// It holds where the bytes at some offset of its range equal its value under its mask, and some
-/// child holds if it has any. What `magic` can spell has at most 64 levels, a word of 1, 2 or 4 that
-/// divides the length of the value, a value of at most 65,535 bytes, a mask of the value's length,
-/// and `start + range +` the value's length below 2^32; the definition `are_allowed` says so.
+/// child holds if it has any. What `magic` can spell has at most 64 levels, a word of 1, 2 or 4
+/// that divides the length of the value, a value of at most 65,535 bytes, a mask of the value's
+/// length, and `start + range +` that length below 2^32; the definition `are_allowed` says so.
 #[derive(Debug, Drop)]
 pub struct Matchlet {
     /// The first offset in the content that is tried, in bytes.

@@ -1,7 +1,7 @@
 -- What a text of magic says, section by section and line by line, as plain values.
 use Rattle.std.specs.Prelude.{ℕ, List, map, Option, Some, None}
 use Rattle.std.specs.Borrow.{Bor}
-use Rattle.mime_base.specs.Magic.{Own, mask_bytes}
+use Rattle.mime_base.specs.Magic.{Own, own_of, mask_bytes}
 use Rattle.mime_text.specs.declared.magic.line.RawLine.{RawLine}
 use Rattle.mime_text.specs.declared.magic.entry.Line.{Line}
 use Rattle.mime_text.specs.declared.magic.entry.Said.{Said}
@@ -27,15 +27,16 @@ pub record Part : Type 0 where
 
 -- ---- the values of the code
 
-abbrev pub slice_mask : Option (Bor (List ℕ)) → Option (List ℕ)
-slice_mask None = None
-slice_mask (Some mask) = Some mask.now
+-- what an optional slice points to
+abbrev pub slice_bytes : Option (Bor (List ℕ)) → Option (List ℕ)
+slice_bytes None = None
+slice_bytes (Some mask) = Some mask.now
 
 abbrev pub raw_own : RawLine → Own
-raw_own b = record { start = b.start; range = b.range; word = b.word; value = b.value.now; mask = slice_mask b.mask }
+raw_own b = own_of b.start b.range b.word b.value.now (slice_bytes b.mask)
 
 abbrev pub line_own : Line → Own
-line_own l = record { start = l.start; range = l.range; word = l.word; value = l.value.items; mask = mask_bytes l.mask }
+line_own l = own_of l.start l.range l.word l.value.items (mask_bytes l.mask)
 
 abbrev pub saying : Said → Saying
 saying (said.Kept line) = kept (line_own line)

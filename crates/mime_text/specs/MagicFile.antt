@@ -1,4 +1,4 @@
--- What is made of a text of magic: the sections that keep a line, and the types that a marker deletes.
+-- What a text of magic gives: the sections that keep a line, and the types that markers delete.
 use Rattle.std.specs.Prelude.{◌≡◌, ◌↔◌, ◌⊎◌, ℕ, List, [], ◌∷◌, Bool, true, false, if◌then◌else◌, Some, Result, Ok, Err, Contains}
 use Rattle.std.specs.List.{list_any}
 use Rattle.mime_base.specs.Magic.{Forest, bare, line, PlainSection, plain_sections}
@@ -40,7 +40,8 @@ deleted_kinds (p ∷ ps) = if holds_marker p then p.kind ∷ deleted_kinds ps el
 -- the file has the kept sections of these parts, and just the types that their markers delete
 pub record IsFileOf (parts : List Part) (file : code.MagicFile) : Type 0 where
   pub sections : plain_sections file.sections.items ≡ kept_sections parts
-  pub deleted : (kind : List ℕ) → Contains file.deleted.items kind ↔ Contains (deleted_kinds parts) kind
+  pub deleted : (kind : List ℕ) →
+      Contains file.deleted.items kind ↔ Contains (deleted_kinds parts) kind
 
 -- want of memory, or the first fault of the text
 abbrev pub IsFaultOf : List ℕ → MagicFault → Type 0

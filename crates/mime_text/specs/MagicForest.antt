@@ -35,13 +35,15 @@ tree_of marker children = None
 
 -- the children of an entry are the deeper tops directly behind it
 abbrev pub top_over : Item → List Top → Top
-top_over i ts = record { indent = i.indent; tree = tree_of i.says (forest_of (kept_trees (deeper i.indent ts))) }
+top_over i ts =
+    let children = forest_of (kept_trees (deeper i.indent ts)) in
+    record { indent = i.indent; tree = tree_of i.says children }
 
 unfoldable pub tops : List Item → List Top
 tops [] = []
 tops (i ∷ is) = top_over i (tops is) ∷ others i.indent (tops is)
 
--- the lines that are kept, with their children; what is below an ignored line or a marker is dropped with it
+-- the lines that are kept, with their children; what is below another entry is dropped with it
 unfoldable pub forest : List Item → Forest
 forest is = forest_of (kept_trees (tops is))
 

@@ -1,6 +1,6 @@
--- Reading a text of magic from front to back, up to the first fault. A fault carries how many bytes are left at its place.
+-- Reading a text of magic up to the first fault. A fault carries how many bytes are left at its place.
 use Rattle.std.specs.Prelude.{◌≡◌, ℕ, zero, suc, ◌+◌, ◌-◌, ◌*◌, Bool, ◌&&◌, ◌||◌, ◌==◌, nat_lt, nat_le, if◌then◌else◌, List, [], ◌∷◌, ◌++◌, codes, length, take, drop, slice_index_or, Option, Some, None, Result, Ok, Err}
-use Rattle.mime_base.specs.Magic.{Own, fits_word}
+use Rattle.mime_base.specs.Magic.{Own, own_of, fits_word}
 use Rattle.mime_base.specs.Names.{is_type_name}
 use Rattle.mime_text.specs.declared.magic.fault.Fault.{Fault}
 use Rattle.mime_text.specs.declared.magic.fault.Fault.TheVariants.{NoHeader, Truncated, BadSection, BadNumber, BadWord, BadIndent, TooDeep}
@@ -40,7 +40,7 @@ unfoldable pub digits_at : ℕ → List ℕ → ℕ × List ℕ
 digits_at n [] = (n, [])
 digits_at n (b ∷ bytes) = if is_digit b then digits_at (n * 10 + (b - 48)) bytes else (n, b ∷ bytes)
 
--- a number is judged at the first byte that is no digit; `here` is the fault of a missing or large one
+-- a number is judged at the byte behind it; `here` is the fault of a missing or large one
 unfoldable pub judged : Fault → ℕ → ℕ × List ℕ → Result (ℕ × List ℕ) Fault
 judged here size (n, []) = Err (Truncated 0)
 judged here size (n, b ∷ rest) =
@@ -72,7 +72,8 @@ start_at bytes = do
   Ok (n.0, rest)
 
 unfoldable pub bytes_at : ℕ → List ℕ → Result (List ℕ × List ℕ) Fault
-bytes_at n bytes = if nat_lt (length bytes) n then Err (Truncated 0) else Ok (take n bytes, drop n bytes)
+bytes_at n bytes =
+    if nat_lt (length bytes) n then Err (Truncated 0) else Ok (take n bytes, drop n bytes)
 
 -- two bytes of length, the higher first, and that many bytes
 unfoldable pub value_at : List ℕ → Result (List ℕ × List ℕ) Fault
@@ -114,16 +115,22 @@ body_at bytes = do
   mask ← mask_at (length value.0) value.1
   word ← word_at (length value.0) mask.1
   range ← range_at word.1
-  Ok (record { start = start.0; range = range.0; word = word.0; value = value.0; mask = mask.0 }, range.1)
+  Ok (own_of start.0 range.0 word.0 value.0 mask.0, range.1)
 
--- the newline, or what makes the line ignored; `left` bytes are left at the line's first byte
+-- behind the newline of a line; `left` bytes are left at its first byte
+abbrev pub kept_at : ℕ → Own → List ℕ → Result (Saying × List ℕ) Fault
+kept_at left own bytes =
+    if nat_le 4294967296 (own.start + own.range + length own.value) then Err (BadNumber left) else Ok (kept own, bytes)
+
+-- behind a byte that makes the line ignored
+abbrev pub ignored_at : List ℕ → Result (Saying × List ℕ) Fault
+ignored_at bytes = do
+  row ← row_at bytes
+  Ok (ignored, row.1)
+
 unfoldable pub end_at : ℕ → Own → List ℕ → Result (Saying × List ℕ) Fault
 end_at left own [] = Err (Truncated 0)
-end_at left own (b ∷ bytes) = if b == 10
-    then (if nat_le 4294967296 (own.start + own.range + length own.value) then Err (BadNumber left) else Ok (kept own, bytes))
-    else (do
-      row ← row_at bytes
-      Ok (ignored, row.1))
+end_at left own (b ∷ bytes) = if b == 10 then kept_at left own bytes else ignored_at bytes
 
 -- a line whose indent may be at most `limit`
 unfoldable pub line_at : ℕ → List ℕ → Result (Item × List ℕ) Fault
@@ -187,7 +194,8 @@ lines_at (suc room) limit (b ∷ bytes) = if starts_line b then (do
 unfoldable pub kind_of : Fault → List ℕ → Result (List ℕ) Fault
 kind_of wrong bytes =
     let name = take (length bytes - 1) bytes in
-    if (slice_index_or bytes (length bytes - 1) 0 == 93) && is_type_name name then Ok name else Err wrong
+    if (slice_index_or bytes (length bytes - 1) 0 == 93) && is_type_name name
+    then Ok name else Err wrong
 
 -- a head's row behind the `[`: priority, `:`, type name, `]`
 unfoldable pub head_of : Fault → List ℕ → Result (ℕ × List ℕ) Fault

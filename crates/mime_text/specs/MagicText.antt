@@ -59,7 +59,7 @@ pub record AreOptions (text : List ℕ) (own : Own) (b : ℕ) : Type 0 where
   pub range_is : IsOptional 43 range own.range
   pub ends : goes_on mask word range b ≡ false
 
--- from the start to the range, where the byte b comes next; the length has two bytes, the higher first
+-- from the start to the range, where the byte b comes next; a length has its high byte first
 pub record IsBody (text : List ℕ) (own : Own) (b : ℕ) : Type 0 where
   pub start : List ℕ
   pub high : ℕ
@@ -75,7 +75,8 @@ NoNewline bytes = AllByRecursion (λ b. b ≢ 10) bytes
 
 -- the end of a line, which begins with the byte b: a newline, or bytes that make the line ignored
 abbrev pub IsEnd : Own → ℕ → List ℕ → Saying → Type 0
-IsEnd own b text (kept line) = (line ≡ own) × (b ≡ 10) × (text ≡ []) × (own.start + own.range + length own.value < 4294967296)
+IsEnd own b text (kept line) =
+    (line ≡ own) × (b ≡ 10) × (text ≡ []) × (own.start + own.range + length own.value < 4294967296)
 IsEnd own b text ignored = (b ≢ 10) × ((junk : List ℕ) × (text ≡ junk ++ 10 ∷ []) × NoNewline junk)
 IsEnd own b text marker = ⊥
 
@@ -109,7 +110,8 @@ BeginsMarker text = (front : List ℕ) × (rest : List ℕ) × IsMarker front ×
 -- a marker, or a line that doesn't begin as one
 abbrev pub IsEntry : ℕ → List ℕ → Item → Type 0
 IsEntry limit text line =
-    (IsMarker text × (line ≡ record { indent = 0; says = marker })) ⊎ ((BeginsMarker text → ⊥) × IsLine limit text line)
+    (IsMarker text × (line ≡ record { indent = 0; says = marker }))
+    ⊎ ((BeginsMarker text → ⊥) × IsLine limit text line)
 
 -- ---- sections
 
@@ -117,7 +119,8 @@ IsEntry limit text line =
 abbrev pub AreLines : ℕ → List ℕ → List Item → Type 0
 AreLines limit text [] = text ≡ []
 AreLines limit text (line ∷ lines) =
-    (first : List ℕ) × (rest : List ℕ) × (text ≡ first ++ rest) × IsEntry limit first line × AreLines (line.indent + 1) rest lines
+    (first : List ℕ) × (rest : List ℕ) × (text ≡ first ++ rest)
+    × IsEntry limit first line × AreLines (line.indent + 1) rest lines
 
 -- `[priority:type]`, a newline, and lines of which the first has indent 0
 pub record IsSection (text : List ℕ) (section : Part) : Type 0 where
@@ -131,9 +134,11 @@ pub record IsSection (text : List ℕ) (section : Part) : Type 0 where
 abbrev pub AreSections : List ℕ → List Part → Type 0
 AreSections text [] = text ≡ []
 AreSections text (section ∷ sections) =
-    (first : List ℕ) × (rest : List ℕ) × (text ≡ first ++ rest) × IsSection first section × AreSections rest sections
+    (first : List ℕ) × (rest : List ℕ) × (text ≡ first ++ rest)
+    × IsSection first section × AreSections rest sections
 
 -- nothing, or the header and sections
 abbrev pub MagicText : List ℕ → List Part → Type 0
 MagicText text sections =
-    ((text ≡ []) × (sections ≡ [])) ⊎ ((rest : List ℕ) × (text ≡ header ++ rest) × AreSections rest sections)
+    ((text ≡ []) × (sections ≡ []))
+    ⊎ ((rest : List ℕ) × (text ≡ header ++ rest) × AreSections rest sections)

@@ -1,5 +1,5 @@
 -- From the run of a command to the run of the program.
-use Rattle.std.proofs.Common.{◌≡◌, ◌∙◌, ◌≤◌, ℕ, List, [], Bool, true, false, Option, Some, None, Result, Ok, Err, refl, sym, ap, append-nil, inl, inr, string_bytes, subst, is_some, length, slice_get}
+use Rattle.std.proofs.Common.{◌≡◌, ◌⊎◌, ◌∙◌, ◌≤◌, ℕ, List, [], Bool, true, false, Option, Some, None, Result, Ok, Err, refl, sym, ap, append-nil, inl, inr, string_bytes, subst, is_some, length, slice_get}
 use Rattle.clap.specs.Kinds.{IsAmong, Kinds}
 use Rattle.clap.specs.Values.{kind_of}
 use Rattle.clap.specs.declared.error.Error.{Error}
@@ -11,7 +11,7 @@ use Rattle.mime_request.proofs.OptionWords.{directories_first}
 use Rattle.mime_request.proofs.UsualWords.{meaning_of-usual, plain_of-one}
 use Rattle.mime_tool.specs.Files.{Stored}
 use Rattle.mime_tool.specs.Plain.{IsPlain, path_in, text_in}
-use Rattle.mime_tool.specs.Program.{Answers, Shows, ShowsBy, is_help}
+use Rattle.mime_tool.specs.Program.{Shows, ShowsBy, ShowsNoMistake, is_help}
 use Rattle.mime_tool.specs.Run.{Finishes, IsCut, Run, Sinks, cannot_read, out_of_memory, stopped_at}
 use Rattle.mime_tool.specs.Sink.{Takes, Wrote, WroteFront}
 use Rattle.mime_tool.specs.Stop.{stop_of}
@@ -22,7 +22,7 @@ use Rattle.mime_tool.specs.declared.stop.Stop.TheVariants as stop
 use Rattle.mime_tool.specs.Steps.{Ends, Performs, ShowsKind, ShowsOr, Tells}
 use Rattle.mime_tool.proofs.Plains.{plain_none}
 use Rattle.mime_tool.proofs.Runs.{cut_nothing}
-use Rattle.mime_tool.proofs.Sinks.{front-append, front_all, front_kept, wrote_kept, wrote_unknown}
+use Rattle.mime_tool.proofs.Sinks.{front-append, front_all, front_kept, wrote_kept, wrote_nothing, wrote_unknown}
 
 -- memory ran out before a request was known
 nothing_performed : (stored : List ℕ → Stored) (dir : Option (List ℕ)) (files : List (List ℕ)) (s : Sinks) → IsCut (IsPlain stored dir) files s s
@@ -31,10 +31,12 @@ nothing_performed stored dir files s =
     cut_nothing (IsPlain stored dir) files s none.0 none.1
 
 -- an error of a kind that the words have
-shows_among : (kinds : Kinds) (k : ErrorKind) (old new : Sinks) (r : Result ℕ Stop) → IsAmong k kinds → ShowsOr (ShowsBy (is_help k) old new) old r → ShowsOr (Shows kinds old new) old r
+shows_among : (kinds : Kinds) (k : ErrorKind) (old new : Sinks) (r : Result ℕ Stop) → IsAmong k kinds → ShowsOr (ShowsBy (is_help k) old new) (Wrote old.out new.out [] ⊎ (is_help k ≡ true)) old r
+    → ShowsOr (Shows kinds old new) (ShowsNoMistake kinds old new) old r
 shows_among kinds k old new (Ok status) among p = (k, among, p)
 shows_among kinds k old new (Err stop.CannotWrite) among p = p
-shows_among kinds k old new (Err stop.OutOfMemory) among p = tt
+shows_among kinds k old new (Err stop.OutOfMemory) among (inl p) = inl p
+shows_among kinds k old new (Err stop.OutOfMemory) among (inr help) = inr (k, among, help)
 shows_among kinds k old new (Err (stop.CannotRead path)) among p = p
 
 -- an error was shown
@@ -43,7 +45,8 @@ performs_error stored (asks (plain dir files)) e old new r means shows =
     let none = shows.memory means in
     rw (none.0, none.1) (nothing_performed stored dir files old)
 performs_error stored (refused kinds) e old new r (inl memory) shows =
-    rw (shows.memory memory).0 tt
+    let none = shows.memory memory in
+    rw (none.0, none.1) (inl (wrote_nothing old.out))
 performs_error stored (refused kinds) e old new r (inr among) shows = shows_among kinds (kind_of e) old new r among shows.shown
 
 -- ---- a flush
@@ -69,7 +72,8 @@ performs_kept stored (asks (plain dir files)) old mid o (Err stop.OutOfMemory) p
 performs_kept stored (refused kinds) old mid o (Ok status) p kept = (p.0, p.1, shows_kept (is_help p.0) old mid o status p.2 kept)
 performs_kept stored (refused kinds) old mid o (Err (stop.CannotRead path)) p kept = p
 performs_kept stored (refused kinds) old mid o (Err stop.CannotWrite) p kept = p
-performs_kept stored (refused kinds) old mid o (Err stop.OutOfMemory) p kept = tt
+performs_kept stored (refused kinds) old mid o (Err stop.OutOfMemory) (inl p) kept = inl (wrote_kept old.out mid.out o [] p kept)
+performs_kept stored (refused kinds) old mid o (Err stop.OutOfMemory) (inr help) kept = inr help
 
 -- a run is cut at its end
 cut_end : (IsRun : List (List ℕ) → Run → Type 0) (files : List (List ℕ)) (old new : Sinks) (run : Run) → IsRun files run → WroteFront old.out new.out run.out → WroteFront old.err new.err run.err → IsCut IsRun files old new
@@ -79,6 +83,11 @@ shown_unknown : (help : Bool) (old mid : Sinks) (status : ℕ) → ShowsBy help 
 shown_unknown true old mid status p none = wrote_unknown old.out mid.out p.1.0 p.1.1 none
 shown_unknown false old mid status p none = wrote_unknown old.out mid.out [] p.1 none
 
+shown_cut : (kinds : Kinds) (k : ErrorKind) (help : Bool) → help ≡ is_help k → (old mid : Sinks) (o : Option (List ℕ)) (status : ℕ) → IsAmong k kinds → ShowsBy help old mid status → Wrote mid.out o []
+    → ShowsNoMistake kinds old (record { out = o; err = mid.err })
+shown_cut kinds k true is old mid o status among p kept = inr (k, among, sym is)
+shown_cut kinds k false is old mid o status among p kept = inl (wrote_kept old.out mid.out o [] p.1 kept)
+
 -- the flush behind what was performed failed
 pub performs_unflushed : (stored : List ℕ → Stored) (m : Meaning) (old mid : Sinks) (o : Option (List ℕ)) (status : ℕ) (f : SinkFault) → Performs stored m old mid (Ok status) → Takes mid.out o (Err f) [] → Wrote mid.out o []
     → Performs stored m old (record { out = o; err = mid.err }) (Err (stop_of f))
@@ -86,7 +95,7 @@ performs_unflushed stored (asks (plain dir files)) old mid o status fault.Failed
 performs_unflushed stored (asks (plain dir files)) old mid o status fault.OutOfMemory p took kept =
     cut_end (IsPlain stored dir) files old (record { out = o; err = mid.err }) p.0 p.1 (front_all old.out o p.0.out (wrote_kept old.out mid.out o p.0.out p.3.0 kept)) (front_all old.err mid.err p.0.err p.3.1)
 performs_unflushed stored (refused kinds) old mid o status fault.Failed p took kept = shown_unknown (is_help p.0) old mid status p.2 took
-performs_unflushed stored (refused kinds) old mid o status fault.OutOfMemory p took kept = tt
+performs_unflushed stored (refused kinds) old mid o status fault.OutOfMemory p took kept = shown_cut kinds p.0 (is_help p.0) refl old mid o status p.1 p.2 kept
 
 -- ---- the last message
 

@@ -26,7 +26,13 @@ ShowsBy false old new status =
 abbrev pub Shows : Kinds → Sinks → Sinks → ℕ → Type 0
 Shows kinds old new status = (k : ErrorKind) × IsAmong k kinds × ShowsBy (is_help k) old new status
 
+-- memory ran out: nothing stands on standard output, unless help was asked for
+abbrev pub ShowsNoMistake : Kinds → Sinks → Sinks → Type 0
+ShowsNoMistake kinds old new =
+    Wrote old.out new.out [] ⊎ ((k : ErrorKind) × IsAmong k kinds × (is_help k ≡ true))
+
 -- the run that the words ask for, or help, or what is wrong with them; or memory ran out
 abbrev pub Answers : (List ℕ → Stored) → Meaning → Sinks → Sinks → ℕ → Type 0
 Answers stored (asks (plain dir files)) old new status = Finishes (IsPlain stored dir) files old new status
-Answers stored (refused kinds) old new status = Shows kinds old new status ⊎ (status ≡ 4)
+Answers stored (refused kinds) old new status =
+    Shows kinds old new status ⊎ ((status ≡ 4) × ShowsNoMistake kinds old new)

@@ -1,5 +1,5 @@
 -- What the parts of the program give, from which its run is put together.
-use Rattle.std.specs.Prelude.{◌≡◌, ℕ, Bool, true, false, List, [], Option, Some, None, Result, Ok, Err, Vec, filter, string_bytes}
+use Rattle.std.specs.Prelude.{◌≡◌, ◌⊎◌, ℕ, Bool, true, false, List, [], Option, Some, None, Result, Ok, Err, Vec, filter, string_bytes}
 use Rattle.std.specs.declared.alloc.Global.{Global}
 use Rattle.clap.specs.declared.error.kind.ErrorKind.{ErrorKind}
 use Rattle.clap.specs.declared.error.kind.ErrorKind.TheVariants as kind
@@ -11,7 +11,7 @@ use Rattle.mime_request.specs.Request.{Meaning, asks, plain, refused}
 use Rattle.mime_text.specs.Globs2.{rules_of}
 use Rattle.mime_tool.specs.Files.{Stored}
 use Rattle.mime_tool.specs.Plain.{AreTyped, IsPlain, Typed, all_ignored, base_name, fits, lines_run}
-use Rattle.mime_tool.specs.Program.{Shows, ShowsBy, is_help}
+use Rattle.mime_tool.specs.Program.{Shows, ShowsBy, ShowsNoMistake, is_help}
 use Rattle.mime_tool.specs.Run.{IsCut, IsDone, Run, Sinks, Writes, stopped_at}
 use Rattle.mime_tool.specs.Sink.{Wrote, WroteFront}
 use Rattle.mime_tool.specs.declared.stop.Stop.{Stop}
@@ -63,25 +63,26 @@ ReadsRules text path old new (Err CannotWrite) = ⊥
 ReadsRules text path old new (Err OutOfMemory) = WroteFront old new (said text path)
 
 -- help or an error is shown, before the status of a stop is chosen
-abbrev pub ShowsOr : (ℕ → Type 0) → Sinks → Result ℕ Stop → Type 0
-ShowsOr Shown old (Ok status) = Shown status
-ShowsOr Shown old (Err CannotWrite) = old.out ≡ None
-ShowsOr Shown old (Err OutOfMemory) = Unit {0}
-ShowsOr Shown old (Err (CannotRead _)) = ⊥
+abbrev pub ShowsOr : (ℕ → Type 0) → Type 0 → Sinks → Result ℕ Stop → Type 0
+ShowsOr Shown Cut old (Ok status) = Shown status
+ShowsOr Shown Cut old (Err CannotWrite) = old.out ≡ None
+ShowsOr Shown Cut old (Err OutOfMemory) = Cut
+ShowsOr Shown Cut old (Err (CannotRead _)) = ⊥
 
 -- what the words ask for is done, before the status of a stop is chosen
 abbrev pub Performs : (List ℕ → Stored) → Meaning → Sinks → Sinks → Result ℕ Stop → Type 0
 Performs stored (asks (plain dir files)) old new result = Ends (IsPlain stored dir) files old new result
-Performs stored (refused kinds) old new result = ShowsOr (Shows kinds old new) old result
+Performs stored (refused kinds) old new result =
+    ShowsOr (Shows kinds old new) (ShowsNoMistake kinds old new) old result
 
 -- the same when each stop but want of memory has been told, where standard output is known
 abbrev pub Tells : (List ℕ → Stored) → Meaning → Sinks → Sinks → Result ℕ NoMemory → Type 0
 Tells stored (asks (plain dir files)) old new (Ok status) = IsDone (IsPlain stored dir) files old new status
 Tells stored (asks (plain dir files)) old new (Err _) = IsCut (IsPlain stored dir) files old new
 Tells stored (refused kinds) old new (Ok status) = Shows kinds old new status
-Tells stored (refused kinds) old new (Err _) = Unit {0}
+Tells stored (refused kinds) old new (Err _) = ShowsNoMistake kinds old new
 
 -- an error of this kind is shown, unless it is want of memory
 pub record ShowsKind (k : ErrorKind) (old new : Sinks) (result : Result ℕ Stop) : Type 0 where
   pub memory : k ≡ kind.OutOfMemory → (result ≡ Err OutOfMemory) × (new ≡ old)
-  pub shown : ShowsOr (ShowsBy (is_help k) old new) old result
+  pub shown : ShowsOr (ShowsBy (is_help k) old new) (Wrote old.out new.out [] ⊎ (is_help k ≡ true)) old result

@@ -7,8 +7,8 @@ ghost use Rattle.mime_text.specs.declared.magic.fault.ReadError.TheVariants as e
 use std::alloc::{AllocError, AllocFailed};
 use thiserror::Error;
 
-/// Why [`read_magic`](crate::read_magic) refused a text: its first fault, with a byte offset from the
-/// front of the text.
+/// Why [`read_magic`](crate::read_magic) refused a text: its first fault, with a byte offset from
+/// the front of the text.
 #[derive(Clone, Copy, Debug, PartialEq, Eq, Error)]
 pub enum MagicFault {
     /// The text isn't empty and doesn't begin with `MIME-Magic`, a zero byte and a newline. At 0.
@@ -20,14 +20,15 @@ pub enum MagicFault {
     /// What begins here is neither a line nor the head of a section. At its first byte.
     #[error("magic bad section at {0}")]
     BadSection(u64),
-    /// A number is missing or above 4,294,967,295, or the start has no `=` behind it: at the number.
-    /// Or `start + range +` the length of the value is above that: at the line.
+    /// A number is missing or above 4,294,967,295, or the start has no `=` behind it: at the
+    /// number. Or `start + range +` the length of the value is above that: at the line.
     #[error("magic bad number at {0}")]
     BadNumber(u64),
     /// The word isn't 1, 2 or 4, or it doesn't divide the length of the value. At the number.
     #[error("magic bad word at {0}")]
     BadWord(u64),
-    /// The indent has no `>` behind it, or is more than one above that of the line before. At the line.
+    /// The indent has no `>` behind it, or is more than one above that of the line before, or is
+    /// not 0 on a section's first line. At the line.
     #[error("magic bad indent at {0}")]
     BadIndent(u64),
     /// The indent is 64. At the line.

@@ -1,8 +1,8 @@
 //! The lines of a section as a forest, by their indents.
 //!
-//! The entries are taken from the last to the first. A stack holds those that are no deeper than any
-//! before them so far, the nearest on top: an entry takes the deeper ones off it as its children. So
-//! each value is moved at most once a level, and nothing recurses.
+//! The entries are taken from the last to the first. A stack holds those of them that are no deeper
+//! than any before, the nearest on top, and an entry takes the deeper ones off it as its children.
+//! So each value is moved once, and nothing recurses.
 
 ghost use Rattle.std.specs.Prelude.{◌≡◌, ◌∷◌, [], IfOk, MatchOption, OnOk, nat_lt, true};
 ghost use Rattle.mime_base.specs.Magic.{forest_of, trees};
@@ -22,9 +22,10 @@ pub struct Root {
 
 /// The nearest root, if it is deeper.
 fn pop_deeper(roots: &mut Vec<Root>, indent: u32) -> Option<Root>
-    ensures { MatchOption result
-        ((deeper indent (stack roots.old.items) ≡ []) × (others indent (stack roots.old.items) ≡ stack roots.new.items))
-        (λ r. (stack roots.old.items ≡ top r ∷ stack roots.new.items) × (nat_lt indent r.indent ≡ true)) }
+    ensures { let old = stack roots.old.items in let new = stack roots.new.items in
+        MatchOption result
+        ((deeper indent old ≡ []) × (others indent old ≡ new))
+        (λ r. (old ≡ top r ∷ new) × (nat_lt indent r.indent ≡ true)) }
 {
     match roots.last() {
         Some(last) if last.indent > indent => roots.pop(),
@@ -38,7 +39,8 @@ fn take_deeper(
     roots: &mut Vec<Root>,
     indent: u32,
 ) -> Result<Vec<Matchlet>, AllocError>
-    ensures taken { IfOk result (λ v. trees v.items ≡ kept_trees (deeper indent (stack roots.old.items))) }
+    ensures taken { IfOk result (λ v.
+        trees v.items ≡ kept_trees (deeper indent (stack roots.old.items))) }
     ensures left { OnOk result (stack roots.new.items ≡ others indent (stack roots.old.items)) }
 {
     let mut children = Vec::new(alloc);

@@ -2,7 +2,7 @@
 
 ghost use Rattle.std.specs.Prelude.{◌≡◌, Ok};
 ghost use Rattle.mime_base.specs.Magic.{fits_word, mask_bytes};
-ghost use Rattle.mime_text.specs.MagicEntries.{raw_own, plain_item, line_own, saying, slice_mask};
+ghost use Rattle.mime_text.specs.MagicEntries.{raw_own, plain_item, line_own, saying, slice_bytes};
 ghost use Rattle.mime_text.specs.MagicReading.{Finds, Gives, body_at, bytes_at, end_at, indent_at, line_at, mask_at, range_at, row_at, start_at, value_at, word_at};
 
 use super::entry::{Entry, Line, Said};
@@ -84,7 +84,7 @@ fn value(bytes: &[u8]) -> Result<(&[u8], &[u8]), Fault>
 
 #[tactic(auto, unfolding(crate::specs::MagicReading::mask_at))]
 fn mask(bytes: &[u8], n: usize) -> Result<(Option<&[u8]>, &[u8]), Fault>
-    ensures { Finds (λ x. (slice_mask x.0, x.1.now)) result (mask_at n bytes.now) }
+    ensures { Finds (λ x. (slice_bytes x.0, x.1.now)) result (mask_at n bytes.now) }
 {
     match bytes {
         [b'&', rest @ ..] => {
@@ -148,7 +148,7 @@ fn body(bytes: &[u8]) -> Result<(RawLine<'_>, &[u8]), Fault>
 }
 
 fn copied_mask(alloc: Global, mask: Option<&[u8]>) -> Result<Option<Vec<u8>>, ReadError>
-    ensures { Gives mask_bytes result (Ok (slice_mask mask.entry)) }
+    ensures { Gives mask_bytes result (Ok (slice_bytes mask.entry)) }
 {
     match mask {
         Some(mask) => Ok(Some(Vec::from_slice(alloc, mask)?)),
@@ -179,7 +179,8 @@ fn said<'a>(
     body: RawLine<'a>,
     bytes: &'a [u8],
 ) -> Result<(Said, &'a [u8]), ReadError>
-    ensures { Gives (λ x. (saying x.0, x.1.now)) result (end_at left (raw_own body.entry) bytes.now) }
+    ensures { Gives (λ x. (saying x.0, x.1.now)) result
+        (end_at left (raw_own body.entry) bytes.now) }
 {
     match bytes {
         [] => Err(ReadError::Fault(Fault::Truncated(0))),

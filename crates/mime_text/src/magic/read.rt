@@ -97,7 +97,8 @@ fn file(alloc: Global, text: &[u8]) -> Result<MagicFile, ReadError>
 /// The first fault of the text, or [`MagicFault::OutOfMemory`] where a growth was refused.
 pub fn read_magic(alloc: Global, text: &[u8]) -> Result<MagicFile, MagicFault>
     // What is read is spelled so.
-    ensures found { IfOk result (λ file. (parts : List Part) × MagicText text.now parts × IsFileOf parts file) }
+    ensures found { IfOk result (λ file.
+        (parts : List Part) × MagicText text.now parts × IsFileOf parts file) }
     // What is spelled so is read, unless memory runs out.
     ensures only { (parts : List Part) → MagicText text.now parts →
         MatchResult result (λ file. IsFileOf parts file) (λ fault. fault ≡ MagicFault.OutOfMemory) }

@@ -1,7 +1,7 @@
 //! A section of `magic`: its head `[priority:type]`, its lines and deletion markers.
 
-ghost use Rattle.std.specs.Prelude.{◌≡◌, MatchOption, None, Some, length};
-ghost use Rattle.mime_text.specs.MagicEntries.{plain_item, plain_items, plain_part};
+ghost use Rattle.std.specs.Prelude.{◌≡◌, length};
+ghost use Rattle.mime_text.specs.MagicEntries.{plain_item, plain_items, plain_part, slice_bytes};
 ghost use Rattle.mime_text.specs.MagicReading.{Finds, Gives, behind, entry_at, head_at, head_of, kind_of, lines_at, marker_at, section_at, starts_line};
 
 use super::entry::{Entry, Said, Spelled};
@@ -13,7 +13,7 @@ use std::alloc::Global;
 
 /// What stands behind a front, where it is one.
 pub fn behind<'a>(front: &[u8], bytes: &'a [u8]) -> Option<&'a [u8]>
-    ensures { MatchOption result (behind front.now bytes.now ≡ None) (λ x. behind front.now bytes.now ≡ Some x.now) }
+    ensures { slice_bytes result ≡ behind front.now bytes.now }
 {
     bytes.strip_prefix(front)
 }
@@ -21,7 +21,7 @@ pub fn behind<'a>(front: &[u8], bytes: &'a [u8]) -> Option<&'a [u8]>
 /// What stands behind a deletion marker, where there is one.
 #[tactic(auto, unfolding(crate::specs::MagicReading::marker_at))]
 fn marker(bytes: &[u8]) -> Option<&[u8]>
-    ensures { MatchOption result (marker_at bytes.now ≡ None) (λ x. marker_at bytes.now ≡ Some x.now) }
+    ensures { slice_bytes result ≡ marker_at bytes.now }
 {
     if let Some(rest) = behind(b">0=__NOMAGIC__\n", bytes) {
         return Some(rest);
@@ -55,7 +55,8 @@ fn starts_line(b: u8) -> bool
 
 /// The lines of a section, up to a byte that starts none.
 fn lines(alloc: Global, bytes: &[u8]) -> Result<(Vec<Entry>, &[u8]), ReadError>
-    ensures { Gives (λ x. (plain_items x.0.items, x.1.now)) result (lines_at (length bytes.now) 0 bytes.now) }
+    ensures { Gives (λ x. (plain_items x.0.items, x.1.now)) result
+        (lines_at (length bytes.now) 0 bytes.now) }
 {
     let mut entries = Vec::new(alloc);
     let mut rest = bytes;

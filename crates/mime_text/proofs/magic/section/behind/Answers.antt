@@ -1,14 +1,15 @@
-use Rattle.std.proofs.Common.{◌≡◌, ℕ, List, ◌++◌, Option, Some, None, MatchOption, Bor}
+use Rattle.std.proofs.Common.{◌≡◌, ℕ, List, ◌++◌, Option, Some, None, MatchOption, Bor, sym}
 use Rattle.std.specs.Prelude.{◌≢◌}
 use Rattle.std.proofs.lemmas.Slice.Eq.{strip_prefix_is}
 use Rattle.std.proofs.lemmas.Bool.Decides.{Decides-eqb}
+use Rattle.mime_text.specs.MagicEntries.{slice_bytes}
 use Rattle.mime_text.specs.MagicReading.{behind}
 use Rattle.mime_text.proofs.MagicFronts.{behind_is}
 use Rattle.mime_text.proofs.magic.section.behind.Goals as goal
 
-seen : (p bytes : List ℕ) (o : Option (Bor (List ℕ))) → MatchOption o ((rest : List ℕ) → bytes ≢ p ++ rest) (λ x. bytes ≡ p ++ x.now) → MatchOption o (behind p bytes ≡ None) (λ x. behind p bytes ≡ Some x.now)
-seen p bytes None h = behind_is p bytes None h
-seen p bytes (Some x) h = behind_is p bytes (Some x.now) h
+seen : (p bytes : List ℕ) (o : Option (Bor (List ℕ))) → MatchOption o ((rest : List ℕ) → bytes ≢ p ++ rest) (λ x. bytes ≡ p ++ x.now) → slice_bytes o ≡ behind p bytes
+seen p bytes None h = sym (behind_is p bytes None h)
+seen p bytes (Some x) h = sym (behind_is p bytes (Some x.now) h)
 
 pub returns : goal.returns
 returns c = seen c.args.front.now c.args.bytes.now c.strip_prefix.result (strip_prefix_is Decides-eqb c.args.bytes.now c.args.front.now c.strip_prefix.result c.strip_prefix.ensures.cases)
