@@ -1,15 +1,15 @@
 -- From the rules of a directory and lines to a run of `plain`.
 use Rattle.std.proofs.Common.{◌≡◌, ℕ, List, [], ◌++◌, Option, Some, None, IfSome, Result, Ok, Err, refl, sym, ap, subst, string_bytes}
 use Rattle.mime_base.specs.declared.rule.GlobRule.{GlobRule}
-use Rattle.mime_text.specs.Globs2.{is_bad_rule, rules_of}
+use Rattle.mime_text.specs.Globs2.{rules_of}
 use Rattle.mime_text.specs.Lines.{skipped_of}
-use Rattle.mime_tool.specs.Plain.{IsPlainBy, Typed, all_ignored, lines_run, plain_run, silent}
-use Rattle.mime_tool.specs.Run.{IsCut, Run, Sinks, Writes, stopped_at}
+use Rattle.mime_tool.specs.Plain.{IsPlainBy, all_ignored, silent}
+use Rattle.mime_tool.specs.Run.{Run, stopped_at}
 use Rattle.mime_tool.specs.Sink.{Wrote, WroteFront}
 use Rattle.mime_tool.specs.declared.stop.Stop.{Stop}
 use Rattle.mime_tool.specs.declared.stop.Stop.TheVariants as stop
 use Rattle.mime_tool.specs.Steps.{Ends, IsLines, ReadsRules, said}
-use Rattle.mime_tool.proofs.Sinks.{front-append, front_longer, front_nothing, wrote-append, wrote_nothing, wrote_unknown}
+use Rattle.mime_tool.proofs.Sinks.{front-append, front_longer, front_nothing, wrote-append, wrote_nothing}
 use Rattle.mime_tool.proofs.Runs.{lines_none, no_stop}
 
 -- a run, behind what is said of ignored lines

@@ -1,5 +1,5 @@
 -- From the run of a command to the run of the program.
-use Rattle.std.proofs.Common.{◌≡◌, ◌⊎◌, ◌∙◌, ◌≤◌, ℕ, List, [], Bool, true, false, Option, Some, None, Result, Ok, Err, refl, sym, ap, append-nil, inl, inr, string_bytes, subst, is_some, length, slice_get}
+use Rattle.std.proofs.Common.{◌≡◌, ◌⊎◌, ◌∙◌, ◌≤◌, ℕ, List, [], Bool, true, false, Option, None, Result, Ok, Err, refl, sym, ap, append-nil, inl, inr, string_bytes, subst, length, slice_get}
 use Rattle.clap.specs.Kinds.{IsAmong, Kinds}
 use Rattle.clap.specs.Values.{kind_of}
 use Rattle.clap.specs.declared.error.Error.{Error}
@@ -19,7 +19,7 @@ use Rattle.mime_tool.specs.declared.sink.SinkFault.{SinkFault}
 use Rattle.mime_tool.specs.declared.sink.SinkFault.TheVariants as fault
 use Rattle.mime_tool.specs.declared.stop.Stop.{Stop}
 use Rattle.mime_tool.specs.declared.stop.Stop.TheVariants as stop
-use Rattle.mime_tool.specs.Steps.{Ends, Performs, ShowsKind, ShowsOr, Tells}
+use Rattle.mime_tool.specs.Steps.{Performs, ShowsKind, ShowsOr, Tells}
 use Rattle.mime_tool.proofs.Plains.{plain_none}
 use Rattle.mime_tool.proofs.Runs.{cut_nothing}
 use Rattle.mime_tool.proofs.Sinks.{front-append, front_all, front_kept, wrote_kept, wrote_nothing, wrote_unknown}

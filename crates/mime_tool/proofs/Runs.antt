@@ -1,6 +1,6 @@
 -- How the parts of a run add up.
-use Rattle.std.proofs.Common.{◌≡◌, ◌∙◌, ℕ, ◌+◌, ◌<◌, List, [], ◌∷◌, ◌++◌, Option, Some, None, Bool, true, false, ◌&&◌, if◌then◌else◌, Result, Ok, Err, refl, sym, ap, append-nil, append_assoc, max, filter, map, subst, string_bytes, Bor, length, take, drop, get_or, drop-cons, add-one}
-use Rattle.std.specs.List.{flat_map, list_all}
+use Rattle.std.proofs.Common.{◌≡◌, ◌∙◌, ℕ, ◌+◌, ◌<◌, List, [], ◌∷◌, ◌++◌, Option, Bool, true, false, ◌&&◌, if◌then◌else◌, Ok, Err, refl, sym, ap, append-nil, append_assoc, max, filter, map, subst, string_bytes, Bor, length, take, drop, get_or, drop-cons, add-one}
+use Rattle.std.specs.List.{list_all}
 use Rattle.std.proofs.lemmas.List.{map-append, take-append-drop, take_more}
 use Rattle.std.proofs.lemmas.List.Elements.{All-append, All-cons, All-nil, filter-append}
 use Rattle.std.proofs.lemmas.List.Folds.{list_all-append}
@@ -9,7 +9,7 @@ use Rattle.clap.specs.Walk.{texts}
 use Rattle.mime_base.specs.Choice.{Chooses}
 use Rattle.mime_base.specs.Subclass.{no_pairs}
 use Rattle.mime_base.specs.declared.rule.GlobRule.{GlobRule}
-use Rattle.mime_tool.specs.Plain.{AreTyped, Typed, base_name, complaint, fits, lines_run, silent, too_long, type_line}
+use Rattle.mime_tool.specs.Plain.{Typed, base_name, complaint, fits, lines_run, silent, too_long, type_line}
 use Rattle.mime_tool.specs.Run.{IsCut, Run, Sinks, Writes, stopped_at}
 use Rattle.mime_tool.specs.Sink.{Takes, Wrote, WroteFront}
 use Rattle.mime_tool.specs.Stop.{stop_of}
@@ -18,7 +18,7 @@ use Rattle.mime_tool.specs.declared.sink.SinkFault.TheVariants as fault
 use Rattle.mime_tool.specs.declared.stop.Stop.{Stop}
 use Rattle.mime_tool.specs.declared.stop.Stop.TheVariants as stop
 use Rattle.mime_tool.specs.Steps.{Ends, IsLines}
-use Rattle.mime_tool.proofs.Sinks.{front-append, front_longer, front_nothing, wrote-append, wrote_nothing, wrote_unknown}
+use Rattle.mime_tool.proofs.Sinks.{front-append, front_nothing, wrote-append, wrote_nothing, wrote_unknown}
 
 -- one run behind another
 abbrev pub joined : Run → Run → Run
