@@ -1,5 +1,5 @@
 -- Alias pairs, subclass pairs and the subclass rule. A type is its bytes.
-use Rattle.std.specs.Prelude.{◌≡◌, nat_eq, Bool, not, ◌&&◌, ◌||◌, if◌then◌else◌, IsTrue, ℕ, List, [], ◌∷◌, map, bytes_eq, Contains, codes}
+use Rattle.std.specs.Prelude.{nat_eq, Bool, not, ◌&&◌, ◌||◌, if◌then◌else◌, IsTrue, ℕ, List, [], ◌∷◌, map, bytes_eq, Contains, codes}
 use Rattle.std.specs.List.{starts_with}
 
 -- the alias pairs (alias, type) and the subclass pairs (type, parent), in merged order
