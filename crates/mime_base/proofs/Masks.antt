@@ -1,5 +1,5 @@
 -- Bytes under a mask, byte by byte.
-use Rattle.std.proofs.Common.{◌≡◌, ℕ, zero, suc, ◌+◌, ◌<◌, List, [], ◌∷◌, length, get_or, bit_and, refl, ap, ◌∙◌, arith}
+use Rattle.std.proofs.Common.{◌≡◌, ℕ, zero, suc, ◌<◌, List, [], ◌∷◌, length, get_or, bit_and, refl, ap, ◌∙◌, arith}
 use Rattle.mime_base.specs.Masking.{group_of, in_order, under_mask, mask_over, masked}
 use Rattle.mime_base.specs.Mirrored.{mirrored}
 use Rattle.mime_base.specs.declared.host.Host.{Host}

@@ -1,7 +1,7 @@
 -- Groups of bytes, reversed, byte by byte.
 use Rattle.std.proofs.Common.{◌≡◌, ℕ, zero, suc, ◌+◌, ◌-◌, ◌*◌, ◌%◌, ◌<◌, ◌==◌, ◌&&◌, Bool, true, false, cond, List, [], ◌∷◌, length, get_or, refl, ap, ◌∙◌, arith}
 use Rattle.std.proofs.lemmas.Bool.{eqb-true}
-use Rattle.mime_base.specs.Masking.{group_of, in_order, reversed_fours, reversed_groups, reversed_twos}
+use Rattle.mime_base.specs.Masking.{group_of, reversed_fours, reversed_groups, reversed_twos}
 use Rattle.mime_base.specs.Mirrored.{mirrored}
 use Rattle.mime_base.specs.declared.host.Host.{Host}
 use Rattle.mime_base.specs.declared.host.Host.TheVariants.{Little, Big}

@@ -1,14 +1,10 @@
 -- Texts that stand are read, and what is read stands.
-use Rattle.std.proofs.Common.{◌≡◌, ◌≢◌, ℕ, zero, suc, ◌+◌, ◌<◌, ◌≤◌, ◌==◌, ◌-◌, nat_eq, nat_lt, min, Bool, true, false, cond, List, [], ◌∷◌, ◌++◌, length, take, drop, Ordering, Result, Ok, Err, refl, sym, ap, ◌∙◌, arith, append_assoc, length-append, length-drop}
-use Rattle.std.proofs.lemmas.Bool.{eq-eqb, eqb-true, le-ltb, lt-ltb, ltb-false, ltb-true, ne_eqb}
+use Rattle.std.proofs.Common.{◌≡◌, ℕ, zero, suc, ◌+◌, ◌<◌, ◌==◌, ◌-◌, nat_lt, min, Bool, true, false, cond, List, [], ◌∷◌, ◌++◌, length, take, drop, Ok, Err, refl, sym, ap, ◌∙◌, arith, append_assoc, length-append, length-drop}
+use Rattle.std.proofs.lemmas.Bool.{eq-eqb, eqb-true, lt-ltb, ltb-true, ne_eqb}
 use Rattle.std.proofs.lemmas.List.{length-take, take-append-drop}
-use Rattle.std.proofs.lemmas.List.Sums.{common_prefix_len-le}
 use Rattle.mime_base.specs.Bytes.{Stands}
-use Rattle.mime_base.specs.Texts.{HasNoZero, IsText, before_zero, ended, front, order_at, order_in, shared, text_at, text_cost, text_in, unended}
-use Rattle.mime_base.specs.declared.byte_fault.ByteFault.{ByteFault}
-use Rattle.mime_base.specs.declared.byte_fault.ByteFault.TheVariants.{LongText, OutOfRange}
+use Rattle.mime_base.specs.Texts.{HasNoZero, IsText, before_zero, ended, front, text_at, text_cost, text_in, unended}
 use Rattle.mime_base.proofs.Standing.{Stands-dropped, Stands-more, drop-standing}
-use Rattle.mime_base.proofs.Zeros.{length-before_zero}
 
 -- what stands before a zero has none
 no_zero-before : (bytes : List ℕ) → HasNoZero (before_zero bytes)

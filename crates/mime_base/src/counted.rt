@@ -3,7 +3,7 @@
 //! That numbers are big-endian and texts end in a zero byte is the public specification's ("The
 //! mime.cache files"). The limit on texts, the counts and the faults are this project's own.
 
-ghost use Rattle.std.specs.Prelude.{◌≡◌, true, false, ℕ, ◌+◌, ◌*◌, ◌<◌, ◌≤◌, List, length, take, drop, min, Ok, Err, if◌then◌else◌, IfOk, IfErr, OnOk, OnErr, MatchOption, MatchResult};
+ghost use Rattle.std.specs.Prelude.{◌≡◌, true, false, ℕ, ◌+◌, ◌*◌, ◌<◌, ◌≤◌, List, length, take, min, Ok, Err, if◌then◌else◌, IfOk, IfErr, OnOk, OnErr, MatchOption, MatchResult};
 ghost use Rattle.std.specs.Ordering.{nat_cmp};
 ghost use Rattle.std.specs.Cmp.Lexicographic.{slice_cmp};
 ghost use Rattle.mime_base.specs.Bytes.{both_lie, fields, lies, optional_mask, value_at};
@@ -134,10 +134,11 @@ impl<'a> Counted<'a> {
 
     /// Whether the window equals the value of `size` bytes at `at`, both under the mask at `mask_at`.
     ///
-    /// An offset of 0 is no mask. On a little-endian host each group of `word` bytes of value and
-    /// mask is reversed first, if `word` is 2 or 4 and divides `size`. A value of no bytes needs no
-    /// place; of any other, first the value and then the mask is needed whole. It adds the window's
-    /// bytes up to and with the first that differs, else all; before a fault nothing.
+    /// A mask's offset of 0 is no mask. `size` and `word` are as [`Counted::cards`] gives them. On a
+    /// little-endian host each group of `word` bytes of value and mask is reversed first, if `word` is
+    /// 2 or 4 and divides `size`. A value of no bytes needs no place; of any other, first the value and
+    /// then the mask is needed whole. It adds the window's bytes up to and with the first that
+    /// differs, else all; before a fault nothing.
     pub fn value_equals(
         &self,
         at: u64,

@@ -1,7 +1,7 @@
 //! Windows of bytes against magic values, under a mask and in a host's order ("The magic files").
 
-ghost use Rattle.std.specs.Prelude.{◌≡◌, ◌+◌, ◌-◌, ◌*◌, ◌%◌, ◌^◌, ◌<◌, ◌≤◌, ◌==◌, ◌⊎◌, length, if◌then◌else◌, slice_index_or};
-ghost use Rattle.mime_base.specs.Masking.{equal_bytes, group_of, in_order, mask_over, reversed_groups, window_equals};
+ghost use Rattle.std.specs.Prelude.{◌≡◌, ◌+◌, ◌^◌, ◌<◌, ◌≤◌, ◌==◌, length, slice_index_or};
+ghost use Rattle.mime_base.specs.Masking.{equal_bytes, group_of, window_equals};
 ghost use Rattle.mime_base.specs.Mirrored.{mirrored};
 
 use crate::host::Host;
@@ -10,7 +10,6 @@ use crate::host::Host;
 ///
 /// On a little-endian host each group of `word` bytes of value and mask is reversed, if `word` is 2
 /// or 4 and divides the value. Past the mask's end all bits count.
-#[tactic(auto, unfolding(crate::specs::Masking::equal_bytes, crate::specs::Masking::window_equals))]
 pub fn equal_bytes(value: &[u8], mask: &[u8], word: u32, host: Host, window: &[u8]) -> usize
     requires { length window.now ≡ length value.now }
     ensures equal { result ≡ equal_bytes value.now mask.now word host window.now }

@@ -1,4 +1,4 @@
-use Rattle.std.proofs.Common.{nat_eq, arith}
+use Rattle.std.proofs.Common.{arith}
 use Rattle.std.proofs.lemmas.Bool.Decides.{nat_tests}
 use Rattle.mime_base.proofs.Prefixes.{common_prefix_len-self, equal_by_prefix}
 use Rattle.mime_base.proofs.comparing.same_name.Goals as goal

@@ -1,5 +1,3 @@
-use Rattle.std.proofs.Common.{List, ℕ}
-use Rattle.std.specs.Prelude.{Option, Some, None}
 use Rattle.mime_base.proofs.Zeros.{first_zero-is}
 use Rattle.mime_base.proofs.counted.first_zero.Goals as goal
 

@@ -1,4 +1,4 @@
-use Rattle.std.proofs.Common.{◌≡◌, ◌≤◌, length, arith, ◌∙◌, ap}
+use Rattle.std.proofs.Common.{◌≡◌, length, arith, ◌∙◌, ap}
 use Rattle.mime_base.specs.Mirrored.{mirrored}
 use Rattle.mime_base.proofs.Masks.{place}
 use Rattle.mime_base.proofs.Windows.{at_end, counted, goes_on, stops}

@@ -1,8 +1,8 @@
-use Rattle.std.proofs.Common.{◌≡◌, length, take, drop, refl, sym, ◌∙◌, arith}
+use Rattle.std.proofs.Common.{◌≡◌, length, drop, refl, sym, ◌∙◌, arith}
 use Rattle.std.proofs.Math.Bool.{or-true}
 use Rattle.std.proofs.lemmas.Bool.{eqb-true}
 use Rattle.std.proofs.lemmas.List.{length-take}
-use Rattle.mime_base.specs.Bytes.{both_lie, value_at}
+use Rattle.mime_base.specs.Bytes.{value_at}
 use Rattle.mime_base.proofs.Windows.{nothing_equals}
 use Rattle.mime_base.proofs.counted.Counted.value_equals.Goals as goal
 
