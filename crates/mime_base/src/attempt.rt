@@ -61,8 +61,8 @@ pub struct Reach<'a> {
 
 /// Lets elements take a byte each from the front of the name.
 pub fn attempt<'a>(pattern: &'a [u8], cased: bool, name: &[u8]) -> Reach<'a>
-    ensures goes { Goes result.stop result.passed (elements (compared cased pattern.now)) (compared cased name.now)
-        (elements (compared cased result.behind.now)) }
+    ensures goes { Goes result.stop result.passed (elements (compared cased pattern.now))
+        (compared cased name.now) (elements (compared cased result.behind.now)) }
     ensures passed { result.passed ≤ length name.now }
     ensures tests { result.tests ≡ result.passed + last_tests result.stop }
     ensures most { result.tests ≤ length pattern.now }

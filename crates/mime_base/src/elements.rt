@@ -15,7 +15,8 @@ use crate::folding::as_compared;
 /// compared.
 pub fn behind_admitting<'a>(first: u8, behind: &'a [u8], cased: bool, byte: u8) -> Option<&'a [u8]>
     ensures admits { is_some result ≡ admits (one_byte first (compared cased behind.now)) byte }
-    ensures behind { IfSome result (λ rest. rest.now ≡ drop (width_behind first (compared cased behind.now)) behind.now) }
+    ensures behind { IfSome result (λ rest. rest.now
+        ≡ drop (width_behind first (compared cased behind.now)) behind.now) }
 {
     match first {
         b'?' => Some(behind),

@@ -1,4 +1,5 @@
-//! Matching of a name against a pattern, with no memory ("The glob files").
+//! Matching of a name against a pattern ("The glob files" of the public specification), with no
+//! memory.
 //!
 //! A pattern's elements are tried from star to star. Behind a star the elements up to the next one
 //! are tried at each place of the name in turn; the first place where they go is as good as any
@@ -27,7 +28,8 @@ pub fn glob_matches(pattern: &[u8], cased: bool, name: &[u8], meter: &mut Meter)
     ensures answer { result ≡ rule_matches pattern.now cased name.now }
     ensures meaning { IsTrue result ↔ RuleMatches pattern.now cased name.now }
     ensures nodes { meter.new.nodes ≡ meter.old.nodes }
-    ensures least { raised meter.old.bytes (least_tests result (elements (compared cased pattern.now))) ≤ meter.new.bytes }
+    ensures least { raised meter.old.bytes (least_tests result (elements (compared cased pattern.now)))
+        ≤ meter.new.bytes }
     ensures rises { meter.old.bytes ≤ meter.new.bytes }
     ensures cost { meter.new.bytes ≤ meter.old.bytes + (length pattern.now + 1) * (length name.now + 1) }
 {
@@ -78,13 +80,16 @@ fn search(pattern: &[u8], cased: bool, name: &[u8]) -> Searched
 /// Tries elements, which stand behind a star, at each place of the name in turn until they go.
 fn slide<'a>(pattern: &'a [u8], cased: bool, name: &[u8]) -> Reach<'a>
     ensures decided { matches (any_bytes ∷ elements (compared cased pattern.now)) (compared cased name.now)
-        ≡ decided result.stop (elements (compared cased result.behind.now)) (compared cased (drop result.passed name.now)) }
+        ≡ decided result.stop (elements (compared cased result.behind.now))
+        (compared cased (drop result.passed name.now)) }
     ensures passed { result.passed ≤ length name.now }
     ensures shorter { result.stop ≡ Stop.Star → length result.behind.now < length pattern.now }
-    ensures least { owed result.stop (elements (compared cased pattern.now)) (elements (compared cased result.behind.now)) ≤ result.tests }
+    ensures least { owed result.stop (elements (compared cased pattern.now))
+        (elements (compared cased result.behind.now)) ≤ result.tests }
     ensures most { result.tests ≤ length pattern.now * (length name.now + 1) }
     ensures star { result.stop ≡ Stop.Star →
-        result.tests + length result.behind.now * (length name.now - result.passed + 1) ≤ length pattern.now * (length name.now + 1) }
+        result.tests + length result.behind.now * (length name.now - result.passed + 1)
+        ≤ length pattern.now * (length name.now + 1) }
 {
     let mut start = 0;
     let mut tests: u64 = 0;
