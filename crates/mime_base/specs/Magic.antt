@@ -15,6 +15,7 @@ pub record Own : Type 0 where
   pub value : List ℕ
   pub mask : Option (List ℕ)
 
+-- the same from its parts
 abbrev pub own_of : ℕ → ℕ → ℕ → List ℕ → Option (List ℕ) → Own
 own_of start range word value mask =
     record { start = start; range = range; word = word; value = value; mask = mask }
@@ -24,6 +25,7 @@ pub data Forest : Type 0 where
   bare : Forest
   line : Own → Forest → Forest → Forest
 
+-- a section with its lines as a forest
 pub record PlainSection : Type 0 where
   pub priority : ℕ
   pub kind : List ℕ
@@ -34,12 +36,14 @@ pub record Tree : Type 0 where
   pub own : Own
   pub children : Forest
 
+-- trees one behind another
 abbrev pub forest_of : List Tree → Forest
 forest_of [] = bare
 forest_of (tree ∷ trees) = line tree.own tree.children (forest_of trees)
 
 -- ---- the values of the code
 
+-- the bytes of a mask that is there
 abbrev pub mask_bytes : Option (Vec ℕ) → Option (List ℕ)
 mask_bytes None = None
 mask_bytes (Some mask) = Some mask.items
@@ -51,16 +55,20 @@ tree_over m = record {
   children = forest_of m.children.items;
 }
 
+-- a matchlet with its children
 abbrev pub tree : Matchlet → Tree
 tree = fold-Matchlet Tree tree_over
 
+-- matchlets one behind another
 abbrev pub trees : List Matchlet → List Tree
 trees matchlets = map tree matchlets
 
+-- a section of the code
 abbrev pub plain_section : Section → PlainSection
 plain_section s =
     record { priority = s.priority; kind = s.kind; lines = forest_of (trees s.lines.items) }
 
+-- sections of the code
 abbrev pub plain_sections : List Section → List PlainSection
 plain_sections sections = map plain_section sections
 
@@ -70,10 +78,12 @@ plain_sections sections = map plain_section sections
 abbrev pub fits_word : ℕ → ℕ → Bool
 fits_word word size = word == 1 || (word == 2 && size % 2 == 0) || (word == 4 && size % 4 == 0)
 
+-- a mask has as many bytes as the value
 abbrev pub fits_mask : Option (List ℕ) → ℕ → Bool
 fits_mask None size = true
 fits_mask (Some mask) size = length mask == size
 
+-- the sum is below 2 ^ 32, the value has at most 65,535 bytes, and word and mask fit it
 abbrev pub is_allowed : Own → Bool
 is_allowed own =
     nat_lt (own.start + own.range + length own.value) 4294967296 && nat_lt (length own.value) 65536

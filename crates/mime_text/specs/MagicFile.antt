@@ -11,6 +11,7 @@ use Rattle.mime_text.specs.MagicEntries.{Saying, kept, ignored, marker, Part}
 use Rattle.mime_text.specs.MagicReading.{Fails, magic_fault}
 use Rattle.mime_text.specs.MagicForest.{forest}
 
+-- a section with its lines as a forest
 abbrev pub with_forest : Part → PlainSection
 with_forest p = record { priority = p.priority; kind = p.kind; lines = forest p.items }
 
@@ -24,11 +25,13 @@ abbrev pub kept_sections : List Part → List PlainSection
 kept_sections [] = []
 kept_sections (p ∷ ps) = unless_bare (with_forest p) (forest p.items) (kept_sections ps)
 
+-- whether it is a deletion marker
 abbrev pub is_marker : Saying → Bool
 is_marker (kept own) = false
 is_marker ignored = false
 is_marker marker = true
 
+-- whether a section holds one
 abbrev pub holds_marker : Part → Bool
 holds_marker p = list_any (λ i. is_marker i.says) p.items
 
@@ -54,6 +57,7 @@ pub record IsFileOfRead (read : Result (List Part) Fault) (file : code.MagicFile
   pub sections : plain_sections file.sections.items ≡ kept_sections parts
   pub deleted : file.deleted.items ≡ deleted_kinds parts
 
+-- an error of the reader is the fault that reading gives, unless memory ran out
 abbrev pub FileGives : Result code.MagicFile ReadError → Result (List Part) Fault → Type 0
 FileGives (Ok file) read = IsFileOfRead read file
 FileGives (Err e) read = Fails e read

@@ -10,15 +10,17 @@ pub record Top : Type 0 where
   pub indent : ℕ
   pub tree : Option Tree
 
--- the tops in front that are deeper, and those from the first on that is not
+-- the tops in front that are deeper
 abbrev pub deeper : ℕ → List Top → List Top
 deeper d [] = []
 deeper d (t ∷ ts) = if nat_lt d t.indent then t ∷ deeper d ts else []
 
+-- what is left from the first top on that is not deeper
 abbrev pub others : ℕ → List Top → List Top
 others d [] = []
 others d (t ∷ ts) = if nat_lt d t.indent then others d ts else t ∷ ts
 
+-- a tree, if there is one, before others
 abbrev pub and_tree : Option Tree → List Tree → List Tree
 and_tree None trees = trees
 and_tree (Some t) trees = t ∷ trees
@@ -28,6 +30,7 @@ abbrev pub kept_trees : List Top → List Tree
 kept_trees [] = []
 kept_trees (t ∷ ts) = and_tree t.tree (kept_trees ts)
 
+-- a line that is kept stands over its children
 abbrev pub tree_of : Saying → Forest → Option Tree
 tree_of (kept own) children = Some (record { own = own; children = children })
 tree_of ignored children = None
@@ -39,6 +42,7 @@ top_over i ts =
     let children = forest_of (kept_trees (deeper i.indent ts)) in
     record { indent = i.indent; tree = tree_of i.says children }
 
+-- the entries that are no deeper than any before them, each with its tree
 unfoldable pub tops : List Item → List Top
 tops [] = []
 tops (i ∷ is) = top_over i (tops is) ∷ others i.indent (tops is)
@@ -49,11 +53,12 @@ forest is = forest_of (kept_trees (tops is))
 
 -- ---- the same in other words
 
--- the run of deeper entries behind an entry, and what is behind that run
+-- the run of deeper entries in front
 abbrev pub run : ℕ → List Item → List Item
 run d [] = []
 run d (i ∷ is) = if nat_lt d i.indent then i ∷ run d is else []
 
+-- what is behind that run
 abbrev pub behind_run : ℕ → List Item → List Item
 behind_run d [] = []
 behind_run d (i ∷ is) = if nat_lt d i.indent then behind_run d is else i ∷ is
@@ -72,10 +77,12 @@ pub record IsByRuns (f : List Item → Forest) : Type 0 where
 
 -- ---- the values of the code
 
+-- the tree of a matchlet that is there
 abbrev pub maybe_tree : Option Matchlet → Option Tree
 maybe_tree None = None
 maybe_tree (Some m) = Some (tree m)
 
+-- a root of the code
 abbrev pub top : Root → Top
 top r = record { indent = r.indent; tree = maybe_tree r.matchlet }
 

@@ -11,6 +11,7 @@ use Rattle.mime_text.specs.declared.magic.fault.ReadError.TheVariants as errors
 use Rattle.mime_text.specs.MagicEntries.{Saying, kept, ignored, marker, Item, Part}
 
 infixl 10 ◌>>=◌
+-- the second step reads on where the first went well
 abbrev pub ◌>>=◌ : {A B : Type 0} → Result A Fault → (A → Result B Fault) → Result B Fault
 (Ok x) >>= f = f x
 (Err e) >>= f = Err e
@@ -32,6 +33,7 @@ Finds view (Err f) read = read ≡ Err f
 
 -- ---- numbers
 
+-- 0 to 9
 abbrev pub is_digit : ℕ → Bool
 is_digit b = nat_le 48 b && nat_le b 57
 
@@ -46,6 +48,7 @@ judged here size (n, []) = Err (Truncated 0)
 judged here size (n, b ∷ rest) =
     if (length (b ∷ rest) == size) || nat_le 4294967296 n then Err here else Ok (n, b ∷ rest)
 
+-- one or more digits, with a value below 2 ^ 32
 unfoldable pub number_at : List ℕ → Result (ℕ × List ℕ) Fault
 number_at bytes = judged (BadNumber (length bytes)) (length bytes) (digits_at 0 bytes)
 
@@ -71,6 +74,7 @@ start_at bytes = do
   rest ← byte_at 61 (BadNumber (length bytes)) n.1
   Ok (n.0, rest)
 
+-- so many bytes
 unfoldable pub bytes_at : ℕ → List ℕ → Result (List ℕ × List ℕ) Fault
 bytes_at n bytes =
     if nat_lt (length bytes) n then Err (Truncated 0) else Ok (take n bytes, drop n bytes)
@@ -128,6 +132,7 @@ ignored_at bytes = do
   row ← row_at bytes
   Ok (ignored, row.1)
 
+-- a newline, or another byte
 unfoldable pub end_at : ℕ → Own → List ℕ → Result (Saying × List ℕ) Fault
 end_at left own [] = Err (Truncated 0)
 end_at left own (b ∷ bytes) = if b == 10 then kept_at left own bytes else ignored_at bytes
@@ -144,9 +149,11 @@ line_at limit bytes = do
 
 -- ---- markers
 
+-- `>0=__NOMAGIC__`, newline
 abbrev pub plain : List ℕ
 plain = codes ">0=__NOMAGIC__" ++ 10 ∷ []
 
+-- `>0__NOMAGIC__`, newline
 abbrev pub short : List ℕ
 short = codes ">0__NOMAGIC__" ++ 10 ∷ []
 
@@ -160,6 +167,7 @@ behind [] bytes = Some bytes
 behind (p ∷ ps) [] = None
 behind (p ∷ ps) (b ∷ bytes) = if b == p then behind ps bytes else None
 
+-- the first that there is
 abbrev pub or_else : Option (List ℕ) → Option (List ℕ) → Option (List ℕ)
 or_else (Some rest) other = Some rest
 or_else None other = other
@@ -168,6 +176,7 @@ or_else None other = other
 unfoldable pub marker_at : List ℕ → Option (List ℕ)
 marker_at bytes = or_else (behind plain bytes) (or_else (behind short bytes) (behind sized bytes))
 
+-- a marker, or else a line
 abbrev pub marked : Option (List ℕ) → Result (Item × List ℕ) Fault → Result (Item × List ℕ) Fault
 marked (Some rest) line = Ok (record { indent = 0; says = marker }, rest)
 marked None line = line
@@ -178,6 +187,7 @@ entry_at limit bytes = marked (marker_at bytes) (line_at limit bytes)
 
 -- ---- sections
 
+-- `>` or a digit
 abbrev pub starts_line : ℕ → Bool
 starts_line b = (b == 62) || is_digit b
 
@@ -205,6 +215,7 @@ head_of wrong row = do
   kind ← kind_of wrong rest
   Ok (priority.0, kind)
 
+-- another fault in place of any
 abbrev pub instead : {A : Type 0} → Fault → Result A Fault → Result A Fault
 instead wrong (Ok x) = Ok x
 instead wrong (Err e) = Err wrong
@@ -217,12 +228,14 @@ head_at (b ∷ bytes) = if b == 91 then (do
   head ← instead (BadSection (length (b ∷ bytes))) (head_of (BadSection (length (b ∷ bytes))) row.0)
   Ok (head, row.1)) else Err (BadSection (length (b ∷ bytes)))
 
+-- a head and its lines
 unfoldable pub section_at : List ℕ → Result (Part × List ℕ) Fault
 section_at bytes = do
   head ← head_at bytes
   lines ← lines_at (length head.1) 0 head.1
   Ok (record { priority = head.0.0; kind = head.0.1; items = lines.0 }, lines.1)
 
+-- sections to the end; each takes a byte, so `room` is the length of the bytes
 unfoldable pub sections_at : ℕ → List ℕ → Result (List Part) Fault
 sections_at zero bytes = Ok []
 sections_at (suc room) [] = Ok []
@@ -233,13 +246,16 @@ sections_at (suc room) (b ∷ bytes) = do
 
 -- ---- the whole
 
+-- `MIME-Magic`, a zero byte, newline
 abbrev pub header : List ℕ
 header = codes "MIME-Magic" ++ 0 ∷ 10 ∷ []
 
+-- the sections behind the header
 abbrev pub below_header : ℕ → Option (List ℕ) → Result (List Part) Fault
 below_header size None = Err (NoHeader size)
 below_header size (Some rest) = sections_at (length rest) rest
 
+-- nothing, or the header and sections
 unfoldable pub whole : List ℕ → Result (List Part) Fault
 whole [] = Ok []
 whole (b ∷ bytes) = below_header (length (b ∷ bytes)) (behind header (b ∷ bytes))
@@ -256,10 +272,12 @@ placed size (BadWord left) = faults.BadWord (size - left)
 placed size (BadIndent left) = faults.BadIndent (size - left)
 placed size (TooDeep left) = faults.TooDeep (size - left)
 
+-- the same for an error of a reader
 abbrev pub placed_error : ℕ → ReadError → MagicFault
 placed_error size errors.OutOfMemory = faults.OutOfMemory
 placed_error size (errors.Fault fault) = placed size fault
 
+-- the fault of what was read, in a text of so many bytes
 abbrev pub fault_in : {A : Type 0} → ℕ → Result A Fault → Option MagicFault
 fault_in size (Ok x) = None
 fault_in size (Err fault) = Some (placed size fault)

@@ -25,6 +25,7 @@ section lines = header ++ codes "[50:t/a]" ++ 10 ∷ lines
 abbrev line_c : List ℕ
 line_c = codes ">0=" ++ 0 ∷ 1 ∷ codes "c" ++ 10 ∷ []
 
+-- the one section that keeps it
 abbrev only_c : List PlainSection
 only_c = record {
   priority = 50;
@@ -34,10 +35,12 @@ only_c = record {
 
 -- ---- faults
 
+-- no bytes at all
 no_bytes : file_of [] ≡ Ok ([], [])
 unfolding computing
 no_bytes = refl
 
+-- the four bytes `MIME`
 no_header : magic_fault (codes "MIME") ≡ Some (NoHeader 0)
 unfolding computing
 no_header = refl
@@ -82,6 +85,7 @@ abbrev levels : ℕ → ℕ → List ℕ
 levels n zero = []
 levels n (suc more) = (48 + n / 10) ∷ (48 + n % 10) ∷ codes ">0=" ++ 0 ∷ 1 ∷ codes "a" ++ 10 ∷ levels (n + 1) more
 
+-- the indents 0 to 63
 sixty_four_levels : magic_fault (section (levels 0 64)) ≡ None
 unfolding computing
 sixty_four_levels = refl
@@ -93,6 +97,7 @@ sixty_five_levels = refl
 
 -- ---- markers and ignored lines
 
+-- a section without lines
 nothing : file_of (section []) ≡ Ok ([], [])
 unfolding computing
 nothing = refl

@@ -13,6 +13,7 @@ abbrev pub value_of : ℕ → List ℕ → ℕ
 value_of n [] = n
 value_of n (d ∷ digits) = value_of (n * 10 + (d - 48)) digits
 
+-- each byte is a digit
 abbrev pub AreDigits : List ℕ → Type 0
 AreDigits text = AllByRecursion (λ b. is_digit b ≡ true) text
 
@@ -70,6 +71,7 @@ pub record IsBody (text : List ℕ) (own : Own) (b : ℕ) : Type 0 where
   pub size : length own.value ≡ 256 * high + low
   pub options_are : AreOptions options own b
 
+-- no byte is a newline
 abbrev pub NoNewline : List ℕ → Type 0
 NoNewline bytes = AllByRecursion (λ b. b ≢ 10) bytes
 
@@ -100,6 +102,7 @@ pub record IsLine (limit : ℕ) (text : List ℕ) (line : Item) : Type 0 where
   pub shallow : line.indent < 64
   pub rest_is : IsRest rest line.says
 
+-- one of the three spellings of a marker
 abbrev pub IsMarker : List ℕ → Type 0
 IsMarker text = (text ≡ plain) ⊎ ((text ≡ short) ⊎ (text ≡ sized))
 
@@ -131,6 +134,7 @@ pub record IsSection (text : List ℕ) (section : Part) : Type 0 where
   pub kind_is : is_type_name section.kind ≡ true
   pub lines_are : AreLines 0 lines section.items
 
+-- sections one behind another
 abbrev pub AreSections : List ℕ → List Part → Type 0
 AreSections text [] = text ≡ []
 AreSections text (section ∷ sections) =

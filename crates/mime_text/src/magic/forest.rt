@@ -2,7 +2,7 @@
 //!
 //! The entries are taken from the last to the first. A stack holds those of them that are no deeper
 //! than any before, the nearest on top, and an entry takes the deeper ones off it as its children.
-//! So each value is moved once, and nothing recurses.
+//! So the work is linear, no byte is copied, and nothing recurses.
 
 ghost use Rattle.std.specs.Prelude.{◌≡◌, ◌∷◌, [], IfOk, MatchOption, OnOk, nat_lt, true};
 ghost use Rattle.mime_base.specs.Magic.{forest_of, trees};
