@@ -1,5 +1,5 @@
 -- From the run of a command to the run of the program.
-use Rattle.std.proofs.Common.{◌≡◌, ◌⊎◌, ◌∙◌, ◌≤◌, ℕ, List, [], Bool, true, false, Option, None, Result, Ok, Err, refl, sym, ap, append-nil, inl, inr, string_bytes, subst, length, slice_get}
+use Rattle.std.proofs.Common.{◌≡◌, ◌⊎◌, ◌∙◌, ◌≤◌, ℕ, List, [], Bool, true, false, Option, Some, None, Result, Ok, Err, refl, sym, ap, append-nil, inl, inr, string_bytes, subst, length, slice_get, is_some}
 use Rattle.clap.specs.Kinds.{IsAmong, Kinds}
 use Rattle.clap.specs.Values.{kind_of}
 use Rattle.clap.specs.declared.error.Error.{Error}
@@ -14,7 +14,7 @@ use Rattle.mime_tool.specs.Plain.{IsPlain, path_in, text_in}
 use Rattle.mime_tool.specs.Program.{Shows, ShowsBy, ShowsNoMistake, is_help}
 use Rattle.mime_tool.specs.Run.{Finishes, IsCut, Run, Sinks, cannot_read, out_of_memory, stopped_at}
 use Rattle.mime_tool.specs.Sink.{Takes, Wrote, WroteFront}
-use Rattle.mime_tool.specs.Stop.{stop_of}
+use Rattle.mime_tool.specs.Stop.{TellsStop, stop_of}
 use Rattle.mime_tool.specs.declared.sink.SinkFault.{SinkFault}
 use Rattle.mime_tool.specs.declared.sink.SinkFault.TheVariants as fault
 use Rattle.mime_tool.specs.declared.stop.Stop.{Stop}
@@ -22,7 +22,7 @@ use Rattle.mime_tool.specs.declared.stop.Stop.TheVariants as stop
 use Rattle.mime_tool.specs.Steps.{Performs, ShowsKind, ShowsOr, Tells}
 use Rattle.mime_tool.proofs.Plains.{plain_none}
 use Rattle.mime_tool.proofs.Runs.{cut_nothing}
-use Rattle.mime_tool.proofs.Sinks.{front-append, front_all, front_kept, wrote_kept, wrote_nothing, wrote_unknown}
+use Rattle.mime_tool.proofs.Sinks.{front-append, front_all, front_kept, wrote-append, wrote_empty, wrote_kept, wrote_nothing, wrote_unknown}
 
 -- memory ran out before a request was known
 nothing_performed : (stored : List ℕ → Stored) (dir : Option (List ℕ)) (files : List (List ℕ)) (s : Sinks) → IsCut (IsPlain stored dir) files s s
@@ -99,12 +99,39 @@ performs_unflushed stored (refused kinds) old mid o status fault.OutOfMemory p t
 
 -- ---- the last message
 
--- memory ran out while the path was named
-pub tells_unsaid : (stored : List ℕ → Stored) (m : Meaning) (old mid : Sinks) (e : Option (List ℕ)) (path : _) (n : NoMemory) → Performs stored m old mid (Err (stop.CannotRead path)) → WroteFront mid.err e (cannot_read (string_bytes path))
-    → Tells stored m old (record { out = mid.out; err = e }) (Err n)
-tells_unsaid stored (asks (plain dir files)) old mid e path n p said =
-    cut_end (IsPlain stored dir) files old (record { out = mid.out; err = e }) (stopped_at (string_bytes path) p.0) p.1 (front_all old.out mid.out p.0.out p.2.0) (front-append old.err mid.err e p.0.err (cannot_read (string_bytes path)) p.2.1 said)
-tells_unsaid stored (refused kinds) old mid e path n p said = absurd p
+-- only a sink that isn't known fails to write
+performs_unknown : (stored : List ℕ → Stored) (m : Meaning) (old mid : Sinks) → Performs stored m old mid (Err stop.CannotWrite) → old.out ≡ None
+performs_unknown stored (asks (plain dir files)) old mid p = p
+performs_unknown stored (refused kinds) old mid p = p
+
+unknown_known : (o : Option (List ℕ)) → o ≡ None → is_some o ≡ true → ⊥
+unknown_known None is known = let bad : false ≡ true = known in cc
+unknown_known (Some xs) is known = cc
+
+-- a front of nothing is nothing
+front_empty : (a b c : Option (List ℕ)) (x : List ℕ) → WroteFront a b x → WroteFront b c [] → WroteFront a c x
+front_empty a b c x p q = front_kept a b c x p (wrote_empty b c q)
+
+-- a stop was told
+pub tells_stop : (stored : List ℕ → Stored) (m : Meaning) (old mid : Sinks) (e : Option (List ℕ)) (s : Stop) (r : Result ℕ NoMemory) → Performs stored m old mid (Err s) → TellsStop s mid.err e r → is_some old.out ≡ true
+    → Tells stored m old (record { out = mid.out; err = e }) r
+tells_stop stored (asks (plain dir files)) old mid e (stop.CannotRead path) (Ok status) p told known =
+    (stopped_at (string_bytes path) p.0, p.1, told.0, (p.2.0, wrote-append old.err mid.err e p.0.err (cannot_read (string_bytes path)) p.2.1 told.1))
+tells_stop stored (asks (plain dir files)) old mid e (stop.CannotRead path) (Err n) p told known =
+    cut_end (IsPlain stored dir) files old (record { out = mid.out; err = e }) (stopped_at (string_bytes path) p.0) p.1 (front_all old.out mid.out p.0.out p.2.0) (front-append old.err mid.err e p.0.err (cannot_read (string_bytes path)) p.2.1 told)
+tells_stop stored (refused kinds) old mid e (stop.CannotRead path) r p told known = absurd p
+tells_stop stored m old mid e stop.CannotWrite r p told known = absurd (unknown_known old.out (performs_unknown stored m old mid p) known)
+tells_stop stored m old mid e stop.OutOfMemory (Ok status) p told known = absurd told
+tells_stop stored (asks (plain dir files)) old mid e stop.OutOfMemory (Err n) p told known = record {
+  front = p.front;
+  rest = p.rest;
+  split = p.split;
+  run = p.run;
+  is_run = p.is_run;
+  out = p.out;
+  err = front_empty old.err mid.err e p.run.err p.err told;
+}
+tells_stop stored (refused kinds) old mid e stop.OutOfMemory (Err n) p told known = p
 
 -- ---- the usual words
 

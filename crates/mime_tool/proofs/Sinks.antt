@@ -80,17 +80,22 @@ pub says_no_more : (Q : NoMemory → Type 0) (a b c : Option (List ℕ)) (e : No
 says_no_more Q a b c e (Ok _) x y z p q h = absurd h
 says_no_more Q a b c e (Err _) x y z p q h = front-append a b c x (y ++ z) p (front_longer b c y z q)
 
--- whatever a flush answers, nothing is added
-pub flushed : (a b : Option (List ℕ)) (r : Result (Unit {0}) SinkFault) → Takes a b r [] → Wrote a b []
-flushed None b r p = tt
-flushed (Some xs) b (Ok _) p = p
-flushed (Some xs) b (Err fault.OutOfMemory) p =
+-- a front of nothing is nothing
+pub wrote_empty : (a b : Option (List ℕ)) → WroteFront a b [] → Wrote a b []
+wrote_empty None b p = tt
+wrote_empty (Some xs) b p =
     let none : p.0 ≡ [] = empty_front p.0 p.1 (sym p.2) in
     p.3 ∙ ap Some (ap (λ (bs : List ℕ). xs ++ bs) none)
   where
     empty_front : (x y : List ℕ) → x ++ y ≡ [] → x ≡ []
     empty_front [] y h = refl
     empty_front (b ∷ x) y h = cc
+
+-- whatever a flush answers, nothing is added
+pub flushed : (a b : Option (List ℕ)) (r : Result (Unit {0}) SinkFault) → Takes a b r [] → Wrote a b []
+flushed a b (Ok _) p = p
+flushed a b (Err fault.OutOfMemory) p = wrote_empty a b p
+flushed None b (Err fault.Failed) p = tt
 flushed (Some xs) b (Err fault.Failed) p = cc
 
 -- bytes, and then nothing

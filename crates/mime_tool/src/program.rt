@@ -13,8 +13,8 @@ ghost use Rattle.mime_tool.specs.Steps.{Performs, ShowsKind, Tells};
 use crate::files::Files;
 use crate::plain::print_types;
 use crate::sink::Sink;
-use crate::status::{ANSWERED, MISTAKEN, OUT_OF_MEMORY, STOPPED};
-use crate::stop::{Stop, complain, say_unreadable};
+use crate::status::{ANSWERED, MISTAKEN, OUT_OF_MEMORY};
+use crate::stop::{Stop, complain, tell};
 use clap::Error;
 use clap::error::ErrorKind;
 use mime_base::OutOfMemory;
@@ -73,15 +73,7 @@ fn perform_and_tell<F: Files, O: Sink, E: Sink, S: AsStr>(
 {
     match perform_and_flush(alloc, words, files, out, err) {
         Ok(status) => Ok(status),
-        Err(Stop::OutOfMemory) => Err(OutOfMemory),
-        Err(Stop::CannotRead(path)) => {
-            say_unreadable(alloc, path.as_str(), err)?;
-            Ok(STOPPED)
-        }
-        Err(Stop::CannotWrite) => {
-            complain(err, "mimelook: cannot write output\n")?;
-            Ok(STOPPED)
-        }
+        Err(stop) => tell(alloc, stop, err),
     }
 }
 

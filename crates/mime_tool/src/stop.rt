@@ -3,9 +3,10 @@
 ghost use Rattle.std.specs.Prelude.{◌≡◌};
 ghost use Rattle.mime_tool.specs.declared.stop.Stop.TheVariants.{OutOfMemory};
 ghost use Rattle.mime_tool.specs.Run.{cannot_read};
-ghost use Rattle.mime_tool.specs.Stop.{Says, stop_of};
+ghost use Rattle.mime_tool.specs.Stop.{Says, TellsStop, stop_of};
 
 use crate::sink::{Sink, SinkFault, put_now};
+use crate::status::STOPPED;
 use mime_base::OutOfMemory;
 use std::alloc::{AllocError, Global};
 
@@ -58,12 +59,19 @@ pub(crate) fn complain<E: Sink>(err: &mut E, text: &str) -> Result<(), OutOfMemo
     }
 }
 
-/// Says that the file of this path can't be read.
-pub(crate) fn say_unreadable<E: Sink>(
-    alloc: Global,
-    path: &str,
-    err: &mut E,
-) -> Result<(), OutOfMemory>
+/// Says why a command stopped, and gives the status. Want of memory is left to the caller.
+pub(crate) fn tell<E: Sink>(alloc: Global, stop: Stop, err: &mut E) -> Result<u8, OutOfMemory>
+    ensures { TellsStop stop (E.holds err.old) (E.holds err.new) result }
+{
+    match stop {
+        Stop::CannotRead(path) => say_unreadable(alloc, path.as_str(), err)?,
+        Stop::CannotWrite => complain(err, "mimelook: cannot write output\n")?,
+        Stop::OutOfMemory => return Err(OutOfMemory),
+    }
+    Ok(STOPPED)
+}
+
+fn say_unreadable<E: Sink>(alloc: Global, path: &str, err: &mut E) -> Result<(), OutOfMemory>
     ensures { Says (E.holds err.old) (E.holds err.new) result (cannot_read path.now) }
 {
     let text = format!(in alloc; "mimelook: {path}: cannot read\n")?;
