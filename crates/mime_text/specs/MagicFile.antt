@@ -1,5 +1,5 @@
 -- What a text of magic gives: the sections that keep a line, and the types that markers delete.
-use Rattle.std.specs.Prelude.{◌≡◌, ◌↔◌, ◌⊎◌, ℕ, List, [], ◌∷◌, Bool, true, false, if◌then◌else◌, Some, Result, Ok, Err, Contains}
+use Rattle.std.specs.Prelude.{◌≡◌, ◌⊎◌, ℕ, List, [], ◌∷◌, Bool, true, false, if◌then◌else◌, Some, Result, Ok, Err}
 use Rattle.std.specs.List.{list_any}
 use Rattle.mime_base.specs.Magic.{Forest, bare, line, PlainSection, plain_sections}
 use Rattle.mime_text.specs.declared.magic.fault.Fault.{Fault}
@@ -10,6 +10,7 @@ use Rattle.mime_text.specs.declared.magic.file.MagicFile as code
 use Rattle.mime_text.specs.MagicEntries.{Saying, kept, ignored, marker, Part}
 use Rattle.mime_text.specs.MagicReading.{Fails, magic_fault}
 use Rattle.mime_text.specs.MagicForest.{forest}
+use Rattle.mime_text.specs.Lines.{HasJust}
 
 -- a section with its lines as a forest
 abbrev pub with_forest : Part → PlainSection
@@ -43,8 +44,7 @@ deleted_kinds (p ∷ ps) = if holds_marker p then p.kind ∷ deleted_kinds ps el
 -- the file has the kept sections of these parts, and just the types that their markers delete
 pub record IsFileOf (parts : List Part) (file : code.MagicFile) : Type 0 where
   pub sections : plain_sections file.sections.items ≡ kept_sections parts
-  pub deleted : (kind : List ℕ) →
-      Contains file.deleted.items kind ↔ Contains (deleted_kinds parts) kind
+  pub deleted : HasJust file.deleted.items (deleted_kinds parts)
 
 -- want of memory, or the first fault of the text
 abbrev pub IsFaultOf : List ℕ → MagicFault → Type 0
