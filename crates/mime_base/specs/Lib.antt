@@ -9,7 +9,6 @@ pub mod Greatest
 pub mod Kept
 pub mod Rank
 pub mod Subclass
-pub mod Choice
 pub mod PatternRows
 pub mod LimitRows
 pub mod KeptRows

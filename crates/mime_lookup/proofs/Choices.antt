@@ -7,7 +7,7 @@ use Rattle.std.proofs.lemmas.List.Elements.{All-head, All-map, All-more, All-tai
 use Rattle.std.proofs.lemmas.Slice.Eq.{bytes_eq-Decides}
 use Rattle.std.proofs.lemmas.Simd.{map-map}
 use denote.Bor.{Bor}
-use Rattle.mime_base.specs.Choice.{Chooses, ChoosesAmong, IsFirst, kept, sniffed}
+use Rattle.mime_lookup.specs.Choice.{Chooses, ChoosesAmong, IsFirst, kept, sniffed}
 use Rattle.mime_base.specs.Kept.{kept_rules}
 use Rattle.mime_base.specs.Subclass.{no_pairs, IsA, above, parents, is_by_itself, resolved}
 use Rattle.mime_base.specs.declared.rule.GlobRule.{GlobRule}

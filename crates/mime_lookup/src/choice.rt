@@ -1,7 +1,7 @@
 //! The choice among kept rules ("Recommended checking order").
 
 ghost use Rattle.std.specs.Prelude.{map};
-ghost use Rattle.mime_base.specs.Choice.{ChoosesAmong};
+ghost use Rattle.mime_lookup.specs.Choice.{ChoosesAmong};
 ghost use Rattle.mime_base.specs.Subclass.{no_pairs};
 
 use crate::subclass::is_by_itself;

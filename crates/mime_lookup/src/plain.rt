@@ -1,7 +1,7 @@
 //! Lookup by trying every rule of a database.
 
 ghost use Rattle.std.specs.Prelude.{◌≡◌, ◌<◌, ◌≤◌, length, IfOk, IfErr, MatchResult};
-ghost use Rattle.mime_base.specs.Choice.{Chooses};
+ghost use Rattle.mime_lookup.specs.Choice.{Chooses};
 ghost use Rattle.mime_base.specs.Subclass.{no_pairs};
 
 use crate::answer::Answer;

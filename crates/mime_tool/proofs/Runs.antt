@@ -6,7 +6,7 @@ use Rattle.std.proofs.lemmas.List.Elements.{All-append, All-cons, All-nil, filte
 use Rattle.std.proofs.lemmas.List.Folds.{list_all-append}
 use Rattle.std.proofs.lemmas.Grind.{flat_map-append}
 use Rattle.clap.specs.Walk.{texts}
-use Rattle.mime_base.specs.Choice.{Chooses}
+use Rattle.mime_lookup.specs.Choice.{Chooses}
 use Rattle.mime_base.specs.Subclass.{no_pairs}
 use Rattle.mime_base.specs.declared.rule.GlobRule.{GlobRule}
 use Rattle.mime_tool.specs.Plain.{Typed, base_name, complaint, fits, lines_run, silent, too_long, type_line}

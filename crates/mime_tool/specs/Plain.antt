@@ -1,7 +1,7 @@
 -- What `plain` prints by the names alone.
 use Rattle.std.specs.Prelude.{◌≡◌, ◌==◌, ℕ, Bool, List, [], ◌++◌, Option, Some, None, All, codes, decimal, filter, map, nat_le, length, if◌then◌else◌}
 use Rattle.std.specs.List.{after_last, flat_map, list_all}
-use Rattle.mime_base.specs.Choice.{Chooses}
+use Rattle.mime_lookup.specs.Choice.{Chooses}
 use Rattle.mime_base.specs.Subclass.{no_pairs}
 use Rattle.mime_base.specs.declared.rule.GlobRule.{GlobRule}
 use Rattle.mime_text.specs.Globs2.{is_bad_rule, rules_of}
