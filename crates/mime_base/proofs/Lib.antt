@@ -1,19 +1,6 @@
-pub mod Sets
-pub mod Places
-pub mod Matching
-pub mod Attempts
-pub mod Slides
-pub mod Costs
-pub mod Endings
-pub mod Greatest
-pub mod Offers
-pub mod Ranks
-pub mod Zeros
-pub mod Prefixes
-pub mod Mirroring
-pub mod Numbers
-pub mod Masks
-pub mod Windows
-pub mod Standing
-pub mod TextsStand
-pub mod TextFaults
+pub mod MatchingLemmas
+pub mod KeptLemmas
+pub mod MagicLemmas
+pub mod CacheLemmas
+mod DatabaseLemmas
+pub mod FormatLemmas

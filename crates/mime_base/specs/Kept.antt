@@ -1,11 +1,27 @@
--- The rules that are kept of those that match a name.
-use Rattle.std.specs.Prelude.{ℕ, Bool, false, ◌||◌, if◌then◌else◌, List, [], ◌∷◌, length, filter}
-use Rattle.mime_base.specs.Class.{class_of}
-use Rattle.mime_base.specs.Greatest.{of_greatest}
-use Rattle.mime_base.specs.Matches.{rule_matches}
-use Rattle.mime_base.specs.declared.class.Class.{Class}
-use Rattle.mime_base.specs.declared.class.Class.TheVariants.{Literal, Suffix, Full}
-use Rattle.mime_base.specs.declared.rule.GlobRule.{GlobRule}
+-- The rules that are kept of those that match a name: the first class that has one, then the greatest
+-- weight, then the longest pattern, then the case-sensitive ones if any is.
+pub mod Rows
+use Rattle.std.specs.Prelude.{◌≡◌, ℕ, ◌+◌, ◌*◌, ◌<◌, Bool, false, ◌&&◌, ◌||◌, ◌==◌, if◌then◌else◌, List, [], ◌∷◌, length, max, filter, All}
+use Rattle.mime_base.specs.Matching.Elements.{is_literal_text}
+use Rattle.mime_base.specs.Matching.Matches.{rule_matches}
+use Rattle.mime_base.specs.declared.kept.class.Class.{Class}
+use Rattle.mime_base.specs.declared.kept.class.Class.TheVariants.{Literal, Suffix, Full}
+use Rattle.mime_base.specs.declared.database.rule.GlobRule.{GlobRule}
+
+-- Literal with no special byte, Suffix with a first `*` (42) and none after it, else Full
+unfoldable pub class_of : List ℕ → Class
+class_of [] = Literal
+class_of (b ∷ rest) =
+    if is_literal_text (b ∷ rest) then Literal else (if b == 42 && is_literal_text rest then Suffix else Full)
+
+-- the greatest number that f gives over a list, 0 over an empty one
+abbrev pub greatest : {X : Type 0} → (X → ℕ) → List X → ℕ
+greatest f [] = 0
+greatest f (x ∷ xs) = max (f x) (greatest f xs)
+
+-- the elements to which f gives the greatest number, in their order
+abbrev pub of_greatest : {X : Type 0} → (X → ℕ) → List X → List X
+of_greatest f xs = filter (λ x. f x == greatest f xs) xs
 
 -- how early a class stands in the order Literal, Suffix, Full
 abbrev pub earliness : Class → ℕ
@@ -45,3 +61,24 @@ preferred rules = cased_if_any (longest (heaviest (of_first_class rules)))
 -- the rules that are kept for a name, in merged order
 unfoldable pub kept_rules : List GlobRule → List ℕ → List GlobRule
 kept_rules rules name = preferred (hits rules name)
+
+-- the class, then the weight, the length and the flag, each with room for all below it
+unfoldable pub rank : Class → ℕ → ℕ → Bool → ℕ
+rank class weight length cased =
+    ((earliness class * 256 + weight) * 65536 + length) * 2 + (if cased then 1 else 0)
+
+-- the rank of a rule that matches
+abbrev pub rank_of_rule : GlobRule → ℕ
+rank_of_rule rule = rank (class_of rule.pattern) rule.weight (length rule.pattern) rule.cased
+
+-- the weight and the length keep to their room
+abbrev pub FitsRank : GlobRule → Type 0
+FitsRank rule = (rule.weight < 256) × (length rule.pattern < 65536)
+
+-- of any hits, those of the greatest rank are those that are preferred
+abbrev pub GreatestRankIsPreferred : Type 0
+GreatestRankIsPreferred = (hits : List GlobRule) → All FitsRank hits → of_greatest rank_of_rule hits ≡ preferred hits
+
+-- of offers, each a rank and an item, those of the greatest rank, in their order
+abbrev pub best : {X : Type 0} → List (ℕ × X) → List (ℕ × X)
+best offers = of_greatest (λ offer. offer.0) offers

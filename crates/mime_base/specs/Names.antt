@@ -1,4 +1,5 @@
 -- What the bytes of a type name and of a pattern may be, as tests that compute.
+pub mod Rows
 use Rattle.std.specs.Prelude.{ℕ, ◌-◌, Bool, not, ◌&&◌, ◌==◌, nat_lt, nat_le, List, length, slice_index}
 use Rattle.std.specs.List.{list_all, list_any}
 
@@ -25,3 +26,11 @@ is_pattern_byte b = not (b == 0) && not (b == 10) && not (b == 58)
 -- 1 to 255 such bytes
 unfoldable pub is_pattern : List ℕ → Bool
 is_pattern bytes = nat_lt 0 (length bytes) && nat_le (length bytes) 255 && list_all is_pattern_byte bytes
+
+-- no zero byte or newline (10)
+abbrev pub is_icon_byte : ℕ → Bool
+is_icon_byte b = not (b == 0) && not (b == 10)
+
+-- 1 to 255 such bytes
+unfoldable pub is_icon_name : List ℕ → Bool
+is_icon_name bytes = nat_lt 0 (length bytes) && nat_le (length bytes) 255 && list_all is_icon_byte bytes

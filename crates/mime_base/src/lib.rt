@@ -1,44 +1,53 @@
-//! The types of a MIME type lookup, and the definitions that the crates above share.
+//! What every crate above shares: type names and patterns, how a pattern matches a name, which of the
+//! rules that match are kept, magic lines, the bytes of a cache, and the database of all of them.
 //!
-//! A type name and a pattern keep their limits by their types, matching is by the definition of a
-//! pattern's elements, and what matching costs is counted in a [`Meter`].
+//! ```
+//! let rule = GlobRule {
+//!     weight: 50,
+//!     kind: TypeName::new(rt.alloc(), b"text/plain")?,
+//!     pattern: Pattern::new(rt.alloc(), b"*.txt")?,
+//!     cased: false,
+//! };
+//! let mut meter = Meter::new();
+//! let matches = glob_matches(rule.pattern.bytes(), rule.cased, b"NOTES.TXT", &mut meter);
+//! // it matches, and the meter counts 4 bytes: a test of each element after the star
+//! ```
+//!
+//! Read `names` first: the types keep the limits of their texts. Then `matching`, by the definition of
+//! a pattern's elements, with an exact count of its tests in a [`Meter`], and `kept`, which of the
+//! rules that match answer a lookup. `magic` has the lines that look at a content, `database` what
+//! merged data directories say, and `cache` the only calls that look at a cache's bytes. Definitions
+//! and lemmas lie under the same words below `specs/` and `proofs/`.
 #![tactic(auto)]
 
-mod attempt;
-mod byte_fault;
-mod byte_laws;
-mod class;
-mod comparing;
-mod counted;
+mod cache;
 mod database;
-mod elements;
-mod folding;
-mod glob;
-mod host;
-mod masking;
-mod matchlet;
+mod format;
+mod kept;
+mod magic;
+mod matching;
 mod memory;
 mod meter;
-mod name;
-mod pair;
-mod ranking;
-mod rule;
-mod section;
+mod names;
 
-pub use byte_fault::ByteFault;
-pub use byte_laws::{appended_stands, reading_stays, standing_reads_back, texts_are_read};
-pub use class::{Class, class_of, class_of_bytes};
-pub use comparing::same_name;
-pub use counted::Counted;
+pub use cache::Counted;
+pub use cache::byte_fault::ByteFault;
+pub use cache::byte_laws::{appended_stands, reading_stays, standing_reads_back, texts_are_read};
+pub use cache::comparing::same_name;
 pub use database::Database;
-pub use folding::fold;
-pub use glob::glob_matches;
-pub use host::Host;
-pub use matchlet::Matchlet;
+pub use database::icon::Icon;
+pub use database::pair::Pair;
+pub use database::rule::GlobRule;
+pub use kept::class::{Class, class_of, class_of_bytes};
+pub use kept::{Best, greatest_rank_is_preferred, rank_of, rank_of_rule};
+pub use magic::Section;
+pub use magic::extent::extent;
+pub use magic::holding::{line_matches, some_line_matches};
+pub use magic::host::Host;
+pub use magic::matchlet::Matchlet;
+pub use magic::textual::looks_textual;
+pub use matching::folding::fold;
+pub use matching::glob_matches;
 pub use memory::OutOfMemory;
 pub use meter::Meter;
-pub use name::{NameFault, Pattern, TypeName};
-pub use pair::Pair;
-pub use ranking::{Best, greatest_rank_is_preferred, rank_of, rank_of_rule};
-pub use rule::GlobRule;
-pub use section::Section;
+pub use names::{IconName, NameFault, Pattern, TypeName};

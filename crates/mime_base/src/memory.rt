@@ -1,9 +1,9 @@
-//! Want of memory.
+//! Out of memory: the error of what allocates.
 
 use std::alloc::{AllocError, AllocFailed};
 use thiserror::Error;
 
-/// A growth was refused. Calls that fail in no other way answer this.
+/// An allocation was refused. Calls that fail in no other way answer this.
 #[derive(Clone, Copy, Debug, PartialEq, Eq, Error)]
 #[error("out of memory")]
 pub struct OutOfMemory;

@@ -9,8 +9,8 @@ use Rattle.std.proofs.lemmas.Simd.{map-map}
 use denote.Bor.{Bor}
 use Rattle.mime_lookup.specs.Choice.{Chooses, ChoosesAmong, IsFirst, kept, sniffed}
 use Rattle.mime_base.specs.Kept.{kept_rules}
-use Rattle.mime_base.specs.Subclass.{no_pairs, IsA, above, parents, is_by_itself, resolved}
-use Rattle.mime_base.specs.declared.rule.GlobRule.{GlobRule}
+use Rattle.mime_base.specs.Database.Subclass.{Pairs, no_pairs, IsA, above, parents, is_by_itself, resolved}
+use Rattle.mime_base.specs.declared.database.rule.GlobRule.{GlobRule}
 
 -- without pairs no type is above another
 nothing_above : (kind : List ℕ) → above no_pairs kind ≡ []
@@ -63,24 +63,24 @@ module _ (base other : List ℕ) where
         (first-behind (map kind_of (take i xs)) [] other front_fails refl)
 
 -- of types that are one type the first that is the base, or the first, is that type
-one_type : (base first : List ℕ) (kinds : List (List ℕ)) (answer : List ℕ) → list_all (bytes_eq first) kinds ≡ true →
-    IsFirst no_pairs base first kinds answer → answer ≡ first
-one_type base first [] answer all is = is
-one_type base first (kind ∷ kinds) answer all (inl found) =
+one_type : (pairs : Pairs) (base first : List ℕ) (kinds : List (List ℕ)) (answer : List ℕ) → list_all (bytes_eq first) kinds ≡ true →
+    IsFirst pairs base first kinds answer → answer ≡ first
+one_type pairs base first [] answer all is = is
+one_type pairs base first (kind ∷ kinds) answer all (inl found) =
     found.1 ∙ sym ((bytes_eq-Decides first kind).0 (and_parts (bytes_eq first kind) (list_all (bytes_eq first) kinds) all).0)
-one_type base first (kind ∷ kinds) answer all (inr later) =
-    one_type base first kinds answer (and_parts (bytes_eq first kind) (list_all (bytes_eq first) kinds) all).1 later.1
+one_type pairs base first (kind ∷ kinds) answer all (inr later) =
+    one_type pairs base first kinds answer (and_parts (bytes_eq first kind) (list_all (bytes_eq first) kinds) all).1 later.1
 
 -- whether the types are one type need not be asked
-pub chooses-from_first : {X : Type 0} (kind_of : X → List ℕ) (base : List ℕ) (xs : List X) (answer : List ℕ) (d : X) → 0 < length xs →
-    IsFirst no_pairs base (kind_of (get_or xs 0 d)) (map kind_of xs) answer → ChoosesAmong no_pairs (map kind_of xs) base answer
-chooses-from_first kind_of base [] answer d some is = absurd (omega arith)
-chooses-from_first kind_of base (x ∷ xs) answer d some is = by_cases (list_all (bytes_eq (kind_of x)) (map kind_of xs)) refl
+pub chooses-from_first : {X : Type 0} (pairs : Pairs) (kind_of : X → List ℕ) (base : List ℕ) (xs : List X) (answer : List ℕ) (d : X) → 0 < length xs →
+    IsFirst pairs base (kind_of (get_or xs 0 d)) (map kind_of xs) answer → ChoosesAmong pairs (map kind_of xs) base answer
+chooses-from_first pairs kind_of base [] answer d some is = absurd (omega arith)
+chooses-from_first pairs kind_of base (x ∷ xs) answer d some is = by_cases (list_all (bytes_eq (kind_of x)) (map kind_of xs)) refl
   where
     by_cases : (one : Bool) → list_all (bytes_eq (kind_of x)) (map kind_of xs) ≡ one →
-        MatchBool one (answer ≡ kind_of x) (IsFirst no_pairs base (kind_of x) (kind_of x ∷ map kind_of xs) answer)
+        MatchBool one (answer ≡ kind_of x) (IsFirst pairs base (kind_of x) (kind_of x ∷ map kind_of xs) answer)
     by_cases true all =
-        one_type base (kind_of x) (kind_of x ∷ map kind_of xs) answer
+        one_type pairs base (kind_of x) (kind_of x ∷ map kind_of xs) answer
         (and_from (bytes_eq (kind_of x) (kind_of x)) (list_all (bytes_eq (kind_of x)) (map kind_of xs)) ((bytes_eq-Decides (kind_of x) (kind_of x)).1 refl) all) is
     by_cases false all = is
 

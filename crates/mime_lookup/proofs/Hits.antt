@@ -5,13 +5,11 @@ use Rattle.std.proofs.lemmas.List.{append-nil, map-append, map-id}
 use Rattle.std.proofs.lemmas.List.Elements.{All-push, filter_more}
 use Rattle.std.proofs.lemmas.Simd.{map-map}
 use denote.Bor.{Bor}
-use Rattle.mime_base.specs.Greatest.{of_greatest}
-use Rattle.mime_base.specs.Kept.{hits, kept_rules}
-use Rattle.mime_base.specs.Matches.{rule_matches}
-use Rattle.mime_base.specs.Rank.{best, rank_of_rule, FitsRank}
-use Rattle.mime_base.specs.declared.rule.GlobRule.{GlobRule}
-use Rattle.mime_base.proofs.Greatest.{of_greatest-map}
-use Rattle.mime_base.proofs.Ranks.{of_greatest-rank_of_rule}
+use Rattle.mime_base.specs.Kept.{of_greatest, hits, kept_rules, best, rank_of_rule, FitsRank}
+use Rattle.mime_base.specs.Matching.Matches.{rule_matches}
+use Rattle.mime_base.specs.declared.database.rule.GlobRule.{GlobRule}
+use Rattle.mime_base.proofs.KeptLemmas.Greatest.{of_greatest-map}
+use Rattle.mime_base.proofs.KeptLemmas.{of_greatest-rank_of_rule}
 
 -- an offer without its reference, and the offer of a rule
 abbrev offered : ℕ × Bor GlobRule → ℕ × GlobRule

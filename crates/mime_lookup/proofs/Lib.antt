@@ -1,2 +1,10 @@
 pub mod Choices
 pub mod Hits
+pub mod Tallies
+pub mod PairSteps
+pub mod Marks
+pub mod Searches
+pub mod Sniffs
+pub mod Answering
+pub mod FirstSections
+pub mod Scripts

@@ -2,8 +2,8 @@
 use Rattle.std.specs.Prelude.{◌≡◌, ◌⊎◌, MatchBool, ℕ, List, [], ◌∷◌, map, bytes_eq, codes}
 use Rattle.std.specs.List.{list_all}
 use Rattle.mime_base.specs.Kept.{kept_rules}
-use Rattle.mime_base.specs.Subclass.{Pairs, IsA, resolved}
-use Rattle.mime_base.specs.declared.rule.GlobRule.{GlobRule}
+use Rattle.mime_base.specs.Database.Subclass.{Pairs, IsA, resolved}
+use Rattle.mime_base.specs.declared.database.rule.GlobRule.{GlobRule}
 
 -- what content that is not available is sniffed as
 abbrev pub sniffed : List ℕ

@@ -1,1 +1,6 @@
 pub mod Choice
+pub mod Sniffing
+pub mod CheckingOrder
+pub mod Content
+pub mod Ancestry
+pub mod Script

@@ -2,7 +2,7 @@
 
 ghost use Rattle.std.specs.Prelude.{map};
 ghost use Rattle.mime_lookup.specs.Choice.{ChoosesAmong};
-ghost use Rattle.mime_base.specs.Subclass.{no_pairs};
+ghost use Rattle.mime_base.specs.Database.Subclass.{no_pairs};
 
 use crate::subclass::is_by_itself;
 use mime_base::GlobRule;

@@ -1,17 +1,32 @@
 //! The checking order: from a database and a name to a type.
 //!
-//! [`look_up_plain`] tries every rule of a database. The type that it answers is the one that the
-//! definition of the checking order gives, whatever the rules are.
+//! [`look_up_plain`] tries every rule, line and pair of a database. The type that it answers is the
+//! one that the definition of the checking order gives to the name and the whole content, of which
+//! it reads no more than magic can look at; [`Content`] is what it reads from. [`look_up_name`] is
+//! the same for a name without content, over a database of glob rules alone.
 #![tactic(auto)]
 
+mod ancestry;
 mod answer;
+mod by_name;
 mod choice;
+mod content;
 mod fixed;
 mod kept;
-mod plain;
+mod lists;
+mod order;
+mod pairs;
+mod reading;
+mod script;
+mod sniff;
 mod stopped;
 mod subclass;
 
 pub use answer::Answer;
-pub use plain::look_up_plain;
+pub use by_name::look_up_name;
+pub use content::{Content, ReadFault, Untold};
+pub use lists::look_up_plain;
+pub use order::Order;
+pub use script::{Script, Step};
+pub use sniff::front_is_enough;
 pub use stopped::{Cause, Stopped};

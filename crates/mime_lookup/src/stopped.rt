@@ -1,6 +1,7 @@
 //! Why a lookup stops without an answer.
 
-use mime_base::Meter;
+use mime_base::{Meter, OutOfMemory};
+use std::alloc::AllocError;
 use thiserror::Error;
 
 /// A lookup that stopped, and what it took until then. This project's own.
@@ -21,7 +22,32 @@ pub enum Cause {
     /// The name has more than 4,096 bytes.
     #[error("name too long")]
     NameTooLong,
-    /// A growth was refused.
+    /// A read of the content failed, or was interrupted once more than is tried again.
+    #[error("cannot read")]
+    Read,
+    /// An allocation was refused.
     #[error("out of memory")]
     OutOfMemory,
+}
+
+impl From<AllocError> for Cause {
+    ghost use Rattle.std.specs.Prelude.{◌≡◌};
+    ghost use Rattle.mime_lookup.specs.declared.stopped.Cause.TheVariants.{OutOfMemory};
+
+    ghost from_gives = { λ _ cause. cause ≡ OutOfMemory };
+
+    fn from(_error: AllocError) -> Cause {
+        Cause::OutOfMemory
+    }
+}
+
+impl From<OutOfMemory> for Cause {
+    ghost use Rattle.std.specs.Prelude.{◌≡◌};
+    ghost use Rattle.mime_lookup.specs.declared.stopped.Cause.TheVariants as causes;
+
+    ghost from_gives = { λ _ cause. cause ≡ causes.OutOfMemory };
+
+    fn from(_error: OutOfMemory) -> Cause {
+        Cause::OutOfMemory
+    }
 }

@@ -1,7 +1,7 @@
 //! The subclass rule ("Subclassing").
 
 ghost use Rattle.std.specs.Prelude.{◌≡◌};
-ghost use Rattle.mime_base.specs.Subclass.{is_by_itself};
+ghost use Rattle.mime_base.specs.Database.Subclass.{is_by_itself};
 
 use crate::fixed::{OCTET_STREAM, TEXT_PLAIN};
 
@@ -9,7 +9,7 @@ use crate::fixed::{OCTET_STREAM, TEXT_PLAIN};
 ///
 /// Every `text/*` type is a subclass of `text/plain`, and every type but `inode/*` of
 /// `application/octet-stream`.
-#[tactic(auto, unfolding(mime_base::specs::Subclass::is_by_itself))]
+#[tactic(auto, unfolding(mime_base::specs::Database::Subclass::is_by_itself))]
 pub fn is_by_itself(kind: &[u8], base: &[u8]) -> bool
     ensures { result ≡ is_by_itself kind.now base.now }
 {

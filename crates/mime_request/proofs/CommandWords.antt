@@ -1,4 +1,4 @@
--- The walk of `mimelook` over `plain` and the words behind it.
+-- The walk of `mimelook` over `plain` and the words after it.
 use Rattle.std.proofs.Common.{◌≡◌, ◌∙◌, true, false, List, [], ◌∷◌, ◌++◌, Some, is_some, ap, refl, codes, append_assoc, append-nil}
 use Rattle.clap.specs.Walk.{Names, Text, Walk, idle, nothing_held, rows_after, walk, walk_from}
 use Rattle.clap.specs.Simple.{Shape, built, entered, names_of, subcommand_of}
@@ -15,7 +15,7 @@ top = (built mimelook).top
 abbrev commands : Names
 commands = names_of (built mimelook)
 
--- `plain` was met, and these words behind it
+-- `plain` was met, and these words after it
 abbrev at_plain : List Text → Walk
 at_plain words = record {
   held = nothing_held;
@@ -46,11 +46,13 @@ over_command words = goes _ _ _ _ words meets_plain (passes_all [] words)
 command_walk : (words : List Text) → walk top.rules commands nothing_held (codes "plain" ∷ words) ≡ at_plain words
 command_walk words = walk_leads top commands (at_plain words) (codes "plain" ∷ words) (over_command words)
 
-enters_plain : (words : List Text) → entered (built mimelook) (Some (codes "plain", words)) ≡ Some (codes "plain", rows_after plain_shape.rules [] words)
+enters_plain : (words : List Text)
+    → entered (built mimelook) (Some (codes "plain", words)) ≡ Some (codes "plain", rows_after plain_shape.rules [] words)
 unfolding clap_on_literals
 enters_plain words = refl
 
-plain_fault : (words : List Text) → entered_fault (built mimelook) (Some (codes "plain", words)) ≡ level_fault plain_shape [] nothing_held words false []
+plain_fault : (words : List Text)
+    → entered_fault (built mimelook) (Some (codes "plain", words)) ≡ level_fault plain_shape [] nothing_held words false []
 unfolding clap_on_literals
 plain_fault words = refl
 
@@ -60,14 +62,19 @@ ends_well words = refl
 
 -- the fault of a walk that ends so
 abbrev fault_at : List Text → Walk → Kinds
-fault_at words w = level_fault top commands nothing_held words (is_some (entered (built mimelook) w.stopped)) (entered_fault (built mimelook) w.stopped)
+fault_at words w =
+    level_fault top commands nothing_held words (is_some (entered (built mimelook) w.stopped)) (entered_fault (built mimelook) w.stopped)
 
 -- words that `plain` takes are no fault
-pub fault_of-plain : (words : List Text) → level_fault plain_shape [] nothing_held words false [] ≡ [] → fault_of mimelook (codes "plain" ∷ words) ≡ []
+pub fault_of-plain : (words : List Text) → level_fault plain_shape [] nothing_held words false [] ≡ []
+    → fault_of mimelook (codes "plain" ∷ words) ≡ []
 fault_of-plain words fits =
-    let taken : level_fault top commands nothing_held (codes "plain" ∷ words) true (entered_fault (built mimelook) (Some (codes "plain", words))) ≡ [] =
-    no_level_fault top commands (at_plain words) (codes "plain" ∷ words) true _ (over_command words) (plain_fault words ∙ fits) (ends_well words) in
+    let taken : level_fault top commands nothing_held (codes "plain" ∷ words) true
+    (entered_fault (built mimelook) (Some (codes "plain", words))) ≡ [] =
+    no_level_fault top commands (at_plain words) (codes "plain" ∷ words) true _ (over_command words)
+    (plain_fault words ∙ fits) (ends_well words) in
     ap (fault_at (codes "plain" ∷ words)) (command_walk words) ∙ taken
 
-pub subcommand_of-plain : (words : List Text) → subcommand_of mimelook (codes "plain" ∷ words) ≡ Some (codes "plain", rows_after plain_shape.rules [] words)
+pub subcommand_of-plain : (words : List Text)
+    → subcommand_of mimelook (codes "plain" ∷ words) ≡ Some (codes "plain", rows_after plain_shape.rules [] words)
 subcommand_of-plain words = ap (λ (w : Walk). entered (built mimelook) w.stopped) (command_walk words) ∙ enters_plain words

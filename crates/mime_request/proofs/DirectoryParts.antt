@@ -1,5 +1,6 @@
 -- The parts of a list with colons.
-use Rattle.std.proofs.Common.{◌≡◌, ◌∙◌, ◌<◌, ◌==◌, ℕ, Bool, true, false, List, [], ◌∷◌, ◌++◌, not, ap, arith, length, filter, refl, if◌then◌else◌}
+use Rattle.std.proofs.Common.{◌≡◌, ◌∙◌, ◌<◌, ◌==◌, ℕ, Bool, true, false, List, [], ◌∷◌, ◌++◌, not, ap, arith, length, filter, refl}
+use Rattle.std.proofs.Common.{if◌then◌else◌}
 use Rattle.std.specs.List.{list_all, onto_first, slice_split}
 use Rattle.std.proofs.lemmas.Bool.Decides.{nat_tests}
 use Rattle.std.proofs.lemmas.List.Elements.{filter-append}
@@ -22,12 +23,14 @@ parts-path [] h = absurd (cc)
 parts-path (x ∷ xs) h = rw (split_none (x ∷ xs) h, nonzero (length (x ∷ xs)) (omega arith)) refl
 
 -- what goes before the first of a split list leaves alone what is appended to it
-onto_first-append : (v : Bool) (x y : ℕ) (xs more : List (List ℕ)) → onto_first x ((if v then [] ∷ xs else onto_first y xs) ++ more) ≡ onto_first x (if v then [] ∷ xs else onto_first y xs) ++ more
+onto_first-append : (v : Bool) (x y : ℕ) (xs more : List (List ℕ))
+    → onto_first x ((if v then [] ∷ xs else onto_first y xs) ++ more) ≡ onto_first x (if v then [] ∷ xs else onto_first y xs) ++ more
 onto_first-append true x y xs more = refl
 onto_first-append false x y [] more = refl
 onto_first-append false x y (part ∷ parts) more = refl
 
-onto_first-split : (x : ℕ) (xs : List ℕ) (more : List (List ℕ)) → onto_first x (slice_split (λ b. b == 58) xs ++ more) ≡ onto_first x (slice_split (λ b. b == 58) xs) ++ more
+onto_first-split : (x : ℕ) (xs : List ℕ) (more : List (List ℕ))
+    → onto_first x (slice_split (λ b. b == 58) xs ++ more) ≡ onto_first x (slice_split (λ b. b == 58) xs) ++ more
 onto_first-split x [] more = refl
 onto_first-split x (y ∷ ys) more = onto_first-append (y == 58) x y (slice_split (λ b. b == 58) ys) more
 
@@ -37,7 +40,8 @@ split_step : (v : Bool) (x : ℕ) (xs : List ℕ) (more : List (List ℕ))
 split_step true x xs more = refl
 split_step false x xs more = onto_first-split x xs more
 
-split-append : (xs ys : List ℕ) → slice_split (λ b. b == 58) (xs ++ 58 ∷ ys) ≡ slice_split (λ b. b == 58) xs ++ slice_split (λ b. b == 58) ys
+split-append : (xs ys : List ℕ)
+    → slice_split (λ b. b == 58) (xs ++ 58 ∷ ys) ≡ slice_split (λ b. b == 58) xs ++ slice_split (λ b. b == 58) ys
 split-append [] ys = refl
 split-append (x ∷ xs) ys = rw (split-append xs ys) (split_step (x == 58) x xs (slice_split (λ b. b == 58) ys))
 

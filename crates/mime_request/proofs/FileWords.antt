@@ -1,5 +1,6 @@
 -- The walk of `plain` over its FILEs.
-use Rattle.std.proofs.Common.{◌≡◌, ℕ, true, false, List, [], ◌∷◌, ◌++◌, ◌<◌, ◌^◌, not, Some, None, arith, refl, codes, length, append_assoc, append-nil}
+use Rattle.std.proofs.Common.{◌≡◌, ℕ, true, false, List, [], ◌∷◌, ◌++◌, ◌<◌, ◌^◌, not, Some, None, arith, refl, codes, length, append_assoc}
+use Rattle.std.proofs.Common.{append-nil}
 use Rattle.std.specs.List.{list_all}
 use Rattle.std.proofs.lemmas.Bool.Decides.{nat_tests}
 use Rattle.clap.specs.Lexer.{usize_max}
@@ -18,7 +19,7 @@ use Rattle.mime_request.proofs.Walks.{Goes, Leads, ends, goes, neither_fault}
 abbrev pub plain_shape : Shape
 plain_shape = built_leaf (inherited (with_leaf_noted (marked_built mimelook.top)) plain.top)
 
--- behind these files, where the options before them gave these rows
+-- after these files, where the options before them gave these rows
 abbrev pub in_files : List Row → List Text → Walk
 in_files rows files = record {
   held = record { rows = rows; pending = Some (codes "file", files); skip = 0 };
@@ -28,14 +29,16 @@ in_files rows files = record {
   stopped = None;
 }
 
-next_file : (rows : List Row) (file : Text) (files : List Text) → IsPlainWord file → Goes plain_shape [] (in_files rows files) file (in_files rows (files ++ file ∷ []))
+next_file : (rows : List Row) (file : Text) (files : List Text) → IsPlainWord file
+    → Goes plain_shape [] (in_files rows files) file (in_files rows (files ++ file ∷ []))
 unfolding clap_on_literals
 next_file rows file files h = record {
   no_fault = rw (h.no_dashes, h.no_long, h.no_short) refl;
   moves = rw (h.no_dashes, h.no_long, h.no_short) refl;
 }
 
-pub over_files : (rows : List Row) (before files : List Text) → list_all (λ word. not (is_option word)) files ≡ true → Leads plain_shape [] (in_files rows before) files (in_files rows (before ++ files))
+pub over_files : (rows : List Row) (before files : List Text) → list_all (λ word. not (is_option word)) files ≡ true
+    → Leads plain_shape [] (in_files rows before) files (in_files rows (before ++ files))
 over_files rows before [] h = rw (append-nil before) (ends (in_files rows before))
 over_files rows before (file ∷ files) h =
     let both = neither (is_option file) (list_all (λ word. not (is_option word)) files) h in
@@ -51,7 +54,8 @@ values_fit (v ∷ vs) = values_fit vs
 range_fits : (n : ℕ) → 0 < n → n < 2 ^ 64 → range_kinds 1 usize_max n ≡ []
 range_fits n some few = grind (arith, nat_tests)
 
-pub files_fit : (rows : List Row) (file : Text) (files : List Text) → length (file ∷ files) < 2 ^ 64 → settle_fault plain_shape.rules false (in_files rows (file ∷ files)).held ≡ []
+pub files_fit : (rows : List Row) (file : Text) (files : List Text) → length (file ∷ files) < 2 ^ 64
+    → settle_fault plain_shape.rules false (in_files rows (file ∷ files)).held ≡ []
 unfolding clap_on_literals
 files_fit rows file files few =
     neither_fault (range_kinds 1 usize_max (length (file ∷ files))) (values_kinds false vp.String (file ∷ files))

@@ -21,12 +21,14 @@ pub fault_means : (ks : Kinds) (met : Option (Text × List Row)) (e : Error) →
 fault_means [] met e h = elim h [ inl memory ↦ memory_means (subcommand_meaning met) e memory | inr none ↦ absurd none ]
 fault_means (k ∷ ks) met e h = h
 
-pub error_means : (words : List Text) (e : Error) (r : Result Request Error) → HasKind (fault_of mimelook words) e → r ≡ Err e → Means (meaning_of words) r
+pub error_means : (words : List Text) (e : Error) (r : Result Request Error) → HasKind (fault_of mimelook words) e → r ≡ Err e
+    → Means (meaning_of words) r
 unfolding meaning_of
 error_means words e r h is = rw is (fault_means (fault_of mimelook words) (subcommand_of mimelook words) e h)
 
 -- matches of clap's
-pub matches_mean : (words : List Text) (met : Option (Text × List Row)) (r : Result Request Error) → fault_of mimelook words ≡ [] → met ≡ subcommand_of mimelook words
+pub matches_mean : (words : List Text) (met : Option (Text × List Row)) (r : Result Request Error) → fault_of mimelook words ≡ []
+    → met ≡ subcommand_of mimelook words
     → Means (subcommand_meaning met) r → Means (meaning_of words) r
 unfolding meaning_of
 matches_mean words met r free is h = rw (free, ← is) h

@@ -18,7 +18,7 @@ abbrev pub has_flag : Order → Bool
 has_flag flag_absent = false
 has_flag _ = true
 
--- the words behind `plain`
+-- the words after `plain`
 abbrev pub option_words : Order → Text → List Text → List Text
 option_words directories_first dirs files = codes "-d" ∷ dirs ∷ codes "--name-only" ∷ files
 option_words flag_first dirs files = codes "--name-only" ∷ codes "-d" ∷ dirs ∷ files
@@ -45,31 +45,34 @@ between rows pending waiting = record {
   stopped = None;
 }
 
--- before DIRS, and behind it
+-- before DIRS, and after it
 abbrev before_dirs : List Row → Walk
 before_dirs rows = between rows (Some (codes "dirs", [])) (option (codes "dirs"))
 
-abbrev behind_dirs : List Row → Text → Walk
-behind_dirs rows dirs = between rows (Some (codes "dirs", dirs ∷ [])) idle
+abbrev after_dirs : List Row → Text → Walk
+after_dirs rows dirs = between rows (Some (codes "dirs", dirs ∷ [])) idle
 
 option_d : Goes plain_shape [] (walk_from nothing_held) (codes "-d") (before_dirs [])
 unfolding clap_on_literals
 option_d = record { no_fault = refl; moves = refl }
 
-directories : (rows : List Row) (dirs : Text) → IsPlainWord dirs → Goes plain_shape [] (before_dirs rows) dirs (behind_dirs rows dirs)
+directories : (rows : List Row) (dirs : Text) → IsPlainWord dirs → Goes plain_shape [] (before_dirs rows) dirs (after_dirs rows dirs)
 unfolding clap_on_literals
 directories rows dirs h = record {
   no_fault = rw (h.no_dashes, h.no_long, h.no_short) refl;
   moves = rw (h.no_dashes, h.no_long, h.no_short) refl;
 }
 
-flag_behind : (dirs : Text) → Goes plain_shape [] (behind_dirs [] dirs) (codes "--name-only") (between (flag_used (directories_used dirs [])) None idle)
+flag_after : (dirs : Text)
+    → Goes plain_shape [] (after_dirs [] dirs) (codes "--name-only") (between (flag_used (directories_used dirs [])) None idle)
 unfolding clap_on_literals
-flag_behind dirs = record { no_fault = refl; moves = refl }
+flag_after dirs = record { no_fault = refl; moves = refl }
 
-file_behind_flag : (dirs file : Text) → IsPlainWord file → Goes plain_shape [] (between (flag_used (directories_used dirs [])) None idle) file (in_files (option_rows directories_first dirs) (file ∷ []))
+file_after_flag : (dirs file : Text) → IsPlainWord file
+    → Goes plain_shape [] (between (flag_used (directories_used dirs [])) None idle) file
+    (in_files (option_rows directories_first dirs) (file ∷ []))
 unfolding clap_on_literals
-file_behind_flag dirs file h = record {
+file_after_flag dirs file h = record {
   no_fault = rw (h.no_dashes, h.no_long, h.no_short) refl;
   moves = rw (h.no_dashes, h.no_long, h.no_short) refl;
 }
@@ -78,18 +81,20 @@ flag_before : Goes plain_shape [] (walk_from nothing_held) (codes "--name-only")
 unfolding clap_on_literals
 flag_before = record { no_fault = refl; moves = refl }
 
-option_d_behind : Goes plain_shape [] (between (flag_used []) None idle) (codes "-d") (before_dirs (flag_used []))
+option_d_after : Goes plain_shape [] (between (flag_used []) None idle) (codes "-d") (before_dirs (flag_used []))
 unfolding clap_on_literals
-option_d_behind = record { no_fault = refl; moves = refl }
+option_d_after = record { no_fault = refl; moves = refl }
 
-file_behind_dirs : (dirs file : Text) → IsPlainWord file → Goes plain_shape [] (behind_dirs (flag_used []) dirs) file (in_files (option_rows flag_first dirs) (file ∷ []))
+file_after_dirs : (dirs file : Text) → IsPlainWord file
+    → Goes plain_shape [] (after_dirs (flag_used []) dirs) file (in_files (option_rows flag_first dirs) (file ∷ []))
 unfolding clap_on_literals
-file_behind_dirs dirs file h = record {
+file_after_dirs dirs file h = record {
   no_fault = rw (h.no_dashes, h.no_long, h.no_short) refl;
   moves = rw (h.no_dashes, h.no_long, h.no_short) refl;
 }
 
-file_without_flag : (dirs file : Text) → IsPlainWord file → Goes plain_shape [] (behind_dirs [] dirs) file (in_files (option_rows flag_absent dirs) (file ∷ []))
+file_without_flag : (dirs file : Text) → IsPlainWord file
+    → Goes plain_shape [] (after_dirs [] dirs) file (in_files (option_rows flag_absent dirs) (file ∷ []))
 unfolding clap_on_literals
 file_without_flag dirs file h = record {
   no_fault = rw (h.no_dashes, h.no_long, h.no_short) refl;
@@ -97,11 +102,14 @@ file_without_flag dirs file h = record {
 }
 
 -- over the options and the first file
-pub over_options : (o : Order) (dirs file : Text) (files : List Text) (end : Walk) → IsPlainWord dirs → IsPlainWord file → Leads plain_shape [] (in_files (option_rows o dirs) (file ∷ [])) files end
+pub over_options : (o : Order) (dirs file : Text) (files : List Text) (end : Walk) → IsPlainWord dirs → IsPlainWord file
+    → Leads plain_shape [] (in_files (option_rows o dirs) (file ∷ [])) files end
     → Leads plain_shape [] (walk_from nothing_held) (option_words o dirs (file ∷ files)) end
 over_options directories_first dirs file files end d f rest =
-    goes _ _ _ _ _ option_d (goes _ _ _ _ _ (directories [] dirs d) (goes _ _ _ _ _ (flag_behind dirs) (goes _ _ _ _ _ (file_behind_flag dirs file f) rest)))
+    goes _ _ _ _ _ option_d (goes _ _ _ _ _ (directories [] dirs d) (goes _ _ _ _ _ (flag_after dirs)
+    (goes _ _ _ _ _ (file_after_flag dirs file f) rest)))
 over_options flag_first dirs file files end d f rest =
-    goes _ _ _ _ _ flag_before (goes _ _ _ _ _ option_d_behind (goes _ _ _ _ _ (directories (flag_used []) dirs d) (goes _ _ _ _ _ (file_behind_dirs dirs file f) rest)))
+    goes _ _ _ _ _ flag_before (goes _ _ _ _ _ option_d_after (goes _ _ _ _ _ (directories (flag_used []) dirs d)
+    (goes _ _ _ _ _ (file_after_dirs dirs file f) rest)))
 over_options flag_absent dirs file files end d f rest =
     goes _ _ _ _ _ option_d (goes _ _ _ _ _ (directories [] dirs d) (goes _ _ _ _ _ (file_without_flag dirs file f) rest))

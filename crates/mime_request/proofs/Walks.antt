@@ -13,29 +13,36 @@ pub record Goes (s : Shape) (names : Names) (here : Walk) (word : Text) (next : 
 -- so do the words
 pub data Leads (s : Shape) (names : Names) : Walk → List Text → Walk → Type 0 where
   ends : (here : Walk) → Leads s names here [] here
-  goes : (here next end : Walk) (word : Text) (words : List Text) → Goes s names here word next → Leads s names next words end → Leads s names here (word ∷ words) end
+  goes : (here next end : Walk) (word : Text) (words : List Text) → Goes s names here word next → Leads s names next words end
+      → Leads s names here (word ∷ words) end
 
-fold_leads : (s : Shape) (names : Names) (here end : Walk) (words : List Text) → Leads s names here words end → fold (walked s.rules names) here words ≡ end
+fold_leads : (s : Shape) (names : Names) (here end : Walk) (words : List Text) → Leads s names here words end
+    → fold (walked s.rules names) here words ≡ end
 fold_leads s names here _ [] (ends _) = refl
-fold_leads s names here end (word ∷ words) (goes _ next _ _ _ step rest) = ap (λ (w : Walk). fold (walked s.rules names) w words) step.moves ∙ fold_leads s names next end words rest
+fold_leads s names here end (word ∷ words) (goes _ next _ _ _ step rest) =
+    ap (λ (w : Walk). fold (walked s.rules names) w words) step.moves ∙ fold_leads s names next end words rest
 
-pub walk_leads : (s : Shape) (names : Names) (end : Walk) (words : List Text) → Leads s names (walk_from nothing_held) words end → walk s.rules names nothing_held words ≡ end
+pub walk_leads : (s : Shape) (names : Names) (end : Walk) (words : List Text) → Leads s names (walk_from nothing_held) words end
+    → walk s.rules names nothing_held words ≡ end
 walk_leads s names end words way = fold_leads s names (walk_from nothing_held) end words way
 
-no_walk_fault : (s : Shape) (names : Names) (here end : Walk) (words : List Text) → Leads s names here words end → walk_fault s names here words ≡ []
+no_walk_fault : (s : Shape) (names : Names) (here end : Walk) (words : List Text) → Leads s names here words end
+    → walk_fault s names here words ≡ []
 unfolding walk_fault
 no_walk_fault s names here _ [] (ends _) = refl
-no_walk_fault s names here end (word ∷ words) (goes _ next _ _ _ step rest) = rw (step.no_fault, step.moves) (no_walk_fault s names next end words rest)
+no_walk_fault s names here end (word ∷ words) (goes _ next _ _ _ step rest) =
+    rw (step.no_fault, step.moves) (no_walk_fault s names next end words rest)
 
 pub neither_fault : (a b : Kinds) → a ≡ [] → b ≡ [] → or_else a b ≡ []
 neither_fault a b p q = rw p q
 
--- what may fail behind the last word
+-- what may fail after the last word
 abbrev pub end_fault : Shape → Bool → Held → Kinds
 end_fault s has_command held = or_else (settle_fault s.rules s.args_override_self held)
     (or_else (defaults_fault (settled s.rules held).rows s.rules) (check_fault s (finished s.rules held) has_command))
 
-pub no_level_fault : (s : Shape) (names : Names) (end : Walk) (words : List Text) (has_command : Bool) (below : Kinds) → Leads s names (walk_from nothing_held) words end → below ≡ []
+pub no_level_fault : (s : Shape) (names : Names) (end : Walk) (words : List Text) (has_command : Bool) (below : Kinds)
+    → Leads s names (walk_from nothing_held) words end → below ≡ []
     → end_fault s has_command end.held ≡ [] → level_fault s names nothing_held words has_command below ≡ []
 no_level_fault s names end words has_command below way none fits =
     neither_fault _ _ (no_walk_fault s names (walk_from nothing_held) end words way)

@@ -33,9 +33,10 @@ abbrev pub plain : App
 plain = with_rule (with_rule (with_rule (new_app (codes "plain")) directories_rule) name_only_rule)
     files_rule
 
--- `mimelook`, without its own name among the words: it wants a command
+-- `mimelook`, without its own name among the words: it has a version and wants a command
 abbrev pub mimelook : App
 mimelook = with_subcommand (on_top (λ s. record s {
+  has_version = true;
   no_binary_name = true;
   subcommand_required = true;
   disable_help_subcommand = true;

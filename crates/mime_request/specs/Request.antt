@@ -1,5 +1,6 @@
 -- What the words of a command line ask for.
-use Rattle.std.specs.Prelude.{◌≡◌, ◌==◌, Bool, true, false, not, List, [], ◌∷◌, Option, Some, None, option_map, filter, codes, slice_get, Result, MatchResult, IsErrAnd, if◌then◌else◌}
+use Rattle.std.specs.Prelude.{◌≡◌, ◌==◌, Bool, true, false, not, List, [], ◌∷◌, Option, Some, None, option_map, filter, codes, slice_get}
+use Rattle.std.specs.Prelude.{Result, MatchResult, IsErrAnd, if◌then◌else◌}
 use Rattle.std.specs.List.{slice_split}
 use Rattle.std.specs.Option.{option_map_or}
 use Rattle.std.specs.Str.{bytes_eq}
@@ -16,48 +17,54 @@ use Rattle.mime_request.specs.declared.request.Request.{Request}
 use Rattle.mime_request.specs.declared.request.Request.TheVariants as request
 
 -- what can be asked for
-pub data Asked : Type 0 where
+pub data PlainRequest : Type 0 where
   -- the types of these files by their names alone, from this directory or from none
-  plain : Option Text → List Text → Asked
+  plain : Option Text → List Text → PlainRequest
 
--- what words mean: they ask for something, or are answered by an error of one of these kinds, help
--- among them
+-- what words mean: they ask for something, or are answered by an error of one of these kinds, among
+-- them help and the version
 pub data Meaning : Type 0 where
-  asks : Asked → Meaning
+  asks : PlainRequest → Meaning
   refused : Kinds → Meaning
 
 -- the parts of a list with colons (58), but for the empty ones
 abbrev pub parts : Text → List Text
 parts dirs = filter (λ part. not (is_empty part)) (slice_split (λ b. b == 58) dirs)
 
+-- the parts of DIRS, none where it is missing
 abbrev pub parts_of : Option Text → List Text
 parts_of None = []
 parts_of (Some dirs) = parts dirs
 
+-- whether the flag is given: its text is `true`
 abbrev pub is_on : Option Text → Bool
 is_on flag = option_map_or (λ text. bytes_eq text (codes "true")) flag false
 
--- at most one directory, the names alone, and files
+-- what `plain` means by its directories, its flag and its files: at most one directory, the flag, and
+-- files; else it is refused
 abbrev pub plain_of : List Text → Bool → Option (List Text) → Meaning
 plain_of (first ∷ second ∷ more) name_only files = refused (kind.TooManyValues ∷ [])
 plain_of dirs false files = refused (kind.MissingRequiredArgument ∷ [])
 plain_of dirs true None = refused (kind.MissingRequiredArgument ∷ [])
 plain_of dirs true (Some files) = asks (plain (slice_get dirs 0) files)
 
+-- what `plain` means by what clap found after it
 abbrev pub plain_meaning : List Row → Meaning
 plain_meaning rows = plain_of (parts_of (first_of (codes "dirs") rows))
     (is_on (first_of (codes "name-only") rows)) (all_of (codes "file") rows)
 
+-- what the command that clap met means, if it met one
 abbrev pub subcommand_meaning : Option (Text × List Row) → Meaning
 subcommand_meaning None = refused (kind.MissingSubcommand ∷ [])
 subcommand_meaning (Some p) = if bytes_eq p.0 (codes "plain") then plain_meaning p.1
     else refused (kind.InvalidSubcommand ∷ [])
 
+-- the kinds of error come first; where there are none, the command decides
 abbrev pub meaning_by : Kinds → Option (Text × List Row) → Meaning
 meaning_by [] met = subcommand_meaning met
 meaning_by (k ∷ ks) met = refused (k ∷ ks)
 
--- what the words mean; they are those behind the program's name
+-- what the words mean; they are those after the program's name
 unfoldable pub meaning_of : List Text → Meaning
 meaning_of words = meaning_by (fault_of mimelook words) (subcommand_of mimelook words)
 
@@ -66,12 +73,12 @@ abbrev pub Finds : List Text → Result ArgMatches Error → Type 0
 Finds words r = MatchResult r (λ m. (fault_of mimelook words ≡ [])
     × (subcommand_rows_of m ≡ subcommand_of mimelook words)) (HasKind (fault_of mimelook words))
 
--- a request without where it lies in memory
-abbrev pub asked : Request → Asked
-asked (request.Plain directory files) =
+-- the plain value of a request
+abbrev pub plain_request : Request → PlainRequest
+plain_request (request.Plain directory files) =
     plain (option_map (λ text. text.now) directory) (texts files.items)
 
 -- the request is what the words mean, unless memory ran out
 abbrev pub Means : Meaning → Result Request Error → Type 0
-Means (asks a) r = MatchResult r (λ q. asked q ≡ a) (λ e. kind_of e ≡ kind.OutOfMemory)
+Means (asks a) r = MatchResult r (λ q. plain_request q ≡ a) (λ e. kind_of e ≡ kind.OutOfMemory)
 Means (refused kinds) r = IsErrAnd r (HasKind kinds)

@@ -3,17 +3,17 @@ use Rattle.std.specs.Prelude.{◌≡◌, ◌<◌, ◌^◌, ◌==◌, Bool, true,
 use Rattle.std.specs.List.{list_all}
 use Rattle.clap.specs.Walk.{Text}
 
--- a hyphen (45) begins an option
+-- whether the word begins with a hyphen (45), as an option does
 abbrev pub is_option : Text → Bool
 is_option [] = false
 is_option (x ∷ xs) = x == 45
 
--- no options, and at least one
+-- at least one word, and none is an option
 abbrev pub are_files : List Text → Bool
 are_files [] = false
 are_files (file ∷ files) = list_all (λ word. not (is_option word)) (file ∷ files)
 
--- a path in DIRS: not empty, and with no colon (58)
+-- whether it is one path of DIRS: not empty, and with no colon (58)
 abbrev pub is_path : Text → Bool
 is_path [] = false
 is_path (x ∷ xs) = list_all (λ b. not (b == 58)) (x ∷ xs)

@@ -1,4 +1,4 @@
-//! The command line of mimelook, as clap is told it.
+//! The command line of mimelook, as clap is told it. This project's own.
 
 ghost use Rattle.std.specs.Prelude.{◌≡◌, IfOk, false};
 ghost use Rattle.clap.specs.Words.{app_of, rule_of};
@@ -8,9 +8,35 @@ ghost use Rattle.mime_request.specs.CommandLine.{directories_rule, files_rule, m
 use clap::{Arg, ArgAction, Command};
 use std::alloc::{AllocError, Global};
 
-const EXAMPLE: &str = "Example:
-  $ mimelook plain -d /usr/share --name-only notes.txt
+/// What `mimelook --version` prints after the program's name.
+const VERSION: &str = "0.1.0";
+
+const USAGE: &str = "mimelook plain --name-only -d DIRS FILE...";
+
+const AFTER_HELP: &str = "\
+Messages go to standard error. A missing DIRS/mime/globs2 counts as empty.
+A FILE that is not UTF-8 refuses the whole call.
+
+Exit status:
+  0  every FILE was answered; or help or the version was printed
+  1  the name of some FILE is too long (above 4096 bytes); the others were answered
+  2  the command line is wrong, or a word of it is not UTF-8
+  3  the data can't be read, or the output can't be written
+  4  out of memory
+
+Example:
+  $ mimelook plain --name-only -d /usr/share notes.txt
   notes.txt: text/plain";
+
+fn with_help<'a>(command: Command<'a>, about: &'a str) -> Command<'a>
+    ensures app { app_of result ≡ app_of command.entry }
+    ensures local { (out-Command result).has_globals ≡ (out-Command command.entry).has_globals }
+{
+    command
+        .about(about)
+        .override_usage(USAGE)
+        .after_help(AFTER_HELP)
+}
 
 fn directories<'a>(alloc: Global) -> Arg<'a>
     ensures rule { rule_of result ≡ directories_rule }
@@ -20,7 +46,9 @@ fn directories<'a>(alloc: Global) -> Arg<'a>
         .short('d')
         .value_name("DIRS")
         .required(true)
-        .help("The data directory whose mime/globs2 has the rules; \"\" is none")
+        .help(
+            "The data directory, such as /usr/share, whose mime/globs2 has the rules; \"\" is none",
+        )
 }
 
 fn name_only<'a>(alloc: Global) -> Arg<'a>
@@ -49,25 +77,26 @@ pub(crate) fn plain_command<'a>(alloc: Global) -> Result<Command<'a>, AllocError
     ensures app { IfOk result (λ c. app_of c ≡ plain) }
     ensures local { IfOk result (λ c. (out-Command c).has_globals ≡ false) }
 {
-    let command = Command::new(alloc, "plain")
-        .about("Prints a line FILE: TYPE for each file, from the rules of a data directory")
-        .after_help(EXAMPLE);
+    let about = "Prints a line FILE: TYPE for each FILE, from the rules of a data directory";
+    let command = with_help(Command::new(alloc, "plain"), about);
     let command = command.arg(directories(alloc))?;
     let command = command.arg(name_only(alloc))?;
     let command = command.arg(files(alloc))?;
     Ok(command)
 }
 
-/// The command line behind the program's name.
+/// The command line after the program's name.
 pub(crate) fn mimelook_command<'a>(alloc: Global) -> Result<Command<'a>, AllocError>
     ensures { IfOk result (λ c. app_of c ≡ mimelook) }
 {
-    let command = Command::new(alloc, "mimelook")
-        .about("Tells the MIME types of files")
-        .after_help(EXAMPLE)
-        .no_binary_name(true)
-        .subcommand_required(true)
-        .disable_help_subcommand(true);
+    let command = with_help(
+        Command::new(alloc, "mimelook"),
+        "Tells the MIME types of files",
+    )
+    .version(VERSION)
+    .no_binary_name(true)
+    .subcommand_required(true)
+    .disable_help_subcommand(true);
     let command = command.bin_name("mimelook")?;
     let plain = plain_command(alloc)?;
     let command = command.subcommand(plain)?;

@@ -1,15 +1,25 @@
-//! What the words of mimelook's command line ask for.
+//! The command line of mimelook: what its words ask for. This project's own.
 //!
-//! The crate above gets a [`Request`], or an error whose text is help or says what is wrong with
-//! the words. What words mean is stated by clap's exact account of a command line, and for the
-//! usual spellings with no word of clap.
+//! [`request_of`] takes the words after the program's name and gives a [`Request`], or an error whose
+//! text is for the user: help, the version, or what is wrong with the words.
+//!
+//! ```text
+//! let words = ["plain", "--name-only", "-d", "/usr/share", "notes.txt"];
+//! match request_of(alloc, &words) {
+//!     Ok(Request::Plain { directory, files }) => ..,
+//!     Err(error) => ..,
+//! }
+//! ```
+//!
+//! Here `directory` is `Some("/usr/share")` and `files` is `["notes.txt"]`.
+//!
+//! Read `specs/Request.antt` first for what words mean, then [`request_of`]; `command` describes the
+//! options to clap, and `spelling` has the laws that say what usual words mean with no word of clap.
 #![tactic(auto)]
 
 mod command;
 mod request;
 mod spelling;
-#[cfg(test)]
-mod tests;
 
 pub use request::{Request, request_of};
 pub use spelling::{

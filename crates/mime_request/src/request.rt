@@ -29,11 +29,11 @@ pub enum Request<'a> {
     },
 }
 
-/// What the words ask for; they are those behind the program's name.
+/// What the words ask for; they are those after the program's name.
 ///
-/// An error has the whole text for the user. With [`ErrorKind::DisplayHelp`] it is help, which was
-/// asked for; with [`ErrorKind::OutOfMemory`] memory ran out; with any other kind the words are
-/// mistaken.
+/// An error has the whole text for the user. With [`ErrorKind::DisplayHelp`] it is help and with
+/// [`ErrorKind::DisplayVersion`] the version, either of which was asked for; with
+/// [`ErrorKind::OutOfMemory`] it is out of memory; with any other kind the words are mistaken.
 pub fn request_of<'a, S: AsStr>(alloc: Global, words: &'a [S]) -> Result<Request<'a>, Error>
     ensures { Means (meaning_of (map S.text words.entry.now)) result }
 {
@@ -59,7 +59,7 @@ fn asked_by<'a>(alloc: Global, matches: &ArgMatches<'a>) -> Result<Request<'a>, 
             if name == "plain" {
                 let is_name_only = is_on(value_of(inner, "name-only"));
                 let files = values_of(inner, "file");
-                plain_request(alloc, value_of(inner, "dirs"), is_name_only, files)
+                request_of_plain(alloc, value_of(inner, "dirs"), is_name_only, files)
             } else {
                 let message = "give a command that --help names";
                 Err(refusal(alloc, ErrorKind::InvalidSubcommand, message))
@@ -68,7 +68,7 @@ fn asked_by<'a>(alloc: Global, matches: &ArgMatches<'a>) -> Result<Request<'a>, 
     }
 }
 
-fn plain_request<'a>(
+fn request_of_plain<'a>(
     alloc: Global,
     dirs: Option<&'a str>,
     is_name_only: bool,

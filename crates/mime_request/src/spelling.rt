@@ -2,7 +2,8 @@
 
 ghost use Rattle.std.specs.Prelude.{◌≡◌, ◌<◌, ◌≤◌, List, [], ◌∷◌, ◌++◌, codes, length, slice_get, true};
 ghost use Rattle.clap.specs.Walk.{Text};
-ghost use Rattle.clap.specs.declared.error.kind.ErrorKind.TheVariants.{DisplayHelp, MissingRequiredArgument, MissingSubcommand, TooManyValues};
+ghost use Rattle.clap.specs.declared.error.kind.ErrorKind.TheVariants.{DisplayHelp, DisplayVersion, MissingRequiredArgument};
+ghost use Rattle.clap.specs.declared.error.kind.ErrorKind.TheVariants.{MissingSubcommand, TooManyValues};
 ghost use Rattle.mime_request.specs.Request.{asks, meaning_of, parts, plain, refused};
 ghost use Rattle.mime_request.specs.Spelling.{AreUsual, is_path, plain_words, plain_words_flag_first, plain_words_without_flag};
 
@@ -30,12 +31,13 @@ pub fn plain_without_name_only()
         ≡ refused (MissingRequiredArgument ∷ []) }
 {}
 
-/// `--help`, alone or behind the command, asks for help; no words at all are a mistake, and so are
-/// words with no FILE.
+/// `--help`, alone or after the command, asks for help, and `--version` for the version; no words at
+/// all are a mistake, and so are words with no FILE.
 pub fn words_without_files()
     ensures help { meaning_of (codes "--help" ∷ []) ≡ refused (DisplayHelp ∷ []) }
     ensures help_of_plain { meaning_of (codes "plain" ∷ codes "--help" ∷ [])
         ≡ refused (DisplayHelp ∷ []) }
+    ensures version { meaning_of (codes "--version" ∷ []) ≡ refused (DisplayVersion ∷ []) }
     ensures nothing { meaning_of [] ≡ refused (MissingSubcommand ∷ []) }
     ensures no_file { meaning_of (codes "plain" ∷ codes "--name-only" ∷ codes "-d" ∷ [] ∷ [])
         ≡ refused (MissingRequiredArgument ∷ []) }

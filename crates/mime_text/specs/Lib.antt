@@ -1,13 +1,3 @@
 pub mod Lines
-pub mod Names
-pub mod Globs2
-pub mod Pairs
-pub mod LinesRows
-pub mod Globs2Rows
-pub mod PairsRows
-pub mod MagicEntries
-pub mod MagicReading
-pub mod MagicText
-pub mod MagicForest
-pub mod MagicFile
-pub mod MagicRows
+pub mod Magic
+pub mod Merging

@@ -1,3 +1,12 @@
+pub mod Rows
+pub mod File
+pub mod Names
+pub mod Globs2
+pub mod Globs2Rows
+pub mod Pairs
+pub mod PairsRows
+pub mod Icons
+pub mod IconsRows
 -- The lines of a text, their fields and their numbers.
 use Rattle.std.specs.Prelude.{ℕ, ◌==◌, ◌↔◌, Bool, true, if◌then◌else◌, List, [], ◌∷◌, map, filter, Contains}
 use Rattle.std.specs.List.{enumerate_from, onto_first, slice_split}
@@ -21,9 +30,9 @@ abbrev pub numbers : (List ℕ → Bool) → ℕ → List (List ℕ) → List �
 numbers test n text_lines =
     map (λ line. line.0) (filter (λ line. test line.1) (enumerate_from n text_lines))
 
--- the numbers of the bad lines of a text, counted from 1
+-- the numbers of the malformed lines of a text, counted from 1
 unfoldable pub skipped_of : (List ℕ → Bool) → List ℕ → List ℕ
-skipped_of is_bad text = numbers is_bad 1 (lines text)
+skipped_of is_malformed text = numbers is_malformed 1 (lines text)
 
 -- a list has just the members of another, in whatever order and however often
 abbrev pub HasJust : List (List ℕ) → List (List ℕ) → Type 0

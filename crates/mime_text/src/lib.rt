@@ -1,15 +1,29 @@
-//! Readers of the generated text files of a `mime` folder.
+//! Readers of the generated text files of a `mime` folder, and the merging of folders.
 //!
-//! Each promises both sides: what is read is what the text spells, and what the text spells is read,
-//! but for want of memory. What a text does not spell is told by its place.
+//! Each reader promises both sides: what is read is what the text spells, and what the text spells is
+//! read, unless an allocation is refused. Malformed lines are told by their numbers, a fault of `magic`
+//! by its offset. `merging` makes one database of what several folders say, the most preferred first.
+//!
+//! A caller reads the six files of each folder, a missing one as no bytes, and merges them:
+//!
+//! ```text
+//! let globs = read_globs2(alloc, bytes)?;
+//! let magic = read_magic(alloc, bytes)?;
+//! let database = merge(alloc, dirs)?;
+//! ```
+//!
+//! `lines` is the module to read first.
 #![tactic(auto)]
 
-mod globs2;
 mod lines;
 mod magic;
-mod names;
-mod pairs;
+mod merging;
 
-pub use globs2::{GlobsFile, read_globs2};
-pub use magic::{MagicFault, MagicFile, forest_is_by_runs, magic_text_or_fault, read_magic};
-pub use pairs::{PairsFile, read_pairs};
+pub use lines::globs2::{GlobsFile, read_globs2};
+pub use lines::icons::{IconsFile, read_icons};
+pub use lines::pairs::{PairsFile, read_pairs};
+pub use magic::{
+    MagicFault, MagicFile, fault_is_by_table, faults_stay, forest_is_by_runs, magic_text_or_fault,
+    read_magic, truncated_can_go_on,
+};
+pub use merging::{DirFiles, merge};

@@ -1,7 +1,13 @@
-//! The lines of a text.
+//! The line files, and the lines of a text.
 //!
-//! A line is the bytes up to a newline; what stands behind the last newline is a line where it
-//! isn't empty. A carriage return is an ordinary byte. This project's own.
+//! A line is the bytes up to a newline; what stands after the last newline is a line where it isn't
+//! empty. A carriage return is an ordinary byte. This project's own.
+
+pub mod file;
+pub mod globs2;
+pub mod icons;
+mod names;
+pub mod pairs;
 
 ghost use Rattle.std.specs.Prelude.{◌≡◌, ◌<◌, ◌∷◌, length, slice_index};
 ghost use Rattle.mime_text.specs.Lines.{fields, is_passed, lines};
@@ -53,7 +59,7 @@ impl<'a> Iterator for Lines<'a> {
     }
 }
 
-/// The first line of a text, and the bytes behind its newline.
+/// The first line of a text, and the bytes after its newline.
 fn cut_line(text: &[u8]) -> (&[u8], &[u8])
     requires { 0 < length text.now }
     ensures { lines text.now ≡ result.0.now ∷ lines result.1.now }

@@ -4,7 +4,7 @@
 //! them a forest. It is read once, from front to back, and the first fault that is met is the answer.
 //!
 //! This project's own are the numbers of the faults and their offsets, the limits, what is made of a
-//! line that ends in something unknown (it is ignored, with the deeper lines behind it), and where a
+//! line that ends in something unknown (it is ignored, with the deeper lines after it), and where a
 //! deletion marker may stand.
 
 mod entry;
@@ -20,7 +20,9 @@ mod text;
 
 pub use fault::MagicFault;
 pub use file::MagicFile;
-pub use laws::{forest_is_by_runs, magic_text_or_fault};
+pub use laws::{
+    fault_is_by_table, faults_stay, forest_is_by_runs, magic_text_or_fault, truncated_can_go_on,
+};
 pub use read::read_magic;
 
 #[cfg(test)]

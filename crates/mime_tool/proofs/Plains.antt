@@ -1,86 +1,117 @@
--- From the rules of a directory and lines to a run of `plain`.
-use Rattle.std.proofs.Common.{◌≡◌, ℕ, List, [], ◌++◌, Option, Some, None, IfSome, Result, Ok, Err, refl, sym, ap, subst, string_bytes}
-use Rattle.mime_base.specs.declared.rule.GlobRule.{GlobRule}
-use Rattle.mime_text.specs.Globs2.{rules_of}
+-- From the rules of a directory, and lines, to a run of `plain`.
+use Rattle.std.proofs.Common.{◌≡◌, ◌∙◌, ℕ, true, false, List, [], inl, inr, Option, Some, None, Ok, Err, Result, Vec, ap, refl, subst}
+use Rattle.std.proofs.Common.{sym}
+use Rattle.std.specs.declared.alloc.Global.{Global}
+use Rattle.std.specs.List.{flat_map}
+use Rattle.mime_lookup.specs.Choice.{Chooses}
+use Rattle.mime_base.specs.Database.Subclass.{no_pairs}
+use Rattle.mime_base.specs.declared.database.rule.GlobRule.{GlobRule}
+use Rattle.mime_text.specs.Lines.Globs2.{is_malformed_rule, rules_of}
 use Rattle.mime_text.specs.Lines.{skipped_of}
-use Rattle.mime_tool.specs.Plain.{IsPlainBy, all_ignored, silent}
-use Rattle.mime_tool.specs.Run.{Run, stopped_at}
-use Rattle.mime_tool.specs.Sink.{Wrote, WroteFront}
+use Rattle.mime_text.specs.Lines.File.{entries_by}
+use Rattle.mime_tool.specs.Desk.{Does, Ends, ReadsText}
+use Rattle.mime_tool.specs.Files.{Stored}
+use Rattle.mime_tool.specs.Finish.{Sinks, Writes, WritesFront}
+use Rattle.mime_tool.specs.Plain.{IsLine, IsLineBy, IsPlain, all_ignored, base_name, fits, ignored, path_in, stored_in, too_long, type_line}
+use Rattle.mime_tool.specs.PlainSteps.{ParsesRules, ReadsRules}
+use Rattle.mime_tool.specs.Run.{IsEach, Run, joined, printed, said, silent, stopped, unanswered}
 use Rattle.mime_tool.specs.declared.stop.Stop.{Stop}
 use Rattle.mime_tool.specs.declared.stop.Stop.TheVariants as stop
-use Rattle.mime_tool.specs.Steps.{Ends, IsLines, ReadsRules, said}
-use Rattle.mime_tool.proofs.Sinks.{front-append, front_longer, front_nothing, wrote-append, wrote_nothing}
-use Rattle.mime_tool.proofs.Runs.{lines_none, no_stop}
+use Rattle.mime_tool.proofs.Sinks.{front_nothing}
+use Rattle.mime_tool.proofs.Ends.{ends_said, part_none, writes_nothing}
+use Rattle.mime_tool.proofs.Runs.{joined-silent}
 
--- a run, behind what is said of ignored lines
-abbrev behind : List ℕ → Run → Run
-behind first run = record run { err = first ++ run.err }
+-- sinks that are the same hold what they held
+pub writes_same : (a b : Sinks) → b ≡ a → Writes a b silent
+writes_same a b same = subst (λ (s : Sinks). Writes a s silent) (sym same) (writes_nothing a)
 
--- lines by the rules of a text
-plain_lines : (bs path : List ℕ) (files : List (List ℕ)) (run : Run) → IsLines (rules_of bs) files run → IsPlainBy (Some bs) path files (behind (all_ignored path bs) run)
-plain_lines bs path files run p = (p.0, p.1, ap (behind (all_ignored path bs)) p.2)
+-- ---- one line
 
--- lines behind the rules
-pub ends_behind : (bs path : List ℕ) (files : List (List ℕ)) (o o' e e' e'' : Option (List ℕ)) (r : Result ℕ Stop) → Wrote e e' (all_ignored path bs)
-    → Ends (IsLines (rules_of bs)) files (record { out = o; err = e' }) (record { out = o'; err = e'' }) r
-    → Ends (IsPlainBy (Some bs) path) files (record { out = o; err = e }) (record { out = o'; err = e'' }) r
-ends_behind bs path files o o' e e' e'' (Ok status) w p =
-    (behind (all_ignored path bs) p.0, plain_lines bs path files p.0 p.1, p.2, (p.3.0, wrote-append e e' e'' (all_ignored path bs) p.0.err w p.3.1))
-ends_behind bs path files o o' e e' e'' (Err (stop.CannotRead q)) w p = absurd (no_stop (rules_of bs) files (string_bytes q) p.0 p.1)
-ends_behind bs path files o o' e e' e'' (Err stop.CannotWrite) w p = p
-ends_behind bs path files o o' e e' e'' (Err stop.OutOfMemory) w p = record {
-  front = p.front;
-  rest = p.rest;
-  split = p.split;
-  run = behind (all_ignored path bs) p.run;
-  is_run = plain_lines bs path p.front p.run p.is_run;
-  out = p.out;
-  err = front-append e e' e'' (all_ignored path bs) p.run.err w p.err;
-}
+-- the line of a file whose name has a type
+pub line_typed : (rules : List GlobRule) (file kind : List ℕ) → (fits file ≡ true) × Chooses no_pairs rules (base_name file) kind
+    → IsLine rules file (printed (type_line file kind))
+line_typed rules file kind p = subst (λ b. IsLineBy b rules file (printed (type_line file kind))) (sym p.0) (kind, p.1, refl)
 
--- the run over no file
-pub plain_none : (text : Option (List ℕ)) (path : List ℕ) → (run : Run) × IsPlainBy text path [] run × (rest : List ℕ) × (run.err ≡ said text path ++ rest)
-plain_none None path = (stopped_at path silent, refl, (stopped_at path silent).err, refl)
-plain_none (Some bs) path = (behind (all_ignored path bs) silent, plain_lines bs path [] silent (lines_none (rules_of bs)), [], refl)
+-- a file whose name is too long
+pub line_too_long : (rules : List GlobRule) (file : List ℕ) → fits file ≡ false → IsLine rules file (unanswered (too_long file))
+line_too_long rules file p = subst (λ b. IsLineBy b rules file (unanswered (too_long file))) (sym p) refl
 
--- the rules can't be read
-pub ends_unread : (text : Option (List ℕ)) (path : List ℕ) (files : List (List ℕ)) (o e e' : Option (List ℕ)) (s : Stop) → ReadsRules text path e e' (Err s)
-    → Ends (IsPlainBy text path) files (record { out = o; err = e }) (record { out = o; err = e' }) (Err s)
-ends_unread text path files o e e' (stop.CannotRead q) p =
-    (silent, rw (p.0, p.1) refl, (wrote_nothing o, (rw p.0 at p.2)))
-ends_unread text path files o e e' stop.CannotWrite p = absurd p
-ends_unread text path files o e e' stop.OutOfMemory p =
-    let none = plain_none text path in
-    record {
-      front = [];
-      rest = files;
-      split = refl;
-      run = none.0;
-      is_run = none.1;
-      out = front_nothing o none.0.out;
-      err = subst (λ (bs : List ℕ). WroteFront e e' bs) (sym none.3) (front_longer e e' (said text path) none.2 p);
-    }
-
--- the lines of files by the rules that were read
-pub ends_plain : (text : Option (List ℕ)) (path : List ℕ) (files : List (List ℕ)) (o o' e e' e'' : Option (List ℕ)) (r : Result ℕ Stop) (bs : List ℕ) (rules : List GlobRule) → text ≡ Some bs → rules ≡ rules_of bs
-    → Wrote e e' (said text path) → Ends (IsLines rules) files (record { out = o; err = e' }) (record { out = o'; err = e'' }) r
-    → Ends (IsPlainBy text path) files (record { out = o; err = e }) (record { out = o'; err = e'' }) r
-ends_plain text path files o o' e e' e'' r bs rules is same w p =
-    let q = rw same at p in
-    let v = rw is at w in
-    rw is (ends_behind bs path files o o' e e' e'' r v q)
-
--- what holds of each value holds of the one that there is
-pub for_any : {X : Type 0} (o : Option X) (P : X → Type 0) → ((x : X) → P x) → IfSome o P
-for_any None P h = tt
-for_any (Some x) P h = h x
+-- ---- the rules
 
 -- an empty text has no rules
 pub rules_of-nil : rules_of [] ≡ []
-unfolding rules_of
+unfolding rules_of entries_by
 rules_of-nil = refl
 
--- and no line that spells nothing
+-- and no malformed line
 pub all_ignored-nil : (path : List ℕ) → all_ignored path [] ≡ []
 unfolding skipped_of
 all_ignored-nil path = refl
+
+-- without a directory there are no rules
+pub rules_none : (stored : List ℕ → Stored) (a : Sinks) (rules : Vec GlobRule Global) → rules.items ≡ []
+    → ReadsRules (stored_in stored None) (path_in None) a a (Ok rules)
+rules_none stored a rules none =
+    ([], refl, none ∙ sym rules_of-nil, subst (λ (bs : List ℕ). Writes a a (said bs)) (sym (all_ignored-nil [])) (writes_nothing a))
+
+-- the text isn't read
+pub rules_unread : (stored : Stored) (path : List ℕ) (a b : Sinks) (s : Stop) → ReadsText stored path a b (Err s)
+    → ReadsRules stored path a b (Err s)
+rules_unread stored path a b stop.OutOfMemory p = inl p
+rules_unread stored path a b stop.CannotWrite p = absurd p
+rules_unread stored path a b (stop.Refused m) p = p
+
+-- memory ran out before its malformed lines were known
+pub parses_nothing : (text path : List ℕ) (s : Sinks) → ParsesRules text path s s (Err stop.OutOfMemory)
+parses_nothing text path s = (front_nothing s.out [], front_nothing s.err (all_ignored path text))
+
+-- they aren't said
+pub parses_unsaid : (X : Type 0) (text path numbers : List ℕ) (a b : Sinks) (s : Stop) → numbers ≡ skipped_of is_malformed_rule text
+    → Does {X = X} (said (flat_map (ignored path) numbers)) a b (Err s) → ParsesRules text path a b (Err s)
+parses_unsaid X text path numbers a b stop.OutOfMemory are p =
+    subst (λ (ns : List ℕ). WritesFront a b (said (flat_map (ignored path) ns))) are p
+parses_unsaid X text path numbers a b stop.CannotWrite are p = p
+parses_unsaid X text path numbers a b (stop.Refused m) are p = p
+
+-- they are said
+pub parses_said : (X : Type 0) (text path numbers : List ℕ) (a b : Sinks) (rules : Vec GlobRule Global) (x : X)
+    → numbers ≡ skipped_of is_malformed_rule text → rules.items ≡ rules_of text
+    → Does {X = X} (said (flat_map (ignored path) numbers)) a b (Ok x) → ParsesRules text path a b (Ok rules)
+parses_said X text path numbers a b rules x are same p =
+    (same, subst (λ (ns : List ℕ). Writes a b (said (flat_map (ignored path) ns))) are p)
+
+-- a text that was read is parsed
+pub rules_parsed : (stored : Stored) (path : List ℕ) (a b c : Sinks) (text : Vec ℕ Global) (r : Result (Vec GlobRule Global) Stop)
+    → ReadsText stored path a b (Ok text) → ParsesRules text.items path b c r → ReadsRules stored path a c r
+rules_parsed stored path a b c text (Ok rules) p q =
+    (text.items, p.1, q.0, subst (λ (s : Sinks). Writes s c (said (all_ignored path text.items))) p.0 q.1)
+rules_parsed stored path a b c text (Err stop.OutOfMemory) p q =
+    inr (text.items, p.1, subst (λ (s : Sinks). WritesFront s c (said (all_ignored path text.items))) p.0 q)
+rules_parsed stored path a b c text (Err stop.CannotWrite) p q = sym (ap (λ (s : Sinks). s.out) p.0) ∙ q
+rules_parsed stored path a b c text (Err (stop.Refused m)) p q = absurd q
+
+-- ---- the whole command
+
+-- the rules aren't read
+pub plain_unread : (stored : List ℕ → Stored) (dir : Option (List ℕ)) (files : List (List ℕ)) (a b : Sinks) (s : Stop)
+    → ReadsRules (stored_in stored dir) (path_in dir) a b (Err s) → Ends (IsPlain stored dir) files a b (Err s)
+plain_unread stored dir files a b stop.OutOfMemory (inl p) = inl (writes_same a b p)
+plain_unread stored dir files a b stop.OutOfMemory (inr p) =
+    let first = said (all_ignored (path_in dir) p.0) in
+    inr (
+      joined first silent,
+      part_none (IsPlain stored dir) files (joined first silent) (Some p.0, p.1, (silent, refl, refl)),
+      subst
+          (λ (r : Run). WritesFront a b r) (sym (joined-silent first)) p.2,
+    )
+plain_unread stored dir files a b stop.CannotWrite p = p
+plain_unread stored dir files a b (stop.Refused m) p =
+    (silent, (None, p.1, ap (λ (t : List ℕ). stopped t silent) p.2), writes_same a b p.0)
+
+-- the rules are read, and the files answered
+pub plain_lines : (stored : List ℕ → Stored) (dir : Option (List ℕ)) (files : List (List ℕ)) (a b c : Sinks) (rules : Vec GlobRule Global)
+    (r : Result ℕ Stop) → ReadsRules (stored_in stored dir) (path_in dir) a b (Ok rules)
+    → Ends (IsEach (IsLine rules.items)) files b c r → Ends (IsPlain stored dir) files a c r
+plain_lines stored dir files a b c rules r read p =
+    ends_said (IsEach (IsLine rules.items)) (IsPlain stored dir) files (all_ignored (path_in dir) read.0) a b c r
+    (λ fs run q. (Some read.0, read.1, (run, subst (λ (rs : List GlobRule). IsEach (IsLine rs) fs run) read.2 q, refl))) refl read.3 p

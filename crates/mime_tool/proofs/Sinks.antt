@@ -1,9 +1,9 @@
 -- How what is put into one sink adds up.
-use Rattle.std.proofs.Common.{◌≡◌, ◌∙◌, ◌+◌, ◌<◌, ℕ, List, [], ◌∷◌, ◌++◌, Option, Some, None, Result, Ok, Err, refl, sym, ap, append-nil, append_assoc, subst, length, take, drop, get_or, drop-cons, add-one}
+use Rattle.std.proofs.Common.{◌≡◌, ◌∙◌, ◌+◌, ◌<◌, ℕ, List, [], ◌∷◌, ◌++◌, Option, Some, None, Result, Ok, Err, refl, sym, ap, append-nil}
+use Rattle.std.proofs.Common.{append_assoc, subst, length, take, drop, get_or, drop-cons, add-one}
 use Rattle.std.specs.List.{flat_map}
 use Rattle.std.proofs.lemmas.List.{take-append-drop}
 use Rattle.std.proofs.lemmas.Grind.{flat_map-append}
-use Rattle.std.specs.Prelude.{IsErrAnd}
 use Rattle.mime_base.specs.declared.memory.OutOfMemory.{OutOfMemory as NoMemory}
 use Rattle.mime_tool.specs.Sink.{Takes, Wrote, WroteFront}
 use Rattle.mime_tool.specs.Stop.{Says}
@@ -20,7 +20,7 @@ pub front_nothing : (s : Option (List ℕ)) (bs : List ℕ) → WroteFront s s b
 front_nothing None bs = tt
 front_nothing (Some xs) bs = ([], bs, refl, ap Some (sym (append-nil xs)))
 
--- more bytes behind others
+-- more bytes after others
 pub wrote-append : (a b c : Option (List ℕ)) (x y : List ℕ) → Wrote a b x → Wrote b c y → Wrote a c (x ++ y)
 wrote-append None b c x y p q = tt
 wrote-append (Some xs) b c x y p q =
@@ -37,20 +37,26 @@ pub front_longer : (a b : Option (List ℕ)) (x y : List ℕ) → WroteFront a b
 front_longer None b x y p = tt
 front_longer (Some xs) b x y p = (p.0, p.1 ++ y, ap (λ (bs : List ℕ). bs ++ y) p.2 ∙ append_assoc p.0 p.1 y, p.3)
 
--- a front of more bytes behind others
+-- a front of more bytes after others
 pub front-append : (a b c : Option (List ℕ)) (x y : List ℕ) → Wrote a b x → WroteFront b c y → WroteFront a c (x ++ y)
 front-append None b c x y p q = tt
 front-append (Some xs) b c x y p q =
-    let later = subst (λ (s : Option (List ℕ)). WroteFront s c y) p q in
-    (x ++ later.0, later.1, ap (λ (bs : List ℕ). x ++ bs) later.2 ∙ sym (append_assoc x later.0 later.1), later.3 ∙ ap Some (append_assoc xs x later.0))
+    let later = subst (λ (s : Option (List ℕ)). WroteFront s c y) p q in (
+      x ++ later.0,
+      later.1,
+      ap (λ (bs : List ℕ). x ++ bs) later.2 ∙ sym (append_assoc x later.0 later.1),
+      later.3
+          ∙ ap Some (append_assoc xs x later.0),
+    )
 
 -- a sink that isn't known now wasn't known before
 pub wrote_unknown : (a b : Option (List ℕ)) (x : List ℕ) → Wrote a b x → b ≡ None → a ≡ None
 wrote_unknown None b x p q = refl
 wrote_unknown (Some xs) b x p q = cc
 
--- a call of `put` behind others
-pub takes-append : (a b c : Option (List ℕ)) (r : Result (Unit {0}) SinkFault) (x y : List ℕ) → Wrote a b x → Takes b c r y → Takes a c r (x ++ y)
+-- a call of `put` after others
+pub takes-append : (a b c : Option (List ℕ)) (r : Result (Unit {0}) SinkFault) (x y : List ℕ) → Wrote a b x → Takes b c r y
+    → Takes a c r (x ++ y)
 takes-append a b c (Ok _) x y p q = wrote-append a b c x y p q
 takes-append a b c (Err fault.OutOfMemory) x y p q = front-append a b c x y p q
 takes-append a b c (Err fault.Failed) x y p q = wrote_unknown a b x p q
@@ -60,25 +66,20 @@ pub takes_no_more : (a b : Option (List ℕ)) (f : SinkFault) (x y : List ℕ) �
 takes_no_more a b fault.OutOfMemory x y p = front_longer a b x y p
 takes_no_more a b fault.Failed x y p = p
 
--- the bytes of a list are those up to an index, those at it, and those behind
-pub flat_map-split : {X : Type 0} (f : X → List ℕ) (xs : List X) (i : ℕ) (d : X) → i < length xs → flat_map f (take i xs) ++ (f (get_or xs i d) ++ flat_map f (drop (i + 1) xs)) ≡ flat_map f xs
+-- the bytes of a list are those up to an index, those at it, and those after it
+pub flat_map-split : {X : Type 0} (f : X → List ℕ) (xs : List X) (i : ℕ) (d : X) → i < length xs
+    → flat_map f (take i xs) ++ (f (get_or xs i d) ++ flat_map f (drop (i + 1) xs)) ≡ flat_map f xs
 flat_map-split f xs i d lt =
-    sym (flat_map-append f (take i xs) (get_or xs i d ∷ drop (i + 1) xs)) ∙ ap (flat_map f) (ap (λ t. take i xs ++ t) (sym (rw add-one (drop-cons xs i d lt))) ∙ take-append-drop i xs)
+    sym (flat_map-append f (take i xs) (get_or xs i d ∷ drop (i + 1) xs))
+    ∙ ap (flat_map f) (ap (λ t. take i xs ++ t) (sym (rw add-one (drop-cons xs i d lt))) ∙ take-append-drop i xs)
 
 -- the piece at an index was not taken
-pub takes_pieces : {X : Type 0} (f : X → List ℕ) (xs : List X) (i : ℕ) (d : X) (a b c : Option (List ℕ)) (e : SinkFault) → i < length xs → Wrote a b (flat_map f (take i xs)) → Takes b c (Err e) (f (get_or xs i d)) → Takes a c (Err e) (flat_map f xs)
+pub takes_pieces : {X : Type 0} (f : X → List ℕ) (xs : List X) (i : ℕ) (d : X) (a b c : Option (List ℕ)) (e : SinkFault) → i < length xs
+    → Wrote a b (flat_map f (take i xs)) → Takes b c (Err e) (f (get_or xs i d)) → Takes a c (Err e) (flat_map f xs)
 takes_pieces f xs i d a b c e lt before here =
-    subst (λ (bs : List ℕ). Takes a c (Err e) bs) (flat_map-split f xs i d lt) (takes-append a b c (Err e) (flat_map f (take i xs)) _ before (takes_no_more b c e (f (get_or xs i d)) (flat_map f (drop (i + 1) xs)) here))
-
--- memory ran out before anything was said
-pub says_failed : (Q : NoMemory → Type 0) (s : Option (List ℕ)) (r : Result (Unit {0}) NoMemory) (bs : List ℕ) → IsErrAnd r Q → Says s s r bs
-says_failed Q s (Ok _) bs h = absurd h
-says_failed Q s (Err _) bs h = front_nothing s bs
-
--- memory ran out in the middle of one message of several
-pub says_no_more : (Q : NoMemory → Type 0) (a b c : Option (List ℕ)) (e : NoMemory) (r : Result (Unit {0}) NoMemory) (x y z : List ℕ) → Wrote a b x → Says b c (Err e) y → IsErrAnd r Q → Says a c r (x ++ (y ++ z))
-says_no_more Q a b c e (Ok _) x y z p q h = absurd h
-says_no_more Q a b c e (Err _) x y z p q h = front-append a b c x (y ++ z) p (front_longer b c y z q)
+    subst (λ (bs : List ℕ). Takes a c (Err e) bs) (flat_map-split f xs i d lt)
+    (takes-append a b c (Err e) (flat_map f (take i xs)) _ before
+    (takes_no_more b c e (f (get_or xs i d)) (flat_map f (drop (i + 1) xs)) here))
 
 -- a front of nothing is nothing
 pub wrote_empty : (a b : Option (List ℕ)) → WroteFront a b [] → Wrote a b []

@@ -1,7 +1,9 @@
+pub mod Desk
 pub mod Files
+pub mod Finish
 pub mod Plain
+pub mod PlainSteps
 pub mod Program
 pub mod Run
 pub mod Sink
-pub mod Steps
 pub mod Stop

@@ -1,14 +1,14 @@
 -- What the words of a command line lead to.
-use Rattle.std.specs.Prelude.{◌≡◌, ◌⊎◌, ℕ, Bool, true, false, List, []}
-use Rattle.clap.specs.Kinds.{IsAmong, Kinds}
+use Rattle.std.specs.Prelude.{◌≡◌, ◌≢◌, ℕ, Bool, true, false, List, []}
+use Rattle.clap.specs.Kinds.{IsAmong}
 use Rattle.clap.specs.declared.error.kind.ErrorKind.{ErrorKind}
 use Rattle.clap.specs.declared.error.kind.ErrorKind.TheVariants as kind
-use Rattle.mime_request.specs.Request.{Meaning, asks, plain, refused}
+use Rattle.mime_request.specs.Request.{PlainRequest, Meaning, asks, plain, refused}
 use Rattle.mime_tool.specs.Files.{Stored}
 use Rattle.mime_tool.specs.Plain.{IsPlain}
-use Rattle.mime_tool.specs.Run.{Finishes, Sinks}
-use Rattle.mime_tool.specs.Sink.{Wrote}
+use Rattle.mime_tool.specs.Run.{Run, printed}
 
+-- whether the error is help or the version, which were asked for
 abbrev pub is_help : ErrorKind → Bool
 is_help kind.DisplayHelp = true
 is_help kind.DisplayVersion = true
@@ -16,23 +16,28 @@ is_help _ = false
 
 -- help stands on standard output, with status 0; what is wrong with the words on standard error, with
 -- status 2
-abbrev pub ShowsBy : Bool → Sinks → Sinks → ℕ → Type 0
-ShowsBy true old new status =
-    (status ≡ 0) × ((text : List ℕ) × Wrote old.out new.out text) × Wrote old.err new.err []
-ShowsBy false old new status =
-    (status ≡ 2) × Wrote old.out new.out [] × ((text : List ℕ) × Wrote old.err new.err text)
+abbrev pub shown : Bool → List ℕ → Run
+shown true text = printed text
+shown false text = record { status = 2; out = []; err = text }
 
--- help, or an error of one of these kinds
-abbrev pub Shows : Kinds → Sinks → Sinks → ℕ → Type 0
-Shows kinds old new status = (k : ErrorKind) × IsAmong k kinds × ShowsBy (is_help k) old new status
+-- some text is shown for an error of this kind
+abbrev pub IsShown : ErrorKind → Run → Type 0
+IsShown k run = (k ≢ kind.OutOfMemory) × ((text : List ℕ) × (run ≡ shown (is_help k) text))
 
--- memory ran out: nothing stands on standard output, unless help was asked for
-abbrev pub ShowsNoMistake : Kinds → Sinks → Sinks → Type 0
-ShowsNoMistake kinds old new =
-    Wrote old.out new.out [] ⊎ ((k : ErrorKind) × IsAmong k kinds × (is_help k ≡ true))
+-- the run of a request; a command has a line here
+abbrev pub IsAskedRun : (List ℕ → Stored) → PlainRequest → List (List ℕ) → Run → Type 0
+IsAskedRun stored (plain dir _) = IsPlain stored dir
 
--- the run that the words ask for, or help, or what is wrong with them; or memory ran out
-abbrev pub Answers : (List ℕ → Stored) → Meaning → Sinks → Sinks → ℕ → Type 0
-Answers stored (asks (plain dir files)) old new status = Finishes (IsPlain stored dir) files old new status
-Answers stored (refused kinds) old new status =
-    Shows kinds old new status ⊎ ((status ≡ 4) × ShowsNoMistake kinds old new)
+-- the files that a request names
+abbrev pub asked_files : PlainRequest → List (List ℕ)
+asked_files (plain _ files) = files
+
+-- the run that the words ask for, or help, or what is wrong with them
+abbrev pub IsAnswer : (List ℕ → Stored) → Meaning → List (List ℕ) → Run → Type 0
+IsAnswer stored (asks a) = IsAskedRun stored a
+IsAnswer stored (refused kinds) = λ _ run. (k : ErrorKind) × IsAmong k kinds × IsShown k run
+
+-- the files that the words name
+abbrev pub files_of : Meaning → List (List ℕ)
+files_of (asks a) = asked_files a
+files_of (refused kinds) = []

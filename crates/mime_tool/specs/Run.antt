@@ -1,6 +1,5 @@
--- What a run of the program comes to.
-use Rattle.std.specs.Prelude.{◌≡◌, ◌⊎◌, ℕ, List, ◌++◌, Option, codes}
-use Rattle.mime_tool.specs.Sink.{Wrote, WroteFront}
+-- What a run of the program writes, and how runs follow one another.
+use Rattle.std.specs.Prelude.{◌≡◌, ℕ, Bool, true, false, List, [], ◌∷◌, ◌++◌, codes, max, nat_le}
 
 -- an exit status, and what is written on standard output and on standard error
 pub record Run : Type 0 where
@@ -8,46 +7,49 @@ pub record Run : Type 0 where
   pub out : List ℕ
   pub err : List ℕ
 
--- both sinks, by the bytes that they hold where those are known
-pub record Sinks : Type 0 where
-  pub out : Option (List ℕ)
-  pub err : Option (List ℕ)
+-- nothing is written
+abbrev pub silent : Run
+silent = record { status = 0; out = []; err = [] }
 
-abbrev pub Writes : Sinks → Sinks → Run → Type 0
-Writes old new run = Wrote old.out new.out run.out × Wrote old.err new.err run.err
+-- this is printed on standard output
+abbrev pub printed : List ℕ → Run
+printed text = record { status = 0; out = text; err = [] }
 
+-- this is said on standard error, and changes no status
+abbrev pub said : List ℕ → Run
+said text = record { status = 0; out = []; err = text }
+
+-- a file isn't answered, and this says why
+abbrev pub unanswered : List ℕ → Run
+unanswered text = record { status = 1; out = []; err = text }
+
+-- a run that stops, and says this of it
+abbrev pub stopped : List ℕ → Run → Run
+stopped message run = record { status = 3; out = run.out; err = run.err ++ message }
+
+-- nothing comes after it
+abbrev pub stops : Run → Bool
+stops run = nat_le 3 run.status
+
+-- a run, and then another
+abbrev pub joined : Run → Run → Run
+joined a b = record { status = max a.status b.status; out = a.out ++ b.out; err = a.err ++ b.err }
+
+-- a run alone where it stops, else it and a rest
+abbrev pub IsFollowed : Bool → Run → (Run → Type 0) → Run → Type 0
+IsFollowed true first IsRest run = run ≡ first
+IsFollowed false first IsRest run = (rest : Run) × IsRest rest × (run ≡ joined first rest)
+
+-- a run over each file in turn, up to the first that stops it; IsOne says what a run over one file is
+abbrev pub IsEach : (List ℕ → Run → Type 0) → List (List ℕ) → Run → Type 0
+IsEach IsOne [] run = run ≡ silent
+IsEach IsOne (file ∷ files) run =
+    (first : Run) × IsOne file first × IsFollowed (stops first) first (IsEach IsOne files) run
+
+-- the messages that any command may come to
 abbrev pub cannot_read : List ℕ → List ℕ
 cannot_read path = codes "mimelook: " ++ (path ++ codes ": cannot read\n")
 
+-- the message on running out of memory
 abbrev pub out_of_memory : List ℕ
 out_of_memory = codes "mimelook: out of memory\n"
-
--- a run that stops since it can't read the file of this path
-abbrev pub stopped_at : List ℕ → Run → Run
-stopped_at path run = record { status = 3; out = run.out; err = run.err ++ cannot_read path }
-
--- memory ran out: what was written is a front of a run over a front of the files; IsRun says what a
--- run over files is
-pub record IsCut (IsRun : List (List ℕ) → Run → Type 0) (files : List (List ℕ)) (old new : Sinks) : Type 0 where
-  pub front : List (List ℕ)
-  pub rest : List (List ℕ)
-  pub split : files ≡ front ++ rest
-  pub run : Run
-  pub is_run : IsRun front run
-  pub out : WroteFront old.out new.out run.out
-  pub err : WroteFront old.err new.err run.err
-
--- a run over the files: the status is its status, and its bytes are written
-abbrev pub IsDone : (List (List ℕ) → Run → Type 0) → List (List ℕ) → Sinks → Sinks → ℕ → Type 0
-IsDone IsRun files old new status =
-    (run : Run) × IsRun files run × (status ≡ run.status) × Writes old new run
-
--- the run was cut short, and behind it stands the message of that or a front of it
-abbrev pub IsCutAndSaid : (List (List ℕ) → Run → Type 0) → List (List ℕ) → Sinks → Sinks → Type 0
-IsCutAndSaid IsRun files old new =
-    (cut : Sinks) × IsCut IsRun files old cut × (new.out ≡ cut.out) × WroteFront cut.err new.err out_of_memory
-
--- the run is done; or the status is 4, and it was cut short
-abbrev pub Finishes : (List (List ℕ) → Run → Type 0) → List (List ℕ) → Sinks → Sinks → ℕ → Type 0
-Finishes IsRun files old new status =
-    IsDone IsRun files old new status ⊎ ((status ≡ 4) × IsCutAndSaid IsRun files old new)

@@ -1,5 +1,5 @@
--- What sinks hold.
-use Rattle.std.specs.Prelude.{◌≡◌, ℕ, List, ◌++◌, Option, Some, None, Result, Ok, Err}
+-- What sinks hold, and what they handed on.
+use Rattle.std.specs.Prelude.{◌≡◌, ◌⊎◌, ◌≤◌, ℕ, List, ◌++◌, Option, Some, None, Result, Ok, Err}
 use Rattle.mime_tool.specs.declared.sink.SinkFault.{SinkFault}
 use Rattle.mime_tool.specs.declared.sink.SinkFault.TheVariants.{Failed, OutOfMemory}
 
@@ -19,3 +19,17 @@ abbrev pub Takes : Option (List ℕ) → Option (List ℕ) → Result (Unit {0})
 Takes old new (Ok _) bs = Wrote old new bs
 Takes old new (Err OutOfMemory) bs = WroteFront old new bs
 Takes old new (Err Failed) bs = old ≡ None
+
+-- what the flush after the last bytes answered, if there was one
+abbrev pub Flush : Type 0
+Flush = Option (Result (Unit {0}) SinkFault)
+
+-- a known sink says what its flush answered
+abbrev pub Flushes : Option (List ℕ) → Flush → Result (Unit {0}) SinkFault → Type 0
+Flushes None flush answer = Unit {0}
+Flushes (Some xs) flush answer = flush ≡ Some answer
+
+-- all bytes were handed on; or memory ran out while they were, and the status tells that or an earlier stop
+abbrev pub IsHandedOn : ℕ → Flush → Type 0
+IsHandedOn status flush =
+    (flush ≡ Some (Ok tt)) ⊎ ((flush ≡ Some (Err OutOfMemory)) × (3 ≤ status))

@@ -1,8 +1,8 @@
 -- Why a command stops, and what is said on standard error.
-use Rattle.std.specs.Prelude.{◌≡◌, ℕ, List, [], Option, Result, Ok, Err, codes, string_bytes}
+use Rattle.std.specs.Prelude.{◌≡◌, ◌⊎◌, ℕ, List, [], Option, Some, Result, Ok, Err, codes, string_bytes}
 use Rattle.mime_base.specs.declared.memory.OutOfMemory.{OutOfMemory as NoMemory}
-use Rattle.mime_tool.specs.Run.{cannot_read}
-use Rattle.mime_tool.specs.Sink.{Wrote, WroteFront}
+use Rattle.mime_tool.specs.Run.{cannot_read, out_of_memory}
+use Rattle.mime_tool.specs.Sink.{Flush, Wrote, WroteFront}
 use Rattle.mime_tool.specs.declared.sink.SinkFault.{SinkFault}
 use Rattle.mime_tool.specs.declared.sink.SinkFault.TheVariants as fault
 use Rattle.mime_tool.specs.declared.stop.Stop.{Stop}
@@ -20,12 +20,34 @@ Says old new (Err _) bs = WroteFront old new bs
 
 -- what is said of a stop
 abbrev pub message : Stop → List ℕ
-message (stop.CannotRead path) = cannot_read (string_bytes path)
+message (stop.Refused text) = string_bytes text
 message stop.CannotWrite = codes "mimelook: cannot write output\n"
 message stop.OutOfMemory = []
 
--- the message is said and the status is 3; want of memory is left as it is
-abbrev pub TellsStop : Stop → Option (List ℕ) → Option (List ℕ) → Result ℕ NoMemory → Type 0
-TellsStop stop.OutOfMemory old new (Ok status) = ⊥
-TellsStop s old new (Ok status) = (status ≡ 3) × Wrote old new (message s)
-TellsStop s old new (Err _) = WroteFront old new (message s)
+-- the message is that the file of this path can't be read, unless memory ran out
+abbrev pub IsUnreadable : List ℕ → Stop → Type 0
+IsUnreadable path (stop.Refused text) = string_bytes text ≡ cannot_read path
+IsUnreadable path stop.CannotWrite = ⊥
+IsUnreadable path stop.OutOfMemory = Unit {0}
+
+-- the message of a stop is said; that memory ran out isn't said here
+abbrev pub SaysStop : Stop → Option (List ℕ) → Option (List ℕ) → Result (Unit {0}) NoMemory → Type 0
+SaysStop stop.OutOfMemory old new (Ok _) = ⊥
+SaysStop stop.OutOfMemory old new (Err _) = new ≡ old
+SaysStop s old new r = Says old new r (message s)
+
+-- memory ran out in the middle of this message; then that is said
+abbrev pub SaysCut : Option (List ℕ) → Option (List ℕ) → List ℕ → Type 0
+SaysCut old new bs = (mid : Option (List ℕ)) × WroteFront old mid bs × WroteFront mid new out_of_memory
+
+-- the message is said and the status is 3; or memory ran out, and the status is 4
+abbrev pub TellsStop : Stop → Option (List ℕ) → Option (List ℕ) → ℕ → Type 0
+TellsStop stop.OutOfMemory old new status = (status ≡ 4) × WroteFront old new out_of_memory
+TellsStop s old new status = ((status ≡ 3) × Wrote old new (message s)) ⊎ ((status ≡ 4) × SaysCut old new (message s))
+
+-- what a run came to is what it came to before the flush, unless memory ran out in that
+abbrev pub IsFlushed : Flush → Result ℕ Stop → Result ℕ Stop → Type 0
+IsFlushed flush (Ok status) after =
+    ((flush ≡ Some (Ok tt)) × (after ≡ Ok status)) ⊎ ((flush ≡ Some (Err fault.OutOfMemory)) × (after ≡ Err stop.OutOfMemory))
+IsFlushed flush (Err s) after =
+    (after ≡ Err s) × ((flush ≡ Some (Ok tt)) ⊎ (flush ≡ Some (Err fault.OutOfMemory)))

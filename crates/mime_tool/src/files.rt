@@ -1,7 +1,7 @@
 //! Where files come from. This project's own.
 
-ghost use Rattle.std.specs.Prelude.{◌≡◌, ℕ, List, Option, None, IfSome};
-ghost use Rattle.mime_tool.specs.Files.{Stored, Tells};
+ghost use Rattle.std.specs.Prelude.{◌≡◌, ℕ, List};
+ghost use Rattle.mime_tool.specs.Files.{Stored, Tells, unknown};
 ghost use Rattle.mime_tool.specs.declared.files.FileFault.TheVariants.{OutOfMemory};
 
 use std::alloc::{AllocError, Global};
@@ -28,14 +28,14 @@ impl From<AllocError> for FileFault {
 
 /// Files, by their paths.
 pub trait Files {
-    // What is stored at each path, where that is known.
-    ghost tells: { Self → Option (List ℕ → Stored) } = { λ _. None };
+    // What is stored at each path.
+    ghost tells: { Self → List ℕ → Stored } = { λ _ _. unknown };
 
     /// All the bytes of a file, or `None` where there is no such file.
     ///
     /// Errors: [`FileFault::Failed`] for a file that is there and can't be read, a directory too;
     /// [`FileFault::OutOfMemory`] where there is no memory for it.
     fn whole(&mut self, alloc: Global, path: &str) -> Result<Option<Vec<u8>>, FileFault>
-        ensures told { IfSome (tells self.old) (λ stored. Tells (stored path.now) result) }
+        ensures told { Tells (tells self.old path.now) result }
         ensures stays { tells self.new ≡ tells self.old };
 }

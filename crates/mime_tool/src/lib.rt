@@ -1,9 +1,24 @@
 //! The program mimelook, over whatever holds its files and takes its output.
 //!
 //! [`run`] goes from the words of the command line to written bytes and an exit status. The crate
-//! above hands it the real files and streams.
+//! above hands it the real files and streams; a test hands it files and sinks in memory.
+//!
+//! ```text
+//! let mut files = SystemFiles::new(&rt);
+//! let mut out = Stream(rt.stdout());
+//! let mut err = Stream(rt.stderr());
+//! let words = ["plain", "--name-only", "-d", "", "a"];
+//! let status = run(alloc, &words, &mut files, &mut out, &mut err);
+//! ```
+//!
+//! This prints `a: application/octet-stream`, and the status is 0.
+//!
+//! Read `specs/Run.antt` first for what a run writes and `specs/Finish.antt` for how it ends, then
+//! `program`. A command is a module like `plain`, over one `desk` of files and sinks: it reads its
+//! data, answers each FILE, and gives its status or a `stop`.
 #![tactic(auto)]
 
+mod desk;
 mod files;
 mod plain;
 mod program;

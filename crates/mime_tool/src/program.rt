@@ -1,33 +1,36 @@
 //! The whole program: from words, files and sinks to written bytes and an exit status. This
 //! project's own.
 
-ghost use Rattle.std.specs.Prelude.{◌≡◌, ◌≤◌, ℕ, List, IfSome, is_some, length, map, slice_get, true};
+ghost use Rattle.std.specs.Prelude.{◌≡◌, ◌≢◌, ◌≤◌, ℕ, List, [], false, is_some, length, map, slice_get, true};
 ghost use Rattle.clap.specs.Values.{kind_of};
-ghost use Rattle.mime_request.specs.Request.{asked, asks, meaning_of, parts};
+ghost use Rattle.mime_request.specs.Request.{plain_request, meaning_of, parts};
 ghost use Rattle.mime_request.specs.Spelling.{AreUsual, plain_words};
+ghost use Rattle.mime_tool.specs.Desk.{Does, Ends, Works};
+ghost use Rattle.mime_tool.specs.Finish.{Finishes};
 ghost use Rattle.mime_tool.specs.Plain.{IsPlain};
-ghost use Rattle.mime_tool.specs.Program.{Answers};
-ghost use Rattle.mime_tool.specs.Run.{Finishes};
-ghost use Rattle.mime_tool.specs.Steps.{Performs, ShowsKind, Tells};
+ghost use Rattle.mime_tool.specs.Program.{IsAnswer, IsAskedRun, IsShown, asked_files, files_of, is_help, shown};
+ghost use Rattle.mime_tool.specs.Run.{printed};
+ghost use Rattle.mime_tool.specs.Sink.{IsHandedOn, Wrote};
+ghost use Rattle.mime_tool.specs.Stop.{IsFlushed};
 
+use crate::desk::{Desk, Streams};
 use crate::files::Files;
 use crate::plain::print_types;
 use crate::sink::Sink;
-use crate::status::{ANSWERED, MISTAKEN, OUT_OF_MEMORY};
-use crate::stop::{Stop, complain, tell};
+use crate::status::{ANSWERED, MISTAKEN};
+use crate::stop::{Stop, tell};
 use clap::Error;
 use clap::error::ErrorKind;
-use mime_base::OutOfMemory;
 use mime_request::{Request, request_of};
 use std::alloc::Global;
 use std::convert::AsStr;
 
-/// Runs the program on the words behind its name, and gives the exit status.
+/// Runs the program on the words after its name, and gives the exit status.
 ///
 /// The status is 0 where every file was answered or help was shown, 1 where some file's name is too
 /// long, 2 where the words are wrong, 3 where the data can't be read or `out` fails, and 4 where
-/// memory ran out. Messages go to `err`, a line each; its faults are passed over, but for want of
-/// memory. Lines that were printed before a stop stay.
+/// memory ran out. Messages go to `err`, a line each; its faults are passed over, unless memory ran
+/// out. Lines that were printed before a stop stay, and are flushed.
 pub fn run<F: Files, O: Sink, E: Sink, S: AsStr>(
     alloc: Global,
     words: &[S],
@@ -35,69 +38,32 @@ pub fn run<F: Files, O: Sink, E: Sink, S: AsStr>(
     out: &mut O,
     err: &mut E,
 ) -> u8
-    // Whatever the words mean, where it is known what is stored and what standard output holds.
-    ensures answers { IfSome (F.tells files.old) (λ stored. is_some (O.holds out.old) ≡ true
-        → Answers stored (meaning_of (map S.text words.now))
+    // Whatever the words mean, where it is known what standard output holds.
+    ensures answers { is_some (O.holds out.old) ≡ true
+        → Finishes (IsAnswer (F.tells files.old) (meaning_of (map S.text words.now)))
+        (files_of (meaning_of (map S.text words.now)))
         (record { out = O.holds out.old; err = E.holds err.old })
-        (record { out = O.holds out.new; err = E.holds err.new }) result) }
+        (record { out = O.holds out.new; err = E.holds err.new }) result }
 
     // `plain -d DIRS --name-only FILE...`, with no word of the parser of command lines.
-    ensures plain { IfSome (F.tells files.old) (λ stored. is_some (O.holds out.old) ≡ true
+    ensures plain { is_some (O.holds out.old) ≡ true
         → (dirs : List ℕ) (names : List (List ℕ)) → map S.text words.now ≡ plain_words dirs names
         → AreUsual dirs names → length (parts dirs) ≤ 1
-        → Finishes (IsPlain stored (slice_get (parts dirs) 0)) names
+        → Finishes (IsPlain (F.tells files.old) (slice_get (parts dirs) 0)) names
         (record { out = O.holds out.old; err = E.holds err.old })
-        (record { out = O.holds out.new; err = E.holds err.new }) result) }
+        (record { out = O.holds out.new; err = E.holds err.new }) result }
+
+    // The last that standard output was asked is to hand on what it held back.
+    ensures flushed { is_some (O.holds out.old) ≡ true → IsHandedOn result (O.flushed out.new) }
 {
-    match perform_and_tell(alloc, words, files, out, err) {
+    let ended = perform(alloc, words, files, out, err);
+    match flush_after(ended, out) {
         Ok(status) => status,
-        Err(OutOfMemory) => {
-            let _ = complain(err, "mimelook: out of memory\n");
-            OUT_OF_MEMORY
-        }
+        Err(stop) => tell(&stop, err),
     }
 }
 
-// Says what stopped the run, if anything did, and gives the status.
-fn perform_and_tell<F: Files, O: Sink, E: Sink, S: AsStr>(
-    alloc: Global,
-    words: &[S],
-    files: &mut F,
-    out: &mut O,
-    err: &mut E,
-) -> Result<u8, OutOfMemory>
-    ensures { IfSome (F.tells files.old) (λ stored. is_some (O.holds out.old) ≡ true
-        → Tells stored (meaning_of (map S.text words.now))
-        (record { out = O.holds out.old; err = E.holds err.old })
-        (record { out = O.holds out.new; err = E.holds err.new }) result) }
-{
-    match perform_and_flush(alloc, words, files, out, err) {
-        Ok(status) => Ok(status),
-        Err(stop) => tell(alloc, stop, err),
-    }
-}
-
-// Hands on what was printed, also before a stop.
-fn perform_and_flush<F: Files, O: Sink, E: Sink, S: AsStr>(
-    alloc: Global,
-    words: &[S],
-    files: &mut F,
-    out: &mut O,
-    err: &mut E,
-) -> Result<u8, Stop>
-    ensures { IfSome (F.tells files.old) (λ stored.
-        Performs stored (meaning_of (map S.text words.now))
-        (record { out = O.holds out.old; err = E.holds err.old })
-        (record { out = O.holds out.new; err = E.holds err.new }) result) }
-{
-    let result = perform(alloc, words, files, out, err);
-    let flushed = out.flush();
-    let status = result?;
-    flushed?;
-    Ok(status)
-}
-
-// Does what the words ask for, or shows help or what is wrong with them.
+// Does what the words ask for over these files and sinks.
 fn perform<F: Files, O: Sink, E: Sink, S: AsStr>(
     alloc: Global,
     words: &[S],
@@ -105,50 +71,92 @@ fn perform<F: Files, O: Sink, E: Sink, S: AsStr>(
     out: &mut O,
     err: &mut E,
 ) -> Result<u8, Stop>
-    ensures { IfSome (F.tells files.old) (λ stored.
-        Performs stored (meaning_of (map S.text words.now))
+    ensures { Ends (IsAnswer (F.tells files.old) (meaning_of (map S.text words.now)))
+        (files_of (meaning_of (map S.text words.now)))
         (record { out = O.holds out.old; err = E.holds err.old })
-        (record { out = O.holds out.new; err = E.holds err.new }) result) }
+        (record { out = O.holds out.new; err = E.holds err.new }) result }
 {
-    match request_of(alloc, words) {
-        Ok(request) => answer(alloc, &request, files, out, err),
-        Err(error) => show(alloc, error, out, err),
+    let mut desk = Streams {
+        alloc,
+        files,
+        out,
+        err,
+    };
+    answer_words(&mut desk, words)
+}
+
+// Hands on what was printed, also before a stop.
+fn flush_after<O: Sink>(ended: Result<u8, Stop>, out: &mut O) -> Result<u8, Stop>
+    ensures kept { Wrote (O.holds out.old) (O.holds out.new) [] }
+    ensures flushed { is_some (O.holds out.old) ≡ true
+        → IsFlushed (O.flushed out.new) ended result }
+{
+    let flushed = out.flush();
+    let status = ended?;
+    flushed?;
+    Ok(status)
+}
+
+// Does what the words ask for, or shows help or what is wrong with them.
+fn answer_words<D: Desk, S: AsStr>(desk: &mut D, words: &[S]) -> Result<u8, Stop>
+    ensures { Works (Ends (IsAnswer (D.state desk.old).stored (meaning_of (map S.text words.now)))
+        (files_of (meaning_of (map S.text words.now))))
+        (D.state desk.old) (D.state desk.new) result }
+{
+    match request_of(desk.alloc(), words) {
+        Ok(request) => answer(desk, &request),
+        Err(error) => show(desk, error),
     }
 }
 
-fn answer<F: Files, O: Sink, E: Sink>(
-    alloc: Global,
-    request: &Request<'_>,
-    files: &mut F,
-    out: &mut O,
-    err: &mut E,
-) -> Result<u8, Stop>
-    ensures { IfSome (F.tells files.old) (λ stored. Performs stored (asks (asked request.now))
-        (record { out = O.holds out.old; err = E.holds err.old })
-        (record { out = O.holds out.new; err = E.holds err.new }) result) }
+fn answer<D: Desk>(desk: &mut D, request: &Request<'_>) -> Result<u8, Stop>
+    ensures { Works (Ends (IsAskedRun (D.state desk.old).stored (plain_request request.now))
+        (asked_files (plain_request request.now))) (D.state desk.old) (D.state desk.new) result }
 {
     match request {
-        Request::Plain {
-            directory,
-            files: names,
-        } => { print_types(alloc, *directory, names.as_slice(), files, out, err) }
+        Request::Plain { directory, files } => print_types(desk, *directory, files.as_slice()),
     }
 }
 
 // Shows help, or says what is wrong with the words.
-fn show<O: Sink, E: Sink>(alloc: Global, error: Error, out: &mut O, err: &mut E) -> Result<u8, Stop>
-    ensures { ShowsKind (kind_of error) (record { out = O.holds out.old; err = E.holds err.old })
-        (record { out = O.holds out.new; err = E.holds err.new }) result }
+fn show<D: Desk>(desk: &mut D, error: Error) -> Result<u8, Stop>
+    ensures { Works (Ends (λ _. IsShown (kind_of error)) [])
+        (D.state desk.old) (D.state desk.new) result }
 {
-    if error.kind() == ErrorKind::OutOfMemory {
+    if is_memory(&error) {
         return Err(Stop::OutOfMemory);
     }
-    let text = error.to_string(alloc)?;
-    if error.use_stderr() {
-        complain(err, text.as_str())?;
-        Ok(MISTAKEN)
-    } else {
-        out.put(text.as_bytes())?;
+    let text = error.to_string(desk.alloc())?;
+    show_text(desk, is_help(&error), text.as_str())
+}
+
+fn is_memory(error: &Error) -> bool
+    ensures { result ≡ false → kind_of error.now ≢ ErrorKind.OutOfMemory }
+{
+    error.kind() == ErrorKind::OutOfMemory
+}
+
+fn is_help(error: &Error) -> bool
+    ensures { result ≡ is_help (kind_of error.now) }
+{
+    !error.use_stderr()
+}
+
+fn show_text<D: Desk>(desk: &mut D, is_help: bool, text: &str) -> Result<u8, Stop>
+    ensures { Works (Ends (λ _ run. run ≡ shown is_help text.now) [])
+        (D.state desk.old) (D.state desk.new) result }
+{
+    if is_help {
+        print_text(desk, text)?;
         Ok(ANSWERED)
+    } else {
+        desk.complain(text)?;
+        Ok(MISTAKEN)
     }
+}
+
+fn print_text<D: Desk>(desk: &mut D, text: &str) -> Result<(), Stop>
+    ensures { Works (Does (printed text.now)) (D.state desk.old) (D.state desk.new) result }
+{
+    desk.print(&[text.as_bytes()])
 }

@@ -1,8 +1,8 @@
 //! Where output goes. This project's own.
 
-ghost use Rattle.std.specs.Prelude.{ℕ, List, Option, Some, None, []};
+ghost use Rattle.std.specs.Prelude.{ℕ, List, Option, Some, None, Ok, []};
 ghost use Rattle.std.specs.List.{flat_map};
-ghost use Rattle.mime_tool.specs.Sink.{Takes};
+ghost use Rattle.mime_tool.specs.Sink.{Flush, Flushes, Takes};
 
 use std::alloc::AllocError;
 use thiserror::Error;
@@ -23,8 +23,11 @@ pub enum SinkFault {
 /// A sink may hold bytes back until it is flushed. After a fault it may have taken some of the
 /// bytes of that call.
 pub trait Sink {
-    // The bytes that it took, where they are known. Such a sink fails only for want of memory.
+    // The bytes that it took, where they are known. Such a sink fails only where memory runs out.
     ghost holds: { Self → Option (List ℕ) } = { λ _. None };
+
+    // What the flush after the last bytes answered, if there was one.
+    ghost flushed: { Self → Flush } = { λ _. None };
 
     /// Takes all the bytes.
     fn put(&mut self, bytes: &[u8]) -> Result<(), SinkFault>
@@ -32,11 +35,15 @@ pub trait Sink {
 
     /// Hands on what it held back.
     fn flush(&mut self) -> Result<(), SinkFault>
-        ensures { Takes (holds self.old) (holds self.new) result [] };
+        ensures kept { Takes (holds self.old) (holds self.new) result [] }
+        ensures flushed { Flushes (holds self.old) (flushed self.new) result };
 }
 
 impl Sink for Vec<u8> {
     ghost holds = { λ bytes. Some bytes.items };
+
+    // It holds nothing back.
+    ghost flushed = { λ _. Some (Ok tt) };
 
     fn put(&mut self, bytes: &[u8]) -> Result<(), SinkFault> {
         match self.extend_from_slice(bytes) {
@@ -50,7 +57,7 @@ impl Sink for Vec<u8> {
     }
 }
 
-/// Puts the pieces, one behind the other.
+/// Puts the pieces, one after another.
 pub(crate) fn put_all<S: Sink>(sink: &mut S, pieces: &[&[u8]]) -> Result<(), SinkFault>
     ensures { Takes (S.holds sink.old) (S.holds sink.new) result
         (flat_map (λ piece. piece.now) pieces.now) }

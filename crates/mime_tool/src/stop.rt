@@ -3,18 +3,18 @@
 ghost use Rattle.std.specs.Prelude.{◌≡◌};
 ghost use Rattle.mime_tool.specs.declared.stop.Stop.TheVariants.{OutOfMemory};
 ghost use Rattle.mime_tool.specs.Run.{cannot_read};
-ghost use Rattle.mime_tool.specs.Stop.{Says, TellsStop, stop_of};
+ghost use Rattle.mime_tool.specs.Stop.{IsUnreadable, Says, SaysStop, TellsStop, stop_of};
 
 use crate::sink::{Sink, SinkFault, put_now};
-use crate::status::STOPPED;
+use crate::status::{OUT_OF_MEMORY, STOPPED};
 use mime_base::OutOfMemory;
 use std::alloc::{AllocError, Global};
 
 /// Why a command stops before its end.
 #[derive(Debug, Drop)]
 pub(crate) enum Stop {
-    /// The file of this path can't be read.
-    CannotRead(String),
+    /// The data are refused; this line says why.
+    Refused(String),
     /// Standard output didn't take the output.
     CannotWrite,
     /// Memory ran out.
@@ -48,7 +48,17 @@ impl From<SinkFault> for Stop {
     }
 }
 
-/// Says it on standard error. A fault there is passed over, but for want of memory.
+/// The file of this path can't be read.
+pub(crate) fn unreadable(alloc: Global, path: &str) -> Stop
+    ensures { IsUnreadable path.now result }
+{
+    match format!(in alloc; "mimelook: {path}: cannot read\n") {
+        Ok(message) => Stop::Refused(message),
+        Err(_) => Stop::OutOfMemory,
+    }
+}
+
+/// Says it on standard error. A fault there is passed over, unless memory ran out.
 pub(crate) fn complain<E: Sink>(err: &mut E, text: &str) -> Result<(), OutOfMemory>
     ensures { Says (E.holds err.old) (E.holds err.new) result text.now }
 {
@@ -59,21 +69,26 @@ pub(crate) fn complain<E: Sink>(err: &mut E, text: &str) -> Result<(), OutOfMemo
     }
 }
 
-/// Says why a command stopped, and gives the status. Want of memory is left to the caller.
-pub(crate) fn tell<E: Sink>(alloc: Global, stop: Stop, err: &mut E) -> Result<u8, OutOfMemory>
-    ensures { TellsStop stop (E.holds err.old) (E.holds err.new) result }
+/// Says why a command stopped, and gives the exit status.
+pub(crate) fn tell<E: Sink>(stop: &Stop, err: &mut E) -> u8
+    ensures { TellsStop stop.now (E.holds err.old) (E.holds err.new) result }
 {
-    match stop {
-        Stop::CannotRead(path) => say_unreadable(alloc, path.as_str(), err)?,
-        Stop::CannotWrite => complain(err, "mimelook: cannot write output\n")?,
-        Stop::OutOfMemory => return Err(OutOfMemory),
+    match say(stop, err) {
+        Ok(()) => STOPPED,
+        Err(OutOfMemory) => {
+            let _ = complain(err, "mimelook: out of memory\n");
+            OUT_OF_MEMORY
+        }
     }
-    Ok(STOPPED)
 }
 
-fn say_unreadable<E: Sink>(alloc: Global, path: &str, err: &mut E) -> Result<(), OutOfMemory>
-    ensures { Says (E.holds err.old) (E.holds err.new) result (cannot_read path.now) }
+// Says it, unless memory ran out.
+fn say<E: Sink>(stop: &Stop, err: &mut E) -> Result<(), OutOfMemory>
+    ensures { SaysStop stop.now (E.holds err.old) (E.holds err.new) result }
 {
-    let text = format!(in alloc; "mimelook: {path}: cannot read\n")?;
-    complain(err, text.as_str())
+    match stop {
+        Stop::Refused(message) => complain(err, message.as_str()),
+        Stop::CannotWrite => complain(err, "mimelook: cannot write output\n"),
+        Stop::OutOfMemory => Err(OutOfMemory),
+    }
 }

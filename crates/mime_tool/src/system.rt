@@ -8,7 +8,7 @@ ghost use Rattle.mime_tool.specs.Sink.{Takes};
 use crate::files::{FileFault, Files};
 use crate::sink::{Sink, SinkFault};
 use std::alloc::Global;
-use std::fs::File;
+use std::fs::{File, OpenFile};
 use std::io::{ErrorKind, Read, Write};
 use std::{io, rt};
 
@@ -24,7 +24,8 @@ const BLOCK: usize = 65_536;
 /// The files of the system.
 ///
 /// A file that doesn't exist is none; any other that can't be opened or read, a directory too, is
-/// [`FileFault::Failed`].
+/// [`FileFault::Failed`], and so is one of more than 4 GiB. A file that says that it is so long isn't
+/// read.
 #[derive(Drop)]
 pub struct SystemFiles<'r, R: rt::Files>(&'r R);
 
@@ -38,7 +39,7 @@ impl<'r, R: rt::Files> SystemFiles<'r, R> {
 impl<R: rt::Files> Files for SystemFiles<'_, R> {
     fn whole(&mut self, alloc: Global, path: &str) -> Result<Option<Vec<u8>>, FileFault> {
         match File::open(self.0, path) {
-            Ok(mut file) => Ok(Some(read_whole(alloc, LONGEST_FILE, &mut file)?)),
+            Ok(mut file) => Ok(Some(read_open(alloc, LONGEST_FILE, &mut file)?)),
             Err(error) => {
                 if error.kind() == ErrorKind::NotFound {
                     Ok(None)
@@ -47,6 +48,26 @@ impl<R: rt::Files> Files for SystemFiles<'_, R> {
                 }
             }
         }
+    }
+}
+
+// All the bytes of an open file, at most `limit`. A file that says that it is longer isn't read.
+fn read_open<F: Read + OpenFile>(
+    alloc: Global,
+    limit: usize,
+    file: &mut F,
+) -> Result<Vec<u8>, FileFault>
+    ensures bytes { IfOk result (λ v. IfSome (F.remaining file.old) (λ xs. v.items ≡ xs)) }
+    ensures limited { IfOk result (λ v. length v.items ≤ limit) }
+{
+    match file.metadata() {
+        Ok(metadata) => {
+            if metadata.len() > limit as u64 {
+                return Err(FileFault::Failed);
+            }
+            read_whole(alloc, limit, file)
+        }
+        Err(error) => Err(file_fault(&error)),
     }
 }
 

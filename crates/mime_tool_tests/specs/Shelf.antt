@@ -6,6 +6,7 @@ use Rattle.mime_tool.specs.Files.{Stored, bytes, nothing, unreadable}
 use Rattle.mime_tool_tests.specs.declared.shelf.Entry.{Entry}
 use Rattle.mime_tool_tests.specs.declared.shelf.Entry.TheVariants.{Bytes, Unreadable}
 
+-- what a file in memory holds
 abbrev pub stored : Option Entry → Stored
 stored None = nothing
 stored (Some (Bytes bs)) = bytes bs.now
@@ -16,5 +17,6 @@ abbrev pub entry_in : List (Bor (List ℕ) × Entry) → List ℕ → Option Ent
 entry_in [] path = None
 entry_in (named ∷ entries) path = if bytes_eq named.0.now path then Some named.1 else entry_in entries path
 
+-- what is stored at a path, of files in memory
 abbrev pub stored_at : List (Bor (List ℕ) × Entry) → List ℕ → Stored
 stored_at entries path = stored (entry_in entries path)

@@ -13,30 +13,41 @@ impl Files for FailingFiles {
     }
 }
 
-/// A sink that fails so at each call behind the first ones, flushes too.
+/// A sink of which some calls fail, flushes too: so many are met, then so many fail, and the rest
+/// are met.
 #[derive(Drop)]
 pub struct FailingSink {
     /// The bytes that it took.
     pub taken: Vec<u8>,
-    /// How many calls are still met.
+    /// How many of them were flushed.
+    pub flushed: usize,
+    /// How many calls are still met before one fails.
     pub calls: usize,
+    /// How many calls fail then.
+    pub faults: usize,
     pub fault: SinkFault,
 }
 
 impl FailingSink {
-    pub fn new(alloc: Global, calls: usize, fault: SinkFault) -> FailingSink {
+    pub fn new(alloc: Global, calls: usize, faults: usize, fault: SinkFault) -> FailingSink {
         FailingSink {
             taken: Vec::new(alloc),
+            flushed: 0,
             calls,
+            faults,
             fault,
         }
     }
 
     fn step(&mut self) -> Result<(), SinkFault> {
-        if self.calls == 0 {
+        if self.calls > 0 {
+            self.calls -= 1;
+            return Ok(());
+        }
+        if self.faults > 0 {
+            self.faults -= 1;
             return Err(self.fault);
         }
-        self.calls -= 1;
         Ok(())
     }
 }
@@ -48,6 +59,8 @@ impl Sink for FailingSink {
     }
 
     fn flush(&mut self) -> Result<(), SinkFault> {
-        self.step()
+        self.step()?;
+        self.flushed = self.taken.len();
+        Ok(())
     }
 }

@@ -1,10 +1,17 @@
-//! Files, sinks and readers in memory, over which the program is tested.
+//! Files, sinks, readers and a disk in memory, over which the program is tested.
+//!
+//! [`Shelf`] tells what it stores, so a run over it is one of which every clause of the program
+//! speaks; [`FailingFiles`], [`FailingSink`], [`Script`] and [`Disk`] fail at a call of choice. The
+//! tests hold what no clause says: the texts of help and of messages, and what is done with each
+//! failure of the system.
 #![tactic(auto)]
 
+mod disk;
 mod failing;
 mod reader;
 mod shelf;
 
+pub use disk::{Disk, Opened};
 pub use failing::{FailingFiles, FailingSink};
 pub use reader::{Script, Step};
 pub use shelf::{Entry, Shelf};

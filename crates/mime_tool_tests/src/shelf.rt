@@ -1,6 +1,6 @@
 //! Files in memory that tell what is stored.
 
-ghost use Rattle.std.specs.Prelude.{◌≡◌, Some};
+ghost use Rattle.std.specs.Prelude.{◌≡◌};
 ghost use Rattle.mime_tool_tests.specs.Shelf.{entry_in, stored_at};
 
 use mime_tool::{FileFault, Files};
@@ -20,7 +20,7 @@ pub struct Shelf<'a> {
 }
 
 impl Files for Shelf<'_> {
-    ghost tells = { λ shelf. Some (stored_at shelf.entries.now) };
+    ghost tells = { λ shelf. stored_at shelf.entries.now };
 
     fn whole(&mut self, alloc: Global, path: &str) -> Result<Option<Vec<u8>>, FileFault> {
         match entry_at(self.entries, path) {

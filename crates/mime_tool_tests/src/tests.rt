@@ -1,3 +1,4 @@
 mod faults;
 mod rows;
 mod system;
+mod texts;

@@ -23,7 +23,7 @@ fn main(rt: HostRuntime) -> ExitCode {
     })
 }
 
-// Runs the program on the words behind its name.
+// Runs the program on the words after its name.
 fn run_system(rt: &HostRuntime) -> io::Result<u8> {
     let alloc = rt.alloc();
     let words = env::args(rt)?.skip(1).collect::<Vec<String>>(alloc)?;

@@ -1,4 +1,4 @@
-//! What a text of `magic` says, line by line, before indents make it a forest.
+//! The sections and lines of a text of `magic`, before indents make a section's lines a forest.
 
 use mime_base::TypeName;
 
@@ -12,9 +12,9 @@ pub struct Line {
     pub mask: Option<Vec<u8>>,
 }
 
-/// What a line of a section says.
+/// What a line of a section is.
 #[derive(Debug, Drop)]
-pub enum Said {
+pub enum Role {
     Kept(Line),
     /// A line with an unknown byte where its newline is expected.
     Ignored,
@@ -26,12 +26,12 @@ pub enum Said {
 #[derive(Debug, Drop)]
 pub struct Entry {
     pub indent: u32,
-    pub said: Said,
+    pub role: Role,
 }
 
-/// A section as the text has it.
+/// A section whose lines stand one after another, as in the text.
 #[derive(Debug, Drop)]
-pub struct Spelled {
+pub struct FlatSection {
     pub priority: u32,
     pub kind: TypeName,
     pub entries: Vec<Entry>,

@@ -1,7 +1,7 @@
 //! Why a text of `magic` is refused.
 
 ghost use Rattle.std.specs.Prelude.{◌≡◌, ◌-◌};
-ghost use Rattle.mime_text.specs.MagicReading.{placed, placed_error};
+ghost use Rattle.mime_text.specs.Magic.Reading.{placed, placed_error};
 ghost use Rattle.mime_text.specs.declared.magic.fault.ReadError.TheVariants as errors;
 
 use std::alloc::{AllocError, AllocFailed};
@@ -20,21 +20,21 @@ pub enum MagicFault {
     /// What begins here is neither a line nor the head of a section. At its first byte.
     #[error("magic bad section at {0}")]
     BadSection(u64),
-    /// A number is missing or above 4,294,967,295, or the start has no `=` behind it: at the
+    /// A number is missing or above 4,294,967,295, or the start has no `=` after it: at the
     /// number. Or `start + range +` the length of the value is above that: at the line.
     #[error("magic bad number at {0}")]
     BadNumber(u64),
     /// The word isn't 1, 2 or 4, or it doesn't divide the length of the value. At the number.
     #[error("magic bad word at {0}")]
     BadWord(u64),
-    /// The indent has no `>` behind it, or is more than one above that of the line before, or is
+    /// The indent has no `>` after it, or is more than one above that of the line before, or is
     /// not 0 on a section's first line. At the line.
     #[error("magic bad indent at {0}")]
     BadIndent(u64),
     /// The indent is 64. At the line.
     #[error("magic too deep at {0}")]
     TooDeep(u64),
-    /// A growth was refused.
+    /// An allocation was refused.
     #[error("out of memory")]
     OutOfMemory,
 }

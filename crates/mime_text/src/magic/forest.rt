@@ -5,11 +5,11 @@
 //! So the work is linear, no byte is copied, and nothing recurses.
 
 ghost use Rattle.std.specs.Prelude.{◌≡◌, ◌∷◌, [], IfOk, MatchOption, OnOk, nat_lt, true};
-ghost use Rattle.mime_base.specs.Magic.{forest_of, trees};
-ghost use Rattle.mime_text.specs.MagicEntries.{plain_items, saying};
-ghost use Rattle.mime_text.specs.MagicForest.{deeper, forest, kept_trees, others, stack, top, tree_of};
+ghost use Rattle.mime_base.specs.Magic.{forest_of, plain_matchlets};
+ghost use Rattle.mime_text.specs.Magic.Entries.{plain_entries, plain_role};
+ghost use Rattle.mime_text.specs.Magic.Forest.{deeper, forest, kept_matchlets, others, stack, plain_root, matchlet_of};
 
-use super::entry::{Entry, Said};
+use super::entry::{Entry, Role};
 use mime_base::Matchlet;
 use std::alloc::{AllocError, Global};
 
@@ -25,7 +25,7 @@ fn pop_deeper(roots: &mut Vec<Root>, indent: u32) -> Option<Root>
     ensures { let old = stack roots.old.items in let new = stack roots.new.items in
         MatchOption result
         ((deeper indent old ≡ []) × (others indent old ≡ new))
-        (λ r. (old ≡ top r ∷ new) × (nat_lt indent r.indent ≡ true)) }
+        (λ r. (old ≡ plain_root r ∷ new) × (nat_lt indent r.indent ≡ true)) }
 {
     match roots.last() {
         Some(last) if last.indent > indent => roots.pop(),
@@ -40,7 +40,7 @@ fn take_deeper(
     indent: u32,
 ) -> Result<Vec<Matchlet>, AllocError>
     ensures taken { IfOk result (λ v.
-        trees v.items ≡ kept_trees (deeper indent (stack roots.old.items))) }
+        plain_matchlets v.items ≡ kept_matchlets (deeper indent (stack roots.old.items))) }
     ensures left { OnOk result (stack roots.new.items ≡ others indent (stack roots.old.items)) }
 {
     let mut children = Vec::new(alloc);
@@ -54,14 +54,14 @@ fn take_deeper(
 
 /// The entry as a root over its children.
 fn root_over(entry: Entry, children: Vec<Matchlet>) -> Root
-    ensures { top result ≡ record {
+    ensures { plain_root result ≡ record {
       indent = entry.indent;
-      tree = tree_of (saying entry.said) (forest_of (trees children.items));
+      matchlet = matchlet_of (plain_role entry.role) (forest_of (plain_matchlets children.items));
     } }
 {
     let indent = entry.indent;
-    match entry.said {
-        Said::Kept(line) => {
+    match entry.role {
+        Role::Kept(line) => {
             let matchlet = Matchlet {
                 start: line.start,
                 range: line.range,
@@ -75,7 +75,7 @@ fn root_over(entry: Entry, children: Vec<Matchlet>) -> Root
                 matchlet: Some(matchlet),
             }
         }
-        Said::Ignored | Said::Marker => Root {
+        Role::Ignored | Role::Marker => Root {
             indent,
             matchlet: None,
         },
@@ -84,7 +84,7 @@ fn root_over(entry: Entry, children: Vec<Matchlet>) -> Root
 
 /// The matchlets of all roots.
 fn matchlets(alloc: Global, roots: Vec<Root>) -> Result<Vec<Matchlet>, AllocError>
-    ensures { IfOk result (λ v. trees v.items ≡ kept_trees (stack roots.items)) }
+    ensures { IfOk result (λ v. plain_matchlets v.items ≡ kept_matchlets (stack roots.items)) }
 {
     let mut roots = roots;
     let mut matchlets = Vec::new(alloc);
@@ -97,9 +97,9 @@ fn matchlets(alloc: Global, roots: Vec<Root>) -> Result<Vec<Matchlet>, AllocErro
 }
 
 /// The forest of the entries.
-#[tactic(auto, unfolding(crate::specs::MagicForest::forest))]
+#[tactic(auto, unfolding(crate::specs::Magic::Forest::forest))]
 pub fn grow(alloc: Global, entries: Vec<Entry>) -> Result<Vec<Matchlet>, AllocError>
-    ensures { IfOk result (λ v. forest_of (trees v.items) ≡ forest (plain_items entries.items)) }
+    ensures { IfOk result (λ v. forest_of (plain_matchlets v.items) ≡ forest (plain_entries entries.items)) }
 {
     let mut entries = entries;
     let mut roots = Vec::new(alloc);

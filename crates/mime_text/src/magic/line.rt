@@ -2,10 +2,10 @@
 
 ghost use Rattle.std.specs.Prelude.{◌≡◌, Ok};
 ghost use Rattle.mime_base.specs.Magic.{fits_word, mask_bytes};
-ghost use Rattle.mime_text.specs.MagicEntries.{raw_own, plain_item, line_own, saying, slice_bytes};
-ghost use Rattle.mime_text.specs.MagicReading.{Finds, Gives, body_at, bytes_at, end_at, indent_at, line_at, mask_at, range_at, row_at, start_at, value_at, word_at};
+ghost use Rattle.mime_text.specs.Magic.Entries.{plain_raw_line, plain_entry, plain_line, plain_role, slice_bytes};
+ghost use Rattle.mime_text.specs.Magic.Reading.{Reads, ReadsIfMemory, body_at, bytes_at, end_at, indent_at, line_at, mask_at, range_at, row_at, start_at, value_at, word_at};
 
-use super::entry::{Entry, Line, Said};
+use super::entry::{Entry, Line, Role};
 use super::fault::{Fault, ReadError};
 use super::number::{LIMIT, byte, number};
 use memchr::memchr;
@@ -24,9 +24,9 @@ pub struct RawLine<'a> {
     pub mask: Option<&'a [u8]>,
 }
 
-/// The bytes before the next newline, and those behind it.
+/// The bytes before the next newline, and those after it.
 pub fn row(bytes: &[u8]) -> Result<(&[u8], &[u8]), Fault>
-    ensures { Finds (λ x. (x.0.now, x.1.now)) result (row_at bytes.now) }
+    ensures { Reads (λ x. (x.0.now, x.1.now)) result (row_at bytes.now) }
 {
     let Some(end) = memchr(b'\n', bytes) else {
         return Err(Fault::Truncated(0));
@@ -34,9 +34,9 @@ pub fn row(bytes: &[u8]) -> Result<(&[u8], &[u8]), Fault>
     Ok((&bytes[..end], &bytes[end + 1..]))
 }
 
-#[tactic(auto, unfolding(crate::specs::MagicReading::indent_at))]
+#[tactic(auto, unfolding(crate::specs::Magic::Reading::indent_at))]
 fn indent(bytes: &[u8]) -> Result<(u32, &[u8]), Fault>
-    ensures { Finds (λ x. (x.0, x.1.now)) result (indent_at bytes.now) }
+    ensures { Reads (λ x. (x.0, x.1.now)) result (indent_at bytes.now) }
 {
     match bytes {
         [] => Err(Fault::Truncated(0)),
@@ -49,18 +49,18 @@ fn indent(bytes: &[u8]) -> Result<(u32, &[u8]), Fault>
     }
 }
 
-#[tactic(auto, unfolding(crate::specs::MagicReading::start_at))]
+#[tactic(auto, unfolding(crate::specs::Magic::Reading::start_at))]
 fn start(bytes: &[u8]) -> Result<(u32, &[u8]), Fault>
-    ensures { Finds (λ x. (x.0, x.1.now)) result (start_at bytes.now) }
+    ensures { Reads (λ x. (x.0, x.1.now)) result (start_at bytes.now) }
 {
     let (start, rest) = number(bytes)?;
     let rest = byte(b'=', Fault::BadNumber(bytes.len()), rest)?;
     Ok((start, rest))
 }
 
-#[tactic(auto, unfolding(crate::specs::MagicReading::bytes_at))]
+#[tactic(auto, unfolding(crate::specs::Magic::Reading::bytes_at))]
 fn some_bytes(bytes: &[u8], n: usize) -> Result<(&[u8], &[u8]), Fault>
-    ensures { Finds (λ x. (x.0.now, x.1.now)) result (bytes_at n bytes.now) }
+    ensures { Reads (λ x. (x.0.now, x.1.now)) result (bytes_at n bytes.now) }
 {
     if bytes.len() < n {
         return Err(Fault::Truncated(0));
@@ -68,9 +68,9 @@ fn some_bytes(bytes: &[u8], n: usize) -> Result<(&[u8], &[u8]), Fault>
     Ok(bytes.split_at(n))
 }
 
-#[tactic(auto, unfolding(crate::specs::MagicReading::value_at))]
+#[tactic(auto, unfolding(crate::specs::Magic::Reading::value_at))]
 fn value(bytes: &[u8]) -> Result<(&[u8], &[u8]), Fault>
-    ensures { Finds (λ x. (x.0.now, x.1.now)) result (value_at bytes.now) }
+    ensures { Reads (λ x. (x.0.now, x.1.now)) result (value_at bytes.now) }
 {
     match bytes {
         [] => Err(Fault::Truncated(0)),
@@ -82,9 +82,9 @@ fn value(bytes: &[u8]) -> Result<(&[u8], &[u8]), Fault>
     }
 }
 
-#[tactic(auto, unfolding(crate::specs::MagicReading::mask_at))]
+#[tactic(auto, unfolding(crate::specs::Magic::Reading::mask_at))]
 fn mask(bytes: &[u8], n: usize) -> Result<(Option<&[u8]>, &[u8]), Fault>
-    ensures { Finds (λ x. (slice_bytes x.0, x.1.now)) result (mask_at n bytes.now) }
+    ensures { Reads (λ x. (slice_bytes x.0, x.1.now)) result (mask_at n bytes.now) }
 {
     match bytes {
         [b'&', rest @ ..] => {
@@ -102,9 +102,9 @@ fn fits_word(word: u32, size: usize) -> bool
     word == 1 || (word == 2 && size % 2 == 0) || (word == 4 && size % 4 == 0)
 }
 
-#[tactic(auto, unfolding(crate::specs::MagicReading::word_at))]
+#[tactic(auto, unfolding(crate::specs::Magic::Reading::word_at))]
 fn word(bytes: &[u8], size: usize) -> Result<(u32, &[u8]), Fault>
-    ensures { Finds (λ x. (x.0, x.1.now)) result (word_at size bytes.now) }
+    ensures { Reads (λ x. (x.0, x.1.now)) result (word_at size bytes.now) }
 {
     match bytes {
         [b'~', rest @ ..] => {
@@ -118,9 +118,9 @@ fn word(bytes: &[u8], size: usize) -> Result<(u32, &[u8]), Fault>
     }
 }
 
-#[tactic(auto, unfolding(crate::specs::MagicReading::range_at))]
+#[tactic(auto, unfolding(crate::specs::Magic::Reading::range_at))]
 fn range(bytes: &[u8]) -> Result<(u32, &[u8]), Fault>
-    ensures { Finds (λ x. (x.0, x.1.now)) result (range_at bytes.now) }
+    ensures { Reads (λ x. (x.0, x.1.now)) result (range_at bytes.now) }
 {
     match bytes {
         [b'+', rest @ ..] => number(rest),
@@ -128,9 +128,9 @@ fn range(bytes: &[u8]) -> Result<(u32, &[u8]), Fault>
     }
 }
 
-#[tactic(auto, unfolding(crate::specs::MagicReading::body_at))]
+#[tactic(auto, unfolding(crate::specs::Magic::Reading::body_at))]
 fn body(bytes: &[u8]) -> Result<(RawLine<'_>, &[u8]), Fault>
-    ensures { Finds (λ x. (raw_own x.0, x.1.now)) result (body_at bytes.now) }
+    ensures { Reads (λ x. (plain_raw_line x.0, x.1.now)) result (body_at bytes.now) }
 {
     let (start, rest) = start(bytes)?;
     let (value, rest) = value(rest)?;
@@ -148,7 +148,7 @@ fn body(bytes: &[u8]) -> Result<(RawLine<'_>, &[u8]), Fault>
 }
 
 fn copied_mask(alloc: Global, mask: Option<&[u8]>) -> Result<Option<Vec<u8>>, ReadError>
-    ensures { Gives mask_bytes result (Ok (slice_bytes mask.entry)) }
+    ensures { ReadsIfMemory mask_bytes result (Ok (slice_bytes mask.entry)) }
 {
     match mask {
         Some(mask) => Ok(Some(Vec::from_slice(alloc, mask)?)),
@@ -158,7 +158,7 @@ fn copied_mask(alloc: Global, mask: Option<&[u8]>) -> Result<Option<Vec<u8>>, Re
 
 /// The line as it is kept, with copies of its bytes.
 fn copied(alloc: Global, body: RawLine) -> Result<Line, ReadError>
-    ensures { Gives line_own result (Ok (raw_own body.entry)) }
+    ensures { ReadsIfMemory plain_line result (Ok (plain_raw_line body.entry)) }
 {
     let value = Vec::from_slice(alloc, body.value)?;
     let mask = copied_mask(alloc, body.mask)?;
@@ -171,16 +171,17 @@ fn copied(alloc: Global, body: RawLine) -> Result<Line, ReadError>
     })
 }
 
-/// What a line says that ends so. `left` bytes are left at the line's first byte.
-#[tactic(auto, unfolding(crate::specs::MagicReading::end_at))]
-fn said<'a>(
+/// The end of a line after its range. A newline makes it a line that is kept; any other byte makes
+/// it ignored, up to its newline. `left` bytes are left at the line's first byte.
+#[tactic(auto, unfolding(crate::specs::Magic::Reading::end_at))]
+fn end<'a>(
     alloc: Global,
     left: usize,
     body: RawLine<'a>,
     bytes: &'a [u8],
-) -> Result<(Said, &'a [u8]), ReadError>
-    ensures { Gives (λ x. (saying x.0, x.1.now)) result
-        (end_at left (raw_own body.entry) bytes.now) }
+) -> Result<(Role, &'a [u8]), ReadError>
+    ensures { ReadsIfMemory (λ x. (plain_role x.0, x.1.now)) result
+        (end_at left (plain_raw_line body.entry) bytes.now) }
 {
     match bytes {
         [] => Err(ReadError::Fault(Fault::Truncated(0))),
@@ -189,19 +190,19 @@ fn said<'a>(
                 return Err(ReadError::Fault(Fault::BadNumber(left)));
             }
             let line = copied(alloc, body)?;
-            Ok((Said::Kept(line), rest))
+            Ok((Role::Kept(line), rest))
         }
         [_, rest @ ..] => {
             let (_, rest) = row(rest)?;
-            Ok((Said::Ignored, rest))
+            Ok((Role::Ignored, rest))
         }
     }
 }
 
-/// A line whose indent may be at most `limit`, and what is behind it.
-#[tactic(auto, unfolding(crate::specs::MagicReading::line_at))]
+/// A line whose indent may be at most `limit`, and what comes after it.
+#[tactic(auto, unfolding(crate::specs::Magic::Reading::line_at))]
 pub fn line(alloc: Global, limit: u32, bytes: &[u8]) -> Result<(Entry, &[u8]), ReadError>
-    ensures { Gives (λ x. (plain_item x.0, x.1.now)) result (line_at limit bytes.now) }
+    ensures { ReadsIfMemory (λ x. (plain_entry x.0, x.1.now)) result (line_at limit bytes.now) }
 {
     let (indent, rest) = indent(bytes)?;
     if indent > limit {
@@ -211,6 +212,6 @@ pub fn line(alloc: Global, limit: u32, bytes: &[u8]) -> Result<(Entry, &[u8]), R
         return Err(ReadError::Fault(Fault::TooDeep(bytes.len())));
     }
     let (body, rest) = body(rest)?;
-    let (said, rest) = said(alloc, bytes.len(), body, rest)?;
-    Ok((Entry { indent, said }, rest))
+    let (role, rest) = end(alloc, bytes.len(), body, rest)?;
+    Ok((Entry { indent, role }, rest))
 }

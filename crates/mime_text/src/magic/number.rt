@@ -1,7 +1,7 @@
 //! Decimal numbers below 2^32, and single bytes that have to stand somewhere.
 
 ghost use Rattle.std.specs.Prelude.{◌≡◌, min};
-ghost use Rattle.mime_text.specs.MagicReading.{Finds, byte_at, digits_at, is_digit, number_at};
+ghost use Rattle.mime_text.specs.Magic.Reading.{Reads, byte_at, digits_at, is_digit, number_at};
 
 use super::fault::Fault;
 
@@ -14,7 +14,7 @@ pub fn is_digit(b: u8) -> bool
     b'0' <= b && b <= b'9'
 }
 
-/// The value of the digits at the front, at most [`LIMIT`], and what is behind them.
+/// The value of the digits at the front, at most [`LIMIT`], and what comes after them.
 fn digits(bytes: &[u8]) -> (u64, &[u8])
     ensures value { result.0 ≡ min (digits_at 0 bytes.now).0 4294967296 }
     ensures rest { result.1.now ≡ (digits_at 0 bytes.now).1 }
@@ -31,10 +31,10 @@ fn digits(bytes: &[u8]) -> (u64, &[u8])
     (value, rest)
 }
 
-/// A number and what is behind it. It ends at the first byte that is no digit, and is judged there.
-#[tactic(auto, unfolding(crate::specs::MagicReading::number_at, crate::specs::MagicReading::judged))]
+/// A number and what comes after it. It ends at the first byte that is no digit, and is judged there.
+#[tactic(auto, unfolding(crate::specs::Magic::Reading::number_at, crate::specs::Magic::Reading::judged))]
 pub fn number(bytes: &[u8]) -> Result<(u32, &[u8]), Fault>
-    ensures { Finds (λ x. (x.0, x.1.now)) result (number_at bytes.now) }
+    ensures { Reads (λ x. (x.0, x.1.now)) result (number_at bytes.now) }
 {
     let (value, rest) = digits(bytes);
     if rest.is_empty() {
@@ -46,10 +46,10 @@ pub fn number(bytes: &[u8]) -> Result<(u32, &[u8]), Fault>
     Ok((value as u32, rest))
 }
 
-/// What is behind the byte `want`, which has to stand here.
-#[tactic(auto, unfolding(crate::specs::MagicReading::byte_at))]
+/// What comes after the byte `want`, which has to stand here.
+#[tactic(auto, unfolding(crate::specs::Magic::Reading::byte_at))]
 pub fn byte(want: u8, wrong: Fault, bytes: &[u8]) -> Result<&[u8], Fault>
-    ensures { Finds (λ x. x.now) result (byte_at want wrong bytes.now) }
+    ensures { Reads (λ x. x.now) result (byte_at want wrong bytes.now) }
 {
     let Some((b, rest)) = bytes.split_first() else {
         return Err(Fault::Truncated(0));

@@ -3,25 +3,25 @@
 ghost use Rattle.std.specs.Prelude.{◌≡◌, IfErr, IfOk, List, MatchResult, length, nat_lt};
 ghost use Rattle.std.specs.List.{list_any};
 ghost use Rattle.mime_base.specs.Magic.{plain_section, plain_sections};
-ghost use Rattle.mime_text.specs.MagicEntries.{Part, plain_part, plain_parts, saying};
-ghost use Rattle.mime_text.specs.MagicFile.{FileGives, IsFaultOf, IsFileOf, deleted_kinds, is_marker, kept_sections, with_forest};
-ghost use Rattle.mime_text.specs.MagicReading.{whole};
-ghost use Rattle.mime_text.specs.MagicText.{MagicText};
+ghost use Rattle.mime_text.specs.Magic.Entries.{PlainFlatSection, plain_flat_section, plain_flat_sections, plain_role};
+ghost use Rattle.mime_text.specs.Magic.File.{ReadsFile, IsFaultOf, IsFileOf, deleted_kinds, is_marker, kept_sections, with_forest};
+ghost use Rattle.mime_text.specs.Magic.Reading.{whole};
+ghost use Rattle.mime_text.specs.Magic.Text.{MagicText};
 
-use super::entry::{Entry, Said, Spelled};
+use super::entry::{Entry, FlatSection, Role};
 use super::fault::{MagicFault, ReadError};
 use super::file::MagicFile;
 use super::forest::grow;
-use super::text::parts;
+use super::text::flat_sections;
 use mime_base::{Section, TypeName};
 use std::alloc::{AllocError, Global};
 
 fn holds_marker(entries: &[Entry]) -> bool
-    ensures { result ≡ list_any (λ e. is_marker (saying e.said)) entries.now }
+    ensures { result ≡ list_any (λ e. is_marker (plain_role e.role)) entries.now }
 {
     entries
         .iter()
-        .any(|entry| matches!(entry.said, Said::Marker))
+        .any(|entry| matches!(entry.role, Role::Marker))
 }
 
 fn copied(alloc: Global, kind: &TypeName) -> Result<TypeName, AllocError>
@@ -34,21 +34,21 @@ fn copied(alloc: Global, kind: &TypeName) -> Result<TypeName, AllocError>
 }
 
 /// The types of the sections that hold a marker.
-fn deleted(alloc: Global, parts: &[Spelled]) -> Result<Vec<TypeName>, AllocError>
-    ensures { IfOk result (λ kinds. kinds.items ≡ deleted_kinds (plain_parts parts.now)) }
+fn deleted(alloc: Global, flat_sections: &[FlatSection]) -> Result<Vec<TypeName>, AllocError>
+    ensures { IfOk result (λ kinds. kinds.items ≡ deleted_kinds (plain_flat_sections flat_sections.now)) }
 {
     let mut kinds = Vec::new(alloc);
-    for part in parts {
-        if holds_marker(&part.entries) {
-            kinds.push(copied(alloc, &part.kind)?)?;
+    for flat in flat_sections {
+        if holds_marker(&flat.entries) {
+            kinds.push(copied(alloc, &flat.kind)?)?;
         }
     }
     Ok(kinds)
 }
 
 /// A section with its lines as a forest.
-fn grown(alloc: Global, spelled: Spelled) -> Result<Section, AllocError>
-    ensures { IfOk result (λ section. plain_section section ≡ with_forest (plain_part spelled)) }
+fn grown(alloc: Global, spelled: FlatSection) -> Result<Section, AllocError>
+    ensures { IfOk result (λ section. plain_section section ≡ with_forest (plain_flat_section spelled)) }
 {
     let lines = grow(alloc, spelled.entries)?;
     Ok(Section {
@@ -65,12 +65,12 @@ fn has_lines(section: &Section) -> bool
 }
 
 /// The sections that keep a line.
-fn kept(alloc: Global, parts: Vec<Spelled>) -> Result<Vec<Section>, AllocError>
-    ensures { IfOk result (λ v. plain_sections v.items ≡ kept_sections (plain_parts parts.items)) }
+fn kept(alloc: Global, flat_sections: Vec<FlatSection>) -> Result<Vec<Section>, AllocError>
+    ensures { IfOk result (λ v. plain_sections v.items ≡ kept_sections (plain_flat_sections flat_sections.items)) }
 {
     let mut sections = Vec::new(alloc);
-    for part in parts {
-        let section = grown(alloc, part)?;
+    for flat in flat_sections {
+        let section = grown(alloc, flat)?;
         if has_lines(&section) {
             sections.push(section)?;
         }
@@ -79,11 +79,11 @@ fn kept(alloc: Global, parts: Vec<Spelled>) -> Result<Vec<Section>, AllocError>
 }
 
 fn file(alloc: Global, text: &[u8]) -> Result<MagicFile, ReadError>
-    ensures { FileGives result (whole text.now) }
+    ensures { ReadsFile result (whole text.now) }
 {
-    let parts = parts(alloc, text)?;
-    let deleted = deleted(alloc, &parts)?;
-    let sections = kept(alloc, parts)?;
+    let flat_sections = flat_sections(alloc, text)?;
+    let deleted = deleted(alloc, &flat_sections)?;
+    let sections = kept(alloc, flat_sections)?;
     Ok(MagicFile { sections, deleted })
 }
 
@@ -94,14 +94,14 @@ fn file(alloc: Global, text: &[u8]) -> Result<MagicFile, ReadError>
 ///
 /// # Errors
 ///
-/// The first fault of the text, or [`MagicFault::OutOfMemory`] where a growth was refused.
+/// The first fault of the text, or [`MagicFault::OutOfMemory`] where an allocation was refused.
 pub fn read_magic(alloc: Global, text: &[u8]) -> Result<MagicFile, MagicFault>
     // What is read is spelled so.
     ensures found { IfOk result (λ file.
-        (parts : List Part) × MagicText text.now parts × IsFileOf parts file) }
+        (flat_sections : List PlainFlatSection) × MagicText text.now flat_sections × IsFileOf flat_sections file) }
     // What is spelled so is read, unless memory runs out.
-    ensures only { (parts : List Part) → MagicText text.now parts →
-        MatchResult result (λ file. IsFileOf parts file) (λ fault. fault ≡ MagicFault.OutOfMemory) }
+    ensures only { (flat_sections : List PlainFlatSection) → MagicText text.now flat_sections →
+        MatchResult result (λ file. IsFileOf flat_sections file) (λ fault. fault ≡ MagicFault.OutOfMemory) }
     // Which fault it is, and where.
     ensures exact { IfErr result (λ fault. IsFaultOf text.now fault) }
 {

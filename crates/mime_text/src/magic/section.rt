@@ -1,46 +1,46 @@
 //! A section of `magic`: its head `[priority:type]`, its lines and deletion markers.
 
 ghost use Rattle.std.specs.Prelude.{◌≡◌, length};
-ghost use Rattle.mime_text.specs.MagicEntries.{plain_item, plain_items, plain_part, slice_bytes};
-ghost use Rattle.mime_text.specs.MagicReading.{Finds, Gives, behind, entry_at, head_at, head_of, kind_of, lines_at, marker_at, section_at, starts_line};
+ghost use Rattle.mime_text.specs.Magic.Entries.{plain_entry, plain_entries, plain_flat_section, slice_bytes};
+ghost use Rattle.mime_text.specs.Magic.Reading.{Reads, ReadsIfMemory, after_prefix, entry_at, head_at, head_of, kind_of, lines_at, marker_at, section_at, starts_line};
 
-use super::entry::{Entry, Said, Spelled};
+use super::entry::{Entry, FlatSection, Role};
 use super::fault::{Fault, ReadError};
 use super::line::{line, row};
 use super::number::{byte, is_digit, number};
 use mime_base::{NameFault, TypeName};
 use std::alloc::Global;
 
-/// What stands behind a front, where it is one.
-pub fn behind<'a>(front: &[u8], bytes: &'a [u8]) -> Option<&'a [u8]>
-    ensures { slice_bytes result ≡ behind front.now bytes.now }
+/// The bytes after a prefix, where they have it.
+pub fn after_prefix<'a>(prefix: &[u8], bytes: &'a [u8]) -> Option<&'a [u8]>
+    ensures { slice_bytes result ≡ after_prefix prefix.now bytes.now }
 {
-    bytes.strip_prefix(front)
+    bytes.strip_prefix(prefix)
 }
 
-/// What stands behind a deletion marker, where there is one.
-#[tactic(auto, unfolding(crate::specs::MagicReading::marker_at))]
+/// The bytes after a deletion marker, where they begin with one.
+#[tactic(auto, unfolding(crate::specs::Magic::Reading::marker_at))]
 fn marker(bytes: &[u8]) -> Option<&[u8]>
     ensures { slice_bytes result ≡ marker_at bytes.now }
 {
-    if let Some(rest) = behind(b">0=__NOMAGIC__\n", bytes) {
+    if let Some(rest) = after_prefix(b">0=__NOMAGIC__\n", bytes) {
         return Some(rest);
     }
-    if let Some(rest) = behind(b">0__NOMAGIC__\n", bytes) {
+    if let Some(rest) = after_prefix(b">0__NOMAGIC__\n", bytes) {
         return Some(rest);
     }
-    behind(b">0=\x00\x0b__NOMAGIC__\n", bytes)
+    after_prefix(b">0=\x00\x0b__NOMAGIC__\n", bytes)
 }
 
 /// A marker, or a line whose indent may be at most `limit`.
-#[tactic(auto, unfolding(crate::specs::MagicReading::entry_at))]
+#[tactic(auto, unfolding(crate::specs::Magic::Reading::entry_at))]
 fn entry(alloc: Global, limit: u32, bytes: &[u8]) -> Result<(Entry, &[u8]), ReadError>
-    ensures { Gives (λ x. (plain_item x.0, x.1.now)) result (entry_at limit bytes.now) }
+    ensures { ReadsIfMemory (λ x. (plain_entry x.0, x.1.now)) result (entry_at limit bytes.now) }
 {
     if let Some(rest) = marker(bytes) {
         let entry = Entry {
             indent: 0,
-            said: Said::Marker,
+            role: Role::Marker,
         };
         return Ok((entry, rest));
     }
@@ -55,7 +55,7 @@ fn starts_line(b: u8) -> bool
 
 /// The lines of a section, up to a byte that starts none.
 fn lines(alloc: Global, bytes: &[u8]) -> Result<(Vec<Entry>, &[u8]), ReadError>
-    ensures { Gives (λ x. (plain_items x.0.items, x.1.now)) result
+    ensures { ReadsIfMemory (λ x. (plain_entries x.0.items, x.1.now)) result
         (lines_at (length bytes.now) 0 bytes.now) }
 {
     let mut entries = Vec::new(alloc);
@@ -74,9 +74,9 @@ fn lines(alloc: Global, bytes: &[u8]) -> Result<(Vec<Entry>, &[u8]), ReadError>
 }
 
 /// The type before the last byte, a `]`.
-#[tactic(auto, unfolding(crate::specs::MagicReading::kind_of))]
+#[tactic(auto, unfolding(crate::specs::Magic::Reading::kind_of))]
 fn kind(alloc: Global, wrong: Fault, bytes: &[u8]) -> Result<TypeName, ReadError>
-    ensures { Gives (λ kind. kind) result (kind_of wrong bytes.now) }
+    ensures { ReadsIfMemory (λ kind. kind) result (kind_of wrong bytes.now) }
 {
     match bytes {
         [name @ .., b']'] => match TypeName::new(alloc, name) {
@@ -88,10 +88,10 @@ fn kind(alloc: Global, wrong: Fault, bytes: &[u8]) -> Result<TypeName, ReadError
     }
 }
 
-/// The priority and the type of a head, whose bytes behind the `[` these are.
-#[tactic(auto, unfolding(crate::specs::MagicReading::head_of))]
+/// The priority and the type of a head, read from its bytes after the `[`.
+#[tactic(auto, unfolding(crate::specs::Magic::Reading::head_of))]
 fn head_row(alloc: Global, wrong: Fault, row: &[u8]) -> Result<(u32, TypeName), ReadError>
-    ensures { Gives (λ x. (x.0, x.1)) result (head_of wrong row.now) }
+    ensures { ReadsIfMemory (λ x. (x.0, x.1)) result (head_of wrong row.now) }
 {
     let (priority, rest) = number(row)?;
     let rest = byte(b':', wrong, rest)?;
@@ -99,10 +99,10 @@ fn head_row(alloc: Global, wrong: Fault, row: &[u8]) -> Result<(u32, TypeName), 
     Ok((priority, kind))
 }
 
-/// The priority and the type of a section, and what is behind its head.
-#[tactic(auto, unfolding(crate::specs::MagicReading::head_at))]
+/// The priority and the type of a section, and what comes after its head.
+#[tactic(auto, unfolding(crate::specs::Magic::Reading::head_at))]
 fn head(alloc: Global, bytes: &[u8]) -> Result<((u32, TypeName), &[u8]), ReadError>
-    ensures { Gives (λ x. ((x.0.0, x.0.1), x.1.now)) result (head_at bytes.now) }
+    ensures { ReadsIfMemory (λ x. ((x.0.0, x.0.1), x.1.now)) result (head_at bytes.now) }
 {
     let wrong = Fault::BadSection(bytes.len());
     match bytes {
@@ -119,17 +119,17 @@ fn head(alloc: Global, bytes: &[u8]) -> Result<((u32, TypeName), &[u8]), ReadErr
     }
 }
 
-/// A section and what is behind it.
-#[tactic(auto, unfolding(crate::specs::MagicReading::section_at))]
-pub fn section(alloc: Global, bytes: &[u8]) -> Result<(Spelled, &[u8]), ReadError>
-    ensures { Gives (λ x. (plain_part x.0, x.1.now)) result (section_at bytes.now) }
+/// A section and what comes after it.
+#[tactic(auto, unfolding(crate::specs::Magic::Reading::section_at))]
+pub fn section(alloc: Global, bytes: &[u8]) -> Result<(FlatSection, &[u8]), ReadError>
+    ensures { ReadsIfMemory (λ x. (plain_flat_section x.0, x.1.now)) result (section_at bytes.now) }
 {
     let ((priority, kind), rest) = head(alloc, bytes)?;
     let (entries, rest) = lines(alloc, rest)?;
-    let part = Spelled {
+    let flat = FlatSection {
         priority,
         kind,
         entries,
     };
-    Ok((part, rest))
+    Ok((flat, rest))
 }

@@ -2,56 +2,72 @@ use super::*;
 use std::test::Fail;
 
 struct Row {
+    name: &'static str,
     text: &'static [u8],
     /// The value of each line of indent 0, and those of its children.
     lines: &'static [(&'static [u8], &'static [&'static [u8]])],
     deleted: &'static [&'static [u8]],
 }
 
-const ROWS: [Row; 9] = [
+const ROWS: [Row; 10] = [
     Row {
+        name: "no bytes",
         text: b"",
         lines: &[],
         deleted: &[],
     },
     Row {
+        name: "a section without lines",
         text: b"MIME-Magic\x00\n[50:t/a]\n",
         lines: &[],
         deleted: &[],
     },
     Row {
+        name: "a marker without its equals sign",
         text: b"MIME-Magic\x00\n[50:t/a]\n>0__NOMAGIC__\n",
         lines: &[],
         deleted: &[b"t/a"],
     },
     Row {
+        name: "a marker with a length",
         text: b"MIME-Magic\x00\n[50:t/a]\n>0=\x00\x0b__NOMAGIC__\n",
         lines: &[],
         deleted: &[b"t/a"],
     },
     Row {
+        name: "a marker and a line",
         text: b"MIME-Magic\x00\n[50:t/a]\n>0=__NOMAGIC__\n>0=\x00\x01c\n",
         lines: &[(b"c", &[])],
         deleted: &[b"t/a"],
     },
     Row {
+        name: "a word after a range",
         text: b"MIME-Magic\x00\n[50:t/a]\n>0=\x00\x01a+3~2\n",
         lines: &[],
         deleted: &[],
     },
     Row {
+        name: "ignored-magic-line",
         text: b"MIME-Magic\x00\n[50:t/a]\n>0=\x00\x01a?zz\n1>0=\x00\x01b\n>0=\x00\x01c\n",
         lines: &[(b"c", &[])],
         deleted: &[],
     },
     Row {
+        name: "the greatest sum",
         text: b"MIME-Magic\x00\n[50:t/a]\n>4294967293=\x00\x01a\n",
         lines: &[(b"a", &[])],
         deleted: &[],
     },
     Row {
-        text: b"MIME-Magic\x00\n[50:t/a]\n>0=\x00\x01a\n1>0=\x00\x01b\n1>0=\x00\x01c\n[9:t/b]\n>0__NOMAGIC__\n[9:t/c]\n>0=\x00\x00\n>0__NOMAGIC__\n",
-        lines: &[(b"a", &[b"b", b"c"]), (b"", &[])],
+        name: "children",
+        text: b"MIME-Magic\x00\n[50:t/a]\n>0=\x00\x01a\n1>0=\x00\x01b\n1>0=\x00\x01c\n",
+        lines: &[(b"a", &[b"b", b"c"])],
+        deleted: &[],
+    },
+    Row {
+        name: "markers of two sections",
+        text: b"MIME-Magic\x00\n[9:t/b]\n>0__NOMAGIC__\n[9:t/c]\n>0=\x00\x00\n>0__NOMAGIC__\n",
+        lines: &[(b"", &[])],
         deleted: &[b"t/b", b"t/c"],
     },
 ];
@@ -59,6 +75,7 @@ const ROWS: [Row; 9] = [
 #[test]
 fn rows(rt: HostRuntime) -> Result<(), Fail> {
     for row in &ROWS {
+        let name = row.name;
         let file = read_magic(rt.alloc(), row.text)?;
         let mut wanted = row.lines.iter();
         for line in file
@@ -67,16 +84,16 @@ fn rows(rt: HostRuntime) -> Result<(), Fail> {
             .flat_map(|section| section.lines.iter())
         {
             let (value, children) = wanted.next().ok_or("a line too much")?;
-            assert_eq!(rt; line.value.as_slice(), *value);
-            assert_eq!(rt; line.children.len(), children.len());
+            assert_eq!(rt; line.value.as_slice(), *value, "{name}");
+            assert_eq!(rt; line.children.len(), children.len(), "{name}");
             for (child, value) in line.children.iter().zip(*children) {
-                assert_eq!(rt; child.value.as_slice(), *value);
+                assert_eq!(rt; child.value.as_slice(), *value, "{name}");
             }
         }
-        assert!(rt; wanted.next().is_none());
-        assert_eq!(rt; file.deleted.len(), row.deleted.len());
+        assert!(rt; wanted.next().is_none(), "{name}");
+        assert_eq!(rt; file.deleted.len(), row.deleted.len(), "{name}");
         for (kind, want) in file.deleted.iter().zip(row.deleted) {
-            assert_eq!(rt; kind.bytes(), *want);
+            assert_eq!(rt; kind.bytes(), *want, "{name}");
         }
     }
     Ok(())

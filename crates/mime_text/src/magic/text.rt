@@ -1,16 +1,16 @@
 //! A whole text of `magic`: nothing, or a header and sections.
 
 ghost use Rattle.std.specs.Prelude.{◌≡◌, IfOk, List, Ok, length};
-ghost use Rattle.mime_text.specs.MagicEntries.{plain_parts};
-ghost use Rattle.mime_text.specs.MagicReading.{Gives, sections_at, whole};
+ghost use Rattle.mime_text.specs.Magic.Entries.{plain_flat_sections};
+ghost use Rattle.mime_text.specs.Magic.Reading.{ReadsIfMemory, sections_at, whole};
 
-use super::entry::Spelled;
+use super::entry::FlatSection;
 use super::fault::{Fault, ReadError};
-use super::section::{behind, section};
+use super::section::{after_prefix, section};
 use std::alloc::Global;
 
-fn sections(alloc: Global, bytes: &[u8]) -> Result<Vec<Spelled>, ReadError>
-    ensures { Gives (λ v. plain_parts v.items) result (sections_at (length bytes.now) bytes.now) }
+fn sections(alloc: Global, bytes: &[u8]) -> Result<Vec<FlatSection>, ReadError>
+    ensures { ReadsIfMemory (λ v. plain_flat_sections v.items) result (sections_at (length bytes.now) bytes.now) }
 {
     let mut sections = Vec::new(alloc);
     let mut rest = bytes;
@@ -23,14 +23,14 @@ fn sections(alloc: Global, bytes: &[u8]) -> Result<Vec<Spelled>, ReadError>
 }
 
 /// The sections that the text spells, or its first fault.
-#[tactic(auto, unfolding(crate::specs::MagicReading::whole))]
-pub fn parts(alloc: Global, text: &[u8]) -> Result<Vec<Spelled>, ReadError>
-    ensures { Gives (λ v. plain_parts v.items) result (whole text.now) }
+#[tactic(auto, unfolding(crate::specs::Magic::Reading::whole))]
+pub fn flat_sections(alloc: Global, text: &[u8]) -> Result<Vec<FlatSection>, ReadError>
+    ensures { ReadsIfMemory (λ v. plain_flat_sections v.items) result (whole text.now) }
 {
     if text.is_empty() {
         return Ok(Vec::new(alloc));
     }
-    match behind(b"MIME-Magic\x00\n", text) {
+    match after_prefix(b"MIME-Magic\x00\n", text) {
         None => Err(ReadError::Fault(Fault::NoHeader(text.len()))),
         Some(rest) => sections(alloc, rest),
     }

@@ -1,4 +1,4 @@
-//! Wrong command lines, and files and sinks that fail.
+//! Files and sinks that fail.
 
 use crate::{Entry, FailingFiles, FailingSink, Shelf};
 use mime_tool::{FileFault, SinkFault, run};
@@ -8,52 +8,37 @@ const GLOBS: &[u8] = b"50:t/a:*.a\nnothing\n";
 
 const WORDS: [&str; 7] = ["plain", "--name-only", "-d", "/s", "x.a", "y", "z.a"];
 
-const OUTPUT: &[u8] = b"x.a: t/a\ny: application/octet-stream\nz.a: t/a\n";
+// What is put on standard output, call by call; after it comes the flush.
+const PIECES: [&str; 12] = [
+    "x.a",
+    ": ",
+    "t/a",
+    "\n",
+    "y",
+    ": ",
+    "application/octet-stream",
+    "\n",
+    "z.a",
+    ": ",
+    "t/a",
+    "\n",
+];
 
-// Four pieces a line, and the flush.
-const PIECES: usize = 13;
+const OUTPUT: &str = "x.a: t/a\ny: application/octet-stream\nz.a: t/a\n";
 
-const IGNORED: &[u8] = b"mimelook: /s/mime/globs2: line 2 ignored\n";
+const IGNORED: &str = "mimelook: /s/mime/globs2: line 2 ignored\n";
 
-#[test]
-fn shows_help_and_mistakes(rt: HostRuntime) -> Result<(), Fail> {
-    let alloc = rt.alloc();
-    let lines: [(&[&str], u8); 12] = [
-        (&["--help"], 0),
-        (&["plain", "--help"], 0),
-        (&[], 2),
-        (&["plain"], 2),
-        (&["help"], 2),
-        (&["plain", "--name-only", "-d", ""], 2),
-        (&["plain", "--name-only", "a"], 2),
-        (&["plain", "--name-only", "-d", "/s:/t", "a"], 2),
-        (&["plain", "-d", "/s", "a"], 2),
-        (&["plain", "--name-only", "-d", "/s", "-d", "/s", "a"], 2),
-        (&["plain", "--name-only", "-d", "/s", "--cost", "a"], 2),
-        (&["type", "--name-only", "-d", "/s", "a"], 2),
-    ];
-    for (words, want) in lines {
-        let mut files = Shelf { entries: &[] };
-        let mut out = Vec::new(alloc);
-        let mut err = Vec::new(alloc);
-        let status = run(alloc, words, &mut files, &mut out, &mut err);
-        assert_eq!(rt; status, want, "at {words:?}");
-        assert_eq!(rt; out.is_empty(), want == 2, "at {words:?}");
-        assert_eq!(rt; err.is_empty(), want == 0, "at {words:?}");
-    }
-    Ok(())
-}
+const CANNOT_WRITE: &str = "mimelook: cannot write output\n";
+
+const NO_MEMORY: &str = "mimelook: out of memory\n";
 
 #[test]
 fn names_what_files_fail_with(rt: HostRuntime) -> Result<(), Fail> {
     let alloc = rt.alloc();
-    let faults: [(FileFault, u8, &[u8]); 2] = [
-        (
-            FileFault::Failed,
-            3,
-            b"mimelook: /s/mime/globs2: cannot read\n",
-        ),
-        (FileFault::OutOfMemory, 4, b"mimelook: out of memory\n"),
+    let unreadable = "mimelook: /s/mime/globs2: cannot read\n";
+    let faults = [
+        (FileFault::Failed, 3, unreadable),
+        (FileFault::OutOfMemory, 4, NO_MEMORY),
     ];
     for (fault, want, message) in faults {
         let mut files = FailingFiles(fault);
@@ -62,54 +47,120 @@ fn names_what_files_fail_with(rt: HostRuntime) -> Result<(), Fail> {
         let status = run(alloc, &WORDS, &mut files, &mut out, &mut err);
         assert_eq!(rt; status, want);
         assert!(rt; out.is_empty());
-        assert_eq!(rt; err.as_slice(), message);
+        assert_eq!(rt; err.as_slice(), message.as_bytes());
+    }
+    Ok(())
+}
+
+// The first calls are met, then one fails, or all of them from there on. What was put before it
+// stays, whole, and is flushed where the sink lets it.
+#[test]
+fn stops_at_each_failing_write(rt: HostRuntime) -> Result<(), Fail> {
+    let alloc = rt.alloc();
+    let faults = [
+        ("one fault", 1, SinkFault::Failed, 3, CANNOT_WRITE),
+        ("faults", usize::MAX, SinkFault::Failed, 3, CANNOT_WRITE),
+        ("no memory once", 1, SinkFault::OutOfMemory, 4, NO_MEMORY),
+        (
+            "no memory",
+            usize::MAX,
+            SinkFault::OutOfMemory,
+            4,
+            NO_MEMORY,
+        ),
+    ];
+    let entries = [("/s/mime/globs2", Entry::Bytes(GLOBS))];
+    for (name, times, fault, stopped, message) in faults {
+        let said = format!(in alloc; "{IGNORED}{message}")?;
+        let mut put = String::new(alloc);
+        for calls in 0..=PIECES.len() {
+            let mut files = Shelf { entries: &entries };
+            let mut out = FailingSink::new(alloc, calls, times, fault);
+            let mut err = Vec::new(alloc);
+            let status = run(alloc, &WORDS, &mut files, &mut out, &mut err);
+            let is_flushed = times == 1 && calls < PIECES.len();
+            assert_eq!(rt; status, stopped, "{name} at {calls}");
+            assert_eq!(rt;
+                str::from_utf8(out.taken.as_slice())?,
+                put.as_str(),
+                "{name} at {calls}"
+            );
+            assert_eq!(rt;
+                str::from_utf8(err.as_slice())?,
+                said.as_str(),
+                "{name} at {calls}"
+            );
+            let flushed = if is_flushed { put.len() } else { 0 };
+            assert_eq!(rt; out.flushed, flushed, "{name} at {calls}");
+            if calls < PIECES.len() {
+                put.push_str(PIECES[calls])?;
+            }
+        }
+        assert_eq!(rt; put.as_str(), OUTPUT);
     }
     Ok(())
 }
 
 #[test]
-fn keeps_a_front_of_the_output_at_each_failing_write(rt: HostRuntime) -> Result<(), Fail> {
+fn flushes_all_lines(rt: HostRuntime) -> Result<(), Fail> {
     let alloc = rt.alloc();
-    let faults: [(SinkFault, u8, &[u8]); 2] = [
-        (SinkFault::Failed, 3, b"mimelook: cannot write output\n"),
-        (SinkFault::OutOfMemory, 4, b"mimelook: out of memory\n"),
-    ];
     let entries = [("/s/mime/globs2", Entry::Bytes(GLOBS))];
-    for (fault, stopped, message) in faults {
-        for calls in 0..=PIECES {
-            let mut files = Shelf { entries: &entries };
-            let mut out = FailingSink::new(alloc, calls, fault);
-            let mut err = Vec::new(alloc);
-            let status = run(alloc, &WORDS, &mut files, &mut out, &mut err);
-            let taken = out.taken.as_slice();
-            assert!(rt; OUTPUT.starts_with(taken), "at {calls}");
-            assert!(rt; err.as_slice().starts_with(IGNORED), "at {calls}");
-            if calls < PIECES {
-                assert_eq!(rt; status, stopped, "at {calls}");
-                assert!(rt; err.as_slice().ends_with(message), "at {calls}");
-            } else {
-                assert_eq!(rt; status, 0);
-                assert_eq!(rt; taken, OUTPUT);
-                assert_eq!(rt; err.as_slice(), IGNORED);
-            }
-        }
-    }
+    let mut files = Shelf { entries: &entries };
+    let mut out = FailingSink::new(alloc, 0, 0, SinkFault::Failed);
+    let mut err = Vec::new(alloc);
+    let status = run(alloc, &WORDS, &mut files, &mut out, &mut err);
+    assert_eq!(rt; status, 0);
+    assert_eq!(rt; str::from_utf8(out.taken.as_slice())?, OUTPUT);
+    assert_eq!(rt; out.flushed, OUTPUT.len());
+    assert_eq!(rt; str::from_utf8(err.as_slice())?, IGNORED);
     Ok(())
 }
 
+// A message is two calls: its bytes, and a flush.
 #[test]
 fn passes_over_faults_of_messages(rt: HostRuntime) -> Result<(), Fail> {
     let alloc = rt.alloc();
     let entries = [("/s/mime/globs2", Entry::Bytes(GLOBS))];
-    for (fault, want) in [(SinkFault::Failed, 0), (SinkFault::OutOfMemory, 4)] {
-        for calls in 0..2 {
-            let mut files = Shelf { entries: &entries };
-            let mut out = Vec::new(alloc);
-            let mut err = FailingSink::new(alloc, calls, fault);
-            let status = run(alloc, &WORDS, &mut files, &mut out, &mut err);
-            assert_eq!(rt; status, want, "at {calls}");
-            assert_eq!(rt; out.as_slice() == OUTPUT, want == 0, "at {calls}");
-        }
+    let rows = [
+        (SinkFault::Failed, 0, 0, OUTPUT, ""),
+        (SinkFault::Failed, 1, 0, OUTPUT, IGNORED),
+        (SinkFault::OutOfMemory, 0, 4, "", ""),
+        (SinkFault::OutOfMemory, 1, 4, "", IGNORED),
+    ];
+    for (fault, calls, want, printed, said) in rows {
+        let mut files = Shelf { entries: &entries };
+        let mut out = Vec::new(alloc);
+        let mut err = FailingSink::new(alloc, calls, usize::MAX, fault);
+        let status = run(alloc, &WORDS, &mut files, &mut out, &mut err);
+        assert_eq!(rt; status, want, "{fault:?} at {calls}");
+        assert_eq!(rt;
+            str::from_utf8(out.as_slice())?,
+            printed,
+            "{fault:?} at {calls}"
+        );
+        assert_eq!(rt;
+            str::from_utf8(err.taken.as_slice())?,
+            said,
+            "{fault:?} at {calls}"
+        );
     }
+    Ok(())
+}
+
+// Memory runs out at the message on the second file: the line of the first one is flushed.
+#[test]
+fn flushes_what_was_printed_before_memory_ran_out(rt: HostRuntime) -> Result<(), Fail> {
+    let alloc = rt.alloc();
+    let long = "a".repeat(alloc, 4_097)?;
+    let words = ["plain", "--name-only", "-d", "", "x", long.as_str(), "y"];
+    let line = "x: application/octet-stream\n";
+    let mut files = Shelf { entries: &[] };
+    let mut out = FailingSink::new(alloc, 0, 0, SinkFault::Failed);
+    let mut err = FailingSink::new(alloc, 0, 1, SinkFault::OutOfMemory);
+    let status = run(alloc, &words, &mut files, &mut out, &mut err);
+    assert_eq!(rt; status, 4);
+    assert_eq!(rt; str::from_utf8(out.taken.as_slice())?, line);
+    assert_eq!(rt; out.flushed, line.len());
+    assert_eq!(rt; str::from_utf8(err.taken.as_slice())?, NO_MEMORY);
     Ok(())
 }

@@ -6,6 +6,7 @@ use std::test::Fail;
 
 #[derive(Clone, Copy)]
 struct Row<'a> {
+    name: &'a str,
     words: &'a [&'a str],
     globs: Option<Entry<'a>>,
     status: u8,
@@ -20,8 +21,8 @@ const TYPED: &str = "x/README: text/x-readme\ny.a: t/a\nz: application/octet-str
 #[test]
 fn prints_each_row(rt: HostRuntime) -> Result<(), Fail> {
     let rows = [
-        // The stored run of the program.
         Row {
+            name: "the stored run",
             words: &["plain", "--name-only", "-d", "", "a"],
             globs: None,
             status: 0,
@@ -29,14 +30,15 @@ fn prints_each_row(rt: HostRuntime) -> Result<(), Fail> {
             err: "",
         },
         Row {
+            name: "each file has a line",
             words: &["plain", "-d", ":/s:", "--name-only", "x/README", "y.a", "z"],
             globs: Some(Entry::Bytes(GLOBS)),
             status: 0,
             out: TYPED,
             err: "",
         },
-        // A missing file counts as empty.
         Row {
+            name: "a missing file counts as empty",
             words: &["plain", "-d", "/s", "--name-only", "y.a"],
             globs: None,
             status: 0,
@@ -44,6 +46,7 @@ fn prints_each_row(rt: HostRuntime) -> Result<(), Fail> {
             err: "",
         },
         Row {
+            name: "malformed lines are reported",
             words: &["plain", "-d", "/s", "--name-only", "y.a"],
             globs: Some(Entry::Bytes(b"nothing\n50:t/a:*.a\n\n# a comment\n300:t/b:*.a")),
             status: 0,
@@ -52,6 +55,7 @@ fn prints_each_row(rt: HostRuntime) -> Result<(), Fail> {
                 mimelook: /s/mime/globs2: line 5 ignored\n",
         },
         Row {
+            name: "unreadable rules stop",
             words: &["plain", "-d", "/s", "--name-only", "y.a", "z"],
             globs: Some(Entry::Unreadable),
             status: 3,
@@ -67,10 +71,10 @@ fn prints_each_row(rt: HostRuntime) -> Result<(), Fail> {
         let mut out = Vec::new(rt.alloc());
         let mut err = Vec::new(rt.alloc());
         let status = run(rt.alloc(), row.words, &mut files, &mut out, &mut err);
-        let words = row.words;
-        assert_eq!(rt; status, row.status, "at {words:?}");
-        assert_eq!(rt; out.as_slice(), row.out.as_bytes(), "at {words:?}");
-        assert_eq!(rt; err.as_slice(), row.err.as_bytes(), "at {words:?}");
+        let name = row.name;
+        assert_eq!(rt; status, row.status, "{name}");
+        assert_eq!(rt; str::from_utf8(out.as_slice())?, row.out, "{name}");
+        assert_eq!(rt; str::from_utf8(err.as_slice())?, row.err, "{name}");
     }
     Ok(())
 }

@@ -1,6 +1,6 @@
-//! Real files, and readers and writers that fail.
+//! Real files, and files, readers and writers that fail.
 
-use crate::{Script, Step};
+use crate::{Disk, Opened, Script, Step};
 use mime_tool::{FileFault, Files, Sink, SinkFault, Stream, SystemFiles, read_whole};
 use std::io::ErrorKind;
 use std::test::Fail;
@@ -21,58 +21,177 @@ fn tells_missing_files_from_unreadable_ones(rt: HostRuntime) -> Result<(), Fail>
     Ok(())
 }
 
+fn gives(size: Result<u64, ErrorKind>, read: Option<ErrorKind>) -> Disk {
+    Disk::Gives(Opened { size, read })
+}
+
+// The longest file that is read whole, in bytes.
+const LONGEST: u64 = 4_294_967_296;
+
+// Whether there is a file, or its fault. What is read of one is nothing.
 #[test]
-fn reads_whole_files_up_to_their_limits(rt: HostRuntime) -> Result<(), Fail> {
-    let interrupted = ErrorKind::Interrupted;
-    let rows: [(&[Step], Result<usize, FileFault>); 7] = [
-        (&[Step::Bytes(9)], Ok(9)),
-        (&[Step::Bytes(10)], Err(FileFault::Failed)),
-        (&[Step::Faults(1_000, interrupted), Step::Bytes(2)], Ok(2)),
-        (&[Step::Faults(1_001, interrupted)], Err(FileFault::Failed)),
+fn names_what_the_system_fails_with(rt: HostRuntime) -> Result<(), Fail> {
+    let failed = Err(FileFault::Failed);
+    let no_memory = Err(FileFault::OutOfMemory);
+    let denied = ErrorKind::PermissionDenied;
+    let memory = ErrorKind::OutOfMemory;
+    let rows = [
+        ("missing", Disk::Fails(ErrorKind::NotFound), Ok(false)),
+        ("denied", Disk::Fails(denied), failed),
+        ("no folder", Disk::Fails(ErrorKind::NotADirectory), failed),
+        ("interrupted", Disk::Fails(ErrorKind::Interrupted), failed),
+        ("other", Disk::Fails(ErrorKind::Other), failed),
+        ("no memory to open", Disk::Fails(memory), no_memory),
+        ("empty", gives(Ok(0), None), Ok(true)),
+        ("longest", gives(Ok(LONGEST), None), Ok(true)),
+        ("one longer", gives(Ok(LONGEST + 1), None), failed),
         (
-            &[
-                Step::Faults(600, interrupted),
-                Step::Bytes(2),
-                Step::Faults(401, interrupted),
-            ],
-            Err(FileFault::Failed),
+            "one longer isn't read",
+            gives(Ok(LONGEST + 1), Some(memory)),
+            failed,
         ),
+        ("far longer", gives(Ok(u64::MAX), Some(memory)), failed),
         (
-            &[
-                Step::Bytes(2),
-                Step::Faults(1, ErrorKind::PermissionDenied),
-                Step::Bytes(2),
-            ],
-            Err(FileFault::Failed),
+            "longest is read",
+            gives(Ok(LONGEST), Some(memory)),
+            no_memory,
         ),
+        ("no size", gives(Err(denied), None), failed),
         (
-            &[Step::Bytes(2), Step::Faults(1, ErrorKind::OutOfMemory)],
-            Err(FileFault::OutOfMemory),
+            "no memory for the size",
+            gives(Err(memory), None),
+            no_memory,
         ),
+        ("denied read", gives(Ok(1), Some(denied)), failed),
+        (
+            "missing read",
+            gives(Ok(1), Some(ErrorKind::NotFound)),
+            failed,
+        ),
+        ("no memory to read", gives(Ok(1), Some(memory)), no_memory),
     ];
-    for (steps, want) in rows {
-        let read = read_whole(rt.alloc(), 9, &mut Script::new(steps));
-        assert_eq!(rt; read.map(|bytes| bytes.len()), want);
+    for (name, disk, want) in rows {
+        let whole = SystemFiles::new(&disk).whole(rt.alloc(), "a");
+        assert_eq!(rt; whole.map(|file| file.is_some()), want, "{name}");
     }
     Ok(())
 }
 
+const INTERRUPTED: ErrorKind = ErrorKind::Interrupted;
+
+// A reader that is read with a limit of 9 bytes.
+const READS: [(&str, &[Step], Result<usize, FileFault>); 9] = [
+    ("nothing", &[], Ok(0)),
+    ("up to the limit", &[Step::Bytes(9)], Ok(9)),
+    (
+        "one past the limit",
+        &[Step::Bytes(10)],
+        Err(FileFault::Failed),
+    ),
+    (
+        "as many interruptions as are tried again",
+        &[Step::Faults(1_000, INTERRUPTED), Step::Bytes(2)],
+        Ok(2),
+    ),
+    (
+        "one interruption more",
+        &[Step::Faults(1_001, INTERRUPTED)],
+        Err(FileFault::Failed),
+    ),
+    (
+        "one more, in two parts",
+        &[
+            Step::Faults(600, INTERRUPTED),
+            Step::Bytes(2),
+            Step::Faults(401, INTERRUPTED),
+        ],
+        Err(FileFault::Failed),
+    ),
+    (
+        "a fault in the middle",
+        &[
+            Step::Bytes(2),
+            Step::Faults(1, ErrorKind::PermissionDenied),
+            Step::Bytes(2),
+        ],
+        Err(FileFault::Failed),
+    ),
+    (
+        "a fault at the limit",
+        &[Step::Bytes(9), Step::Faults(1, ErrorKind::Other)],
+        Err(FileFault::Failed),
+    ),
+    (
+        "no memory",
+        &[Step::Bytes(2), Step::Faults(1, ErrorKind::OutOfMemory)],
+        Err(FileFault::OutOfMemory),
+    ),
+];
+
 #[test]
-fn names_what_a_stream_fails_with(rt: HostRuntime) -> Result<(), Fail> {
-    let rows: [(&[Step], Result<(), SinkFault>); 4] = [
-        (&[Step::Bytes(2)], Ok(())),
-        (&[Step::Bytes(1)], Err(SinkFault::Failed)),
-        (
-            &[Step::Faults(1, ErrorKind::StorageFull)],
-            Err(SinkFault::Failed),
-        ),
-        (
-            &[Step::Faults(1, ErrorKind::OutOfMemory)],
-            Err(SinkFault::OutOfMemory),
-        ),
-    ];
-    for (steps, want) in rows {
-        assert_eq!(rt; Stream(Script::new(steps)).put(b"hi"), want);
+fn reads_whole_files_up_to_their_limits(rt: HostRuntime) -> Result<(), Fail> {
+    for (name, steps, want) in READS {
+        let read = read_whole(rt.alloc(), 9, &mut Script::new(steps));
+        assert_eq!(rt; read.map(|bytes| bytes.len()), want, "{name}");
+    }
+    let read = read_whole(rt.alloc(), 0, &mut Script::new(&[Step::Bytes(1)]));
+    assert_eq!(rt; read.map(|bytes| bytes.len()), Err(FileFault::Failed));
+    Ok(())
+}
+
+// A stream that is given two bytes.
+const PUTS: [(&str, &[Step], Result<(), SinkFault>); 6] = [
+    ("both are taken", &[Step::Bytes(2)], Ok(())),
+    ("one is taken", &[Step::Bytes(1)], Err(SinkFault::Failed)),
+    (
+        "an interruption is tried again",
+        &[Step::Bytes(1), Step::Faults(1, INTERRUPTED), Step::Bytes(1)],
+        Ok(()),
+    ),
+    (
+        "a fault",
+        &[Step::Faults(1, ErrorKind::StorageFull)],
+        Err(SinkFault::Failed),
+    ),
+    (
+        "a fault after one",
+        &[Step::Bytes(1), Step::Faults(1, ErrorKind::BrokenPipe)],
+        Err(SinkFault::Failed),
+    ),
+    (
+        "no memory",
+        &[Step::Faults(1, ErrorKind::OutOfMemory)],
+        Err(SinkFault::OutOfMemory),
+    ),
+];
+
+// A stream that is flushed.
+const FLUSHES: [(&str, &[Step], Result<(), SinkFault>); 4] = [
+    ("it is flushed", &[], Ok(())),
+    (
+        "a fault",
+        &[Step::Faults(1, ErrorKind::StorageFull)],
+        Err(SinkFault::Failed),
+    ),
+    (
+        "an interruption",
+        &[Step::Faults(1, INTERRUPTED)],
+        Err(SinkFault::Failed),
+    ),
+    (
+        "no memory",
+        &[Step::Faults(1, ErrorKind::OutOfMemory)],
+        Err(SinkFault::OutOfMemory),
+    ),
+];
+
+#[test]
+fn passes_on_each_failure_of_a_stream(rt: HostRuntime) -> Result<(), Fail> {
+    for (name, steps, want) in PUTS {
+        assert_eq!(rt; Stream(Script::new(steps)).put(b"hi"), want, "put: {name}");
+    }
+    for (name, steps, want) in FLUSHES {
+        assert_eq!(rt; Stream(Script::new(steps)).flush(), want, "flush: {name}");
     }
     let mut full = Stream(Script::new(&[Step::Faults(1, ErrorKind::StorageFull)]));
     assert_eq!(rt; full.flush(), Err(SinkFault::Failed));

@@ -1,8 +1,8 @@
 use Rattle.std.proofs.Common.{◌≡◌, ◌<◌, List, ℕ, length, true, false, sym, ◌∙◌, arith}
 use Rattle.std.proofs.lemmas.Bool.{eqb-false}
 use denote.Bor.{Bor}
-use Rattle.mime_base.specs.Subclass.{is_by_itself}
-use Rattle.mime_base.specs.declared.rule.GlobRule.{GlobRule}
+use Rattle.mime_base.specs.Database.Subclass.{is_by_itself, no_pairs}
+use Rattle.mime_base.specs.declared.database.rule.GlobRule.{GlobRule}
 use Rattle.mime_lookup.proofs.Choices.{fail_more, first-here, first-nowhere, chooses-from_first}
 use Rattle.mime_lookup.proofs.choice.choose.Goals as goal
 
@@ -24,7 +24,7 @@ returns-then-is_by_itself c =
     rw c.bytes-kind.ensures.text at (sym c.is_by_itself.ensures ∙ c.if-is_by_itself.true) in
     let some : 0 < length c.args.kept.now = omega arith in
     rw c.bytes-kind.ensures.text
-    (chooses-from_first kind_of c.args.sniffed.now c.args.kept.now (kind_of rule) rule some
+    (chooses-from_first no_pairs kind_of c.args.sniffed.now c.args.kept.now (kind_of rule) rule some
     (first-here c.args.sniffed.now _ kind_of c.args.kept.now c.loop-rule.rule-index c.loop-rule.invariant
     rule c.loop-rule-test.true c.rule-item.is by_itself))
 
@@ -33,5 +33,5 @@ returns c =
     let first = c.index-kept-0.result in
     let some : 0 < length c.args.kept.now = grind (arith, eqb-false) in
     rw c.bytes.ensures.text
-    (chooses-from_first kind_of c.args.sniffed.now c.args.kept.now _ first some
+    (chooses-from_first no_pairs kind_of c.args.sniffed.now c.args.kept.now _ first some
     (first-nowhere c.args.sniffed.now _ kind_of c.args.kept.now c.loop-rule.rule-index c.loop-rule.invariant c.loop-rule-test.false))

@@ -1,6 +1,6 @@
 -- The first line ends at the newline that was found, or with the text.
 use Rattle.std.proofs.Common.{length, ◌+◌, ◌-◌, drop, take_all, length-drop, arith}
-use Rattle.mime_text.proofs.LineLemmas.{lines-found, lines-missing}
+use Rattle.mime_text.proofs.LineFiles.FirstLine.{lines-found, lines-missing}
 use Rattle.mime_text.proofs.lines.cut_line.Goals as goal
 
 pub returns-in-Some : goal.returns-in-Some

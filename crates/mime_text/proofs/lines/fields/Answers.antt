@@ -1,6 +1,6 @@
 -- The pieces that bstr gives are the fields.
 use Rattle.std.proofs.Common.{◌∙◌}
-use Rattle.mime_text.proofs.FieldLemmas.{split_at-alone}
+use Rattle.mime_text.proofs.LineFiles.Fields.{split_at-alone}
 use Rattle.mime_text.proofs.lines.fields.Goals as goal
 
 pub returns : goal.returns

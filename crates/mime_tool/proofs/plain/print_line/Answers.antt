@@ -1,25 +1,60 @@
+use Rattle.std.proofs.Common.{refl}
 use Rattle.std.proofs.lemmas.Result.{err_from_is_err_and}
-use Rattle.mime_tool.specs.Plain.{silent}
-use Rattle.mime_tool.proofs.Runs.{cut_nothing, ends_too_long, ends_typed, ends_unsaid, ends_untaken, lines_none}
+use Rattle.mime_tool.specs.Plain.{IsLine, too_long, type_line}
+use Rattle.mime_tool.specs.Run.{printed, unanswered}
+use Rattle.mime_tool.proofs.Desks.{ends_undone, other_unsaid}
+use Rattle.mime_tool.proofs.Plains.{line_too_long, line_typed}
 use Rattle.mime_tool.proofs.plain.print_line.Goals as goal
 
-pub returns-in_err-kind : goal.returns-in_err-kind
-returns-in_err-kind g c =
-    let e = err_from_is_err_and c.from_residual.result c.from_residual.ensures.1 in
-    rw (e.1, e.2) (cut_nothing _ _ _ silent (lines_none _))
+pub returns-in_err-print_type-in-Some : goal.returns-in_err-print_type-in-Some
+returns-in_err-print_type-in-Some g c =
+    let e = err_from_is_err_and c.from_residual-in_err-print_type-in-Some.result c.from_residual-in_err-print_type-in-Some.ensures.1 in
+    let put = c.in_err-print_type-in-Some.ensures in
+    let rules = c.args.database.now.rules.items in
+    let file = c.args.file.now in
+    let kind = c.in-Some.kind.now in
+    let is = line_typed rules file kind (rw c.in-Some.is at c.in_ok-kind.ensures) in
+    rw (e.1, e.2) (record {
+      same_files = put.same_files;
+      same_places = put.same_places;
+      sinks = ends_undone (Unit {0}) (IsLine rules file) (printed (type_line file kind)) _ _ _ is put.sinks;
+    })
 
-pub returns-in_err-put_line-in-Some : goal.returns-in_err-put_line-in-Some
-returns-in_err-put_line-in-Some g c =
-    let e = err_from_is_err_and c.from_residual-in_err-put_line-in-Some.result c.from_residual-in_err-put_line-in-Some.ensures.1 in
-    rw (e.1, e.2) (ends_untaken _ _ c.in-Some.kind.now _ _ _ _ (rw c.in-Some.is at c.in_ok-kind.ensures) c.in_err-put_line-in-Some.ensures)
+pub returns-in_err-report_too_long-in-None : goal.returns-in_err-report_too_long-in-None
+returns-in_err-report_too_long-in-None g c =
+    let e = err_from_is_err_and c.from_residual-in_err-report_too_long-in-None.result
+    c.from_residual-in_err-report_too_long-in-None.ensures.1 in
+    let told = c.in_err-report_too_long-in-None.ensures in
+    let rules = c.args.database.now.rules.items in
+    let file = c.args.file.now in
+    let is = line_too_long rules file (rw c.in-None.is at c.in_ok-kind.ensures) in
+    rw (e.1, e.2) (record {
+      same_files = told.same_files;
+      same_places = told.same_places;
+      sinks = other_unsaid (Unit {0}) (IsLine rules file) 1 (too_long file) _ _ _ is told.sinks;
+    })
 
-pub returns-in_err-say_too_long-in-None : goal.returns-in_err-say_too_long-in-None
-returns-in_err-say_too_long-in-None g c =
-    let e = err_from_is_err_and c.from_residual-in_err-say_too_long-in-None.result c.from_residual-in_err-say_too_long-in-None.ensures.1 in
-    rw (e.1, e.2) (ends_unsaid _ _ _ _ _ (rw c.in-None.is at c.in_ok-kind.ensures) c.in_err-say_too_long-in-None.ensures)
+pub returns-in_ok-print_type-in-Some : goal.returns-in_ok-print_type-in-Some
+returns-in_ok-print_type-in-Some g c =
+    let put = c.in_ok-print_type-in-Some.ensures in
+    let rules = c.args.database.now.rules.items in
+    let file = c.args.file.now in
+    let kind = c.in-Some.kind.now in
+    let is = line_typed rules file kind (rw c.in-Some.is at c.in_ok-kind.ensures) in
+    record {
+      same_files = put.same_files;
+      same_places = put.same_places;
+      sinks = (printed (type_line file kind), is, refl, refl, put.sinks);
+    }
 
-pub returns-in_ok-put_line-in-Some : goal.returns-in_ok-put_line-in-Some
-returns-in_ok-put_line-in-Some g c = ends_typed _ _ c.in-Some.kind.now _ _ _ (rw c.in-Some.is at c.in_ok-kind.ensures) c.in_ok-put_line-in-Some.ensures
-
-pub returns-in_ok-say_too_long-in-None : goal.returns-in_ok-say_too_long-in-None
-returns-in_ok-say_too_long-in-None g c = ends_too_long _ _ _ _ _ (rw c.in-None.is at c.in_ok-kind.ensures) c.in_ok-say_too_long-in-None.ensures
+pub returns-in_ok-report_too_long-in-None : goal.returns-in_ok-report_too_long-in-None
+returns-in_ok-report_too_long-in-None g c =
+    let told = c.in_ok-report_too_long-in-None.ensures in
+    let rules = c.args.database.now.rules.items in
+    let file = c.args.file.now in
+    let is = line_too_long rules file (rw c.in-None.is at c.in_ok-kind.ensures) in
+    record {
+      same_files = told.same_files;
+      same_places = told.same_places;
+      sinks = (unanswered (too_long file), is, refl, refl, told.sinks);
+    }

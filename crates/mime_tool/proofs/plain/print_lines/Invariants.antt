@@ -1,8 +1,11 @@
 use Rattle.std.proofs.Common.{Ok, take}
 use Rattle.clap.specs.Walk.{texts}
-use Rattle.mime_tool.specs.Steps.{Ends, IsLines}
+use Rattle.mime_tool.specs.Desk.{Ends, Works}
+use Rattle.mime_tool.specs.Plain.{IsLine}
+use Rattle.mime_tool.specs.Run.{IsEach}
 use Rattle.mime_tool.proofs.plain.print_lines.Given as goal
 
-abbrev pub invariant-loop-name : goal.invariant-loop-name
-invariant-loop-name g l = Ends (IsLines l.database.rules.items) (texts (take l.name-index l.names)) (record { out = g.O.Sink.holds l.initial.out; err = g.E.Sink.holds l.initial.err })
-    (record { out = g.O.Sink.holds l.out; err = g.E.Sink.holds l.err }) (Ok l.status)
+abbrev pub invariant-loop-file : goal.invariant-loop-file
+invariant-loop-file g l =
+    Works (Ends (IsEach (IsLine l.database.rules.items)) (texts (take l.file-index l.files))) (g.D.Desk.state l.initial.desk)
+    (g.D.Desk.state l.desk) (Ok l.status)

@@ -1,12 +1,30 @@
-use Rattle.std.proofs.lemmas.Option.{IfSome_then}
+use Rattle.std.proofs.Common.{◌∙◌, Bor, List, ℕ, option_map}
 use Rattle.std.proofs.lemmas.Result.{err_from_is_err_and}
-use Rattle.mime_tool.proofs.Plains.{ends_plain, ends_unread}
+use Rattle.clap.specs.Walk.{texts}
+use Rattle.mime_tool.proofs.Plains.{plain_lines, plain_unread}
 use Rattle.mime_tool.proofs.plain.print_types.Goals as goal
 
 pub returns-in_err-rules : goal.returns-in_err-rules
 returns-in_err-rules g c =
     let e = err_from_is_err_and c.from_residual.result c.from_residual.ensures.1 in
-    rw (e.1, e.2) (IfSome_then (g.F.Files.tells c.args.files.now) c.in_err-rules.ensures (λ stored read. ends_unread _ _ _ _ _ _ _ read))
+    let read = c.in_err-rules.ensures in
+    let stored = (g.D.Desk.state c.args.desk.now).stored in
+    let dir = option_map (λ (text : Bor (List ℕ)). text.now) c.args.directory in
+    rw (e.1, e.2) (record {
+      same_files = read.same_files;
+      same_places = read.same_places;
+      sinks = plain_unread stored dir (texts c.args.files.now) _ _ _ read.sinks;
+    })
 
 pub returns : goal.returns
-returns g c = IfSome_then (g.F.Files.tells c.args.files.now) c.in_ok-rules.ensures (λ stored read. ends_plain _ _ _ _ _ _ _ _ _ read.0 _ read.1 read.2 read.3 c.print_lines.ensures)
+returns g c =
+    let read = c.in_ok-rules.ensures in
+    let lines = c.print_lines.ensures in
+    let stored = (g.D.Desk.state c.args.desk.now).stored in
+    let dir = option_map (λ (text : Bor (List ℕ)). text.now) c.args.directory in
+    record {
+      same_files = lines.same_files ∙ read.same_files;
+      same_places = lines.same_places ∙ read.same_places;
+      sinks = plain_lines stored dir (texts c.args.files.now) _ _ _ c.in_ok-rules.rules _ read.sinks
+          (rw c.of_rules-database.ensures.rules at lines.sinks);
+    }

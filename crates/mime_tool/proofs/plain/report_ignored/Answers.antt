@@ -1,9 +1,18 @@
-use Rattle.std.proofs.Common.{◌<◌, length, arith}
+use Rattle.std.proofs.Common.{◌<◌, ◌∙◌, length, arith}
+use Rattle.std.proofs.lemmas.Result.{err_from_is_err_and}
 use Rattle.mime_tool.specs.Plain.{ignored}
-use Rattle.mime_tool.proofs.Sinks.{flat_map-split, says_no_more}
+use Rattle.mime_tool.proofs.Desks.{says_cut_at}
 use Rattle.mime_tool.proofs.plain.report_ignored.Goals as goal
 
 pub returns-in_err-report_line : goal.returns-in_err-report_line
 returns-in_err-report_line g c =
     let lt : c.loop-number.number-index < length c.args.numbers.now = omega arith in
-    rw (← flat_map-split (ignored c.args.path.now) c.args.numbers.now c.loop-number.number-index 0 lt) (says_no_more _ _ _ _ _ _ _ _ _ c.loop-number.invariant c.in_err-report_line.ensures c.from_residual.ensures.1)
+    let e = err_from_is_err_and c.from_residual.result c.from_residual.ensures.1 in
+    let before = c.loop-number.invariant in
+    let line = c.in_err-report_line.ensures in
+    rw (e.1, e.2) (record {
+      same_files = line.same_files ∙ before.same_files;
+      same_places = line.same_places ∙ before.same_places;
+      sinks = says_cut_at (Unit {0}) (ignored c.args.path.now) c.args.numbers.now c.loop-number.number-index 0 _ _ _ _ _ lt before.sinks
+          line.sinks;
+    })

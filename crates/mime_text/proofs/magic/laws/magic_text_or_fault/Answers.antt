@@ -1,4 +1,4 @@
-use Rattle.mime_text.proofs.MagicLaws.{spells_or_fails, no_fault, one_list}
+use Rattle.mime_text.proofs.MagicLemmas.Laws.{spells_or_fails, no_fault, one_list}
 use Rattle.mime_text.proofs.magic.laws.magic_text_or_fault.Goals as goal
 
 pub returns-clause-either : goal.returns-clause-either

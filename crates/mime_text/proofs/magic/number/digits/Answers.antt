@@ -1,7 +1,7 @@
 use Rattle.std.proofs.Common.{◌≡◌, ℕ, ◌+◌, ◌-◌, ◌*◌, List, [], ◌∷◌, min, arith, ◌∙◌, sym, ap, true, false}
 use Rattle.std.proofs.lemmas.List.{nil_from_length}
-use Rattle.mime_text.specs.MagicReading.{digits_at, is_digit}
-use Rattle.mime_text.proofs.MagicNumbers.{digit_on, digit_off, digit_none}
+use Rattle.mime_text.specs.Magic.Reading.{digits_at, is_digit}
+use Rattle.mime_text.proofs.MagicLemmas.Numbers.{digit_on, digit_off, digit_none}
 use Rattle.mime_text.proofs.magic.number.digits.Goals as goal
 use Rattle.mime_text.proofs.magic.number.digits.Goals.{in-Some+then-not-is_digit, in_default}
 
@@ -10,7 +10,8 @@ loop-b-preserved c =
     let i = c.loop-b.invariant in
     let e : c.loop-b.rest.now ≡ c.in-Some.b.now ∷ c.in-Some.after.now = c.in-Some.ensures.cases.0 in
     let d : is_digit c.in-Some.b.now ≡ true = sym c.is_digit.ensures ∙ c.if-not-is_digit.false in
-    let step : digits_at (i.0 * 10 + (c.in-Some.b.now - 48)) c.in-Some.after.now ≡ digits_at i.0 c.loop-b.rest.now = sym (digit_on i.0 c.in-Some.b.now c.in-Some.after.now d) ∙ ap (digits_at i.0) (sym e) in
+    let step : digits_at (i.0 * 10 + (c.in-Some.b.now - 48)) c.in-Some.after.now ≡ digits_at i.0 c.loop-b.rest.now =
+    sym (digit_on i.0 c.in-Some.b.now c.in-Some.after.now d) ∙ ap (digits_at i.0) (sym e) in
     (i.0 * 10 + (c.in-Some.b.now - 48), omega (arith, i.1), step ∙ i.2)
 
 stopped : (c : goal.Joined-split_first) → digits_at 0 c.args.bytes.now ≡ (c.loop-b.invariant.0, c.loop-b.rest.now)

@@ -1,5 +1,5 @@
 use Rattle.std.proofs.Common.{◌≡◌, ℕ, length, min}
-use Rattle.mime_text.specs.MagicReading.{digits_at}
+use Rattle.mime_text.specs.Magic.Reading.{digits_at}
 use Rattle.mime_text.proofs.magic.number.digits.Given as goal
 
 -- n is the value of the digits so far

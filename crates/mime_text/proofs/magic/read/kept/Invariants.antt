@@ -1,8 +1,8 @@
 use Rattle.std.proofs.Common.{◌≡◌}
 use Rattle.mime_base.specs.Magic.{plain_sections}
-use Rattle.mime_text.specs.MagicEntries.{plain_parts}
-use Rattle.mime_text.specs.MagicFile.{kept_sections}
+use Rattle.mime_text.specs.Magic.Entries.{plain_flat_sections}
+use Rattle.mime_text.specs.Magic.File.{kept_sections}
 use Rattle.mime_text.proofs.magic.read.kept.Given as goal
 
-abbrev pub invariant-loop-part : goal.invariant-loop-part
-invariant-loop-part l = plain_sections l.sections.items ≡ kept_sections (plain_parts l.yielded)
+abbrev pub invariant-loop-flat : goal.invariant-loop-flat
+invariant-loop-flat l = plain_sections l.sections.items ≡ kept_sections (plain_flat_sections l.yielded)

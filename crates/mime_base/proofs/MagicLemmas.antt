@@ -1,0 +1,7 @@
+-- Lemmas on masks, on reversed groups of bytes, and on a window against a value.
+pub mod Masks
+pub mod Mirroring
+pub mod Windows
+pub mod HoldingLines
+pub mod Fronts
+pub mod Extents

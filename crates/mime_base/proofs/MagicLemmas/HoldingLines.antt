@@ -1,0 +1,144 @@
+-- Lines of magic that hold, in the steps of a search through offsets and lines.
+use Rattle.std.proofs.Common.{◌≡◌, ℕ, zero, suc, ◌+◌, ◌-◌, ◌<◌, ◌≤◌, ◌&&◌, ◌||◌, ◌==◌, Bool, true, false, List, [], ◌∷◌, length, take, drop, get_or, drop-cons, Option, Some, None, refl, sym, ap, ◌∙◌, arith}
+use Rattle.std.specs.Prelude.{map}
+use Rattle.std.proofs.Math.Bool.{or-false}
+use Rattle.std.proofs.lemmas.List.{drop_more}
+use Rattle.std.proofs.lemmas.Bool.{and_from, and_left, and_right, le-leb, lt-leb, or_left}
+use Rattle.mime_base.specs.Magic.Holds.{bytes_of_mask, equals_at, equals_from, is_bare, line_holds, some_holds}
+use Rattle.mime_base.specs.Magic.{Forest, PlainLine, PlainMatchlet, bare, forest_of, line, line_from, mask_bytes, plain_matchlet, plain_matchlet_over, plain_matchlets}
+use Rattle.mime_base.specs.Magic.Masking.{window_equals}
+use Rattle.mime_base.specs.declared.magic.host.Host.{Host}
+use Rattle.mime_base.specs.declared.magic.matchlet.Matchlet.{Matchlet}
+use Rattle.mime_base.specs.declared.magic.matchlet.Matchlet.TheFolds.{fold_out-Matchlet}
+use Rattle.mime_base.specs.declared.magic.matchlet.Matchlet.TheViews.{out-Matchlet}
+
+module _ (own : PlainLine) (host : Host) (content : List ℕ) where
+  -- the window at an offset
+  abbrev pub window : ℕ → List ℕ
+  window at = take (length own.value) (drop at content)
+
+  -- one of the offsets that are left, and those after it
+  equals_from-suc : (at n : ℕ) →
+      equals_from own host content at (suc n) ≡ (equals_at own host content at || equals_from own host content (suc at) n)
+  unfolding equals_from
+  equals_from-suc at n = refl
+
+  equals_from-more : (at n left : ℕ) → left ≡ n + 1 →
+      equals_from own host content at left ≡ (equals_at own host content at || equals_from own host content (at + 1) n)
+  equals_from-more at n left is =
+      let one_less : left ≡ suc n = omega arith in
+      let next : suc at ≡ at + 1 = omega arith in
+      ap (equals_from own host content at) one_less ∙ equals_from-suc at n
+      ∙ ap (λ (k : ℕ). equals_at own host content at || equals_from own host content k n) next
+
+  -- its window equals the value
+  pub equals_from-found : (at n left : ℕ) → left ≡ n + 1 → at + length own.value ≤ length content →
+      window_equals own.value (bytes_of_mask own.mask) own.word host (window at) ≡ true → equals_from own host content at left ≡ true
+  equals_from-found at n left is within equal =
+      equals_from-more at n left is
+      ∙ or_left _ _ (and_from _ _ (le-leb (at + length own.value) (length content) within) equal)
+
+  -- its window differs
+  pub equals_from-passed : (at n left : ℕ) → left ≡ n + 1 →
+      window_equals own.value (bytes_of_mask own.mask) own.word host (window at) ≡ false →
+      equals_from own host content at left ≡ equals_from own host content (at + 1) n
+  equals_from-passed at n left is differs =
+      equals_from-more at n left is
+      ∙ ap (λ b. b || equals_from own host content (at + 1) n) (and_right _ _ differs)
+
+  -- no offset is left
+  pub equals_from-none : (at : ℕ) → equals_from own host content at 0 ≡ false
+  unfolding equals_from
+  equals_from-none at = refl
+
+  -- no window lies wholly in the content from here on
+  pub equals_from-outside : (at range : ℕ) → length content < at + length own.value → equals_from own host content at range ≡ false
+  unfolding equals_from
+  equals_from-outside at zero beyond = refl
+  equals_from-outside at (suc range) beyond =
+      ap (λ b. b || equals_from own host content (suc at) range)
+      (and_left _ _ (lt-leb (at + length own.value) (length content) beyond))
+      ∙ equals_from-outside (suc at) range (omega arith)
+
+-- no mask is a mask without bytes
+pub equals_from-mask : (start range word : ℕ) (value : List ℕ) (mask : Option (List ℕ)) (host : Host) (content : List ℕ) (at n : ℕ) →
+    equals_from (line_from start range word value (Some (bytes_of_mask mask))) host content at n ≡ equals_from (line_from start range word value mask) host content at n
+unfolding equals_from
+equals_from-mask start range word value mask host content at zero = refl
+equals_from-mask start range word value mask host content at (suc n) =
+    ap (λ b. equals_at (line_from start range word value mask) host content at || b)
+    (equals_from-mask start range word value mask host content (suc at) n)
+
+-- a matchlet of the code, one level opened
+pub plain_matchlet-out : (m : Matchlet) → plain_matchlet m ≡ record {
+  own = line_from (out-Matchlet m).start (out-Matchlet m).range (out-Matchlet m).word (out-Matchlet m).value.items (mask_bytes (out-Matchlet m).mask);
+  children = forest_of (plain_matchlets (out-Matchlet m).children.items);
+}
+plain_matchlet-out = fold_out-Matchlet PlainMatchlet plain_matchlet_over
+
+-- matchlets, none or some
+is_bare-none : (lines : List Matchlet) → length lines ≡ 0 → is_bare (forest_of (plain_matchlets lines)) ≡ true
+is_bare-none [] none = refl
+is_bare-none (m ∷ lines) none = absurd (omega arith)
+
+is_bare-some : (lines : List Matchlet) → 0 < length lines → is_bare (forest_of (plain_matchlets lines)) ≡ false
+is_bare-some [] some = absurd (omega arith)
+is_bare-some (m ∷ lines) some = refl
+
+module _ (content : List ℕ) (host : Host) where
+  -- no line holds
+  pub some_holds-none : some_holds bare content host ≡ false
+  unfolding some_holds
+  some_holds-none = refl
+
+  -- the first line, and those after it
+  some_holds-line : (m : PlainMatchlet) (rest : Forest) →
+      some_holds (line m.own m.children rest) content host ≡ (line_holds m content host || some_holds rest content host)
+  unfolding some_holds
+  some_holds-line m rest = ap (λ b. b || some_holds rest content host) (sym (or-false _))
+
+  -- a line that does not equal its value does not hold
+  pub line_holds-differs : (m : PlainMatchlet) → equals_from m.own host content m.own.start m.own.range ≡ false →
+      line_holds m content host ≡ false
+  unfolding some_holds
+  line_holds-differs m differs = or-false _ ∙ and_left _ _ differs
+
+  -- one that does holds if it has no children or some child holds
+  pub line_holds-equals : (m : PlainMatchlet) → equals_from m.own host content m.own.start m.own.range ≡ true →
+      line_holds m content host ≡ (is_bare m.children || some_holds m.children content host)
+  unfolding some_holds
+  line_holds-equals m equal =
+      or-false _ ∙ ap (λ b. b && (is_bare m.children || some_holds m.children content host)) equal
+
+  -- the lines from one on
+  pub some_holds-from : (lines : List Matchlet) (i : ℕ) (m : Matchlet) → i < length lines → m ≡ get_or lines i m →
+      some_holds (forest_of (plain_matchlets (drop i lines))) content host
+      ≡ (line_holds (plain_matchlet m) content host
+      || some_holds (forest_of (plain_matchlets (drop (i + 1) lines))) content host)
+  some_holds-from lines i m within is =
+      ap (λ ms. some_holds (forest_of (plain_matchlets ms)) content host)
+      (drop_more lines i m within ∙ ap (λ first. first ∷ drop (i + 1) lines) (sym is))
+      ∙ some_holds-line (plain_matchlet m) (forest_of (plain_matchlets (drop (i + 1) lines)))
+
+  -- of the code's matchlet the children
+  children_of : (m : Matchlet) → (plain_matchlet m).children ≡ forest_of (plain_matchlets (out-Matchlet m).children.items)
+  children_of m = ap (λ (p : PlainMatchlet). p.children) (plain_matchlet-out m)
+
+  -- a matchlet without children that equals its value holds
+  pub line_holds-alone : (m : Matchlet) →
+      equals_from (plain_matchlet m).own host content (plain_matchlet m).own.start (plain_matchlet m).own.range ≡ true →
+      length (out-Matchlet m).children.items ≡ 0 → line_holds (plain_matchlet m) content host ≡ true
+  line_holds-alone m equal alone =
+      line_holds-equals (plain_matchlet m) equal
+      ∙ or_left _ _ (ap is_bare (children_of m) ∙ is_bare-none (out-Matchlet m).children.items alone)
+
+  -- one with children holds if some child does
+  pub line_holds-parent : (m : Matchlet) →
+      equals_from (plain_matchlet m).own host content (plain_matchlet m).own.start (plain_matchlet m).own.range ≡ true →
+      0 < length (out-Matchlet m).children.items →
+      line_holds (plain_matchlet m) content host ≡ some_holds (forest_of (plain_matchlets (out-Matchlet m).children.items)) content host
+  line_holds-parent m equal some =
+      line_holds-equals (plain_matchlet m) equal
+      ∙ ap (λ forest. is_bare forest || some_holds forest content host) (children_of m)
+      ∙ ap (λ b. b || some_holds (forest_of (plain_matchlets (out-Matchlet m).children.items)) content host)
+      (is_bare-some (out-Matchlet m).children.items some)

@@ -1,5 +1,0 @@
-use Rattle.mime_base.proofs.Zeros.{first_zero-is}
-use Rattle.mime_base.proofs.counted.first_zero.Goals as goal
-
-pub returns : goal.returns
-returns c = first_zero-is c.args.bytes.now c.memchr.result c.memchr.ensures

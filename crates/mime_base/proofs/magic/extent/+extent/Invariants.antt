@@ -1,0 +1,8 @@
+use Rattle.std.proofs.Common.{◌≡◌, max, drop}
+use Rattle.mime_base.specs.Magic.Extent.{forest_extent}
+use Rattle.mime_base.specs.Magic.{forest_of, plain_matchlets}
+use Rattle.mime_base.proofs.magic.extent.+extent.Given as goal
+
+abbrev pub invariant-lines_extent-loop-line : goal.invariant-lines_extent-loop-line
+invariant-lines_extent-loop-line l =
+    max l.greatest (forest_extent (forest_of (plain_matchlets (drop l.line-index l.lines)))) ≡ forest_extent (forest_of (plain_matchlets l.lines))

@@ -1,0 +1,19 @@
+use Rattle.std.proofs.Common.{◌≡◌, ℕ, List, Some, ap, ◌∙◌}
+use Rattle.mime_base.specs.Magic.Holds.{bytes_of_mask, equals_from}
+use Rattle.mime_base.specs.Magic.{line_from, mask_bytes}
+use Rattle.mime_base.specs.declared.magic.matchlet.Matchlet.TheViews.{out-Matchlet}
+use Rattle.mime_base.proofs.MagicLemmas.HoldingLines.{equals_from-mask, plain_matchlet-out}
+use Rattle.mime_base.proofs.magic.holding.equals_in_range.Goals as goal
+
+pub returns-clause-equal : goal.returns-clause-equal
+returns-clause-equal c =
+    let m = out-Matchlet c.args.line.now in
+    let start : ℕ = m.start in
+    let range : ℕ = m.range in
+    rw (plain_matchlet-out c.args.line.now)
+    (c.value_in_range.ensures.equal
+    ∙ ap (λ (value : List ℕ). equals_from (line_from start range m.word value (Some c.bits_of.result.now)) c.args.host c.args.content.now start range)
+    c.deref.ensures.value
+    ∙ ap (λ (mask : List ℕ). equals_from (line_from start range m.word m.value.items (Some mask)) c.args.host c.args.content.now start range)
+    c.bits_of.ensures
+    ∙ equals_from-mask start range m.word m.value.items (mask_bytes m.mask) c.args.host c.args.content.now start range)

@@ -1,0 +1,101 @@
+-- How the elements of a pattern go along a name from its front, one byte each, and what is left to decide then.
+use Rattle.std.specs.Prelude.{◌≡◌, ℕ, zero, suc, ◌+◌, ◌-◌, ◌<◌, ◌≤◌, Bool, true, false, not, Option, Some, None, List, [], ◌∷◌, length, min, IsTrue}
+use Rattle.mime_base.specs.Matching.Elements.{Element, any_bytes, one, admits, elements, singles, HasNoEnd}
+use Rattle.mime_base.specs.Matching.Count.{tests_of}
+use Rattle.mime_base.specs.Matching.Matches.{matches}
+use Rattle.mime_base.specs.Matching.Folding.{compared}
+use Rattle.mime_base.specs.declared.matching.attempt.Step.{Step}
+use Rattle.mime_base.specs.declared.matching.attempt.Step.TheVariants.{Takes, Halts}
+use Rattle.mime_base.specs.declared.matching.attempt.Halt.{Halt}
+use Rattle.mime_base.specs.declared.matching.attempt.Halt.TheVariants.{BothEnd, PatternEnds, NameEnds, Star, Refused}
+
+-- the first element is one that takes a byte
+abbrev pub takes_a_byte : List Element → Bool
+takes_a_byte [] = false
+takes_a_byte (any_bytes ∷ _) = false
+takes_a_byte (one _ ∷ _) = true
+
+-- it does not admit the first byte
+abbrev pub refuses : List Element → List ℕ → Bool
+refuses (one element ∷ _) (b ∷ _) = not (admits element b)
+refuses (one element ∷ _) [] = false
+refuses (any_bytes ∷ _) name = false
+refuses [] name = false
+
+-- why elements go no further; after a `*` stand the last
+abbrev pub HaltsAt : Halt → List Element → List ℕ → List Element → Type 0
+HaltsAt BothEnd elements name after = (elements ≡ []) × (name ≡ [])
+HaltsAt PatternEnds elements name after = (elements ≡ []) × (0 < length name)
+HaltsAt NameEnds elements name after = IsTrue (takes_a_byte elements) × (name ≡ [])
+HaltsAt Star elements name after = elements ≡ any_bytes ∷ after
+HaltsAt Refused elements name after = IsTrue (refuses elements name)
+
+-- the first element takes the first byte, and these elements and bytes are left
+abbrev pub TakesOne : List Element → List ℕ → List Element → List ℕ → Type 0
+TakesOne (one element ∷ elements) (b ∷ name) left rest = IsTrue (admits element b) × (left ≡ elements) × (rest ≡ name)
+TakesOne _ _ left rest = ⊥
+
+-- what comes of the first element and the first byte of two texts
+abbrev pub IsStep : Bool → List ℕ → List ℕ → Step → Type 0
+IsStep cased pattern name (Takes left rest) =
+    TakesOne (elements (compared cased pattern)) (compared cased name) (elements (compared cased left.now)) (compared cased rest.now)
+IsStep cased pattern name (Halts halt after) =
+    HaltsAt halt (elements (compared cased pattern)) (compared cased name) (elements (compared cased after.now))
+
+-- how many tests are made where elements halt
+abbrev pub last_tests : Halt → ℕ
+last_tests BothEnd = 0
+last_tests PatternEnds = 0
+last_tests NameEnds = 1
+last_tests Star = 0
+last_tests Refused = 1
+
+-- the step leaves less of both texts, and a pattern pays for a last test
+abbrev pub IsShorter : List ℕ → List ℕ → Step → Type 0
+IsShorter pattern name (Takes left rest) = (length left.now < length pattern) × (length rest.now + 1 ≡ length name)
+IsShorter pattern name (Halts halt after) =
+    (last_tests halt ≤ length pattern) × (halt ≡ Star → length after.now < length pattern)
+
+-- none of the last so many bytes of what it leaves of the pattern is a `]`
+abbrev pub LeavesNoEnd : ℕ → Step → Type 0
+LeavesNoEnd endless (Takes left rest) = HasNoEnd endless left.now
+LeavesNoEnd endless (Halts halt after) = HasNoEnd endless after.now
+
+-- so many elements take a byte each, and then they halt
+abbrev pub Goes : Halt → ℕ → List Element → List ℕ → List Element → Type 0
+Goes halt zero elements name after = HaltsAt halt elements name after
+Goes halt (suc k) (one element ∷ elements) (b ∷ name) after =
+    IsTrue (admits element b) × Goes halt k elements name after
+Goes halt (suc k) _ _ after = ⊥
+
+-- whether the name matches, where that is decided
+abbrev pub answer : Halt → Option Bool
+answer BothEnd = Some true
+answer PatternEnds = Some false
+answer NameEnds = Some false
+answer Star = None
+answer Refused = Some false
+
+-- what is left to decide there: after a `*` whether these elements match an ending of what is left
+abbrev pub decided : Halt → List Element → List ℕ → Bool
+decided BothEnd after name = true
+decided PatternEnds after name = false
+decided NameEnds after name = false
+decided Star after name = matches (any_bytes ∷ after) name
+decided Refused after name = false
+
+-- the tests that are made after that: at a `*` those of what stands after it
+abbrev pub tests_after : Halt → List Element → List ℕ → ℕ
+tests_after BothEnd after name = 0
+tests_after PatternEnds after name = 0
+tests_after NameEnds after name = 0
+tests_after Star after name = tests_of (any_bytes ∷ after) name
+tests_after Refused after name = 0
+
+-- how many tests the elements take at least
+abbrev pub owed : Halt → List Element → List Element → ℕ
+owed BothEnd elements after = singles elements
+owed PatternEnds elements after = min 1 (singles elements)
+owed NameEnds elements after = min 1 (singles elements)
+owed Star elements after = singles elements - singles after
+owed Refused elements after = min 1 (singles elements)

@@ -1,0 +1,250 @@
+//! The bytes of a cache, read by counted calls alone.
+//!
+//! A record of a cache is a row of CARD32s: 32-bit numbers, the highest byte first. A text ends in a
+//! zero byte. Both are the public specification's ("The mime.cache files"); the limit on texts, the
+//! counts and the faults are this project's own.
+
+pub mod byte_fault;
+pub mod byte_laws;
+pub mod comparing;
+
+ghost use Rattle.std.specs.Prelude.{◌≡◌, true, false, ℕ, ◌+◌, ◌*◌, ◌<◌, ◌≤◌, List, length, take, min, Ok, Err, if◌then◌else◌, IfOk, IfErr, OnOk, OnErr, MatchOption, MatchResult};
+ghost use Rattle.std.specs.Ordering.{nat_cmp};
+ghost use Rattle.std.specs.Cmp.Lexicographic.{slice_cmp};
+ghost use Rattle.mime_base.specs.Cache.Bytes.{both_lie, fields, lies, optional_mask, value_at};
+ghost use Rattle.mime_base.specs.Magic.Masking.{equal_bytes, window_equals};
+ghost use Rattle.mime_base.specs.Meter.{raised};
+ghost use Rattle.mime_base.specs.Cache.Texts.{before_zero, front, order_at, order_cost, text_at, text_cost, unended};
+
+use crate::cache::byte_fault::ByteFault;
+use crate::cache::comparing::compare_front;
+use crate::magic::host::Host;
+use crate::magic::masking::equal_bytes;
+use crate::meter::Meter;
+use byteorder::{BigEndian, ByteOrder};
+use memchr::memchr;
+use std::cmp::Ordering;
+use std::marker::Model;
+
+/// The most bytes that a text has, its zero included.
+const TEXT_LIMIT: usize = 256;
+
+/// A cache's bytes. Nothing but these calls looks at them, and each adds to a meter what it visited
+/// or compared.
+///
+/// ```
+/// let cache = Counted::new(b"\0\x01\0\x02abc\0");
+/// let mut meter = Meter::new();
+/// assert_eq!(rt; cache.cards::<1>(0, &mut meter), Ok([0x0001_0002]));
+/// assert_eq!(rt; cache.text_at(4, &mut meter), Ok(b"abc" as &[u8]));
+/// assert_eq!(rt; meter, Meter { nodes: 1, bytes: 4 });
+/// ```
+///
+/// An offset may be any number: what does not lie in the cache is a fault. What is given out
+/// borrows from the cache, not from the `Counted`. No call allocates.
+#[derive(Drop)]
+pub struct Counted<'a> {
+    bytes: &'a [u8],
+}
+
+impl<'a> Model for Counted<'a> {
+    ghost use Rattle.std.specs.Prelude.{ℕ, List};
+
+    ghost Value = { List ℕ };
+
+    ghost view = { λ counted. counted.bytes.now };
+}
+
+impl<'a> Counted<'a> {
+    /// A cache of these bytes.
+    pub fn new(bytes: &'a [u8]) -> Counted<'a>
+        ensures { result ≡ bytes.now }
+    {
+        Counted { bytes }
+    }
+
+    /// How many bytes the cache has. It adds nothing.
+    pub fn length(&self) -> u64
+        ensures { result ≡ length self.now }
+    {
+        self.bytes.len() as u64
+    }
+
+    /// The `N` CARD32s of the record at `at`, or [`ByteFault::OutOfRange`] where it does not lie in
+    /// the cache. It adds one node, also before a fault.
+    pub fn cards<const N: usize>(&self, at: u64, meter: &mut Meter) -> Result<[u32; N], ByteFault>
+        requires { N ≤ 10 }
+        ensures numbers { IfOk result
+            (λ numbers. (at + 4 * N ≤ length self.now) × (numbers ≡ fields self.now at N)) }
+        ensures fault { IfErr result
+            (λ fault. (length self.now < at + 4 * N) × (fault ≡ ByteFault.OutOfRange at)) }
+        ensures nodes { meter.new.nodes ≡ raised meter.old.nodes 1 }
+        ensures rises { meter.old.nodes ≤ meter.new.nodes }
+        ensures bytes { meter.new.bytes ≡ meter.old.bytes }
+    {
+        meter.add_node();
+        let record = bytes_at(self.bytes, at, 4 * N as u64)?;
+        let mut numbers = [0; N];
+        BigEndian::read_u32_into(record, &mut numbers);
+        Ok(numbers)
+    }
+
+    /// The text at `at`, without its zero.
+    ///
+    /// [`ByteFault::LongText`] where 256 bytes hold no zero, [`ByteFault::OutOfRange`] where the cache
+    /// ends before that. It adds the bytes that it read, at most 256.
+    #[tactic(auto, unfolding(crate::specs::Cache::Texts::text_at, crate::specs::Cache::Texts::text_cost))]
+    pub fn text_at(&self, at: u64, meter: &mut Meter) -> Result<&'a [u8], ByteFault>
+        ensures text { MatchResult result
+            (λ text. text_at self.now at ≡ Ok text.now) (λ fault. text_at self.now at ≡ Err fault) }
+        ensures nodes { meter.new.nodes ≡ meter.old.nodes }
+        ensures bytes { meter.new.bytes ≡ raised meter.old.bytes (text_cost self.now at) }
+        ensures limit { text_cost self.now at ≤ 256 }
+        ensures rises { meter.old.bytes ≤ meter.new.bytes }
+    {
+        let front = front_at(self.bytes, at);
+        match first_zero(front) {
+            Some(end) => {
+                meter.add_bytes(end as u64 + 1);
+                Ok(&front[..end])
+            }
+            None => {
+                meter.add_bytes(front.len() as u64);
+                Err(unended(front, at))
+            }
+        }
+    }
+
+    /// How the text at `at` compares with a key, byte by byte.
+    ///
+    /// The faults are those of [`Counted::text_at`], where neither a zero nor a difference comes
+    /// first. It adds the text's bytes up to and with the first difference or the zero, at most 256.
+    #[tactic(auto, unfolding(crate::specs::Cache::Texts::text_at, crate::specs::Cache::Texts::order_at, crate::specs::Cache::Texts::order_cost))]
+    pub fn compare_text(
+        &self,
+        at: u64,
+        key: &[u8],
+        meter: &mut Meter,
+    ) -> Result<Ordering, ByteFault>
+        ensures order { result ≡ order_at self.now at key.now }
+        // The order of a text that stands there, and a fault of the text alone.
+        ensures text { (text : List ℕ) → text_at self.now at ≡ Ok text →
+            result ≡ Ok (slice_cmp nat_cmp text key.now) }
+        ensures fault { IfErr result (λ fault. text_at self.now at ≡ Err fault) }
+        ensures nodes { meter.new.nodes ≡ meter.old.nodes }
+        ensures bytes { meter.new.bytes ≡ raised meter.old.bytes (order_cost self.now at key.now) }
+        ensures limit { order_cost self.now at key.now ≤ 256 }
+        ensures rises { meter.old.bytes ≤ meter.new.bytes }
+    {
+        let front = front_at(self.bytes, at);
+        let (order, count) = compare_front(front, key);
+        meter.add_bytes(count as u64);
+        match order {
+            Some(order) => Ok(order),
+            None => Err(unended(front, at)),
+        }
+    }
+
+    /// Whether the window equals the value of `size` bytes at `at`, both under the mask at `mask_at`.
+    ///
+    /// A mask's offset of 0 is no mask. `size` and `word` are as [`Counted::cards`] gives them. On a
+    /// little-endian host each group of `word` bytes of value and mask is reversed first, if `word` is
+    /// 2 or 4 and divides `size`. A value of no bytes needs no place; of any other, first the value and
+    /// then the mask is needed whole. It adds the window's bytes up to and with the first that
+    /// differs, else all; before a fault nothing.
+    pub fn value_equals(
+        &self,
+        at: u64,
+        mask_at: u64,
+        size: u32,
+        word: u32,
+        window: &[u8],
+        host: Host,
+        meter: &mut Meter,
+    ) -> Result<bool, ByteFault>
+        requires { size ≡ length window.now }
+        ensures equal { IfOk result (λ equal. (both_lie self.now at mask_at size ≡ true)
+            × (equal ≡ window_equals (value_at self.now at size)
+            (optional_mask self.now mask_at size) word host window.now)) }
+        ensures fault { IfErr result (λ fault. (both_lie self.now at mask_at size ≡ false)
+            × (fault ≡ ByteFault.OutOfRange (if lies self.now at size then mask_at else at))) }
+        ensures nodes { meter.new.nodes ≡ meter.old.nodes }
+        ensures bytes { OnOk result (meter.new.bytes ≡ raised meter.old.bytes
+            (min (equal_bytes (value_at self.now at size)
+            (optional_mask self.now mask_at size) word host window.now + 1) size)) }
+        ensures bytes_at_fault { OnErr result (meter.new.bytes ≡ meter.old.bytes) }
+        ensures limit { meter.new.bytes ≤ meter.old.bytes + size }
+        ensures rises { meter.old.bytes ≤ meter.new.bytes }
+    {
+        if window.is_empty() {
+            return Ok(true);
+        }
+        let value = bytes_at(self.bytes, at, u64::from(size))?;
+        let mask = optional_mask(self.bytes, mask_at, u64::from(size))?;
+        let equal = equal_bytes(value, mask, word, host, window);
+        meter.add_bytes((equal as u64 + 1).min(u64::from(size)));
+        Ok(equal == window.len())
+    }
+}
+
+/// So many bytes at an offset.
+fn bytes_at(bytes: &[u8], at: u64, size: u64) -> Result<&[u8], ByteFault>
+    ensures given { IfOk result
+        (λ given. (at + size ≤ length bytes.now) × (given.now ≡ value_at bytes.now at size)) }
+    ensures fault { IfErr result
+        (λ fault. (length bytes.now < at + size) × (fault ≡ ByteFault.OutOfRange at)) }
+{
+    let length = bytes.len() as u64;
+    if length < at || length - at < size {
+        return Err(ByteFault::OutOfRange(at));
+    }
+    Ok(&bytes[at as usize..(at + size) as usize])
+}
+
+/// A mask of so many bytes at an offset; at the offset 0 there is none.
+fn optional_mask(bytes: &[u8], at: u64, size: u64) -> Result<&[u8], ByteFault>
+    ensures given { IfOk result (λ given. given.now ≡ optional_mask bytes.now at size) }
+    ensures lies { OnOk result (0 < at → at + size ≤ length bytes.now) }
+    ensures fault { IfErr result
+        (λ fault. (0 < at) × (length bytes.now < at + size) × (fault ≡ ByteFault.OutOfRange at)) }
+{
+    if at == 0 {
+        return Ok(&[]);
+    }
+    let mask = bytes_at(bytes, at, size)?;
+    Ok(mask)
+}
+
+/// The bytes at an offset among which a text has its zero.
+fn front_at(bytes: &[u8], at: u64) -> &[u8]
+    ensures front { result.now ≡ front 256 bytes.now at }
+    ensures limit { length result.now ≤ 256 }
+{
+    if bytes.len() as u64 <= at {
+        return &[];
+    }
+    let rest = &bytes[at as usize..];
+    &rest[..TEXT_LIMIT.min(rest.len())]
+}
+
+/// Where the first zero of the bytes stands.
+fn first_zero(bytes: &[u8]) -> Option<usize>
+    ensures { MatchOption result (before_zero bytes.now ≡ bytes.now)
+        (λ end. (end < length bytes.now) × (before_zero bytes.now ≡ take end bytes.now)) }
+{
+    memchr(0, bytes)
+}
+
+/// Why these bytes, which have no zero, are no text.
+fn unended(front: &[u8], at: u64) -> ByteFault
+    ensures { result ≡ unended 256 at front.now }
+{
+    if front.len() == TEXT_LIMIT {
+        ByteFault::LongText(at)
+    } else {
+        ByteFault::OutOfRange(at)
+    }
+}
+
+#[cfg(test)]
+mod tests;

@@ -1,0 +1,117 @@
+//! Which of the rules that match a name are kept: the one number for the four preferences among them,
+//! and the hits of the greatest number so far. Read [`class`] first, then [`rank_of`], then [`Best`].
+//!
+//! Of the rules that match a name, those are kept that come first by class, then by weight, by the
+//! length of the pattern and by case ("Recommended checking order"; the order of the classes and
+//! the preference for case-sensitive rules are this project's own). The rank of a hit makes one
+//! comparison of the four, and a [`Best`] keeps what is preferred in one pass.
+
+pub mod class;
+
+ghost use Rattle.std.specs.Prelude.{◌≡◌, ℕ, List, [], ◌∷◌, ◌++◌, map, OnOk, OnErr, All};
+ghost use Rattle.mime_base.specs.Kept.{best, rank, rank_of_rule, FitsRank, GreatestRankIsPreferred};
+
+use crate::database::rule::GlobRule;
+use crate::kept::class::{Class, class_of_bytes};
+use crate::memory::OutOfMemory;
+use std::alloc::Global;
+use std::marker::Model;
+
+/// The rank of a hit: of two hits, the one that is preferred has the greater rank.
+///
+/// The length is that of the pattern, in bytes.
+#[tactic(auto, unfolding(crate::specs::Kept::rank))]
+pub fn rank_of(class: Class, weight: u8, length: u16, cased: bool) -> u32
+    ensures { result ≡ rank class weight length cased }
+{
+    // A weight is below 256, a length below 65,536 and the flag below 2.
+    let earliness = match class {
+        Class::Literal => 2,
+        Class::Suffix => 1,
+        Class::Full => 0,
+    };
+    ((earliness * 256 + u32::from(weight)) * 65536 + u32::from(length)) * 2 + u32::from(cased)
+}
+
+/// The rank of a rule that matches.
+pub fn rank_of_rule(rule: &GlobRule) -> u32
+    ensures rank { result ≡ rank_of_rule rule.now }
+    ensures limits { FitsRank rule.now }
+{
+    let pattern = rule.pattern.bytes();
+    rank_of(
+        class_of_bytes(pattern),
+        rule.weight,
+        pattern.len() as u16,
+        rule.cased,
+    )
+}
+
+/// The law of ranks: the hits of the greatest rank are those that are preferred.
+pub fn greatest_rank_is_preferred()
+    ensures { GreatestRankIsPreferred }
+{}
+
+/// What was offered with the greatest rank so far, in the order in which it came.
+///
+/// ```
+/// let mut best = Best::new(rt.alloc());
+/// best.offer(rank_of(Class::Suffix, 50, 5, false), 'a')?;
+/// best.offer(rank_of(Class::Literal, 50, 5, false), 'b')?;
+/// assert_eq!(rt; best.into_items().as_slice(), &['b']);
+/// ```
+#[derive(Debug, Drop)]
+pub struct Best<T> {
+    rank: u32,
+    items: Vec<T>,
+}
+
+impl<T> Model for Best<T> {
+    ghost use Rattle.std.specs.Prelude.{◌≡◌, ℕ, List, [], map};
+
+    ghost Value = { List (ℕ × T) };
+
+    ghost view = { λ best. map (λ item. (best.rank, item)) best.items.items };
+
+    ghost invariant = { λ best. best.items.items ≡ [] → best.rank ≡ 0 };
+}
+
+impl<T: Drop> Best<T> {
+    /// Nothing yet.
+    pub fn new(alloc: Global) -> Best<T>
+        ensures { result ≡ [] }
+    {
+        Best {
+            rank: 0,
+            items: Vec::new(alloc),
+        }
+    }
+
+    /// Keeps the item unless something kept has a greater rank, and drops what has a lesser one.
+    pub fn offer(&mut self, rank: u32, item: T) -> Result<(), OutOfMemory>
+        ensures kept { (offers : List (ℕ × T)) → self.old ≡ best offers →
+            OnOk result (self.new ≡ best (offers ++ (rank, item) ∷ [])) }
+        ensures unchanged { OnErr result (self.new ≡ self.old) }
+    {
+        if rank < self.rank {
+            return Ok(());
+        }
+        if rank > self.rank {
+            self.items.clear();
+        }
+        self.items.push(item)?;
+        self.rank = rank;
+        Ok(())
+    }
+
+    /// The items that were kept.
+    pub fn into_items(self) -> Vec<T>
+        ensures { result.items ≡ map (λ offer. offer.1) self }
+    {
+        let Best { rank: _, items } = self;
+        items
+    }
+}
+
+#[cfg(test)]
+mod tests;

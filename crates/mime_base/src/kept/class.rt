@@ -1,0 +1,64 @@
+//! The class of a pattern, by which rules are stored, sought and ranked. This project's own.
+
+ghost use Rattle.std.specs.Prelude.{◌≡◌};
+ghost use Rattle.mime_base.specs.Kept.{class_of};
+
+use crate::matching::elements::is_literal_text;
+use crate::names::Pattern;
+
+/// What a pattern can match: one text, the names with one ending, or more than that.
+///
+/// Of the rules that match a name, those of the first class here that has one are kept.
+#[derive(Clone, Copy, Debug, PartialEq, Eq)]
+pub enum Class {
+    /// A text without `*`, `?`, `[` and `\`, as `makefile`: it matches that text alone.
+    Literal,
+    /// A `*` and then such a text, as `*.tar.gz`: it matches the names that end so.
+    Suffix,
+    /// Any other pattern, as `*.[ch]`.
+    Full,
+}
+
+/// The class of a pattern: [`Class::Suffix`] of `*.txt`.
+pub fn class_of(pattern: &Pattern) -> Class
+    ensures { result ≡ class_of pattern.now }
+{
+    class_of_bytes(pattern.bytes())
+}
+
+/// The class of any text, by the same rule.
+#[tactic(auto, unfolding(crate::specs::Kept::class_of))]
+pub fn class_of_bytes(text: &[u8]) -> Class
+    ensures { result ≡ class_of text.now }
+{
+    match text {
+        [b'*', rest @ ..] if is_literal_text(rest) => Class::Suffix,
+        _ => if is_literal_text(text) {
+            Class::Literal
+        } else {
+            Class::Full
+        },
+    }
+}
+
+#[cfg(test)]
+mod tests {
+    use super::*;
+    use std::test::Fail;
+
+    #[test]
+    fn classes(rt: HostRuntime) -> Result<(), Fail> {
+        let rows: [(&str, &[u8], Class); 5] = [
+            ("no special byte", b"makefile", Class::Literal),
+            ("a star alone", b"*", Class::Suffix),
+            ("a star and a text", b"*.tar.gz", Class::Suffix),
+            ("a question mark after it", b"*.g?", Class::Full),
+            ("a star that is not first", b"a*", Class::Full),
+        ];
+        for (row, text, class) in rows {
+            let pattern = Pattern::new(rt.alloc(), text)?;
+            assert_eq!(rt; class_of(&pattern), class, "{row}");
+        }
+        Ok(())
+    }
+}

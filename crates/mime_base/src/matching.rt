@@ -1,0 +1,177 @@
+//! Matching of a name against a pattern ("The glob files" of the public specification), with no
+//! allocation. Read [`glob_matches`] first, then [`attempt`], then [`elements`].
+//!
+//! A pattern's elements are tried from star to star. Between two stars they are tried at each place
+//! of the name in turn; the first place where they go is as good as any other, since the next star
+//! takes what is between. So of all stars the last alone counts, and no place is tried twice for the
+//! same elements. After the last star each element takes one byte, so they are tried at one place
+//! alone: as many bytes before the end of the name.
+
+pub mod attempt;
+pub mod elements;
+pub mod folding;
+
+ghost use Rattle.std.specs.Prelude.{◌≡◌, true, false, Bool, ◌+◌, ◌-◌, ◌*◌, ◌<◌, ◌≤◌, ◌↔◌, ◌∷◌, length, drop, IsTrue, IfSome, IsNone};
+ghost use Rattle.mime_base.specs.Matching.Attempt.{decided, owed, tests_after};
+ghost use Rattle.mime_base.specs.Matching.Count.{has_star, rule_tests, tests_of};
+ghost use Rattle.mime_base.specs.Matching.Elements.{any_bytes, elements, HasNoEnd};
+ghost use Rattle.mime_base.specs.Matching.Folding.{compared};
+ghost use Rattle.mime_base.specs.Matching.Matches.{least_tests, matches, rule_matches, RuleMatches};
+ghost use Rattle.mime_base.specs.Meter.{raised};
+
+use crate::matching::attempt::{Halt, Reach, attempt};
+use crate::matching::elements::{after_element, count_endless};
+use crate::matching::folding::as_compared;
+use crate::meter::Meter;
+
+/// Whether a pattern matches a name: both as they are, or both folded.
+///
+/// ```
+/// let mut meter = Meter::new();
+/// assert!(rt; glob_matches(b"*.[ch]", true, b"main.c", &mut meter));
+/// assert_eq!(rt; meter.bytes, 2);
+/// ```
+///
+/// Each test of an element against a byte or against the end of the name adds one to the meter's
+/// bytes: exactly as many as the definition `rule_tests` says, whether the name matches or not. A
+/// test reads its element and no more of the pattern.
+pub fn glob_matches(pattern: &[u8], cased: bool, name: &[u8], meter: &mut Meter) -> bool
+    ensures answer { result ≡ rule_matches pattern.now cased name.now }
+    ensures meaning { IsTrue result ↔ RuleMatches pattern.now cased name.now }
+    ensures nodes { meter.new.nodes ≡ meter.old.nodes }
+    ensures tests { meter.new.bytes ≡ raised meter.old.bytes (rule_tests pattern.now cased name.now) }
+    ensures least { raised meter.old.bytes (least_tests result (elements (compared cased pattern.now)))
+        ≤ meter.new.bytes }
+    ensures rises { meter.old.bytes ≤ meter.new.bytes }
+    ensures cost { meter.new.bytes ≤ meter.old.bytes + (length pattern.now + 1) * (length name.now + 1) }
+{
+    let searched = search(pattern, cased, name);
+    meter.add_bytes(searched.tests);
+    searched.found
+}
+
+/// Whether a name matches, and how many tests it took.
+#[derive(Clone, Copy)]
+struct Searched {
+    found: bool,
+    tests: u64,
+}
+
+/// Goes from star to star.
+fn search(pattern: &[u8], cased: bool, name: &[u8]) -> Searched
+    ensures found { result.found ≡ rule_matches pattern.now cased name.now }
+    ensures tests { result.tests ≡ raised 0 (rule_tests pattern.now cased name.now) }
+    ensures least { least_tests result.found (elements (compared cased pattern.now)) ≤ result.tests }
+    ensures most { result.tests ≤ length pattern.now * (length name.now + 1) }
+{
+    let endless = count_endless(pattern);
+    let front = attempt(pattern, endless, cased, name);
+    if let Some(found) = front.halt.answer() {
+        return Searched {
+            found,
+            tests: front.tests,
+        };
+    }
+    let mut after = front.after;
+    let mut left = &name[front.passed..];
+    let mut tests = front.tests;
+    loop {
+        if let Some(size) = count_to_end(after, endless, cased) {
+            let last = try_at_end(after, endless, cased, size, left);
+            return Searched {
+                found: last.found,
+                tests: tests.saturating_add(last.tests),
+            };
+        }
+        let next = slide(after, endless, cased, left);
+        tests = tests.saturating_add(next.tests);
+        if let Some(found) = next.halt.answer() {
+            return Searched { found, tests };
+        }
+        after = next.after;
+        left = &left[next.passed..];
+    }
+}
+
+/// Tries the elements up to the next star at each place of the name in turn until they go.
+fn slide<'a>(pattern: &'a [u8], endless: usize, cased: bool, name: &[u8]) -> Reach<'a>
+    requires endless { HasNoEnd endless pattern.now }
+    requires star { has_star (elements (compared cased pattern.now)) ≡ true }
+    ensures decided { matches (any_bytes ∷ elements (compared cased pattern.now)) (compared cased name.now)
+        ≡ decided result.halt (elements (compared cased result.after.now))
+        (compared cased (drop result.passed name.now)) }
+    ensures tests { raised 0 (tests_of (any_bytes ∷ elements (compared cased pattern.now)) (compared cased name.now))
+        ≡ raised result.tests (tests_after result.halt (elements (compared cased result.after.now))
+        (compared cased (drop result.passed name.now))) }
+    ensures passed { result.passed ≤ length name.now }
+    ensures shorter { result.halt ≡ Halt.Star → length result.after.now < length pattern.now }
+    ensures endless { HasNoEnd endless result.after.now }
+    ensures least { owed result.halt (elements (compared cased pattern.now))
+        (elements (compared cased result.after.now)) ≤ result.tests }
+    ensures most { result.tests ≤ length pattern.now * (length name.now + 1) }
+    ensures star { result.halt ≡ Halt.Star →
+        result.tests + length result.after.now * (length name.now - result.passed + 1)
+        ≤ length pattern.now * (length name.now + 1) }
+{
+    let mut start = 0;
+    let mut tests: u64 = 0;
+    loop {
+        let tried = attempt(pattern, endless, cased, &name[start..]);
+        tests = tests.saturating_add(tried.tests);
+        match tried.halt {
+            Halt::Refused => start += 1,
+            _ => return Reach {
+                passed: start + tried.passed,
+                tests,
+                ..tried
+            },
+        }
+    }
+}
+
+/// How many elements a text has, if no star is among them.
+fn count_to_end(text: &[u8], endless: usize, cased: bool) -> Option<usize>
+    requires { HasNoEnd endless text.now }
+    ensures star { IsNone result → has_star (elements (compared cased text.now)) ≡ true }
+    ensures none { IfSome result (λ size. has_star (elements (compared cased text.now)) ≡ false) }
+    ensures size { IfSome result (λ size. size ≡ length (elements (compared cased text.now))) }
+{
+    let mut rest = text;
+    let mut size = 0;
+    while let Some((first, after)) = rest.split_first() {
+        if *first == b'*' {
+            return None;
+        }
+        rest = after_element(as_compared(cased, *first), after, endless);
+        size += 1;
+    }
+    Some(size)
+}
+
+/// Tries elements after the last star at the one place that leaves a byte for each.
+fn try_at_end(pattern: &[u8], endless: usize, cased: bool, size: usize, name: &[u8]) -> Searched
+    requires endless { HasNoEnd endless pattern.now }
+    requires none { has_star (elements (compared cased pattern.now)) ≡ false }
+    requires size { size ≡ length (elements (compared cased pattern.now)) }
+    ensures found { result.found
+        ≡ matches (any_bytes ∷ elements (compared cased pattern.now)) (compared cased name.now) }
+    ensures tests { result.tests
+        ≡ tests_of (any_bytes ∷ elements (compared cased pattern.now)) (compared cased name.now) }
+    ensures least { least_tests result.found (elements (compared cased pattern.now)) ≤ result.tests }
+    ensures most { result.tests ≤ length pattern.now }
+{
+    if name.len() < size {
+        return Searched {
+            found: false,
+            tests: 1,
+        };
+    }
+    let last = attempt(pattern, endless, cased, &name[name.len() - size..]);
+    Searched {
+        found: matches!(last.halt, Halt::BothEnd),
+        tests: last.tests,
+    }
+}
+
+#[cfg(test)]
+mod tests;

@@ -1,0 +1,176 @@
+//! The elements of a pattern that take one byte, read where they stand in its text.
+//!
+//! What the public specification calls a glob is a list of elements: `*`, and those that take one
+//! byte. How a text spells sets and escapes is this project's own; nothing is parsed ahead. A test of
+//! an element reads that element alone: how many of the pattern's last bytes have no `]` is known, and
+//! for a `[` among them no end of a set is sought.
+
+ghost use Rattle.std.specs.Prelude.{◌≡◌, Bool, ◌∷◌, [], ◌+◌, ◌<◌, ◌==◌, IsNone, IfSome, None, is_some, drop, length, position};
+ghost use Rattle.mime_base.specs.Matching.Elements.{HasNoEnd, IsSet, admits, end_of_set, in_ranges, is_literal_text, is_negated, one_byte, ranges, width_after};
+ghost use Rattle.mime_base.specs.Matching.Folding.{compared, compared_byte};
+
+use crate::matching::folding::as_compared;
+use memchr::memrchr;
+
+/// What stands after an element, if the element admits a byte.
+///
+/// The element begins with the byte `first`, which is no `*`, and `first` and `byte` are as they are
+/// compared.
+pub fn after_admitting<'a>(
+    first: u8,
+    after: &'a [u8],
+    endless: usize,
+    cased: bool,
+    byte: u8,
+) -> Option<&'a [u8]>
+    requires { HasNoEnd endless after.now }
+    ensures admits { is_some result ≡ admits (one_byte first (compared cased after.now)) byte }
+    ensures after { IfSome result (λ rest. rest.now
+        ≡ drop (width_after first (compared cased after.now)) after.now) }
+{
+    match first {
+        b'?' => Some(after),
+        b'\\' => match after {
+            [escaped, rest @ ..] => (as_compared(cased, *escaped) == byte).then_some(rest),
+            [] => (byte == b'\\').then_some(after),
+        },
+        b'[' => match set_after(after, endless) {
+            Some(set) => (is_member(set.members, cased, byte) != set.is_negated).then_some(
+                set.rest,
+            ),
+            None => (byte == b'[').then_some(after),
+        },
+        _ => (first == byte).then_some(after),
+    }
+}
+
+/// What stands after an element, which begins with the byte `first` as it is compared, and is no `*`.
+pub fn after_element<'a>(first: u8, after: &'a [u8], endless: usize) -> &'a [u8]
+    requires { HasNoEnd endless after.now }
+    ensures after { (cased : Bool) → result.now ≡ drop (width_after first (compared cased after.now)) after.now }
+{
+    match first {
+        b'\\' => match after {
+            [_, rest @ ..] => rest,
+            [] => after,
+        },
+        b'[' => match set_after(after, endless) {
+            Some(set) => set.rest,
+            None => after,
+        },
+        _ => after,
+    }
+}
+
+/// How many bytes stand after the last `]` of a text, or all.
+pub fn count_endless(text: &[u8]) -> usize
+    ensures { HasNoEnd result text.now }
+{
+    match memrchr(b']', text) {
+        Some(last) => text.len() - last - 1,
+        None => text.len(),
+    }
+}
+
+/// A set of bytes.
+#[derive(Clone, Copy)]
+struct Set<'a> {
+    /// Whether it is all bytes but its members.
+    is_negated: bool,
+    /// Bytes and ranges of bytes, as they are spelled.
+    members: &'a [u8],
+    /// What stands after its `]`.
+    rest: &'a [u8],
+}
+
+/// The set that begins with a `[` before these bytes, if it has an end.
+fn set_after<'a>(after: &'a [u8], endless: usize) -> Option<Set<'a>>
+    requires { HasNoEnd endless after.now }
+    ensures none { IsNone result → end_of_set after.now ≡ None }
+    ensures set { IfSome result (λ set. IsSet after.now set.is_negated set.members.now set.rest.now) }
+{
+    let is_negated = is_negated(after);
+    let body = if is_negated { &after[1..] } else { after };
+    match end_of_body(body, endless) {
+        Some(end) => Some(Set {
+            is_negated,
+            members: &body[..end + 1],
+            rest: &body[end + 2..],
+        }),
+        None => None,
+    }
+}
+
+/// How many bytes stand between the first member and the first `]` after it.
+fn end_of_body(body: &[u8], endless: usize) -> Option<usize>
+    requires { HasNoEnd endless body.now }
+    ensures end { result ≡ position (λ b. b == 93) (drop 1 body.now) }
+    ensures within { IfSome result (λ end. end + 1 < length body.now) }
+{
+    let Some((_member, later)) = body.split_first() else {
+        return None;
+    };
+    if later.len() <= endless {
+        return None;
+    }
+    later.iter().position(|byte| *byte == b']')
+}
+
+/// Whether these are the bytes of a set that is negated.
+fn is_negated(after: &[u8]) -> bool
+    ensures { result ≡ is_negated after.now }
+{
+    matches!(after, [b'!' | b'^', ..])
+}
+
+/// Whether a byte, as it is compared, is one of the members that a set spells.
+fn is_member(members: &[u8], cased: bool, byte: u8) -> bool
+    ensures { result ≡ in_ranges (ranges (compared cased members.now)) byte }
+{
+    let mut members = members;
+    while let Some(range) = first_range(members) {
+        if as_compared(cased, range.low) <= byte && byte <= as_compared(cased, range.high) {
+            return true;
+        }
+        members = range.rest;
+    }
+    false
+}
+
+/// A range of bytes; a byte that stands for itself is a range of one.
+#[derive(Clone, Copy)]
+struct Range<'a> {
+    low: u8,
+    high: u8,
+    /// The members after it.
+    rest: &'a [u8],
+}
+
+/// The range at the front of a set's members.
+fn first_range<'a>(members: &'a [u8]) -> Option<Range<'a>>
+    ensures none { IsNone result → members.now ≡ [] }
+    ensures shorter { IfSome result (λ range. length range.rest.now < length members.now) }
+    ensures range { IfSome result (λ range. (cased : Bool) → ranges (compared cased members.now)
+        ≡ (compared_byte cased range.low, compared_byte cased range.high) ∷ ranges (compared cased range.rest.now)) }
+{
+    match members {
+        [low, b'-', high, rest @ ..] => Some(Range {
+            low: *low,
+            high: *high,
+            rest,
+        }),
+        [byte, rest @ ..] => Some(Range {
+            low: *byte,
+            high: *byte,
+            rest,
+        }),
+        [] => None,
+    }
+}
+
+/// Whether each byte of a text stands for itself.
+pub fn is_literal_text(text: &[u8]) -> bool
+    ensures { result ≡ is_literal_text text.now }
+{
+    text.iter().all(|byte| !(*byte == b'*' || *byte == b'?' || *byte == b'[' || *byte == b'\\'))
+}

@@ -1,0 +1,54 @@
+//! Folding: rules without the flag for case take the capitals of ASCII for small letters.
+//!
+//! That a pattern is tried without regard to case is the public specification's ("Recommended
+//! checking order"); that only A to Z are folded, byte by byte, is this project's own.
+
+ghost use Rattle.std.specs.Prelude.{◌≡◌, IfOk, map};
+ghost use Rattle.mime_base.specs.Matching.Folding.{compared_byte, folded};
+
+use crate::memory::OutOfMemory;
+use std::alloc::Global;
+
+/// A copy in which each of `A` to `Z` is its small letter, and every other byte as it was.
+pub fn fold(alloc: Global, bytes: &[u8]) -> Result<Vec<u8>, OutOfMemory>
+    ensures { IfOk result (λ text. text.items ≡ map folded bytes.now) }
+{
+    let mut text = Vec::with_capacity(alloc, bytes.len())?;
+    for byte in bytes {
+        text.push(fold_byte(*byte))?;
+    }
+    Ok(text)
+}
+
+/// The byte, or the small letter of a capital.
+#[inline]
+pub fn fold_byte(byte: u8) -> u8
+    ensures { result ≡ folded byte }
+{
+    if b'A' <= byte && byte <= b'Z' {
+        byte + 32
+    } else {
+        byte
+    }
+}
+
+/// What is compared of a byte.
+#[inline]
+pub fn as_compared(cased: bool, byte: u8) -> u8
+    ensures { result ≡ compared_byte cased byte }
+{
+    if cased { byte } else { fold_byte(byte) }
+}
+
+#[cfg(test)]
+mod tests {
+    use super::*;
+    use std::test::Fail;
+
+    #[test]
+    fn folds_the_capitals_of_ascii(rt: HostRuntime) -> Result<(), Fail> {
+        let text = fold(rt.alloc(), b"Ab\xC3\x84")?;
+        assert_eq!(rt; text.as_slice(), b"ab\xC3\x84".as_slice());
+        Ok(())
+    }
+}

@@ -1,0 +1,52 @@
+-- The checking order: which type a name and a content have, and how much of the content is read.
+use Rattle.std.specs.Prelude.{◌≡◌, ℕ, ◌≤◌, Bool, true, false, nat_le, if◌then◌else◌, min, max, List, [], ◌∷◌, length, Option, None, Some, MatchOption, bytes_eq}
+use Rattle.std.specs.List.{list_all}
+use Rattle.mime_base.specs.Database.{PlainDatabase, pairs_of}
+use Rattle.mime_base.specs.Magic.Extent.{extent}
+use Rattle.mime_base.specs.Magic.Holds.{first_magic}
+use Rattle.mime_base.specs.Database.Subclass.{resolved}
+use Rattle.mime_base.specs.declared.magic.host.Host.{Host}
+use Rattle.mime_lookup.specs.Choice.{ChoosesAmong, kept}
+use Rattle.mime_lookup.specs.Sniffing.{sniffed}
+use Rattle.mime_lookup.specs.declared.order.Order.{Order}
+use Rattle.mime_lookup.specs.declared.order.Order.TheVariants.{GlobsFirst, MagicFirst}
+
+-- the resolved type of a section with a priority of 80 or more
+abbrev pub of_high_priority : PlainDatabase → Option (List ℕ × ℕ) → Option (List ℕ)
+of_high_priority b None = None
+of_high_priority b (Some section) = if nat_le 80 section.1 then Some (resolved b.aliases section.0) else None
+
+-- the type that magic gives before globs are asked: under MagicFirst that of a first section of high priority
+unfoldable pub before_globs : PlainDatabase → Option (List ℕ) → Host → Order → Option (List ℕ)
+before_globs b content host GlobsFirst = None
+before_globs b None host MagicFirst = None
+before_globs b (Some content) host MagicFirst = of_high_priority b (first_magic b.sections content host)
+
+-- the answer to a name and a content, where there is one
+unfoldable pub Chooses : PlainDatabase → List ℕ → Option (List ℕ) → Host → Order → List ℕ → Type 0
+Chooses b name content host order answer =
+    MatchOption (before_globs b content host order)
+    (ChoosesAmong (pairs_of b) (kept (pairs_of b) b.rules name) (sniffed b content host) answer) (λ kind. answer ≡ kind)
+
+-- whether some types are one type
+abbrev pub are_one_type : List (List ℕ) → Bool
+are_one_type [] = false
+are_one_type (first ∷ more) = list_all (bytes_eq first) more
+
+-- whether the globs alone give the answer
+unfoldable pub globs_suffice : PlainDatabase → List ℕ → Order → Bool
+globs_suffice b name GlobsFirst = are_one_type (kept (pairs_of b) b.rules name)
+globs_suffice b name MagicFirst = false
+
+-- the most that is read of a content
+unfoldable pub read_limit : PlainDatabase → ℕ
+read_limit b = max 128 (extent b)
+
+-- how many bytes are read of a content that is looked at
+abbrev pub front_size : PlainDatabase → Option (List ℕ) → ℕ
+front_size b None = 0
+front_size b (Some content) = min (length content) (read_limit b)
+
+-- how many bytes are read of a content
+unfoldable pub read_of : PlainDatabase → List ℕ → Option (List ℕ) → Order → ℕ
+read_of b name content order = if globs_suffice b name order then 0 else front_size b content

@@ -1,0 +1,30 @@
+-- What the steps of a script give and count.
+use Rattle.std.specs.Prelude.{ℕ, ◌+◌, List, [], ◌∷◌, ◌++◌}
+use Rattle.mime_lookup.specs.Content.{Tally}
+use Rattle.mime_lookup.specs.declared.script.Step.{Step}
+use Rattle.mime_lookup.specs.declared.script.Step.TheVariants.{Piece, Interruption, Fault}
+
+-- the bytes of the pieces
+abbrev pub bytes_in : List Step → List ℕ
+bytes_in [] = []
+bytes_in (Piece bytes ∷ steps) = bytes.now ++ bytes_in steps
+bytes_in (Interruption ∷ steps) = bytes_in steps
+bytes_in (Fault ∷ steps) = bytes_in steps
+
+-- how many steps are faults, and how many are interruptions
+abbrev pub faults_in : List Step → ℕ
+faults_in [] = 0
+faults_in (Piece bytes ∷ steps) = faults_in steps
+faults_in (Interruption ∷ steps) = faults_in steps
+faults_in (Fault ∷ steps) = faults_in steps + 1
+
+-- how many steps are interruptions
+abbrev pub interruptions_in : List Step → ℕ
+interruptions_in [] = 0
+interruptions_in (Piece bytes ∷ steps) = interruptions_in steps
+interruptions_in (Interruption ∷ steps) = interruptions_in steps + 1
+interruptions_in (Fault ∷ steps) = interruptions_in steps
+
+-- the tally of a reader that met these steps
+abbrev pub tally_in : List Step → Tally
+tally_in steps = record { failed = faults_in steps; interrupted = interruptions_in steps }

@@ -1,0 +1,295 @@
+//! Lookup by trying every rule, line and pair of a database.
+
+ghost use Rattle.std.specs.Prelude.{◌≡◌, ◌⊎◌, ◌<◌, ◌≤◌, length, IfOk, IfErr, OnOk, IfSome, MatchResult, Some, None, ⊤, if◌then◌else◌};
+ghost use Rattle.mime_base.specs.Database.{pairs_of, plain_database};
+ghost use Rattle.mime_lookup.specs.Ancestry.{texts};
+ghost use Rattle.mime_lookup.specs.CheckingOrder.{Chooses, are_one_type, before_globs, front_size, read_limit, read_of};
+ghost use Rattle.mime_lookup.specs.Choice.{ChoosesAmong};
+ghost use Rattle.mime_lookup.specs.Sniffing.{sniffed};
+ghost use Rattle.mime_lookup.specs.Content.{Advances, GivesUp, Goes, OfReader, known_content};
+
+use crate::ancestry::first_of;
+use crate::answer::Answer;
+use crate::content::Content;
+use crate::fixed::OCTET_STREAM;
+use crate::kept::kept_kinds;
+use crate::order::Order;
+use crate::pairs::is_same;
+use crate::reading::read_front;
+use crate::sniff::{Sniffed, sniff};
+use crate::stopped::{Cause, Stopped};
+use mime_base::{Database, Host, Meter, OutOfMemory, extent};
+use std::alloc::Global;
+
+/// The longest name that is looked up, in bytes.
+const LONGEST_NAME: usize = 4096;
+
+/// The fewest bytes of a content that are asked for.
+const SHORTEST_FRONT: u64 = 128;
+
+/// The type that the checking order gives to a name and a content ("Recommended checking order").
+///
+/// `None` is content that is not available; a reader is still there after the call. Of a content at
+/// most the greater of 128 bytes and the database's extent is read, and under
+/// [`Order::GlobsFirst`] nothing where the globs give one type.
+///
+/// A name of more than 4,096 bytes is [`Cause::NameTooLong`], before anything else. [`Cause::Read`]
+/// comes with a failed read and with the 1,001st interruption. The meter counts what matching
+/// compares, with no promised bound, and no record.
+pub fn look_up_plain<'a, R: Content>(
+    alloc: Global,
+    database: &'a Database,
+    name: &[u8],
+    content: &mut Option<R>,
+    host: Host,
+    order: Order,
+) -> Result<Answer<'a>, Stopped>
+    ensures chosen { IfOk result (λ answer. IfSome (known_content R.remaining content.old)
+        (λ known. Chooses (plain_database database.entry.now) name.now known host order answer.kind.now)) }
+    ensures read { IfOk result (λ answer. IfSome (known_content R.remaining content.old)
+        (λ known. answer.read ≡ read_of (plain_database database.entry.now) name.now known order)) }
+    ensures too_long { 4096 < length name.now → (content.new ≡ content.old) × (result ≡ Err (record {
+      cause = Cause.NameTooLong;
+      read = 0;
+      meter = record { nodes = 0; bytes = 0 };
+    })) }
+    ensures otherwise { length name.now ≤ 4096 → IfErr result
+        (λ stopped. (stopped.cause ≡ Cause.Read) ⊎ (stopped.cause ≡ Cause.OutOfMemory)) }
+    ensures gives_up { IfErr result (λ stopped. stopped.cause ≡ Cause.Read →
+        OfReader (λ before after. GivesUp (R.tally before) (R.tally after) 1000) ⊥ content.old content.new) }
+    ensures goes { OnOk result (OfReader
+        (λ before after. Goes (R.tally before) (R.tally after) 1000) ⊤ content.old content.new) }
+    ensures advances { MatchResult result
+        (λ answer. OfReader (λ before after. Advances (R.remaining before) (R.remaining after) answer.read)
+        (answer.read ≡ 0) content.old content.new)
+        (λ stopped. OfReader (λ before after. Advances (R.remaining before) (R.remaining after) stopped.read)
+        (stopped.read ≡ 0) content.old content.new) }
+    ensures limit { MatchResult result
+        (λ answer. answer.read ≤ read_limit (plain_database database.entry.now))
+        (λ stopped. stopped.read ≤ read_limit (plain_database database.entry.now)) }
+    ensures nodes { MatchResult result
+        (λ answer. answer.meter.nodes ≡ 0) (λ stopped. stopped.meter.nodes ≡ 0) }
+{
+    let mut read = 0;
+    let mut meter = Meter::new();
+    if name.len() > LONGEST_NAME {
+        let cause = Cause::NameTooLong;
+        return Err(Stopped { cause, read, meter });
+    }
+    match kind_of(
+        alloc, database, name, content, host, order, &mut read, &mut meter,
+    ) {
+        Ok(kind) => Ok(Answer { kind, read, meter }),
+        Err(cause) => Err(Stopped { cause, read, meter }),
+    }
+}
+
+/// The type of a name and a content, and how many bytes of the content were read.
+fn kind_of<'a, R: Content>(
+    alloc: Global,
+    database: &'a Database,
+    name: &[u8],
+    content: &mut Option<R>,
+    host: Host,
+    order: Order,
+    read: &mut u64,
+    meter: &mut Meter,
+) -> Result<&'a [u8], Cause>
+    requires none { read.old ≡ 0 }
+    ensures chosen { IfOk result (λ kind. IfSome (known_content R.remaining content.old)
+        (λ known. Chooses (plain_database database.entry.now) name.now known host order kind.now)) }
+    ensures read { OnOk result (IfSome (known_content R.remaining content.old)
+        (λ known. read.new ≡ read_of (plain_database database.entry.now) name.now known order)) }
+    ensures causes { IfErr result (λ cause. (cause ≡ Cause.Read) ⊎ (cause ≡ Cause.OutOfMemory)) }
+    ensures gives_up { IfErr result (λ cause. cause ≡ Cause.Read →
+        OfReader (λ before after. GivesUp (R.tally before) (R.tally after) 1000) ⊥ content.old content.new) }
+    ensures goes { OnOk result (OfReader
+        (λ before after. Goes (R.tally before) (R.tally after) 1000) ⊤ content.old content.new) }
+    ensures advances { OfReader (λ before after. Advances (R.remaining before) (R.remaining after) read.new)
+        (read.new ≡ 0) content.old content.new }
+    ensures limit { read.new ≤ read_limit (plain_database database.entry.now) }
+    ensures nodes { meter.new.nodes ≡ meter.old.nodes }
+{
+    match order {
+        Order::GlobsFirst => globs_first(alloc, database, name, content, host, read, meter),
+        Order::MagicFirst => magic_first(alloc, database, name, content, host, read, meter),
+    }
+}
+
+/// The same where the globs are asked first.
+fn globs_first<'a, R: Content>(
+    alloc: Global,
+    database: &'a Database,
+    name: &[u8],
+    content: &mut Option<R>,
+    host: Host,
+    read: &mut u64,
+    meter: &mut Meter,
+) -> Result<&'a [u8], Cause>
+    requires none { read.old ≡ 0 }
+    ensures chosen { IfOk result (λ kind. IfSome (known_content R.remaining content.old)
+        (λ known. Chooses (plain_database database.entry.now) name.now known host Order.GlobsFirst kind.now)) }
+    ensures read { OnOk result (IfSome (known_content R.remaining content.old)
+        (λ known. read.new ≡ read_of (plain_database database.entry.now) name.now known Order.GlobsFirst)) }
+    ensures causes { IfErr result (λ cause. (cause ≡ Cause.Read) ⊎ (cause ≡ Cause.OutOfMemory)) }
+    ensures gives_up { IfErr result (λ cause. cause ≡ Cause.Read →
+        OfReader (λ before after. GivesUp (R.tally before) (R.tally after) 1000) ⊥ content.old content.new) }
+    ensures goes { OnOk result (OfReader
+        (λ before after. Goes (R.tally before) (R.tally after) 1000) ⊤ content.old content.new) }
+    ensures advances { OfReader (λ before after. Advances (R.remaining before) (R.remaining after) read.new)
+        (read.new ≡ 0) content.old content.new }
+    ensures limit { read.new ≤ read_limit (plain_database database.entry.now) }
+    ensures nodes { meter.new.nodes ≡ meter.old.nodes }
+{
+    let kept = kept_kinds(alloc, database, name, meter)?;
+    if are_one_type(&kept) {
+        return Ok(kept[0]);
+    }
+    let sniffed = sniff_content(alloc, database, content, host, read, meter)?;
+    let kind = choose(alloc, database, &kept, sniffed.kind)?;
+    Ok(kind)
+}
+
+/// The same where magic of a high priority comes first.
+fn magic_first<'a, R: Content>(
+    alloc: Global,
+    database: &'a Database,
+    name: &[u8],
+    content: &mut Option<R>,
+    host: Host,
+    read: &mut u64,
+    meter: &mut Meter,
+) -> Result<&'a [u8], Cause>
+    requires none { read.old ≡ 0 }
+    ensures chosen { IfOk result (λ kind. IfSome (known_content R.remaining content.old)
+        (λ known. Chooses (plain_database database.entry.now) name.now known host Order.MagicFirst kind.now)) }
+    ensures read { OnOk result (IfSome (known_content R.remaining content.old)
+        (λ known. read.new ≡ read_of (plain_database database.entry.now) name.now known Order.MagicFirst)) }
+    ensures causes { IfErr result (λ cause. (cause ≡ Cause.Read) ⊎ (cause ≡ Cause.OutOfMemory)) }
+    ensures gives_up { IfErr result (λ cause. cause ≡ Cause.Read →
+        OfReader (λ before after. GivesUp (R.tally before) (R.tally after) 1000) ⊥ content.old content.new) }
+    ensures goes { OnOk result (OfReader
+        (λ before after. Goes (R.tally before) (R.tally after) 1000) ⊤ content.old content.new) }
+    ensures advances { OfReader (λ before after. Advances (R.remaining before) (R.remaining after) read.new)
+        (read.new ≡ 0) content.old content.new }
+    ensures limit { read.new ≤ read_limit (plain_database database.entry.now) }
+    ensures nodes { meter.new.nodes ≡ meter.old.nodes }
+{
+    let sniffed = sniff_content(alloc, database, content, host, read, meter)?;
+    if sniffed.is_high {
+        return Ok(sniffed.kind);
+    }
+    let kept = kept_kinds(alloc, database, name, meter)?;
+    let kind = choose(alloc, database, &kept, sniffed.kind)?;
+    Ok(kind)
+}
+
+/// Whether there are types, and all are one type.
+fn are_one_type(kinds: &[&[u8]]) -> bool
+    ensures { result ≡ are_one_type (texts kinds.now) }
+{
+    let Some((first, more)) = kinds.split_first() else {
+        return false;
+    };
+    for kind in more {
+        if !is_same(*first, *kind) {
+            return false;
+        }
+    }
+    true
+}
+
+/// What was sniffed where no type is kept, else the first kept type that is it or a subclass of it,
+/// else the first kept type.
+fn choose<'a>(
+    alloc: Global,
+    database: &'a Database,
+    kept: &[&'a [u8]],
+    sniffed: &'a [u8],
+) -> Result<&'a [u8], OutOfMemory>
+    ensures { IfOk result (λ kind. ChoosesAmong (pairs_of (plain_database database.entry.now))
+        (texts kept.now) sniffed.entry.now kind.now) }
+{
+    if kept.is_empty() {
+        return Ok(sniffed);
+    }
+    first_of(alloc, database, kept, kept[0], sniffed)
+}
+
+/// What a content is sniffed as, by its front.
+#[tactic(auto, unfolding(crate::specs::Sniffing::sniffed, crate::specs::CheckingOrder::before_globs))]
+fn sniff_content<'a, R: Content>(
+    alloc: Global,
+    database: &'a Database,
+    content: &mut Option<R>,
+    host: Host,
+    read: &mut u64,
+    meter: &mut Meter,
+) -> Result<Sniffed<'a>, Cause>
+    requires none { read.old ≡ 0 }
+    ensures kind { IfOk result (λ found. IfSome (known_content R.remaining content.old)
+        (λ known. found.kind.now ≡ sniffed (plain_database database.entry.now) known host)) }
+    ensures is_high { IfOk result (λ found. IfSome (known_content R.remaining content.old)
+        (λ known. (if found.is_high then Some found.kind.now else None)
+        ≡ before_globs (plain_database database.entry.now) known host Order.MagicFirst)) }
+    ensures read { OnOk result (IfSome (known_content R.remaining content.old)
+        (λ known. read.new ≡ front_size (plain_database database.entry.now) known)) }
+    ensures causes { IfErr result (λ cause. (cause ≡ Cause.Read) ⊎ (cause ≡ Cause.OutOfMemory)) }
+    ensures gives_up { IfErr result (λ cause. cause ≡ Cause.Read →
+        OfReader (λ before after. GivesUp (R.tally before) (R.tally after) 1000) ⊥ content.old content.new) }
+    ensures goes { OnOk result (OfReader
+        (λ before after. Goes (R.tally before) (R.tally after) 1000) ⊤ content.old content.new) }
+    ensures advances { OfReader (λ before after. Advances (R.remaining before) (R.remaining after) read.new)
+        (read.new ≡ 0) content.old content.new }
+    ensures limit { read.new ≤ read_limit (plain_database database.entry.now) }
+    ensures nodes { meter.new.nodes ≡ meter.old.nodes }
+{
+    match content {
+        Some(reader) => sniff_reader(alloc, database, reader, host, read, meter),
+        None => Ok(Sniffed {
+            kind: OCTET_STREAM,
+            is_high: false,
+        }),
+    }
+}
+
+/// Reads the front of a content, as much as magic can look at, and sniffs it.
+fn sniff_reader<'a, R: Content>(
+    alloc: Global,
+    database: &'a Database,
+    reader: &mut R,
+    host: Host,
+    read: &mut u64,
+    meter: &mut Meter,
+) -> Result<Sniffed<'a>, Cause>
+    requires none { read.old ≡ 0 }
+    ensures kind { IfOk result (λ found. IfSome (known_content R.remaining (Some reader.old))
+        (λ known. found.kind.now ≡ sniffed (plain_database database.entry.now) known host)) }
+    ensures is_high { IfOk result (λ found. IfSome (known_content R.remaining (Some reader.old))
+        (λ known. (if found.is_high then Some found.kind.now else None)
+        ≡ before_globs (plain_database database.entry.now) known host Order.MagicFirst)) }
+    ensures read { OnOk result (IfSome (known_content R.remaining (Some reader.old))
+        (λ known. read.new ≡ front_size (plain_database database.entry.now) known)) }
+    ensures causes { IfErr result (λ cause. (cause ≡ Cause.Read) ⊎ (cause ≡ Cause.OutOfMemory)) }
+    ensures gives_up { IfErr result (λ cause. cause ≡ Cause.Read →
+        GivesUp (R.tally reader.old) (R.tally reader.new) 1000) }
+    ensures goes { OnOk result (Goes (R.tally reader.old) (R.tally reader.new) 1000) }
+    ensures advances { Advances (R.remaining reader.old) (R.remaining reader.new) read.new }
+    ensures limit { read.new ≤ read_limit (plain_database database.entry.now) }
+    ensures nodes { meter.new.nodes ≡ meter.old.nodes }
+{
+    let limit = front_limit(database);
+    let front = read_front(alloc, reader, limit, read)?;
+    Ok(sniff(database, &front, host, meter))
+}
+
+/// How much of a content is read at most.
+#[tactic(auto, unfolding(crate::specs::CheckingOrder::read_limit))]
+fn front_limit(database: &Database) -> usize
+    ensures { result ≡ read_limit (plain_database database.now) }
+{
+    SHORTEST_FRONT.max(extent(database)) as usize
+}
+
+#[cfg(test)]
+mod tests;

@@ -1,0 +1,12 @@
+//! The two checking orders.
+
+/// Whether the globs or the content's magic are asked first.
+#[derive(Clone, Copy, Debug, PartialEq, Eq)]
+pub enum Order {
+    /// As in "Recommended checking order": the content is read only where the globs conflict or
+    /// are silent.
+    GlobsFirst,
+    /// Where content is available and the first section that holds has a priority of 80 or more,
+    /// its type is the answer; else as the other order. This project's own.
+    MagicFirst,
+}

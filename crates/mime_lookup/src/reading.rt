@@ -1,0 +1,77 @@
+//! How the front of a content is read.
+
+ghost use Rattle.std.specs.Prelude.{◌≡◌, ◌≢◌, ◌⊎◌, ◌+◌, ◌-◌, ◌<◌, ◌≤◌, List, ℕ, length, [], OnOk, OnErr, IfErr, IfOk, take};
+ghost use Rattle.std.specs.Io.KnownBytes.{Consumes, IsAtEnd, ReadConsumes};
+ghost use Rattle.mime_lookup.specs.Content.{Advances, GivesUp, Goes, Interrupts};
+
+use crate::content::{Content, ReadFault};
+use crate::stopped::Cause;
+use std::alloc::Global;
+
+/// How many interrupted reads are tried again in a lookup.
+const RETRIES: u32 = 1_000;
+
+/// How many bytes are asked for at once.
+const BLOCK: usize = 4_096;
+
+/// The front of a content, up to its end or to `limit` bytes, and how many bytes were delivered.
+///
+/// The buffer grows with what was delivered. [`Cause::Read`] comes with a failed read and with the
+/// 1,001st interruption, [`Cause::OutOfMemory`] where an allocation was refused.
+pub fn read_front<R: Content>(
+    alloc: Global,
+    reader: &mut R,
+    limit: usize,
+    read: &mut u64,
+) -> Result<Vec<u8>, Cause>
+    requires none { read.old ≡ 0 }
+    ensures front { IfOk result (λ front.
+        (length front.items ≡ read.new) × Consumes (R.remaining reader.old) (R.remaining reader.new) front.items) }
+    ensures whole { OnOk result (read.new < limit → IsAtEnd (R.remaining reader.new)) }
+    ensures goes { OnOk result (Goes (R.tally reader.old) (R.tally reader.new) 1000) }
+    ensures gives_up { IfErr result (λ cause. cause ≡ Cause.Read → GivesUp (R.tally reader.old) (R.tally reader.new) 1000) }
+    ensures causes { IfErr result (λ cause. (cause ≡ Cause.Read) ⊎ (cause ≡ Cause.OutOfMemory)) }
+    ensures advances { Advances (R.remaining reader.old) (R.remaining reader.new) read.new }
+    ensures limit { read.new ≤ limit }
+{
+    let mut front = Vec::new(alloc);
+    let mut block = [0u8; BLOCK];
+    let mut retries = RETRIES;
+    while front.len() < limit {
+        let room = BLOCK.min(limit - front.len());
+        let count = read_block(reader, &mut block[..room], &mut retries)?;
+        if count == 0 {
+            return Ok(front);
+        }
+        *read += count as u64;
+        front.extend_from_slice(&block[..count])?;
+    }
+    Ok(front)
+}
+
+/// One read, tried again while it is interrupted and retries are left. Answers how many bytes came.
+fn read_block<R: Content>(
+    reader: &mut R,
+    block: &mut [u8],
+    retries: &mut u32,
+) -> Result<usize, Cause>
+    ensures within { IfOk result (λ count. count ≤ length block.new) }
+    ensures bytes { ReadConsumes (R.remaining reader.old) (R.remaining reader.new) result block.new }
+    ensures goes { OnOk result (Interrupts (R.tally reader.old) (R.tally reader.new) (retries.old - retries.new)) }
+    ensures gives_up { OnErr result (GivesUp (R.tally reader.old) (R.tally reader.new) retries.old) }
+    ensures fewer { retries.new ≤ retries.old }
+    ensures fault { IfErr result (λ cause. cause ≡ Cause.Read) }
+{
+    loop {
+        match reader.read_piece(block) {
+            Ok(count) => return Ok(count),
+            Err(ReadFault::Failed) => return Err(Cause::Read),
+            Err(ReadFault::Interrupted) => {
+                if *retries == 0 {
+                    return Err(Cause::Read);
+                }
+                *retries -= 1;
+            }
+        }
+    }
+}

@@ -1,0 +1,14 @@
+use Rattle.std.proofs.Common.{arith}
+use Rattle.mime_store.proofs.Lists.{list_grew, list_numbers}
+use Rattle.mime_store.proofs.bytes.append_list.Goals as goal
+
+pub returns-clause-grew : goal.returns-clause-grew
+returns-clause-grew c =
+    list_grew c.args.out.now.items c.append_card.new.out.items _ c.args.count c.args.numbers.now
+    c.in_ok-append_card.ensures c.in_ok-append_cards.ensures
+
+pub returns-clause-numbers : goal.returns-clause-numbers
+returns-clause-numbers c =
+    list_numbers c.args.out.now.items c.append_card.new.out.items _ c.args.count _ c.args.numbers.now c.requires.begun
+    c.place_of-at.ensures (λ k. omega (arith, c.type_inv.numbers k)) c.in_ok-append_card.ensures
+    c.in_ok-append_cards.ensures

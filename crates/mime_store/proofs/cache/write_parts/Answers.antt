@@ -1,0 +1,380 @@
+use Rattle.std.proofs.Common.{arith, ◌∙◌}
+use Rattle.mime_base.specs.Format.Header.{Offsets}
+use Rattle.mime_store.proofs.Spelling.{cache_length, cache_spells, kept_length}
+use Rattle.mime_store.proofs.Packing.{room_packs}
+use Rattle.mime_store.proofs.Spelled.{parts_room-is}
+use Rattle.mime_store.proofs.Written.{grew_length}
+use Rattle.mime_store.proofs.cache.write_parts.Goals as goal
+
+pub write_pairs-requires-clause-room : goal.write_pairs-requires-clause-room
+write_pairs-requires-clause-room c =
+    rw c.deref.ensures.value (omega (
+      arith,
+      c.requires.room,
+      parts_room-is c.args.parts.now c.args.runs.now c.args.database.now c.requires.parts c.requires.runs,
+      kept_length _ _ c.new-out.ensures.items c.in_ok-append_zeros.ensures,
+    ))
+
+pub write_pairs-requires-clause-begun : goal.write_pairs-requires-clause-begun
+write_pairs-requires-clause-begun c =
+    omega (
+      arith,
+      kept_length _ _ c.new-out.ensures.items c.in_ok-append_zeros.ensures,
+    )
+
+pub write_parents-requires-clause-room : goal.write_parents-requires-clause-room
+write_parents-requires-clause-room c =
+    omega (
+      arith,
+      c.requires.room,
+      parts_room-is c.args.parts.now c.args.runs.now c.args.database.now c.requires.parts c.requires.runs,
+      kept_length _ _ c.new-out.ensures.items c.in_ok-append_zeros.ensures,
+      grew_length _ _ _ (rw c.deref.ensures.value at c.in_ok-aliases.ensures.grew),
+    )
+
+pub write_parents-requires-clause-begun : goal.write_parents-requires-clause-begun
+write_parents-requires-clause-begun c =
+    omega (
+      arith,
+      kept_length _ _ c.new-out.ensures.items c.in_ok-append_zeros.ensures,
+      grew_length _ _ _ (rw c.deref.ensures.value at c.in_ok-aliases.ensures.grew),
+    )
+
+pub write_rules-requires-clause-room : goal.write_rules-requires-clause-room
+write_rules-requires-clause-room c =
+    rw c.deref-2.ensures.value (omega (
+      arith,
+      c.requires.room,
+      parts_room-is c.args.parts.now c.args.runs.now c.args.database.now c.requires.parts c.requires.runs,
+      kept_length _ _ c.new-out.ensures.items c.in_ok-append_zeros.ensures,
+      grew_length _ _ _ (rw c.deref.ensures.value at c.in_ok-aliases.ensures.grew),
+      grew_length _ _ _ c.in_ok-parents.ensures.grew,
+    ))
+
+pub write_rules-requires-clause-begun : goal.write_rules-requires-clause-begun
+write_rules-requires-clause-begun c =
+    omega (
+      arith,
+      kept_length _ _ c.new-out.ensures.items c.in_ok-append_zeros.ensures,
+      grew_length _ _ _ (rw c.deref.ensures.value at c.in_ok-aliases.ensures.grew),
+      grew_length _ _ _ c.in_ok-parents.ensures.grew,
+    )
+
+pub write_tree-requires-clause-room : goal.write_tree-requires-clause-room
+write_tree-requires-clause-room c =
+    rw c.deref-3.ensures.value (omega (
+      arith,
+      c.requires.room,
+      parts_room-is c.args.parts.now c.args.runs.now c.args.database.now c.requires.parts c.requires.runs,
+      kept_length _ _ c.new-out.ensures.items c.in_ok-append_zeros.ensures,
+      grew_length _ _ _ (rw c.deref.ensures.value at c.in_ok-aliases.ensures.grew),
+      grew_length _ _ _ c.in_ok-parents.ensures.grew,
+      grew_length _ _ _ (rw c.deref-2.ensures.value at c.in_ok-literals.ensures.grew),
+    ))
+
+pub write_tree-requires-clause-begun : goal.write_tree-requires-clause-begun
+write_tree-requires-clause-begun c =
+    omega (
+      arith,
+      kept_length _ _ c.new-out.ensures.items c.in_ok-append_zeros.ensures,
+      grew_length _ _ _ (rw c.deref.ensures.value at c.in_ok-aliases.ensures.grew),
+      grew_length _ _ _ c.in_ok-parents.ensures.grew,
+      grew_length _ _ _ (rw c.deref-2.ensures.value at c.in_ok-literals.ensures.grew),
+    )
+
+pub write_rules-requires-2-clause-room : goal.write_rules-requires-2-clause-room
+write_rules-requires-2-clause-room c =
+    rw c.deref-4.ensures.value (omega (
+      arith,
+      c.requires.room,
+      parts_room-is c.args.parts.now c.args.runs.now c.args.database.now c.requires.parts c.requires.runs,
+      kept_length _ _ c.new-out.ensures.items c.in_ok-append_zeros.ensures,
+      grew_length _ _ _ (rw c.deref.ensures.value at c.in_ok-aliases.ensures.grew),
+      grew_length _ _ _ c.in_ok-parents.ensures.grew,
+      grew_length _ _ _ (rw c.deref-2.ensures.value at c.in_ok-literals.ensures.grew),
+      grew_length _ _ _ (rw c.deref-3.ensures.value at c.in_ok-tree.ensures.grew),
+    ))
+
+pub write_rules-requires-2-clause-begun : goal.write_rules-requires-2-clause-begun
+write_rules-requires-2-clause-begun c =
+    omega (
+      arith,
+      kept_length _ _ c.new-out.ensures.items c.in_ok-append_zeros.ensures,
+      grew_length _ _ _ (rw c.deref.ensures.value at c.in_ok-aliases.ensures.grew),
+      grew_length _ _ _ c.in_ok-parents.ensures.grew,
+      grew_length _ _ _ (rw c.deref-2.ensures.value at c.in_ok-literals.ensures.grew),
+      grew_length _ _ _ (rw c.deref-3.ensures.value at c.in_ok-tree.ensures.grew),
+    )
+
+pub write_magic-requires-clause-room : goal.write_magic-requires-clause-room
+write_magic-requires-clause-room c =
+    rw c.deref-5.ensures.value (omega (
+      arith,
+      c.requires.room,
+      parts_room-is c.args.parts.now c.args.runs.now c.args.database.now c.requires.parts c.requires.runs,
+      kept_length _ _ c.new-out.ensures.items c.in_ok-append_zeros.ensures,
+      grew_length _ _ _ (rw c.deref.ensures.value at c.in_ok-aliases.ensures.grew),
+      grew_length _ _ _ c.in_ok-parents.ensures.grew,
+      grew_length _ _ _ (rw c.deref-2.ensures.value at c.in_ok-literals.ensures.grew),
+      grew_length _ _ _ (rw c.deref-3.ensures.value at c.in_ok-tree.ensures.grew),
+      grew_length _ _ _ (rw c.deref-4.ensures.value at c.in_ok-globs.ensures.grew),
+    ))
+
+pub write_magic-requires-clause-begun : goal.write_magic-requires-clause-begun
+write_magic-requires-clause-begun c =
+    omega (
+      arith,
+      kept_length _ _ c.new-out.ensures.items c.in_ok-append_zeros.ensures,
+      grew_length _ _ _ (rw c.deref.ensures.value at c.in_ok-aliases.ensures.grew),
+      grew_length _ _ _ c.in_ok-parents.ensures.grew,
+      grew_length _ _ _ (rw c.deref-2.ensures.value at c.in_ok-literals.ensures.grew),
+      grew_length _ _ _ (rw c.deref-3.ensures.value at c.in_ok-tree.ensures.grew),
+      grew_length _ _ _ (rw c.deref-4.ensures.value at c.in_ok-globs.ensures.grew),
+    )
+
+pub append_list-requires-clause-room : goal.append_list-requires-clause-room
+append_list-requires-clause-room c =
+    omega (
+      arith,
+      c.requires.room,
+      parts_room-is c.args.parts.now c.args.runs.now c.args.database.now c.requires.parts c.requires.runs,
+      kept_length _ _ c.new-out.ensures.items c.in_ok-append_zeros.ensures,
+      grew_length _ _ _ (rw c.deref.ensures.value at c.in_ok-aliases.ensures.grew),
+      grew_length _ _ _ c.in_ok-parents.ensures.grew,
+      grew_length _ _ _ (rw c.deref-2.ensures.value at c.in_ok-literals.ensures.grew),
+      grew_length _ _ _ (rw c.deref-3.ensures.value at c.in_ok-tree.ensures.grew),
+      grew_length _ _ _ (rw c.deref-4.ensures.value at c.in_ok-globs.ensures.grew),
+      grew_length _ _ _ (rw c.deref-5.ensures.value at c.in_ok-magic.ensures.grew),
+    )
+
+pub append_list-requires-clause-begun : goal.append_list-requires-clause-begun
+append_list-requires-clause-begun c =
+    omega (
+      arith,
+      kept_length _ _ c.new-out.ensures.items c.in_ok-append_zeros.ensures,
+      grew_length _ _ _ (rw c.deref.ensures.value at c.in_ok-aliases.ensures.grew),
+      grew_length _ _ _ c.in_ok-parents.ensures.grew,
+      grew_length _ _ _ (rw c.deref-2.ensures.value at c.in_ok-literals.ensures.grew),
+      grew_length _ _ _ (rw c.deref-3.ensures.value at c.in_ok-tree.ensures.grew),
+      grew_length _ _ _ (rw c.deref-4.ensures.value at c.in_ok-globs.ensures.grew),
+      grew_length _ _ _ (rw c.deref-5.ensures.value at c.in_ok-magic.ensures.grew),
+    )
+
+pub write_pairs-requires-2-clause-room : goal.write_pairs-requires-2-clause-room
+write_pairs-requires-2-clause-room c =
+    rw c.deref-6.ensures.value (omega (
+      arith,
+      c.requires.room,
+      parts_room-is c.args.parts.now c.args.runs.now c.args.database.now c.requires.parts c.requires.runs,
+      kept_length _ _ c.new-out.ensures.items c.in_ok-append_zeros.ensures,
+      grew_length _ _ _ (rw c.deref.ensures.value at c.in_ok-aliases.ensures.grew),
+      grew_length _ _ _ c.in_ok-parents.ensures.grew,
+      grew_length _ _ _ (rw c.deref-2.ensures.value at c.in_ok-literals.ensures.grew),
+      grew_length _ _ _ (rw c.deref-3.ensures.value at c.in_ok-tree.ensures.grew),
+      grew_length _ _ _ (rw c.deref-4.ensures.value at c.in_ok-globs.ensures.grew),
+      grew_length _ _ _ (rw c.deref-5.ensures.value at c.in_ok-magic.ensures.grew),
+      grew_length _ _ _ c.in_ok-namespaces.ensures.grew,
+    ))
+
+pub write_pairs-requires-2-clause-begun : goal.write_pairs-requires-2-clause-begun
+write_pairs-requires-2-clause-begun c =
+    omega (
+      arith,
+      kept_length _ _ c.new-out.ensures.items c.in_ok-append_zeros.ensures,
+      grew_length _ _ _ (rw c.deref.ensures.value at c.in_ok-aliases.ensures.grew),
+      grew_length _ _ _ c.in_ok-parents.ensures.grew,
+      grew_length _ _ _ (rw c.deref-2.ensures.value at c.in_ok-literals.ensures.grew),
+      grew_length _ _ _ (rw c.deref-3.ensures.value at c.in_ok-tree.ensures.grew),
+      grew_length _ _ _ (rw c.deref-4.ensures.value at c.in_ok-globs.ensures.grew),
+      grew_length _ _ _ (rw c.deref-5.ensures.value at c.in_ok-magic.ensures.grew),
+      grew_length _ _ _ c.in_ok-namespaces.ensures.grew,
+    )
+
+pub write_pairs-requires-3-clause-room : goal.write_pairs-requires-3-clause-room
+write_pairs-requires-3-clause-room c =
+    rw c.deref-7.ensures.value (omega (
+      arith,
+      c.requires.room,
+      parts_room-is c.args.parts.now c.args.runs.now c.args.database.now c.requires.parts c.requires.runs,
+      kept_length _ _ c.new-out.ensures.items c.in_ok-append_zeros.ensures,
+      grew_length _ _ _ (rw c.deref.ensures.value at c.in_ok-aliases.ensures.grew),
+      grew_length _ _ _ c.in_ok-parents.ensures.grew,
+      grew_length _ _ _ (rw c.deref-2.ensures.value at c.in_ok-literals.ensures.grew),
+      grew_length _ _ _ (rw c.deref-3.ensures.value at c.in_ok-tree.ensures.grew),
+      grew_length _ _ _ (rw c.deref-4.ensures.value at c.in_ok-globs.ensures.grew),
+      grew_length _ _ _ (rw c.deref-5.ensures.value at c.in_ok-magic.ensures.grew),
+      grew_length _ _ _ c.in_ok-namespaces.ensures.grew,
+      grew_length _ _ _ (rw c.deref-6.ensures.value at c.in_ok-icons.ensures.grew),
+    ))
+
+pub write_pairs-requires-3-clause-begun : goal.write_pairs-requires-3-clause-begun
+write_pairs-requires-3-clause-begun c =
+    omega (
+      arith,
+      kept_length _ _ c.new-out.ensures.items c.in_ok-append_zeros.ensures,
+      grew_length _ _ _ (rw c.deref.ensures.value at c.in_ok-aliases.ensures.grew),
+      grew_length _ _ _ c.in_ok-parents.ensures.grew,
+      grew_length _ _ _ (rw c.deref-2.ensures.value at c.in_ok-literals.ensures.grew),
+      grew_length _ _ _ (rw c.deref-3.ensures.value at c.in_ok-tree.ensures.grew),
+      grew_length _ _ _ (rw c.deref-4.ensures.value at c.in_ok-globs.ensures.grew),
+      grew_length _ _ _ (rw c.deref-5.ensures.value at c.in_ok-magic.ensures.grew),
+      grew_length _ _ _ c.in_ok-namespaces.ensures.grew,
+      grew_length _ _ _ (rw c.deref-6.ensures.value at c.in_ok-icons.ensures.grew),
+    )
+
+pub write_tree-requires-clause-rises : goal.write_tree-requires-clause-rises
+write_tree-requires-clause-rises c = rw c.deref-3.ensures.value c.requires.parts.endings.rises
+
+pub patch-requires : goal.patch-requires
+patch-requires c =
+    omega (
+      arith,
+      kept_length _ _ c.new-out.ensures.items c.in_ok-append_zeros.ensures,
+      grew_length _ _ _ (rw c.deref.ensures.value at c.in_ok-aliases.ensures.grew),
+      grew_length _ _ _ c.in_ok-parents.ensures.grew,
+      grew_length _ _ _ (rw c.deref-2.ensures.value at c.in_ok-literals.ensures.grew),
+      grew_length _ _ _ (rw c.deref-3.ensures.value at c.in_ok-tree.ensures.grew),
+      grew_length _ _ _ (rw c.deref-4.ensures.value at c.in_ok-globs.ensures.grew),
+      grew_length _ _ _ (rw c.deref-5.ensures.value at c.in_ok-magic.ensures.grew),
+      grew_length _ _ _ c.in_ok-namespaces.ensures.grew,
+      grew_length _ _ _ (rw c.deref-6.ensures.value at c.in_ok-icons.ensures.grew),
+      grew_length _ _ _ (rw c.deref-7.ensures.value at c.in_ok-generic_icons.ensures.grew),
+    )
+
+pub returns-clause-long : goal.returns-clause-long
+returns-clause-long c =
+    cache_length c.write_pairs-3.new.out.items _ (record {
+      aliases = c.in_ok-aliases.aliases;
+      parents = c.in_ok-parents.parents;
+      literals = c.in_ok-literals.literals;
+      tree = c.in_ok-tree.tree;
+      globs = c.in_ok-globs.globs;
+      magic = c.in_ok-magic.magic;
+      namespaces = c.in_ok-namespaces.namespaces;
+      icons = c.in_ok-icons.icons;
+      generic_icons = c.in_ok-generic_icons.generic_icons;
+    }) (omega (
+      arith,
+      kept_length _ _ c.new-out.ensures.items c.in_ok-append_zeros.ensures,
+      grew_length _ _ _ (rw c.deref.ensures.value at c.in_ok-aliases.ensures.grew),
+      grew_length _ _ _ c.in_ok-parents.ensures.grew,
+      grew_length _ _ _ (rw c.deref-2.ensures.value at c.in_ok-literals.ensures.grew),
+      grew_length _ _ _ (rw c.deref-3.ensures.value at c.in_ok-tree.ensures.grew),
+      grew_length _ _ _ (rw c.deref-4.ensures.value at c.in_ok-globs.ensures.grew),
+      grew_length _ _ _ (rw c.deref-5.ensures.value at c.in_ok-magic.ensures.grew),
+      grew_length _ _ _ c.in_ok-namespaces.ensures.grew,
+      grew_length _ _ _ (rw c.deref-6.ensures.value at c.in_ok-icons.ensures.grew),
+      grew_length _ _ _ (rw c.deref-7.ensures.value at c.in_ok-generic_icons.ensures.grew),
+    )) c.patch.ensures.after ∙ omega (
+      arith,
+      parts_room-is c.args.parts.now c.args.runs.now c.args.database.now c.requires.parts c.requires.runs,
+      kept_length _ _ c.new-out.ensures.items c.in_ok-append_zeros.ensures,
+      grew_length _ _ _ (rw c.deref.ensures.value at c.in_ok-aliases.ensures.grew),
+      grew_length _ _ _ c.in_ok-parents.ensures.grew,
+      grew_length _ _ _ (rw c.deref-2.ensures.value at c.in_ok-literals.ensures.grew),
+      grew_length _ _ _ (rw c.deref-3.ensures.value at c.in_ok-tree.ensures.grew),
+      grew_length _ _ _ (rw c.deref-4.ensures.value at c.in_ok-globs.ensures.grew),
+      grew_length _ _ _ (rw c.deref-5.ensures.value at c.in_ok-magic.ensures.grew),
+      grew_length _ _ _ c.in_ok-namespaces.ensures.grew,
+      grew_length _ _ _ (rw c.deref-6.ensures.value at c.in_ok-icons.ensures.grew),
+      grew_length _ _ _ (rw c.deref-7.ensures.value at c.in_ok-generic_icons.ensures.grew),
+    )
+
+pub returns-clause-packed : goal.returns-clause-packed
+returns-clause-packed c =
+    room_packs _ _ (cache_length c.write_pairs-3.new.out.items _ (record {
+      aliases = c.in_ok-aliases.aliases;
+      parents = c.in_ok-parents.parents;
+      literals = c.in_ok-literals.literals;
+      tree = c.in_ok-tree.tree;
+      globs = c.in_ok-globs.globs;
+      magic = c.in_ok-magic.magic;
+      namespaces = c.in_ok-namespaces.namespaces;
+      icons = c.in_ok-icons.icons;
+      generic_icons = c.in_ok-generic_icons.generic_icons;
+    }) (omega (
+      arith,
+      kept_length _ _ c.new-out.ensures.items c.in_ok-append_zeros.ensures,
+      grew_length _ _ _ (rw c.deref.ensures.value at c.in_ok-aliases.ensures.grew),
+      grew_length _ _ _ c.in_ok-parents.ensures.grew,
+      grew_length _ _ _ (rw c.deref-2.ensures.value at c.in_ok-literals.ensures.grew),
+      grew_length _ _ _ (rw c.deref-3.ensures.value at c.in_ok-tree.ensures.grew),
+      grew_length _ _ _ (rw c.deref-4.ensures.value at c.in_ok-globs.ensures.grew),
+      grew_length _ _ _ (rw c.deref-5.ensures.value at c.in_ok-magic.ensures.grew),
+      grew_length _ _ _ c.in_ok-namespaces.ensures.grew,
+      grew_length _ _ _ (rw c.deref-6.ensures.value at c.in_ok-icons.ensures.grew),
+      grew_length _ _ _ (rw c.deref-7.ensures.value at c.in_ok-generic_icons.ensures.grew),
+    )) c.patch.ensures.after ∙ omega (
+      arith,
+      parts_room-is c.args.parts.now c.args.runs.now c.args.database.now c.requires.parts c.requires.runs,
+      kept_length _ _ c.new-out.ensures.items c.in_ok-append_zeros.ensures,
+      grew_length _ _ _ (rw c.deref.ensures.value at c.in_ok-aliases.ensures.grew),
+      grew_length _ _ _ c.in_ok-parents.ensures.grew,
+      grew_length _ _ _ (rw c.deref-2.ensures.value at c.in_ok-literals.ensures.grew),
+      grew_length _ _ _ (rw c.deref-3.ensures.value at c.in_ok-tree.ensures.grew),
+      grew_length _ _ _ (rw c.deref-4.ensures.value at c.in_ok-globs.ensures.grew),
+      grew_length _ _ _ (rw c.deref-5.ensures.value at c.in_ok-magic.ensures.grew),
+      grew_length _ _ _ c.in_ok-namespaces.ensures.grew,
+      grew_length _ _ _ (rw c.deref-6.ensures.value at c.in_ok-icons.ensures.grew),
+      grew_length _ _ _ (rw c.deref-7.ensures.value at c.in_ok-generic_icons.ensures.grew),
+    ))
+
+pub returns-clause-spells : goal.returns-clause-spells
+returns-clause-spells c =
+    let offsets : Offsets = record {
+      aliases = c.in_ok-aliases.aliases;
+      parents = c.in_ok-parents.parents;
+      literals = c.in_ok-literals.literals;
+      tree = c.in_ok-tree.tree;
+      globs = c.in_ok-globs.globs;
+      magic = c.in_ok-magic.magic;
+      namespaces = c.in_ok-namespaces.namespaces;
+      icons = c.in_ok-icons.icons;
+      generic_icons = c.in_ok-generic_icons.generic_icons;
+    } in
+    cache_spells _ _ _ _ _ _ _ _ _ _ c.args.parts.now _ c.args.database.now offsets _ _ _ _ _ _ _ _ c.requires.parts c.requires.runs
+    (rw c.deref.ensures.value at c.in_ok-aliases.ensures.stands)
+    c.in_ok-parents.ensures.grew
+    c.in_ok-parents.ensures.stands
+    (rw c.deref-2.ensures.value at c.in_ok-literals.ensures.grew)
+    (rw c.deref-2.ensures.value at c.in_ok-literals.ensures.stands)
+    (rw c.deref-3.ensures.value at c.in_ok-tree.ensures.grew)
+    (rw c.deref-3.ensures.value at c.in_ok-tree.ensures.stands)
+    (rw c.deref-4.ensures.value at c.in_ok-globs.ensures.grew)
+    (rw c.deref-4.ensures.value at c.in_ok-globs.ensures.stands)
+    (rw c.deref-5.ensures.value at c.in_ok-magic.ensures.grew)
+    (rw c.deref-5.ensures.value at c.in_ok-magic.ensures.stands)
+    c.in_ok-namespaces.ensures.grew
+    (rw c.deref-6.ensures.value at c.in_ok-icons.ensures.grew)
+    (rw c.deref-6.ensures.value at c.in_ok-icons.ensures.stands)
+    (rw c.deref-7.ensures.value at c.in_ok-generic_icons.ensures.grew)
+    (rw c.deref-7.ensures.value at c.in_ok-generic_icons.ensures.stands)
+    c.patch.ensures.after c.patch.ensures.stand
+    (omega (
+      arith,
+      c.requires.room,
+      parts_room-is c.args.parts.now c.args.runs.now c.args.database.now c.requires.parts c.requires.runs,
+      cache_length c.write_pairs-3.new.out.items _ offsets (omega (
+        arith,
+        kept_length _ _ c.new-out.ensures.items c.in_ok-append_zeros.ensures,
+        grew_length _ _ _ (rw c.deref.ensures.value at c.in_ok-aliases.ensures.grew),
+        grew_length _ _ _ c.in_ok-parents.ensures.grew,
+        grew_length _ _ _ (rw c.deref-2.ensures.value at c.in_ok-literals.ensures.grew),
+        grew_length _ _ _ (rw c.deref-3.ensures.value at c.in_ok-tree.ensures.grew),
+        grew_length _ _ _ (rw c.deref-4.ensures.value at c.in_ok-globs.ensures.grew),
+        grew_length _ _ _ (rw c.deref-5.ensures.value at c.in_ok-magic.ensures.grew),
+        grew_length _ _ _ c.in_ok-namespaces.ensures.grew,
+        grew_length _ _ _ (rw c.deref-6.ensures.value at c.in_ok-icons.ensures.grew),
+        grew_length _ _ _ (rw c.deref-7.ensures.value at c.in_ok-generic_icons.ensures.grew),
+      )) c.patch.ensures.after,
+      kept_length _ _ c.new-out.ensures.items c.in_ok-append_zeros.ensures,
+      grew_length _ _ _ (rw c.deref.ensures.value at c.in_ok-aliases.ensures.grew),
+      grew_length _ _ _ c.in_ok-parents.ensures.grew,
+      grew_length _ _ _ (rw c.deref-2.ensures.value at c.in_ok-literals.ensures.grew),
+      grew_length _ _ _ (rw c.deref-3.ensures.value at c.in_ok-tree.ensures.grew),
+      grew_length _ _ _ (rw c.deref-4.ensures.value at c.in_ok-globs.ensures.grew),
+      grew_length _ _ _ (rw c.deref-5.ensures.value at c.in_ok-magic.ensures.grew),
+      grew_length _ _ _ c.in_ok-namespaces.ensures.grew,
+      grew_length _ _ _ (rw c.deref-6.ensures.value at c.in_ok-icons.ensures.grew),
+      grew_length _ _ _ (rw c.deref-7.ensures.value at c.in_ok-generic_icons.ensures.grew),
+    ))

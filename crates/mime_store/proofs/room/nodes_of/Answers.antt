@@ -1,0 +1,18 @@
+use Rattle.std.proofs.Common.{arith}
+use Rattle.mime_store.proofs.EntryRooms.{common-is}
+use Rattle.mime_store.proofs.room.nodes_of.Goals as goal
+
+pub returns-clause-nodes : goal.returns-clause-nodes
+returns-clause-nodes c =
+    omega (
+      arith,
+      rw c.deref.ensures.value at c.common_length.ensures.common,
+      c.len.ensures,
+      c.args.ending.now.path.ok.0,
+      common-is c.args.before.now c.args.ending.now.path.items,
+    )
+
+pub returns-clause-few : goal.returns-clause-few
+returns-clause-few c =
+    let short = c.args.ending.now.short in
+    omega (arith, short, c.len.ensures, c.args.ending.now.path.ok.0)

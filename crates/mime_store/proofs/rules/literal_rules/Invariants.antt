@@ -1,0 +1,7 @@
+use Rattle.std.proofs.Common.{◌≡◌, map, take}
+use Rattle.mime_base.specs.Format.Stored.{literal_rules}
+use Rattle.mime_store.specs.Views.{rule_of}
+use Rattle.mime_store.proofs.rules.literal_rules.Given as goal
+
+abbrev pub invariant-loop-rule : goal.invariant-loop-rule
+invariant-loop-rule l = map rule_of l.found.items ≡ literal_rules (take l.rule-index l.rules)

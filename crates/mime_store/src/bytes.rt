@@ -1,0 +1,131 @@
+//! Numbers, texts and values at the end of the bytes of a cache.
+//!
+//! That numbers are big-endian and texts end in a zero byte is the public specification's. Each text and
+//! value begins at a multiple of 4, which readers that map the file into memory want.
+
+ghost use Rattle.std.specs.Prelude.{◌≡◌, true, ◌+◌, ◌-◌, ◌*◌, ◌^◌, ◌<◌, ◌≤◌, [], ◌∷◌, ◌++◌, length, drop, replicate, OnOk, IfOk};
+ghost use Rattle.mime_base.specs.Cache.Bytes.{AreCards, Stands, card_bytes, cards};
+ghost use Rattle.mime_base.specs.Format.Records.{CardsAt, TextAt};
+ghost use Rattle.mime_base.specs.Format.Room.{padded, text_room};
+ghost use Rattle.mime_store.specs.Paths.{fits_text};
+ghost use Rattle.mime_store.specs.Written.{Grew, Written};
+
+use byteorder::{BigEndian, ByteOrder};
+use mime_base::OutOfMemory;
+
+/// Numbers of 32 bits, one after another; answers where the first stands.
+pub fn append_numbers(out: &mut Vec<u8>, numbers: &[u32]) -> Result<u32, OutOfMemory>
+    requires room { length out.old.items + 4 * length numbers.now < 2 ^ 32 }
+    requires begun { 40 ≤ length out.old.items }
+    ensures grew { OnOk result (Grew out.old.items out.new.items (4 * length numbers.now)) }
+    ensures stand { IfOk result (λ at. CardsAt (Written out.new.items) at numbers.now) }
+{
+    let at = place_of(out);
+    append_cards(out, numbers)?;
+    Ok(at)
+}
+
+/// A count, and the numbers of so many records after it; answers where the count stands.
+pub fn append_list(out: &mut Vec<u8>, count: u32, numbers: &[u32]) -> Result<u32, OutOfMemory>
+    requires room { length out.old.items + (4 + 4 * length numbers.now) < 2 ^ 32 }
+    requires begun { 40 ≤ length out.old.items }
+    ensures grew { OnOk result (Grew out.old.items out.new.items (4 + 4 * length numbers.now)) }
+    ensures count { IfOk result (λ at. CardsAt (Written out.new.items) at (count ∷ [])) }
+    ensures numbers { IfOk result (λ at. CardsAt (Written out.new.items) (at + 4) numbers.now) }
+{
+    let at = place_of(out);
+    append_card(out, count)?;
+    append_cards(out, numbers)?;
+    Ok(at)
+}
+
+/// Bytes, and zeros up to a multiple of 4; answers where the bytes stand.
+pub fn append_value(out: &mut Vec<u8>, bytes: &[u8]) -> Result<u32, OutOfMemory>
+    requires room { length out.old.items + padded (length bytes.now) < 2 ^ 32 }
+    requires begun { 40 ≤ length out.old.items }
+    ensures grew { OnOk result (Grew out.old.items out.new.items (padded (length bytes.now))) }
+    ensures stands { IfOk result (λ at. Written out.new.items at bytes.now) }
+{
+    let at = place_of(out);
+    out.extend_from_slice(bytes)?;
+    append_zeros(out, padding(bytes.len()))?;
+    Ok(at)
+}
+
+/// A text, its zero, and zeros up to a multiple of 4; answers where the text stands.
+pub fn append_text(out: &mut Vec<u8>, text: &[u8]) -> Result<u32, OutOfMemory>
+    requires room { length out.old.items + text_room text.now < 2 ^ 32 }
+    requires begun { 40 ≤ length out.old.items }
+    requires fits { fits_text text.now ≡ true }
+    ensures grew { OnOk result (Grew out.old.items out.new.items (text_room text.now)) }
+    ensures stands { IfOk result (λ at. TextAt (Written out.new.items) at text.now) }
+{
+    let at = place_of(out);
+    out.extend_from_slice(text)?;
+    out.push(0)?;
+    append_zeros(out, padding(text.len() + 1))?;
+    Ok(at)
+}
+
+/// Numbers of 32 bits in place of the first bytes.
+pub fn patch(out: &mut Vec<u8>, numbers: &[u32])
+    requires { 4 * length numbers.now ≤ length out.old.items }
+    ensures after { out.new.items ≡ cards numbers.now ++ drop (4 * length numbers.now) out.old.items }
+    ensures stand { CardsAt (Stands out.new.items) 0 numbers.now }
+{
+    overwrite(out, numbers);
+}
+
+/// Zeros.
+pub fn append_zeros(out: &mut Vec<u8>, count: usize) -> Result<(), OutOfMemory>
+    ensures { OnOk result (out.new.items ≡ out.old.items ++ replicate count 0) }
+{
+    for _ in 0..count {
+        out.push(0)?;
+    }
+    Ok(())
+}
+
+/// How many bytes are missing to a multiple of 4.
+pub fn padding(count: usize) -> usize
+    requires { count < 2 ^ 33 }
+    ensures { result ≡ padded count - count }
+{
+    (4 - count % 4) % 4
+}
+
+/// Where the next byte goes.
+fn place_of(out: &Vec<u8>) -> u32
+    requires { length out.now.items < 2 ^ 32 }
+    ensures { result ≡ length out.now.items }
+{
+    out.len() as u32
+}
+
+#[tactic(auto, unfolding(mime_base::specs::Cache::Bytes::card_bytes))]
+fn append_card(out: &mut Vec<u8>, number: u32) -> Result<(), OutOfMemory>
+    ensures { OnOk result (out.new.items ≡ out.old.items ++ card_bytes number) }
+{
+    let mut bytes = [0u8; 4];
+    BigEndian::write_u32(&mut bytes, number);
+    out.extend_from_slice(&bytes)?;
+    Ok(())
+}
+
+fn append_cards(out: &mut Vec<u8>, numbers: &[u32]) -> Result<(), OutOfMemory>
+    ensures { OnOk result (out.new.items ≡ out.old.items ++ cards numbers.now) }
+{
+    for number in numbers {
+        append_card(out, *number)?;
+    }
+    Ok(())
+}
+
+#[tactic(auto, unfolding(mime_base::specs::Cache::Bytes::card_bytes))]
+fn overwrite(out: &mut [u8], numbers: &[u32])
+    requires { 4 * length numbers.now ≤ length out.old }
+    ensures after { out.new ≡ cards numbers.now ++ drop (4 * length numbers.now) out.old }
+    ensures are { AreCards numbers.now }
+{
+    BigEndian::write_u32_into(numbers, &mut out[..4 * numbers.len()]);
+}

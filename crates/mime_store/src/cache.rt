@@ -1,0 +1,142 @@
+//! The whole cache.
+//!
+//! It is written from the bottom: what a record points to stands before the record, so that each offset is
+//! known when it is written. The 40 bytes of the header are kept free first and written last.
+
+ghost use Rattle.std.specs.Prelude.{◌≡◌, ◌↔◌, ◌+◌, ◌^◌, ◌<◌, ◌≤◌, length, map, min, IfErr, IfOk, IsTrue, MatchOption};
+ghost use Rattle.mime_base.specs.Database.{plain_database};
+ghost use Rattle.mime_base.specs.Format.Packed.{Packed};
+ghost use Rattle.mime_base.specs.Format.Room.{room};
+ghost use Rattle.mime_base.specs.Format.Spells.{Spells, cache_limit};
+ghost use Rattle.mime_store.specs.Parts.{AreParts, parts_room};
+ghost use Rattle.mime_store.specs.Runs.{AreRuns, plain_run};
+ghost use Rattle.mime_store.specs.Views.{texts};
+
+use crate::bytes::{append_list, append_zeros, patch};
+use crate::fault::StoreFault;
+use crate::globs::write_rules;
+use crate::magic::write_magic;
+use crate::pairs::write_pairs;
+use crate::parents::{runs, write_parents};
+use crate::parts::{Parts, parts_of};
+use crate::room::{take_pairs, take_rules, take_runs, take_sections, take_tree};
+use crate::run::Run;
+use crate::suffix_tree::write_tree;
+use mime_base::{Database, OutOfMemory};
+use std::alloc::Global;
+
+/// The most bytes that a cache may have.
+const CACHE_LIMIT: usize = 268_435_456;
+
+/// The version 1.2: two numbers of 16 bits, as one of 32.
+const VERSION: u32 = 65_538;
+
+/// The bytes of the header.
+const HEADER_LENGTH: usize = 40;
+
+/// The bytes of the header, of all counts and of all heads.
+const FIXED_ROOM: usize = 88;
+
+/// The cache that spells a database, of at most `limit` bytes.
+///
+/// It is refused as [`StoreFault::TooLarge`] where the database, its texts not shared, takes more than
+/// `limit` bytes, or than the 268,435,456 that a cache may have. The same database gives the same bytes.
+pub fn write_cache(alloc: Global, database: &Database, limit: usize) -> Result<Vec<u8>, StoreFault>
+    ensures spells { IfOk result (λ cache. Spells cache.items (plain_database database.now)) }
+    ensures packed { IfOk result (λ cache. Packed cache.items (plain_database database.now)) }
+    ensures long { IfOk result (λ cache. length cache.items ≤ room (plain_database database.now)) }
+    ensures fits { IfOk result (λ cache. room (plain_database database.now) ≤ min limit cache_limit) }
+    ensures too_large { IfErr result
+        (λ fault. fault ≡ StoreFault.TooLarge → min limit cache_limit < room (plain_database database.now)) }
+{
+    let parts = parts_of(alloc, database)?;
+    let runs = runs(alloc, &parts.parents)?;
+    if !fits(lesser(limit, CACHE_LIMIT), database, &parts, &runs) {
+        return Err(StoreFault::TooLarge);
+    }
+    let cache = write_parts(alloc, database, &parts, &runs)?;
+    Ok(cache)
+}
+
+fn lesser(left: usize, right: usize) -> usize
+    ensures { result ≡ min left right }
+{
+    if left < right { left } else { right }
+}
+
+/// Whether a database takes at most so many bytes.
+fn fits(limit: usize, database: &Database, parts: &Parts<'_>, runs: &[Run<'_, '_>]) -> bool
+    requires parts { AreParts parts.now database.now }
+    requires runs { AreRuns (map plain_run runs.now) (map texts parts.now.parents.items) }
+    requires small { limit < 2 ^ 32 }
+    ensures { IsTrue result ↔ (room (plain_database database.now) ≤ limit) }
+{
+    take_room(limit, database, parts, runs).is_some()
+}
+
+fn take_room(
+    left: usize,
+    database: &Database,
+    parts: &Parts<'_>,
+    runs: &[Run<'_, '_>],
+) -> Option<usize>
+    requires { left < 2 ^ 32 }
+    ensures { MatchOption result (left < parts_room parts.now runs.now database.now.sections.items)
+        (λ rest. rest + parts_room parts.now runs.now database.now.sections.items ≡ left) }
+{
+    let left = left.checked_sub(FIXED_ROOM)?;
+    let left = take_pairs(left, &parts.aliases)?;
+    let left = take_runs(left, runs)?;
+    let left = take_rules(left, &parts.literals)?;
+    let left = take_tree(left, &parts.endings)?;
+    let left = take_rules(left, &parts.globs)?;
+    let left = take_sections(left, &database.sections)?;
+    let left = take_pairs(left, &parts.icons)?;
+    take_pairs(left, &parts.generic_icons)
+}
+
+/// The parts, and then the header in the place that was kept for it.
+fn write_parts(
+    alloc: Global,
+    database: &Database,
+    parts: &Parts<'_>,
+    runs: &[Run<'_, '_>],
+) -> Result<Vec<u8>, OutOfMemory>
+    requires parts { AreParts parts.now database.now }
+    requires runs { AreRuns (map plain_run runs.now) (map texts parts.now.parents.items) }
+    requires room { room (plain_database database.now) ≤ cache_limit }
+    ensures spells { IfOk result (λ cache. Spells cache.items (plain_database database.now)) }
+    ensures packed { IfOk result (λ cache. Packed cache.items (plain_database database.now)) }
+    ensures long { IfOk result (λ cache. length cache.items ≡ room (plain_database database.now)) }
+{
+    let mut out = Vec::new(alloc);
+    append_zeros(&mut out, HEADER_LENGTH)?;
+    let aliases = write_pairs(alloc, &mut out, &parts.aliases)?;
+    let parents = write_parents(alloc, &mut out, runs)?;
+    let literals = write_rules(alloc, &mut out, &parts.literals)?;
+    let tree = write_tree(alloc, &mut out, &parts.endings)?;
+    let globs = write_rules(alloc, &mut out, &parts.globs)?;
+    let magic = write_magic(alloc, &mut out, &database.sections)?;
+    let namespaces = append_list(&mut out, 0, &[])?;
+    let icons = write_pairs(alloc, &mut out, &parts.icons)?;
+    let generic_icons = write_pairs(alloc, &mut out, &parts.generic_icons)?;
+    patch(
+        &mut out,
+        &[
+            VERSION,
+            aliases,
+            parents,
+            literals,
+            tree,
+            globs,
+            magic,
+            namespaces,
+            icons,
+            generic_icons,
+        ],
+    );
+    Ok(out)
+}
+
+#[cfg(test)]
+mod tests;

@@ -1,0 +1,144 @@
+//! The magic list: sections, their lines as a forest, and how far they look at a content.
+
+ghost use Rattle.std.specs.Prelude.{◌≡◌, ◌+◌, ◌^◌, ◌<◌, ◌≤◌, true, length, max, OnOk, IfOk};
+ghost use Rattle.mime_base.specs.Format.Magic.{IsSection, LinesAt, MagicAt, MaskAt};
+ghost use Rattle.mime_base.specs.Format.Room.{lines_room, mask_room, sections_room};
+ghost use Rattle.mime_base.specs.Magic.Extent.{forest_extent, sections_extent};
+ghost use Rattle.mime_base.specs.Magic.{are_allowed_sections, forest_of, mask_bytes, plain_matchlet, plain_matchlets, plain_section, plain_sections};
+ghost use Rattle.mime_store.specs.Lines.{IsLine, matchlet_extent, parts_room, section_parts_room};
+ghost use Rattle.mime_store.specs.Written.{Grew, Written};
+
+use crate::bytes::{append_numbers, append_text, append_value};
+use mime_base::{Matchlet, OutOfMemory, Section};
+use std::alloc::Global;
+
+/// The sections with all that belongs to them, then the head of the list; answers where the head stands.
+pub fn write_magic(
+    alloc: Global,
+    out: &mut Vec<u8>,
+    sections: &[Section],
+) -> Result<u32, OutOfMemory>
+    requires room { length out.old.items + (12 + sections_room (plain_sections sections.now)) < 2 ^ 32 }
+    requires begun { 40 ≤ length out.old.items }
+    requires allowed { are_allowed_sections (plain_sections sections.now) ≡ true }
+    ensures grew { OnOk result (Grew out.old.items out.new.items (12 + sections_room (plain_sections sections.now))) }
+    ensures stands { IfOk result (λ at. MagicAt (Written out.new.items) at (plain_sections sections.now)) }
+{
+    let mut records = Vec::new(alloc);
+    for section in sections {
+        let record = write_section(alloc, out, section)?;
+        records.extend_from_slice(&record)?;
+    }
+    let first = append_numbers(out, &records)?;
+    let at = append_numbers(
+        out,
+        &[sections.len() as u32, extent(sections) as u32, first],
+    )?;
+    Ok(at)
+}
+
+/// The type of a section and its lines; answers the section's record.
+#[tactic(auto, using(crate::proofs::Fits::type_fits))]
+fn write_section(
+    alloc: Global,
+    out: &mut Vec<u8>,
+    section: &Section,
+) -> Result<[u32; 4], OutOfMemory>
+    requires room { length out.old.items + section_parts_room (plain_section section.now) < 2 ^ 32 }
+    requires begun { 40 ≤ length out.old.items }
+    ensures grew { OnOk result (Grew out.old.items out.new.items (section_parts_room (plain_section section.now))) }
+    ensures row { IfOk result (λ row. IsSection (Written out.new.items) (plain_section section.now) row) }
+{
+    let kind = append_text(out, section.kind.bytes())?;
+    let first = write_lines(alloc, out, &section.lines)?;
+    Ok([section.priority, kind, section.lines.len() as u32, first])
+}
+
+/// What belongs to the lines, then their records; answers where the first one stands.
+#[cycle(lines)]
+fn write_lines(alloc: Global, out: &mut Vec<u8>, lines: &[Matchlet]) -> Result<u32, OutOfMemory>
+    requires room { length out.old.items + lines_room (forest_of (plain_matchlets lines.now)) < 2 ^ 32 }
+    requires begun { 40 ≤ length out.old.items }
+    ensures grew { OnOk result (Grew out.old.items out.new.items (lines_room (forest_of (plain_matchlets lines.now)))) }
+    ensures stand { IfOk result (λ at. LinesAt (Written out.new.items) at (forest_of (plain_matchlets lines.now))) }
+{
+    let mut records = Vec::new(alloc);
+    for line in lines {
+        let record = write_parts(alloc, out, line)?;
+        records.extend_from_slice(&record)?;
+    }
+    let at = append_numbers(out, &records)?;
+    Ok(at)
+}
+
+/// What belongs to a line; answers its record.
+#[cycle(lines)]
+fn write_parts(alloc: Global, out: &mut Vec<u8>, line: &Matchlet) -> Result<[u32; 8], OutOfMemory>
+    requires room { length out.old.items + parts_room (plain_matchlet line.now) < 2 ^ 32 }
+    requires begun { 40 ≤ length out.old.items }
+    ensures grew { OnOk result (Grew out.old.items out.new.items (parts_room (plain_matchlet line.now))) }
+    ensures row { IfOk result (λ row. IsLine (Written out.new.items) (plain_matchlet line.now) row) }
+{
+    let value = append_value(out, &line.value)?;
+    let mask = write_mask(out, &line.mask)?;
+    let first = write_lines(alloc, out, &line.children)?;
+    let length = line.value.len() as u32;
+    let count = line.children.len() as u32;
+    Ok([
+        line.start, line.range, line.word, length, value, mask, count, first,
+    ])
+}
+
+/// The mask, if there is one; answers where it stands, or 0.
+fn write_mask(out: &mut Vec<u8>, mask: &Option<Vec<u8>>) -> Result<u32, OutOfMemory>
+    requires room { length out.old.items + mask_room (mask_bytes mask.now) < 2 ^ 32 }
+    requires begun { 40 ≤ length out.old.items }
+    ensures grew { OnOk result (Grew out.old.items out.new.items (mask_room (mask_bytes mask.now))) }
+    ensures stands { IfOk result (λ at. MaskAt (Written out.new.items) at (mask_bytes mask.now)) }
+{
+    match mask {
+        None => Ok(0),
+        Some(mask) => {
+            let at = append_value(out, mask)?;
+            Ok(at)
+        }
+    }
+}
+
+/// The greatest extent of a section.
+fn extent(sections: &[Section]) -> u64
+    ensures { result ≡ sections_extent (plain_sections sections.now) }
+{
+    let mut greatest = 0;
+    for section in sections {
+        greatest = greater(greatest, extent_of_lines(&section.lines));
+    }
+    greatest
+}
+
+/// The greatest extent of a line, at any depth.
+#[cycle(extents)]
+fn extent_of_lines(lines: &[Matchlet]) -> u64
+    ensures { result ≡ forest_extent (forest_of (plain_matchlets lines.now)) }
+{
+    let mut greatest = 0;
+    for line in lines {
+        greatest = greater(greatest, extent_of_line(line));
+    }
+    greatest
+}
+
+/// How far a line and its children look at a content.
+#[cycle(extents)]
+fn extent_of_line(line: &Matchlet) -> u64
+    ensures { result ≡ matchlet_extent (plain_matchlet line.now) }
+{
+    let own = u64::from(line.start) + u64::from(line.range) + line.value.len() as u64;
+    greater(own, extent_of_lines(&line.children))
+}
+
+fn greater(left: u64, right: u64) -> u64
+    ensures { result ≡ max left right }
+{
+    if left < right { right } else { left }
+}

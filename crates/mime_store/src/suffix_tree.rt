@@ -1,0 +1,171 @@
+//! The reverse suffix tree.
+//!
+//! Its paths are the endings of suffix rules, each from its last byte to its first, so that a reader goes
+//! down from the end of a name and meets the rules of each of its endings once. It is written from the
+//! bottom: over endings that are sorted, a sibling is an ending that ends here, or the run of those that go
+//! on with one byte.
+
+ghost use Rattle.std.specs.Prelude.{◌≡◌, ◌+◌, ◌^◌, ◌<◌, ◌≤◌, [], true, length, map, take, drop, OnOk, IfOk};
+ghost use Rattle.mime_base.specs.Format.Stored.{reversed_ending, tree_rules};
+ghost use Rattle.mime_store.specs.Endings.{AreEndings, ClearOf, IsBlock, Rises, StartAll, TreeOf, Writes, ending_rule, entries_room};
+ghost use Rattle.mime_store.specs.Endings.{entry_at};
+ghost use Rattle.mime_store.specs.Paths.{has_no_zero};
+ghost use Rattle.mime_store.specs.Written.{Grew, Written};
+
+use crate::bytes::{append_numbers, append_text};
+use crate::ending::Ending;
+use crate::rules::{compared, is_in_tree, weight_and_flags};
+use mime_base::{GlobRule, OutOfMemory};
+use std::alloc::Global;
+
+/// How many siblings there are, and where the first one stands.
+#[derive(Clone, Copy)]
+struct Block {
+    count: u32,
+    first: u32,
+}
+
+/// The numbers of a sibling's record, and how many endings it takes.
+#[derive(Clone, Copy)]
+struct Sibling {
+    row: [u32; 3],
+    taken: usize,
+}
+
+/// The suffix rules other than `*`, in merged order.
+#[tactic(auto, using(crate::proofs::Entries::passed_more, crate::proofs::Entries::failed_more))]
+pub fn endings(alloc: Global, rules: &[GlobRule]) -> Result<Vec<Ending<'_>>, OutOfMemory>
+    ensures { IfOk result (λ found. map ending_rule found.items ≡ tree_rules rules.now) }
+{
+    let mut found = Vec::new(alloc);
+    for rule in rules {
+        if is_in_tree(rule) {
+            found.push(ending_of(alloc, rule)?)?;
+        }
+    }
+    Ok(found)
+}
+
+/// Sorts endings by their paths; those of one path stay in merged order.
+pub fn sort_endings(endings: &mut Vec<Ending<'_>>) -> Result<(), OutOfMemory>
+    ensures { OnOk result (AreEndings (map (entry_at 0) endings.new.items) (map ending_rule endings.old.items)) }
+{
+    endings.sort_by(|left, right| left.path.cmp(&right.path))?;
+    Ok(())
+}
+
+/// The tree of sorted endings, then its head; answers where the head stands.
+pub fn write_tree(
+    alloc: Global,
+    out: &mut Vec<u8>,
+    endings: &[Ending<'_>],
+) -> Result<u32, OutOfMemory>
+    requires room { length out.old.items + (8 + entries_room (map (entry_at 0) endings.now)) < 2 ^ 32 }
+    requires begun { 40 ≤ length out.old.items }
+    requires rises { Rises [] (map (entry_at 0) endings.now) }
+    ensures grew { OnOk result (Grew out.old.items out.new.items (8 + entries_room (map (entry_at 0) endings.now))) }
+    ensures stands { IfOk result (λ at. TreeOf (Written out.new.items) at (map (entry_at 0) endings.now)) }
+{
+    let roots = write_siblings(alloc, out, endings, 0)?;
+    let at = append_numbers(out, &[roots.count, roots.first])?;
+    Ok(at)
+}
+
+/// What belongs to the siblings, then their records.
+#[cycle(tree)]
+fn write_siblings(
+    alloc: Global,
+    out: &mut Vec<u8>,
+    endings: &[Ending<'_>],
+    depth: usize,
+) -> Result<Block, OutOfMemory>
+    requires room { length out.old.items + entries_room (map (entry_at depth) endings.now) < 2 ^ 32 }
+    requires begun { 40 ≤ length out.old.items }
+    requires deep { depth < 256 }
+    ensures grew { OnOk result (Grew out.old.items out.new.items (entries_room (map (entry_at depth) endings.now))) }
+    ensures stands { IfOk result
+        (λ block. IsBlock (Written out.new.items) block.count block.first (map (entry_at depth) endings.now)) }
+{
+    let mut records = Vec::new(alloc);
+    let mut count = 0;
+    let mut at = 0;
+    while at < endings.len() {
+        let sibling = write_sibling(alloc, out, &endings[at..], depth)?;
+        records.extend_from_slice(&sibling.row)?;
+        count += 1;
+        at += sibling.taken;
+    }
+    let first = append_numbers(out, &records)?;
+    Ok(Block { count, first })
+}
+
+/// What belongs to the first sibling.
+#[cycle(tree)]
+#[tactic(auto, using(crate::proofs::Fits::type_fits))]
+fn write_sibling(
+    alloc: Global,
+    out: &mut Vec<u8>,
+    endings: &[Ending<'_>],
+    depth: usize,
+) -> Result<Sibling, OutOfMemory>
+    requires some { 0 < length endings.now }
+    requires room { length out.old.items + entries_room (map (entry_at depth) endings.now) < 2 ^ 32 }
+    requires begun { 40 ≤ length out.old.items }
+    requires deep { depth < 256 }
+    ensures { IfOk result (λ sibling.
+        Writes out.old.items out.new.items sibling.row sibling.taken (map (entry_at depth) endings.now)) }
+{
+    let first = &endings[0];
+    if first.path.len() <= depth {
+        let kind = append_text(out, first.rule.kind.bytes())?;
+        return Ok(Sibling {
+            row: [0, kind, weight_and_flags(first.rule)],
+            taken: 1,
+        });
+    }
+    let byte = first.path[depth];
+    let taken = run_length(&endings[1..], depth, byte) + 1;
+    let below = write_siblings(alloc, out, &endings[..taken], depth + 1)?;
+    Ok(Sibling {
+        row: [u32::from(byte), below.count, below.first],
+        taken,
+    })
+}
+
+/// How many endings from the front go on with this byte.
+fn run_length(endings: &[Ending<'_>], depth: usize, byte: u8) -> usize
+    ensures within { result ≤ length endings.now }
+    ensures all { StartAll byte (map (entry_at depth) (take result endings.now)) }
+    ensures clear { ClearOf byte (map (entry_at depth) (drop result endings.now)) }
+{
+    let mut count = 0;
+    for ending in endings {
+        if ending.path.len() <= depth {
+            return count;
+        }
+        if ending.path[depth] != byte {
+            return count;
+        }
+        count += 1;
+    }
+    count
+}
+
+fn ending_of(alloc: Global, rule: &GlobRule) -> Result<Ending<'_>, OutOfMemory>
+    ensures { IfOk result (λ ending. ending_rule ending ≡ rule.now) }
+{
+    let path = path_of(alloc, rule)?;
+    Ok(Ending { path, rule })
+}
+
+/// The stored ending of a rule, from the last byte to the first.
+#[tactic(auto, using(crate::proofs::Texts::some_pattern))]
+fn path_of(alloc: Global, rule: &GlobRule) -> Result<Vec<u8>, OutOfMemory>
+    ensures { IfOk result (λ path. (path.items ≡ reversed_ending rule.now) × (length path.items < 256)
+        × (has_no_zero path.items ≡ true)) }
+{
+    let pattern = rule.pattern.bytes();
+    let mut path = compared(alloc, rule.cased, &pattern[1..])?;
+    path.reverse();
+    Ok(path)
+}

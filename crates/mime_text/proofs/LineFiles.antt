@@ -1,0 +1,4 @@
+pub mod FirstLine
+pub mod Fields
+pub mod Colons
+pub mod Entries

@@ -1,0 +1,138 @@
+-- The first entries of each key: marks, plain pairs, and that no key stands twice.
+use Rattle.std.proofs.Common.{◌≡◌, ℕ, suc, Bool, true, false, not, ◌&&◌, ◌||◌, cond, List, [], ◌∷◌, ◌++◌, length, map, ap, ap₂, ◌∙◌, refl, sym, subst, ⊎_elim}
+use Rattle.std.proofs.lemmas.Bool.{and_from, and_left, and_parts, cases_Bool, cond-true, cond-false, not-true, not_from_false, not_from_true}
+use Rattle.std.proofs.lemmas.Cmp.{nat_list_eq_equiv}
+use Rattle.std.proofs.lemmas.List.Elements.{filter_agree}
+use Rattle.std.proofs.lemmas.List.Folds.{list_any-append}
+use Rattle.std.proofs.lemmas.Slice.Eq.{bytes_eq-Decides}
+use Rattle.std.specs.List.{filter, list_any}
+use Rattle.std.specs.Str.{bytes_eq}
+use Rattle.mime_base.specs.Database.PlainPairs.{are_distinct_pairs, have_distinct_names, is_same_pair}
+use Rattle.mime_text.proofs.Merges.Filters.{filter-all, filter-filter, filter-map, list_any-filter, list_any-others}
+use Rattle.mime_text.specs.Merging.{has_same_key, has_same_name, marks, once, picked, with_key}
+
+-- ---- keys
+
+-- two keys that are the same are equal
+same_is : (left right : List ℕ × List ℕ) → is_same_pair left right ≡ true → left ≡ right
+same_is left right same =
+    let parts = and_parts (bytes_eq left.0 right.0) (bytes_eq left.1 right.1) same in
+    ap₂ (λ x y. (x, y)) ((bytes_eq-Decides left.0 right.0).0 parts.0) ((bytes_eq-Decides left.1 right.1).0 parts.1)
+
+-- whichever comes first
+same_both_ways : (left right : List ℕ × List ℕ) → is_same_pair left right ≡ is_same_pair right left
+same_both_ways left right = ap₂ ◌&&◌ (nat_list_eq_equiv.symm left.0 right.0) (nat_list_eq_equiv.symm left.1 right.1)
+
+module _ {A : Type 0} (key_of : A → List ℕ × List ℕ) where
+  -- whether no key before is that of an entry
+  abbrev is_new : List (List ℕ × List ℕ) → A → Bool
+  is_new seen entry = not (list_any (is_same_pair (key_of entry)) seen)
+
+  -- of entries that are not the same as one with a known key, those with a new key
+  new-known : (seen : List (List ℕ × List ℕ)) (entry other : A) → list_any (is_same_pair (key_of entry)) seen ≡ true
+      → (not (has_same_key key_of entry other) && is_new seen other) ≡ is_new seen other
+  new-known seen entry other known = ⊎_elim
+      (λ (same : has_same_key key_of entry other ≡ true).
+      let found : list_any (is_same_pair (key_of other)) seen ≡ true =
+      subst (λ key. list_any (is_same_pair key) seen ≡ true) (same_is (key_of entry) (key_of other) same) known in
+      and_left _ _ (not_from_true _ same) ∙ sym (not_from_true _ found))
+      (λ (differs : has_same_key key_of entry other ≡ false). ap (λ b. not b && is_new seen other) differs)
+      (cases_Bool (has_same_key key_of entry other))
+
+  not-or-false : (b c : Bool) → (not c && not b) ≡ not (b || (c || false))
+  not-or-false true true = refl
+  not-or-false true false = refl
+  not-or-false false true = refl
+  not-or-false false false = refl
+
+  -- of entries that are not the same as one, those with a new key
+  new-more : (seen : List (List ℕ × List ℕ)) (entry other : A)
+      → (not (has_same_key key_of entry other) && is_new seen other) ≡ is_new (seen ++ key_of entry ∷ []) other
+  new-more seen entry other =
+      let found = list_any (is_same_pair (key_of other)) seen in
+      ap (λ b. not b && not found) (same_both_ways (key_of entry) (key_of other))
+      ∙ not-or-false found (is_same_pair (key_of other) (key_of entry))
+      ∙ ap not (sym (list_any-append (is_same_pair (key_of other)) seen (key_of entry ∷ [])))
+
+  -- the marked entries are the first of each key that was not seen before
+  picked-marks : (seen : List (List ℕ × List ℕ)) (entries : List A)
+      → picked (marks seen (map key_of entries)) entries ≡ filter (is_new seen) (once (has_same_key key_of) entries)
+  picked-marks seen [] = refl
+  picked-marks seen (entry ∷ entries) =
+      let key = key_of entry in
+      let others = filter (λ other. not (has_same_key key_of entry other)) (once (has_same_key key_of) entries) in
+      ⊎_elim
+      (λ (known : list_any (is_same_pair key) seen ≡ true).
+      cond-false _ _ _ (not_from_true _ known)
+      ∙ ap (λ keys. picked (marks keys (map key_of entries)) entries) (cond-true _ seen (seen ++ key ∷ []) known)
+      ∙ picked-marks seen entries
+      ∙ sym (cond-false _ (entry ∷ filter (is_new seen) others) (filter (is_new seen) others) (not_from_true _ known)
+      ∙ filter-filter (is_new seen) _ (once (has_same_key key_of) entries)
+      ∙ filter_agree _ _ (λ other. new-known seen entry other known) (once (has_same_key key_of) entries)))
+      (λ (new : list_any (is_same_pair key) seen ≡ false).
+      cond-true _ _ _ (not_from_false _ new)
+      ∙ ap (λ keys. entry ∷ picked (marks keys (map key_of entries)) entries) (cond-false _ seen (seen ++ key ∷ []) new)
+      ∙ ap (λ rest. entry ∷ rest) (picked-marks (seen ++ key ∷ []) entries)
+      ∙ sym (cond-true _ (entry ∷ filter (is_new seen) others) (filter (is_new seen) others) (not_from_false _ new)
+      ∙ ap (λ rest. entry ∷ rest) (filter-filter (is_new seen) _ (once (has_same_key key_of) entries)
+      ∙ filter_agree _ _ (λ other. new-more seen entry other) (once (has_same_key key_of) entries))))
+      (cases_Bool (list_any (is_same_pair key) seen))
+
+  -- where none was seen
+  pub picked-once : (entries : List A) → picked (marks [] (map key_of entries)) entries ≡ once (has_same_key key_of) entries
+  picked-once entries = picked-marks [] entries ∙ filter-all (is_new []) (λ entry. refl) (once (has_same_key key_of) entries)
+
+  -- there is a mark for each entry
+  pub length-marks : (seen : List (List ℕ × List ℕ)) (entries : List A) → length (marks seen (map key_of entries)) ≡ length entries
+  length-marks seen [] = refl
+  length-marks seen (entry ∷ entries) = ap suc (length-marks (with_key seen (key_of entry)) entries)
+
+-- ---- plain entries
+
+-- the first entries, by what f gives of them
+pub once-map : {X Y : Type 0} (f : X → Y) (same : X → X → Bool) (equal : Y → Y → Bool) → ((x y : X) → same x y ≡ equal (f x) (f y))
+    → (xs : List X) → map f (once same xs) ≡ once equal (map f xs)
+once-map f same equal agree [] = refl
+once-map f same equal agree (x ∷ xs) =
+    ap (λ ys. f x ∷ ys) (ap (map f) (filter_agree _ _ (λ y. ap not (agree x y)) (once same xs))
+    ∙ sym (filter-map f (λ y. not (equal (f x) y)) (once same xs))
+    ∙ ap (filter (λ y. not (equal (f x) y))) (once-map f same equal agree xs))
+
+-- ---- no key stands twice
+
+module _ {A : Type 0} (same : A → A → Bool) where
+  -- whether no entry is the same as an earlier one
+  abbrev distinct : List A → Bool
+  distinct [] = true
+  distinct (x ∷ xs) = not (list_any (same x) xs) && distinct xs
+
+  distinct-filter : (p : A → Bool) (xs : List A) → distinct xs ≡ true → distinct (filter p xs) ≡ true
+  distinct-filter p [] all = refl
+  distinct-filter p (x ∷ xs) all =
+      let parts = and_parts (not (list_any (same x) xs)) (distinct xs) all in
+      let later = distinct-filter p xs parts.1 in
+      let none = list_any-filter (same x) p xs (not-true (list_any (same x) xs) parts.0) in
+      elim (p x) as (λ t. distinct (cond t (x ∷ filter p xs) (filter p xs)) ≡ true)
+      [ true ↦ and_from _ _ (not_from_false _ none) later | false ↦ later ]
+
+  distinct-once : (xs : List A) → distinct (once same xs) ≡ true
+  distinct-once [] = refl
+  distinct-once (x ∷ xs) =
+      and_from _ _ (not_from_false _ (list_any-others (same x) (once same xs))) (distinct-filter
+      (λ y. not (same x y)) (once same xs) (distinct-once xs))
+
+-- names
+pub names_once : (pairs : List (List ℕ × List ℕ)) → have_distinct_names (once has_same_name pairs) ≡ true
+names_once pairs = as_distinct (once has_same_name pairs) ∙ distinct-once has_same_name pairs
+  where
+    as_distinct : (ps : List (List ℕ × List ℕ)) → have_distinct_names ps ≡ distinct has_same_name ps
+    as_distinct [] = refl
+    as_distinct (p ∷ ps) = ap (λ b. not (list_any (has_same_name p) ps) && b) (as_distinct ps)
+
+-- pairs
+pub pairs_once : (pairs : List (List ℕ × List ℕ)) → are_distinct_pairs (once is_same_pair pairs) ≡ true
+pairs_once pairs = as_distinct (once is_same_pair pairs) ∙ distinct-once is_same_pair pairs
+  where
+    as_distinct : (ps : List (List ℕ × List ℕ)) → are_distinct_pairs ps ≡ distinct is_same_pair ps
+    as_distinct [] = refl
+    as_distinct (p ∷ ps) = ap (λ b. not (list_any (is_same_pair p) ps) && b) (as_distinct ps)

@@ -1,0 +1,14 @@
+pub mod Entries
+pub mod Reading
+pub mod Text
+pub mod Forest
+pub mod File
+pub mod Rows
+pub mod HeaderRows
+pub mod HeadRows
+pub mod CutRows
+pub mod NumberRows
+pub mod IndentRows
+pub mod IgnoredRows
+pub mod FaultTable
+pub mod FaultTableRows

@@ -1,0 +1,135 @@
+//! Merging of data directories into one database.
+//!
+//! Directories have an order of preference ("Directory layout", "The glob files", "The magic files").
+//! A marker of one directory discards the globs, or the sections, that less preferred directories
+//! give for its type; those of its own directory and of more preferred ones stay. That the first pair
+//! of an alias counts, and the first icon of a type, is this project's own.
+//!
+//! It is linear in what the files hold, but for the sort of sections.
+
+ghost use Rattle.std.specs.Prelude.{◌≡◌, IfOk, OnOk};
+ghost use Rattle.mime_base.specs.Database.{plain_database};
+ghost use Rattle.mime_text.specs.Merging.{merged, plain_dirs};
+ghost use Rattle.mime_text.specs.Merging.Gathering.{Adds, Gathers};
+
+mod first;
+mod kept;
+mod key;
+mod priority;
+mod types;
+
+use crate::lines::globs2::GlobsFile;
+use crate::lines::icons::IconsFile;
+use crate::lines::pairs::PairsFile;
+use crate::magic::MagicFile;
+use first::first_of_each;
+use kept::Kept;
+use key::{ByName, ByPair};
+use mime_base::{Database, GlobRule, Icon, OutOfMemory, Pair, Section};
+use priority::by_priority;
+use std::alloc::Global;
+
+/// What the files of one data directory say. A missing file says what an empty one does.
+#[derive(Debug, Drop)]
+pub struct DirFiles {
+    /// The file `globs2`.
+    pub globs: GlobsFile,
+    /// The file `magic`.
+    pub magic: MagicFile,
+    /// The file `aliases`.
+    pub aliases: PairsFile,
+    /// The file `subclasses`.
+    pub subclasses: PairsFile,
+    /// The file `icons`.
+    pub icons: IconsFile,
+    /// The file `generic-icons`.
+    pub generic_icons: IconsFile,
+}
+
+/// The lists of several directories, one after another.
+#[derive(Drop)]
+pub struct Lists {
+    /// The glob rules that no marker discards.
+    pub rules: Kept<GlobRule>,
+    /// The sections that no marker discards.
+    pub sections: Kept<Section>,
+    /// All alias pairs.
+    pub aliases: Vec<Pair>,
+    /// All subclass pairs.
+    pub subclasses: Vec<Pair>,
+    /// All icons.
+    pub icons: Vec<Icon>,
+    /// All generic icons.
+    pub generic_icons: Vec<Icon>,
+}
+
+/// Merges what directories say, the most preferred first. It fails only where an allocation is
+/// refused.
+///
+/// Rules and sections are left out where a more preferred directory has a marker for their type.
+/// Sections then stand by falling priority, those of one priority in their order. Of the pairs of an
+/// alias, of equal subclass pairs and of the icons of a type, the first counts.
+pub fn merge(alloc: Global, dirs: Vec<DirFiles>) -> Result<Database, OutOfMemory>
+    ensures merged { IfOk result (λ database. plain_database database ≡ merged (plain_dirs dirs.items)) }
+{
+    let Lists {
+        rules,
+        sections,
+        aliases,
+        subclasses,
+        icons,
+        generic_icons,
+    } = gather(alloc, dirs)?;
+    Ok(Database {
+        rules: rules.items,
+        aliases: first_of_each::<Pair, ByName>(alloc, aliases)?,
+        parents: first_of_each::<Pair, ByPair>(alloc, subclasses)?,
+        sections: by_priority(sections.items)?,
+        icons: first_of_each::<Icon, ByName>(alloc, icons)?,
+        generic_icons: first_of_each::<Icon, ByName>(alloc, generic_icons)?,
+    })
+}
+
+/// The lists of the directories.
+fn gather(alloc: Global, dirs: Vec<DirFiles>) -> Result<Lists, OutOfMemory>
+    ensures { IfOk result (λ lists. Gathers lists dirs.items) }
+{
+    let mut lists = Lists {
+        rules: Kept::new(alloc),
+        sections: Kept::new(alloc),
+        aliases: Vec::new(alloc),
+        subclasses: Vec::new(alloc),
+        icons: Vec::new(alloc),
+        generic_icons: Vec::new(alloc),
+    };
+    for dir in dirs {
+        lists.add(alloc, dir)?;
+    }
+    Ok(lists)
+}
+
+impl Lists {
+    /// Adds a directory that is less preferred than those before.
+    fn add(&mut self, alloc: Global, dir: DirFiles) -> Result<(), OutOfMemory>
+        ensures { OnOk result (Adds self.old dir self.new) }
+    {
+        let DirFiles {
+            globs,
+            magic,
+            mut aliases,
+            mut subclasses,
+            mut icons,
+            mut generic_icons,
+        } = dir;
+        self.rules.add(alloc, globs.rules, &globs.deleted)?;
+        self.sections.add(alloc, magic.sections, &magic.deleted)?;
+        self.aliases.append(&mut aliases.pairs)?;
+        self.subclasses.append(&mut subclasses.pairs)?;
+        self.icons.append(&mut icons.icons)?;
+        self.generic_icons.append(&mut generic_icons.icons)?;
+        Ok(())
+    }
+}
+
+#[cfg(test)]
+mod tests;

@@ -1,0 +1,86 @@
+//! The first entry of each key.
+//!
+//! Marks are found first, with keys that borrow from the entries; then the entries are moved. So no
+//! text is copied.
+
+ghost use Rattle.std.specs.Prelude.{◌≡◌, ◌+◌, ◌++◌, [], ◌∷◌, IfOk, OnOk, List, ℕ, length, map, not};
+ghost use Rattle.std.specs.List.{list_any};
+ghost use Rattle.mime_base.specs.Database.PlainPairs.{is_same_pair};
+ghost use Rattle.mime_text.specs.Merging.{has_same_key, marks, once, picked, with_key};
+
+use super::key::Key;
+use indexmap::IndexSet;
+use mime_base::OutOfMemory;
+use std::alloc::Global;
+use std::marker::Model;
+
+/// The keys that were met.
+#[derive(Drop)]
+pub struct Keys<'a> {
+    texts: IndexSet<(&'a [u8], &'a [u8])>,
+}
+
+impl<'a> Model for Keys<'a> {
+    ghost use Rattle.std.specs.Prelude.{ℕ, List, map};
+
+    ghost Value = { List (List ℕ × List ℕ) };
+
+    ghost view = { λ keys. map (λ key. (key.0.now, key.1.now)) keys.texts.keys };
+}
+
+impl<'a> Keys<'a> {
+    fn new(alloc: Global) -> Keys<'a>
+        ensures { result ≡ [] }
+    {
+        Keys {
+            texts: IndexSet::new(alloc),
+        }
+    }
+
+    /// Adds a key, and answers whether it is new.
+    fn add(&mut self, key: (&'a [u8], &'a [u8])) -> Result<bool, OutOfMemory>
+        ensures new { IfOk result (λ new. new ≡ not (list_any (is_same_pair (key.entry.0.now, key.entry.1.now)) self.old)) }
+        ensures keys { OnOk result (self.new ≡ with_key self.old (key.entry.0.now, key.entry.1.now)) }
+    {
+        Ok(self.texts.insert(key)?)
+    }
+}
+
+/// The entries that are the first of their key, in their order.
+pub fn first_of_each<T: Drop, K: Key<T>>(
+    alloc: Global,
+    entries: Vec<T>,
+) -> Result<Vec<T>, OutOfMemory>
+    ensures { IfOk result (λ kept. kept.items ≡ once (has_same_key K.key_of) entries.items) }
+{
+    let marks = first_marks::<T, K>(alloc, &entries)?;
+    marked(alloc, entries, marks)
+}
+
+/// Which entries are the first of their key.
+fn first_marks<T: Drop, K: Key<T>>(alloc: Global, entries: &[T]) -> Result<Vec<bool>, OutOfMemory>
+    ensures { IfOk result (λ firsts. firsts.items ≡ marks [] (map K.key_of entries.now)) }
+{
+    let mut keys = Keys::new(alloc);
+    let mut firsts = Vec::new(alloc);
+    for entry in entries {
+        firsts.push(keys.add(K::of(entry))?)?;
+    }
+    Ok(firsts)
+}
+
+/// The entries that are marked, in their order.
+fn marked<T: Drop>(alloc: Global, entries: Vec<T>, marks: Vec<bool>) -> Result<Vec<T>, OutOfMemory>
+    requires { length marks.items ≡ length entries.items }
+    ensures { IfOk result (λ kept. kept.items ≡ picked marks.items entries.items) }
+{
+    let (mut entries, mut marks) = (entries, marks);
+    let mut kept = Vec::new(alloc);
+    while let (Some(entry), Some(mark)) = (entries.pop(), marks.pop()) {
+        if mark {
+            kept.push(entry)?;
+        }
+    }
+    kept.reverse();
+    Ok(kept)
+}

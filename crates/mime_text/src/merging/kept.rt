@@ -1,0 +1,88 @@
+//! What markers leave of rules and sections.
+
+ghost use Rattle.std.specs.Prelude.{◌≡◌, ◌++◌, [], OnOk, ℕ, List, Bool};
+ghost use Rattle.mime_text.specs.Merging.{with_kinds, without};
+
+use super::types::Types;
+use mime_base::{GlobRule, OutOfMemory, Section, TypeName};
+use std::alloc::Global;
+
+/// A rule or a section, which gives a type.
+pub trait Kinded: Drop {
+    /// The type that it gives.
+    ghost kind_of: { Self → List ℕ };
+
+    /// The type that it gives.
+    fn kind(&self) -> &TypeName
+        ensures { result.now ≡ kind_of self.now };
+}
+
+impl Kinded for GlobRule {
+    ghost kind_of = { λ rule. rule.kind };
+
+    fn kind(&self) -> &TypeName {
+        &self.kind
+    }
+}
+
+impl Kinded for Section {
+    ghost kind_of = { λ section. section.kind };
+
+    fn kind(&self) -> &TypeName {
+        &self.kind
+    }
+}
+
+/// The rules or the sections of directories that no more preferred directory discards.
+#[derive(Drop)]
+pub struct Kept<T> {
+    /// What is kept, in the order of directories and lines.
+    pub items: Vec<T>,
+    /// The types that less preferred directories can't give.
+    pub deleted: Types,
+}
+
+impl<T: Kinded> Kept<T> {
+    /// That of no directories.
+    pub fn new(alloc: Global) -> Kept<T>
+        ensures items { result.items.items ≡ [] }
+        ensures deleted { result.deleted ≡ [] }
+    {
+        Kept {
+            items: Vec::new(alloc),
+            deleted: Types::new(alloc),
+        }
+    }
+
+    /// Adds what a less preferred directory gives and discards.
+    pub fn add(
+        &mut self,
+        alloc: Global,
+        items: Vec<T>,
+        deleted: &[TypeName],
+    ) -> Result<(), OutOfMemory>
+        ensures items { OnOk result
+            (self.new.items.items ≡ self.old.items.items ++ without T.kind_of self.old.deleted items.items) }
+        ensures deleted { OnOk result (self.new.deleted ≡ with_kinds self.old.deleted deleted.now) }
+    {
+        self.keep(items)?;
+        for kind in deleted {
+            self.deleted.add(alloc, kind)?;
+        }
+        Ok(())
+    }
+
+    /// Adds those items that are not discarded.
+    fn keep(&mut self, items: Vec<T>) -> Result<(), OutOfMemory>
+        ensures items { OnOk result
+            (self.new.items.items ≡ self.old.items.items ++ without T.kind_of self.old.deleted items.items) }
+        ensures deleted { self.new.deleted ≡ self.old.deleted }
+    {
+        for item in items {
+            if !self.deleted.contains(item.kind()) {
+                self.items.push(item)?;
+            }
+        }
+        Ok(())
+    }
+}

@@ -1,0 +1,47 @@
+-- What becomes of a desk: before a part of the program, after it, and what that part gives.
+use Rattle.std.specs.Prelude.{◌≡◌, ℕ, false, List, Some, None, Result, Ok, Err, Vec, string_bytes}
+use Rattle.std.specs.declared.alloc.Global.{Global}
+use Rattle.mime_tool.specs.Files.{IsText, Stored}
+use Rattle.mime_tool.specs.Finish.{IsCut, Sinks, Writes, WritesFront}
+use Rattle.mime_tool.specs.Run.{Run, cannot_read, stopped, stops}
+use Rattle.mime_tool.specs.Stop.{message}
+use Rattle.mime_tool.specs.declared.stop.Stop.{Stop}
+use Rattle.mime_tool.specs.declared.stop.Stop.TheVariants as stop
+
+-- what is known of a desk: what is stored, what the sinks hold, and which references it has
+pub record State : Type 0 where
+  pub stored : List ℕ → Stored
+  pub places : ℕ × ℕ × ℕ
+  pub sinks : Sinks
+
+-- the files and the references stay, and the sinks go from one state to the other so that P holds
+pub record Works {R : Type 0} (P : Sinks → Sinks → R → Type 0) (before after : State) (result : R) : Type 0 where
+  pub same_files : after.stored ≡ before.stored
+  pub same_places : after.places ≡ before.places
+  pub sinks : P before.sinks after.sinks result
+
+-- what the run writes is written; or a front of it, where memory runs out; or standard output isn't
+-- known
+abbrev pub Does : {X : Type 0} → Run → Sinks → Sinks → Result X Stop → Type 0
+Does run old new (Ok _) = Writes old new run
+Does run old new (Err stop.OutOfMemory) = WritesFront old new run
+Does run old new (Err stop.CannotWrite) = old.out ≡ None
+Does run old new (Err (stop.Refused _)) = ⊥
+
+-- a run over the files is done, but for the message of a stop, which is still to be said
+abbrev pub Ends : (List (List ℕ) → Run → Type 0) → List (List ℕ) → Sinks → Sinks → Result ℕ Stop → Type 0
+Ends IsRun files old new (Ok status) =
+    (run : Run) × IsRun files run × (stops run ≡ false) × (status ≡ run.status) × Writes old new run
+Ends IsRun files old new (Err stop.OutOfMemory) = IsCut IsRun files old new
+Ends IsRun files old new (Err stop.CannotWrite) = old.out ≡ None
+Ends IsRun files old new (Err s) =
+    (run : Run) × IsRun files (stopped (message s) run) × Writes old new run
+
+-- the text of a file is read, an empty one where there is no file; or it is refused, and that names its
+-- path; or memory ran out
+abbrev pub ReadsText : Stored → List ℕ → Sinks → Sinks → Result (Vec ℕ Global) Stop → Type 0
+ReadsText stored path old new (Ok v) = (new ≡ old) × IsText stored (Some v.items)
+ReadsText stored path old new (Err (stop.Refused text)) =
+    (new ≡ old) × IsText stored None × (string_bytes text ≡ cannot_read path)
+ReadsText stored path old new (Err stop.CannotWrite) = ⊥
+ReadsText stored path old new (Err stop.OutOfMemory) = new ≡ old

@@ -1,0 +1,77 @@
+//! What a command works with: memory, files, standard output and standard error. This project's own.
+
+ghost use Rattle.std.specs.Prelude.{◌≡◌, IfOk};
+ghost use Rattle.std.specs.List.{flat_map};
+ghost use Rattle.mime_tool.specs.Desk.{Does, ReadsText, State, Works};
+ghost use Rattle.mime_tool.specs.Run.{cannot_read, printed, said};
+
+use crate::files::{FileFault, Files};
+use crate::sink::{Sink, put_all};
+use crate::stop::{Stop, complain, unreadable};
+use std::alloc::Global;
+
+/// What a command works with.
+///
+/// A command takes one and is generic over it. So the command's contract is one relation of the desk
+/// before it, the desk after it, and its result.
+pub(crate) trait Desk {
+    // What is stored, what the sinks hold, and which references the desk has.
+    ghost state: { Self → State };
+
+    /// Where memory comes from.
+    fn alloc(&self) -> Global;
+
+    /// All the bytes of a text file; a missing one counts as empty.
+    fn read_text(&mut self, path: &str) -> Result<Vec<u8>, Stop>
+        ensures { Works (ReadsText ((state self.old).stored path.now) path.now)
+            (state self.old) (state self.new) result };
+
+    /// Prints the pieces on standard output, one after another.
+    fn print(&mut self, pieces: &[&[u8]]) -> Result<(), Stop>
+        ensures { Works (Does (printed (flat_map (λ piece. piece.now) pieces.now)))
+            (state self.old) (state self.new) result };
+
+    /// Says it on standard error. A fault there is passed over, unless memory ran out.
+    fn complain(&mut self, message: &str) -> Result<(), Stop>
+        ensures { Works (Does (said message.now)) (state self.old) (state self.new) result };
+}
+
+/// A desk over any files and sinks.
+#[derive(Drop)]
+pub(crate) struct Streams<'f, 'o, 'e, F: Files, O: Sink, E: Sink> {
+    pub(crate) alloc: Global,
+    pub(crate) files: &'f mut F,
+    pub(crate) out: &'o mut O,
+    pub(crate) err: &'e mut E,
+}
+
+impl<F: Files, O: Sink, E: Sink> Desk for Streams<'_, '_, '_, F, O, E> {
+    ghost state = { λ desk. record {
+      stored = F.tells desk.files.now;
+      places = (desk.files.ghost_name, desk.out.ghost_name, desk.err.ghost_name);
+      sinks = record { out = O.holds desk.out.now; err = E.holds desk.err.now };
+    } };
+
+    fn alloc(&self) -> Global {
+        self.alloc
+    }
+
+    fn read_text(&mut self, path: &str) -> Result<Vec<u8>, Stop> {
+        match self.files.whole(self.alloc, path) {
+            Ok(Some(text)) => Ok(text),
+            Ok(None) => Ok(Vec::new(self.alloc)),
+            Err(FileFault::Failed) => Err(unreadable(self.alloc, path)),
+            Err(FileFault::OutOfMemory) => Err(Stop::OutOfMemory),
+        }
+    }
+
+    fn print(&mut self, pieces: &[&[u8]]) -> Result<(), Stop> {
+        put_all(self.out, pieces)?;
+        Ok(())
+    }
+
+    fn complain(&mut self, message: &str) -> Result<(), Stop> {
+        complain(self.err, message)?;
+        Ok(())
+    }
+}

@@ -1,0 +1,119 @@
+//! Files of a runtime, made up: each open answers alike.
+
+use std::alloc::Allocator;
+use std::fs::{Files, Metadata, OpenFile, OpenOptions};
+use std::io;
+use std::io::{ErrorKind, Read, Seek, SeekFrom, Write};
+
+/// Files of which each open fails so, or gives a file that is opened so.
+#[derive(Clone, Copy)]
+pub enum Disk {
+    Fails(ErrorKind),
+    Gives(Opened),
+}
+
+/// An open file: what it says its size is, and what each read fails with, if it isn't at its end.
+#[derive(Clone, Copy)]
+pub struct Opened {
+    pub size: Result<u64, ErrorKind>,
+    pub read: Option<ErrorKind>,
+}
+
+fn unsupported() -> io::Error {
+    io::Error::from(ErrorKind::Unsupported)
+}
+
+impl Read for Opened {
+    fn read(&mut self, _buf: &mut [u8]) -> io::Result<usize> {
+        match self.read {
+            Some(kind) => Err(io::Error::from(kind)),
+            None => Ok(0),
+        }
+    }
+}
+
+impl Write for Opened {
+    fn write(&mut self, _buf: &[u8]) -> io::Result<usize> {
+        Err(unsupported())
+    }
+
+    fn flush(&mut self) -> io::Result<()> {
+        Err(unsupported())
+    }
+}
+
+impl Seek for Opened {
+    fn seek(&mut self, _to: SeekFrom) -> io::Result<u64> {
+        Err(unsupported())
+    }
+}
+
+impl OpenFile for Opened {
+    fn metadata(&self) -> io::Result<Metadata> {
+        match self.size {
+            Ok(size) => Ok(Metadata::of_file(size)),
+            Err(kind) => Err(io::Error::from(kind)),
+        }
+    }
+
+    fn set_len(&self, _size: u64) -> io::Result<()> {
+        Err(unsupported())
+    }
+
+    fn sync_all(&self) -> io::Result<()> {
+        Err(unsupported())
+    }
+
+    fn sync_data(&self) -> io::Result<()> {
+        Err(unsupported())
+    }
+}
+
+impl Files for Disk {
+    type File = Opened;
+
+    type Dir = Opened;
+
+    fn open_file(&self, _how: &OpenOptions, _path: &str) -> io::Result<Opened> {
+        match self {
+            Disk::Fails(kind) => Err(io::Error::from(*kind)),
+            Disk::Gives(opened) => Ok(*opened),
+        }
+    }
+
+    fn open_dir(&self, _path: &str) -> io::Result<Opened> {
+        Err(unsupported())
+    }
+
+    fn metadata(&self, _path: &str) -> io::Result<Metadata> {
+        Err(unsupported())
+    }
+
+    fn symlink_metadata(&self, _path: &str) -> io::Result<Metadata> {
+        Err(unsupported())
+    }
+
+    fn copy(&self, _from: &str, _to: &str) -> io::Result<u64> {
+        Err(unsupported())
+    }
+
+    fn rename(&self, _from: &str, _to: &str) -> io::Result<()> {
+        Err(unsupported())
+    }
+
+    fn remove_file(&self, _path: &str) -> io::Result<()> {
+        Err(unsupported())
+    }
+
+    fn create_dir(&self, _path: &str) -> io::Result<()> {
+        Err(unsupported())
+    }
+
+    fn remove_dir(&self, _path: &str) -> io::Result<()> {
+        Err(unsupported())
+    }
+
+    fn remove_dir_all<B: Allocator>(&self, _alloc: B, _path: &str) -> io::Result<()> {
+        Err(unsupported())
+    }
+}

@@ -1,0 +1,6 @@
+mod Halving
+mod Places
+mod Lookups
+mod Records
+mod Spelled
+mod Headers

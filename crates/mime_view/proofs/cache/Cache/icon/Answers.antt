@@ -1,0 +1,27 @@
+use Rattle.std.proofs.Common.{◌≡◌, ℕ, List, Option, get_or, arith, ◌∙◌, sym, ap}
+use Rattle.std.specs.Prelude.{option_map}
+use Rattle.mime_base.specs.Cache.Bytes.{Stands, field, fields}
+use Rattle.mime_base.specs.Format.Header.{HeaderAt}
+use Rattle.mime_base.specs.Format.Pairs.{PairsAt}
+use Rattle.mime_view.specs.Pairs.{ReadsPairs, looked_up}
+use Rattle.mime_view.proofs.Headers.{icons_read}
+use Rattle.mime_view.proofs.Spelled.{looked_up-sorted, no_answer, pairs_reads, resolved-looked_up}
+use Rattle.mime_view.proofs.cache.Cache.icon.Goals as goal
+
+pub returns-in_err-name-clause-answer : goal.returns-in_err-name-clause-answer
+returns-in_err-name-clause-answer c = λ offsets pairs header stand.
+    let here = rw (← c.self.view_is) at header in
+    let list = rw (← c.self.view_is) at stand in
+    let at : c.from.result ≡ offsets.icons =
+    c.from.ensures ∙ ap (λ (ns : List ℕ). get_or ns 8 0) c.self.invariant.0 ∙ icons_read c.self.inside.counted offsets here in
+    let reads = rw (sym at) at (pairs_reads c.self.inside.counted offsets.icons pairs list) in
+    absurd (c.in_err-name.ensures.answer list.entries reads)
+
+pub returns-clause-answer : goal.returns-clause-answer
+returns-clause-answer c = λ offsets pairs header stand.
+    let here = rw (← c.self.view_is) at header in
+    let list = rw (← c.self.view_is) at stand in
+    let at : c.from.result ≡ offsets.icons =
+    c.from.ensures ∙ ap (λ (ns : List ℕ). get_or ns 8 0) c.self.invariant.0 ∙ icons_read c.self.inside.counted offsets here in
+    let reads = rw (sym at) at (pairs_reads c.self.inside.counted offsets.icons pairs list) in
+    c.in_ok-name.ensures.answer list.entries reads ∙ looked_up-sorted pairs list.entries c.args.kind.now list.sorted

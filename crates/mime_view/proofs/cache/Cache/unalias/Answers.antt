@@ -1,0 +1,41 @@
+use Rattle.std.proofs.Common.{◌≡◌, ℕ, List, Option, get_or, arith, ◌∙◌, sym, ap}
+use Rattle.std.specs.Prelude.{option_map}
+use Rattle.std.specs.Option.{option_map_or}
+use Rattle.mime_base.specs.Cache.Bytes.{Stands, field, fields}
+use Rattle.mime_base.specs.Format.Header.{HeaderAt}
+use Rattle.mime_base.specs.Format.Pairs.{PairsAt}
+use Rattle.mime_view.specs.Pairs.{ReadsPairs, looked_up}
+use Rattle.mime_view.proofs.Headers.{aliases_read}
+use Rattle.mime_view.proofs.Spelled.{looked_up-sorted, no_answer, pairs_reads, resolved-looked_up}
+use Rattle.mime_view.proofs.cache.Cache.unalias.Goals as goal
+
+pub returns-in_err-name-clause-answer : goal.returns-in_err-name-clause-answer
+returns-in_err-name-clause-answer c = λ offsets pairs header stand.
+    let here = rw (← c.self.view_is) at header in
+    let list = rw (← c.self.view_is) at stand in
+    let at : c.from.result ≡ offsets.aliases =
+    c.from.ensures ∙ ap (λ (ns : List ℕ). get_or ns 1 0) c.self.invariant.0 ∙ aliases_read c.self.inside.counted offsets here in
+    let reads = rw (sym at) at (pairs_reads c.self.inside.counted offsets.aliases pairs list) in
+    absurd (c.in_err-name.ensures.answer list.entries reads)
+
+pub returns-in-Some-clause-answer : goal.returns-in-Some-clause-answer
+returns-in-Some-clause-answer c = λ offsets pairs header stand.
+    let here = rw (← c.self.view_is) at header in
+    let list = rw (← c.self.view_is) at stand in
+    let at : c.from.result ≡ offsets.aliases =
+    c.from.ensures ∙ ap (λ (ns : List ℕ). get_or ns 1 0) c.self.invariant.0 ∙ aliases_read c.self.inside.counted offsets here in
+    let reads = rw (sym at) at (pairs_reads c.self.inside.counted offsets.aliases pairs list) in
+    let read = c.in_ok-name.ensures.answer list.entries reads ∙ looked_up-sorted pairs list.entries c.args.kind.now list.sorted in
+    let found = rw c.in-Some.is at read in
+    sym (resolved-looked_up pairs c.args.kind.now ∙ ap (λ (o : Option (List ℕ)). option_map_or (λ name. name) o c.args.kind.now) (sym found))
+
+pub returns-in-None-clause-answer : goal.returns-in-None-clause-answer
+returns-in-None-clause-answer c = λ offsets pairs header stand.
+    let here = rw (← c.self.view_is) at header in
+    let list = rw (← c.self.view_is) at stand in
+    let at : c.from.result ≡ offsets.aliases =
+    c.from.ensures ∙ ap (λ (ns : List ℕ). get_or ns 1 0) c.self.invariant.0 ∙ aliases_read c.self.inside.counted offsets here in
+    let reads = rw (sym at) at (pairs_reads c.self.inside.counted offsets.aliases pairs list) in
+    let read = c.in_ok-name.ensures.answer list.entries reads ∙ looked_up-sorted pairs list.entries c.args.kind.now list.sorted in
+    let missed = rw c.in-None.is at read in
+    sym (resolved-looked_up pairs c.args.kind.now ∙ ap (λ (o : Option (List ℕ)). option_map_or (λ name. name) o c.args.kind.now) (sym missed))

@@ -1,0 +1,75 @@
+use Rattle.std.proofs.Common.{◌≡◌, ℕ, ◌+◌, ◌-◌, ◌*◌, ◌/◌, arith, ◌∙◌, ap, get_or}
+use Rattle.mime_base.specs.Cache.Bytes.{field}
+use Rattle.mime_base.specs.Cache.Texts.{text_at}
+use Rattle.mime_view.proofs.Halving.{count_small, halved, few}
+use Rattle.mime_view.proofs.Places.{splits-found, key_at}
+use Rattle.mime_view.proofs.search.first_not_less.Goals as goal
+
+pub returns-in_err-compare_text-clause-answers : goal.returns-in_err-compare_text-clause-answers
+returns-in_err-compare_text-clause-answers c = λ stand.
+    let middle : ℕ = (c.loop-low.low + c.loop-low.high) / 2 in
+    let t = stand middle (omega arith) in
+    let at : c.from.result ≡ field c.args.counted.now (c.args.first + c.args.size * middle) 0 =
+    c.from.ensures ∙ ap (λ xs. get_or xs 0 0) c.in_ok-text.ensures.numbers.1 in
+    let order = c.in_err-compare_text.ensures.text t.0 (ap (text_at c.args.counted.now) at ∙ t.1) in
+    absurd (cc order)
+
+pub returns-in_err-compare_text-clause-answer : goal.returns-in_err-compare_text-clause-answer
+returns-in_err-compare_text-clause-answer c = λ keys n stand sorted.
+    let middle : ℕ = (c.loop-low.low + c.loop-low.high) / 2 in
+    let text = key_at c.args.counted.now c.args.first c.args.size keys middle stand (omega arith) in
+    let at : c.from.result ≡ field c.args.counted.now (c.args.first + c.args.size * middle) 0 =
+    c.from.ensures ∙ ap (λ xs. get_or xs 0 0) c.in_ok-text.ensures.numbers.1 in
+    let order = c.in_err-compare_text.ensures.text _ (ap (text_at c.args.counted.now) at ∙ text) in
+    absurd (cc order)
+
+pub returns-clause-answer : goal.returns-clause-answer
+returns-clause-answer c = λ keys n stand sorted.
+    let e : c.loop-low.high ≡ c.loop-low.low = omega arith in
+    splits-found c.args.counted.now c.args.first c.args.size c.args.count c.args.key.now c.loop-low.low keys n
+    (record { within = omega arith; before = c.loop-low.invariant.before; after = rw e at c.loop-low.invariant.after })
+    stand sorted
+
+pub loop-low-preserved-in-Less : goal.loop-low-preserved-in-Less
+loop-low-preserved-in-Less c =
+    let middle : ℕ = (c.loop-low.low + c.loop-low.high) / 2 in
+    let p : ℕ = c.loop-low.invariant.probes.0 in
+    let wide : ℕ = c.loop-low.high - c.loop-low.low in
+    let small = count_small c.args.first c.args.size c.args.count _ c.requires.size c.requires.fits c.requires.limit in
+    let early = few p wide c.args.count c.loop-low.invariant.probes.2 (omega arith) small in
+    record {
+      order = omega arith;
+      within = c.loop-low.invariant.within;
+      before = λ i text e stands.
+          let m : middle ≡ i = omega arith in
+          let read : c.from.result ≡ field c.args.counted.now (c.args.first + c.args.size * middle) 0 =
+          c.from.ensures ∙ ap (λ xs. get_or xs 0 0) c.in_ok-text.ensures.numbers.1 in
+          let at = read ∙ ap (λ (j : ℕ). field c.args.counted.now (c.args.first + c.args.size * j) 0) m in
+          let order = c.in_ok-compare_text.ensures.text text (ap (text_at c.args.counted.now) at ∙ stands) in
+          cc (order, c.in-Less.is);
+      after = c.loop-low.invariant.after;
+      rises = omega arith;
+      bytes_rise = omega arith;
+      probes = (p + 1, omega arith, halved p wide _ _ c.loop-low.invariant.probes.2 (omega arith), omega arith, omega arith);
+    }
+
+pub loop-low-preserved : goal.loop-low-preserved
+loop-low-preserved c =
+    let middle : ℕ = (c.loop-low.low + c.loop-low.high) / 2 in
+    let p : ℕ = c.loop-low.invariant.probes.0 in
+    let wide : ℕ = c.loop-low.high - c.loop-low.low in
+    let small = count_small c.args.first c.args.size c.args.count _ c.requires.size c.requires.fits c.requires.limit in
+    let early = few p wide c.args.count c.loop-low.invariant.probes.2 (omega arith) small in
+    record {
+      order = omega arith;
+      within = omega arith;
+      before = c.loop-low.invariant.before;
+      after = λ text h stands less.
+          let at : c.from.result ≡ field c.args.counted.now (c.args.first + c.args.size * middle) 0 =
+          c.from.ensures ∙ ap (λ xs. get_or xs 0 0) c.in_ok-text.ensures.numbers.1 in
+          let order = c.in_ok-compare_text.ensures.text text (ap (text_at c.args.counted.now) at ∙ stands) in
+          c.in_default.not-Less (cc (order, less));
+      rises = omega arith;
+      bytes_rise = omega arith;
+      probes = (p + 1, omega arith, halved p wide _ _ c.loop-low.invariant.probes.2 (omega arith), omega arith, omega arith);
+    }

@@ -1,0 +1,4 @@
+pub mod Faults
+pub mod Opening
+pub mod Lists
+pub mod Pairs

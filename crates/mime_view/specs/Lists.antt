@@ -1,0 +1,53 @@
+-- Lists of records of a cache, and what is wrong where one can't be read.
+use Rattle.std.specs.Prelude.{◌≡◌, ◌≢◌, ℕ, ◌+◌, ◌*◌, ◌<◌, ◌≤◌, Bool, true, false, List, [], ◌∷◌, get_or, length, Ok, Err}
+use Rattle.std.specs.Ordering.{is_lt, nat_cmp}
+use Rattle.std.specs.List.Sorted.{IsSortedBy}
+use Rattle.std.specs.Cmp.Lexicographic.{slice_cmp}
+use Rattle.std.specs.declared.cmp.Ordering.TheVariants.{Less}
+use Rattle.mime_base.specs.Cache.Bytes.{field}
+use Rattle.mime_base.specs.Cache.Texts.{text_at}
+use Rattle.mime_base.specs.declared.cache.byte_fault.ByteFault.{ByteFault}
+use Rattle.mime_view.specs.Faults.{cache_fault}
+use Rattle.mime_view.specs.declared.fault.CacheFault.{CacheFault}
+use Rattle.mime_view.specs.declared.fault.CacheFault.TheVariants.{OutOfRange}
+
+-- this text stands at the offset that the first number of record i of a list names
+abbrev pub HasText : List ℕ → ℕ → ℕ → ℕ → List ℕ → Type 0
+HasText c first size i text = text_at c (field c (first + size * i) 0) ≡ Ok text
+
+-- these texts stand at the offsets that the first numbers of records of this size name
+abbrev pub KeysAt : List ℕ → ℕ → ℕ → List (List ℕ) → Type 0
+KeysAt c at size [] = Unit {0}
+KeysAt c at size (key ∷ keys) = (text_at c (field c at 0) ≡ Ok key) × KeysAt c (at + size) size keys
+
+-- one text is less than another, by bytes
+abbrev pub is_less : List ℕ → List ℕ → Bool
+is_less left right = is_lt (slice_cmp nat_cmp left right)
+
+-- no text is less than the one before it
+abbrev pub AreSorted : List (List ℕ) → Type 0
+AreSorted keys = IsSortedBy is_less keys
+
+-- the texts before a place are less than a key, and those from it on are not
+pub record SplitsAt (keys : List (List ℕ)) (key : List ℕ) (place : ℕ) : Type 0 where
+  pub within : place ≤ length keys
+  pub less : (i : ℕ) → i < place → is_less (get_or keys i []) key ≡ true
+  pub not_less : (i : ℕ) → place ≤ i → i < length keys → is_less (get_or keys i []) key ≡ false
+
+-- a place among `count` sorted records: the text before it is less than the key, and the one at it is not
+pub record IsPlace (c : List ℕ) (first size count : ℕ) (key : List ℕ) (place : ℕ) : Type 0 where
+  pub within : place ≤ count
+  pub before : (i : ℕ) (text : List ℕ) → i + 1 ≡ place → HasText c first size i text → slice_cmp nat_cmp text key ≡ Less
+  pub after : (text : List ℕ) → place < count → HasText c first size place text → slice_cmp nat_cmp text key ≢ Less
+
+-- no text stands at some offset
+pub record IsTextFault (c : List ℕ) (e : CacheFault) : Type 0 where
+  pub at : ℕ
+  pub fault : ByteFault
+  pub no_text : text_at c at ≡ Err fault
+  pub is : e ≡ cache_fault fault
+
+-- the list at `at`, of records of this size, does not lie in the cache
+pub record IsListFault (c : List ℕ) (at size : ℕ) (e : CacheFault) : Type 0 where
+  pub outside : length c < at + 4 + size * field c at 0
+  pub is : e ≡ OutOfRange at

@@ -1,0 +1,30 @@
+//! How much of a cache a lookup may visit. This project's own.
+
+ghost use Rattle.std.specs.Prelude.{◌≡◌, ◌+◌, ◌<◌, ◌≤◌, ◌/◌, length, OnOk, OnErr, IfErr};
+
+use crate::cache::Cache;
+use crate::fault::CacheFault;
+
+/// What is left to a lookup. Work over bytes that form cycles or share parts ends when it is spent.
+#[derive(Clone, Copy, Debug, PartialEq, Eq)]
+pub struct Budget {
+    /// How many records may still be taken.
+    pub records: u64,
+    /// How many bytes of magic values may still be taken.
+    pub value_bytes: u64,
+}
+
+impl Budget {
+    /// A quarter of the cache's length, rounded down, and the cache's length. No cache that is packed
+    /// needs more.
+    pub fn of(cache: &Cache<'_>) -> Budget
+        ensures records { result.records ≡ length cache.now / 4 }
+        ensures value_bytes { result.value_bytes ≡ length cache.now }
+    {
+        let length = cache.length();
+        Budget {
+            records: length / 4,
+            value_bytes: length,
+        }
+    }
+}

@@ -1,0 +1,189 @@
+//! A cache whose header was read ("The mime.cache files").
+
+ghost use Rattle.std.specs.Prelude.{◌≡◌, ◌⊎◌, ℕ, ◌+◌, ◌*◌, ◌<◌, ◌≤◌, List, Ok, length, option_map, IfErr, IfOk, IfSome, IsOkAnd, MatchResult};
+ghost use Rattle.mime_base.specs.Cache.Bytes.{Stands, field};
+ghost use Rattle.mime_base.specs.Cache.Texts.{text_at};
+ghost use Rattle.mime_base.specs.Database.Subclass.{resolved};
+ghost use Rattle.mime_base.specs.Format.Header.{HeaderAt, Offsets};
+ghost use Rattle.mime_base.specs.Format.Magic.{MagicAt};
+ghost use Rattle.mime_base.specs.Format.Pairs.{PairsAt};
+ghost use Rattle.mime_base.specs.Magic.{PlainSection};
+ghost use Rattle.mime_base.specs.Magic.Extent.{sections_extent};
+ghost use Rattle.mime_view.specs.Lists.{IsListFault, IsTextFault};
+ghost use Rattle.mime_view.specs.Pairs.{looked_up};
+ghost use Rattle.mime_view.specs.Opening.{IsOpenFault, Opens};
+
+use crate::budget::Budget;
+use crate::fault::CacheFault;
+use crate::pairs::look_up_pair;
+use mime_base::{Counted, Meter};
+use std::marker::Model;
+
+/// The fewest bytes of a cache: its header.
+const HEADER: u64 = 40;
+
+/// The most bytes of a cache.
+const LARGEST: u64 = 268_435_456;
+
+/// A cache of version 1.2.
+///
+/// Nothing behind the header is trusted. Names that its calls give borrow from the cache's bytes.
+#[derive(Drop)]
+pub struct Cache<'a> {
+    counted: Counted<'a>,
+    header: [u32; 10],
+}
+
+impl<'a> Model for Cache<'a> {
+    ghost use Rattle.std.specs.Prelude.{◌≡◌, ℕ, List};
+    ghost use Rattle.mime_base.specs.Cache.Bytes.{fields};
+    ghost use Rattle.mime_view.specs.Opening.{Opens};
+
+    ghost Value = { List ℕ };
+
+    ghost view = { λ cache. cache.counted };
+
+    ghost invariant = { λ cache. (cache.header ≡ fields cache.counted 0 10) × Opens cache.counted };
+}
+
+impl<'a> Cache<'a> {
+    /// Reads the header of a cache.
+    ///
+    /// It adds one node where there are 40 bytes. It takes no memory.
+    ///
+    /// # Errors
+    ///
+    /// [`CacheFault::Truncated`] below 40 bytes, else [`CacheFault::Version`] unless it is 1.2, else
+    /// [`CacheFault::TooLarge`] above 268,435,456 bytes.
+    pub fn open(counted: Counted<'a>, meter: &mut Meter) -> Result<Cache<'a>, CacheFault>
+        ensures opened { MatchResult result
+            (λ cache. (cache ≡ counted.entry) × Opens counted.entry) (IsOpenFault counted.entry) }
+        ensures nodes { meter.new.nodes ≤ meter.old.nodes + 1 }
+        ensures rises { meter.old.nodes ≤ meter.new.nodes }
+        ensures bytes { meter.new.bytes ≡ meter.old.bytes }
+    {
+        let length = counted.length();
+        if length < HEADER {
+            return Err(CacheFault::Truncated);
+        }
+        let header = counted.cards::<10>(0, meter)?;
+        let [version, ..] = header;
+        let major = (version / 65_536) as u16;
+        let minor = (version % 65_536) as u16;
+        if (major, minor) != (1, 2) {
+            return Err(CacheFault::Version(major, minor));
+        }
+        if length > LARGEST {
+            return Err(CacheFault::TooLarge);
+        }
+        Ok(Cache { counted, header })
+    }
+
+    /// How many bytes the cache has. It adds nothing.
+    pub fn length(&self) -> u64
+        ensures { result ≡ length self.now }
+    {
+        self.counted.length()
+    }
+
+    /// The type that an alias stands for, or the name itself where it is no alias ("Directory layout").
+    ///
+    /// It takes no memory and nothing of the budget.
+    pub fn unalias(
+        &self,
+        kind: &'a [u8],
+        meter: &mut Meter,
+        budget: &mut Budget,
+    ) -> Result<&'a [u8], CacheFault>
+        ensures answer { (offsets : Offsets) (pairs : List (List ℕ × List ℕ)) → HeaderAt (Stands self.now) offsets →
+            PairsAt (Stands self.now) offsets.aliases pairs → IsOkAnd result (λ name. name.now ≡ resolved pairs kind.now) }
+        ensures text { IfOk result (λ name. (name.now ≡ kind.now) ⊎ ((at : ℕ) × (text_at self.now at ≡ Ok name.now))) }
+        ensures fault { IfErr result (λ e. IsListFault self.now (field self.now 0 1) 8 e ⊎ IsTextFault self.now e) }
+        ensures budget { budget.new ≡ budget.old }
+        ensures rises { meter.old.nodes ≤ meter.new.nodes }
+        ensures nodes { meter.new.nodes ≤ meter.old.nodes + 29 }
+        ensures bytes_rise { meter.old.bytes ≤ meter.new.bytes }
+        ensures bytes { meter.new.bytes ≤ meter.old.bytes + 256 * 29 }
+    {
+        let _ = budget;
+        let name = look_up_pair(&self.counted, u64::from(self.header[1]), kind, meter)?;
+        match name {
+            Some(name) => Ok(name),
+            None => Ok(kind),
+        }
+    }
+
+    /// The name of a type's icon, where the cache has one ("The mime.cache files").
+    ///
+    /// It takes no memory and nothing of the budget.
+    pub fn icon(
+        &self,
+        kind: &[u8],
+        meter: &mut Meter,
+        budget: &mut Budget,
+    ) -> Result<Option<&'a [u8]>, CacheFault>
+        ensures answer { (offsets : Offsets) (icons : List (List ℕ × List ℕ)) → HeaderAt (Stands self.now) offsets →
+            PairsAt (Stands self.now) offsets.icons icons →
+            IsOkAnd result (λ name. option_map (λ text. text.now) name ≡ looked_up icons kind.now) }
+        ensures text { IfOk result (λ name. IfSome name (λ text. (at : ℕ) × (text_at self.now at ≡ Ok text.now))) }
+        ensures fault { IfErr result (λ e. IsListFault self.now (field self.now 0 8) 8 e ⊎ IsTextFault self.now e) }
+        ensures budget { budget.new ≡ budget.old }
+        ensures rises { meter.old.nodes ≤ meter.new.nodes }
+        ensures nodes { meter.new.nodes ≤ meter.old.nodes + 29 }
+        ensures bytes_rise { meter.old.bytes ≤ meter.new.bytes }
+        ensures bytes { meter.new.bytes ≤ meter.old.bytes + 256 * 29 }
+    {
+        let _ = budget;
+        let name = look_up_pair(&self.counted, u64::from(self.header[8]), kind, meter)?;
+        Ok(name)
+    }
+
+    /// The name of the icon that stands for a type and those like it, where the cache has one ("The
+    /// mime.cache files").
+    ///
+    /// It takes no memory and nothing of the budget.
+    pub fn generic_icon(
+        &self,
+        kind: &[u8],
+        meter: &mut Meter,
+        budget: &mut Budget,
+    ) -> Result<Option<&'a [u8]>, CacheFault>
+        ensures answer { (offsets : Offsets) (icons : List (List ℕ × List ℕ)) → HeaderAt (Stands self.now) offsets →
+            PairsAt (Stands self.now) offsets.generic_icons icons →
+            IsOkAnd result (λ name. option_map (λ text. text.now) name ≡ looked_up icons kind.now) }
+        ensures text { IfOk result (λ name. IfSome name (λ text. (at : ℕ) × (text_at self.now at ≡ Ok text.now))) }
+        ensures fault { IfErr result (λ e. IsListFault self.now (field self.now 0 9) 8 e ⊎ IsTextFault self.now e) }
+        ensures budget { budget.new ≡ budget.old }
+        ensures rises { meter.old.nodes ≤ meter.new.nodes }
+        ensures nodes { meter.new.nodes ≤ meter.old.nodes + 29 }
+        ensures bytes_rise { meter.old.bytes ≤ meter.new.bytes }
+        ensures bytes { meter.new.bytes ≤ meter.old.bytes + 256 * 29 }
+    {
+        let _ = budget;
+        let name = look_up_pair(&self.counted, u64::from(self.header[9]), kind, meter)?;
+        Ok(name)
+    }
+
+    /// How much of a content the lines of magic can look at, as the cache states it, in bytes ("The
+    /// mime.cache files").
+    ///
+    /// It takes no memory and nothing of the budget.
+    pub fn extent(&self, meter: &mut Meter, budget: &mut Budget) -> Result<u32, CacheFault>
+        ensures answer { (offsets : Offsets) (sections : List PlainSection) → HeaderAt (Stands self.now) offsets →
+            MagicAt (Stands self.now) offsets.magic sections → IsOkAnd result (λ extent. extent ≡ sections_extent sections) }
+        ensures stated { IfOk result (λ extent. extent ≡ field self.now (field self.now 0 6) 1) }
+        ensures fault { IfErr result (λ e. (length self.now < field self.now 0 6 + 12)
+            × (e ≡ CacheFault.OutOfRange (field self.now 0 6))) }
+        ensures budget { budget.new ≡ budget.old }
+        ensures rises { meter.old.nodes ≤ meter.new.nodes }
+        ensures nodes { meter.new.nodes ≤ meter.old.nodes + 1 }
+        ensures bytes { meter.new.bytes ≡ meter.old.bytes }
+    {
+        let _ = budget;
+        let [_, extent, _] = self.counted.cards::<3>(u64::from(self.header[6]), meter)?;
+        Ok(extent)
+    }
+}
+
+#[cfg(test)]
+mod tests;

@@ -1,0 +1,19 @@
+//! The reader of a cache that nobody vouches for.
+//!
+//! Any byte of a cache may be damaged or hostile. Each call returns with an answer or a
+//! [`CacheFault`] that says what is wrong and where, whatever the bytes are, and adds to a meter what
+//! it visited and compared. Bytes are read by `Counted` of mime_base alone.
+//!
+//! Read `cache` first, then `search`, by which each sorted list is read.
+#![tactic(auto)]
+
+mod budget;
+mod cache;
+mod fault;
+mod list;
+mod pairs;
+mod search;
+
+pub use budget::Budget;
+pub use cache::Cache;
+pub use fault::CacheFault;

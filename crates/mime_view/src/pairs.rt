@@ -1,0 +1,47 @@
+//! Sorted lists of two names an entry: aliases, icons and generic icons.
+
+ghost use Rattle.std.specs.Prelude.{◌≡◌, ℕ, ◌+◌, ◌*◌, ◌^◌, ◌≤◌, ◌<◌, ◌⊎◌, List, Ok, length, option_map, IfOk, IfErr, IfSome, IsOkAnd};
+ghost use Rattle.mime_base.specs.Cache.Texts.{text_at};
+ghost use Rattle.mime_view.specs.Lists.{IsListFault, IsTextFault};
+ghost use Rattle.mime_view.specs.Pairs.{ReadsPairs, looked_up};
+
+use crate::fault::CacheFault;
+use crate::list::count_at;
+use crate::search::first_not_less;
+use mime_base::{Counted, Meter};
+use std::cmp::Ordering;
+
+/// The second name of the pair that begins with the key, in the list at `at`.
+pub fn look_up_pair<'a>(
+    counted: &Counted<'a>,
+    at: u64,
+    key: &[u8],
+    meter: &mut Meter,
+) -> Result<Option<&'a [u8]>, CacheFault>
+    requires at { at < 2 ^ 32 }
+    requires limit { length counted.now ≤ 2 ^ 28 }
+    ensures answer { (pairs : List (List ℕ × List ℕ)) → ReadsPairs counted.now at pairs →
+        IsOkAnd result (λ name. option_map (λ text. text.now) name ≡ looked_up pairs key.now) }
+    ensures text { IfOk result (λ name. IfSome name (λ text.
+        (place : ℕ) × (text_at counted.now place ≡ Ok text.now))) }
+    ensures fault { IfErr result (λ e. IsListFault counted.now at 8 e ⊎ IsTextFault counted.now e) }
+    ensures rises { meter.old.nodes ≤ meter.new.nodes }
+    ensures nodes { meter.new.nodes ≤ meter.old.nodes + 29 }
+    ensures bytes_rise { meter.old.bytes ≤ meter.new.bytes }
+    ensures bytes { meter.new.bytes ≤ meter.old.bytes + 256 * 29 }
+{
+    let count = count_at(counted, at, 8, meter)?;
+    let first = at + 4;
+    let place = first_not_less(counted, first, count, 8, key, meter)?;
+    if place == count {
+        return Ok(None);
+    }
+    let [name, target] = counted.cards::<2>(first + 8 * place, meter)?;
+    match counted.compare_text(u64::from(name), key, meter)? {
+        Ordering::Equal => {
+            let text = counted.text_at(u64::from(target), meter)?;
+            Ok(Some(text))
+        }
+        _ => Ok(None),
+    }
+}
