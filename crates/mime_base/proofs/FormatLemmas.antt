@@ -1,1 +1,3 @@
 pub mod Sample
+pub mod SampleParts
+pub mod SampleTree

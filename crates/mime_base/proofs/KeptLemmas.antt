@@ -3,11 +3,13 @@
 pub mod Greatest
 pub mod Both
 pub mod Offers
-use Rattle.std.proofs.Common.{◌≡◌, ℕ, ◌+◌, ◌*◌, ◌<◌, ◌≤◌, Bool, true, false, cond, ◌&&◌, ◌||◌, ◌==◌, nat_lt, List, [], ◌∷◌, length, get_or, max, refl, sym, ap, ◌∙◌, arith}
+use Rattle.std.proofs.Common.{◌≡◌, ℕ, ◌+◌, ◌*◌, ◌<◌, ◌≤◌, Bool, true, false, cond, ◌&&◌, ◌||◌, ◌==◌, nat_lt, List, []}
+use Rattle.std.proofs.Common.{◌∷◌, length, get_or, max, refl, sym, ap, ◌∙◌, arith}
 use Rattle.std.specs.List.{filter}
 use Rattle.std.proofs.lemmas.Bool.{and_parts, leb-true, true≢false}
 use Rattle.std.proofs.lemmas.List.Elements.{All-weaker, filter_agree}
-use Rattle.mime_base.specs.Kept.{class_of, greatest, of_greatest, earliness, any_cased, of_first_class, heaviest, longest, cased_if_any, preferred, rank, FitsRank, GreatestRankIsPreferred}
+use Rattle.mime_base.specs.Kept.{class_of, greatest, of_greatest, earliness, any_cased, of_first_class, heaviest}
+use Rattle.mime_base.specs.Kept.{longest, cased_if_any, preferred, rank, FitsRank, GreatestRankIsPreferred}
 use Rattle.mime_base.specs.Names.{is_pattern}
 use Rattle.mime_base.specs.declared.database.rule.GlobRule.{GlobRule}
 use Rattle.mime_base.proofs.KeptLemmas.Both.{of_greatest-of_greatest}

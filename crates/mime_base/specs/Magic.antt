@@ -5,7 +5,8 @@ pub mod Extent
 pub mod Holds
 pub mod HoldsRows
 pub mod Textual
-use Rattle.std.specs.Prelude.{ℕ, zero, suc, ◌+◌, ◌%◌, Bool, true, false, ◌&&◌, ◌||◌, ◌==◌, nat_lt, List, [], ◌∷◌, map, length, Option, Some, None}
+use Rattle.std.specs.Prelude.{ℕ, zero, suc, ◌+◌, ◌%◌, Bool, true, false, ◌&&◌, ◌||◌, ◌==◌, nat_lt, List, [], ◌∷◌, map}
+use Rattle.std.specs.Prelude.{length, Option, Some, None}
 use Rattle.std.specs.List.{list_all}
 use Rattle.std.specs.List.Sorted.{IsSortedBy}
 use Rattle.std.specs.Global.{Vec}

@@ -8,7 +8,8 @@ pub mod byte_fault;
 pub mod byte_laws;
 pub mod comparing;
 
-ghost use Rattle.std.specs.Prelude.{◌≡◌, true, false, ℕ, ◌+◌, ◌*◌, ◌<◌, ◌≤◌, List, length, take, min, Ok, Err, if◌then◌else◌, IfOk, IfErr, OnOk, OnErr, MatchOption, MatchResult};
+ghost use Rattle.std.specs.Prelude.{◌≡◌, true, false, ℕ, ◌+◌, ◌*◌, ◌<◌, ◌≤◌, List, length, take, min, Ok, Err};
+ghost use Rattle.std.specs.Prelude.{if◌then◌else◌, IfOk, IfErr, OnOk, OnErr, MatchOption, MatchResult};
 ghost use Rattle.std.specs.Ordering.{nat_cmp};
 ghost use Rattle.std.specs.Cmp.Lexicographic.{slice_cmp};
 ghost use Rattle.mime_base.specs.Cache.Bytes.{both_lie, fields, lies, optional_mask, value_at};

@@ -5,7 +5,8 @@
 
 ghost use Rattle.std.specs.Prelude.{◌≡◌, ◌<◌, true, false, length, MatchResult};
 ghost use Rattle.std.specs.List.{list_all};
-ghost use Rattle.mime_base.specs.Names.{has_inner_slash, is_icon_byte, is_icon_name, is_name_byte, is_pattern, is_pattern_byte, is_type_name};
+ghost use Rattle.mime_base.specs.Names.{has_inner_slash, is_icon_byte, is_icon_name, is_name_byte, is_pattern};
+ghost use Rattle.mime_base.specs.Names.{is_pattern_byte, is_type_name};
 
 use std::alloc::Global;
 use std::marker::Model;

@@ -3,7 +3,9 @@ use Rattle.std.proofs.Common.{◌≡◌, ℕ, zero, suc, ◌+◌, ◌<◌, max, 
 use Rattle.std.proofs.Common.{ap, ◌∙◌, arith}
 use Rattle.std.proofs.lemmas.Bool.{and_parts, ltb-true}
 use Rattle.mime_base.specs.Magic.Extent.{forest_extent, sections_extent}
-use Rattle.mime_base.specs.Magic.{Forest, PlainMatchlet, PlainSection, are_allowed, are_allowed_sections, bare, forest_of, is_allowed, line, plain_matchlet, plain_matchlets, plain_section, plain_sections}
+use Rattle.mime_base.specs.Magic.{Forest, PlainMatchlet, PlainSection, are_allowed, are_allowed_sections, bare}
+use Rattle.mime_base.specs.Magic.{forest_of, is_allowed, line, plain_matchlet, plain_matchlets, plain_section}
+use Rattle.mime_base.specs.Magic.{plain_sections}
 use Rattle.mime_base.specs.declared.magic.matchlet.Matchlet.{Matchlet}
 use Rattle.mime_base.specs.declared.magic.Section.{Section}
 use Rattle.mime_store.specs.Lines.{matchlet_extent}

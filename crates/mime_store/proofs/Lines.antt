@@ -7,7 +7,8 @@ use Rattle.mime_base.specs.Format.Magic.{IsSection, LinesAt, MaskAt, width}
 use Rattle.mime_base.specs.Format.Records.{CardsAt, RecordsAt, Standing}
 use Rattle.mime_base.specs.Format.Room.{lines_room, mask_room, padded}
 use Rattle.mime_base.specs.Magic.Extent.{forest_extent}
-use Rattle.mime_base.specs.Magic.{Forest, PlainMatchlet, bare, forest_of, line, line_from, mask_bytes, plain_matchlet, plain_matchlet_over, plain_matchlets}
+use Rattle.mime_base.specs.Magic.{Forest, PlainMatchlet, bare, forest_of, line, line_from, mask_bytes, plain_matchlet}
+use Rattle.mime_base.specs.Magic.{plain_matchlet_over, plain_matchlets}
 use Rattle.mime_base.specs.declared.magic.matchlet.Matchlet.{Matchlet}
 use Rattle.mime_base.specs.declared.magic.matchlet.Matchlet.TheFolds.{fold_out-Matchlet}
 use Rattle.mime_base.specs.declared.magic.matchlet.Matchlet.TheViews.{out-Matchlet}

@@ -4,7 +4,8 @@ use Rattle.std.proofs.Common.{inl, inr, ⊎_elim, length, refl, sym, subst, ◌�
 use Rattle.std.proofs.lemmas.Bool.{eq-eqb, ne_eqb}
 use Rattle.mime_store.specs.Endings.{Entry, PathLe, Rises, common, nodes}
 use Rattle.mime_base.specs.Format.SuffixTree.{fronts}
-use Rattle.mime_store.proofs.Distinct.{paths, all_fronts, endings_count, missing, missing-map, missing-alike, distinct_append, fronts_distinct, begins, has, missing_members}
+use Rattle.mime_store.proofs.Distinct.{paths, all_fronts, endings_count, missing, missing-map, missing-alike}
+use Rattle.mime_store.proofs.Distinct.{distinct_append, fronts_distinct, begins, has, missing_members}
 
 -- what is after x in the paths that begin with it
 abbrev tails : ℕ → List (List ℕ) → List (List ℕ)

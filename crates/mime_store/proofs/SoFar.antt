@@ -10,7 +10,8 @@ use Rattle.mime_store.specs.Endings.{nodes, pick}
 use Rattle.mime_store.specs.Written.{Grew, Written}
 use Rattle.mime_store.proofs.Records.{RecordsIn, records_are, records_push, records_stand}
 use Rattle.mime_store.proofs.Written.{grew_none, grew_on, grew_to, written_more}
-use Rattle.mime_store.proofs.Siblings.{sibling_keeps, sibling_sized, tree_from_records, width-as_tree, nodes-push, leaf_count-push, leaves-push, last_byte, last_byte-push, order-push}
+use Rattle.mime_store.proofs.Siblings.{sibling_keeps, sibling_sized, tree_from_records, width-as_tree, nodes-push}
+use Rattle.mime_store.proofs.Siblings.{leaf_count-push, leaves-push, last_byte, last_byte-push, order-push}
 
 -- the siblings so far are in order, and some path stands before the rest
 pub record Ordered (xs : List Sibling) (rest : List Entry) : Type 0 where

@@ -46,7 +46,8 @@ pub cache_spells : (o1 o2 o3 o4 o5 o6 o7 o8 o9 c : List ℕ) (parts : Parts) (ru
     → Grew o7 o8 s8 → ListAt (Written o8) 8 (IsPair (Written o8)) o.icons (map texts parts.icons.items)
     → Grew o8 o9 s9 → ListAt (Written o9) 8 (IsPair (Written o9)) o.generic_icons (map texts parts.generic_icons.items)
     → c ≡ cards (header_numbers o) ++ drop 40 o9 → HeaderAt (Stands c) o → length c ≤ cache_limit → Spells c (plain_database b)
-cache_spells o1 o2 o3 o4 o5 o6 o7 o8 o9 c parts runs b o s2 s3 s4 s5 s6 s7 s8 s9 are h aliases g2 parents g3 literals g4 tree g5 globs g6 magic g7 g8 icons g9 generic is header within =
+cache_spells o1 o2 o3 o4 o5 o6 o7 o8 o9 c parts runs b o s2 s3 s4 s5 s6 s7 s8 s9 are h
+    aliases g2 parents g3 literals g4 tree g5 globs g6 magic g7 g8 icons g9 generic is header within =
     let u9 : Carries (Written o9) (Stands c) =
     subst (λ (bytes : List ℕ). Carries (Written o9) (Stands bytes)) (sym is)
     (patched o9 (cards (header_numbers o)) (length-cards (header_numbers o))) in

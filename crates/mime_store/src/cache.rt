@@ -96,6 +96,7 @@ fn take_room(
 }
 
 /// The parts, and then the header in the place that was kept for it.
+#[tactic(auto, using(crate::proofs::Written::grew_length, crate::proofs::Spelling::kept_length))]
 fn write_parts(
     alloc: Global,
     database: &Database,
@@ -104,7 +105,7 @@ fn write_parts(
 ) -> Result<Vec<u8>, OutOfMemory>
     requires parts { AreParts parts.now database.now }
     requires runs { AreRuns (map plain_run runs.now) (map texts parts.now.parents.items) }
-    requires room { room (plain_database database.now) ≤ cache_limit }
+    requires room { parts_room parts.now runs.now database.now.sections.items ≤ cache_limit }
     ensures spells { IfOk result (λ cache. Spells cache.items (plain_database database.now)) }
     ensures packed { IfOk result (λ cache. Packed cache.items (plain_database database.now)) }
     ensures long { IfOk result (λ cache. length cache.items ≡ room (plain_database database.now)) }

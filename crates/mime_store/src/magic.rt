@@ -4,7 +4,8 @@ ghost use Rattle.std.specs.Prelude.{◌≡◌, ◌+◌, ◌^◌, ◌<◌, ◌≤
 ghost use Rattle.mime_base.specs.Format.Magic.{IsSection, LinesAt, MagicAt, MaskAt};
 ghost use Rattle.mime_base.specs.Format.Room.{lines_room, mask_room, sections_room};
 ghost use Rattle.mime_base.specs.Magic.Extent.{forest_extent, sections_extent};
-ghost use Rattle.mime_base.specs.Magic.{are_allowed_sections, forest_of, mask_bytes, plain_matchlet, plain_matchlets, plain_section, plain_sections};
+ghost use Rattle.mime_base.specs.Magic.{are_allowed_sections, forest_of, mask_bytes, plain_matchlet, plain_matchlets};
+ghost use Rattle.mime_base.specs.Magic.{plain_section, plain_sections};
 ghost use Rattle.mime_store.specs.Lines.{IsLine, matchlet_extent, parts_room, section_parts_room};
 ghost use Rattle.mime_store.specs.Written.{Grew, Written};
 

@@ -1,5 +1,6 @@
 -- What stands before the first zero of bytes.
-use Rattle.std.proofs.Common.{◌≡◌, ℕ, zero, suc, ◌<◌, ◌≤◌, ◌==◌, nat_eq, nat_lt, Bool, true, false, cond, List, [], ◌∷◌, length, get_or, take, Ordering, Err, Option, Some, None, refl, arith}
+use Rattle.std.proofs.Common.{◌≡◌, ℕ, zero, suc, ◌<◌, ◌≤◌, ◌==◌, nat_eq, nat_lt, Bool, true, false, cond, List, [], ◌∷◌}
+use Rattle.std.proofs.Common.{length, get_or, take, Ordering, Err, Option, Some, None, refl, arith}
 use Rattle.std.specs.Prelude.{MatchOption}
 use Rattle.memchr.specs.Find.{IsFirstByte, is_byte}
 use Rattle.std.proofs.lemmas.Bool.{le-ltb, ltb-false}

@@ -1,5 +1,6 @@
 -- What is kept by one number: of two lists, of one element more at either end, and over the values of a function.
-use Rattle.std.proofs.Common.{◌≡◌, ℕ, ◌<◌, ◌==◌, Bool, true, false, cond, inl, inr, List, [], ◌∷◌, ◌++◌, map, max, refl, sym, ap, ◌∙◌, arith, eq-eqb}
+use Rattle.std.proofs.Common.{◌≡◌, ℕ, ◌<◌, ◌==◌, Bool, true, false, cond, inl, inr, List, [], ◌∷◌, ◌++◌, map, max, refl}
+use Rattle.std.proofs.Common.{sym, ap, ◌∙◌, arith, eq-eqb}
 use Rattle.std.specs.List.{All, filter}
 use Rattle.std.proofs.lemmas.Bool.{ne_eqb, cases_order}
 use Rattle.std.proofs.lemmas.List.{append-nil}

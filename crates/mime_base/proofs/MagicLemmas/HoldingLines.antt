@@ -1,11 +1,13 @@
 -- Lines of magic that hold, in the steps of a search through offsets and lines.
-use Rattle.std.proofs.Common.{◌≡◌, ℕ, zero, suc, ◌+◌, ◌-◌, ◌<◌, ◌≤◌, ◌&&◌, ◌||◌, ◌==◌, Bool, true, false, List, [], ◌∷◌, length, take, drop, get_or, drop-cons, Option, Some, None, refl, sym, ap, ◌∙◌, arith}
+use Rattle.std.proofs.Common.{◌≡◌, ℕ, zero, suc, ◌+◌, ◌-◌, ◌<◌, ◌≤◌, ◌&&◌, ◌||◌, ◌==◌, Bool, true, false, List, [], ◌∷◌}
+use Rattle.std.proofs.Common.{length, take, drop, get_or, drop-cons, Option, Some, None, refl, sym, ap, ◌∙◌, arith}
 use Rattle.std.specs.Prelude.{map}
 use Rattle.std.proofs.Math.Bool.{or-false}
 use Rattle.std.proofs.lemmas.List.{drop_more}
 use Rattle.std.proofs.lemmas.Bool.{and_from, and_left, and_right, le-leb, lt-leb, or_left}
 use Rattle.mime_base.specs.Magic.Holds.{bytes_of_mask, equals_at, equals_from, is_bare, line_holds, some_holds}
-use Rattle.mime_base.specs.Magic.{Forest, PlainLine, PlainMatchlet, bare, forest_of, line, line_from, mask_bytes, plain_matchlet, plain_matchlet_over, plain_matchlets}
+use Rattle.mime_base.specs.Magic.{Forest, PlainLine, PlainMatchlet, bare, forest_of, line, line_from, mask_bytes}
+use Rattle.mime_base.specs.Magic.{plain_matchlet, plain_matchlet_over, plain_matchlets}
 use Rattle.mime_base.specs.Magic.Masking.{window_equals}
 use Rattle.mime_base.specs.declared.magic.host.Host.{Host}
 use Rattle.mime_base.specs.declared.magic.matchlet.Matchlet.{Matchlet}
@@ -62,7 +64,8 @@ module _ (own : PlainLine) (host : Host) (content : List ℕ) where
 
 -- no mask is a mask without bytes
 pub equals_from-mask : (start range word : ℕ) (value : List ℕ) (mask : Option (List ℕ)) (host : Host) (content : List ℕ) (at n : ℕ) →
-    equals_from (line_from start range word value (Some (bytes_of_mask mask))) host content at n ≡ equals_from (line_from start range word value mask) host content at n
+    equals_from (line_from start range word value (Some (bytes_of_mask mask))) host content at n
+    ≡ equals_from (line_from start range word value mask) host content at n
 unfolding equals_from
 equals_from-mask start range word value mask host content at zero = refl
 equals_from-mask start range word value mask host content at (suc n) =

@@ -1,5 +1,6 @@
 -- A window against a value under its mask, byte by byte.
-use Rattle.std.proofs.Common.{◌≡◌, ℕ, ◌+◌, ◌<◌, ◌≤◌, ◌==◌, nat_eq, true, List, length, get_or, drop, bit_and, ap, ◌∙◌, sym, arith, length-drop}
+use Rattle.std.proofs.Common.{◌≡◌, ℕ, ◌+◌, ◌<◌, ◌≤◌, ◌==◌, nat_eq, true, List, length, get_or, drop, bit_and, ap, ◌∙◌}
+use Rattle.std.proofs.Common.{sym, arith, length-drop}
 use Rattle.std.proofs.lemmas.Bool.{eq-eqb, ne_eqb}
 use Rattle.std.proofs.lemmas.List.Sums.{common_prefix_len-drop_no, common_prefix_len-drop_yes, common_prefix_len-le}
 use Rattle.std.specs.List.{common_prefix_len}

@@ -1,13 +1,14 @@
 -- What an attempt says of the whole: from how elements went and halted, whether they match, and how many tests they owe.
-use Rattle.std.proofs.Common.{◌≡◌, ℕ, zero, suc, ◌+◌, ◌-◌, ◌<◌, ◌≤◌, Bool, true, false, ◌&&◌, ◌||◌, List, [], ◌∷◌, length, drop, refl, sym, ap, ◌∙◌, arith, length-drop, inl, inr}
-use Rattle.std.proofs.lemmas.Bool.{and_parts, false_from_ne_true, not-true, true≢false, cases_lt}
-use Rattle.std.proofs.lemmas.List.{drop-drop, drop_all}
+use Rattle.std.proofs.Common.{◌≡◌, ℕ, zero, suc, ◌+◌, ◌-◌, ◌<◌, ◌≤◌, Bool, true, false, ◌&&◌, ◌||◌, List, [], ◌∷◌}
+use Rattle.std.proofs.Common.{length, drop, refl, sym, ap, ◌∙◌, arith, length-drop, inl, inr}
+use Rattle.std.proofs.lemmas.Bool.{false_from_ne_true, not-true, true≢false}
+use Rattle.std.proofs.lemmas.List.{drop-drop}
 use Rattle.mime_base.specs.Matching.Attempt.{Goes, HaltsAt, decided, last_tests, owed}
 use Rattle.mime_base.specs.Matching.Elements.{Element, any_bytes, one, OneByte, admits}
 use Rattle.mime_base.specs.Matching.Matches.{matches, some_ending}
 use Rattle.mime_base.specs.declared.matching.attempt.Halt.{Halt}
 use Rattle.mime_base.specs.declared.matching.attempt.Halt.TheVariants.{BothEnd, PatternEnds, NameEnds, Star, Refused}
-use Rattle.mime_base.proofs.MatchingLemmas.Matches.{matches-nil, matches-one, matches-star, star_cut, star_from}
+use Rattle.mime_base.proofs.MatchingLemmas.Matches.{matches-nil, matches-one, matches-star, one-next, star_cut, star_from}
 
 -- two tests are equal where each passes with the other
 pub same_truth : (a b : Bool) → (a ≡ true → b ≡ true) → (b ≡ true → a ≡ true) → a ≡ b
@@ -83,10 +84,6 @@ one-over : (w : OneByte) (es : List Element) (name : List ℕ) → length name �
 one-over w es [] h = matches-one w es []
 one-over w es (b ∷ name) h = absurd (omega arith)
 
--- elements match what is left after the first byte
-pub one-next : (w : OneByte) (es : List Element) (b : ℕ) (name : List ℕ) → matches (one w ∷ es) (b ∷ name) ≡ true → matches es name ≡ true
-one-next w es b name h = (and_parts _ _ (sym (matches-one w es (b ∷ name)) ∙ h)).1
-
 -- where the name ended, every text that is no longer ends too
 name_ends-false : (k : ℕ) (es : List Element) (name : List ℕ) (after : List Element) → Goes NameEnds k es name after →
     (text : List ℕ) → length text ≤ k → matches es text ≡ true → ⊥
@@ -128,14 +125,6 @@ goes-after_star Star k es name after goes p r =
     star_from after (cut.0 + next.0) (drop k name) (rw (drop-drop, place) (rw (drop-drop, drop-drop) at next.1))))
     (λ m. star_from es 0 name (goes-decided Star k es name after goes ∙ m))
 goes-after_star Refused k es name after goes p r = absurd (r refl)
-
--- what is left by a cut is left by its own length, too
-pub drop-length : (cut : ℕ) (name : List ℕ) → drop (length name - length (drop cut name)) name ≡ drop cut name
-drop-length cut name = elim (cases_lt cut (length name)) [
-  | inl below ↦ (let same : length name - length (drop cut name) ≡ cut = omega (arith, length-drop cut name) in rw same refl)
-  | inr past ↦ (let none : drop cut name ≡ [] = drop_all cut name past in
-      drop_all (length name - length (drop cut name)) name (omega (arith, ap length none)) ∙ sym none)
-]
 
 -- where an element refused, the star takes one byte more
 pub refused-after_star : (k : ℕ) (es : List Element) (name : List ℕ) (after : List Element) → Goes Refused k es name after →

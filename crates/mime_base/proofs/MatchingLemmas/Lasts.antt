@@ -1,5 +1,6 @@
 -- After the last star: the elements match at the one place that leaves a byte for each, and are tested there alone.
-use Rattle.std.proofs.Common.{◌≡◌, ℕ, zero, suc, ◌+◌, ◌-◌, ◌<◌, ◌≤◌, Bool, true, false, min, List, [], ◌∷◌, length, drop, refl, sym, ap, ◌∙◌, arith, length-drop}
+use Rattle.std.proofs.Common.{◌≡◌, ℕ, zero, suc, ◌+◌, ◌-◌, ◌<◌, ◌≤◌, Bool, true, false, min, List, [], ◌∷◌, length}
+use Rattle.std.proofs.Common.{drop, refl, sym, ap, ◌∙◌, arith, length-drop}
 use Rattle.std.proofs.lemmas.Bool.{false_from_ne_true, le-ltb, lt-ltb, true≢false}
 use Rattle.std.proofs.lemmas.List.{drop-map, length-map}
 use Rattle.mime_base.specs.Matching.Attempt.{Goes, decided, last_tests, owed, tests_after}
@@ -9,17 +10,9 @@ use Rattle.mime_base.specs.Matching.Folding.{compared, compared_byte}
 use Rattle.mime_base.specs.Matching.Matches.{matches}
 use Rattle.mime_base.specs.declared.matching.attempt.Halt.{Halt}
 use Rattle.mime_base.specs.declared.matching.attempt.Halt.TheVariants.{BothEnd, PatternEnds, NameEnds, Star, Refused}
-use Rattle.mime_base.proofs.MatchingLemmas.Matches.{matches-nil, matches-one, star_cut, star_from}
-use Rattle.mime_base.proofs.MatchingLemmas.Attempts.{drop-length, goes-decided, goes-owed, one-next, same_truth}
+use Rattle.mime_base.proofs.MatchingLemmas.Matches.{drop-length, matches-size, star_cut, star_from}
+use Rattle.mime_base.proofs.MatchingLemmas.Attempts.{goes-decided, goes-owed, same_truth}
 use Rattle.mime_base.proofs.MatchingLemmas.Counts.{goes-tests, tests_of-star}
-
--- they match only texts of a byte for each
-matches-size : (es : List Element) (text : List ℕ) → has_star es ≡ false → matches es text ≡ true → length text ≡ length es
-matches-size [] [] none m = refl
-matches-size [] (b ∷ text) none m = absurd (true≢false (sym m ∙ matches-nil (b ∷ text)))
-matches-size (any_bytes ∷ es) text none m = absurd (true≢false none)
-matches-size (one w ∷ es) [] none m = absurd (true≢false (sym m ∙ matches-one w es []))
-matches-size (one w ∷ es) (b ∷ text) none m = let h = matches-size es text none (one-next w es b text m) in omega arith
 
 -- so they match after a star exactly where they match at that place
 pub last-matches : (es : List Element) (name : List ℕ) → has_star es ≡ false →

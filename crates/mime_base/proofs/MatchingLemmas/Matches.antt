@@ -1,6 +1,9 @@
 -- Matching as a test and as a relation, which are equal, and each one element on.
-use Rattle.std.proofs.Common.{◌≡◌, ℕ, zero, suc, ◌↔◌, Bool, true, List, [], ◌∷◌, drop, refl, sym, ◌∙◌, inl, inr, IsTrue}
-use Rattle.std.proofs.lemmas.Bool.{or_cases, and_parts, and_from, or_left, or_right, true≢false}
+use Rattle.std.proofs.Common.{◌≡◌, ℕ, zero, suc, ◌+◌, ◌-◌, ◌<◌, ◌≤◌, ◌↔◌, Bool, true, false, List, [], ◌∷◌, length, drop, length-drop}
+use Rattle.std.proofs.Common.{refl, sym, ap, ◌∙◌, arith, inl, inr, IsTrue}
+use Rattle.std.proofs.lemmas.Bool.{or_cases, and_parts, and_from, or_left, or_right, true≢false, cases_lt}
+use Rattle.std.proofs.lemmas.List.{drop_all}
+use Rattle.mime_base.specs.Matching.Count.{has_star}
 use Rattle.mime_base.specs.Matching.Elements.{Element, any_bytes, one, OneByte, elements}
 use Rattle.mime_base.specs.Matching.Folding.{compared}
 use Rattle.mime_base.specs.Matching.Matches.{Matches, RuleMatches, matches, rule_matches, some_ending, takes_one, is_empty}
@@ -74,3 +77,23 @@ rule_matches-decides pattern cased name answer e = (
   λ t. Matches-from _ _ (sym (rule_matches-compared pattern cased name) ∙ sym e ∙ t),
   λ m. e ∙ rule_matches-compared pattern cased name ∙ matches-from _ _ m,
 )
+
+-- elements match what is left after the first byte
+pub one-next : (w : OneByte) (es : List Element) (b : ℕ) (name : List ℕ) → matches (one w ∷ es) (b ∷ name) ≡ true → matches es name ≡ true
+one-next w es b name h = (and_parts _ _ (sym (matches-one w es (b ∷ name)) ∙ h)).1
+
+-- what is left by a cut is left by its own length, too
+pub drop-length : (cut : ℕ) (name : List ℕ) → drop (length name - length (drop cut name)) name ≡ drop cut name
+drop-length cut name = elim (cases_lt cut (length name)) [
+  | inl below ↦ (let same : length name - length (drop cut name) ≡ cut = omega (arith, length-drop cut name) in rw same refl)
+  | inr past ↦ (let none : drop cut name ≡ [] = drop_all cut name past in
+      drop_all (length name - length (drop cut name)) name (omega (arith, ap length none)) ∙ sym none)
+]
+
+-- elements without a star match only texts of a byte for each
+pub matches-size : (es : List Element) (text : List ℕ) → has_star es ≡ false → matches es text ≡ true → length text ≡ length es
+matches-size [] [] none m = refl
+matches-size [] (b ∷ text) none m = absurd (true≢false (sym m ∙ matches-nil (b ∷ text)))
+matches-size (any_bytes ∷ es) text none m = absurd (true≢false none)
+matches-size (one w ∷ es) [] none m = absurd (true≢false (sym m ∙ matches-one w es []))
+matches-size (one w ∷ es) (b ∷ text) none m = let h = matches-size es text none (one-next w es b text m) in omega arith

@@ -1,8 +1,10 @@
 -- The elements of what stands at a place of a pattern, and how far they have gone.
-use Rattle.std.proofs.Common.{◌≡◌, ℕ, suc, zero, ◌+◌, Bool, true, false, cond, not, ◌==◌, ◌≤◌, List, [], ◌∷◌, length, drop, refl, ap, sym, ◌∙◌, inl, arith, lit<, add-zero, zero-add, eq-eqb, ◌<◌, length-drop}
+use Rattle.std.proofs.Common.{◌≡◌, ℕ, suc, zero, ◌+◌, Bool, true, false, cond, not, ◌==◌, ◌≤◌, List, [], ◌∷◌, length}
+use Rattle.std.proofs.Common.{drop, refl, ap, sym, ◌∙◌, inl, arith, lit<, add-zero, zero-add, eq-eqb, ◌<◌, length-drop}
 use Rattle.std.proofs.lemmas.Bool.{ne_eqb, eqb-true}
 use Rattle.std.proofs.lemmas.List.{drop-map, length-map, nil_from_length}
-use Rattle.mime_base.specs.Matching.Elements.{Element, any_bytes, one, admits, element, elements, elements_after, singles, one_byte, width_after}
+use Rattle.mime_base.specs.Matching.Elements.{Element, any_bytes, one, admits, element, elements, elements_after}
+use Rattle.mime_base.specs.Matching.Elements.{singles, one_byte, width_after}
 use Rattle.mime_base.specs.Matching.Count.{has_star}
 use Rattle.mime_base.specs.Matching.Folding.{compared, compared_byte}
 use Rattle.mime_base.specs.Matching.Attempt.{Goes, HaltsAt, TakesOne, refuses, takes_a_byte}

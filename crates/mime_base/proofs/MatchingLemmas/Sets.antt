@@ -1,11 +1,13 @@
 -- Sets over a text that is folded: folding leaves the marks of a pattern alone.
-use Rattle.std.proofs.Common.{◌≡◌, ℕ, ◌<◌, Bool, true, false, cond, not, ◌==◌, List, [], ◌∷◌, map, drop, refl, ap, ◌∙◌, ◌⊎◌, inl, inr, arith, lit<, None, is_some, IfSome, Option, Bor}
+use Rattle.std.proofs.Common.{◌≡◌, ℕ, ◌<◌, Bool, true, false, cond, not, ◌==◌, List, [], ◌∷◌, map, drop, refl, ap, ◌∙◌}
+use Rattle.std.proofs.Common.{◌⊎◌, inl, inr, arith, lit<, None, is_some, IfSome, Option, Bor}
 use mathlib.Core.Bool.{beq}
 use Rattle.std.specs.Bool.{then_some}
 use Rattle.std.specs.List.{prefix_len, position}
 use Rattle.std.proofs.lemmas.Bool.Decides.{nat_tests}
 use Rattle.std.proofs.lemmas.List.{drop-map, take-map, length-map}
-use Rattle.mime_base.specs.Matching.Elements.{IsSet, none_of, one_of, admits, body, end_of_set, in_ranges, is_negated, is_literal_text, one_byte, ranges, width_after}
+use Rattle.mime_base.specs.Matching.Elements.{IsSet, none_of, one_of, admits, body, end_of_set, in_ranges, is_negated}
+use Rattle.mime_base.specs.Matching.Elements.{is_literal_text, one_byte, ranges, width_after}
 use Rattle.mime_base.specs.Matching.Folding.{compared, compared_byte}
 
 -- a byte that is no letter is one after folding exactly where it was one

@@ -1,5 +1,6 @@
 -- When a line of magic holds for a content, and which section is the first that does.
-use Rattle.std.specs.Prelude.{◌≡◌, refl, ℕ, ◌+◌, zero, suc, Bool, true, false, ◌&&◌, ◌||◌, nat_le, if◌then◌else◌, List, [], ◌∷◌, length, take, drop, Option, Some, None, codes}
+use Rattle.std.specs.Prelude.{◌≡◌, refl, ℕ, ◌+◌, zero, suc, Bool, true, false, ◌&&◌, ◌||◌, nat_le, if◌then◌else◌, List}
+use Rattle.std.specs.Prelude.{[], ◌∷◌, length, take, drop, Option, Some, None, codes}
 use Rattle.mime_base.specs.Magic.{Forest, PlainLine, PlainMatchlet, PlainSection, bare, line, line_from}
 use Rattle.mime_base.specs.Magic.Masking.{window_equals}
 use Rattle.mime_base.specs.declared.magic.host.Host.{Host}

@@ -1,5 +1,6 @@
 -- When a window of bytes equals a magic value: under a mask, and in the host's order of bytes.
-use Rattle.std.specs.Prelude.{◌≡◌, refl, ℕ, ◌%◌, Bool, true, false, ◌&&◌, ◌==◌, nat_eq, if◌then◌else◌, List, [], ◌∷◌, length, bit_and, bytes_eq, codes}
+use Rattle.std.specs.Prelude.{◌≡◌, refl, ℕ, ◌%◌, Bool, true, false, ◌&&◌, ◌==◌, nat_eq, if◌then◌else◌, List, [], ◌∷◌}
+use Rattle.std.specs.Prelude.{length, bit_and, bytes_eq, codes}
 use Rattle.std.specs.List.{common_prefix_len}
 use Rattle.mime_base.specs.declared.magic.host.Host.{Host}
 use Rattle.mime_base.specs.declared.magic.host.Host.TheVariants.{Little, Big}

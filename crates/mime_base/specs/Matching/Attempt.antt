@@ -1,5 +1,6 @@
 -- How the elements of a pattern go along a name from its front, one byte each, and what is left to decide then.
-use Rattle.std.specs.Prelude.{◌≡◌, ℕ, zero, suc, ◌+◌, ◌-◌, ◌<◌, ◌≤◌, Bool, true, false, not, Option, Some, None, List, [], ◌∷◌, length, min, IsTrue}
+use Rattle.std.specs.Prelude.{◌≡◌, ℕ, zero, suc, ◌+◌, ◌-◌, ◌<◌, ◌≤◌, Bool, true, false, not, Option, Some, None, List}
+use Rattle.std.specs.Prelude.{[], ◌∷◌, length, min, IsTrue}
 use Rattle.mime_base.specs.Matching.Elements.{Element, any_bytes, one, admits, elements, singles, HasNoEnd}
 use Rattle.mime_base.specs.Matching.Count.{tests_of}
 use Rattle.mime_base.specs.Matching.Matches.{matches}

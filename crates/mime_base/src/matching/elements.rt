@@ -6,7 +6,8 @@
 //! for a `[` among them no end of a set is sought.
 
 ghost use Rattle.std.specs.Prelude.{◌≡◌, Bool, ◌∷◌, [], ◌+◌, ◌<◌, ◌==◌, IsNone, IfSome, None, is_some, drop, length, position};
-ghost use Rattle.mime_base.specs.Matching.Elements.{HasNoEnd, IsSet, admits, end_of_set, in_ranges, is_literal_text, is_negated, one_byte, ranges, width_after};
+ghost use Rattle.mime_base.specs.Matching.Elements.{HasNoEnd, IsSet, admits, end_of_set, in_ranges, is_literal_text};
+ghost use Rattle.mime_base.specs.Matching.Elements.{is_negated, one_byte, ranges, width_after};
 ghost use Rattle.mime_base.specs.Matching.Folding.{compared, compared_byte};
 
 use crate::matching::folding::as_compared;

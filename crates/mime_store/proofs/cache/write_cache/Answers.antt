@@ -1,3 +1,7 @@
+use Rattle.std.proofs.Common.{arith, map}
+use Rattle.mime_store.specs.Runs.{AreRuns, plain_run}
+use Rattle.mime_store.specs.Views.{texts}
+use Rattle.mime_store.proofs.Spelled.{parts_room-is}
 use Rattle.mime_store.proofs.cache.write_cache.Goals as goal
 
 pub runs-requires : goal.runs-requires
@@ -8,3 +12,15 @@ fits-requires-clause-runs c = rw c.deref-2.ensures.value (rw c.deref.ensures.val
 
 pub write_parts-requires-clause-runs : goal.write_parts-requires-clause-runs
 write_parts-requires-clause-runs c = rw c.deref-3.ensures.value (rw c.deref.ensures.value at c.in_ok-runs.ensures)
+
+pub write_parts-requires-clause-room : goal.write_parts-requires-clause-room
+write_parts-requires-clause-room c =
+    let parts = c.in_ok-parts.parts in
+    let runs : AreRuns (map plain_run c.deref-3.result.now) (map texts parts.parents.items) =
+    rw c.deref-3.ensures.value (rw c.deref.ensures.value at c.in_ok-runs.ensures) in
+    omega (
+      arith,
+      parts_room-is parts c.deref-3.result.now c.args.database.now c.in_ok-parts.ensures runs,
+      c.fits.ensures.0 c.if-not-fits.false,
+      c.lesser.ensures,
+    )

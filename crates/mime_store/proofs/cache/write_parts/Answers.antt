@@ -6,166 +6,11 @@ use Rattle.mime_store.proofs.Spelled.{parts_room-is}
 use Rattle.mime_store.proofs.Written.{grew_length}
 use Rattle.mime_store.proofs.cache.write_parts.Goals as goal
 
-pub write_pairs-requires-clause-room : goal.write_pairs-requires-clause-room
-write_pairs-requires-clause-room c =
-    rw c.deref.ensures.value (omega (
-      arith,
-      c.requires.room,
-      parts_room-is c.args.parts.now c.args.runs.now c.args.database.now c.requires.parts c.requires.runs,
-      kept_length _ _ c.new-out.ensures.items c.in_ok-append_zeros.ensures,
-    ))
-
-pub write_pairs-requires-clause-begun : goal.write_pairs-requires-clause-begun
-write_pairs-requires-clause-begun c =
-    omega (
-      arith,
-      kept_length _ _ c.new-out.ensures.items c.in_ok-append_zeros.ensures,
-    )
-
-pub write_parents-requires-clause-room : goal.write_parents-requires-clause-room
-write_parents-requires-clause-room c =
-    omega (
-      arith,
-      c.requires.room,
-      parts_room-is c.args.parts.now c.args.runs.now c.args.database.now c.requires.parts c.requires.runs,
-      kept_length _ _ c.new-out.ensures.items c.in_ok-append_zeros.ensures,
-      grew_length _ _ _ (rw c.deref.ensures.value at c.in_ok-aliases.ensures.grew),
-    )
-
-pub write_parents-requires-clause-begun : goal.write_parents-requires-clause-begun
-write_parents-requires-clause-begun c =
-    omega (
-      arith,
-      kept_length _ _ c.new-out.ensures.items c.in_ok-append_zeros.ensures,
-      grew_length _ _ _ (rw c.deref.ensures.value at c.in_ok-aliases.ensures.grew),
-    )
-
-pub write_rules-requires-clause-room : goal.write_rules-requires-clause-room
-write_rules-requires-clause-room c =
-    rw c.deref-2.ensures.value (omega (
-      arith,
-      c.requires.room,
-      parts_room-is c.args.parts.now c.args.runs.now c.args.database.now c.requires.parts c.requires.runs,
-      kept_length _ _ c.new-out.ensures.items c.in_ok-append_zeros.ensures,
-      grew_length _ _ _ (rw c.deref.ensures.value at c.in_ok-aliases.ensures.grew),
-      grew_length _ _ _ c.in_ok-parents.ensures.grew,
-    ))
-
-pub write_rules-requires-clause-begun : goal.write_rules-requires-clause-begun
-write_rules-requires-clause-begun c =
-    omega (
-      arith,
-      kept_length _ _ c.new-out.ensures.items c.in_ok-append_zeros.ensures,
-      grew_length _ _ _ (rw c.deref.ensures.value at c.in_ok-aliases.ensures.grew),
-      grew_length _ _ _ c.in_ok-parents.ensures.grew,
-    )
-
-pub write_tree-requires-clause-room : goal.write_tree-requires-clause-room
-write_tree-requires-clause-room c =
-    rw c.deref-3.ensures.value (omega (
-      arith,
-      c.requires.room,
-      parts_room-is c.args.parts.now c.args.runs.now c.args.database.now c.requires.parts c.requires.runs,
-      kept_length _ _ c.new-out.ensures.items c.in_ok-append_zeros.ensures,
-      grew_length _ _ _ (rw c.deref.ensures.value at c.in_ok-aliases.ensures.grew),
-      grew_length _ _ _ c.in_ok-parents.ensures.grew,
-      grew_length _ _ _ (rw c.deref-2.ensures.value at c.in_ok-literals.ensures.grew),
-    ))
-
-pub write_tree-requires-clause-begun : goal.write_tree-requires-clause-begun
-write_tree-requires-clause-begun c =
-    omega (
-      arith,
-      kept_length _ _ c.new-out.ensures.items c.in_ok-append_zeros.ensures,
-      grew_length _ _ _ (rw c.deref.ensures.value at c.in_ok-aliases.ensures.grew),
-      grew_length _ _ _ c.in_ok-parents.ensures.grew,
-      grew_length _ _ _ (rw c.deref-2.ensures.value at c.in_ok-literals.ensures.grew),
-    )
-
-pub write_rules-requires-2-clause-room : goal.write_rules-requires-2-clause-room
-write_rules-requires-2-clause-room c =
-    rw c.deref-4.ensures.value (omega (
-      arith,
-      c.requires.room,
-      parts_room-is c.args.parts.now c.args.runs.now c.args.database.now c.requires.parts c.requires.runs,
-      kept_length _ _ c.new-out.ensures.items c.in_ok-append_zeros.ensures,
-      grew_length _ _ _ (rw c.deref.ensures.value at c.in_ok-aliases.ensures.grew),
-      grew_length _ _ _ c.in_ok-parents.ensures.grew,
-      grew_length _ _ _ (rw c.deref-2.ensures.value at c.in_ok-literals.ensures.grew),
-      grew_length _ _ _ (rw c.deref-3.ensures.value at c.in_ok-tree.ensures.grew),
-    ))
-
-pub write_rules-requires-2-clause-begun : goal.write_rules-requires-2-clause-begun
-write_rules-requires-2-clause-begun c =
-    omega (
-      arith,
-      kept_length _ _ c.new-out.ensures.items c.in_ok-append_zeros.ensures,
-      grew_length _ _ _ (rw c.deref.ensures.value at c.in_ok-aliases.ensures.grew),
-      grew_length _ _ _ c.in_ok-parents.ensures.grew,
-      grew_length _ _ _ (rw c.deref-2.ensures.value at c.in_ok-literals.ensures.grew),
-      grew_length _ _ _ (rw c.deref-3.ensures.value at c.in_ok-tree.ensures.grew),
-    )
-
-pub write_magic-requires-clause-room : goal.write_magic-requires-clause-room
-write_magic-requires-clause-room c =
-    rw c.deref-5.ensures.value (omega (
-      arith,
-      c.requires.room,
-      parts_room-is c.args.parts.now c.args.runs.now c.args.database.now c.requires.parts c.requires.runs,
-      kept_length _ _ c.new-out.ensures.items c.in_ok-append_zeros.ensures,
-      grew_length _ _ _ (rw c.deref.ensures.value at c.in_ok-aliases.ensures.grew),
-      grew_length _ _ _ c.in_ok-parents.ensures.grew,
-      grew_length _ _ _ (rw c.deref-2.ensures.value at c.in_ok-literals.ensures.grew),
-      grew_length _ _ _ (rw c.deref-3.ensures.value at c.in_ok-tree.ensures.grew),
-      grew_length _ _ _ (rw c.deref-4.ensures.value at c.in_ok-globs.ensures.grew),
-    ))
-
-pub write_magic-requires-clause-begun : goal.write_magic-requires-clause-begun
-write_magic-requires-clause-begun c =
-    omega (
-      arith,
-      kept_length _ _ c.new-out.ensures.items c.in_ok-append_zeros.ensures,
-      grew_length _ _ _ (rw c.deref.ensures.value at c.in_ok-aliases.ensures.grew),
-      grew_length _ _ _ c.in_ok-parents.ensures.grew,
-      grew_length _ _ _ (rw c.deref-2.ensures.value at c.in_ok-literals.ensures.grew),
-      grew_length _ _ _ (rw c.deref-3.ensures.value at c.in_ok-tree.ensures.grew),
-      grew_length _ _ _ (rw c.deref-4.ensures.value at c.in_ok-globs.ensures.grew),
-    )
-
-pub append_list-requires-clause-room : goal.append_list-requires-clause-room
-append_list-requires-clause-room c =
-    omega (
-      arith,
-      c.requires.room,
-      parts_room-is c.args.parts.now c.args.runs.now c.args.database.now c.requires.parts c.requires.runs,
-      kept_length _ _ c.new-out.ensures.items c.in_ok-append_zeros.ensures,
-      grew_length _ _ _ (rw c.deref.ensures.value at c.in_ok-aliases.ensures.grew),
-      grew_length _ _ _ c.in_ok-parents.ensures.grew,
-      grew_length _ _ _ (rw c.deref-2.ensures.value at c.in_ok-literals.ensures.grew),
-      grew_length _ _ _ (rw c.deref-3.ensures.value at c.in_ok-tree.ensures.grew),
-      grew_length _ _ _ (rw c.deref-4.ensures.value at c.in_ok-globs.ensures.grew),
-      grew_length _ _ _ (rw c.deref-5.ensures.value at c.in_ok-magic.ensures.grew),
-    )
-
-pub append_list-requires-clause-begun : goal.append_list-requires-clause-begun
-append_list-requires-clause-begun c =
-    omega (
-      arith,
-      kept_length _ _ c.new-out.ensures.items c.in_ok-append_zeros.ensures,
-      grew_length _ _ _ (rw c.deref.ensures.value at c.in_ok-aliases.ensures.grew),
-      grew_length _ _ _ c.in_ok-parents.ensures.grew,
-      grew_length _ _ _ (rw c.deref-2.ensures.value at c.in_ok-literals.ensures.grew),
-      grew_length _ _ _ (rw c.deref-3.ensures.value at c.in_ok-tree.ensures.grew),
-      grew_length _ _ _ (rw c.deref-4.ensures.value at c.in_ok-globs.ensures.grew),
-      grew_length _ _ _ (rw c.deref-5.ensures.value at c.in_ok-magic.ensures.grew),
-    )
-
 pub write_pairs-requires-2-clause-room : goal.write_pairs-requires-2-clause-room
 write_pairs-requires-2-clause-room c =
     rw c.deref-6.ensures.value (omega (
       arith,
       c.requires.room,
-      parts_room-is c.args.parts.now c.args.runs.now c.args.database.now c.requires.parts c.requires.runs,
       kept_length _ _ c.new-out.ensures.items c.in_ok-append_zeros.ensures,
       grew_length _ _ _ (rw c.deref.ensures.value at c.in_ok-aliases.ensures.grew),
       grew_length _ _ _ c.in_ok-parents.ensures.grew,
@@ -175,27 +20,12 @@ write_pairs-requires-2-clause-room c =
       grew_length _ _ _ (rw c.deref-5.ensures.value at c.in_ok-magic.ensures.grew),
       grew_length _ _ _ c.in_ok-namespaces.ensures.grew,
     ))
-
-pub write_pairs-requires-2-clause-begun : goal.write_pairs-requires-2-clause-begun
-write_pairs-requires-2-clause-begun c =
-    omega (
-      arith,
-      kept_length _ _ c.new-out.ensures.items c.in_ok-append_zeros.ensures,
-      grew_length _ _ _ (rw c.deref.ensures.value at c.in_ok-aliases.ensures.grew),
-      grew_length _ _ _ c.in_ok-parents.ensures.grew,
-      grew_length _ _ _ (rw c.deref-2.ensures.value at c.in_ok-literals.ensures.grew),
-      grew_length _ _ _ (rw c.deref-3.ensures.value at c.in_ok-tree.ensures.grew),
-      grew_length _ _ _ (rw c.deref-4.ensures.value at c.in_ok-globs.ensures.grew),
-      grew_length _ _ _ (rw c.deref-5.ensures.value at c.in_ok-magic.ensures.grew),
-      grew_length _ _ _ c.in_ok-namespaces.ensures.grew,
-    )
 
 pub write_pairs-requires-3-clause-room : goal.write_pairs-requires-3-clause-room
 write_pairs-requires-3-clause-room c =
     rw c.deref-7.ensures.value (omega (
       arith,
       c.requires.room,
-      parts_room-is c.args.parts.now c.args.runs.now c.args.database.now c.requires.parts c.requires.runs,
       kept_length _ _ c.new-out.ensures.items c.in_ok-append_zeros.ensures,
       grew_length _ _ _ (rw c.deref.ensures.value at c.in_ok-aliases.ensures.grew),
       grew_length _ _ _ c.in_ok-parents.ensures.grew,
@@ -207,39 +37,8 @@ write_pairs-requires-3-clause-room c =
       grew_length _ _ _ (rw c.deref-6.ensures.value at c.in_ok-icons.ensures.grew),
     ))
 
-pub write_pairs-requires-3-clause-begun : goal.write_pairs-requires-3-clause-begun
-write_pairs-requires-3-clause-begun c =
-    omega (
-      arith,
-      kept_length _ _ c.new-out.ensures.items c.in_ok-append_zeros.ensures,
-      grew_length _ _ _ (rw c.deref.ensures.value at c.in_ok-aliases.ensures.grew),
-      grew_length _ _ _ c.in_ok-parents.ensures.grew,
-      grew_length _ _ _ (rw c.deref-2.ensures.value at c.in_ok-literals.ensures.grew),
-      grew_length _ _ _ (rw c.deref-3.ensures.value at c.in_ok-tree.ensures.grew),
-      grew_length _ _ _ (rw c.deref-4.ensures.value at c.in_ok-globs.ensures.grew),
-      grew_length _ _ _ (rw c.deref-5.ensures.value at c.in_ok-magic.ensures.grew),
-      grew_length _ _ _ c.in_ok-namespaces.ensures.grew,
-      grew_length _ _ _ (rw c.deref-6.ensures.value at c.in_ok-icons.ensures.grew),
-    )
-
 pub write_tree-requires-clause-rises : goal.write_tree-requires-clause-rises
 write_tree-requires-clause-rises c = rw c.deref-3.ensures.value c.requires.parts.endings.rises
-
-pub patch-requires : goal.patch-requires
-patch-requires c =
-    omega (
-      arith,
-      kept_length _ _ c.new-out.ensures.items c.in_ok-append_zeros.ensures,
-      grew_length _ _ _ (rw c.deref.ensures.value at c.in_ok-aliases.ensures.grew),
-      grew_length _ _ _ c.in_ok-parents.ensures.grew,
-      grew_length _ _ _ (rw c.deref-2.ensures.value at c.in_ok-literals.ensures.grew),
-      grew_length _ _ _ (rw c.deref-3.ensures.value at c.in_ok-tree.ensures.grew),
-      grew_length _ _ _ (rw c.deref-4.ensures.value at c.in_ok-globs.ensures.grew),
-      grew_length _ _ _ (rw c.deref-5.ensures.value at c.in_ok-magic.ensures.grew),
-      grew_length _ _ _ c.in_ok-namespaces.ensures.grew,
-      grew_length _ _ _ (rw c.deref-6.ensures.value at c.in_ok-icons.ensures.grew),
-      grew_length _ _ _ (rw c.deref-7.ensures.value at c.in_ok-generic_icons.ensures.grew),
-    )
 
 pub returns-clause-long : goal.returns-clause-long
 returns-clause-long c =
@@ -281,43 +80,7 @@ returns-clause-long c =
     )
 
 pub returns-clause-packed : goal.returns-clause-packed
-returns-clause-packed c =
-    room_packs _ _ (cache_length c.write_pairs-3.new.out.items _ (record {
-      aliases = c.in_ok-aliases.aliases;
-      parents = c.in_ok-parents.parents;
-      literals = c.in_ok-literals.literals;
-      tree = c.in_ok-tree.tree;
-      globs = c.in_ok-globs.globs;
-      magic = c.in_ok-magic.magic;
-      namespaces = c.in_ok-namespaces.namespaces;
-      icons = c.in_ok-icons.icons;
-      generic_icons = c.in_ok-generic_icons.generic_icons;
-    }) (omega (
-      arith,
-      kept_length _ _ c.new-out.ensures.items c.in_ok-append_zeros.ensures,
-      grew_length _ _ _ (rw c.deref.ensures.value at c.in_ok-aliases.ensures.grew),
-      grew_length _ _ _ c.in_ok-parents.ensures.grew,
-      grew_length _ _ _ (rw c.deref-2.ensures.value at c.in_ok-literals.ensures.grew),
-      grew_length _ _ _ (rw c.deref-3.ensures.value at c.in_ok-tree.ensures.grew),
-      grew_length _ _ _ (rw c.deref-4.ensures.value at c.in_ok-globs.ensures.grew),
-      grew_length _ _ _ (rw c.deref-5.ensures.value at c.in_ok-magic.ensures.grew),
-      grew_length _ _ _ c.in_ok-namespaces.ensures.grew,
-      grew_length _ _ _ (rw c.deref-6.ensures.value at c.in_ok-icons.ensures.grew),
-      grew_length _ _ _ (rw c.deref-7.ensures.value at c.in_ok-generic_icons.ensures.grew),
-    )) c.patch.ensures.after ∙ omega (
-      arith,
-      parts_room-is c.args.parts.now c.args.runs.now c.args.database.now c.requires.parts c.requires.runs,
-      kept_length _ _ c.new-out.ensures.items c.in_ok-append_zeros.ensures,
-      grew_length _ _ _ (rw c.deref.ensures.value at c.in_ok-aliases.ensures.grew),
-      grew_length _ _ _ c.in_ok-parents.ensures.grew,
-      grew_length _ _ _ (rw c.deref-2.ensures.value at c.in_ok-literals.ensures.grew),
-      grew_length _ _ _ (rw c.deref-3.ensures.value at c.in_ok-tree.ensures.grew),
-      grew_length _ _ _ (rw c.deref-4.ensures.value at c.in_ok-globs.ensures.grew),
-      grew_length _ _ _ (rw c.deref-5.ensures.value at c.in_ok-magic.ensures.grew),
-      grew_length _ _ _ c.in_ok-namespaces.ensures.grew,
-      grew_length _ _ _ (rw c.deref-6.ensures.value at c.in_ok-icons.ensures.grew),
-      grew_length _ _ _ (rw c.deref-7.ensures.value at c.in_ok-generic_icons.ensures.grew),
-    ))
+returns-clause-packed c = room_packs _ _ (returns-clause-long c)
 
 pub returns-clause-spells : goal.returns-clause-spells
 returns-clause-spells c =
@@ -354,27 +117,5 @@ returns-clause-spells c =
       arith,
       c.requires.room,
       parts_room-is c.args.parts.now c.args.runs.now c.args.database.now c.requires.parts c.requires.runs,
-      cache_length c.write_pairs-3.new.out.items _ offsets (omega (
-        arith,
-        kept_length _ _ c.new-out.ensures.items c.in_ok-append_zeros.ensures,
-        grew_length _ _ _ (rw c.deref.ensures.value at c.in_ok-aliases.ensures.grew),
-        grew_length _ _ _ c.in_ok-parents.ensures.grew,
-        grew_length _ _ _ (rw c.deref-2.ensures.value at c.in_ok-literals.ensures.grew),
-        grew_length _ _ _ (rw c.deref-3.ensures.value at c.in_ok-tree.ensures.grew),
-        grew_length _ _ _ (rw c.deref-4.ensures.value at c.in_ok-globs.ensures.grew),
-        grew_length _ _ _ (rw c.deref-5.ensures.value at c.in_ok-magic.ensures.grew),
-        grew_length _ _ _ c.in_ok-namespaces.ensures.grew,
-        grew_length _ _ _ (rw c.deref-6.ensures.value at c.in_ok-icons.ensures.grew),
-        grew_length _ _ _ (rw c.deref-7.ensures.value at c.in_ok-generic_icons.ensures.grew),
-      )) c.patch.ensures.after,
-      kept_length _ _ c.new-out.ensures.items c.in_ok-append_zeros.ensures,
-      grew_length _ _ _ (rw c.deref.ensures.value at c.in_ok-aliases.ensures.grew),
-      grew_length _ _ _ c.in_ok-parents.ensures.grew,
-      grew_length _ _ _ (rw c.deref-2.ensures.value at c.in_ok-literals.ensures.grew),
-      grew_length _ _ _ (rw c.deref-3.ensures.value at c.in_ok-tree.ensures.grew),
-      grew_length _ _ _ (rw c.deref-4.ensures.value at c.in_ok-globs.ensures.grew),
-      grew_length _ _ _ (rw c.deref-5.ensures.value at c.in_ok-magic.ensures.grew),
-      grew_length _ _ _ c.in_ok-namespaces.ensures.grew,
-      grew_length _ _ _ (rw c.deref-6.ensures.value at c.in_ok-icons.ensures.grew),
-      grew_length _ _ _ (rw c.deref-7.ensures.value at c.in_ok-generic_icons.ensures.grew),
+      returns-clause-long c,
     ))

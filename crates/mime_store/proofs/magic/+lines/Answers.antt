@@ -37,7 +37,8 @@ write_lines-loop-line-preserved t c =
 
 pub write_lines-append_numbers-requires-clause-room : goal.write_lines-append_numbers-requires-clause-room
 write_lines-append_numbers-requires-clause-room t c =
-    let g = grew_all plain_matchlet parts_room c.args.lines.now c.loop-line.line-index c.args.out.now.items _ c.loop-line-test.false c.loop-line.invariant.grew in
+    let g = grew_all plain_matchlet parts_room c.args.lines.now c.loop-line.line-index
+    c.args.out.now.items _ c.loop-line-test.false c.loop-line.invariant.grew in
     omega (arith, grew_length _ _ _ g, room-lines c.args.lines.now, c.deref.ensures.len, c.requires.room, c.loop-line.invariant.count)
 
 pub write_lines-append_numbers-requires-clause-begun : goal.write_lines-append_numbers-requires-clause-begun
@@ -46,7 +47,8 @@ write_lines-append_numbers-requires-clause-begun t c =
 
 pub write_lines-returns-clause-grew : goal.write_lines-returns-clause-grew
 write_lines-returns-clause-grew t c =
-    let g = grew_all plain_matchlet parts_room c.args.lines.now c.loop-line.line-index c.args.out.now.items _ c.loop-line-test.false c.loop-line.invariant.grew in
+    let g = grew_all plain_matchlet parts_room c.args.lines.now c.loop-line.line-index
+    c.args.out.now.items _ c.loop-line-test.false c.loop-line.invariant.grew in
     grew_to _ _ _ _ (omega (arith, room-lines c.args.lines.now, c.deref.ensures.len, c.loop-line.invariant.count))
     (grew_on _ _ _ _ _ g c.in_ok-at.ensures.grew)
 

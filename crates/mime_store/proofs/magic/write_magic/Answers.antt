@@ -35,7 +35,8 @@ loop-section-preserved c =
 pub append_numbers-requires-clause-room : goal.append_numbers-requires-clause-room
 append_numbers-requires-clause-room c =
     let xs = c.args.sections.now in
-    let g = grew_all plain_section section_parts_room xs c.loop-section.section-index c.args.out.now.items _ c.loop-section-test.false c.loop-section.invariant.grew in
+    let g = grew_all plain_section section_parts_room xs c.loop-section.section-index
+    c.args.out.now.items _ c.loop-section-test.false c.loop-section.invariant.grew in
     omega (
       arith,
       c.requires.room,
@@ -60,7 +61,8 @@ overflow_cast-extent c = omega (arith, allowed_extents (plain_sections c.args.se
 pub append_numbers-requires-2-clause-room : goal.append_numbers-requires-2-clause-room
 append_numbers-requires-2-clause-room c =
     let xs = c.args.sections.now in
-    let g = grew_all plain_section section_parts_room xs c.loop-section.section-index c.args.out.now.items _ c.loop-section-test.false c.loop-section.invariant.grew in
+    let g = grew_all plain_section section_parts_room xs c.loop-section.section-index
+    c.args.out.now.items _ c.loop-section-test.false c.loop-section.invariant.grew in
     omega (
       arith,
       c.requires.room,
@@ -79,7 +81,8 @@ append_numbers-requires-2-clause-begun c =
 pub returns-clause-grew : goal.returns-clause-grew
 returns-clause-grew c =
     let xs = c.args.sections.now in
-    let g = grew_all plain_section section_parts_room xs c.loop-section.section-index c.args.out.now.items _ c.loop-section-test.false c.loop-section.invariant.grew in
+    let g = grew_all plain_section section_parts_room xs c.loop-section.section-index
+    c.args.out.now.items _ c.loop-section-test.false c.loop-section.invariant.grew in
     grew_to _ _ _ _ (omega (
       arith,
       length-map xs plain_section,

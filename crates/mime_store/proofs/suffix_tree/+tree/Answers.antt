@@ -33,7 +33,8 @@ write_sibling-write_siblings-requires t c =
     let lt : c.args.depth < length e.path.items = omega (arith, e.path.ok.0) in
     let here = starts c.args.depth e c.index-byte.result.now lt (get_or_default e.path.items c.args.depth 0 c.index-byte.result.now lt
     ∙ sym c.index-byte.ensures) in
-    let g = a_group c.args.depth c.index-byte.result.now c.run_length-taken.result c.args.endings.now e rest is c.run_length-taken.ensures.within here c.run_length-taken.ensures.all c.run_length-taken.ensures.clear in
+    let g = a_group c.args.depth c.index-byte.result.now c.run_length-taken.result c.args.endings.now e rest is
+    c.run_length-taken.ensures.within here c.run_length-taken.ensures.all c.run_length-taken.ensures.clear in
     let less = group_room _ _ _ _ g in
     let short = e.short in
     (omega arith, (omega (arith, c.requires.room), (c.requires.begun, omega arith)))
@@ -46,7 +47,8 @@ write_sibling-returns t c =
     let lt : c.args.depth < length e.path.items = omega (arith, e.path.ok.0) in
     let here = starts c.args.depth e c.index-byte.result.now lt (get_or_default e.path.items c.args.depth 0 c.index-byte.result.now lt
     ∙ sym c.index-byte.ensures) in
-    let g = a_group c.args.depth c.index-byte.result.now c.run_length-taken.result c.args.endings.now e rest is c.run_length-taken.ensures.within here c.run_length-taken.ensures.all c.run_length-taken.ensures.clear in
+    let g = a_group c.args.depth c.index-byte.result.now c.run_length-taken.result c.args.endings.now e rest is
+    c.run_length-taken.ensures.within here c.run_length-taken.ensures.all c.run_length-taken.ensures.clear in
     rw c.from.ensures (first_group _ _ _ _ _ _ _ c.args.endings.now g c.in_ok-below.ensures.grew c.in_ok-below.ensures.stands)
 
 pub write_siblings-loop-at-init : goal.write_siblings-loop-at-init

@@ -4,13 +4,15 @@ use Rattle.std.proofs.lemmas.List.{drop_all}
 use Rattle.mime_base.specs.Magic.Holds.{is_bare, line_holds, some_holds}
 use Rattle.mime_base.specs.Magic.{forest_of, plain_matchlet, plain_matchlets}
 use Rattle.mime_base.specs.declared.magic.matchlet.Matchlet.TheViews.{out-Matchlet}
-use Rattle.mime_base.proofs.MagicLemmas.HoldingLines.{line_holds-alone, line_holds-differs, line_holds-parent, some_holds-from, some_holds-none}
+use Rattle.mime_base.proofs.MagicLemmas.HoldingLines.{line_holds-alone, line_holds-differs, line_holds-parent}
+use Rattle.mime_base.proofs.MagicLemmas.HoldingLines.{some_holds-from, some_holds-none}
 use Rattle.mime_base.proofs.magic.holding.+holding.Goals as goal
 
 pub line_matches-returns-then-not-equals_in_range-clause-holds :
     goal.line_matches-returns-then-not-equals_in_range-clause-holds
 line_matches-returns-then-not-equals_in_range-clause-holds t c =
-    sym (line_holds-differs c.args.content.now c.args.host (plain_matchlet c.args.line.now) (sym c.equals_in_range.ensures.equal ∙ c.if-not-equals_in_range.true))
+    sym (line_holds-differs c.args.content.now c.args.host (plain_matchlet c.args.line.now)
+    (sym c.equals_in_range.ensures.equal ∙ c.if-not-equals_in_range.true))
 
 pub line_matches-returns-then-is_empty-clause-holds :
     goal.line_matches-returns-then-is_empty-clause-holds
@@ -37,16 +39,19 @@ pub some_line_matches-returns-then-line_matches-clause-holds :
     goal.some_line_matches-returns-then-line_matches-clause-holds
 some_line_matches-returns-then-line_matches-clause-holds t c =
     sym (c.loop-line.invariant.left
-    ∙ some_holds-from c.args.content.now c.args.host c.args.lines.now c.loop-line.line-index c.line-item.result c.loop-line-test.true c.line-item.is
+    ∙ some_holds-from c.args.content.now c.args.host c.args.lines.now c.loop-line.line-index
+    c.line-item.result c.loop-line-test.true c.line-item.is
     ∙ or_left _ _ (sym c.line_matches.ensures.holds ∙ c.if-line_matches.true))
 
 pub some_line_matches-loop-line-preserved : goal.some_line_matches-loop-line-preserved
 some_line_matches-loop-line-preserved t c =
-    let rest = some_holds (forest_of (plain_matchlets (drop (c.loop-line.line-index + 1) c.args.lines.now))) c.args.content.now c.args.host in
+    let behind = drop (c.loop-line.line-index + 1) c.args.lines.now in
+    let rest = some_holds (forest_of (plain_matchlets behind)) c.args.content.now c.args.host in
     record {
       left =
           c.loop-line.invariant.left
-          ∙ some_holds-from c.args.content.now c.args.host c.args.lines.now c.loop-line.line-index c.line-item.result c.loop-line-test.true c.line-item.is
+          ∙ some_holds-from c.args.content.now c.args.host c.args.lines.now c.loop-line.line-index
+          c.line-item.result c.loop-line-test.true c.line-item.is
           ∙ ap (λ b. b || rest) (sym c.line_matches.ensures.holds ∙ c.if-line_matches.false);
       nodes = c.line_matches.ensures.nodes ∙ c.loop-line.invariant.nodes;
       rises = omega arith;
@@ -54,6 +59,7 @@ some_line_matches-loop-line-preserved t c =
 
 pub some_line_matches-returns-clause-holds : goal.some_line_matches-returns-clause-holds
 some_line_matches-returns-clause-holds t c =
+    let none = drop_all c.loop-line.line-index c.args.lines.now c.loop-line-test.false in
     sym (c.loop-line.invariant.left
-    ∙ ap (λ ms. some_holds (forest_of (plain_matchlets ms)) c.args.content.now c.args.host) (drop_all c.loop-line.line-index c.args.lines.now c.loop-line-test.false)
+    ∙ ap (λ ms. some_holds (forest_of (plain_matchlets ms)) c.args.content.now c.args.host) none
     ∙ some_holds-none c.args.content.now c.args.host)

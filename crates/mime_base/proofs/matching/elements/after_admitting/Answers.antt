@@ -1,6 +1,7 @@
 use Rattle.std.proofs.Common.{◌≡◌, ◌∙◌, ap, not, is_some, refl}
 use mathlib.Core.Bool.{beq}
-use Rattle.mime_base.proofs.MatchingLemmas.Sets.{admits-set, width_after-set, admits-no_set, width_after-no_set, is_some-then_some, IfSome-then_some}
+use Rattle.mime_base.proofs.MatchingLemmas.Sets.{admits-set, width_after-set, admits-no_set, width_after-no_set}
+use Rattle.mime_base.proofs.MatchingLemmas.Sets.{is_some-then_some, IfSome-then_some}
 use Rattle.mime_base.proofs.matching.elements.after_admitting.Goals as goal
 
 pub returns-in-Some-clause-admits : goal.returns-in-Some-clause-admits
