@@ -2,6 +2,15 @@
 //!
 //! It promises that the bytes which it writes spell the database, by the definitions of mime_base that a
 //! reader of caches shares, and that it refuses a database exactly where it takes too many bytes.
+//!
+//! ```text
+//! let database = merge(alloc, dirs)?;
+//! let bytes = write_cache(alloc, &database, 268_435_456)?;
+//! // the whole of a file `mime.cache`, or `StoreFault::TooLarge`
+//! ```
+//!
+//! Read `cache` first: it writes each part with what the part points to before it. `parts` sorts, `room`
+//! counts bytes before any is written, and each other module writes the part of its name.
 #![tactic(auto)]
 
 mod bytes;

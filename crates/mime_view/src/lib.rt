@@ -4,6 +4,15 @@
 //! [`CacheFault`] that says what is wrong and where, whatever the bytes are, and adds to a meter what
 //! it visited and compared. Bytes are read by `Counted` of mime_base alone.
 //!
+//! ```text
+//! let mut meter = Meter::new();
+//! let cache = Cache::open(Counted::new(bytes), &mut meter)?;
+//! let mut budget = Budget::of(&cache);
+//! let kind = cache.unalias(b"text/x-markdown", &mut meter, &mut budget)?;
+//! let icon = cache.icon(kind, &mut meter, &mut budget)?;
+//! // the type that the alias stands for, itself where it is no alias; and its icon, if it has one
+//! ```
+//!
 //! Read `cache` first, then `search`, by which each sorted list is read.
 #![tactic(auto)]
 
