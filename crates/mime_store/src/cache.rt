@@ -37,7 +37,13 @@ const HEADER_LENGTH: usize = 40;
 /// The bytes of the header, of all counts and of all heads.
 const FIXED_ROOM: usize = 88;
 
-/// The cache that spells a database, of at most `limit` bytes.
+/// The cache that spells a database, of at most `limit` bytes ("The mime.cache files").
+///
+/// ```
+/// let database = Database::of_rules(rt.alloc(), rules);
+/// let cache = write_cache(rt.alloc(), &database, 268_435_456)?;
+/// assert_eq!(rt; &cache[..4], b"\0\x01\0\x02");
+/// ```
 ///
 /// It is refused as [`StoreFault::TooLarge`] where the database, its texts not shared, takes more than
 /// `limit` bytes, or than the 268,435,456 that a cache may have. The same database gives the same bytes.

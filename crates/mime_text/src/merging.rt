@@ -66,6 +66,13 @@ pub struct Lists {
 /// Merges what directories say, the most preferred first. It fails only where an allocation is
 /// refused.
 ///
+/// ```
+/// let mut dirs = Vec::new(rt.alloc());
+/// dirs.push(own)?; // what /usr/local/share says
+/// dirs.push(system)?; // what /usr/share says
+/// let database = merge(rt.alloc(), dirs)?;
+/// ```
+///
 /// Rules and sections are left out where a more preferred directory has a marker for their type.
 /// Sections then stand by falling priority, those of one priority in their order. Of the pairs of an
 /// alias, of equal subclass pairs and of the icons of a type, the first counts.

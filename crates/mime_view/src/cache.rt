@@ -25,7 +25,14 @@ const HEADER: u64 = 40;
 /// The most bytes of a cache.
 const LARGEST: u64 = 268_435_456;
 
-/// A cache of version 1.2.
+/// A cache of version 1.2 ("The mime.cache files").
+///
+/// ```
+/// let mut meter = Meter::new();
+/// let cache = Cache::open(Counted::new(bytes), &mut meter)?;
+/// let mut budget = Budget::of(&cache);
+/// assert_eq!(rt; cache.unalias(b"t/h", &mut meter, &mut budget), Ok(b"t/g" as &[u8]));
+/// ```
 ///
 /// Nothing behind the header is trusted. Names that its calls give borrow from the cache's bytes.
 #[derive(Drop)]

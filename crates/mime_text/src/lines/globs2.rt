@@ -48,6 +48,12 @@ const CASED: &[u8] = b"cs";
 
 /// Reads a `globs2` file. It fails only where an allocation is refused.
 ///
+/// ```
+/// let file = read_globs2(rt.alloc(), b"50:text/plain:*.txt\nno rule\n")?;
+/// assert_eq!(rt; file.rules.len(), 1);
+/// assert_eq!(rt; file.skipped.as_slice(), &[2]);
+/// ```
+///
 /// A malformed line is told by its number. Empty lines and comments are passed over.
 #[tactic(auto, unfolding(crate::specs::Lines::Globs2::rules_of, crate::specs::Lines::Globs2::markers_of))]
 pub fn read_globs2(alloc: Global, bytes: &[u8]) -> Result<GlobsFile, OutOfMemory>

@@ -89,6 +89,12 @@ fn file(alloc: Global, text: &[u8]) -> Result<MagicFile, ReadError>
 
 /// Reads the text of a file `magic` ("The magic files").
 ///
+/// ```
+/// let file = read_magic(rt.alloc(), b"MIME-Magic\0\n[50:image/png]\n>0=\0\x04\x89PNG\n")?;
+/// assert_eq!(rt; file.sections.len(), 1);
+/// assert_eq!(rt; file.sections[0].priority, 50);
+/// ```
+///
 /// The sections that keep a line stand in the order of the text, each line with its children. A
 /// text of no bytes has none. The types of the sections that hold a deletion marker are `deleted`.
 ///
