@@ -1,8 +1,6 @@
 -- The answer of the checking order, by the way it is found.
-use Rattle.std.proofs.Common.{◌≡◌, ℕ, true, false, MatchBool, MatchOption, cond, List, [], ◌∷◌, Option, None, Some, get_or, refl, sym, subst, ap, bytes_eq}
-use Rattle.std.specs.Prelude.{IfSome}
-use Rattle.std.proofs.lemmas.Bool.{true≢false}
-use Rattle.std.specs.List.{list_all}
+use Rattle.std.proofs.Common.{◌≡◌, ℕ, Bool, true, false, MatchBool, List, [], ◌∷◌, Option, None, Some, Result, Ok, Err, get_or, refl, sym, subst}
+use Rattle.std.specs.Prelude.{IfErr, IfSome, IsErrAnd}
 use Rattle.mime_base.specs.Database.{PlainDatabase, pairs_of}
 use Rattle.mime_base.specs.Database.Subclass.{Pairs}
 use Rattle.mime_base.specs.declared.magic.host.Host.{Host}
@@ -10,8 +8,8 @@ use denote.Bor.{Bor}
 use Rattle.mime_lookup.specs.Ancestry.{texts}
 use Rattle.mime_lookup.specs.CheckingOrder.{Chooses, are_one_type, before_globs, front_size, globs_suffice, read_of}
 use Rattle.mime_lookup.specs.Choice.{ChoosesAmong, IsFirst, kept}
+use Rattle.mime_lookup.specs.Content.{OfReader}
 use Rattle.mime_lookup.specs.Sniffing.{sniffed}
-use Rattle.mime_lookup.specs.declared.order.Order.{Order}
 use Rattle.mime_lookup.specs.declared.order.Order.TheVariants.{GlobsFirst, MagicFirst}
 
 -- of kept types that are one type the first is chosen
@@ -61,6 +59,35 @@ module _ (b : PlainDatabase) (name : List ℕ) (host : Host) where
   pub read_first : (content : Option (List ℕ)) (count : ℕ) → count ≡ front_size b content → count ≡ read_of b name content MagicFirst
   unfolding read_of globs_suffice
   read_first content count size = size
+
+  -- the globs alone, or not
+  pub suffice : (kinds : List (List ℕ)) (one : Bool) → kinds ≡ kept (pairs_of b) b.rules name → are_one_type kinds ≡ one →
+      globs_suffice b name GlobsFirst ≡ one
+  unfolding globs_suffice
+  suffice kinds one is same = rw (← is) same
+
+  pub suffice-not : globs_suffice b name MagicFirst ≡ false
+  unfolding globs_suffice
+  suffice-not = refl
+
+-- an error that is passed on
+pub passed_on : {T E : Type 0} (result : Result T E) (error : E) (P : E → Type 0) → IsErrAnd result (λ passed. passed ≡ error) → P error → IfErr result P
+passed_on (Ok x) error P is holds = tt
+passed_on (Err passed) error P is holds = subst P (sym is) holds
+
+-- what holds of every reader holds of one
+pub of_reader-any : {R : Type 0} (IsSo : R → R → Type 0) (Otherwise : Type 0) (content : Option R) → ((before after : R) → IsSo before after) →
+    Otherwise → OfReader IsSo Otherwise content content
+of_reader-any IsSo Otherwise None all other = other
+of_reader-any IsSo Otherwise (Some reader) all other = all reader reader
+
+-- what follows of every reader follows of one
+pub of_reader-weaker : {R : Type 0} (IsSo Is : R → R → Type 0) (Otherwise : Type 0) (before after : Option R) →
+    ((b a : R) → IsSo b a → Is b a) → OfReader IsSo Otherwise before after → OfReader Is Otherwise before after
+of_reader-weaker IsSo Is Otherwise None None step so = so
+of_reader-weaker IsSo Is Otherwise None (Some after) step so = so
+of_reader-weaker IsSo Is Otherwise (Some before) None step so = so
+of_reader-weaker IsSo Is Otherwise (Some before) (Some after) step so = step before after so
 
 -- what holds of any content holds of a known one
 pub if_known : {X : Type 0} (known : Option X) (P : X → Type 0) → ((x : X) → P x) → IfSome known P

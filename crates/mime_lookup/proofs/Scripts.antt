@@ -1,10 +1,9 @@
 -- A script after one step more.
-use Rattle.std.proofs.Common.{◌≡◌, ℕ, ◌+◌, ◌-◌, ◌<◌, ◌≤◌, List, [], ◌∷◌, ◌++◌, length, take, drop, get_or, refl, sym, ap, ◌∙◌, arith}
+use Rattle.std.proofs.Common.{◌≡◌, ℕ, ◌+◌, ◌-◌, ◌<◌, ◌≤◌, List, [], ◌∷◌, ◌++◌, length, take, drop, get_or, sym, ap, ◌∙◌, arith}
 use Rattle.std.proofs.lemmas.List.{append_assoc, drop_all, drop_more, length-drop, length-take-le, take-append-drop, take_all, take_more}
 use Rattle.std.proofs.Math.Seq.{take-append_seam}
-use denote.Bor.{Bor}
 use Rattle.mime_lookup.specs.Content.{Tally}
-use Rattle.mime_lookup.specs.Script.{bytes_in, faults_in, interruptions_in, tally_in}
+use Rattle.mime_lookup.specs.Script.{are_pieces, bytes_in, faults_in, interruptions_in}
 use Rattle.mime_lookup.specs.declared.script.Step.{Step}
 use Rattle.mime_lookup.specs.declared.script.Step.TheVariants.{Piece, Interruption, Fault}
 
@@ -35,6 +34,9 @@ module _ (steps : List Step) (i : ℕ) (d step : Step) (within : i < length step
 
   pub bytes_more : bytes_in (drop i steps) ≡ bytes_in (step ∷ drop (i + 1) steps)
   bytes_more = ap bytes_in back_more
+
+  pub pieces_more : are_pieces (drop i steps) ≡ are_pieces (step ∷ drop (i + 1) steps)
+  pieces_more = ap are_pieces back_more
 
 -- tallies with the same numbers
 pub tally_same : (a b : Tally) → a.failed ≡ b.failed → a.interrupted ≡ b.interrupted → a ≡ b

@@ -8,12 +8,10 @@ use Rattle.std.specs.Option.{option_map}
 use Rattle.mime_base.specs.Database.{PlainDatabase}
 use Rattle.mime_base.specs.Magic.Extent.{extent}
 use Rattle.mime_base.specs.Magic.Holds.{first_magic}
-use Rattle.mime_base.specs.Magic.Textual.{looks_textual}
 use Rattle.mime_base.specs.declared.magic.host.Host.{Host}
 use Rattle.mime_base.proofs.MagicLemmas.Fronts.{first_magic-front, looks_textual-front}
 use Rattle.mime_lookup.specs.CheckingOrder.{before_globs, front_size, of_high_priority, read_limit}
 use Rattle.mime_lookup.specs.Sniffing.{FrontIsEnough, sniffed, sniffed_by_bytes, sniffed_by_magic}
-use Rattle.mime_lookup.specs.declared.order.Order.{Order}
 use Rattle.mime_lookup.specs.declared.order.Order.TheVariants.{MagicFirst}
 
 -- the type by the bytes alone
@@ -65,6 +63,11 @@ is_read b whole front (Some rest) consumed limited ends =
     record { rest = rest; split = consumed; long = inl none; size = omega (arith, sizes, ap length none) })
     (λ full. record { rest = rest; split = consumed; long = inr (omega arith, omega arith); size = omega (arith, sizes) })
     (cases_lt (length front) (max 128 (extent b)))
+
+-- some of any content is read
+pub read_limit-some : (b : PlainDatabase) → 0 < read_limit b
+unfolding read_limit
+read_limit-some b = omega arith
 
 -- what a reader gave is sniffed as its whole content, where that is known
 module _ (b : PlainDatabase) (host : Host) (known after : Option (List ℕ)) (front : List ℕ) (consumed : Consumes known after front)

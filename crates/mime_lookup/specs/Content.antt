@@ -1,5 +1,5 @@
--- What readers of contents tell: their bytes, and their reads that failed or were interrupted.
-use Rattle.std.specs.Prelude.{◌≡◌, ◌⊎◌, ℕ, ◌+◌, ◌<◌, ◌≤◌, List, length, take, Option, None, Some, Result, Ok, Err, ⊤}
+-- What readers of contents tell: their bytes, their reads that failed or were interrupted, and whether reads can fail.
+use Rattle.std.specs.Prelude.{◌≡◌, ◌⊎◌, ℕ, ◌+◌, ◌<◌, ◌≤◌, List, length, Option, None, Some, Result, Ok, Err, IsOk, ⊤}
 use Rattle.std.specs.Io.KnownBytes.{Consumes}
 use Rattle.std.specs.Option.{option_map}
 use Rattle.mime_lookup.specs.declared.content.ReadFault.{ReadFault}
@@ -21,6 +21,18 @@ abbrev pub Counts : Option Tally → Option Tally → Result ℕ ReadFault → T
 Counts None after result = ⊤
 Counts (Some before) None result = ⊥
 Counts (Some before) (Some after) result = after ≡ after_read result before
+
+-- what a reader tells of its reads: all give bytes or the end, all fail, or nothing is said
+pub data Health : Type 0 where
+  sound : Health
+  broken : Health
+  untold : Health
+
+-- a sound reader answers and stays sound, a broken one fails and stays broken
+abbrev pub KeepsHealth : Health → Health → Result ℕ ReadFault → Type 0
+KeepsHealth sound after result = IsOk result × (after ≡ sound)
+KeepsHealth broken after result = (result ≡ Err Failed) × (after ≡ broken)
+KeepsHealth untold after result = ⊤
 
 -- no read failed, and just so many were interrupted
 abbrev pub Interrupts : Option Tally → Option Tally → ℕ → Type 0

@@ -1,6 +1,6 @@
--- What the steps of a script give and count.
-use Rattle.std.specs.Prelude.{ℕ, ◌+◌, List, [], ◌∷◌, ◌++◌}
-use Rattle.mime_lookup.specs.Content.{Tally}
+-- What the steps of a script give, count and tell.
+use Rattle.std.specs.Prelude.{ℕ, ◌+◌, Bool, true, false, if◌then◌else◌, List, [], ◌∷◌, ◌++◌}
+use Rattle.mime_lookup.specs.Content.{Health, Tally, sound, untold}
 use Rattle.mime_lookup.specs.declared.script.Step.{Step}
 use Rattle.mime_lookup.specs.declared.script.Step.TheVariants.{Piece, Interruption, Fault}
 
@@ -11,7 +11,7 @@ bytes_in (Piece bytes ∷ steps) = bytes.now ++ bytes_in steps
 bytes_in (Interruption ∷ steps) = bytes_in steps
 bytes_in (Fault ∷ steps) = bytes_in steps
 
--- how many steps are faults, and how many are interruptions
+-- how many steps are faults
 abbrev pub faults_in : List Step → ℕ
 faults_in [] = 0
 faults_in (Piece bytes ∷ steps) = faults_in steps
@@ -28,3 +28,14 @@ interruptions_in (Fault ∷ steps) = interruptions_in steps
 -- the tally of a reader that met these steps
 abbrev pub tally_in : List Step → Tally
 tally_in steps = record { failed = faults_in steps; interrupted = interruptions_in steps }
+
+-- whether all steps are pieces
+abbrev pub are_pieces : List Step → Bool
+are_pieces [] = true
+are_pieces (Piece bytes ∷ steps) = are_pieces steps
+are_pieces (Interruption ∷ steps) = false
+are_pieces (Fault ∷ steps) = false
+
+-- the health of a reader that is to meet these steps
+abbrev pub health_of : List Step → Health
+health_of steps = if are_pieces steps then sound else untold

@@ -1,13 +1,14 @@
 //! Contents of files, and the readers that they come from. This project's own.
 //!
-//! A [`Content`] may tell how many of its reads failed and how many were interrupted, so that a
-//! contract can say when a lookup gives up. A slice tells, and so does a [`Script`]; [`Untold`]
-//! makes a content that tells nothing of any reader.
+//! A [`Content`] may tell how many of its reads failed and how many were interrupted, and whether
+//! all its reads give bytes or all fail, so that a contract can say when a lookup gives up. A slice
+//! tells, and so does a [`Script`](crate::Script); [`Untold`] makes a content that tells nothing of
+//! any reader.
 
 ghost use Rattle.std.specs.Prelude.{◌≡◌, ℕ, Option, None, Some, IfErr, IsOk};
 ghost use Rattle.std.specs.Io.{ReadsAtMost};
 ghost use Rattle.std.specs.Io.KnownBytes.{ReadConsumes};
-ghost use Rattle.mime_lookup.specs.Content.{Counts, Tally};
+ghost use Rattle.mime_lookup.specs.Content.{Counts, Health, KeepsHealth, Tally, untold};
 
 use std::io;
 use std::io::{ErrorKind, Read};
@@ -26,13 +27,17 @@ pub trait Content: Read {
     // How many reads failed and how many were interrupted so far, where the reader tells it.
     ghost tally: { Self → Option Tally } = { λ _. None };
 
+    // Whether all its reads give bytes or the end, all fail, or nothing is said.
+    ghost health: { Self → Health } = { λ _. untold };
+
     /// Reads bytes to the front of a buffer, and answers how many. None come only at the end of the
     /// content and for an empty buffer.
     fn read_piece(&mut self, buffer: &mut [u8]) -> Result<usize, ReadFault>
         ensures bound { ReadsAtMost result buffer.new }
         ensures bytes { ReadConsumes (Self.remaining self.old) (Self.remaining self.new)
             result buffer.new }
-        ensures told { Counts (tally self.old) (tally self.new) result };
+        ensures told { Counts (tally self.old) (tally self.new) result }
+        ensures healthy { KeepsHealth (health self.old) (health self.new) result };
 }
 
 /// One read of any reader.
@@ -55,8 +60,11 @@ fn read_once<R: Read>(reader: &mut R, buffer: &mut [u8]) -> Result<usize, ReadFa
 
 impl Content for &[u8] {
     ghost use Rattle.std.specs.Prelude.{Some};
+    ghost use Rattle.mime_lookup.specs.Content.{sound};
 
     ghost tally = { λ _. Some (record { failed = 0; interrupted = 0 }) };
+
+    ghost health = { λ _. sound };
 
     fn read_piece(&mut self, buffer: &mut [u8]) -> Result<usize, ReadFault> {
         match self.read(buffer) {

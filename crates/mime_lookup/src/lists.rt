@@ -1,12 +1,12 @@
 //! Lookup by trying every rule, line and pair of a database.
 
-ghost use Rattle.std.specs.Prelude.{◌≡◌, ◌⊎◌, ◌<◌, ◌≤◌, length, IfOk, IfErr, OnOk, IfSome, MatchResult, Some, None, ⊤, if◌then◌else◌};
+ghost use Rattle.std.specs.Prelude.{◌≡◌, ◌≢◌, ◌⊎◌, ◌<◌, ◌≤◌, length, IfOk, IfErr, OnOk, IfSome, MatchResult, Some, None, true, false, ⊤, if◌then◌else◌};
 ghost use Rattle.mime_base.specs.Database.{pairs_of, plain_database};
 ghost use Rattle.mime_lookup.specs.Ancestry.{texts};
-ghost use Rattle.mime_lookup.specs.CheckingOrder.{Chooses, are_one_type, before_globs, front_size, read_limit, read_of};
+ghost use Rattle.mime_lookup.specs.CheckingOrder.{Chooses, are_one_type, before_globs, front_size, globs_suffice, read_limit, read_of};
 ghost use Rattle.mime_lookup.specs.Choice.{ChoosesAmong};
 ghost use Rattle.mime_lookup.specs.Sniffing.{sniffed};
-ghost use Rattle.mime_lookup.specs.Content.{Advances, GivesUp, Goes, OfReader, known_content};
+ghost use Rattle.mime_lookup.specs.Content.{Advances, GivesUp, Goes, OfReader, broken, known_content, sound};
 
 use crate::ancestry::first_of;
 use crate::answer::Answer;
@@ -59,6 +59,10 @@ pub fn look_up_plain<'a, R: Content>(
         OfReader (λ before after. GivesUp (R.tally before) (R.tally after) 1000) ⊥ content.old content.new) }
     ensures goes { OnOk result (OfReader
         (λ before after. Goes (R.tally before) (R.tally after) 1000) ⊤ content.old content.new) }
+    ensures answers { OnOk result (OfReader (λ before _. R.health before ≡ broken →
+        globs_suffice (plain_database database.entry.now) name.now order ≡ true) ⊤ content.old content.new) }
+    ensures fails { IfErr result (λ stopped. stopped.cause ≡ Cause.Read → OfReader (λ before _. (R.health before ≢ sound)
+        × (globs_suffice (plain_database database.entry.now) name.now order ≡ false)) ⊥ content.old content.new) }
     ensures advances { MatchResult result
         (λ answer. OfReader (λ before after. Advances (R.remaining before) (R.remaining after) answer.read)
         (answer.read ≡ 0) content.old content.new)
@@ -105,6 +109,10 @@ fn kind_of<'a, R: Content>(
         OfReader (λ before after. GivesUp (R.tally before) (R.tally after) 1000) ⊥ content.old content.new) }
     ensures goes { OnOk result (OfReader
         (λ before after. Goes (R.tally before) (R.tally after) 1000) ⊤ content.old content.new) }
+    ensures answers { OnOk result (OfReader (λ before _. R.health before ≡ broken →
+        globs_suffice (plain_database database.entry.now) name.now order ≡ true) ⊤ content.old content.new) }
+    ensures fails { IfErr result (λ cause. cause ≡ Cause.Read → OfReader (λ before _. (R.health before ≢ sound)
+        × (globs_suffice (plain_database database.entry.now) name.now order ≡ false)) ⊥ content.old content.new) }
     ensures advances { OfReader (λ before after. Advances (R.remaining before) (R.remaining after) read.new)
         (read.new ≡ 0) content.old content.new }
     ensures limit { read.new ≤ read_limit (plain_database database.entry.now) }
@@ -136,6 +144,10 @@ fn globs_first<'a, R: Content>(
         OfReader (λ before after. GivesUp (R.tally before) (R.tally after) 1000) ⊥ content.old content.new) }
     ensures goes { OnOk result (OfReader
         (λ before after. Goes (R.tally before) (R.tally after) 1000) ⊤ content.old content.new) }
+    ensures answers { OnOk result (OfReader (λ before _. R.health before ≡ broken →
+        globs_suffice (plain_database database.entry.now) name.now Order.GlobsFirst ≡ true) ⊤ content.old content.new) }
+    ensures fails { IfErr result (λ cause. cause ≡ Cause.Read → OfReader (λ before _. (R.health before ≢ sound)
+        × (globs_suffice (plain_database database.entry.now) name.now Order.GlobsFirst ≡ false)) ⊥ content.old content.new) }
     ensures advances { OfReader (λ before after. Advances (R.remaining before) (R.remaining after) read.new)
         (read.new ≡ 0) content.old content.new }
     ensures limit { read.new ≤ read_limit (plain_database database.entry.now) }
@@ -170,6 +182,10 @@ fn magic_first<'a, R: Content>(
         OfReader (λ before after. GivesUp (R.tally before) (R.tally after) 1000) ⊥ content.old content.new) }
     ensures goes { OnOk result (OfReader
         (λ before after. Goes (R.tally before) (R.tally after) 1000) ⊤ content.old content.new) }
+    ensures answers { OnOk result (OfReader (λ before _. R.health before ≡ broken →
+        globs_suffice (plain_database database.entry.now) name.now Order.MagicFirst ≡ true) ⊤ content.old content.new) }
+    ensures fails { IfErr result (λ cause. cause ≡ Cause.Read → OfReader (λ before _. (R.health before ≢ sound)
+        × (globs_suffice (plain_database database.entry.now) name.now Order.MagicFirst ≡ false)) ⊥ content.old content.new) }
     ensures advances { OfReader (λ before after. Advances (R.remaining before) (R.remaining after) read.new)
         (read.new ≡ 0) content.old content.new }
     ensures limit { read.new ≤ read_limit (plain_database database.entry.now) }
@@ -239,6 +255,9 @@ fn sniff_content<'a, R: Content>(
         OfReader (λ before after. GivesUp (R.tally before) (R.tally after) 1000) ⊥ content.old content.new) }
     ensures goes { OnOk result (OfReader
         (λ before after. Goes (R.tally before) (R.tally after) 1000) ⊤ content.old content.new) }
+    ensures sound { IfErr result (λ cause. cause ≡ Cause.Read →
+        OfReader (λ before _. R.health before ≢ sound) ⊥ content.old content.new) }
+    ensures broken { OnOk result (OfReader (λ before _. R.health before ≢ broken) ⊤ content.old content.new) }
     ensures advances { OfReader (λ before after. Advances (R.remaining before) (R.remaining after) read.new)
         (read.new ≡ 0) content.old content.new }
     ensures limit { read.new ≤ read_limit (plain_database database.entry.now) }
@@ -274,6 +293,8 @@ fn sniff_reader<'a, R: Content>(
     ensures gives_up { IfErr result (λ cause. cause ≡ Cause.Read →
         GivesUp (R.tally reader.old) (R.tally reader.new) 1000) }
     ensures goes { OnOk result (Goes (R.tally reader.old) (R.tally reader.new) 1000) }
+    ensures sound { IfErr result (λ cause. cause ≡ Cause.Read → R.health reader.old ≢ sound) }
+    ensures broken { OnOk result (R.health reader.old ≢ broken) }
     ensures advances { Advances (R.remaining reader.old) (R.remaining reader.new) read.new }
     ensures limit { read.new ≤ read_limit (plain_database database.entry.now) }
     ensures nodes { meter.new.nodes ≡ meter.old.nodes }

@@ -1,8 +1,8 @@
 //! How the front of a content is read.
 
-ghost use Rattle.std.specs.Prelude.{◌≡◌, ◌≢◌, ◌⊎◌, ◌+◌, ◌-◌, ◌<◌, ◌≤◌, List, ℕ, length, [], OnOk, OnErr, IfErr, IfOk, take};
+ghost use Rattle.std.specs.Prelude.{◌≡◌, ◌≢◌, ◌⊎◌, ◌+◌, ◌-◌, ◌<◌, ◌≤◌, List, ℕ, length, [], OnOk, OnErr, IfErr, IfOk, IsOk, IsErr, take};
 ghost use Rattle.std.specs.Io.KnownBytes.{Consumes, IsAtEnd, ReadConsumes};
-ghost use Rattle.mime_lookup.specs.Content.{Advances, GivesUp, Goes, Interrupts};
+ghost use Rattle.mime_lookup.specs.Content.{Advances, GivesUp, Goes, Interrupts, broken, sound};
 
 use crate::content::{Content, ReadFault};
 use crate::stopped::Cause;
@@ -30,6 +30,8 @@ pub fn read_front<R: Content>(
     ensures whole { OnOk result (read.new < limit → IsAtEnd (R.remaining reader.new)) }
     ensures goes { OnOk result (Goes (R.tally reader.old) (R.tally reader.new) 1000) }
     ensures gives_up { IfErr result (λ cause. cause ≡ Cause.Read → GivesUp (R.tally reader.old) (R.tally reader.new) 1000) }
+    ensures sound { IfErr result (λ cause. cause ≡ Cause.Read → R.health reader.old ≢ sound) }
+    ensures broken { OnOk result (0 < limit → R.health reader.old ≢ broken) }
     ensures causes { IfErr result (λ cause. (cause ≡ Cause.Read) ⊎ (cause ≡ Cause.OutOfMemory)) }
     ensures advances { Advances (R.remaining reader.old) (R.remaining reader.new) read.new }
     ensures limit { read.new ≤ limit }
@@ -59,6 +61,8 @@ fn read_block<R: Content>(
     ensures bytes { ReadConsumes (R.remaining reader.old) (R.remaining reader.new) result block.new }
     ensures goes { OnOk result (Interrupts (R.tally reader.old) (R.tally reader.new) (retries.old - retries.new)) }
     ensures gives_up { OnErr result (GivesUp (R.tally reader.old) (R.tally reader.new) retries.old) }
+    ensures sound { R.health reader.old ≡ sound → IsOk result × (R.health reader.new ≡ sound) }
+    ensures broken { R.health reader.old ≡ broken → IsErr result × (R.health reader.new ≡ broken) }
     ensures fewer { retries.new ≤ retries.old }
     ensures fault { IfErr result (λ cause. cause ≡ Cause.Read) }
 {

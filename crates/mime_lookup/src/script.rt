@@ -3,8 +3,8 @@
 ghost use Rattle.std.specs.Prelude.{◌≡◌, ◌≤◌, ◌++◌, [], length, take, drop, Some};
 ghost use Rattle.std.specs.Io.{ReadsAtMost};
 ghost use Rattle.std.specs.Io.KnownBytes.{ReadConsumes};
-ghost use Rattle.mime_lookup.specs.Content.{Counts};
-ghost use Rattle.mime_lookup.specs.Script.{bytes_in, tally_in};
+ghost use Rattle.mime_lookup.specs.Content.{Counts, KeepsHealth};
+ghost use Rattle.mime_lookup.specs.Script.{bytes_in, health_of, tally_in};
 
 use crate::content::{Content, ReadFault};
 use std::io;
@@ -58,6 +58,8 @@ impl<'a> Script<'a> {
             result buffer.new }
         ensures told { Counts (Some (tally_in (take self.old.met self.old.steps.now)))
             (Some (tally_in (take self.new.met self.new.steps.now))) result }
+        ensures healthy { KeepsHealth (health_of (drop self.old.met self.old.steps.now))
+            (health_of (drop self.new.met self.new.steps.now)) result }
     {
         while self.piece.is_empty() && self.met < self.steps.len() && !buffer.is_empty() {
             let step = self.steps[self.met];
@@ -91,10 +93,12 @@ impl Read for Script<'_> {
 }
 
 impl Content for Script<'_> {
-    ghost use Rattle.std.specs.Prelude.{Some, take};
-    ghost use Rattle.mime_lookup.specs.Script.{tally_in};
+    ghost use Rattle.std.specs.Prelude.{Some, drop, take};
+    ghost use Rattle.mime_lookup.specs.Script.{health_of, tally_in};
 
     ghost tally = { λ script. Some (tally_in (take script.met script.steps.now)) };
+
+    ghost health = { λ script. health_of (drop script.met script.steps.now) };
 
     fn read_piece(&mut self, buffer: &mut [u8]) -> Result<usize, ReadFault> {
         self.next_piece(buffer)

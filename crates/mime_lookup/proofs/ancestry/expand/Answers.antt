@@ -1,9 +1,9 @@
-use Rattle.std.proofs.Common.{◌≡◌, ◌+◌, ◌++◌, false, ap, sym, ◌∙◌, arith, length, map}
+use Rattle.std.proofs.Common.{◌≡◌, ◌++◌, false, ap, sym, ◌∙◌, arith, length}
 use Rattle.std.proofs.lemmas.List.{map-append}
 use Rattle.mime_base.specs.Database.{pairs_of, plain_database}
 use Rattle.mime_base.specs.Database.PlainPairs.{plain_pairs}
 use Rattle.mime_base.specs.Database.Subclass.{above, parents}
-use Rattle.mime_lookup.specs.Ancestry.{is_one_of, texts, unmarked}
+use Rattle.mime_lookup.specs.Ancestry.{is_one_of, texts}
 use Rattle.mime_lookup.proofs.Marks.{expanded_marked, expanded_new, unmarked-falls}
 use Rattle.mime_lookup.proofs.ancestry.expand.Goals as goal
 

@@ -1,4 +1,3 @@
-use Rattle.std.proofs.Common.{ap}
 use Rattle.mime_base.specs.Database.{pairs_of, plain_database}
 use Rattle.mime_lookup.proofs.Marks.{none_marked}
 use Rattle.mime_lookup.proofs.ancestry.first_of.Goals as goal

@@ -1,7 +1,7 @@
-use Rattle.std.proofs.Common.{refl, sym, ◌∙◌, arith}
+use Rattle.std.proofs.Common.{refl, sym, ◌∙◌}
 use Rattle.mime_base.specs.Database.{pairs_of, plain_database}
 use Rattle.mime_lookup.specs.Ancestry.{is_one_of, texts}
-use Rattle.mime_lookup.proofs.Searches.{searched_all, searched_first, searched_found, searched_more}
+use Rattle.mime_lookup.proofs.Searches.{searched_found, searched_more}
 use Rattle.mime_lookup.proofs.ancestry.is_a.Goals as goal
 
 pub returns-then-is_by_itself-clause-answer : goal.returns-then-is_by_itself-clause-answer

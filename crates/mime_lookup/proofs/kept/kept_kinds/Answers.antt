@@ -1,4 +1,4 @@
-use Rattle.std.proofs.Common.{◌≡◌, List, ℕ, take_all, map, sym, ap, ◌∙◌}
+use Rattle.std.proofs.Common.{take_all, map, sym, ap, ◌∙◌}
 use Rattle.std.proofs.lemmas.Simd.{map-map}
 use denote.Bor.{Bor}
 use Rattle.mime_base.specs.Kept.{kept_rules}

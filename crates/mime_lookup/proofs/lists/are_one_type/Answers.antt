@@ -1,4 +1,4 @@
-use Rattle.std.proofs.Common.{◌≡◌, suc, ◌&&◌, true, false, ap, sym, ◌∙◌, drop-cons, add-one, refl, bytes_eq, drop}
+use Rattle.std.proofs.Common.{suc, ◌&&◌, ap, sym, ◌∙◌, drop-cons, add-one, refl, bytes_eq, drop}
 use Rattle.std.specs.List.{list_all}
 use Rattle.std.proofs.lemmas.Bool.{and_left}
 use Rattle.std.proofs.lemmas.List.{drop_all}

@@ -1,13 +1,14 @@
-use Rattle.std.proofs.Common.{◌≡◌, ℕ, List, true, false, sym, ap, ◌∙◌, subst, get_or}
+use Rattle.std.proofs.Common.{◌≡◌, ◌≢◌, ℕ, List, true, false, sym, ap, ◌∙◌, subst}
+use Rattle.std.specs.Prelude.{⊤}
 use denote.Bor.{Bor}
 use Rattle.mime_base.specs.Database.{pairs_of, plain_database}
 use Rattle.mime_lookup.specs.Ancestry.{texts}
-use Rattle.mime_lookup.specs.CheckingOrder.{Chooses, are_one_type, front_size, read_of}
+use Rattle.mime_lookup.specs.CheckingOrder.{Chooses, are_one_type, front_size, globs_suffice, read_of}
 use Rattle.mime_lookup.specs.Choice.{ChoosesAmong}
-use Rattle.mime_lookup.specs.Content.{known_content}
+use Rattle.mime_lookup.specs.Content.{broken, known_content, sound}
 use Rattle.mime_lookup.specs.Sniffing.{sniffed}
 use Rattle.mime_lookup.specs.declared.order.Order.TheVariants.{GlobsFirst}
-use Rattle.mime_lookup.proofs.Answering.{by_globs, by_globs_and_content, first_text, if_known, if_known-from, read_front, read_none}
+use Rattle.mime_lookup.proofs.Answering.{by_globs, by_globs_and_content, first_text, if_known, if_known-from, of_reader-any, of_reader-weaker, passed_on, read_front, read_none, suffice}
 use Rattle.mime_lookup.proofs.lists.globs_first.Goals as goal
 
 pub returns-then-are_one_type-clause-chosen : goal.returns-then-are_one_type-clause-chosen
@@ -51,3 +52,23 @@ returns-clause-read g c =
     (λ known. count ≡ front_size b known) (λ known. count ≡ read_of b c.args.name.now known GlobsFirst)
     (λ known size _. read_front b c.args.name.now c.args.host kinds known count c.in_ok-kept.ensures.kept conflict size)
     c.in_ok-sniffed.ensures.read c.in_ok-sniffed.ensures.read
+
+pub returns-in_err-sniffed-clause-fails : goal.returns-in_err-sniffed-clause-fails
+returns-in_err-sniffed-clause-fails g c =
+    let b = plain_database c.args.database.now in
+    let kinds = texts c.in_ok-kept.kept.items in
+    let conflict : are_one_type kinds ≡ false = rw c.deref.ensures.value at (sym c.are_one_type.ensures ∙ c.if-are_one_type.false) in
+    passed_on _ c.in_err-sniffed.field-0.0 _ c.from_residual-in_err-sniffed.ensures.1
+    (λ is_read.
+    of_reader-weaker (λ before _. g.R.Content.health before ≢ sound)
+    (λ before _. (g.R.Content.health before ≢ sound) × (globs_suffice b c.args.name.now GlobsFirst ≡ false)) ⊥ c.args.content.now
+    c.sniff_content.new.content (λ before _ told. (told, suffice b c.args.name.now c.args.host kinds false c.in_ok-kept.ensures.kept conflict))
+    (c.in_err-sniffed.ensures.sound is_read))
+
+pub returns-then-are_one_type-clause-answers : goal.returns-then-are_one_type-clause-answers
+returns-then-are_one_type-clause-answers g c =
+    let b = plain_database c.args.database.now in
+    let kinds = texts c.in_ok-kept.kept.items in
+    let one : are_one_type kinds ≡ true = rw c.deref.ensures.value at (sym c.are_one_type.ensures ∙ c.if-are_one_type.true) in
+    of_reader-any (λ before _. g.R.Content.health before ≡ broken → globs_suffice b c.args.name.now GlobsFirst ≡ true) ⊤ c.args.content.now
+    (λ before _ _. suffice b c.args.name.now c.args.host kinds true c.in_ok-kept.ensures.kept one) tt

@@ -1,12 +1,12 @@
-use Rattle.std.proofs.Common.{◌≡◌, ℕ, List, true, false, cond, None, Some, sym, ap, ◌∙◌}
+use Rattle.std.proofs.Common.{◌≡◌, ◌≢◌, false, cond, None, Some, sym, ap, ◌∙◌}
 use Rattle.mime_base.specs.Database.{pairs_of, plain_database}
 use Rattle.mime_lookup.specs.Ancestry.{texts}
-use Rattle.mime_lookup.specs.CheckingOrder.{Chooses, before_globs, front_size, read_of}
+use Rattle.mime_lookup.specs.CheckingOrder.{Chooses, before_globs, front_size, globs_suffice, read_of}
 use Rattle.mime_lookup.specs.Choice.{ChoosesAmong}
-use Rattle.mime_lookup.specs.Content.{known_content}
+use Rattle.mime_lookup.specs.Content.{known_content, sound}
 use Rattle.mime_lookup.specs.Sniffing.{sniffed}
 use Rattle.mime_lookup.specs.declared.order.Order.TheVariants.{MagicFirst}
-use Rattle.mime_lookup.proofs.Answering.{by_magic, by_magic_and_globs, if_known-from, read_first}
+use Rattle.mime_lookup.proofs.Answering.{by_magic, by_magic_and_globs, if_known-from, of_reader-weaker, passed_on, read_first, suffice-not}
 use Rattle.mime_lookup.proofs.lists.magic_first.Goals as goal
 
 pub returns-then-sniffed-clause-chosen : goal.returns-then-sniffed-clause-chosen
@@ -51,3 +51,13 @@ returns-clause-read g c =
     (λ known. count ≡ front_size b known) (λ known. count ≡ read_of b c.args.name.now known MagicFirst)
     (λ known size _. read_first b c.args.name.now c.args.host known count size)
     c.in_ok-sniffed.ensures.read c.in_ok-sniffed.ensures.read
+
+pub returns-in_err-sniffed-clause-fails : goal.returns-in_err-sniffed-clause-fails
+returns-in_err-sniffed-clause-fails g c =
+    let b = plain_database c.args.database.now in
+    passed_on _ c.in_err-sniffed.field-0.0 _ c.from_residual.ensures.1
+    (λ is_read.
+    of_reader-weaker (λ before _. g.R.Content.health before ≢ sound)
+    (λ before _. (g.R.Content.health before ≢ sound) × (globs_suffice b c.args.name.now MagicFirst ≡ false)) ⊥ c.args.content.now
+    c.sniff_content.new.content (λ before _ told. (told, suffice-not b c.args.name.now c.args.host))
+    (c.in_err-sniffed.ensures.sound is_read))

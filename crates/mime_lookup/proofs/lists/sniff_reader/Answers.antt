@@ -1,7 +1,7 @@
-use Rattle.std.proofs.Common.{◌≡◌, ◌<◌, ◌≤◌, ℕ, List, length, arith, sym, ap, ◌∙◌}
+use Rattle.std.proofs.Common.{◌≤◌, length, arith}
 use Rattle.mime_base.specs.Database.{plain_database}
 use Rattle.mime_lookup.specs.CheckingOrder.{read_limit}
-use Rattle.mime_lookup.proofs.Sniffs.{before_globs-known, front_size-known, sniffed-known}
+use Rattle.mime_lookup.proofs.Sniffs.{before_globs-known, front_size-known, read_limit-some, sniffed-known}
 use Rattle.mime_lookup.proofs.lists.sniff_reader.Goals as goal
 
 pub returns-clause-kind : goal.returns-clause-kind
@@ -33,3 +33,7 @@ returns-clause-read g c =
     c.in_ok-front.ensures.front.1 limited
     (λ short. c.in_ok-front.ensures.whole (omega (arith, short, c.in_ok-front.ensures.front.0, c.front_limit-limit.ensures)))
     _ c.in_ok-front.ensures.front.0
+
+pub returns-clause-broken : goal.returns-clause-broken
+returns-clause-broken g c = λ is.
+    c.in_ok-front.ensures.broken (omega (arith, read_limit-some (plain_database c.args.database.now), c.front_limit-limit.ensures)) is

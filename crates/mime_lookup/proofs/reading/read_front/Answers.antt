@@ -1,4 +1,4 @@
-use Rattle.std.proofs.Common.{◌≡◌, ◌+◌, ◌-◌, ◌++◌, List, ℕ, length, take, arith, vec_len}
+use Rattle.std.proofs.Common.{◌-◌, ◌++◌, List, ℕ, take, arith}
 use Rattle.std.proofs.lemmas.List.{length-append, length-take-le}
 use Rattle.std.proofs.KnownBytes.{Consumes-trans}
 use Rattle.mime_lookup.proofs.Tallies.{interrupts-trans}

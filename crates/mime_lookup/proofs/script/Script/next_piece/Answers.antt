@@ -1,9 +1,10 @@
-use Rattle.std.proofs.Common.{◌≡◌, ◌+◌, ◌-◌, ◌<◌, ◌≤◌, ◌++◌, min, ℕ, length, take, drop, true, sym, ap, ◌∙◌, arith}
+use Rattle.std.proofs.Common.{◌≡◌, ◌+◌, ◌-◌, ◌≤◌, ◌++◌, ℕ, length, take, drop, sym, ap, ◌∙◌, arith}
 use Rattle.std.proofs.lemmas.Bool.{eqb-false, eqb-true}
 use Rattle.std.proofs.lemmas.List.{length-append, length-drop, length-take-le}
 use Rattle.mime_lookup.specs.Content.{Tally}
 use Rattle.mime_lookup.specs.Script.{bytes_in, faults_in, interruptions_in, tally_in}
-use Rattle.mime_lookup.proofs.Scripts.{after_piece, at_end, bytes_more, copied, faults_more, interruptions_more, tally_same}
+use Rattle.mime_lookup.proofs.Scripts.{after_piece, at_end, bytes_more, copied, faults_more, interruptions_more, pieces_more, tally_same}
+use Rattle.mime_lookup.proofs.Healths.{tells_nothing, tells_on}
 use Rattle.mime_lookup.proofs.script.Script.next_piece.Goals as goal
 use Rattle.mime_lookup.proofs.script.Script.next_piece.Goals.{then-loop-buffer-test+then-self+else-not-is_empty, then-loop-buffer-test+else-self, else-loop-buffer-test}
 
@@ -19,6 +20,7 @@ loop-buffer-preserved c =
       bytes =
           sym (bytes_more steps met _ _ c.if-self.true c.in-Piece.is)
           ∙ after_piece piece (bytes_in (drop met steps)) _ none c.loop-buffer.invariant.bytes;
+      pieces = sym (pieces_more steps met _ _ c.if-self.true c.in-Piece.is) ∙ c.loop-buffer.invariant.pieces;
       tally =
           tally_same (tally_in (take (met + 1) steps)) (tally_in (take c.args.self.now.met c.args.self.now.steps.now))
           (omega (arith, faults, ap (λ (t : Tally). t.failed) c.loop-buffer.invariant.tally))
@@ -44,6 +46,19 @@ returns-in-Fault-clause-told c =
     tally_same (tally_in (take (met + 1) steps)) _
     (omega (arith, faults, ap (λ (t : Tally). t.failed) c.loop-buffer.invariant.tally))
     (omega (arith, interruptions, ap (λ (t : Tally). t.interrupted) c.loop-buffer.invariant.tally))
+
+pub returns-in-Interruption-clause-healthy : goal.returns-in-Interruption-clause-healthy
+returns-in-Interruption-clause-healthy c =
+    tells_nothing _ _ _
+    (sym c.loop-buffer.invariant.pieces ∙ pieces_more c.loop-buffer.self.steps.now c.loop-buffer.self.met _ _ c.if-self.true c.in-Interruption.is)
+
+pub returns-in-Fault-clause-healthy : goal.returns-in-Fault-clause-healthy
+returns-in-Fault-clause-healthy c =
+    tells_nothing _ _ _
+    (sym c.loop-buffer.invariant.pieces ∙ pieces_more c.loop-buffer.self.steps.now c.loop-buffer.self.met _ _ c.if-self.true c.in-Fault.is)
+
+pub returns-clause-healthy : goal.returns-clause-healthy
+returns-clause-healthy c = tells_on _ _ c.min-count.result (sym c.loop-buffer.invariant.pieces)
 
 pub returns-clause-bytes : goal.returns-clause-bytes
 returns-clause-bytes c =
