@@ -23,7 +23,7 @@ pub use lines::globs2::{GlobsFile, read_globs2};
 pub use lines::icons::{IconsFile, read_icons};
 pub use lines::pairs::{PairsFile, read_pairs};
 pub use magic::{
-    MagicFault, MagicFile, fault_is_by_table, faults_stay, forest_is_by_runs, magic_text_or_fault,
-    read_magic, truncated_can_go_on,
+    MagicFault, MagicFaultKind, MagicFile, fault_is_by_table, faults_stay, forest_is_by_runs,
+    magic_text_or_fault, read_magic, truncated_can_go_on,
 };
 pub use merging::{DirFiles, merge};

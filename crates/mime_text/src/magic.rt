@@ -18,7 +18,7 @@ mod read;
 mod section;
 mod text;
 
-pub use fault::MagicFault;
+pub use fault::{MagicFault, MagicFaultKind};
 pub use file::MagicFile;
 pub use laws::{
     fault_is_by_table, faults_stay, forest_is_by_runs, magic_text_or_fault, truncated_can_go_on,

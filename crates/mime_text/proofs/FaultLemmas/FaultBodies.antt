@@ -1,39 +1,38 @@
 -- The parts of a line after its `>` that fail have that fault by the table.
 use Rattle.std.proofs.Common.{◌≡◌, ℕ, ◌+◌, List, [], ◌∷◌, ◌++◌, length, length-append, Err, refl, sym, ap, subst, ◌∙◌, arith, inl, inr}
 use Rattle.mime_text.specs.declared.magic.fault.Fault.{Fault}
-use Rattle.mime_text.specs.declared.magic.fault.Fault.TheVariants as left
-use Rattle.mime_text.specs.declared.magic.fault.MagicFault.{MagicFault}
-use Rattle.mime_text.specs.declared.magic.fault.MagicFault.TheVariants.{NoHeader, Truncated, BadSection, BadNumber, BadWord, BadIndent, TooDeep, OutOfMemory}
-use Rattle.mime_text.specs.Magic.Reading.{number_at, start_at, value_at, mask_at, word_at, range_at, body_at}
+use Rattle.mime_text.specs.declared.magic.fault.MagicFaultKind.TheVariants.{NoHeader, Truncated, BadSection, BadNumber, BadWord, BadIndent, TooDeep}
+use Rattle.mime_text.specs.declared.magic.fault.MagicFaultKind.{MagicFaultKind}
+use Rattle.mime_text.specs.Magic.Reading.{fault_at, number_at, start_at, value_at, mask_at, word_at, range_at, body_at}
 use Rattle.mime_text.specs.Magic.FaultTable.{IsToIndent, IsToStart, IsToValue, IsToMask, IsToWord, IsBeforeNumber, before_start, before_word, before_range, IsCut, in_number, in_length, in_value, in_mask, IsMisnumbered, bad_number, no_equals, IsMisworded, IsMisindented, IsTooDeep, IsCutAtEnd}
-use Rattle.mime_text.proofs.FaultLemmas.FaultSteps.{bind_err, Places, places_truncated, places_number, places_word}
+use Rattle.mime_text.proofs.FaultLemmas.FaultSteps.{bind_err, Places, places_end, places_behind}
 use Rattle.mime_text.proofs.FaultLemmas.FaultNumbers.{number_fails}
 use Rattle.mime_text.proofs.FaultLemmas.FaultMarks.{start_fails}
 use Rattle.mime_text.proofs.FaultLemmas.FaultOptions.{value_fails, mask_fails, word_fails, range_fails}
 use Rattle.mime_text.proofs.FaultLemmas.FaultFronts.{grown, grow_start, grow_value, grow_mask, grow_word}
 
 -- the faults of a line, by kind
-abbrev pub LineFault : ℕ → List ℕ → MagicFault → Type 0
-LineFault limit line (NoHeader at) = ⊥
-LineFault limit line (Truncated at) = IsCutAtEnd limit line at
-LineFault limit line (BadSection at) = ⊥
-LineFault limit line (BadNumber at) = IsMisnumbered limit line at
-LineFault limit line (BadWord at) = IsMisworded limit line at
-LineFault limit line (BadIndent at) = IsMisindented limit line at
-LineFault limit line (TooDeep at) = IsTooDeep limit line at
-LineFault limit line OutOfMemory = ⊥
+abbrev pub LineFault : MagicFaultKind → ℕ → List ℕ → ℕ → Type 0
+LineFault NoHeader limit line at = ⊥
+LineFault Truncated limit line at = IsCutAtEnd limit line at
+LineFault BadSection limit line at = ⊥
+LineFault BadNumber limit line at = IsMisnumbered limit line at
+LineFault BadWord limit line at = IsMisworded limit line at
+LineFault BadIndent limit line at = IsMisindented limit line at
+LineFault TooDeep limit line at = IsTooDeep limit line at
 
 -- the fault by the table of a line that fails
 pub record LineFails (limit : ℕ) (line : List ℕ) (f : Fault) : Type 0 where
-  pub fault : MagicFault
-  pub is : LineFault limit line fault
-  pub places : Places f (length line) fault
+  pub kind : MagicFaultKind
+  pub at : ℕ
+  pub is : LineFault kind limit line at
+  pub places : Places f (length line) kind at
 
 -- a line that is cut
-pub cut : (limit : ℕ) (line : List ℕ) (f : Fault) → f ≡ left.Truncated 0 → IsCut limit line → LineFails limit line f
+pub cut : (limit : ℕ) (line : List ℕ) (f : Fault) → f ≡ fault_at Truncated 0 → IsCut limit line → LineFails limit line f
 cut limit line f e is =
     subst (λ (g : Fault). LineFails limit line g) (sym e)
-    (record { fault = Truncated (length line); is = (is, refl); places = places_truncated line })
+    (record { kind = Truncated; at = length line; is = (is, refl); places = places_end line (length line) refl })
 
 -- a number that fails where one has to stand
 at_number : (limit : ℕ) (line before rest : List ℕ) (f : Fault) → line ≡ before ++ rest → IsBeforeNumber limit before
@@ -44,9 +43,10 @@ at_number limit line before rest f is place e =
       | inr h ↦
           subst (λ (g : Fault). LineFails limit line g) (sym h.0)
           (record {
-            fault = BadNumber (length before);
+            kind = BadNumber;
+            at = length before;
             is = bad_number before rest is place h.1 refl;
-            places = places_number before rest line is;
+            places = places_behind BadNumber before rest line (length before) is refl;
           })
     ]
 
@@ -66,7 +66,8 @@ from_word limit size line before tail f is m e =
     elim r.2 [
       | inl h ↦ at_number limit line (before ++ 126 ∷ []) r.0 f whole (before_word size before refl m) h
       | inr h ↦ subst (λ (g : Fault). LineFails limit line g) h.0 (record {
-        fault = BadWord (length before + 1);
+        kind = BadWord;
+        at = length before + 1;
         is = record {
           size = size;
           before = before;
@@ -82,7 +83,8 @@ from_word limit size line before tail f is m e =
           misfit = h.1.misfit;
           place = refl;
         };
-        places = places_word (before ++ 126 ∷ []) r.0 line (length before + 1) whole (omega (arith, length-append before (126 ∷ [])));
+        places = places_behind BadWord (before ++ 126 ∷ []) r.0 line (length before + 1) whole
+            (omega (arith, length-append before (126 ∷ [])));
       })
     ]
 
@@ -112,9 +114,10 @@ from_start limit line before tail f is i e =
       | inr h ↦
           subst (λ (g : Fault). LineFails limit line g) h.0
           (record {
-            fault = BadNumber (length before);
+            kind = BadNumber;
+            at = length before;
             is = no_equals before tail h.1.text h.1.n h.1.next is i h.1.is h.1.ended h.1.other refl;
-            places = places_number before tail line is;
+            places = places_behind BadNumber before tail line (length before) is refl;
           })
     ]
 

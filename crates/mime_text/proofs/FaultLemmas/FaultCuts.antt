@@ -2,9 +2,10 @@
 use Rattle.std.proofs.Common.{◌≡◌, ℕ, ◌+◌, ◌≤◌, List, [], ◌∷◌, ◌++◌, length, refl, sym, ap, subst, ◌∙◌, append_assoc, arith, inl, inr, ◌⊎◌}
 use Rattle.std.proofs.lemmas.Bool.{cases_lt, cases_Bool, eqb-false}
 use Rattle.mime_base.specs.Magic.{fits_word}
-use Rattle.mime_text.specs.declared.magic.fault.MagicFault.TheVariants.{BadNumber, BadWord, BadIndent}
+use Rattle.mime_text.specs.declared.magic.fault.MagicFaultKind.TheVariants.{BadNumber, BadWord, BadIndent}
 use Rattle.mime_text.specs.Magic.Text.{value_of, AreDigits, IsNumber}
 use Rattle.mime_text.specs.Magic.FaultTable.{IsToMask, IsToWord, IsBeforeNumber, before_start, before_word, before_range, IsCut, in_indent, in_number, in_length, in_value, in_mask, before_end, before_newline, large_indent, bad_number, no_equals, no_mark}
+use Rattle.mime_text.proofs.FaultLemmas.FaultSteps.{number_final, word_final, indent_final}
 use Rattle.mime_text.proofs.FaultLemmas.FaultLinesStay.{longer}
 use Rattle.mime_text.proofs.FaultLemmas.FaultEnds.{IsSettled, LineEnds, faulty, ignored_line, range_ends, mask_ends}
 use Rattle.mime_text.proofs.FaultLemmas.FaultFills.{value_fills, length_fills, mask_fills}
@@ -20,9 +21,10 @@ judge (b ∷ digits) are = elim (cases_lt (value_of 0 (b ∷ digits)) 4294967296
 -- a bad number ends the line
 bad_ends : (limit : ℕ) (line before digits : List ℕ) → line ≡ before ++ digits → IsBeforeNumber limit before → AreDigits digits
     → (digits ≡ []) ⊎ (4294967296 ≤ value_of 0 digits) → LineEnds limit line
-bad_ends limit line before digits is place are bad = faulty limit line (120 ∷ []) (BadNumber (length before))
+bad_ends limit line before digits is place are bad = faulty limit line (120 ∷ []) BadNumber (length before)
     (bad_number before (digits ++ 120 ∷ []) (longer line before digits (120 ∷ []) is) place
-    (record { digits = digits; next = 120; ended = record { after = []; whole = refl; ends = refl }; digits_are = are; bad = bad }) refl) tt
+    (record { digits = digits; next = 120; ended = record { after = []; whole = refl; ends = refl }; digits_are = are; bad = bad }) refl)
+    number_final
 
 -- a word is judged, or a range after it
 word_ends : (limit size : ℕ) (line before digits : List ℕ) → line ≡ before ++ 126 ∷ digits → IsToMask limit size before
@@ -42,7 +44,7 @@ word_ends limit size line before digits is m num = elim (cases_Bool (fits_word (
       } in
       let whole : line ++ (43 ∷ 120 ∷ []) ≡ (front ++ 43 ∷ []) ++ 120 ∷ [] =
       ap (λ (t : List ℕ). t ++ (43 ∷ 120 ∷ [])) is ∙ sym (append_assoc front (43 ∷ []) (120 ∷ [])) in
-      faulty limit line (43 ∷ 120 ∷ []) (BadNumber (length (front ++ 43 ∷ [])))
+      faulty limit line (43 ∷ 120 ∷ []) BadNumber (length (front ++ 43 ∷ []))
       (bad_number (front ++ 43 ∷ []) (120 ∷ []) whole (before_range size front refl w)
       (record {
         digits = [];
@@ -50,8 +52,8 @@ word_ends limit size line before digits is m num = elim (cases_Bool (fits_word (
         ended = record { after = []; whole = refl; ends = refl };
         digits_are = tt;
         bad = inl refl;
-      }) refl) tt
-  | inr misfit ↦ faulty limit line (120 ∷ []) (BadWord (length before + 1)) (record {
+      }) refl) number_final
+  | inr misfit ↦ faulty limit line (120 ∷ []) BadWord (length before + 1) (record {
     size = size;
     before = before;
     rest = digits ++ 120 ∷ [];
@@ -64,15 +66,15 @@ word_ends limit size line before digits is m num = elim (cases_Bool (fits_word (
     ended = record { after = []; whole = refl; ends = refl };
     misfit = misfit;
     place = refl;
-  }) tt
+  }) word_final
 ]
 
 -- a number where one has to stand
 number_ends : (limit : ℕ) (line before digits : List ℕ) → line ≡ before ++ digits → IsBeforeNumber limit before → AreDigits digits
     → IsNumber digits (value_of 0 digits) → LineEnds limit line
-number_ends limit line before digits is (before_start i) are num = faulty limit line (120 ∷ []) (BadNumber (length before))
+number_ends limit line before digits is (before_start i) are num = faulty limit line (120 ∷ []) BadNumber (length before)
     (no_equals before (digits ++ 120 ∷ []) digits (value_of 0 digits) 120 (longer line before digits (120 ∷ []) is) i num
-    (record { after = []; whole = refl; ends = refl }) (eqb-false 120 61 refl) refl) tt
+    (record { after = []; whole = refl; ends = refl }) (eqb-false 120 61 refl) refl) number_final
 number_ends limit line before digits is (before_word size b at m) are num =
     word_ends limit size line b digits (is ∙ ap (λ (t : List ℕ). t ++ digits) at ∙ append_assoc b (126 ∷ []) digits) m num
 number_ends limit line before digits is (before_range size b at w) are num =
@@ -83,13 +85,13 @@ number_ends limit line before digits is (before_range size b at w) are num =
 pub cut_ends : (limit : ℕ) (line : List ℕ) → IsCut limit line → LineEnds limit line
 cut_ends limit line (in_indent some are) = elim (judge line are) [
   | inl num ↦
-      faulty limit line (120 ∷ []) (BadIndent 0)
-      (no_mark line (value_of 0 line) 120 num (record { after = []; whole = refl; ends = refl }) (eqb-false 120 62 refl) refl) tt
+      faulty limit line (120 ∷ []) BadIndent 0
+      (no_mark line (value_of 0 line) 120 num (record { after = []; whole = refl; ends = refl }) (eqb-false 120 62 refl) refl) indent_final
   | inr bad ↦ elim bad [
     | inl none ↦ absurd (omega (arith, some, ap length none))
     | inr large ↦
-        faulty limit line (120 ∷ []) (BadNumber 0)
-        (large_indent line 120 (record { after = []; whole = refl; ends = refl }) are large refl) tt
+        faulty limit line (120 ∷ []) BadNumber 0
+        (large_indent line 120 (record { after = []; whole = refl; ends = refl }) are large refl) number_final
   ]
 ]
 cut_ends limit line (in_number before digits is place are) = elim (judge digits are) [

@@ -4,9 +4,9 @@ use Rattle.std.proofs.lemmas.Bool.{lt-ltb, ne_eqb, cond-true, cond-false}
 use Rattle.std.proofs.lemmas.List.{append-nil}
 use Rattle.mime_base.specs.Magic.{PlainLine}
 use Rattle.mime_text.specs.declared.magic.fault.Fault.{Fault}
-use Rattle.mime_text.specs.declared.magic.fault.Fault.TheVariants as left
-use Rattle.mime_text.specs.declared.magic.fault.MagicFault.{MagicFault}
-use Rattle.mime_text.specs.Magic.Reading.{bytes_at, value_at, mask_at, word_at, range_at, row_at, body_at, end_at, line_at}
+use Rattle.mime_text.specs.declared.magic.fault.MagicFaultKind.TheVariants.{Truncated}
+use Rattle.mime_text.specs.declared.magic.fault.MagicFaultKind.{MagicFaultKind}
+use Rattle.mime_text.specs.Magic.Reading.{fault_at, bytes_at, value_at, mask_at, word_at, range_at, row_at, body_at, end_at, line_at}
 use Rattle.mime_text.specs.Magic.Text.{NoNewline}
 use Rattle.mime_text.specs.Magic.FaultTable.{IsToEnd, IsCut, in_indent, in_number, in_length, in_value, in_mask, before_end, before_newline}
 use Rattle.mime_text.proofs.MagicLemmas.LineOnly.{body_only}
@@ -17,39 +17,39 @@ use Rattle.mime_text.proofs.FaultLemmas.FaultIndentsOnly.{front_number}
 use Rattle.mime_text.proofs.FaultLemmas.FaultFrontsOnly.{indent_then, start_then, value_then, mask_then, number_then, fail_so, after_body, after_start, after_value}
 
 -- the fault that reading the line gives
-pub record LineGives (limit : ℕ) (line : List ℕ) (fault : MagicFault) : Type 0 where
+pub record LineGives (limit : ℕ) (line : List ℕ) (kind : MagicFaultKind) (at : ℕ) : Type 0 where
   pub fails : Fault
   pub is : line_at limit line ≡ Err fails
-  pub places : Places fails (length line) fault
+  pub places : Places fails (length line) kind at
 
 -- ---- a line that is cut
 
 -- too few bytes
-bytes_cut : (n : ℕ) (cut : List ℕ) → length cut < n → bytes_at n cut ≡ Err (left.Truncated 0)
+bytes_cut : (n : ℕ) (cut : List ℕ) → length cut < n → bytes_at n cut ≡ Err (fault_at Truncated 0)
 unfolding bytes_at
 bytes_cut n cut less = cond-true (ltb (length cut) n) _ _ (lt-ltb _ _ less)
 
 -- a length or a value
-length_cut : (cut : List ℕ) → length cut < 2 → value_at cut ≡ Err (left.Truncated 0)
+length_cut : (cut : List ℕ) → length cut < 2 → value_at cut ≡ Err (fault_at Truncated 0)
 unfolding value_at
 length_cut [] short = refl
 length_cut (b ∷ []) short = refl
 length_cut (b ∷ c ∷ cut) short = absurd (omega (arith, short))
 
-value_cut : (high low : ℕ) (cut : List ℕ) → length cut < 256 * high + low → value_at (high ∷ low ∷ cut) ≡ Err (left.Truncated 0)
+value_cut : (high low : ℕ) (cut : List ℕ) → length cut < 256 * high + low → value_at (high ∷ low ∷ cut) ≡ Err (fault_at Truncated 0)
 unfolding value_at
 value_cut high low cut less = bytes_cut (256 * high + low) cut less
 
 -- a mask
-mask_cut : (size : ℕ) (cut : List ℕ) → length cut < size → mask_at size (38 ∷ cut) ≡ Err (left.Truncated 0)
+mask_cut : (size : ℕ) (cut : List ℕ) → length cut < size → mask_at size (38 ∷ cut) ≡ Err (fault_at Truncated 0)
 unfolding mask_at
-mask_cut size cut less = bind_fails (bytes_at size cut) _ (left.Truncated 0) (bytes_cut size cut less)
+mask_cut size cut less = bind_fails (bytes_at size cut) _ (fault_at Truncated 0) (bytes_cut size cut less)
 
 -- a row
-pub row_cut : (cut : List ℕ) → NoNewline cut → row_at cut ≡ Err (left.Truncated 0)
+pub row_cut : (cut : List ℕ) → NoNewline cut → row_at cut ≡ Err (fault_at Truncated 0)
 unfolding row_at
 row_cut [] none = refl
-row_cut (b ∷ cut) none = cond-false (eqb b 10) _ _ (ne_eqb b 10 none.0) ∙ bind_fails (row_at cut) _ (left.Truncated 0) (row_cut cut none.1)
+row_cut (b ∷ cut) none = cond-false (eqb b 10) _ _ (ne_eqb b 10 none.0) ∙ bind_fails (row_at cut) _ (fault_at Truncated 0) (row_cut cut none.1)
 
 -- what fails after all parts
 pub end_then : (limit : ℕ) (own : PlainLine) (next : ℕ) (line before after : List ℕ) (f : Fault) → line ≡ before ++ next ∷ after
@@ -66,27 +66,27 @@ end_then limit own next line before after f is end e =
     (subst (λ (n : ℕ). end_at n own (next ∷ after) ≡ Err f) (ap length whole) e)))
 
 -- a line that is cut
-pub cut_line : (limit : ℕ) (line : List ℕ) → IsCut limit line → line_at limit line ≡ Err (left.Truncated 0)
+pub cut_line : (limit : ℕ) (line : List ℕ) → IsCut limit line → line_at limit line ≡ Err (fault_at Truncated 0)
 unfolding end_at word_at range_at
-cut_line limit line (in_indent some are) = front_number limit line (left.Truncated 0) (digits_start line are some) (number_cut line are)
+cut_line limit line (in_indent some are) = front_number limit line (fault_at Truncated 0) (digits_start line are some) (number_cut line are)
 cut_line limit line (in_number before digits is place are) =
-    ap (line_at limit) is ∙ number_then limit before place digits (left.Truncated 0) (number_cut digits are)
+    ap (line_at limit) is ∙ number_then limit before place digits (fault_at Truncated 0) (number_cut digits are)
 cut_line limit line (in_length before cut is s short) =
-    ap (line_at limit) is ∙ start_then limit before s cut (left.Truncated 0)
-    (λ size start. fail_so size (left.Truncated 0) (after_start start cut)
-    (bind_fails (value_at cut) _ (left.Truncated 0) (length_cut cut short)))
+    ap (line_at limit) is ∙ start_then limit before s cut (fault_at Truncated 0)
+    (λ size start. fail_so size (fault_at Truncated 0) (after_start start cut)
+    (bind_fails (value_at cut) _ (fault_at Truncated 0) (length_cut cut short)))
 cut_line limit line (in_value before high low cut is s less) =
     let tail : List ℕ = high ∷ low ∷ cut in
-    ap (line_at limit) is ∙ start_then limit before s tail (left.Truncated 0)
-    (λ size start. fail_so size (left.Truncated 0) (after_start start tail)
-    (bind_fails (value_at tail) _ (left.Truncated 0) (value_cut high low cut less)))
+    ap (line_at limit) is ∙ start_then limit before s tail (fault_at Truncated 0)
+    (λ size start. fail_so size (fault_at Truncated 0) (after_start start tail)
+    (bind_fails (value_at tail) _ (fault_at Truncated 0) (value_cut high low cut less)))
 cut_line limit line (in_mask size before cut is v less) =
-    ap (line_at limit) is ∙ value_then limit size before v (38 ∷ cut) (left.Truncated 0)
-    (λ bytes start value same. fail_so bytes (left.Truncated 0) (after_value start value (38 ∷ cut))
-    (bind_fails (mask_at (length value) (38 ∷ cut)) _ (left.Truncated 0) (mask_cut (length value) cut (omega (arith, less, same)))))
+    ap (line_at limit) is ∙ value_then limit size before v (38 ∷ cut) (fault_at Truncated 0)
+    (λ bytes start value same. fail_so bytes (fault_at Truncated 0) (after_value start value (38 ∷ cut))
+    (bind_fails (mask_at (length value) (38 ∷ cut)) _ (fault_at Truncated 0) (mask_cut (length value) cut (omega (arith, less, same)))))
 cut_line limit line (before_end size m) =
     ap (line_at limit) (sym (append-nil line))
-    ∙ mask_then limit size line m [] (left.Truncated 0) tt (λ bytes start value mask same depth. refl)
+    ∙ mask_then limit size line m [] (fault_at Truncated 0) tt (λ bytes start value mask same depth. refl)
 cut_line limit line (before_newline before after own next is end other none) =
-    end_then limit own next line before after (left.Truncated 0) is end
-    (cond-false (eqb next 10) _ _ (ne_eqb next 10 other) ∙ bind_fails (row_at after) _ (left.Truncated 0) (row_cut after none))
+    end_then limit own next line before after (fault_at Truncated 0) is end
+    (cond-false (eqb next 10) _ _ (ne_eqb next 10 other) ∙ bind_fails (row_at after) _ (fault_at Truncated 0) (row_cut after none))

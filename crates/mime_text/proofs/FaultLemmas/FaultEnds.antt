@@ -4,7 +4,8 @@ use Rattle.std.specs.Prelude.{◌≢◌}
 use Rattle.std.proofs.lemmas.Bool.{eqb-false}
 use Rattle.std.proofs.lemmas.List.{append-nil}
 use Rattle.mime_base.specs.Magic.{PlainLine, fits_word}
-use Rattle.mime_text.specs.declared.magic.fault.MagicFault.{MagicFault}
+use Rattle.mime_text.specs.declared.magic.fault.MagicFault.TheVariants.{Malformed}
+use Rattle.mime_text.specs.declared.magic.fault.MagicFaultKind.{MagicFaultKind}
 use Rattle.mime_text.specs.Magic.Entries.{ignored, PlainEntry}
 use Rattle.mime_text.specs.Magic.Text.{IsOptional, IsMask, goes_on, NoNewline, IsLine}
 use Rattle.mime_text.specs.Magic.FaultTable.{IsToMask, IsToWord, IsToEnd, IsFinal}
@@ -12,16 +13,18 @@ use Rattle.mime_text.proofs.FaultLemmas.FaultBodies.{LineFault}
 
 -- this is a whole line, or has a fault that stays
 abbrev pub IsSettled : ℕ → List ℕ → Type 0
-IsSettled limit line = ((item : PlainEntry) × IsLine limit line item) ⊎ ((fault : MagicFault) × LineFault limit line fault × IsFinal fault)
+IsSettled limit line =
+    ((item : PlainEntry) × IsLine limit line item)
+    ⊎ ((kind : MagicFaultKind) × (at : ℕ) × LineFault kind limit line at × IsFinal (Malformed kind at))
 
 -- bytes that end the line
 abbrev pub LineEnds : ℕ → List ℕ → Type 0
 LineEnds limit line = (more : List ℕ) × IsSettled limit (line ++ more)
 
 -- a fault that stays ends it
-pub faulty : (limit : ℕ) (line more : List ℕ) (fault : MagicFault) → LineFault limit (line ++ more) fault → IsFinal fault
-    → LineEnds limit line
-faulty limit line more fault is final = (more, inr (fault, is, final))
+pub faulty : (limit : ℕ) (line more : List ℕ) (kind : MagicFaultKind) (at : ℕ) → LineFault kind limit (line ++ more) at
+    → IsFinal (Malformed kind at) → LineEnds limit line
+faulty limit line more kind at is final = (more, inr (kind, at, is, final))
 
 -- what ends a longer line ends it
 pub extended : (limit : ℕ) (line pad whole : List ℕ) → line ++ pad ≡ whole → LineEnds limit whole → LineEnds limit line

@@ -2,8 +2,8 @@
 use Rattle.std.proofs.Common.{◌≡◌, ℕ, eqb, cond, List, [], ◌∷◌, ◌++◌, length, Option, Ok, Err, refl, sym, ap, subst, ◌∙◌, append_assoc, arith, inl, inr}
 use Rattle.std.proofs.lemmas.List.{append-nil}
 use Rattle.mime_base.specs.Magic.{PlainLine, fits_word}
-use Rattle.mime_text.specs.declared.magic.fault.Fault.TheVariants.{BadWord}
-use Rattle.mime_text.specs.Magic.Reading.{◌>>=◌, number_at, start_at, value_at, mask_at, word_at, range_at, body_at}
+use Rattle.mime_text.specs.declared.magic.fault.MagicFaultKind.TheVariants.{BadWord}
+use Rattle.mime_text.specs.Magic.Reading.{◌>>=◌, fault_at, number_at, start_at, value_at, mask_at, word_at, range_at, body_at}
 use Rattle.mime_text.specs.Magic.FaultTable.{IsToIndent, IsToStart, IsToValue, IsToMask, IsToWord}
 use Rattle.mime_text.proofs.MagicLemmas.Steps.{bind_ok, chosen, ok_is}
 use Rattle.mime_text.proofs.MagicLemmas.Numbers.{number_found}
@@ -76,11 +76,11 @@ word_none : (size : ℕ) (bytes : List ℕ) (x : ℕ × List ℕ) → word_at si
 unfolding word_at
 word_none size [] x e none = refl
 word_none size (b ∷ bytes) x e none =
-    elim (chosen (eqb b 126) (number_at bytes >>= λ n. cond (fits_word n.0 size) (Ok n) (Err (BadWord (length bytes))))
+    elim (chosen (eqb b 126) (number_at bytes >>= λ n. cond (fits_word n.0 size) (Ok n) (Err (fault_at BadWord (length bytes))))
     (Ok (1, b ∷ bytes)) (Ok x) e) [
       | inl h ↦
-          let a = bind_ok (number_at bytes) (λ n. cond (fits_word n.0 size) (Ok n) (Err (BadWord (length bytes)))) x h.1 in
-          elim (chosen (fits_word a.0.0 size) (Ok a.0) (Err (BadWord (length bytes))) (Ok x) a.2) [
+          let a = bind_ok (number_at bytes) (λ n. cond (fits_word n.0 size) (Ok n) (Err (fault_at BadWord (length bytes)))) x h.1 in
+          elim (chosen (fits_word a.0.0 size) (Ok a.0) (Err (fault_at BadWord (length bytes))) (Ok x) a.2) [
             | inl t ↦
                 let same : a.0.1 ≡ x.1 = ap (λ (y : ℕ × List ℕ). y.1) (ok_is a.0 x t.1) in absurd (number_more bytes a.0 a.1 (same ∙ none))
             | inr t ↦ let no = t.1 in absurd cc

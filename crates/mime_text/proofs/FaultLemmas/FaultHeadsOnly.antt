@@ -3,8 +3,8 @@ use Rattle.std.proofs.Common.{◌≡◌, ℕ, eqb, List, ◌∷◌, ◌++◌, le
 use Rattle.std.specs.Prelude.{◌≢◌}
 use Rattle.std.proofs.lemmas.Bool.{ne_eqb, cond-false}
 use Rattle.mime_text.specs.declared.magic.fault.Fault.{Fault}
-use Rattle.mime_text.specs.declared.magic.fault.Fault.TheVariants as left
-use Rattle.mime_text.specs.Magic.Reading.{row_at, head_of, instead, head_at, section_at}
+use Rattle.mime_text.specs.declared.magic.fault.MagicFaultKind.TheVariants.{Truncated, BadSection}
+use Rattle.mime_text.specs.Magic.Reading.{fault_at, row_at, head_of, instead, head_at, section_at}
 use Rattle.mime_text.specs.Magic.Text.{NoNewline}
 use Rattle.mime_text.specs.Magic.FaultTable.{IsHead}
 use Rattle.mime_text.proofs.MagicLemmas.Prefixes.{row_only}
@@ -18,9 +18,9 @@ unfolding section_at
 head_then rest f e = bind_fails (head_at rest) _ f e
 
 -- a head that is cut
-pub cut_head : (row : List ℕ) → NoNewline row → head_at (91 ∷ row) ≡ Err (left.Truncated 0)
+pub cut_head : (row : List ℕ) → NoNewline row → head_at (91 ∷ row) ≡ Err (fault_at Truncated 0)
 unfolding head_at
-cut_head row none = bind_fails (row_at row) _ (left.Truncated 0) (row_cut row none)
+cut_head row none = bind_fails (row_at row) _ (fault_at Truncated 0) (row_cut row none)
 
 -- a row that is no head
 row_wrong : (wrong : Fault) (row : List ℕ) → (IsHead row → ⊥) → instead wrong (head_of wrong row) ≡ Err wrong
@@ -32,14 +32,14 @@ row_wrong wrong row never = go (head_of wrong row) refl
 
 -- a head that is wrong
 pub wrong_head : (row after : List ℕ) → NoNewline row → (IsHead row → ⊥)
-    → head_at (91 ∷ (row ++ 10 ∷ after)) ≡ Err (left.BadSection (length (91 ∷ (row ++ 10 ∷ after))))
+    → head_at (91 ∷ (row ++ 10 ∷ after)) ≡ Err (fault_at BadSection (length (91 ∷ (row ++ 10 ∷ after))))
 unfolding head_at
 wrong_head row after none never =
-    let wrong : Fault = left.BadSection (length (91 ∷ (row ++ 10 ∷ after))) in
+    let wrong : Fault = fault_at BadSection (length (91 ∷ (row ++ 10 ∷ after))) in
     bind_to (row_at (row ++ 10 ∷ after)) (row, after) _ (Err wrong) (row_only row after none)
     (bind_fails (instead wrong (head_of wrong row)) _ wrong (row_wrong wrong row never))
 
 -- a byte that begins no head
-pub no_head : (first : ℕ) (after : List ℕ) → first ≢ 91 → head_at (first ∷ after) ≡ Err (left.BadSection (length (first ∷ after)))
+pub no_head : (first : ℕ) (after : List ℕ) → first ≢ 91 → head_at (first ∷ after) ≡ Err (fault_at BadSection (length (first ∷ after)))
 unfolding head_at
 no_head first after other = cond-false (eqb first 91) _ _ (ne_eqb first 91 other)

@@ -3,14 +3,13 @@ use Rattle.std.proofs.Common.{◌≡◌, ℕ, ◌+◌, ◌≤◌, false, true, e
 use Rattle.std.proofs.lemmas.Bool.{ltb-true, ltb-false, leb-true, leb-false, eqb-true, eqb-false, or_from, both_ways}
 use Rattle.mime_base.specs.Magic.{PlainLine}
 use Rattle.mime_text.specs.declared.magic.fault.Fault.{Fault}
-use Rattle.mime_text.specs.declared.magic.fault.Fault.TheVariants as left
-use Rattle.mime_text.specs.declared.magic.fault.MagicFault.TheVariants.{Truncated, BadNumber, BadIndent, TooDeep}
-use Rattle.mime_text.specs.Magic.Reading.{is_digit, starts_line, indent_at, row_at, body_at, end_at, line_at}
+use Rattle.mime_text.specs.declared.magic.fault.MagicFaultKind.TheVariants.{Truncated, BadNumber, BadIndent, TooDeep}
+use Rattle.mime_text.specs.Magic.Reading.{fault_at, is_digit, starts_line, indent_at, row_at, body_at, end_at, line_at}
 use Rattle.mime_text.specs.Magic.FaultTable.{IsToIndent, IsToEnd, IsIndented, in_indent, before_end, before_newline, large_indent, large_sum, no_mark, too_far}
 use Rattle.mime_text.proofs.MagicLemmas.Steps.{chosen}
 use Rattle.mime_text.proofs.MagicLemmas.PartsFound.{indent_found}
 use Rattle.mime_text.proofs.MagicLemmas.BodyFound.{body_found}
-use Rattle.mime_text.proofs.FaultLemmas.FaultSteps.{fault_is, bind_err, guard_err, places_truncated, places_number_first, places_indent, places_deep}
+use Rattle.mime_text.proofs.FaultLemmas.FaultSteps.{fault_is, bind_err, guard_err, places_end, places_first}
 use Rattle.mime_text.proofs.FaultLemmas.FaultNumbers.{number_fails}
 use Rattle.mime_text.proofs.FaultLemmas.FaultMarks.{indent_fails}
 use Rattle.mime_text.proofs.FaultLemmas.FaultOptions.{row_fails}
@@ -24,8 +23,8 @@ end_fails : (limit : ℕ) (line before tail : List ℕ) (x : PlainLine × List �
 unfolding end_at
 end_fails limit line before tail x f is i e [] none g =
     let m = ends_at_mask limit line before tail x is i e none in
-    subst (λ (k : Fault). LineFails limit line k) (fault_is (left.Truncated 0) f g)
-    (record { fault = Truncated (length line); is = (before_end m.0 m.1, refl); places = places_truncated line })
+    subst (λ (k : Fault). LineFails limit line k) (fault_is (fault_at Truncated 0) f g)
+    (record { kind = Truncated; at = length line; is = (before_end m.0 m.1, refl); places = places_end line (length line) refl })
 end_fails limit line before tail x f is i e (b ∷ rest) some g =
     let t = body_found tail x e in
     let whole : line ≡ (before ++ t.text) ++ b ∷ rest =
@@ -35,12 +34,13 @@ end_fails limit line before tail x f is i e (b ∷ rest) some g =
     elim (chosen (eqb b 10) _ _ _ g) [
       | inl h ↦
           let newline : b ≡ 10 = eqb-true b 10 h.0 in
-          elim (guard_err (leb 4294967296 (x.0.start + x.0.range + length x.0.value)) (left.BadNumber (length line)) f _ h.1) [
+          elim (guard_err (leb 4294967296 (x.0.start + x.0.range + length x.0.value)) (fault_at BadNumber (length line)) f _ h.1) [
             | inl s ↦ subst (λ (k : Fault). LineFails limit line k) s.1 (record {
-              fault = BadNumber 0;
+              kind = BadNumber;
+              at = 0;
               is = large_sum (before ++ t.text) rest x.0 (whole ∙ ap (λ (k : ℕ). (before ++ t.text) ++ k ∷ rest) newline)
                   (subst (λ (k : ℕ). IsToEnd limit x.0 k (before ++ t.text)) newline end) (leb-true _ _ s.0) refl;
-              places = places_number_first line;
+              places = places_first BadNumber line 0 refl;
             })
             | inr s ↦ let no = s.1 in absurd cc
           ]
@@ -71,18 +71,20 @@ indent_fault limit b bytes f starts e =
           | inr large ↦
               subst (λ (g : Fault). LineFails limit line g) (sym c.0)
               (record {
-                fault = BadNumber 0;
+                kind = BadNumber;
+                at = 0;
                 is = large_indent c.1.digits c.1.next c.1.ended c.1.digits_are large refl;
-                places = places_number_first line;
+                places = places_first BadNumber line 0 refl;
               })
         ]
       ]
       | inr u ↦
           subst (λ (g : Fault). LineFails limit line g) u.0
           (record {
-            fault = BadIndent 0;
+            kind = BadIndent;
+            at = 0;
             is = no_mark u.1.text u.1.n u.1.next u.1.is u.1.ended u.1.other refl;
-            places = places_indent line;
+            places = places_first BadIndent line 0 refl;
           })
     ]
 
@@ -97,20 +99,26 @@ line_fails limit b bytes f low starts e =
       | inr a ↦
           let i = indent_found line a.0 a.1 in
           let indented : IsIndented a.0.0 line = record { indent = i.0; after = a.0.1; whole = i.1; indent_is = i.2 } in
-          elim (guard_err (ltb limit a.0.0) (left.BadIndent (length line)) f _ a.2) [
+          elim (guard_err (ltb limit a.0.0) (fault_at BadIndent (length line)) f _ a.2) [
             | inl h ↦
                 subst (λ (g : Fault). LineFails limit line g) h.1
-                (record { fault = BadIndent 0; is = too_far a.0.0 indented (ltb-true _ _ h.0) refl; places = places_indent line })
-            | inr h ↦ elim (guard_err (leb 64 a.0.0) (left.TooDeep (length line)) f _ h.1) [
+                (record {
+                  kind = BadIndent;
+                  at = 0;
+                  is = too_far a.0.0 indented (ltb-true _ _ h.0) refl;
+                  places = places_first BadIndent line 0 refl;
+                })
+            | inr h ↦ elim (guard_err (leb 64 a.0.0) (fault_at TooDeep (length line)) f _ h.1) [
               | inl g ↦
                   let deep : 64 ≤ a.0.0 = leb-true _ _ g.0 in
                   let near : a.0.0 ≤ limit = ltb-false _ _ h.0 in
                   let all : a.0.0 ≡ 64 = omega arith in
                   subst (λ (k : Fault). LineFails limit line k) g.1
                   (record {
-                    fault = TooDeep 0;
+                    kind = TooDeep;
+                    at = 0;
                     is = (subst (λ (n : ℕ). IsIndented n line) all indented, omega arith, refl);
-                    places = places_deep line;
+                    places = places_first TooDeep line 0 refl;
                   })
               | inr g ↦
                   let front : List ℕ = i.0 ++ 62 ∷ [] in

@@ -3,8 +3,8 @@ use Rattle.std.proofs.Common.{◌≡◌, ℕ, false, eqb, List, ◌∷◌, lengt
 use Rattle.std.specs.Prelude.{◌≢◌}
 use Rattle.std.proofs.lemmas.Bool.{eqb-false}
 use Rattle.mime_text.specs.declared.magic.fault.Fault.{Fault}
-use Rattle.mime_text.specs.declared.magic.fault.Fault.TheVariants.{BadNumber, BadIndent}
-use Rattle.mime_text.specs.Magic.Reading.{◌>>=◌, number_at, byte_at, indent_at, start_at}
+use Rattle.mime_text.specs.declared.magic.fault.MagicFaultKind.TheVariants.{BadNumber, BadIndent}
+use Rattle.mime_text.specs.Magic.Reading.{◌>>=◌, fault_at, number_at, byte_at, indent_at, start_at}
 use Rattle.mime_text.specs.Magic.Text.{IsNumber}
 use Rattle.mime_text.specs.Magic.FaultTable.{IsEnded}
 use Rattle.mime_text.proofs.MagicLemmas.Steps.{chosen}
@@ -50,16 +50,16 @@ behind_number_fails want wrong f bytes e =
 
 -- a start
 pub start_fails : (bytes : List ℕ) (f : Fault) → start_at bytes ≡ Err f
-    → (number_at bytes ≡ Err f) ⊎ ((BadNumber (length bytes) ≡ f) × Unmarked 61 bytes)
+    → (number_at bytes ≡ Err f) ⊎ ((fault_at BadNumber (length bytes) ≡ f) × Unmarked 61 bytes)
 unfolding start_at
-start_fails bytes f e = behind_number_fails 61 (BadNumber (length bytes)) f bytes e
+start_fails bytes f e = behind_number_fails 61 (fault_at BadNumber (length bytes)) f bytes e
 
 -- an indent
 pub indent_fails : (b : ℕ) (bytes : List ℕ) (f : Fault) → indent_at (b ∷ bytes) ≡ Err f
-    → (eqb b 62 ≡ false) × ((number_at (b ∷ bytes) ≡ Err f) ⊎ ((BadIndent (length (b ∷ bytes)) ≡ f) × Unmarked 62 (b ∷ bytes)))
+    → (eqb b 62 ≡ false) × ((number_at (b ∷ bytes) ≡ Err f) ⊎ ((fault_at BadIndent (length (b ∷ bytes)) ≡ f) × Unmarked 62 (b ∷ bytes)))
 unfolding indent_at
 indent_fails b bytes f e =
     elim (chosen (eqb b 62) _ _ _ e) [
       | inl h ↦ let no = h.1 in absurd cc
-      | inr h ↦ (h.0, behind_number_fails 62 (BadIndent (length (b ∷ bytes))) f (b ∷ bytes) h.1)
+      | inr h ↦ (h.0, behind_number_fails 62 (fault_at BadIndent (length (b ∷ bytes))) f (b ∷ bytes) h.1)
     ]

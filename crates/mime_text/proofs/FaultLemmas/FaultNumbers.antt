@@ -3,8 +3,8 @@ use Rattle.std.proofs.Common.{◌≡◌, ℕ, ◌≤◌, ◌||◌, true, false, 
 use Rattle.std.proofs.lemmas.Bool.{or_cases, or_left, or_right, eqb-true, leb-true, le-leb, eq-eqb, cond-true}
 use Rattle.std.proofs.lemmas.List.{append-nil}
 use Rattle.mime_text.specs.declared.magic.fault.Fault.{Fault}
-use Rattle.mime_text.specs.declared.magic.fault.Fault.TheVariants.{Truncated, BadNumber}
-use Rattle.mime_text.specs.Magic.Reading.{is_digit, digits_at, judged, number_at}
+use Rattle.mime_text.specs.declared.magic.fault.MagicFaultKind.TheVariants.{Truncated, BadNumber}
+use Rattle.mime_text.specs.Magic.Reading.{fault_at, is_digit, digits_at, judged, number_at}
 use Rattle.mime_text.specs.Magic.Text.{value_of, AreDigits, IsNumber}
 use Rattle.mime_text.specs.Magic.FaultTable.{IsEnded, IsBadNumber}
 use Rattle.mime_text.proofs.MagicLemmas.Numbers.{Stops, digits_found, digits_only, number_found, number_only}
@@ -12,10 +12,10 @@ use Rattle.mime_text.proofs.FaultLemmas.FaultSteps.{guard_err, fault_is}
 
 -- what is wrong with digits that are judged
 judged_fails : (here f : Fault) (size : ℕ) (d : ℕ × List ℕ) → judged here size d ≡ Err f
-    → ((d.1 ≡ []) × (f ≡ Truncated 0)) ⊎
+    → ((d.1 ≡ []) × (f ≡ fault_at Truncated 0)) ⊎
     ((b : ℕ) × (rest : List ℕ) × (d.1 ≡ b ∷ rest) × (f ≡ here) × ((length d.1 ≡ size) ⊎ (4294967296 ≤ d.0)))
 unfolding judged
-judged_fails here f size (n, []) e = inl (refl, sym (fault_is (Truncated 0) f e))
+judged_fails here f size (n, []) e = inl (refl, sym (fault_is (fault_at Truncated 0) f e))
 judged_fails here f size (n, b ∷ rest) e =
     elim (guard_err (eqb (length (b ∷ rest)) size || leb 4294967296 n) here f _ e) [
       | inl g ↦ inr (
@@ -38,11 +38,11 @@ taken_none bytes (b ∷ text) rest parts same = absurd (omega (arith, ap length 
 
 -- a number that fails runs to the end, or is bad
 pub number_fails : (bytes : List ℕ) (f : Fault) → number_at bytes ≡ Err f
-    → ((f ≡ Truncated 0) × AreDigits bytes) ⊎ ((f ≡ BadNumber (length bytes)) × IsBadNumber bytes)
+    → ((f ≡ fault_at Truncated 0) × AreDigits bytes) ⊎ ((f ≡ fault_at BadNumber (length bytes)) × IsBadNumber bytes)
 unfolding number_at
 number_fails bytes f e =
     let d = digits_found 0 bytes in
-    elim (judged_fails (BadNumber (length bytes)) f (length bytes) (digits_at 0 bytes) e) [
+    elim (judged_fails (fault_at BadNumber (length bytes)) f (length bytes) (digits_at 0 bytes) e) [
       | inl cut ↦
           let all : bytes ≡ d.text = d.parts ∙ ap (λ (t : List ℕ). d.text ++ t) cut.0 ∙ append-nil d.text in
           inl (cut.1, subst (λ (t : List ℕ). AreDigits t) (sym all) d.digits)
@@ -65,14 +65,14 @@ number_fails bytes f e =
     ]
 
 -- digits up to the end are cut
-pub number_cut : (bytes : List ℕ) → AreDigits bytes → number_at bytes ≡ Err (Truncated 0)
+pub number_cut : (bytes : List ℕ) → AreDigits bytes → number_at bytes ≡ Err (fault_at Truncated 0)
 unfolding number_at judged
 number_cut bytes are =
     let d : digits_at 0 bytes ≡ (value_of 0 bytes, []) = ap (digits_at 0) (sym (append-nil bytes)) ∙ digits_only 0 bytes [] are tt in
-    ap (judged (BadNumber (length bytes)) (length bytes)) d
+    ap (judged (fault_at BadNumber (length bytes)) (length bytes)) d
 
 -- a bad number is told
-pub number_bad : (bytes : List ℕ) → IsBadNumber bytes → number_at bytes ≡ Err (BadNumber (length bytes))
+pub number_bad : (bytes : List ℕ) → IsBadNumber bytes → number_at bytes ≡ Err (fault_at BadNumber (length bytes))
 unfolding number_at judged
 number_bad bytes is =
     let rest : List ℕ = is.next ∷ is.ended.after in
@@ -82,7 +82,7 @@ number_bad bytes is =
       | inl none ↦ or_left _ _ (eq-eqb _ _ (ap length (sym (is.ended.whole ∙ ap (λ (t : List ℕ). t ++ rest) none))))
       | inr large ↦ or_right (eqb (length rest) (length bytes)) _ (le-leb _ _ large)
     ] in
-    ap (judged (BadNumber (length bytes)) (length bytes)) d
+    ap (judged (fault_at BadNumber (length bytes)) (length bytes)) d
     ∙ cond-true (eqb (length rest) (length bytes) || leb 4294967296 (value_of 0 is.digits)) _ _ wrong
 
 -- a number that goes well ends at another byte

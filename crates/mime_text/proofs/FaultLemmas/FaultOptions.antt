@@ -3,8 +3,8 @@ use Rattle.std.proofs.Common.{◌≡◌, ℕ, ◌+◌, ◌*◌, ◌<◌, false, 
 use Rattle.std.proofs.lemmas.Bool.{ltb-true, eqb-true, eqb-false}
 use Rattle.mime_base.specs.Magic.{fits_word}
 use Rattle.mime_text.specs.declared.magic.fault.Fault.{Fault}
-use Rattle.mime_text.specs.declared.magic.fault.Fault.TheVariants.{Truncated, BadWord}
-use Rattle.mime_text.specs.Magic.Reading.{number_at, bytes_at, value_at, mask_at, word_at, range_at, row_at}
+use Rattle.mime_text.specs.declared.magic.fault.MagicFaultKind.TheVariants.{Truncated, BadWord}
+use Rattle.mime_text.specs.Magic.Reading.{fault_at, number_at, bytes_at, value_at, mask_at, word_at, range_at, row_at}
 use Rattle.mime_text.specs.Magic.Text.{IsNumber, NoNewline}
 use Rattle.mime_text.specs.Magic.FaultTable.{IsEnded}
 use Rattle.mime_text.proofs.MagicLemmas.Steps.{chosen}
@@ -12,26 +12,26 @@ use Rattle.mime_text.proofs.FaultLemmas.FaultSteps.{bind_err, guard_err, fault_i
 use Rattle.mime_text.proofs.FaultLemmas.FaultNumbers.{number_ends}
 
 -- so many bytes
-bytes_fail : (n : ℕ) (bytes : List ℕ) (f : Fault) → bytes_at n bytes ≡ Err f → (f ≡ Truncated 0) × (length bytes < n)
+bytes_fail : (n : ℕ) (bytes : List ℕ) (f : Fault) → bytes_at n bytes ≡ Err f → (f ≡ fault_at Truncated 0) × (length bytes < n)
 unfolding bytes_at
 bytes_fail n bytes f e =
-    elim (guard_err (ltb (length bytes) n) (Truncated 0) f _ e) [
+    elim (guard_err (ltb (length bytes) n) (fault_at Truncated 0) f _ e) [
       | inl h ↦ (sym h.1, ltb-true _ _ h.0)
       | inr h ↦ let no = h.1 in absurd cc
     ]
 
 -- a value with its length
 pub value_fails : (bytes : List ℕ) (f : Fault) → value_at bytes ≡ Err f
-    → (f ≡ Truncated 0) × ((length bytes < 2)
+    → (f ≡ fault_at Truncated 0) × ((length bytes < 2)
     ⊎ ((high : ℕ) × (low : ℕ) × (cut : List ℕ) × (bytes ≡ high ∷ low ∷ cut) × (length cut < 256 * high + low)))
 unfolding value_at
-value_fails [] f e = (sym (fault_is (Truncated 0) f e), inl (omega arith))
-value_fails (high ∷ []) f e = (sym (fault_is (Truncated 0) f e), inl (omega arith))
+value_fails [] f e = (sym (fault_is (fault_at Truncated 0) f e), inl (omega arith))
+value_fails (high ∷ []) f e = (sym (fault_is (fault_at Truncated 0) f e), inl (omega arith))
 value_fails (high ∷ low ∷ bytes) f e = let b = bytes_fail (256 * high + low) bytes f e in (b.0, inr (high, low, bytes, refl, b.1))
 
 -- a mask
 pub mask_fails : (size : ℕ) (bytes : List ℕ) (f : Fault) → mask_at size bytes ≡ Err f
-    → (f ≡ Truncated 0) × (cut : List ℕ) × (bytes ≡ 38 ∷ cut) × (length cut < size)
+    → (f ≡ fault_at Truncated 0) × (cut : List ℕ) × (bytes ≡ 38 ∷ cut) × (length cut < size)
 unfolding mask_at
 mask_fails size [] f e = absurd cc
 mask_fails size (b ∷ bytes) f e =
@@ -54,7 +54,7 @@ pub record Misfit (size : ℕ) (bytes : List ℕ) : Type 0 where
 
 -- a word
 pub word_fails : (size : ℕ) (bytes : List ℕ) (f : Fault) → word_at size bytes ≡ Err f
-    → (rest : List ℕ) × (bytes ≡ 126 ∷ rest) × ((number_at rest ≡ Err f) ⊎ ((BadWord (length rest) ≡ f) × Misfit size rest))
+    → (rest : List ℕ) × (bytes ≡ 126 ∷ rest) × ((number_at rest ≡ Err f) ⊎ ((fault_at BadWord (length rest) ≡ f) × Misfit size rest))
 unfolding word_at
 word_fails size [] f e = absurd cc
 word_fails size (b ∷ bytes) f e =
@@ -70,7 +70,7 @@ word_fails size (b ∷ bytes) f e =
                 | inl t ↦ let no = t.1 in absurd cc
                 | inr t ↦
                     inr (
-                      fault_is (BadWord (length bytes)) f t.1,
+                      fault_is (fault_at BadWord (length bytes)) f t.1,
                       record { word = k.0; n = g.0.0; next = k.1; is = k.2; ended = k.3; misfit = t.0 },
                     )
               ]
@@ -90,9 +90,9 @@ range_fails (b ∷ bytes) f e =
     ]
 
 -- a row
-pub row_fails : (bytes : List ℕ) (f : Fault) → row_at bytes ≡ Err f → (f ≡ Truncated 0) × NoNewline bytes
+pub row_fails : (bytes : List ℕ) (f : Fault) → row_at bytes ≡ Err f → (f ≡ fault_at Truncated 0) × NoNewline bytes
 unfolding row_at
-row_fails [] f e = (sym (fault_is (Truncated 0) f e), tt)
+row_fails [] f e = (sym (fault_is (fault_at Truncated 0) f e), tt)
 row_fails (b ∷ bytes) f e =
     elim (chosen (eqb b 10) _ _ _ e) [
       | inl h ↦ let no = h.1 in absurd cc

@@ -3,9 +3,9 @@ use Rattle.std.proofs.Common.{◌≡◌, ℕ, zero, suc, ◌+◌, ◌≤◌, eqb
 use Rattle.std.specs.Prelude.{◌≢◌}
 use Rattle.std.proofs.lemmas.Bool.{eqb-true, eqb-false}
 use Rattle.mime_text.specs.declared.magic.fault.Fault.{Fault}
-use Rattle.mime_text.specs.declared.magic.fault.Fault.TheVariants.{Truncated, BadSection}
+use Rattle.mime_text.specs.declared.magic.fault.MagicFaultKind.TheVariants.{Truncated, BadSection}
 use Rattle.mime_text.specs.Magic.Entries.{PlainEntry}
-use Rattle.mime_text.specs.Magic.Reading.{line_at, after_prefix, marker_at, marked, entry_at, starts_line, lines_at, row_at, head_of, instead, head_at}
+use Rattle.mime_text.specs.Magic.Reading.{fault_at, line_at, after_prefix, marker_at, marked, entry_at, starts_line, lines_at, row_at, head_of, instead, head_at}
 use Rattle.mime_text.specs.Magic.Text.{NoNewline, BeginsMarker, AreLines}
 use Rattle.mime_text.specs.Magic.FaultTable.{limit_after, IsHead}
 use Rattle.mime_text.proofs.MagicLemmas.Steps.{chosen}
@@ -92,10 +92,10 @@ lines_fail (suc room) limit (b ∷ bytes) f low enough e =
 
 -- a head that is cut, that is none up to its newline, or that begins with another byte
 pub data HeadFails (bytes : List ℕ) (f : Fault) : Type 0 where
-  head_cut : (row : List ℕ) → bytes ≡ 91 ∷ row → NoNewline row → f ≡ Truncated 0 → HeadFails bytes f
+  head_cut : (row : List ℕ) → bytes ≡ 91 ∷ row → NoNewline row → f ≡ fault_at Truncated 0 → HeadFails bytes f
   head_wrong : (row after : List ℕ) → bytes ≡ 91 ∷ (row ++ 10 ∷ after) → NoNewline row → (IsHead row → ⊥)
-      → f ≡ BadSection (length bytes) → HeadFails bytes f
-  head_none : (first : ℕ) (after : List ℕ) → bytes ≡ first ∷ after → first ≢ 91 → f ≡ BadSection (length bytes) → HeadFails bytes f
+      → f ≡ fault_at BadSection (length bytes) → HeadFails bytes f
+  head_none : (first : ℕ) (after : List ℕ) → bytes ≡ first ∷ after → first ≢ 91 → f ≡ fault_at BadSection (length bytes) → HeadFails bytes f
 
 -- another fault in place of any
 instead_fails : {A : Type 0} (wrong f : Fault) (r : Result A Fault) → instead wrong r ≡ Err f → (wrong ≡ f) × ((x : A) → r ≡ Ok x → ⊥)
@@ -106,7 +106,7 @@ instead_fails wrong f (Err g) e = (fault_is wrong f e, λ x no. absurd cc)
 pub head_fails : (b : ℕ) (bytes : List ℕ) (f : Fault) → head_at (b ∷ bytes) ≡ Err f → HeadFails (b ∷ bytes) f
 unfolding head_at
 head_fails b bytes f e =
-    let wrong : Fault = BadSection (length (b ∷ bytes)) in
+    let wrong : Fault = fault_at BadSection (length (b ∷ bytes)) in
     elim (chosen (eqb b 91) _ _ _ e) [
       | inl h ↦
           let bracket : b ∷ bytes ≡ 91 ∷ bytes = ap (λ (k : ℕ). k ∷ bytes) (eqb-true b 91 h.0) in

@@ -2,8 +2,8 @@
 use Rattle.std.proofs.Common.{◌≡◌, ℕ, ◌<◌, ◌≤◌, true, eqb, List, [], ◌∷◌, ◌++◌, length, refl, sym, subst, arith}
 use Rattle.std.proofs.lemmas.Bool.{or_right}
 use Rattle.mime_base.specs.Magic.{PlainLine}
-use Rattle.mime_text.specs.declared.magic.fault.MagicFault.{MagicFault}
-use Rattle.mime_text.specs.declared.magic.fault.MagicFault.TheVariants.{NoHeader, Truncated, BadSection, BadNumber, BadWord, BadIndent, TooDeep, OutOfMemory}
+use Rattle.mime_text.specs.declared.magic.fault.MagicFaultKind.{MagicFaultKind}
+use Rattle.mime_text.specs.declared.magic.fault.MagicFaultKind.TheVariants.{NoHeader, Truncated, BadSection, BadNumber, BadWord, BadIndent, TooDeep}
 use Rattle.mime_text.specs.Magic.Reading.{is_digit, starts_line}
 use Rattle.mime_text.specs.Magic.Text.{value_of, AreDigits, IsIndent}
 use Rattle.mime_text.specs.Magic.FaultTable.{IsToIndent, IsToStart, IsToValue, IsToMask, IsToWord, IsToEnd, IsEnded, IsIndented, IsBeforeNumber, before_start, before_word, before_range, IsCut, in_indent, in_number, in_length, in_value, in_mask, before_end, before_newline, IsMisnumbered, large_indent, bad_number, no_equals, large_sum, IsMisindented, no_mark, too_far}
@@ -111,12 +111,11 @@ misindented_starts limit line at (no_mark indent n next num ended other e) =
 misindented_starts limit line at (too_far depth i far e) = indented_starts depth line i
 
 -- any fault of a line
-pub line_starts : (limit : ℕ) (line : List ℕ) (fault : MagicFault) → LineFault limit line fault → StartsLine line
-line_starts limit line (NoHeader at) is = absurd is
-line_starts limit line (Truncated at) is = cut_starts limit line is.0
-line_starts limit line (BadSection at) is = absurd is
-line_starts limit line (BadNumber at) is = misnumbered_starts limit line at is
-line_starts limit line (BadWord at) is = of_front line is.before (126 ∷ is.rest) is.whole (to_mask limit is.size is.before is.before_is)
-line_starts limit line (BadIndent at) is = misindented_starts limit line at is
-line_starts limit line (TooDeep at) is = indented_starts 64 line is.0
-line_starts limit line OutOfMemory is = absurd is
+pub line_starts : (limit : ℕ) (line : List ℕ) (kind : MagicFaultKind) (at : ℕ) → LineFault kind limit line at → StartsLine line
+line_starts limit line NoHeader at is = absurd is
+line_starts limit line Truncated at is = cut_starts limit line is.0
+line_starts limit line BadSection at is = absurd is
+line_starts limit line BadNumber at is = misnumbered_starts limit line at is
+line_starts limit line BadWord at is = of_front line is.before (126 ∷ is.rest) is.whole (to_mask limit is.size is.before is.before_is)
+line_starts limit line BadIndent at is = misindented_starts limit line at is
+line_starts limit line TooDeep at is = indented_starts 64 line is.0

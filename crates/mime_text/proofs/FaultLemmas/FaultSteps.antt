@@ -1,10 +1,11 @@
--- Steps of reading that fail, and how a fault moves to the whole text.
-use Rattle.std.proofs.Common.{◌≡◌, ℕ, ◌+◌, ◌-◌, Bool, true, false, cond, List, ◌++◌, length, length-append, Result, Ok, Err, refl, ap, sym, ◌∙◌, ◌⊎◌, inl, inr, arith}
+-- Steps of reading that fail, how a fault moves to the whole text, and which kinds are final.
+use Rattle.std.proofs.Common.{◌≡◌, ℕ, ◌+◌, Bool, true, false, cond, List, ◌++◌, length, length-append, Result, Ok, Err, refl, ap, ◌∙◌, ◌⊎◌, inl, inr, arith}
 use Rattle.mime_text.specs.declared.magic.fault.Fault.{Fault}
-use Rattle.mime_text.specs.declared.magic.fault.Fault.TheVariants as left
-use Rattle.mime_text.specs.declared.magic.fault.MagicFault.{MagicFault}
-use Rattle.mime_text.specs.declared.magic.fault.MagicFault.TheVariants.{NoHeader, Truncated, BadSection, BadNumber, BadWord, BadIndent, TooDeep, OutOfMemory}
-use Rattle.mime_text.specs.Magic.Reading.{◌>>=◌, placed}
+use Rattle.mime_text.specs.declared.magic.fault.MagicFault.TheVariants.{Malformed}
+use Rattle.mime_text.specs.declared.magic.fault.MagicFaultKind.{MagicFaultKind}
+use Rattle.mime_text.specs.declared.magic.fault.MagicFaultKind.TheVariants.{Truncated, BadSection, BadNumber, BadWord, BadIndent, TooDeep}
+use Rattle.mime_text.specs.Magic.Reading.{◌>>=◌, fault_at, placed}
+use Rattle.mime_text.specs.Magic.FaultTable.{IsFinal}
 
 -- two results that are both faults have one fault
 pub fault_is : {A : Type 0} (f g : Fault) → ◌≡◌ {A = Result A Fault} (Err f) (Err g) → f ≡ g
@@ -30,44 +31,37 @@ pub guard_err : {A : Type 0} (b : Bool) (d f : Fault) (x : Result A Fault) → c
 guard_err true d f x e = inl (refl, fault_is d f e)
 guard_err false d f x e = inr (refl, e)
 
--- a fault after so many bytes more
-abbrev pub moved : ℕ → MagicFault → MagicFault
-moved n (NoHeader at) = NoHeader (n + at)
-moved n (Truncated at) = Truncated (n + at)
-moved n (BadSection at) = BadSection (n + at)
-moved n (BadNumber at) = BadNumber (n + at)
-moved n (BadWord at) = BadWord (n + at)
-moved n (BadIndent at) = BadIndent (n + at)
-moved n (TooDeep at) = TooDeep (n + at)
-moved n OutOfMemory = OutOfMemory
+-- in a text of so many bytes the fault is of this kind at this offset, and so it is after more bytes
+pub record Places (f : Fault) (size : ℕ) (kind : MagicFaultKind) (offset : ℕ) : Type 0 where
+  pub at : (n : ℕ) → placed (n + size) f ≡ Malformed kind (n + offset)
 
--- in a text of so many bytes the fault is this one, and so it is after more bytes
-pub record Places (f : Fault) (size : ℕ) (fault : MagicFault) : Type 0 where
-  pub at : (n : ℕ) → placed (n + size) f ≡ moved n fault
+-- a cut is at the end
+pub places_end : (text : List ℕ) (at : ℕ) → at ≡ length text → Places (fault_at Truncated 0) (length text) Truncated at
+places_end text at e = record { at = λ n. ap (λ (k : ℕ). Malformed Truncated k) (omega (arith, e)) }
 
--- what is left after a front
-left_after : (front rest text : List ℕ) (n : ℕ) → text ≡ front ++ rest → (n + length text) - length rest ≡ n + length front
-left_after front rest text n is = omega (arith, ap length is, length-append front rest)
+-- a fault at the byte after a front
+pub places_behind : (kind : MagicFaultKind) (front rest text : List ℕ) (at : ℕ) → text ≡ front ++ rest → at ≡ length front
+    → Places (fault_at kind (length rest)) (length text) kind at
+places_behind kind front rest text at is e =
+    record { at = λ n. ap (λ (k : ℕ). Malformed kind k) (omega (arith, e, ap length is, length-append front rest)) }
 
--- each fault at the byte after a front
-pub places_truncated : (text : List ℕ) → Places (left.Truncated 0) (length text) (Truncated (length text))
-places_truncated text = record { at = λ n. ap (λ (k : ℕ). Truncated k) (omega arith) }
+-- a fault at the first byte
+pub places_first : (kind : MagicFaultKind) (text : List ℕ) (at : ℕ) → at ≡ 0 → Places (fault_at kind (length text)) (length text) kind at
+places_first kind text at e = record { at = λ n. ap (λ (k : ℕ). Malformed kind k) (omega (arith, e)) }
 
-pub places_number : (front rest text : List ℕ) → text ≡ front ++ rest
-    → Places (left.BadNumber (length rest)) (length text) (BadNumber (length front))
-places_number front rest text is = record { at = λ n. ap (λ (k : ℕ). BadNumber k) (left_after front rest text n is) }
+-- ---- kinds that are neither of a missing header nor of a cut
 
-pub places_word : (front rest text : List ℕ) (at : ℕ) → text ≡ front ++ rest → at ≡ length front
-    → Places (left.BadWord (length rest)) (length text) (BadWord at)
-places_word front rest text at is e =
-    record { at = λ n. ap (λ (k : ℕ). BadWord k) (left_after front rest text n is ∙ ap (λ (k : ℕ). n + k) (sym e)) }
+pub section_final : IsFinal (Malformed BadSection 0)
+section_final = (λ e. cc, λ e. cc)
 
--- each fault at the first byte
-pub places_number_first : (text : List ℕ) → Places (left.BadNumber (length text)) (length text) (BadNumber 0)
-places_number_first text = record { at = λ n. ap (λ (k : ℕ). BadNumber k) (omega arith) }
+pub number_final : IsFinal (Malformed BadNumber 0)
+number_final = (λ e. cc, λ e. cc)
 
-pub places_indent : (text : List ℕ) → Places (left.BadIndent (length text)) (length text) (BadIndent 0)
-places_indent text = record { at = λ n. ap (λ (k : ℕ). BadIndent k) (omega arith) }
+pub word_final : IsFinal (Malformed BadWord 0)
+word_final = (λ e. cc, λ e. cc)
 
-pub places_deep : (text : List ℕ) → Places (left.TooDeep (length text)) (length text) (TooDeep 0)
-places_deep text = record { at = λ n. ap (λ (k : ℕ). TooDeep k) (omega arith) }
+pub indent_final : IsFinal (Malformed BadIndent 0)
+indent_final = (λ e. cc, λ e. cc)
+
+pub deep_final : IsFinal (Malformed TooDeep 0)
+deep_final = (λ e. cc, λ e. cc)

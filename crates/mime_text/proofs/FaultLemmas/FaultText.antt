@@ -1,48 +1,50 @@
 -- A text that fails has that fault by the table.
 use Rattle.std.proofs.Common.{◌≡◌, ℕ, ◌+◌, List, [], ◌∷◌, ◌++◌, length, length-append, Option, Some, None, Result, Ok, Err, refl, sym, ap, subst, ◌∙◌, append_assoc, arith, inl, inr, ◌⊎◌}
 use Rattle.mime_text.specs.declared.magic.fault.Fault.{Fault}
-use Rattle.mime_text.specs.declared.magic.fault.Fault.TheVariants as left
+use Rattle.mime_text.specs.declared.magic.fault.MagicFault.TheVariants.{Malformed}
+use Rattle.mime_text.specs.declared.magic.fault.MagicFaultKind.{MagicFaultKind}
+use Rattle.mime_text.specs.declared.magic.fault.MagicFaultKind.TheVariants.{NoHeader, Truncated, BadSection, BadNumber, BadWord, BadIndent, TooDeep}
 use Rattle.mime_text.specs.declared.magic.fault.MagicFault.{MagicFault}
-use Rattle.mime_text.specs.declared.magic.fault.MagicFault.TheVariants.{NoHeader, Truncated, BadSection, BadNumber, BadWord, BadIndent, TooDeep, OutOfMemory}
 use Rattle.mime_text.specs.Magic.Entries.{PlainFlatSection}
-use Rattle.mime_text.specs.Magic.Reading.{after_prefix, header, below_header, whole, placed, fault_in, magic_fault}
+use Rattle.mime_text.specs.Magic.Reading.{fault_at, after_prefix, header, below_header, whole, placed, fault_in, magic_fault}
 use Rattle.mime_text.specs.Magic.Text.{BeginsMarker}
-use Rattle.mime_text.specs.Magic.FaultTable.{AreWhole, limit_after, IsBeforeLine, IsCutAtEnd, IsMisnumbered, IsMisworded, IsMisindented, IsTooDeep, InLine, HasFault}
+use Rattle.mime_text.specs.Magic.FaultTable.{AreWhole, limit_after, IsBeforeLine, InLine, HasFault}
 use Rattle.mime_text.proofs.MagicLemmas.Prefixes.{after_prefix_only, after_prefix_found}
 use Rattle.mime_text.proofs.MagicLemmas.SectionsFound.{EndsLines}
-use Rattle.mime_text.proofs.FaultLemmas.FaultSteps.{fault_is, moved}
+use Rattle.mime_text.proofs.FaultLemmas.FaultSteps.{fault_is}
 use Rattle.mime_text.proofs.FaultLemmas.FaultBodies.{LineFault}
 use Rattle.mime_text.proofs.FaultLemmas.FaultSections.{HeadFails, head_cut, head_wrong, head_none}
 use Rattle.mime_text.proofs.FaultLemmas.FaultBelow.{below_fails, BelowFails, fails_head, fails_line}
 
 -- ---- the text
 
--- a line that is wrong, where a line comes next
-placed_line : (Wrong : ℕ → List ℕ → ℕ → Type 0) (text before line : List ℕ) (limit at : ℕ) → text ≡ before ++ line
-    → IsBeforeLine limit before → (BeginsMarker line → ⊥) → Wrong limit line at → InLine Wrong text (length before + at)
-placed_line Wrong text before line limit at is b never wrong = record {
-  limit = limit;
-  before = before;
-  line = line;
-  within = at;
-  whole = is;
-  before_is = b;
-  no_marker = never;
-  wrong = wrong;
-  place = refl;
-}
+-- a fault of a line is the text's
+line_fault : (kind : MagicFaultKind) (text : List ℕ) (at : ℕ) → InLine (LineFault kind) text at → HasFault text (Malformed kind at)
+line_fault NoHeader text at l = absurd l.wrong
+line_fault Truncated text at l = inr l
+line_fault BadSection text at l = absurd l.wrong
+line_fault BadNumber text at l = l
+line_fault BadWord text at l = l
+line_fault BadIndent text at l = l
+line_fault TooDeep text at l = l
 
--- a line's fault is the text's
-pub in_line : (text before line : List ℕ) (limit : ℕ) (fault : MagicFault) → text ≡ before ++ line → IsBeforeLine limit before
-    → (BeginsMarker line → ⊥) → LineFault limit line fault → HasFault text (moved (length before) fault)
-in_line text before line limit (NoHeader at) is b never wrong = absurd wrong
-in_line text before line limit (Truncated at) is b never wrong = inr (placed_line IsCutAtEnd text before line limit at is b never wrong)
-in_line text before line limit (BadSection at) is b never wrong = absurd wrong
-in_line text before line limit (BadNumber at) is b never wrong = placed_line IsMisnumbered text before line limit at is b never wrong
-in_line text before line limit (BadWord at) is b never wrong = placed_line IsMisworded text before line limit at is b never wrong
-in_line text before line limit (BadIndent at) is b never wrong = placed_line IsMisindented text before line limit at is b never wrong
-in_line text before line limit (TooDeep at) is b never wrong = placed_line IsTooDeep text before line limit at is b never wrong
-in_line text before line limit OutOfMemory is b never wrong = absurd wrong
+-- so far after the line's first byte
+pub in_line : (text before line : List ℕ) (limit : ℕ) (kind : MagicFaultKind) (at : ℕ) → text ≡ before ++ line
+    → IsBeforeLine limit before → (BeginsMarker line → ⊥) → LineFault kind limit line at
+    → HasFault text (Malformed kind (length before + at))
+in_line text before line limit kind at is b never wrong =
+    line_fault kind text (length before + at)
+    (record {
+      limit = limit;
+      before = before;
+      line = line;
+      within = at;
+      whole = is;
+      before_is = b;
+      no_marker = never;
+      wrong = wrong;
+      place = refl;
+    })
 
 -- a head's fault is the text's
 in_head : (text before tail : List ℕ) (f : Fault) → text ≡ before ++ tail → AreWhole before → HeadFails tail f
@@ -102,10 +104,10 @@ below text rest f whole (fails_line sections last line parts section is are l ne
       last_is = l;
       limit_is = refl;
     } in
-    let same : placed (length text) f ≡ moved (length before) h.fault =
+    let same : placed (length text) f ≡ Malformed h.kind (length before + h.at) =
     ap (λ (n : ℕ). placed n f) (ap length all ∙ length-append before line) ∙ h.places.at (length before) in
     subst (λ (k : MagicFault). HasFault text k) (sym same)
-    (in_line text before line (limit_after 0 section.entries) h.fault all place never h.is)
+    (in_line text before line (limit_after 0 section.entries) h.kind h.at all place never h.is)
 
 -- a text that fails
 text_fails : (text : List ℕ) (f : Fault) → whole text ≡ Err f → HasFault text (placed (length text) f)
@@ -116,7 +118,7 @@ text_fails (b ∷ bytes) f e = go (after_prefix header (b ∷ bytes)) refl e
     go : (o : Option (List ℕ)) → after_prefix header (b ∷ bytes) ≡ o → below_header (length (b ∷ bytes)) o ≡ Err f
         → HasFault (b ∷ bytes) (placed (length (b ∷ bytes)) f)
     go None is h =
-        subst (λ (g : Fault). HasFault (b ∷ bytes) (placed (length (b ∷ bytes)) g)) (fault_is (left.NoHeader (length (b ∷ bytes))) f h)
+        subst (λ (g : Fault). HasFault (b ∷ bytes) (placed (length (b ∷ bytes)) g)) (fault_is (fault_at NoHeader (length (b ∷ bytes))) f h)
         (λ no. cc, λ rest at. let found = ap (after_prefix header) at ∙ after_prefix_only header rest in cc, omega arith)
     go (Some rest) is h =
         below (b ∷ bytes) rest f (after_prefix_found header (b ∷ bytes) rest is) (below_fails (length rest) rest f (omega arith) h)

@@ -1,17 +1,17 @@
 -- A text that has a fault by the table fails so.
-use Rattle.std.proofs.Common.{◌≡◌, ℕ, ◌<◌, List, [], ◌∷◌, ◌++◌, length, length-append, Option, Some, None, Err, refl, sym, ap, subst, ◌∙◌, append_assoc, arith, inl, inr}
+use Rattle.std.proofs.Common.{◌≡◌, ℕ, ◌+◌, ◌<◌, List, [], ◌∷◌, ◌++◌, length, length-append, Option, Some, None, Err, refl, sym, ap, subst, ◌∙◌, append_assoc, arith, inl, inr}
 use Rattle.std.specs.Prelude.{◌≢◌}
+use Rattle.mime_text.specs.declared.magic.fault.MagicFaultKind.{MagicFaultKind}
 use Rattle.mime_text.specs.declared.magic.fault.Fault.{Fault}
-use Rattle.mime_text.specs.declared.magic.fault.Fault.TheVariants as left
+use Rattle.mime_text.specs.declared.magic.fault.MagicFault.TheVariants.{Malformed, OutOfMemory}
+use Rattle.mime_text.specs.declared.magic.fault.MagicFaultKind.TheVariants.{NoHeader, Truncated, BadSection, BadNumber, BadWord, BadIndent, TooDeep}
 use Rattle.mime_text.specs.declared.magic.fault.MagicFault.{MagicFault}
-use Rattle.mime_text.specs.declared.magic.fault.MagicFault.TheVariants.{NoHeader, Truncated, BadSection, BadNumber, BadWord, BadIndent, TooDeep, OutOfMemory}
 use Rattle.mime_text.specs.Magic.Entries.{PlainFlatSection}
-use Rattle.mime_text.specs.Magic.Reading.{section_at, after_prefix, header, below_header, whole, placed, fault_in, magic_fault}
-use Rattle.mime_text.specs.Magic.Text.{BeginsMarker, AreSections}
-use Rattle.mime_text.specs.Magic.FaultTable.{AreWhole, IsBeforeLine, IsCutHead, IsMisheaded, IsMisplaced, HasFault}
+use Rattle.mime_text.specs.Magic.Reading.{fault_at, section_at, after_prefix, header, below_header, whole, placed, fault_in, magic_fault}
+use Rattle.mime_text.specs.Magic.Text.{AreSections}
+use Rattle.mime_text.specs.Magic.FaultTable.{AreWhole, IsCutHead, IsMisheaded, IsMisplaced, HasFault, InLine}
 use Rattle.mime_text.proofs.MagicLemmas.Prefixes.{after_prefix_only, after_prefix_found}
 use Rattle.mime_text.proofs.MagicLemmas.SectionsFound.{EndsLines}
-use Rattle.mime_text.proofs.FaultLemmas.FaultSteps.{moved}
 use Rattle.mime_text.proofs.FaultLemmas.FaultBodies.{LineFault}
 use Rattle.mime_text.proofs.FaultLemmas.FaultStarts.{StartsLine, line_starts}
 use Rattle.mime_text.proofs.FaultLemmas.FaultLinesOnly.{line_gives}
@@ -63,86 +63,80 @@ bare before are none rest = go are.parts are.are
 
 -- the fault at the byte after a front
 at_section : (text before rest : List ℕ) (at : ℕ) → text ≡ before ++ rest → at ≡ length before
-    → Some (placed (length text) (left.BadSection (length rest))) ≡ Some (BadSection at)
+    → Some (placed (length text) (fault_at BadSection (length rest))) ≡ Some (Malformed BadSection at)
 at_section text before rest at is place =
-    ap (λ (n : ℕ). Some (BadSection n)) (omega (arith, ap length is, length-append before rest, place))
+    ap (λ (n : ℕ). Some (Malformed BadSection n)) (omega (arith, ap length is, length-append before rest, place))
 
 -- a head that is cut
-cut_only : (text : List ℕ) (at : ℕ) → IsCutHead text → at ≡ length text → magic_fault text ≡ Some (Truncated at)
+cut_only : (text : List ℕ) (at : ℕ) → IsCutHead text → at ≡ length text → magic_fault text ≡ Some (Malformed Truncated at)
 cut_only text at cut place =
-    text_then text cut.before (91 ∷ cut.row) (left.Truncated 0) cut.before_are cut.whole (omega arith)
-    (ends_follow cut.before_are.parts (91 ∷ cut.row) refl) (head_then (91 ∷ cut.row) (left.Truncated 0) (cut_head cut.row cut.open_ended))
-    ∙ ap (λ (n : ℕ). Some (Truncated n)) (omega (arith, place))
+    text_then text cut.before (91 ∷ cut.row) (fault_at Truncated 0) cut.before_are cut.whole (omega arith)
+    (ends_follow cut.before_are.parts (91 ∷ cut.row) refl) (head_then (91 ∷ cut.row) (fault_at Truncated 0) (cut_head cut.row cut.open_ended))
+    ∙ ap (λ (n : ℕ). Some (Malformed Truncated n)) (omega (arith, place))
 
 -- a head that is wrong
-misheaded_only : (text : List ℕ) (at : ℕ) → IsMisheaded text at → magic_fault text ≡ Some (BadSection at)
+misheaded_only : (text : List ℕ) (at : ℕ) → IsMisheaded text at → magic_fault text ≡ Some (Malformed BadSection at)
 misheaded_only text at m =
     let rest : List ℕ = 91 ∷ (m.row ++ 10 ∷ m.after) in
-    text_then text m.before rest (left.BadSection (length rest)) m.before_are m.whole (omega arith)
+    text_then text m.before rest (fault_at BadSection (length rest)) m.before_are m.whole (omega arith)
     (ends_follow m.before_are.parts rest refl)
-    (head_then rest (left.BadSection (length rest)) (wrong_head m.row m.after m.is_row m.no_head))
+    (head_then rest (fault_at BadSection (length rest)) (wrong_head m.row m.after m.is_row m.no_head))
     ∙ at_section text m.before rest at m.whole m.place
 
 -- a byte that begins neither
-misplaced_only : (text : List ℕ) (at : ℕ) → IsMisplaced text at → magic_fault text ≡ Some (BadSection at)
+misplaced_only : (text : List ℕ) (at : ℕ) → IsMisplaced text at → magic_fault text ≡ Some (Malformed BadSection at)
 misplaced_only text at m =
     let rest : List ℕ = m.first ∷ m.after in
     let follows : Follows m.before_are.parts rest = elim m.no_line [
       | inl none ↦ bare m.before m.before_are none rest
       | inr other ↦ ends_follow m.before_are.parts rest other
     ] in
-    text_then text m.before rest (left.BadSection (length rest)) m.before_are m.whole (omega arith) follows
-    (head_then rest (left.BadSection (length rest)) (no_head m.first m.after m.no_head))
+    text_then text m.before rest (fault_at BadSection (length rest)) m.before_are m.whole (omega arith) follows
+    (head_then rest (fault_at BadSection (length rest)) (no_head m.first m.after m.no_head))
     ∙ at_section text m.before rest at m.whole m.place
 
 -- a line that is wrong
-line_only : (text before line : List ℕ) (limit : ℕ) (fault : MagicFault) → text ≡ before ++ line → IsBeforeLine limit before
-    → (BeginsMarker line → ⊥) → LineFault limit line fault → magic_fault text ≡ Some (moved (length before) fault)
-line_only text before line limit fault is b never wrong =
-    let g = line_gives limit line fault wrong in
-    let starts : StartsLine line = line_starts limit line fault wrong in
-    let entry = entry_then limit line g.fails never g.is in
-    let section : section_at (b.last ++ line) ≡ Err g.fails =
-    section_then b.last line b.section g.fails b.last_is starts (rw b.limit_is entry) in
-    let whole : text ≡ b.before ++ (b.last ++ line) = is ∙ ap (λ (t : List ℕ). t ++ line) b.whole ∙ append_assoc b.before b.last line in
-    let begins : EndsLines (b.last ++ line) = subst (λ (t : List ℕ). EndsLines (t ++ line)) (sym b.last_is.whole) refl in
-    text_then text b.before (b.last ++ line) g.fails b.before_are whole
-    (omega (arith, length-append b.last line, ap length b.last_is.whole)) (ends_follow b.before_are.parts (b.last ++ line) begins) section
-    ∙ ap (λ (k : MagicFault). Some k)
-    (ap (λ (n : ℕ). placed n g.fails) (ap length is ∙ length-append before line) ∙ g.places.at (length before))
+line_only : (kind : MagicFaultKind) (text : List ℕ) (at : ℕ) → InLine (LineFault kind) text at → magic_fault text ≡ Some (Malformed kind at)
+line_only kind text at l =
+    let b = l.before_is in
+    let g = line_gives l.limit l.line kind l.within l.wrong in
+    let starts : StartsLine l.line = line_starts l.limit l.line kind l.within l.wrong in
+    let entry = entry_then l.limit l.line g.fails l.no_marker g.is in
+    let section : section_at (b.last ++ l.line) ≡ Err g.fails =
+    section_then b.last l.line b.section g.fails b.last_is starts (rw b.limit_is entry) in
+    let whole : text ≡ b.before ++ (b.last ++ l.line) =
+    l.whole ∙ ap (λ (t : List ℕ). t ++ l.line) b.whole ∙ append_assoc b.before b.last l.line in
+    let begins : EndsLines (b.last ++ l.line) = subst (λ (t : List ℕ). EndsLines (t ++ l.line)) (sym b.last_is.whole) refl in
+    let some : 0 < length (b.last ++ l.line) = omega (arith, length-append b.last l.line, ap length b.last_is.whole) in
+    let size : length text ≡ length l.before + length l.line = ap length l.whole ∙ length-append l.before l.line in
+    let same : placed (length text) g.fails ≡ Malformed kind at =
+    ap (λ (n : ℕ). placed n g.fails) size ∙ g.places.at (length l.before) ∙ ap (λ (n : ℕ). Malformed kind n) (sym l.place) in
+    text_then text b.before (b.last ++ l.line) g.fails b.before_are whole some
+    (ends_follow b.before_are.parts (b.last ++ l.line) begins) section
+    ∙ ap (λ (k : MagicFault). Some k) same
 
 -- a text that has no header
 header_only : (text : List ℕ) (at : ℕ) → text ≢ [] → ((rest : List ℕ) → text ≢ header ++ rest) → at ≡ 0
-    → magic_fault text ≡ Some (NoHeader at)
+    → magic_fault text ≡ Some (Malformed NoHeader at)
 unfolding whole
 header_only [] at some never place = absurd (some refl)
 header_only (b ∷ bytes) at some never place = go (after_prefix header (b ∷ bytes)) refl
   where
-    go : (o : Option (List ℕ)) → after_prefix header (b ∷ bytes) ≡ o → magic_fault (b ∷ bytes) ≡ Some (NoHeader at)
+    go : (o : Option (List ℕ)) → after_prefix header (b ∷ bytes) ≡ o → magic_fault (b ∷ bytes) ≡ Some (Malformed NoHeader at)
     go (Some rest) is = absurd (never rest (after_prefix_found header (b ∷ bytes) rest is))
     go None is =
-        told (b ∷ bytes) (left.NoHeader (length (b ∷ bytes))) (ap (below_header (length (b ∷ bytes))) is)
-        ∙ ap (λ (n : ℕ). Some (NoHeader n)) (omega (arith, place))
+        told (b ∷ bytes) (fault_at NoHeader (length (b ∷ bytes))) (ap (below_header (length (b ∷ bytes))) is)
+        ∙ ap (λ (n : ℕ). Some (Malformed NoHeader n)) (omega (arith, place))
 
 -- a fault by the table is the text's
 pub fault_only : (text : List ℕ) (fault : MagicFault) → HasFault text fault → magic_fault text ≡ Some fault
-fault_only text (NoHeader at) is = header_only text at is.0 is.1 is.2
-fault_only text (Truncated at) (inl is) = cut_only text at is.0 is.1
-fault_only text (Truncated at) (inr is) =
-    line_only text is.before is.line is.limit (Truncated is.within) is.whole is.before_is is.no_marker is.wrong
-    ∙ ap (λ (n : ℕ). Some (Truncated n)) (sym is.place)
-fault_only text (BadSection at) (inl is) = misheaded_only text at is
-fault_only text (BadSection at) (inr is) = misplaced_only text at is
-fault_only text (BadNumber at) is =
-    line_only text is.before is.line is.limit (BadNumber is.within) is.whole is.before_is is.no_marker is.wrong
-    ∙ ap (λ (n : ℕ). Some (BadNumber n)) (sym is.place)
-fault_only text (BadWord at) is =
-    line_only text is.before is.line is.limit (BadWord is.within) is.whole is.before_is is.no_marker is.wrong
-    ∙ ap (λ (n : ℕ). Some (BadWord n)) (sym is.place)
-fault_only text (BadIndent at) is =
-    line_only text is.before is.line is.limit (BadIndent is.within) is.whole is.before_is is.no_marker is.wrong
-    ∙ ap (λ (n : ℕ). Some (BadIndent n)) (sym is.place)
-fault_only text (TooDeep at) is =
-    line_only text is.before is.line is.limit (TooDeep is.within) is.whole is.before_is is.no_marker is.wrong
-    ∙ ap (λ (n : ℕ). Some (TooDeep n)) (sym is.place)
+fault_only text (Malformed NoHeader at) is = header_only text at is.0 is.1 is.2
+fault_only text (Malformed Truncated at) (inl is) = cut_only text at is.0 is.1
+fault_only text (Malformed Truncated at) (inr is) = line_only Truncated text at is
+fault_only text (Malformed BadSection at) (inl is) = misheaded_only text at is
+fault_only text (Malformed BadSection at) (inr is) = misplaced_only text at is
+fault_only text (Malformed BadNumber at) is = line_only BadNumber text at is
+fault_only text (Malformed BadWord at) is = line_only BadWord text at is
+fault_only text (Malformed BadIndent at) is = line_only BadIndent text at is
+fault_only text (Malformed TooDeep at) is = line_only TooDeep text at is
 fault_only text OutOfMemory is = absurd is

@@ -1,17 +1,16 @@
 -- A text that is cut can be ended: what is appended makes it whole or gives it a fault that stays.
-use Rattle.std.proofs.Common.{◌≡◌, ℕ, List, [], ◌∷◌, ◌++◌, length, Result, Ok, Err, refl, sym, ap, ◌∙◌, append_assoc, inl, inr}
+use Rattle.std.proofs.Common.{◌≡◌, ℕ, ◌+◌, List, [], ◌∷◌, ◌++◌, length, Result, Ok, Err, refl, sym, ap, ◌∙◌, append_assoc, inl, inr}
 use Rattle.std.proofs.lemmas.List.{append-nil}
 use Rattle.mime_text.specs.declared.magic.fault.Fault.{Fault}
-use Rattle.mime_text.specs.declared.magic.fault.Fault.TheVariants as left
-use Rattle.mime_text.specs.declared.magic.fault.MagicFault.{MagicFault}
-use Rattle.mime_text.specs.declared.magic.fault.MagicFault.TheVariants.{NoHeader, Truncated, BadSection, BadNumber, BadWord, BadIndent, TooDeep, OutOfMemory}
+use Rattle.mime_text.specs.declared.magic.fault.MagicFault.TheVariants.{Malformed}
+use Rattle.mime_text.specs.declared.magic.fault.MagicFaultKind.TheVariants.{Truncated, BadSection}
 use Rattle.mime_text.specs.Magic.Entries.{PlainFlatSection}
-use Rattle.mime_text.specs.Magic.Reading.{head_of, header}
+use Rattle.mime_text.specs.Magic.Reading.{fault_at, head_of, header}
 use Rattle.mime_text.specs.Magic.Text.{BeginsMarker, IsSection}
-use Rattle.mime_text.specs.Magic.FaultTable.{IsBeforeLine, IsHead, IsCutHead, HasFault, IsFinal, CanEnd}
+use Rattle.mime_text.specs.Magic.FaultTable.{IsBeforeLine, IsHead, IsCutHead, HasFault, CanEnd}
 use Rattle.mime_text.proofs.MagicLemmas.HeadFound.{head_row_found, regroup_head}
 use Rattle.mime_text.proofs.MagicLemmas.SectionsOnly.{head_row_only}
-use Rattle.mime_text.proofs.FaultLemmas.FaultSteps.{moved}
+use Rattle.mime_text.proofs.FaultLemmas.FaultSteps.{section_final}
 use Rattle.mime_text.proofs.FaultLemmas.FaultStarts.{StartsLine, line_starts}
 use Rattle.mime_text.proofs.FaultLemmas.FaultText.{in_line}
 use Rattle.mime_text.proofs.FaultLemmas.FaultLinesStay.{longer}
@@ -20,17 +19,6 @@ use Rattle.mime_text.proofs.FaultLemmas.FaultsWhole.{sections_append, whole_line
 use Rattle.mime_text.proofs.FaultLemmas.FaultsGoOn.{marker_whole}
 use Rattle.mime_text.proofs.FaultLemmas.FaultEnds.{LineEnds}
 use Rattle.mime_text.proofs.FaultLemmas.FaultCuts.{cut_ends}
-
--- a fault that stays does so after more bytes
-final_moved : (n : ℕ) (fault : MagicFault) → IsFinal fault → IsFinal (moved n fault)
-final_moved n (NoHeader at) final = final
-final_moved n (Truncated at) final = final
-final_moved n (BadSection at) final = tt
-final_moved n (BadNumber at) final = tt
-final_moved n (BadWord at) final = tt
-final_moved n (BadIndent at) final = tt
-final_moved n (TooDeep at) final = tt
-final_moved n OutOfMemory final = final
 
 -- bytes that end the last line end the text, unless they make a marker
 line_settles : (text before line : List ℕ) (limit : ℕ) → text ≡ before ++ line → IsBeforeLine limit before → StartsLine line
@@ -47,9 +35,9 @@ line_settles text before line limit is b starts never (more, ends) =
         | inr f ↦ (
           more,
           inr (
-            moved (length before) f.0,
-            in_line (text ++ more) before (line ++ more) limit f.0 whole b none f.1,
-            final_moved (length before) f.0 f.2,
+            Malformed f.0 (length before + f.1),
+            in_line (text ++ more) before (line ++ more) limit f.0 f.1 whole b none f.2,
+            f.3,
           ),
         )
       ]
@@ -61,7 +49,7 @@ head_settles : (text : List ℕ) → IsCutHead text → CanEnd text
 head_settles text c = go (head_of wrong c.row) refl
   where
     wrong : Fault
-    wrong = left.BadSection 0
+    wrong = fault_at BadSection 0
 
     whole : text ++ 10 ∷ [] ≡ c.before ++ (91 ∷ (c.row ++ 10 ∷ []))
     whole = longer text c.before (91 ∷ c.row) (10 ∷ []) c.whole
@@ -85,7 +73,7 @@ head_settles text c = go (head_of wrong c.row) refl
         λ (digits, n, kind, is, number, name). let good = ap (head_of wrong) is ∙ head_row_only wrong digits n kind number name in cc in (
           10 ∷ [],
           inr (
-            BadSection (length c.before),
+            Malformed BadSection (length c.before),
             inl (record {
               before = c.before;
               row = c.row;
@@ -96,13 +84,13 @@ head_settles text c = go (head_of wrong c.row) refl
               no_head = never;
               place = refl;
             }),
-            tt,
+            section_final,
           ),
         )
 
 -- a text that is cut can be ended
-pub cut_settles : (text : List ℕ) (at : ℕ) → HasFault text (Truncated at) → CanEnd text
+pub cut_settles : (text : List ℕ) (at : ℕ) → HasFault text (Malformed Truncated at) → CanEnd text
 cut_settles text at (inl c) = head_settles text c.0
 cut_settles text at (inr l) =
-    line_settles text l.before l.line l.limit l.whole l.before_is (line_starts l.limit l.line (Truncated l.within) l.wrong) l.no_marker
+    line_settles text l.before l.line l.limit l.whole l.before_is (line_starts l.limit l.line Truncated l.within l.wrong) l.no_marker
     (cut_ends l.limit l.line l.wrong.0)

@@ -2,13 +2,15 @@
 use Rattle.std.proofs.Common.{◌≡◌, ℕ, List, [], ◌∷◌, ◌++◌, length, length-append, Option, Some, None, refl, sym, ap, subst, ◌∙◌, append_assoc, arith, inl, inr}
 use Rattle.std.proofs.lemmas.List.{append-nil}
 use Rattle.mime_text.specs.declared.magic.fault.MagicFault.{MagicFault}
-use Rattle.mime_text.specs.declared.magic.fault.MagicFault.TheVariants.{NoHeader, Truncated, BadSection, BadNumber, BadWord, BadIndent, TooDeep, OutOfMemory}
+use Rattle.mime_text.specs.declared.magic.fault.MagicFault.TheVariants.{Malformed, OutOfMemory}
+use Rattle.mime_text.specs.declared.magic.fault.MagicFaultKind.TheVariants.{NoHeader, Truncated, BadSection, BadNumber, BadWord, BadIndent, TooDeep}
 use Rattle.mime_text.specs.Magic.Entries.{marker, PlainEntry, PlainFlatSection}
 use Rattle.mime_text.specs.Magic.Reading.{after_prefix, header}
 use Rattle.mime_text.specs.Magic.Text.{MagicText}
 use Rattle.mime_text.specs.Magic.FaultTable.{HasFault, IsFinal, EndsInMarker, EndsInHeader, CanGoOn, IsOpen}
 use Rattle.mime_text.proofs.MagicLemmas.Prefixes.{after_prefix_only, after_prefix_found}
 use Rattle.mime_text.proofs.MagicLemmas.Laws.{spells_or_fails, no_fault}
+use Rattle.mime_text.proofs.FaultLemmas.FaultSteps.{section_final, number_final, word_final, indent_final, deep_final}
 use Rattle.mime_text.proofs.FaultLemmas.FaultText.{fault_found}
 use Rattle.mime_text.proofs.FaultLemmas.FaultTextOnly.{fault_only}
 use Rattle.mime_text.proofs.FaultLemmas.FaultLinesStay.{divided}
@@ -18,12 +20,12 @@ use Rattle.mime_text.proofs.FaultLemmas.FaultsWhole.{whole_lines}
 -- ---- what can go on
 
 -- the offset of a cut is the length of the text
-truncated_at : (text : List ℕ) (at : ℕ) → HasFault text (Truncated at) → at ≡ length text
+truncated_at : (text : List ℕ) (at : ℕ) → HasFault text (Malformed Truncated at) → at ≡ length text
 truncated_at text at (inl is) = is.1
 truncated_at text at (inr is) = omega (arith, is.place, is.wrong.1, ap length is.whole, length-append is.before is.line)
 
 -- a cut text has another fault with one byte more, or none
-cut_goes_on : (text : List ℕ) → CanGoOn text (Truncated (length text))
+cut_goes_on : (text : List ℕ) → CanGoOn text (Malformed Truncated (length text))
 cut_goes_on text = elim (spells_or_fails (text ++ 0 ∷ [])) [
   | inl is ↦ (0 ∷ [], inl is)
   | inr is ↦
@@ -82,22 +84,22 @@ none_front [] more e = refl
 none_front (b ∷ text) more e = absurd cc
 
 -- a text without a header can go on only inside the header
-no_header_open : (text : List ℕ) (at : ℕ) → HasFault text (NoHeader at) → CanGoOn text (NoHeader at) → IsOpen text (NoHeader at)
+no_header_open : (text : List ℕ) (at : ℕ) → HasFault text (Malformed NoHeader at) → CanGoOn text (Malformed NoHeader at) → IsOpen text (Malformed NoHeader at)
 no_header_open text at has can = go (after_prefix header (text ++ can.0)) refl
   where
-    go : (o : Option (List ℕ)) → after_prefix header (text ++ can.0) ≡ o → IsOpen text (NoHeader at)
+    go : (o : Option (List ℕ)) → after_prefix header (text ++ can.0) ≡ o → IsOpen text (Malformed NoHeader at)
     go (Some rest) e = elim (divided text can.0 header rest (after_prefix_found header (text ++ can.0) rest e)) [
       | inl h ↦ absurd (has.1 h.0 h.1)
       | inr h ↦ inr (inl (h.0, h.1))
     ]
     go None e =
-        let still : HasFault (text ++ can.0) (NoHeader at) = (
+        let still : HasFault (text ++ can.0) (Malformed NoHeader at) = (
           λ none. has.0 (none_front text can.0 none),
           λ rest is. let found = ap (after_prefix header) is
               ∙ after_prefix_only header rest in cc,
           has.2,
         ) in
-        stays_so text (NoHeader at) (IsOpen text (NoHeader at)) can still
+        stays_so text (Malformed NoHeader at) (IsOpen text (Malformed NoHeader at)) can still
 
 -- another fault lets a text go on only inside a marker
 final_open : (text : List ℕ) (fault : MagicFault) → IsFinal fault → HasFault text fault → CanGoOn text fault → IsOpen text fault
@@ -108,11 +110,11 @@ final_open text fault final has can = elim (fault_stays text can.0 fault has fin
 
 -- what can go on is one of these
 pub goes_on_open : (text : List ℕ) (fault : MagicFault) → HasFault text fault → CanGoOn text fault → IsOpen text fault
-goes_on_open text (NoHeader at) has can = no_header_open text at has can
-goes_on_open text (Truncated at) has can = inl (ap (λ (n : ℕ). Truncated n) (truncated_at text at has))
-goes_on_open text (BadSection at) has can = final_open text (BadSection at) tt has can
-goes_on_open text (BadNumber at) has can = final_open text (BadNumber at) tt has can
-goes_on_open text (BadWord at) has can = final_open text (BadWord at) tt has can
-goes_on_open text (BadIndent at) has can = final_open text (BadIndent at) tt has can
-goes_on_open text (TooDeep at) has can = final_open text (TooDeep at) tt has can
+goes_on_open text (Malformed NoHeader at) has can = no_header_open text at has can
+goes_on_open text (Malformed Truncated at) has can = inl (ap (λ (n : ℕ). Malformed Truncated n) (truncated_at text at has))
+goes_on_open text (Malformed BadSection at) has can = final_open text (Malformed BadSection at) section_final has can
+goes_on_open text (Malformed BadNumber at) has can = final_open text (Malformed BadNumber at) number_final has can
+goes_on_open text (Malformed BadWord at) has can = final_open text (Malformed BadWord at) word_final has can
+goes_on_open text (Malformed BadIndent at) has can = final_open text (Malformed BadIndent at) indent_final has can
+goes_on_open text (Malformed TooDeep at) has can = final_open text (Malformed TooDeep at) deep_final has can
 goes_on_open text OutOfMemory has can = absurd has

@@ -1,11 +1,14 @@
 -- A fault that is not of a cut or a missing header stays where bytes are appended, or the text ends inside a marker.
 use Rattle.std.proofs.Common.{◌≡◌, ℕ, List, ◌∷◌, ◌++◌, Option, Some, None, refl, ap, subst, ◌∙◌, append_assoc, inl, inr, ◌⊎◌}
 use Rattle.mime_text.specs.declared.magic.fault.MagicFault.{MagicFault}
-use Rattle.mime_text.specs.declared.magic.fault.MagicFault.TheVariants.{NoHeader, Truncated, BadSection, BadNumber, BadWord, BadIndent, TooDeep, OutOfMemory}
+use Rattle.mime_text.specs.declared.magic.fault.MagicFault.TheVariants.{Malformed, OutOfMemory}
+use Rattle.mime_text.specs.declared.magic.fault.MagicFaultKind.{MagicFaultKind}
+use Rattle.mime_text.specs.declared.magic.fault.MagicFaultKind.TheVariants.{NoHeader, Truncated, BadSection, BadNumber, BadWord, BadIndent, TooDeep}
 use Rattle.mime_text.specs.Magic.Reading.{marker_at}
 use Rattle.mime_text.specs.Magic.Text.{IsMarker, BeginsMarker}
-use Rattle.mime_text.specs.Magic.FaultTable.{IsBeforeLine, IsMisnumbered, IsMisworded, IsMisindented, IsTooDeep, InLine, HasFault, IsFinal, EndsInMarker}
+use Rattle.mime_text.specs.Magic.FaultTable.{IsBeforeLine, InLine, HasFault, IsFinal, EndsInMarker}
 use Rattle.mime_text.proofs.MagicLemmas.EntryFound.{marker_found}
+use Rattle.mime_text.proofs.FaultLemmas.FaultBodies.{LineFault}
 use Rattle.mime_text.proofs.FaultLemmas.FaultStarts.{StartsLine, line_starts}
 use Rattle.mime_text.proofs.FaultLemmas.FaultSections.{begins_read}
 use Rattle.mime_text.proofs.FaultLemmas.FaultSectionsOnly.{starts_some}
@@ -37,12 +40,12 @@ marker_stays text before line more limit is b starts never = go (marker_at (line
         ]
 
 -- a line that is wrong stays so
-in_line_stays : (Wrong : ℕ → List ℕ → ℕ → Type 0) (text more : List ℕ) (at : ℕ)
-    → ((limit : ℕ) (line : List ℕ) (n : ℕ) → Wrong limit line n → StartsLine line × Wrong limit (line ++ more) n)
-    → InLine Wrong text at → InLine Wrong (text ++ more) at ⊎ EndsInMarker text
-in_line_stays Wrong text more at stays is =
-    let wrong = stays is.limit is.line is.within is.wrong in
-    elim (marker_stays text is.before is.line more is.limit is.whole is.before_is wrong.0 is.no_marker) [
+in_line_stays : (kind : MagicFaultKind) (text more : List ℕ) (at : ℕ)
+    → ((limit : ℕ) (line : List ℕ) (n : ℕ) → LineFault kind limit line n → LineFault kind limit (line ++ more) n)
+    → InLine (LineFault kind) text at → InLine (LineFault kind) (text ++ more) at ⊎ EndsInMarker text
+in_line_stays kind text more at stays is =
+    let starts : StartsLine is.line = line_starts is.limit is.line kind is.within is.wrong in
+    elim (marker_stays text is.before is.line more is.limit is.whole is.before_is starts is.no_marker) [
       | inl none ↦
           inl (record {
             limit = is.limit;
@@ -52,7 +55,7 @@ in_line_stays Wrong text more at stays is =
             whole = longer text is.before is.line more is.whole;
             before_is = is.before_is;
             no_marker = none;
-            wrong = wrong.1;
+            wrong = stays is.limit is.line is.within is.wrong;
             place = is.place;
           })
       | inr ends ↦ inr ends
@@ -61,9 +64,9 @@ in_line_stays Wrong text more at stays is =
 -- such a fault stays
 pub fault_stays : (text more : List ℕ) (fault : MagicFault) → HasFault text fault → IsFinal fault
     → HasFault (text ++ more) fault ⊎ EndsInMarker text
-fault_stays text more (NoHeader at) is final = absurd final
-fault_stays text more (Truncated at) is final = absurd final
-fault_stays text more (BadSection at) (inl m) final = inl (inl (record {
+fault_stays text more (Malformed NoHeader at) is final = absurd (final.0 refl)
+fault_stays text more (Malformed Truncated at) is final = absurd (final.1 refl)
+fault_stays text more (Malformed BadSection at) (inl m) final = inl (inl (record {
   before = m.before;
   row = m.row;
   after = m.after ++ more;
@@ -74,7 +77,7 @@ fault_stays text more (BadSection at) (inl m) final = inl (inl (record {
   no_head = m.no_head;
   place = m.place;
 }))
-fault_stays text more (BadSection at) (inr m) final = inl (inr (record {
+fault_stays text more (Malformed BadSection at) (inr m) final = inl (inr (record {
   before = m.before;
   first = m.first;
   after = m.after ++ more;
@@ -84,16 +87,12 @@ fault_stays text more (BadSection at) (inr m) final = inl (inr (record {
   no_line = m.no_line;
   place = m.place;
 }))
-fault_stays text more (BadNumber at) is final =
-    in_line_stays IsMisnumbered text more at
-    (λ limit line n w. (line_starts limit line (BadNumber n) w, misnumbered_stays limit line more n w)) is
-fault_stays text more (BadWord at) is final =
-    in_line_stays IsMisworded text more at
-    (λ limit line n w. (line_starts limit line (BadWord n) w, misworded_stays limit line more n w)) is
-fault_stays text more (BadIndent at) is final =
-    in_line_stays IsMisindented text more at
-    (λ limit line n w. (line_starts limit line (BadIndent n) w, misindented_stays limit line more n w)) is
-fault_stays text more (TooDeep at) is final =
-    in_line_stays IsTooDeep text more at
-    (λ limit line n w. (line_starts limit line (TooDeep n) w, (indented_stays 64 line more w.0, w.1, w.2))) is
+fault_stays text more (Malformed BadNumber at) is final =
+    in_line_stays BadNumber text more at (λ limit line n w. misnumbered_stays limit line more n w) is
+fault_stays text more (Malformed BadWord at) is final =
+    in_line_stays BadWord text more at (λ limit line n w. misworded_stays limit line more n w) is
+fault_stays text more (Malformed BadIndent at) is final =
+    in_line_stays BadIndent text more at (λ limit line n w. misindented_stays limit line more n w) is
+fault_stays text more (Malformed TooDeep at) is final =
+    in_line_stays TooDeep text more at (λ limit line n w. (indented_stays 64 line more w.0, w.1, w.2)) is
 fault_stays text more OutOfMemory is final = absurd final

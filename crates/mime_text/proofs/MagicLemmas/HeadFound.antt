@@ -2,8 +2,8 @@
 use Rattle.std.proofs.Common.{◌≡◌, ℕ, suc, ◌-◌, ◌<◌, ◌&&◌, true, eqb, List, [], ◌∷◌, ◌++◌, length, take, get_or, Result, Ok, Err, sym, ap, subst, ◌∙◌, append_assoc, arith}
 use Rattle.std.proofs.lemmas.Bool.{eqb-true, and_parts}
 use Rattle.mime_text.specs.declared.magic.fault.Fault.{Fault}
-use Rattle.mime_text.specs.declared.magic.fault.Fault.TheVariants.{BadSection}
-use Rattle.mime_text.specs.Magic.Reading.{number_at, byte_at, row_at, kind_of, head_of, instead, head_at}
+use Rattle.mime_text.specs.declared.magic.fault.MagicFaultKind.TheVariants.{BadSection}
+use Rattle.mime_text.specs.Magic.Reading.{fault_at, number_at, byte_at, row_at, kind_of, head_of, instead, head_at}
 use Rattle.mime_base.specs.Names.{is_type_name}
 use Rattle.mime_text.proofs.MagicLemmas.Prefixes.{row_found}
 use Rattle.mime_text.specs.Magic.Text.{IsNumber}
@@ -77,7 +77,7 @@ pub head_found : (bytes : List ℕ) (x : (ℕ × List ℕ) × List ℕ) → head
 unfolding head_at
 head_found [] x e = absurd cc
 head_found (b ∷ bytes) x e =
-    let wrong : Fault = BadSection (length (b ∷ bytes)) in
+    let wrong : Fault = fault_at BadSection (length (b ∷ bytes)) in
     let g = guard_on (eqb b 91) wrong _ x e in
     let a = bind_ok (row_at bytes) _ x g.1 in
     let c = bind_ok (instead wrong (head_of wrong a.0.0)) (λ head. Ok (head, a.0.1)) x a.2 in

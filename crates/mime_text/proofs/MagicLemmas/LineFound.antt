@@ -1,10 +1,10 @@
 -- The end of a line, and a whole line, against the grammar: what is read is spelled so.
 use Rattle.std.proofs.Common.{◌≡◌, ℕ, ◌+◌, ◌<◌, eqb, ltb, leb, cond, List, [], ◌∷◌, ◌++◌, length, length-append, Ok, Err, refl, sym, ap, subst, ◌∙◌, append_assoc, arith, inl, inr}
 use Rattle.std.proofs.lemmas.Bool.{ltb-false, eqb-true, eqb-false, leb-false}
-use Rattle.mime_text.specs.declared.magic.fault.Fault.TheVariants.{BadNumber, BadIndent, TooDeep}
+use Rattle.mime_text.specs.declared.magic.fault.MagicFaultKind.TheVariants.{BadNumber, BadIndent, TooDeep}
 use Rattle.mime_base.specs.Magic.{PlainLine}
 use Rattle.mime_text.specs.Magic.Entries.{PlainRole, kept, ignored, PlainEntry}
-use Rattle.mime_text.specs.Magic.Reading.{◌>>=◌, indent_at, row_at, end_at, body_at, line_at}
+use Rattle.mime_text.specs.Magic.Reading.{◌>>=◌, fault_at, indent_at, row_at, end_at, body_at, line_at}
 use Rattle.mime_text.specs.Magic.Text.{IsEnd, IsLine}
 use Rattle.mime_text.proofs.MagicLemmas.Steps.{bind_ok, guard_off, chosen, ok_is}
 use Rattle.mime_text.proofs.MagicLemmas.Prefixes.{row_found}
@@ -25,10 +25,10 @@ unfolding end_at
 end_found left own [] x e = absurd cc
 end_found left own (b ∷ bytes) x e =
     elim (chosen (eqb b 10)
-    (cond (leb 4294967296 (own.start + own.range + length own.value)) (Err (BadNumber left)) (Ok (kept own, bytes)))
+    (cond (leb 4294967296 (own.start + own.range + length own.value)) (Err (fault_at BadNumber left)) (Ok (kept own, bytes)))
     (row_at bytes >>= λ row. Ok (ignored, row.1)) (Ok x) e) [
       | inl h ↦
-          let g = guard_off (leb 4294967296 (own.start + own.range + length own.value)) (BadNumber left) (Ok (kept own, bytes)) x h.1 in
+          let g = guard_off (leb 4294967296 (own.start + own.range + length own.value)) (fault_at BadNumber left) (Ok (kept own, bytes)) x h.1 in
           subst (λ (y : PlainRole × List ℕ). Ended own (b ∷ bytes) y.0 y.1) (ok_is (kept own, bytes) x g.1) (record {
             first = b;
             end = [];
@@ -64,8 +64,8 @@ pub line_found : (limit : ℕ) (bytes : List ℕ) (x : PlainEntry × List ℕ) �
 unfolding line_at
 line_found limit bytes x e =
     let a = bind_ok (indent_at bytes) _ x e in
-    let g = guard_off (ltb limit a.0.0) (BadIndent (length bytes)) _ x a.2 in
-    let k = guard_off (leb 64 a.0.0) (TooDeep (length bytes)) _ x g.1 in
+    let g = guard_off (ltb limit a.0.0) (fault_at BadIndent (length bytes)) _ x a.2 in
+    let k = guard_off (leb 64 a.0.0) (fault_at TooDeep (length bytes)) _ x g.1 in
     let b = bind_ok (body_at a.0.1) _ x k.1 in
     let c = bind_ok (end_at (length bytes) b.0.0 b.0.1) (λ role. Ok (record { indent = a.0.0; role = role.0 }, role.1)) x b.2 in
     let indent = indent_found bytes a.0 a.1 in

@@ -2,8 +2,8 @@
 use Rattle.std.proofs.Common.{◌≡◌, ℕ, ◌+◌, ◌-◌, ◌*◌, ◌<◌, true, false, leb, List, [], ◌∷◌, ◌++◌, length, length-append, Ok, subst, eqb, ◌||◌, inl, inr, ap, sym, ◌∙◌, refl, arith}
 use Rattle.std.proofs.lemmas.Bool.{cases_Bool, lt-leb, or_parts, or_from, eqb-false, ne_eqb, leb-false, cond-true, cond-false}
 use Rattle.mime_text.specs.declared.magic.fault.Fault.{Fault}
-use Rattle.mime_text.specs.declared.magic.fault.Fault.TheVariants.{BadNumber}
-use Rattle.mime_text.specs.Magic.Reading.{digits_at, judged, number_at, is_digit}
+use Rattle.mime_text.specs.declared.magic.fault.MagicFaultKind.TheVariants.{BadNumber}
+use Rattle.mime_text.specs.Magic.Reading.{fault_at, digits_at, judged, number_at, is_digit}
 use Rattle.mime_text.proofs.MagicLemmas.Steps.{guard_off, ok_is}
 use Rattle.mime_text.specs.Magic.Text.{value_of, AreDigits, IsNumber}
 
@@ -94,7 +94,7 @@ pub record Numbered (bytes : List ℕ) (n : ℕ) (rest : List ℕ) : Type 0 wher
 pub number_found : (bytes : List ℕ) (x : ℕ × List ℕ) → number_at bytes ≡ Ok x → Numbered bytes x.0 x.1
 unfolding number_at
 number_found bytes x e =
-    let j = judged_ok (BadNumber (length bytes)) (length bytes) (digits_at 0 bytes) x e in
+    let j = judged_ok (fault_at BadNumber (length bytes)) (length bytes) (digits_at 0 bytes) x e in
     let d = digits_found 0 bytes in
     let some : 0 < length d.text = absurd_or bytes d.text (digits_at 0 bytes).1 d.parts j.1 in
     subst (λ (y : ℕ × List ℕ). Numbered bytes y.0 y.1) j.0 (record {
@@ -114,5 +114,5 @@ number_only text n b rest is stops =
     ∙ ap (λ (k : ℕ). (k, b ∷ rest)) is.value in
     let long : eqb (length (b ∷ rest)) (length (text ++ b ∷ rest)) ≡ false = ne_eqb _ _ (λ q. absurd (longer text (b ∷ rest) is.some q)) in
     let low : leb 4294967296 n ≡ false = lt-leb 4294967296 n is.small in
-    ap (judged (BadNumber (length (text ++ b ∷ rest))) (length (text ++ b ∷ rest))) d
+    ap (judged (fault_at BadNumber (length (text ++ b ∷ rest))) (length (text ++ b ∷ rest))) d
     ∙ cond-false (eqb (length (b ∷ rest)) (length (text ++ b ∷ rest)) || leb 4294967296 n) _ _ (or_from _ _ long low)

@@ -2,9 +2,9 @@
 use Rattle.std.proofs.Common.{◌≡◌, ℕ, ◌||◌, true, false, eqb, cond, List, [], ◌∷◌, ◌++◌, length, Option, Some, None, Result, Ok, Err, refl, ap, subst, ◌∙◌, inl, inr}
 use Rattle.std.proofs.lemmas.Bool.{eqb-true, or_from}
 use Rattle.mime_text.specs.declared.magic.fault.Fault.{Fault}
-use Rattle.mime_text.specs.declared.magic.fault.Fault.TheVariants.{BadWord}
+use Rattle.mime_text.specs.declared.magic.fault.MagicFaultKind.TheVariants.{BadWord}
 use Rattle.mime_base.specs.Magic.{fits_word}
-use Rattle.mime_text.specs.Magic.Reading.{◌>>=◌, is_digit, number_at, bytes_at, mask_at, word_at, range_at}
+use Rattle.mime_text.specs.Magic.Reading.{◌>>=◌, fault_at, is_digit, number_at, bytes_at, mask_at, word_at, range_at}
 use Rattle.mime_text.specs.Magic.Text.{IsOptional, IsMask, goes_on}
 use Rattle.mime_text.proofs.MagicLemmas.Steps.{bind_ok, guard_on, chosen, ok_is}
 use Rattle.mime_text.proofs.MagicLemmas.Numbers.{Stops, number_found}
@@ -91,7 +91,7 @@ optioned_some mark b bytes x same e =
 
 -- a word with its mark, as it is read
 abbrev marked_word : ℕ → List ℕ → Result (ℕ × List ℕ) Fault
-marked_word size bytes = number_at bytes >>= λ n. cond (fits_word n.0 size) (Ok n) (Err (BadWord (length bytes)))
+marked_word size bytes = number_at bytes >>= λ n. cond (fits_word n.0 size) (Ok n) (Err (fault_at BadWord (length bytes)))
 
 -- the text of a word that fits values of this size, and what comes after it
 abbrev pub WordFound : ℕ → List ℕ → ℕ × List ℕ → Type 0
@@ -104,8 +104,8 @@ word_found size [] x e = subst (WordFound size []) (ok_is (1, []) x e) (optioned
 word_found size (b ∷ bytes) x e =
     elim (chosen (eqb b 126) (marked_word size bytes) (Ok (1, b ∷ bytes)) (Ok x) e) [
       | inl h ↦
-          let a = bind_ok (number_at bytes) (λ n. cond (fits_word n.0 size) (Ok n) (Err (BadWord (length bytes)))) x h.1 in
-          let g = guard_on (fits_word a.0.0 size) (BadWord (length bytes)) (Ok a.0) x a.2 in
+          let a = bind_ok (number_at bytes) (λ n. cond (fits_word n.0 size) (Ok n) (Err (fault_at BadWord (length bytes)))) x h.1 in
+          let g = guard_on (fits_word a.0.0 size) (fault_at BadWord (length bytes)) (Ok a.0) x a.2 in
           subst (WordFound size (b ∷ bytes)) (ok_is a.0 x g.1) (optioned_some 126 b bytes a.0 h.0 a.1, g.0)
       | inr h ↦ subst (WordFound size (b ∷ bytes)) (ok_is (1, b ∷ bytes) x h.1) (optioned_none 126 (b ∷ bytes) h.0, refl)
     ]

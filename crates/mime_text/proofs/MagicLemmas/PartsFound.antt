@@ -3,8 +3,8 @@ use Rattle.std.proofs.Common.{◌≡◌, ℕ, ◌+◌, ◌*◌, ◌≤◌, eqb, 
 use Rattle.std.proofs.lemmas.Bool.{ltb-false, eqb-true}
 use Rattle.std.proofs.lemmas.List.{take-append-drop, length-take}
 use Rattle.mime_text.specs.declared.magic.fault.Fault.{Fault}
-use Rattle.mime_text.specs.declared.magic.fault.Fault.TheVariants.{Truncated, BadNumber, BadIndent}
-use Rattle.mime_text.specs.Magic.Reading.{◌>>=◌, number_at, byte_at, indent_at, start_at, bytes_at, value_at}
+use Rattle.mime_text.specs.declared.magic.fault.MagicFaultKind.TheVariants.{Truncated, BadNumber, BadIndent}
+use Rattle.mime_text.specs.Magic.Reading.{◌>>=◌, fault_at, number_at, byte_at, indent_at, start_at, bytes_at, value_at}
 use Rattle.mime_text.specs.Magic.Text.{IsNumber, IsIndent}
 use Rattle.mime_text.proofs.MagicLemmas.Steps.{bind_ok, guard_off, guard_on, chosen, ok_is}
 use Rattle.mime_text.proofs.MagicLemmas.Numbers.{number_found}
@@ -35,7 +35,7 @@ number_and_byte_found want wrong bytes x e =
 pub start_found : (bytes : List ℕ) (x : ℕ × List ℕ) → start_at bytes ≡ Ok x
     → (text : List ℕ) × (bytes ≡ text ++ 61 ∷ x.1) × IsNumber text x.0
 unfolding start_at
-start_found bytes x e = number_and_byte_found 61 (BadNumber (length bytes)) bytes x e
+start_found bytes x e = number_and_byte_found 61 (fault_at BadNumber (length bytes)) bytes x e
 
 -- a number is an indent
 as_indent : (text : List ℕ) (n : ℕ) → IsNumber text n → IsIndent text n
@@ -48,13 +48,13 @@ pub indent_found : (bytes : List ℕ) (x : ℕ × List ℕ) → indent_at bytes 
 unfolding indent_at
 indent_found [] x e = absurd cc
 indent_found (b ∷ bytes) x e =
-    elim (chosen (eqb b 62) (Ok (0, bytes)) (number_and_byte 62 (BadIndent (length (b ∷ bytes))) (b ∷ bytes)) (Ok x) e) [
+    elim (chosen (eqb b 62) (Ok (0, bytes)) (number_and_byte 62 (fault_at BadIndent (length (b ∷ bytes))) (b ∷ bytes)) (Ok x) e) [
       | inl h ↦
           let is : b ≡ 62 = eqb-true b 62 h.0 in
           subst (λ (y : ℕ × List ℕ). (text : List ℕ) × (b ∷ bytes ≡ text ++ 62 ∷ y.1) × IsIndent text y.0) (ok_is (0, bytes) x h.1)
           ([], ap (λ (k : ℕ). k ∷ bytes) is, refl)
       | inr h ↦
-          let n = number_and_byte_found 62 (BadIndent (length (b ∷ bytes))) (b ∷ bytes) x h.1 in
+          let n = number_and_byte_found 62 (fault_at BadIndent (length (b ∷ bytes))) (b ∷ bytes) x h.1 in
           (n.0, n.1, as_indent n.0 x.0 n.2)
     ]
 
@@ -62,7 +62,7 @@ indent_found (b ∷ bytes) x e =
 pub bytes_found : (n : ℕ) (bytes : List ℕ) (x : List ℕ × List ℕ) → bytes_at n bytes ≡ Ok x → (bytes ≡ x.0 ++ x.1) × (length x.0 ≡ n)
 unfolding bytes_at
 bytes_found n bytes x e =
-    let g = guard_off (ltb (length bytes) n) (Truncated 0) (Ok (take n bytes, drop n bytes)) x e in
+    let g = guard_off (ltb (length bytes) n) (fault_at Truncated 0) (Ok (take n bytes, drop n bytes)) x e in
     let long : n ≤ length bytes = ltb-false _ _ g.0 in
     subst (λ (y : List ℕ × List ℕ). (bytes ≡ y.0 ++ y.1) × (length y.0 ≡ n)) (ok_is (take n bytes, drop n bytes) x g.1)
     (sym (take-append-drop n bytes), omega (arith, length-take n bytes))

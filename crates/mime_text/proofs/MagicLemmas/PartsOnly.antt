@@ -3,8 +3,8 @@ use Rattle.std.proofs.Common.{◌≡◌, ℕ, ◌+◌, ◌*◌, ◌≤◌, true,
 use Rattle.std.proofs.lemmas.Bool.{le-ltb, ne_eqb, and_parts, leb-true, cond-true, cond-false}
 use Rattle.std.proofs.lemmas.List.{take_at, drop_at}
 use Rattle.mime_text.specs.declared.magic.fault.Fault.{Fault}
-use Rattle.mime_text.specs.declared.magic.fault.Fault.TheVariants.{BadNumber, BadIndent}
-use Rattle.mime_text.specs.Magic.Reading.{is_digit, number_at, byte_at, indent_at, start_at, bytes_at, value_at}
+use Rattle.mime_text.specs.declared.magic.fault.MagicFaultKind.TheVariants.{BadNumber, BadIndent}
+use Rattle.mime_text.specs.Magic.Reading.{fault_at, is_digit, number_at, byte_at, indent_at, start_at, bytes_at, value_at}
 use Rattle.mime_text.specs.Magic.Text.{IsNumber, IsIndent}
 use Rattle.mime_text.proofs.MagicLemmas.Numbers.{number_only}
 use Rattle.mime_text.proofs.MagicLemmas.Steps.{bind_on}
@@ -18,8 +18,8 @@ byte_only want wrong rest = cond-true (eqb want want) _ _ (eq-eqb want want refl
 pub start_only : (text : List ℕ) (n : ℕ) (rest : List ℕ) → IsNumber text n → start_at (text ++ 61 ∷ rest) ≡ Ok (n, rest)
 unfolding start_at
 start_only text n rest is = bind_on (number_at (text ++ 61 ∷ rest)) (n, 61 ∷ rest) _ (n, rest) (number_only text n 61 rest is refl)
-    (bind_on (byte_at 61 (BadNumber (length (text ++ 61 ∷ rest))) (61 ∷ rest)) rest _ (n, rest)
-    (byte_only 61 (BadNumber (length (text ++ 61 ∷ rest))) rest) refl)
+    (bind_on (byte_at 61 (fault_at BadNumber (length (text ++ 61 ∷ rest))) (61 ∷ rest)) rest _ (n, rest)
+    (byte_only 61 (fault_at BadNumber (length (text ++ 61 ∷ rest))) rest) refl)
 
 -- a digit is a byte from 48 to 57
 pub digit_range : (b : ℕ) → is_digit b ≡ true → (48 ≤ b) × (b ≤ 57)
@@ -35,7 +35,7 @@ indent_only (b ∷ text) n rest is =
     let whole : List ℕ = b ∷ (text ++ 62 ∷ rest) in
     cond-false (eqb b 62) _ _ other
     ∙ bind_on (number_at whole) (n, 62 ∷ rest) _ (n, rest) (number_only (b ∷ text) n 62 rest is refl)
-    (bind_on (byte_at 62 (BadIndent (length whole)) (62 ∷ rest)) rest _ (n, rest) (byte_only 62 (BadIndent (length whole)) rest) refl)
+    (bind_on (byte_at 62 (fault_at BadIndent (length whole)) (62 ∷ rest)) rest _ (n, rest) (byte_only 62 (fault_at BadIndent (length whole)) rest) refl)
 
 -- so many bytes before a rest are read
 pub bytes_only : (n : ℕ) (v rest : List ℕ) → length v ≡ n → bytes_at n (v ++ rest) ≡ Ok (v, rest)

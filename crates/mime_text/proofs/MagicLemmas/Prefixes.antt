@@ -4,8 +4,8 @@ use Rattle.std.specs.Prelude.{◌≢◌}
 use Rattle.std.proofs.lemmas.Bool.{eqb-true, eqb-false, ne_eqb, cases_Bool, cond-true, cond-false}
 use Rattle.memchr.specs.Find.{IsFirstByte, is_byte}
 use Rattle.mime_text.specs.declared.magic.fault.Fault.{Fault}
-use Rattle.mime_text.specs.declared.magic.fault.Fault.TheVariants.{Truncated}
-use Rattle.mime_text.specs.Magic.Reading.{◌>>=◌, after_prefix, unsized, short, sized, or_else, marker_at, row_at}
+use Rattle.mime_text.specs.declared.magic.fault.MagicFaultKind.TheVariants.{Truncated}
+use Rattle.mime_text.specs.Magic.Reading.{◌>>=◌, fault_at, after_prefix, unsized, short, sized, or_else, marker_at, row_at}
 use Rattle.mime_text.specs.Magic.Text.{NoNewline}
 use Rattle.mime_text.proofs.MagicLemmas.Steps.{bind_ok, bind_on, chosen, ok_is}
 
@@ -91,7 +91,7 @@ row_cut (b ∷ bytes) (suc k) low before at =
     row_on b bytes (take k bytes) (drop (k + 1) bytes) other rest ∙ sym (ap (λ (m : ℕ). Ok (b ∷ take k bytes, drop m (b ∷ bytes))) n)
 
 -- without a newline there is no row
-row_none : (bytes : List ℕ) → ((j : ℕ) → j < length bytes → eqb (get_or bytes j 0) 10 ≡ true → ⊥) → row_at bytes ≡ Err (Truncated 0)
+row_none : (bytes : List ℕ) → ((j : ℕ) → j < length bytes → eqb (get_or bytes j 0) 10 ≡ true → ⊥) → row_at bytes ≡ Err (fault_at Truncated 0)
 unfolding row_at
 row_none [] never = refl
 row_none (b ∷ bytes) never =
@@ -102,6 +102,6 @@ row_none (b ∷ bytes) never =
 
 -- a search for the first newline gives the row before it
 pub row_searched : (bytes : List ℕ) (o : Option ℕ) → IsFirstByte (is_byte 10) bytes o
-    → MatchOption o (row_at bytes ≡ Err (Truncated 0)) (λ k. (k < length bytes) × (row_at bytes ≡ Ok (take k bytes, drop (k + 1) bytes)))
+    → MatchOption o (row_at bytes ≡ Err (fault_at Truncated 0)) (λ k. (k < length bytes) × (row_at bytes ≡ Ok (take k bytes, drop (k + 1) bytes)))
 row_searched bytes None first = row_none bytes (λ j lt. first j (omega arith) lt)
 row_searched bytes (Some k) first = (first.0.high, row_cut bytes k first.0.high (λ j lt. first.0.before j (omega arith) lt) first.1)

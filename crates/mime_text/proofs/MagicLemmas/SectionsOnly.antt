@@ -3,10 +3,10 @@ use Rattle.std.proofs.Common.{◌≡◌, ℕ, zero, suc, ◌-◌, ◌<◌, ◌�
 use Rattle.std.specs.List.{list_all}
 use Rattle.std.proofs.lemmas.Bool.{ltb-true, and_parts, and_from, cond-true}
 use Rattle.mime_text.specs.declared.magic.fault.Fault.{Fault}
-use Rattle.mime_text.specs.declared.magic.fault.Fault.TheVariants.{BadSection}
+use Rattle.mime_text.specs.declared.magic.fault.MagicFaultKind.TheVariants.{BadSection}
 use Rattle.mime_base.specs.Names.{is_type_name, is_name_byte, has_inner_slash}
 use Rattle.mime_text.specs.Magic.Entries.{PlainFlatSection}
-use Rattle.mime_text.specs.Magic.Reading.{number_at, byte_at, lines_at, row_at, kind_of, head_of, instead, head_at, section_at, sections_at, header, below_header, whole}
+use Rattle.mime_text.specs.Magic.Reading.{fault_at, number_at, byte_at, lines_at, row_at, kind_of, head_of, instead, head_at, section_at, sections_at, header, below_header, whole}
 use Rattle.mime_text.specs.Magic.Text.{AreDigits, IsNumber, NoNewline, IsSection, AreSections, MagicText}
 use Rattle.mime_text.proofs.MagicLemmas.Steps.{bind_on}
 use Rattle.mime_text.proofs.MagicLemmas.Prefixes.{after_prefix_only, row_only}
@@ -74,7 +74,7 @@ pub head_only : (text : List ℕ) (n : ℕ) (kind rest : List ℕ) → IsNumber 
 unfolding head_at
 head_only text n kind rest is name =
     let row : List ℕ = text ++ (58 ∷ (kind ++ 93 ∷ [])) in
-    let wrong : Fault = BadSection (length (91 ∷ (row ++ 10 ∷ rest))) in
+    let wrong : Fault = fault_at BadSection (length (91 ∷ (row ++ 10 ∷ rest))) in
     let none : NoNewline row =
     digits_row text (58 ∷ (kind ++ 93 ∷ [])) is.digits (λ e. cc, kind_row kind (93 ∷ []) (name_all kind name) (λ e. cc, tt)) in
     ap (λ (t : List ℕ). head_at (91 ∷ t)) (sym (regroup_head text kind rest))

@@ -4,7 +4,8 @@ use Rattle.std.specs.Prelude.{◌≡◌, ◌≢◌, ℕ, ◌+◌, ◌*◌, ◌<�
 use Rattle.mime_base.specs.Magic.{PlainLine, fits_word}
 use Rattle.mime_base.specs.Names.{is_type_name}
 use Rattle.mime_text.specs.declared.magic.fault.MagicFault.{MagicFault}
-use Rattle.mime_text.specs.declared.magic.fault.MagicFault.TheVariants.{NoHeader, Truncated, BadSection, BadNumber, BadWord, BadIndent, TooDeep, OutOfMemory}
+use Rattle.mime_text.specs.declared.magic.fault.MagicFault.TheVariants.{Malformed, OutOfMemory}
+use Rattle.mime_text.specs.declared.magic.fault.MagicFaultKind.TheVariants.{NoHeader, Truncated, BadSection, BadNumber, BadWord, BadIndent, TooDeep}
 use Rattle.mime_text.specs.Magic.Entries.{PlainEntry, PlainFlatSection}
 use Rattle.mime_text.specs.Magic.Reading.{is_digit, starts_line, header}
 use Rattle.mime_text.specs.Magic.Text.{value_of, AreDigits, IsNumber, IsIndent, IsOptional, IsMask, IsBody, NoNewline, IsMarker, BeginsMarker, IsSection, AreSections, MagicText}
@@ -240,26 +241,20 @@ IsCutAtEnd limit line at = IsCut limit line × (at ≡ length line)
 
 -- the text has this fault
 abbrev pub HasFault : List ℕ → MagicFault → Type 0
-HasFault text (NoHeader at) = (text ≢ []) × ((rest : List ℕ) → text ≢ header ++ rest) × (at ≡ 0)
-HasFault text (Truncated at) = (IsCutHead text × (at ≡ length text)) ⊎ InLine IsCutAtEnd text at
-HasFault text (BadSection at) = IsMisheaded text at ⊎ IsMisplaced text at
-HasFault text (BadNumber at) = InLine IsMisnumbered text at
-HasFault text (BadWord at) = InLine IsMisworded text at
-HasFault text (BadIndent at) = InLine IsMisindented text at
-HasFault text (TooDeep at) = InLine IsTooDeep text at
+HasFault text (Malformed NoHeader at) = (text ≢ []) × ((rest : List ℕ) → text ≢ header ++ rest) × (at ≡ 0)
+HasFault text (Malformed Truncated at) = (IsCutHead text × (at ≡ length text)) ⊎ InLine IsCutAtEnd text at
+HasFault text (Malformed BadSection at) = IsMisheaded text at ⊎ IsMisplaced text at
+HasFault text (Malformed BadNumber at) = InLine IsMisnumbered text at
+HasFault text (Malformed BadWord at) = InLine IsMisworded text at
+HasFault text (Malformed BadIndent at) = InLine IsMisindented text at
+HasFault text (Malformed TooDeep at) = InLine IsTooDeep text at
 HasFault text OutOfMemory = ⊥
 
 -- ---- what appending can change
 
 -- a fault other than a missing header and a cut
 abbrev pub IsFinal : MagicFault → Type 0
-IsFinal (NoHeader at) = ⊥
-IsFinal (Truncated at) = ⊥
-IsFinal (BadSection at) = Unit {0}
-IsFinal (BadNumber at) = Unit {0}
-IsFinal (BadWord at) = Unit {0}
-IsFinal (BadIndent at) = Unit {0}
-IsFinal (TooDeep at) = Unit {0}
+IsFinal (Malformed kind at) = (kind ≢ NoHeader) × (kind ≢ Truncated)
 IsFinal OutOfMemory = ⊥
 
 -- something can be appended with which the text is whole, or has a fault other than these two
@@ -290,4 +285,4 @@ CanGoOn text fault = (more : List ℕ) × (((parts : List PlainFlatSection) × M
 
 -- a text with this fault can go on: it is cut, or it ends inside the header or a marker
 abbrev pub IsOpen : List ℕ → MagicFault → Type 0
-IsOpen text fault = (fault ≡ Truncated (length text)) ⊎ (EndsInHeader text ⊎ EndsInMarker text)
+IsOpen text fault = (fault ≡ Malformed Truncated (length text)) ⊎ (EndsInHeader text ⊎ EndsInMarker text)

@@ -5,7 +5,8 @@ use Rattle.std.proofs.Common.{sym, ap, subst, ◌∙◌, inl, inr}
 use Rattle.std.proofs.lemmas.Bool.{and_parts, ltb-true, leb-true, eqb-false, not-true, lt-ltb, false≢true}
 use Rattle.mime_base.specs.Magic.{PlainLine}
 use Rattle.mime_base.specs.Names.{is_type_name}
-use Rattle.mime_text.specs.declared.magic.fault.MagicFault.TheVariants.{NoHeader, Truncated, BadSection, BadNumber, BadWord, BadIndent}
+use Rattle.mime_text.specs.declared.magic.fault.MagicFault.TheVariants.{Malformed}
+use Rattle.mime_text.specs.declared.magic.fault.MagicFaultKind.TheVariants.{NoHeader, Truncated, BadSection, BadNumber, BadWord, BadIndent}
 use Rattle.mime_text.specs.Magic.Reading.{is_digit, after_prefix, marker_at, header}
 use Rattle.mime_text.specs.Magic.Text.{value_of, AreDigits, IsNumber, NoNewline, BeginsMarker}
 use Rattle.mime_text.specs.Magic.FaultTable.{AreWhole, IsBeforeLine, IsToIndent, IsToStart, IsToMask, IsToEnd, before_start, in_value, bad_number, large_sum, too_far, IsTooDeep, IsHead, HasFault}
@@ -157,12 +158,12 @@ whole_line = record {
 -- ---- the worked faults
 
 -- the four bytes `MIME`
-no_header : HasFault (codes "MIME") (NoHeader 0)
+no_header : HasFault (codes "MIME") (Malformed NoHeader 0)
 unfolding computing
 no_header = (λ e. subst AreSome e tt, λ rest e. subst IsThere (sym (ap (after_prefix header) e)) tt, refl)
 
 -- `>0=` 00 05 `ab` newline
-cut_value : HasFault (front ++ codes ">0=" ++ 0 ∷ 5 ∷ codes "ab" ++ 10 ∷ []) (Truncated 29)
+cut_value : HasFault (front ++ codes ">0=" ++ 0 ∷ 5 ∷ codes "ab" ++ 10 ∷ []) (Malformed Truncated 29)
 unfolding computing
 cut_value = inr (record {
   limit = 0;
@@ -177,7 +178,7 @@ cut_value = inr (record {
 })
 
 -- `[x:t/a]` newline
-no_priority : HasFault (header ++ codes "[x:t/a]" ++ 10 ∷ []) (BadSection 12)
+no_priority : HasFault (header ++ codes "[x:t/a]" ++ 10 ∷ []) (Malformed BadSection 12)
 no_priority = inl (record {
   before = header;
   row = codes "x:t/a]";
@@ -190,7 +191,7 @@ no_priority = inl (record {
 })
 
 -- a marker before the first section
-no_section : HasFault (header ++ codes ">0__NOMAGIC__" ++ 10 ∷ []) (BadSection 12)
+no_section : HasFault (header ++ codes ">0__NOMAGIC__" ++ 10 ∷ []) (Malformed BadSection 12)
 no_section = inr (record {
   before = header;
   first = 62;
@@ -203,7 +204,7 @@ no_section = inr (record {
 })
 
 -- `>=` 00 01 `a` newline
-no_start : HasFault (front ++ codes ">=" ++ 0 ∷ 1 ∷ codes "a" ++ 10 ∷ []) (BadNumber 22)
+no_start : HasFault (front ++ codes ">=" ++ 0 ∷ 1 ∷ codes "a" ++ 10 ∷ []) (Malformed BadNumber 22)
 unfolding computing
 no_start = record {
   limit = 0;
@@ -225,7 +226,7 @@ no_start = record {
 }
 
 -- `>4294967294=` 00 01 `a` newline
-large_line : HasFault (front ++ codes ">4294967294=" ++ 0 ∷ 1 ∷ codes "a" ++ 10 ∷ []) (BadNumber 21)
+large_line : HasFault (front ++ codes ">4294967294=" ++ 0 ∷ 1 ∷ codes "a" ++ 10 ∷ []) (Malformed BadNumber 21)
 unfolding computing
 large_line = record {
   limit = 0;
@@ -240,7 +241,7 @@ large_line = record {
 }
 
 -- `>0=` 00 03 `abc~2` newline
-odd_word : HasFault (front ++ codes ">0=" ++ 0 ∷ 3 ∷ codes "abc~2" ++ 10 ∷ []) (BadWord 30)
+odd_word : HasFault (front ++ codes ">0=" ++ 0 ∷ 3 ∷ codes "abc~2" ++ 10 ∷ []) (Malformed BadWord 30)
 unfolding computing
 odd_word = record {
   limit = 0;
@@ -268,7 +269,7 @@ odd_word = record {
 }
 
 -- `1>0=` 00 01 `a` newline
-first_indent : HasFault (front ++ codes "1>0=" ++ 0 ∷ 1 ∷ codes "a" ++ 10 ∷ []) (BadIndent 21)
+first_indent : HasFault (front ++ codes "1>0=" ++ 0 ∷ 1 ∷ codes "a" ++ 10 ∷ []) (Malformed BadIndent 21)
 unfolding computing
 first_indent = record {
   limit = 0;

@@ -1,11 +1,12 @@
 -- Numbers of lines on both sides of each limit, with their faults. Each law computes.
 use Rattle.std.specs.Prelude.{◌≡◌, [], ◌∷◌, ◌++◌, codes, Some, None, refl}
-use Rattle.mime_text.specs.declared.magic.fault.MagicFault.TheVariants.{BadNumber, BadWord, BadIndent}
+use Rattle.mime_text.specs.declared.magic.fault.MagicFault.TheVariants.{Malformed}
+use Rattle.mime_text.specs.declared.magic.fault.MagicFaultKind.TheVariants.{BadNumber, BadWord, BadIndent}
 use Rattle.mime_text.specs.Magic.Reading.{magic_fault}
 use Rattle.mime_text.specs.Magic.Rows.{computing, section}
 
 -- a start with another byte than `=` after it
-no_equals : magic_fault (section (codes ">0-" ++ 0 ∷ 1 ∷ codes "a" ++ 10 ∷ [])) ≡ Some (BadNumber 22)
+no_equals : magic_fault (section (codes ">0-" ++ 0 ∷ 1 ∷ codes "a" ++ 10 ∷ [])) ≡ Some (Malformed BadNumber 22)
 unfolding computing
 no_equals = refl
 
@@ -15,12 +16,12 @@ unfolding computing
 start_zeros = refl
 
 -- a start that is one too large
-large_start : magic_fault (section (codes ">4294967296=" ++ 0 ∷ 0 ∷ 10 ∷ [])) ≡ Some (BadNumber 22)
+large_start : magic_fault (section (codes ">4294967296=" ++ 0 ∷ 0 ∷ 10 ∷ [])) ≡ Some (Malformed BadNumber 22)
 unfolding computing
 large_start = refl
 
 -- the greatest start passes as a number, but not the sum with the range 1
-greatest_start : magic_fault (section (codes ">4294967295=" ++ 0 ∷ 0 ∷ 10 ∷ [])) ≡ Some (BadNumber 21)
+greatest_start : magic_fault (section (codes ">4294967295=" ++ 0 ∷ 0 ∷ 10 ∷ [])) ≡ Some (Malformed BadNumber 21)
 unfolding computing
 greatest_start = refl
 
@@ -30,17 +31,17 @@ unfolding computing
 start_in_sum = refl
 
 -- `+` without a number
-no_range : magic_fault (section (codes ">0=" ++ 0 ∷ 1 ∷ codes "a+" ++ 10 ∷ [])) ≡ Some (BadNumber 28)
+no_range : magic_fault (section (codes ">0=" ++ 0 ∷ 1 ∷ codes "a+" ++ 10 ∷ [])) ≡ Some (Malformed BadNumber 28)
 unfolding computing
 no_range = refl
 
 -- a range that is one too large
-large_range : magic_fault (section (codes ">0=" ++ 0 ∷ 1 ∷ codes "a+4294967296" ++ 10 ∷ [])) ≡ Some (BadNumber 28)
+large_range : magic_fault (section (codes ">0=" ++ 0 ∷ 1 ∷ codes "a+4294967296" ++ 10 ∷ [])) ≡ Some (Malformed BadNumber 28)
 unfolding computing
 large_range = refl
 
 -- the greatest range passes as a number, but not the sum with the length 1
-greatest_range : magic_fault (section (codes ">0=" ++ 0 ∷ 1 ∷ codes "a+4294967295" ++ 10 ∷ [])) ≡ Some (BadNumber 21)
+greatest_range : magic_fault (section (codes ">0=" ++ 0 ∷ 1 ∷ codes "a+4294967295" ++ 10 ∷ [])) ≡ Some (Malformed BadNumber 21)
 unfolding computing
 greatest_range = refl
 
@@ -50,32 +51,32 @@ unfolding computing
 range_in_sum = refl
 
 -- an indent that is one too large for a number
-large_indent : magic_fault (section (codes "4294967296>0=" ++ 0 ∷ 1 ∷ codes "a" ++ 10 ∷ [])) ≡ Some (BadNumber 21)
+large_indent : magic_fault (section (codes "4294967296>0=" ++ 0 ∷ 1 ∷ codes "a" ++ 10 ∷ [])) ≡ Some (Malformed BadNumber 21)
 unfolding computing
 large_indent = refl
 
 -- an indent that passes as a number
-greatest_indent : magic_fault (section (codes "4294967295>0=" ++ 0 ∷ 1 ∷ codes "a" ++ 10 ∷ [])) ≡ Some (BadIndent 21)
+greatest_indent : magic_fault (section (codes "4294967295>0=" ++ 0 ∷ 1 ∷ codes "a" ++ 10 ∷ [])) ≡ Some (Malformed BadIndent 21)
 unfolding computing
 greatest_indent = refl
 
 -- `~` without a number
-no_word : magic_fault (section (codes ">0=" ++ 0 ∷ 1 ∷ codes "a~" ++ 10 ∷ [])) ≡ Some (BadNumber 28)
+no_word : magic_fault (section (codes ">0=" ++ 0 ∷ 1 ∷ codes "a~" ++ 10 ∷ [])) ≡ Some (Malformed BadNumber 28)
 unfolding computing
 no_word = refl
 
 -- a word that is one too large for a number
-large_word : magic_fault (section (codes ">0=" ++ 0 ∷ 1 ∷ codes "a~4294967296" ++ 10 ∷ [])) ≡ Some (BadNumber 28)
+large_word : magic_fault (section (codes ">0=" ++ 0 ∷ 1 ∷ codes "a~4294967296" ++ 10 ∷ [])) ≡ Some (Malformed BadNumber 28)
 unfolding computing
 large_word = refl
 
 -- a word that passes as a number
-greatest_word : magic_fault (section (codes ">0=" ++ 0 ∷ 1 ∷ codes "a~4294967295" ++ 10 ∷ [])) ≡ Some (BadWord 28)
+greatest_word : magic_fault (section (codes ">0=" ++ 0 ∷ 1 ∷ codes "a~4294967295" ++ 10 ∷ [])) ≡ Some (Malformed BadWord 28)
 unfolding computing
 greatest_word = refl
 
 -- the word 0
-word_0 : magic_fault (section (codes ">0=" ++ 0 ∷ 1 ∷ codes "a~0" ++ 10 ∷ [])) ≡ Some (BadWord 28)
+word_0 : magic_fault (section (codes ">0=" ++ 0 ∷ 1 ∷ codes "a~0" ++ 10 ∷ [])) ≡ Some (Malformed BadWord 28)
 unfolding computing
 word_0 = refl
 
@@ -90,12 +91,12 @@ unfolding computing
 word_2 = refl
 
 -- the word 2, which does not divide the length 1
-word_2_of_1 : magic_fault (section (codes ">0=" ++ 0 ∷ 1 ∷ codes "a~2" ++ 10 ∷ [])) ≡ Some (BadWord 28)
+word_2_of_1 : magic_fault (section (codes ">0=" ++ 0 ∷ 1 ∷ codes "a~2" ++ 10 ∷ [])) ≡ Some (Malformed BadWord 28)
 unfolding computing
 word_2_of_1 = refl
 
 -- the word 3
-word_3 : magic_fault (section (codes ">0=" ++ 0 ∷ 3 ∷ codes "abc~3" ++ 10 ∷ [])) ≡ Some (BadWord 30)
+word_3 : magic_fault (section (codes ">0=" ++ 0 ∷ 3 ∷ codes "abc~3" ++ 10 ∷ [])) ≡ Some (Malformed BadWord 30)
 unfolding computing
 word_3 = refl
 
@@ -105,12 +106,12 @@ unfolding computing
 word_4 = refl
 
 -- the word 4, which does not divide the length 2
-word_4_of_2 : magic_fault (section (codes ">0=" ++ 0 ∷ 2 ∷ codes "ab~4" ++ 10 ∷ [])) ≡ Some (BadWord 29)
+word_4_of_2 : magic_fault (section (codes ">0=" ++ 0 ∷ 2 ∷ codes "ab~4" ++ 10 ∷ [])) ≡ Some (Malformed BadWord 29)
 unfolding computing
 word_4_of_2 = refl
 
 -- the word 8
-word_8 : magic_fault (section (codes ">0=" ++ 0 ∷ 8 ∷ codes "abcdefgh~8" ++ 10 ∷ [])) ≡ Some (BadWord 35)
+word_8 : magic_fault (section (codes ">0=" ++ 0 ∷ 8 ∷ codes "abcdefgh~8" ++ 10 ∷ [])) ≡ Some (Malformed BadWord 35)
 unfolding computing
 word_8 = refl
 

@@ -3,12 +3,17 @@ use Rattle.std.specs.Prelude.{◌≡◌, ℕ, zero, suc, ◌+◌, ◌-◌, ◌*�
 use Rattle.mime_base.specs.Magic.{PlainLine, line_from, fits_word}
 use Rattle.mime_base.specs.Names.{is_type_name}
 use Rattle.mime_text.specs.declared.magic.fault.Fault.{Fault}
-use Rattle.mime_text.specs.declared.magic.fault.Fault.TheVariants.{NoHeader, Truncated, BadSection, BadNumber, BadWord, BadIndent, TooDeep}
+use Rattle.mime_text.specs.declared.magic.fault.MagicFaultKind.{MagicFaultKind}
+use Rattle.mime_text.specs.declared.magic.fault.MagicFaultKind.TheVariants.{NoHeader, Truncated, BadSection, BadNumber, BadWord, BadIndent, TooDeep}
 use Rattle.mime_text.specs.declared.magic.fault.MagicFault.{MagicFault}
 use Rattle.mime_text.specs.declared.magic.fault.MagicFault.TheVariants as faults
 use Rattle.mime_text.specs.declared.magic.fault.ReadError.{ReadError}
 use Rattle.mime_text.specs.declared.magic.fault.ReadError.TheVariants as errors
 use Rattle.mime_text.specs.Magic.Entries.{PlainRole, kept, ignored, marker, PlainEntry, PlainFlatSection}
+
+-- a fault of this kind, where so many bytes are left
+abbrev pub fault_at : MagicFaultKind → ℕ → Fault
+fault_at kind left = record { kind = kind; left = left }
 
 infixl 10 ◌>>=◌
 -- one step of reading after another: the second goes on where the first ended, or the first fault stands
@@ -44,45 +49,45 @@ digits_at n (b ∷ bytes) = if is_digit b then digits_at (n * 10 + (b - 48)) byt
 
 -- a number is judged at the byte after it; `here` is the fault of a missing or large one
 unfoldable pub judged : Fault → ℕ → ℕ × List ℕ → Result (ℕ × List ℕ) Fault
-judged here size (n, []) = Err (Truncated 0)
+judged here size (n, []) = Err (fault_at Truncated 0)
 judged here size (n, b ∷ rest) =
     if (length (b ∷ rest) == size) || nat_le 4294967296 n then Err here else Ok (n, b ∷ rest)
 
 -- one or more digits, with a value below 2 ^ 32
 unfoldable pub number_at : List ℕ → Result (ℕ × List ℕ) Fault
-number_at bytes = judged (BadNumber (length bytes)) (length bytes) (digits_at 0 bytes)
+number_at bytes = judged (fault_at BadNumber (length bytes)) (length bytes) (digits_at 0 bytes)
 
 -- ---- the parts of a line
 
 -- one byte that has to stand here
 unfoldable pub byte_at : ℕ → Fault → List ℕ → Result (List ℕ) Fault
-byte_at want wrong [] = Err (Truncated 0)
+byte_at want wrong [] = Err (fault_at Truncated 0)
 byte_at want wrong (b ∷ bytes) = if b == want then Ok bytes else Err wrong
 
 -- nothing or a number, and `>`
 unfoldable pub indent_at : List ℕ → Result (ℕ × List ℕ) Fault
-indent_at [] = Err (Truncated 0)
+indent_at [] = Err (fault_at Truncated 0)
 indent_at (b ∷ bytes) = if b == 62 then Ok (0, bytes) else (do
   n ← number_at (b ∷ bytes)
-  rest ← byte_at 62 (BadIndent (length (b ∷ bytes))) n.1
+  rest ← byte_at 62 (fault_at BadIndent (length (b ∷ bytes))) n.1
   Ok (n.0, rest))
 
 -- a number and `=`
 unfoldable pub start_at : List ℕ → Result (ℕ × List ℕ) Fault
 start_at bytes = do
   n ← number_at bytes
-  rest ← byte_at 61 (BadNumber (length bytes)) n.1
+  rest ← byte_at 61 (fault_at BadNumber (length bytes)) n.1
   Ok (n.0, rest)
 
 -- so many bytes
 unfoldable pub bytes_at : ℕ → List ℕ → Result (List ℕ × List ℕ) Fault
 bytes_at n bytes =
-    if nat_lt (length bytes) n then Err (Truncated 0) else Ok (take n bytes, drop n bytes)
+    if nat_lt (length bytes) n then Err (fault_at Truncated 0) else Ok (take n bytes, drop n bytes)
 
 -- two bytes of length, the higher first, and that many bytes
 unfoldable pub value_at : List ℕ → Result (List ℕ × List ℕ) Fault
-value_at [] = Err (Truncated 0)
-value_at (high ∷ []) = Err (Truncated 0)
+value_at [] = Err (fault_at Truncated 0)
+value_at (high ∷ []) = Err (fault_at Truncated 0)
 value_at (high ∷ low ∷ bytes) = bytes_at (256 * high + low) bytes
 
 -- nothing, or `&` and so many bytes
@@ -97,7 +102,7 @@ unfoldable pub word_at : ℕ → List ℕ → Result (ℕ × List ℕ) Fault
 word_at size [] = Ok (1, [])
 word_at size (b ∷ bytes) = if b == 126 then (do
   n ← number_at bytes
-  if fits_word n.0 size then Ok n else Err (BadWord (length bytes))) else Ok (1, b ∷ bytes)
+  if fits_word n.0 size then Ok n else Err (fault_at BadWord (length bytes))) else Ok (1, b ∷ bytes)
 
 -- nothing for 1, or `+` and a number
 unfoldable pub range_at : List ℕ → Result (ℕ × List ℕ) Fault
@@ -106,7 +111,7 @@ range_at (b ∷ bytes) = if b == 43 then number_at bytes else Ok (1, b ∷ bytes
 
 -- the bytes before the next newline, and those after it
 unfoldable pub row_at : List ℕ → Result (List ℕ × List ℕ) Fault
-row_at [] = Err (Truncated 0)
+row_at [] = Err (fault_at Truncated 0)
 row_at (b ∷ bytes) = if b == 10 then Ok ([], bytes) else (do
   row ← row_at bytes
   Ok (b ∷ row.0, row.1))
@@ -124,7 +129,7 @@ body_at bytes = do
 -- a line that ends in a newline, which has been read; `left` bytes are left at the line's first byte
 abbrev pub kept_at : ℕ → PlainLine → List ℕ → Result (PlainRole × List ℕ) Fault
 kept_at left own bytes =
-    if nat_le 4294967296 (own.start + own.range + length own.value) then Err (BadNumber left) else Ok (kept own, bytes)
+    if nat_le 4294967296 (own.start + own.range + length own.value) then Err (fault_at BadNumber left) else Ok (kept own, bytes)
 
 -- a line whose next byte, which has been read, makes it ignored: the bytes up to its newline
 abbrev pub ignored_at : List ℕ → Result (PlainRole × List ℕ) Fault
@@ -134,15 +139,15 @@ ignored_at bytes = do
 
 -- the end of a line: a newline, or another byte
 unfoldable pub end_at : ℕ → PlainLine → List ℕ → Result (PlainRole × List ℕ) Fault
-end_at left own [] = Err (Truncated 0)
+end_at left own [] = Err (fault_at Truncated 0)
 end_at left own (b ∷ bytes) = if b == 10 then kept_at left own bytes else ignored_at bytes
 
 -- a line whose indent may be at most `limit`
 unfoldable pub line_at : ℕ → List ℕ → Result (PlainEntry × List ℕ) Fault
 line_at limit bytes = do
   indent ← indent_at bytes
-  if nat_lt limit indent.0 then Err (BadIndent (length bytes))
-      else (if nat_le 64 indent.0 then Err (TooDeep (length bytes)) else (do
+  if nat_lt limit indent.0 then Err (fault_at BadIndent (length bytes))
+      else (if nat_le 64 indent.0 then Err (fault_at TooDeep (length bytes)) else (do
         body ← body_at indent.1
         role ← end_at (length bytes) body.0 body.1
         Ok (record { indent = indent.0; role = role.0 }, role.1)))
@@ -222,11 +227,11 @@ instead wrong (Err e) = Err wrong
 
 -- a head; whatever is wrong in its row is wrong at its first byte
 unfoldable pub head_at : List ℕ → Result ((ℕ × List ℕ) × List ℕ) Fault
-head_at [] = Err (Truncated 0)
+head_at [] = Err (fault_at Truncated 0)
 head_at (b ∷ bytes) = if b == 91 then (do
   row ← row_at bytes
-  head ← instead (BadSection (length (b ∷ bytes))) (head_of (BadSection (length (b ∷ bytes))) row.0)
-  Ok (head, row.1)) else Err (BadSection (length (b ∷ bytes)))
+  head ← instead (fault_at BadSection (length (b ∷ bytes))) (head_of (fault_at BadSection (length (b ∷ bytes))) row.0)
+  Ok (head, row.1)) else Err (fault_at BadSection (length (b ∷ bytes)))
 
 -- a head and its lines
 unfoldable pub section_at : List ℕ → Result (PlainFlatSection × List ℕ) Fault
@@ -252,7 +257,7 @@ header = codes "MIME-Magic" ++ 0 ∷ 10 ∷ []
 
 -- the sections after the header
 abbrev pub below_header : ℕ → Option (List ℕ) → Result (List PlainFlatSection) Fault
-below_header size None = Err (NoHeader size)
+below_header size None = Err (fault_at NoHeader size)
 below_header size (Some rest) = sections_at (length rest) rest
 
 -- nothing, or the header and sections
@@ -264,13 +269,7 @@ whole (b ∷ bytes) = below_header (length (b ∷ bytes)) (after_prefix header (
 
 -- a fault with its offset, in a text of so many bytes
 abbrev pub placed : ℕ → Fault → MagicFault
-placed size (NoHeader left) = faults.NoHeader (size - left)
-placed size (Truncated left) = faults.Truncated (size - left)
-placed size (BadSection left) = faults.BadSection (size - left)
-placed size (BadNumber left) = faults.BadNumber (size - left)
-placed size (BadWord left) = faults.BadWord (size - left)
-placed size (BadIndent left) = faults.BadIndent (size - left)
-placed size (TooDeep left) = faults.TooDeep (size - left)
+placed size fault = faults.Malformed fault.kind (size - fault.left)
 
 -- the same for an error of a reader
 abbrev pub placed_error : ℕ → ReadError → MagicFault

@@ -3,7 +3,8 @@ use Rattle.std.specs.Prelude.{◌≡◌, ℕ, zero, suc, ◌+◌, ◌/◌, ◌%�
 use Rattle.mime_base.specs.Magic.{bare, line, PlainSection}
 use Rattle.mime_base.specs.Names.{is_type_name}
 use Rattle.mime_text.specs.declared.magic.fault.Fault.{Fault}
-use Rattle.mime_text.specs.declared.magic.fault.MagicFault.TheVariants.{NoHeader, Truncated, BadSection, BadNumber, BadWord, BadIndent, TooDeep}
+use Rattle.mime_text.specs.declared.magic.fault.MagicFault.TheVariants.{Malformed}
+use Rattle.mime_text.specs.declared.magic.fault.MagicFaultKind.TheVariants.{NoHeader, Truncated, BadSection, BadNumber, BadWord, BadIndent, TooDeep}
 use Rattle.mime_text.specs.Magic.Reading.{◌>>=◌, digits_at, judged, number_at, byte_at, indent_at, start_at, bytes_at, value_at, mask_at, word_at, range_at, row_at, body_at, end_at, line_at, after_prefix, marker_at, entry_at, lines_at, kind_of, head_of, head_at, section_at, sections_at, header, whole, magic_fault}
 use Rattle.mime_text.specs.Magic.Forest.{roots_of, forest}
 use Rattle.mime_text.specs.Magic.File.{kept_sections, deleted_kinds}
@@ -49,27 +50,27 @@ unfolding computing
 no_bytes = refl
 
 -- the four bytes `MIME`
-no_header : magic_fault (codes "MIME") ≡ Some (NoHeader 0)
+no_header : magic_fault (codes "MIME") ≡ Some (Malformed NoHeader 0)
 unfolding computing
 no_header = refl
 
 -- `>0=` 00 05 `ab` newline
-cut_value : magic_fault (section (codes ">0=" ++ 0 ∷ 5 ∷ codes "ab" ++ 10 ∷ [])) ≡ Some (Truncated 29)
+cut_value : magic_fault (section (codes ">0=" ++ 0 ∷ 5 ∷ codes "ab" ++ 10 ∷ [])) ≡ Some (Malformed Truncated 29)
 unfolding computing
 cut_value = refl
 
 -- `[x:t/a]` newline
-no_priority : magic_fault (header ++ codes "[x:t/a]" ++ 10 ∷ []) ≡ Some (BadSection 12)
+no_priority : magic_fault (header ++ codes "[x:t/a]" ++ 10 ∷ []) ≡ Some (Malformed BadSection 12)
 unfolding computing
 no_priority = refl
 
 -- `>=` 00 01 `a` newline
-no_start : magic_fault (section (codes ">=" ++ 0 ∷ 1 ∷ codes "a" ++ 10 ∷ [])) ≡ Some (BadNumber 22)
+no_start : magic_fault (section (codes ">=" ++ 0 ∷ 1 ∷ codes "a" ++ 10 ∷ [])) ≡ Some (Malformed BadNumber 22)
 unfolding computing
 no_start = refl
 
 -- `>4294967294=` 00 01 `a` newline
-large_sum : magic_fault (section (codes ">4294967294=" ++ 0 ∷ 1 ∷ codes "a" ++ 10 ∷ [])) ≡ Some (BadNumber 21)
+large_sum : magic_fault (section (codes ">4294967294=" ++ 0 ∷ 1 ∷ codes "a" ++ 10 ∷ [])) ≡ Some (Malformed BadNumber 21)
 unfolding computing
 large_sum = refl
 
@@ -79,12 +80,12 @@ unfolding computing
 largest_sum = refl
 
 -- `>0=` 00 03 `abc~2` newline
-odd_word : magic_fault (section (codes ">0=" ++ 0 ∷ 3 ∷ codes "abc~2" ++ 10 ∷ [])) ≡ Some (BadWord 30)
+odd_word : magic_fault (section (codes ">0=" ++ 0 ∷ 3 ∷ codes "abc~2" ++ 10 ∷ [])) ≡ Some (Malformed BadWord 30)
 unfolding computing
 odd_word = refl
 
 -- `1>0=` 00 01 `a` newline
-first_indent : magic_fault (section (codes "1>0=" ++ 0 ∷ 1 ∷ codes "a" ++ 10 ∷ [])) ≡ Some (BadIndent 21)
+first_indent : magic_fault (section (codes "1>0=" ++ 0 ∷ 1 ∷ codes "a" ++ 10 ∷ [])) ≡ Some (Malformed BadIndent 21)
 unfolding computing
 first_indent = refl
 
@@ -99,7 +100,7 @@ unfolding computing
 sixty_four_levels = refl
 
 -- 64 lines of 9 bytes stand before the last
-sixty_five_levels : magic_fault (section (levels 0 65)) ≡ Some (TooDeep 597)
+sixty_five_levels : magic_fault (section (levels 0 65)) ≡ Some (Malformed TooDeep 597)
 unfolding computing
 sixty_five_levels = refl
 
@@ -126,7 +127,7 @@ unfolding computing
 marker_and_line = refl
 
 -- `>0=__NOMAGIC__x` newline: `__` is a length of 24,415
-longer_than_marker : magic_fault (section (codes ">0=__NOMAGIC__x" ++ 10 ∷ [])) ≡ Some (Truncated 37)
+longer_than_marker : magic_fault (section (codes ">0=__NOMAGIC__x" ++ 10 ∷ [])) ≡ Some (Malformed Truncated 37)
 unfolding computing
 longer_than_marker = refl
 
@@ -145,22 +146,22 @@ unfolding computing
 ignored_magic_line = refl
 
 -- a marker before the first section
-no_section : magic_fault (header ++ codes ">0__NOMAGIC__" ++ 10 ∷ []) ≡ Some (BadSection 12)
+no_section : magic_fault (header ++ codes ">0__NOMAGIC__" ++ 10 ∷ []) ≡ Some (Malformed BadSection 12)
 unfolding computing
 no_section = refl
 
 -- `0>0__NOMAGIC__` newline is a line, whose start has no `=`
-no_marker_behind_an_indent : magic_fault (section (codes "0>0__NOMAGIC__" ++ 10 ∷ [])) ≡ Some (BadNumber 23)
+no_marker_behind_an_indent : magic_fault (section (codes "0>0__NOMAGIC__" ++ 10 ∷ [])) ≡ Some (Malformed BadNumber 23)
 unfolding computing
 no_marker_behind_an_indent = refl
 
 -- a short marker that is cut
-cut_marker : magic_fault (section (codes ">0__NOMAG")) ≡ Some (BadNumber 22)
+cut_marker : magic_fault (section (codes ">0__NOMAG")) ≡ Some (Malformed BadNumber 22)
 unfolding computing
 cut_marker = refl
 
 -- `[50:t/a]x` newline
-behind_the_bracket : magic_fault (header ++ codes "[50:t/a]x" ++ 10 ∷ []) ≡ Some (BadSection 12)
+behind_the_bracket : magic_fault (header ++ codes "[50:t/a]x" ++ 10 ∷ []) ≡ Some (Malformed BadSection 12)
 unfolding computing
 behind_the_bracket = refl
 

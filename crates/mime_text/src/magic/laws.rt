@@ -7,7 +7,8 @@ ghost use Rattle.mime_text.specs.Magic.Forest.{IsByRuns, forest};
 ghost use Rattle.mime_text.specs.Magic.Reading.{magic_fault};
 ghost use Rattle.mime_text.specs.Magic.Text.{MagicText};
 ghost use Rattle.mime_text.specs.declared.magic.fault.MagicFault.{MagicFault};
-ghost use Rattle.mime_text.specs.declared.magic.fault.MagicFault.TheVariants.{Truncated};
+ghost use Rattle.mime_text.specs.declared.magic.fault.MagicFault.TheVariants.{Malformed};
+ghost use Rattle.mime_text.specs.declared.magic.fault.MagicFaultKind.TheVariants.{Truncated};
 
 /// Each text spells sections or has a fault, never both, and no two lists of sections.
 pub fn magic_text_or_fault()
@@ -46,5 +47,5 @@ pub fn faults_stay()
 pub fn truncated_can_go_on()
     ensures goes_on { (text : List ℕ) (fault : MagicFault) → HasFault text fault →
         CanGoOn text fault ↔ IsOpen text fault }
-    ensures ends { (text : List ℕ) (at : ℕ) → HasFault text (Truncated at) → CanEnd text }
+    ensures ends { (text : List ℕ) (at : ℕ) → HasFault text (Malformed Truncated at) → CanEnd text }
 {}

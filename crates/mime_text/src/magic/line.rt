@@ -6,7 +6,7 @@ ghost use Rattle.mime_text.specs.Magic.Entries.{plain_raw_line, plain_entry, pla
 ghost use Rattle.mime_text.specs.Magic.Reading.{Reads, ReadsIfMemory, body_at, bytes_at, end_at, indent_at, line_at, mask_at, range_at, row_at, start_at, value_at, word_at};
 
 use super::entry::{Entry, Line, Role};
-use super::fault::{Fault, ReadError};
+use super::fault::{Fault, MagicFaultKind, ReadError, fault_at};
 use super::number::{LIMIT, byte, number};
 use memchr::memchr;
 use std::alloc::Global;
@@ -29,7 +29,7 @@ pub fn row(bytes: &[u8]) -> Result<(&[u8], &[u8]), Fault>
     ensures { Reads (λ x. (x.0.now, x.1.now)) result (row_at bytes.now) }
 {
     let Some(end) = memchr(b'\n', bytes) else {
-        return Err(Fault::Truncated(0));
+        return Err(Fault::TRUNCATED);
     };
     Ok((&bytes[..end], &bytes[end + 1..]))
 }
@@ -39,11 +39,11 @@ fn indent(bytes: &[u8]) -> Result<(u32, &[u8]), Fault>
     ensures { Reads (λ x. (x.0, x.1.now)) result (indent_at bytes.now) }
 {
     match bytes {
-        [] => Err(Fault::Truncated(0)),
+        [] => Err(Fault::TRUNCATED),
         [b'>', rest @ ..] => Ok((0, rest)),
         [_, ..] => {
             let (indent, rest) = number(bytes)?;
-            let rest = byte(b'>', Fault::BadIndent(bytes.len()), rest)?;
+            let rest = byte(b'>', fault_at(MagicFaultKind::BadIndent, bytes), rest)?;
             Ok((indent, rest))
         }
     }
@@ -54,7 +54,7 @@ fn start(bytes: &[u8]) -> Result<(u32, &[u8]), Fault>
     ensures { Reads (λ x. (x.0, x.1.now)) result (start_at bytes.now) }
 {
     let (start, rest) = number(bytes)?;
-    let rest = byte(b'=', Fault::BadNumber(bytes.len()), rest)?;
+    let rest = byte(b'=', fault_at(MagicFaultKind::BadNumber, bytes), rest)?;
     Ok((start, rest))
 }
 
@@ -63,7 +63,7 @@ fn some_bytes(bytes: &[u8], n: usize) -> Result<(&[u8], &[u8]), Fault>
     ensures { Reads (λ x. (x.0.now, x.1.now)) result (bytes_at n bytes.now) }
 {
     if bytes.len() < n {
-        return Err(Fault::Truncated(0));
+        return Err(Fault::TRUNCATED);
     }
     Ok(bytes.split_at(n))
 }
@@ -73,8 +73,8 @@ fn value(bytes: &[u8]) -> Result<(&[u8], &[u8]), Fault>
     ensures { Reads (λ x. (x.0.now, x.1.now)) result (value_at bytes.now) }
 {
     match bytes {
-        [] => Err(Fault::Truncated(0)),
-        [_] => Err(Fault::Truncated(0)),
+        [] => Err(Fault::TRUNCATED),
+        [_] => Err(Fault::TRUNCATED),
         [high, low, rest @ ..] => {
             let (value, rest) = some_bytes(rest, 256 * usize::from(*high) + usize::from(*low))?;
             Ok((value, rest))
@@ -110,7 +110,7 @@ fn word(bytes: &[u8], size: usize) -> Result<(u32, &[u8]), Fault>
         [b'~', rest @ ..] => {
             let (word, after) = number(rest)?;
             if !fits_word(word, size) {
-                return Err(Fault::BadWord(rest.len()));
+                return Err(fault_at(MagicFaultKind::BadWord, rest));
             }
             Ok((word, after))
         }
@@ -184,10 +184,13 @@ fn end<'a>(
         (end_at left (plain_raw_line body.entry) bytes.now) }
 {
     match bytes {
-        [] => Err(ReadError::Fault(Fault::Truncated(0))),
+        [] => Err(ReadError::Fault(Fault::TRUNCATED)),
         [b'\n', rest @ ..] => {
             if u64::from(body.start) + u64::from(body.range) + body.value.len() as u64 >= LIMIT {
-                return Err(ReadError::Fault(Fault::BadNumber(left)));
+                return Err(ReadError::Fault(Fault {
+                    kind: MagicFaultKind::BadNumber,
+                    left,
+                }));
             }
             let line = copied(alloc, body)?;
             Ok((Role::Kept(line), rest))
@@ -206,10 +209,10 @@ pub fn line(alloc: Global, limit: u32, bytes: &[u8]) -> Result<(Entry, &[u8]), R
 {
     let (indent, rest) = indent(bytes)?;
     if indent > limit {
-        return Err(ReadError::Fault(Fault::BadIndent(bytes.len())));
+        return Err(ReadError::Fault(fault_at(MagicFaultKind::BadIndent, bytes)));
     }
     if indent >= LEVELS {
-        return Err(ReadError::Fault(Fault::TooDeep(bytes.len())));
+        return Err(ReadError::Fault(fault_at(MagicFaultKind::TooDeep, bytes)));
     }
     let (body, rest) = body(rest)?;
     let (role, rest) = end(alloc, bytes.len(), body, rest)?;

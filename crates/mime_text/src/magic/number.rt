@@ -3,7 +3,7 @@
 ghost use Rattle.std.specs.Prelude.{◌≡◌, min};
 ghost use Rattle.mime_text.specs.Magic.Reading.{Reads, byte_at, digits_at, is_digit, number_at};
 
-use super::fault::Fault;
+use super::fault::{Fault, MagicFaultKind, fault_at};
 
 /// The least number that is too large.
 pub const LIMIT: u64 = 4_294_967_296;
@@ -38,10 +38,10 @@ pub fn number(bytes: &[u8]) -> Result<(u32, &[u8]), Fault>
 {
     let (value, rest) = digits(bytes);
     if rest.is_empty() {
-        return Err(Fault::Truncated(0));
+        return Err(Fault::TRUNCATED);
     }
     if rest.len() == bytes.len() || value >= LIMIT {
-        return Err(Fault::BadNumber(bytes.len()));
+        return Err(fault_at(MagicFaultKind::BadNumber, bytes));
     }
     Ok((value as u32, rest))
 }
@@ -52,7 +52,7 @@ pub fn byte(want: u8, wrong: Fault, bytes: &[u8]) -> Result<&[u8], Fault>
     ensures { Reads (λ x. x.now) result (byte_at want wrong bytes.now) }
 {
     let Some((b, rest)) = bytes.split_first() else {
-        return Err(Fault::Truncated(0));
+        return Err(Fault::TRUNCATED);
     };
     if *b != want {
         return Err(wrong);

@@ -5,7 +5,7 @@ ghost use Rattle.mime_text.specs.Magic.Entries.{plain_entry, plain_entries, plai
 ghost use Rattle.mime_text.specs.Magic.Reading.{Reads, ReadsIfMemory, after_prefix, entry_at, head_at, head_of, kind_of, lines_at, marker_at, section_at, starts_line};
 
 use super::entry::{Entry, FlatSection, Role};
-use super::fault::{Fault, ReadError};
+use super::fault::{Fault, MagicFaultKind, ReadError, fault_at};
 use super::line::{line, row};
 use super::number::{byte, is_digit, number};
 use mime_base::{NameFault, TypeName};
@@ -104,9 +104,9 @@ fn head_row(alloc: Global, wrong: Fault, row: &[u8]) -> Result<(u32, TypeName), 
 fn head(alloc: Global, bytes: &[u8]) -> Result<((u32, TypeName), &[u8]), ReadError>
     ensures { ReadsIfMemory (λ x. ((x.0.0, x.0.1), x.1.now)) result (head_at bytes.now) }
 {
-    let wrong = Fault::BadSection(bytes.len());
+    let wrong = fault_at(MagicFaultKind::BadSection, bytes);
     match bytes {
-        [] => Err(ReadError::Fault(Fault::Truncated(0))),
+        [] => Err(ReadError::Fault(Fault::TRUNCATED)),
         [b'[', rest @ ..] => {
             let (row, rest) = row(rest)?;
             match head_row(alloc, wrong, row) {

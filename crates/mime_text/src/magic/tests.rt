@@ -118,60 +118,102 @@ fn line_of_all_parts(rt: HostRuntime) -> Result<(), Fail> {
     Ok(())
 }
 
+struct FaultRow {
+    name: &'static str,
+    text: &'static [u8],
+    kind: MagicFaultKind,
+    offset: u64,
+    message: &'static str,
+}
+
+const FAULTS: [FaultRow; 10] = [
+    FaultRow {
+        name: "no header",
+        text: b"MIME",
+        kind: MagicFaultKind::NoHeader,
+        offset: 0,
+        message: "magic no header at 0",
+    },
+    FaultRow {
+        name: "a value cut at its end",
+        text: b"MIME-Magic\x00\n[50:t/a]\n>0=\x00\x05ab\n",
+        kind: MagicFaultKind::Truncated,
+        offset: 29,
+        message: "magic truncated at 29",
+    },
+    FaultRow {
+        name: "a priority that is no number",
+        text: b"MIME-Magic\x00\n[x:t/a]\n",
+        kind: MagicFaultKind::BadSection,
+        offset: 12,
+        message: "magic bad section at 12",
+    },
+    FaultRow {
+        name: "no start",
+        text: b"MIME-Magic\x00\n[50:t/a]\n>=\x00\x01a\n",
+        kind: MagicFaultKind::BadNumber,
+        offset: 22,
+        message: "magic bad number at 22",
+    },
+    FaultRow {
+        name: "a sum that is too large",
+        text: b"MIME-Magic\x00\n[50:t/a]\n>4294967294=\x00\x01a\n",
+        kind: MagicFaultKind::BadNumber,
+        offset: 21,
+        message: "magic bad number at 21",
+    },
+    FaultRow {
+        name: "a word that does not divide the length",
+        text: b"MIME-Magic\x00\n[50:t/a]\n>0=\x00\x03abc~2\n",
+        kind: MagicFaultKind::BadWord,
+        offset: 30,
+        message: "magic bad word at 30",
+    },
+    FaultRow {
+        name: "an indent on the first line",
+        text: b"MIME-Magic\x00\n[50:t/a]\n1>0=\x00\x01a\n",
+        kind: MagicFaultKind::BadIndent,
+        offset: 21,
+        message: "magic bad indent at 21",
+    },
+    FaultRow {
+        name: "a byte after a marker",
+        text: b"MIME-Magic\x00\n[50:t/a]\n>0=__NOMAGIC__x\n",
+        kind: MagicFaultKind::Truncated,
+        offset: 37,
+        message: "magic truncated at 37",
+    },
+    FaultRow {
+        name: "a marker without a section",
+        text: b"MIME-Magic\x00\n>0__NOMAGIC__\n",
+        kind: MagicFaultKind::BadSection,
+        offset: 12,
+        message: "magic bad section at 12",
+    },
+    FaultRow {
+        name: "a marker that is cut",
+        text: b"MIME-Magic\x00\n[50:t/a]\n>0__NOMAG",
+        kind: MagicFaultKind::BadNumber,
+        offset: 22,
+        message: "magic bad number at 22",
+    },
+];
+
 #[test]
 fn faults(rt: HostRuntime) -> Result<(), Fail> {
-    let rows: [(&[u8], MagicFault, &str); 10] = [
-        (b"MIME", MagicFault::NoHeader(0), "magic no header at 0"),
-        (
-            b"MIME-Magic\x00\n[50:t/a]\n>0=\x00\x05ab\n",
-            MagicFault::Truncated(29),
-            "magic truncated at 29",
-        ),
-        (
-            b"MIME-Magic\x00\n[x:t/a]\n",
-            MagicFault::BadSection(12),
-            "magic bad section at 12",
-        ),
-        (
-            b"MIME-Magic\x00\n[50:t/a]\n>=\x00\x01a\n",
-            MagicFault::BadNumber(22),
-            "magic bad number at 22",
-        ),
-        (
-            b"MIME-Magic\x00\n[50:t/a]\n>4294967294=\x00\x01a\n",
-            MagicFault::BadNumber(21),
-            "magic bad number at 21",
-        ),
-        (
-            b"MIME-Magic\x00\n[50:t/a]\n>0=\x00\x03abc~2\n",
-            MagicFault::BadWord(30),
-            "magic bad word at 30",
-        ),
-        (
-            b"MIME-Magic\x00\n[50:t/a]\n1>0=\x00\x01a\n",
-            MagicFault::BadIndent(21),
-            "magic bad indent at 21",
-        ),
-        (
-            b"MIME-Magic\x00\n[50:t/a]\n>0=__NOMAGIC__x\n",
-            MagicFault::Truncated(37),
-            "magic truncated at 37",
-        ),
-        (
-            b"MIME-Magic\x00\n>0__NOMAGIC__\n",
-            MagicFault::BadSection(12),
-            "magic bad section at 12",
-        ),
-        (
-            b"MIME-Magic\x00\n[50:t/a]\n>0__NOMAG",
-            MagicFault::BadNumber(22),
-            "magic bad number at 22",
-        ),
-    ];
-    for (text, want, message) in rows {
-        let fault = read_magic(rt.alloc(), text).err().ok_or("no fault")?;
-        assert_eq!(rt; fault, want);
-        assert_eq!(rt; fault.to_string(rt.alloc())?.as_str(), message);
+    for row in &FAULTS {
+        let name = row.name;
+        let fault = read_magic(rt.alloc(), row.text).err().ok_or(name)?;
+        let want = MagicFault::Malformed {
+            kind: row.kind,
+            offset: row.offset,
+        };
+        assert_eq!(rt; fault, want, "{name}");
+        assert_eq!(rt;
+            fault.to_string(rt.alloc())?.as_str(),
+            row.message,
+            "{name}"
+        );
     }
     Ok(())
 }
@@ -188,7 +230,11 @@ fn levels(rt: HostRuntime) -> Result<(), Fail> {
     assert_eq!(rt; file.sections.len(), 1);
     text.extend_from_slice(b"64>0=\x00\x01a\n")?;
     let fault = read_magic(rt.alloc(), &text).err().ok_or("no fault")?;
-    assert_eq!(rt; fault, MagicFault::TooDeep(597));
+    let want = MagicFault::Malformed {
+        kind: MagicFaultKind::TooDeep,
+        offset: 597,
+    };
+    assert_eq!(rt; fault, want);
     assert_eq!(rt;
         fault.to_string(rt.alloc())?.as_str(),
         "magic too deep at 597"

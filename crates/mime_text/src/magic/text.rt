@@ -5,7 +5,7 @@ ghost use Rattle.mime_text.specs.Magic.Entries.{plain_flat_sections};
 ghost use Rattle.mime_text.specs.Magic.Reading.{ReadsIfMemory, sections_at, whole};
 
 use super::entry::FlatSection;
-use super::fault::{Fault, ReadError};
+use super::fault::{MagicFaultKind, ReadError, fault_at};
 use super::section::{after_prefix, section};
 use std::alloc::Global;
 
@@ -31,7 +31,7 @@ pub fn flat_sections(alloc: Global, text: &[u8]) -> Result<Vec<FlatSection>, Rea
         return Ok(Vec::new(alloc));
     }
     match after_prefix(b"MIME-Magic\x00\n", text) {
-        None => Err(ReadError::Fault(Fault::NoHeader(text.len()))),
+        None => Err(ReadError::Fault(fault_at(MagicFaultKind::NoHeader, text))),
         Some(rest) => sections(alloc, rest),
     }
 }
