@@ -2,6 +2,7 @@ pub mod Choices
 pub mod Hits
 pub mod Tallies
 pub mod Healths
+pub mod ReadsLemmas
 pub mod PairSteps
 pub mod Marks
 pub mod Searches

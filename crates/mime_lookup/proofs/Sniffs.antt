@@ -64,11 +64,6 @@ is_read b whole front (Some rest) consumed limited ends =
     (λ full. record { rest = rest; split = consumed; long = inr (omega arith, omega arith); size = omega (arith, sizes) })
     (cases_lt (length front) (max 128 (extent b)))
 
--- some of any content is read
-pub read_limit-some : (b : PlainDatabase) → 0 < read_limit b
-unfolding read_limit
-read_limit-some b = omega arith
-
 -- what a reader gave is sniffed as its whole content, where that is known
 module _ (b : PlainDatabase) (host : Host) (known after : Option (List ℕ)) (front : List ℕ) (consumed : Consumes known after front)
     (limited : length front ≤ read_limit b) (ends : length front < read_limit b → IsAtEnd after) where

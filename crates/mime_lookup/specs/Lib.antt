@@ -4,3 +4,4 @@ pub mod CheckingOrder
 pub mod Content
 pub mod Ancestry
 pub mod Script
+pub mod Reads

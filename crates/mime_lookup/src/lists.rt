@@ -1,11 +1,13 @@
 //! Lookup by trying every rule, line and pair of a database.
 
-ghost use Rattle.std.specs.Prelude.{◌≡◌, ◌≢◌, ◌⊎◌, ◌<◌, ◌≤◌, length, IfOk, IfErr, OnOk, IfSome, MatchResult, Some, None, true, false, ⊤, if◌then◌else◌};
+ghost use Rattle.std.specs.Prelude.{◌≡◌, ◌≢◌, ◌⊎◌, ◌<◌, ◌≤◌, length, IfOk, IfErr, OnOk, IfSome, MatchResult, Some, None};
+ghost use Rattle.std.specs.Prelude.{true, false, ⊤, if◌then◌else◌};
 ghost use Rattle.mime_base.specs.Database.{pairs_of, plain_database};
 ghost use Rattle.mime_lookup.specs.Ancestry.{texts};
 ghost use Rattle.mime_lookup.specs.CheckingOrder.{Chooses, are_one_type, before_globs, front_size, globs_suffice, read_limit, read_of};
 ghost use Rattle.mime_lookup.specs.Choice.{ChoosesAmong};
 ghost use Rattle.mime_lookup.specs.Sniffing.{sniffed};
+ghost use Rattle.mime_lookup.specs.Reads.{Reads};
 ghost use Rattle.mime_lookup.specs.Content.{Advances, GivesUp, Goes, OfReader, broken, known_content, sound};
 
 use crate::ancestry::first_of;
@@ -104,100 +106,30 @@ fn kind_of<'a, R: Content>(
         (λ known. Chooses (plain_database database.entry.now) name.now known host order kind.now)) }
     ensures read { OnOk result (IfSome (known_content R.remaining content.old)
         (λ known. read.new ≡ read_of (plain_database database.entry.now) name.now known order)) }
-    ensures causes { IfErr result (λ cause. (cause ≡ Cause.Read) ⊎ (cause ≡ Cause.OutOfMemory)) }
-    ensures gives_up { IfErr result (λ cause. cause ≡ Cause.Read →
-        OfReader (λ before after. GivesUp (R.tally before) (R.tally after) 1000) ⊥ content.old content.new) }
-    ensures goes { OnOk result (OfReader
-        (λ before after. Goes (R.tally before) (R.tally after) 1000) ⊤ content.old content.new) }
-    ensures answers { OnOk result (OfReader (λ before _. R.health before ≡ broken →
-        globs_suffice (plain_database database.entry.now) name.now order ≡ true) ⊤ content.old content.new) }
-    ensures fails { IfErr result (λ cause. cause ≡ Cause.Read → OfReader (λ before _. (R.health before ≢ sound)
-        × (globs_suffice (plain_database database.entry.now) name.now order ≡ false)) ⊥ content.old content.new) }
-    ensures advances { OfReader (λ before after. Advances (R.remaining before) (R.remaining after) read.new)
-        (read.new ≡ 0) content.old content.new }
-    ensures limit { read.new ≤ read_limit (plain_database database.entry.now) }
+    ensures reader { Reads R.remaining R.tally R.health (plain_database database.entry.now)
+        (globs_suffice (plain_database database.entry.now) name.now order) content.old content.new read.new result }
     ensures nodes { meter.new.nodes ≡ meter.old.nodes }
 {
     match order {
-        Order::GlobsFirst => globs_first(alloc, database, name, content, host, read, meter),
-        Order::MagicFirst => magic_first(alloc, database, name, content, host, read, meter),
+        Order::GlobsFirst => {
+            let kept = kept_kinds(alloc, database, name, meter)?;
+            if are_one_type(&kept) {
+                return Ok(kept[0]);
+            }
+            let sniffed = sniff_content(alloc, database, content, host, read, meter)?;
+            let kind = choose(alloc, database, &kept, sniffed.kind)?;
+            Ok(kind)
+        }
+        Order::MagicFirst => {
+            let sniffed = sniff_content(alloc, database, content, host, read, meter)?;
+            if sniffed.is_high {
+                return Ok(sniffed.kind);
+            }
+            let kept = kept_kinds(alloc, database, name, meter)?;
+            let kind = choose(alloc, database, &kept, sniffed.kind)?;
+            Ok(kind)
+        }
     }
-}
-
-/// The same where the globs are asked first.
-fn globs_first<'a, R: Content>(
-    alloc: Global,
-    database: &'a Database,
-    name: &[u8],
-    content: &mut Option<R>,
-    host: Host,
-    read: &mut u64,
-    meter: &mut Meter,
-) -> Result<&'a [u8], Cause>
-    requires none { read.old ≡ 0 }
-    ensures chosen { IfOk result (λ kind. IfSome (known_content R.remaining content.old)
-        (λ known. Chooses (plain_database database.entry.now) name.now known host Order.GlobsFirst kind.now)) }
-    ensures read { OnOk result (IfSome (known_content R.remaining content.old)
-        (λ known. read.new ≡ read_of (plain_database database.entry.now) name.now known Order.GlobsFirst)) }
-    ensures causes { IfErr result (λ cause. (cause ≡ Cause.Read) ⊎ (cause ≡ Cause.OutOfMemory)) }
-    ensures gives_up { IfErr result (λ cause. cause ≡ Cause.Read →
-        OfReader (λ before after. GivesUp (R.tally before) (R.tally after) 1000) ⊥ content.old content.new) }
-    ensures goes { OnOk result (OfReader
-        (λ before after. Goes (R.tally before) (R.tally after) 1000) ⊤ content.old content.new) }
-    ensures answers { OnOk result (OfReader (λ before _. R.health before ≡ broken →
-        globs_suffice (plain_database database.entry.now) name.now Order.GlobsFirst ≡ true) ⊤ content.old content.new) }
-    ensures fails { IfErr result (λ cause. cause ≡ Cause.Read → OfReader (λ before _. (R.health before ≢ sound)
-        × (globs_suffice (plain_database database.entry.now) name.now Order.GlobsFirst ≡ false)) ⊥ content.old content.new) }
-    ensures advances { OfReader (λ before after. Advances (R.remaining before) (R.remaining after) read.new)
-        (read.new ≡ 0) content.old content.new }
-    ensures limit { read.new ≤ read_limit (plain_database database.entry.now) }
-    ensures nodes { meter.new.nodes ≡ meter.old.nodes }
-{
-    let kept = kept_kinds(alloc, database, name, meter)?;
-    if are_one_type(&kept) {
-        return Ok(kept[0]);
-    }
-    let sniffed = sniff_content(alloc, database, content, host, read, meter)?;
-    let kind = choose(alloc, database, &kept, sniffed.kind)?;
-    Ok(kind)
-}
-
-/// The same where magic of a high priority comes first.
-fn magic_first<'a, R: Content>(
-    alloc: Global,
-    database: &'a Database,
-    name: &[u8],
-    content: &mut Option<R>,
-    host: Host,
-    read: &mut u64,
-    meter: &mut Meter,
-) -> Result<&'a [u8], Cause>
-    requires none { read.old ≡ 0 }
-    ensures chosen { IfOk result (λ kind. IfSome (known_content R.remaining content.old)
-        (λ known. Chooses (plain_database database.entry.now) name.now known host Order.MagicFirst kind.now)) }
-    ensures read { OnOk result (IfSome (known_content R.remaining content.old)
-        (λ known. read.new ≡ read_of (plain_database database.entry.now) name.now known Order.MagicFirst)) }
-    ensures causes { IfErr result (λ cause. (cause ≡ Cause.Read) ⊎ (cause ≡ Cause.OutOfMemory)) }
-    ensures gives_up { IfErr result (λ cause. cause ≡ Cause.Read →
-        OfReader (λ before after. GivesUp (R.tally before) (R.tally after) 1000) ⊥ content.old content.new) }
-    ensures goes { OnOk result (OfReader
-        (λ before after. Goes (R.tally before) (R.tally after) 1000) ⊤ content.old content.new) }
-    ensures answers { OnOk result (OfReader (λ before _. R.health before ≡ broken →
-        globs_suffice (plain_database database.entry.now) name.now Order.MagicFirst ≡ true) ⊤ content.old content.new) }
-    ensures fails { IfErr result (λ cause. cause ≡ Cause.Read → OfReader (λ before _. (R.health before ≢ sound)
-        × (globs_suffice (plain_database database.entry.now) name.now Order.MagicFirst ≡ false)) ⊥ content.old content.new) }
-    ensures advances { OfReader (λ before after. Advances (R.remaining before) (R.remaining after) read.new)
-        (read.new ≡ 0) content.old content.new }
-    ensures limit { read.new ≤ read_limit (plain_database database.entry.now) }
-    ensures nodes { meter.new.nodes ≡ meter.old.nodes }
-{
-    let sniffed = sniff_content(alloc, database, content, host, read, meter)?;
-    if sniffed.is_high {
-        return Ok(sniffed.kind);
-    }
-    let kept = kept_kinds(alloc, database, name, meter)?;
-    let kind = choose(alloc, database, &kept, sniffed.kind)?;
-    Ok(kind)
 }
 
 /// Whether there are types, and all are one type.
@@ -232,7 +164,7 @@ fn choose<'a>(
     first_of(alloc, database, kept, kept[0], sniffed)
 }
 
-/// What a content is sniffed as, by its front.
+/// What a content is sniffed as, by its front: as much of it as magic can look at.
 #[tactic(auto, unfolding(crate::specs::Sniffing::sniffed, crate::specs::CheckingOrder::before_globs))]
 fn sniff_content<'a, R: Content>(
     alloc: Global,
@@ -250,21 +182,16 @@ fn sniff_content<'a, R: Content>(
         ≡ before_globs (plain_database database.entry.now) known host Order.MagicFirst)) }
     ensures read { OnOk result (IfSome (known_content R.remaining content.old)
         (λ known. read.new ≡ front_size (plain_database database.entry.now) known)) }
-    ensures causes { IfErr result (λ cause. (cause ≡ Cause.Read) ⊎ (cause ≡ Cause.OutOfMemory)) }
-    ensures gives_up { IfErr result (λ cause. cause ≡ Cause.Read →
-        OfReader (λ before after. GivesUp (R.tally before) (R.tally after) 1000) ⊥ content.old content.new) }
-    ensures goes { OnOk result (OfReader
-        (λ before after. Goes (R.tally before) (R.tally after) 1000) ⊤ content.old content.new) }
-    ensures sound { IfErr result (λ cause. cause ≡ Cause.Read →
-        OfReader (λ before _. R.health before ≢ sound) ⊥ content.old content.new) }
-    ensures broken { OnOk result (OfReader (λ before _. R.health before ≢ broken) ⊤ content.old content.new) }
-    ensures advances { OfReader (λ before after. Advances (R.remaining before) (R.remaining after) read.new)
-        (read.new ≡ 0) content.old content.new }
-    ensures limit { read.new ≤ read_limit (plain_database database.entry.now) }
+    ensures reader { Reads R.remaining R.tally R.health (plain_database database.entry.now) false
+        content.old content.new read.new result }
     ensures nodes { meter.new.nodes ≡ meter.old.nodes }
 {
     match content {
-        Some(reader) => sniff_reader(alloc, database, reader, host, read, meter),
+        Some(reader) => {
+            let limit = front_limit(database);
+            let front = read_front(alloc, reader, limit, read)?;
+            Ok(sniff(database, &front, host, meter))
+        }
         None => Ok(Sniffed {
             kind: OCTET_STREAM,
             is_high: false,
@@ -272,42 +199,11 @@ fn sniff_content<'a, R: Content>(
     }
 }
 
-/// Reads the front of a content, as much as magic can look at, and sniffs it.
-fn sniff_reader<'a, R: Content>(
-    alloc: Global,
-    database: &'a Database,
-    reader: &mut R,
-    host: Host,
-    read: &mut u64,
-    meter: &mut Meter,
-) -> Result<Sniffed<'a>, Cause>
-    requires none { read.old ≡ 0 }
-    ensures kind { IfOk result (λ found. IfSome (known_content R.remaining (Some reader.old))
-        (λ known. found.kind.now ≡ sniffed (plain_database database.entry.now) known host)) }
-    ensures is_high { IfOk result (λ found. IfSome (known_content R.remaining (Some reader.old))
-        (λ known. (if found.is_high then Some found.kind.now else None)
-        ≡ before_globs (plain_database database.entry.now) known host Order.MagicFirst)) }
-    ensures read { OnOk result (IfSome (known_content R.remaining (Some reader.old))
-        (λ known. read.new ≡ front_size (plain_database database.entry.now) known)) }
-    ensures causes { IfErr result (λ cause. (cause ≡ Cause.Read) ⊎ (cause ≡ Cause.OutOfMemory)) }
-    ensures gives_up { IfErr result (λ cause. cause ≡ Cause.Read →
-        GivesUp (R.tally reader.old) (R.tally reader.new) 1000) }
-    ensures goes { OnOk result (Goes (R.tally reader.old) (R.tally reader.new) 1000) }
-    ensures sound { IfErr result (λ cause. cause ≡ Cause.Read → R.health reader.old ≢ sound) }
-    ensures broken { OnOk result (R.health reader.old ≢ broken) }
-    ensures advances { Advances (R.remaining reader.old) (R.remaining reader.new) read.new }
-    ensures limit { read.new ≤ read_limit (plain_database database.entry.now) }
-    ensures nodes { meter.new.nodes ≡ meter.old.nodes }
-{
-    let limit = front_limit(database);
-    let front = read_front(alloc, reader, limit, read)?;
-    Ok(sniff(database, &front, host, meter))
-}
-
 /// How much of a content is read at most.
 #[tactic(auto, unfolding(crate::specs::CheckingOrder::read_limit))]
 fn front_limit(database: &Database) -> usize
-    ensures { result ≡ read_limit (plain_database database.now) }
+    ensures limit { result ≡ read_limit (plain_database database.now) }
+    ensures some { 0 < result }
 {
     SHORTEST_FRONT.max(extent(database)) as usize
 }

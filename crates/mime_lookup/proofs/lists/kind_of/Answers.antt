@@ -1,0 +1,105 @@
+use Rattle.std.proofs.Common.{◌≡◌, ◌∙◌, ℕ, true, false, List, [], ap, sym}
+use denote.Bor.{Bor}
+use Rattle.mime_base.specs.Database.{pairs_of, plain_database}
+use Rattle.mime_lookup.specs.Ancestry.{texts}
+use Rattle.mime_lookup.specs.CheckingOrder.{are_one_type}
+use Rattle.mime_lookup.specs.Choice.{ChoosesAmong}
+use Rattle.mime_lookup.proofs.Answering.{by_globs, by_globs_and_content, by_magic, by_magic_and_globs, first_text}
+use Rattle.mime_lookup.proofs.Answering.{read_first, read_front, read_none, suffice, suffice_not}
+use Rattle.mime_lookup.proofs.ReadsLemmas.{reads_nothing, reads_stopped}
+use Rattle.mime_lookup.proofs.lists.kind_of.Goals as goal
+
+pub returns-then-are_one_type-clause-chosen : goal.returns-then-are_one_type-clause-chosen
+returns-then-are_one_type-clause-chosen g c =
+    let kept = c.in_ok-kept-in-GlobsFirst.kept.items in
+    let one : are_one_type (texts kept) ≡ true = rw c.deref.ensures.value at (sym c.are_one_type.ensures ∙ c.if-are_one_type.true) in
+    by_globs (plain_database c.args.database.now) c.args.name.now c.args.host c.args.order c.in-GlobsFirst.is (texts kept)
+    c.in_ok-kept-in-GlobsFirst.ensures.kept _ _ one
+    (ap (λ (text : Bor (List ℕ)). text.now) c.index.ensures ∙ first_text kept c.index.result.now one)
+
+pub returns-then-are_one_type-clause-read : goal.returns-then-are_one_type-clause-read
+returns-then-are_one_type-clause-read g c =
+    let kinds = texts c.in_ok-kept-in-GlobsFirst.kept.items in
+    let one : are_one_type kinds ≡ true = rw c.deref.ensures.value at (sym c.are_one_type.ensures ∙ c.if-are_one_type.true) in
+    read_none (plain_database c.args.database.now) c.args.name.now c.args.host c.args.order c.in-GlobsFirst.is kinds
+    c.in_ok-kept-in-GlobsFirst.ensures.kept _ _ one c.requires.none
+
+pub returns-then-are_one_type-clause-reader : goal.returns-then-are_one_type-clause-reader
+returns-then-are_one_type-clause-reader g c =
+    let kinds = texts c.in_ok-kept-in-GlobsFirst.kept.items in
+    let one : are_one_type kinds ≡ true = rw c.deref.ensures.value at (sym c.are_one_type.ensures ∙ c.if-are_one_type.true) in
+    reads_nothing g.R.Read.remaining g.R.Content.tally g.R.Content.health (plain_database c.args.database.now) _ c.args.content.now
+    c.args.read.now _ c.requires.none
+    (suffice (plain_database c.args.database.now) c.args.name.now c.args.host c.args.order c.in-GlobsFirst.is kinds
+    c.in_ok-kept-in-GlobsFirst.ensures.kept true one)
+
+pub returns-in_err-sniffed-in-GlobsFirst-clause-reader :
+    goal.returns-in_err-sniffed-in-GlobsFirst-clause-reader
+returns-in_err-sniffed-in-GlobsFirst-clause-reader g c =
+    let kinds = texts c.in_ok-kept-in-GlobsFirst.kept.items in
+    let conflict : are_one_type kinds ≡ false = rw c.deref.ensures.value at (sym c.are_one_type.ensures ∙ c.if-are_one_type.false) in
+    reads_stopped g.R.Read.remaining g.R.Content.tally g.R.Content.health (plain_database c.args.database.now) _ c.args.content.now
+    c.sniff_content.new.content c.sniff_content.new.read c.in_err-sniffed-in-GlobsFirst.field-0.0
+    c.from_residual-in_err-sniffed-in-GlobsFirst.result
+    (suffice (plain_database c.args.database.now) c.args.name.now c.args.host c.args.order c.in-GlobsFirst.is kinds
+    c.in_ok-kept-in-GlobsFirst.ensures.kept false conflict)
+    c.from_residual-in_err-sniffed-in-GlobsFirst.ensures.1 c.in_err-sniffed-in-GlobsFirst.ensures.reader
+
+pub returns-in_err-sniffed-in-MagicFirst-clause-reader :
+    goal.returns-in_err-sniffed-in-MagicFirst-clause-reader
+returns-in_err-sniffed-in-MagicFirst-clause-reader g c =
+    reads_stopped g.R.Read.remaining g.R.Content.tally g.R.Content.health (plain_database c.args.database.now) _ c.args.content.now
+    c.sniff_content-in-MagicFirst.new.content c.sniff_content-in-MagicFirst.new.read c.in_err-sniffed-in-MagicFirst.field-0.0
+    c.from_residual-in_err-sniffed-in-MagicFirst.result
+    (suffice_not (plain_database c.args.database.now) c.args.name.now c.args.host c.args.order c.in-MagicFirst.is [] true)
+    c.from_residual-in_err-sniffed-in-MagicFirst.ensures.1 c.in_err-sniffed-in-MagicFirst.ensures.reader
+
+pub returns-then-sniffed-clause-chosen : goal.returns-then-sniffed-clause-chosen
+returns-then-sniffed-clause-chosen g c =
+    by_magic (plain_database c.args.database.now) c.args.name.now c.args.host c.args.order c.in-MagicFirst.is
+    c.in_ok-sniffed-in-MagicFirst.sniffed.kind.now c.in_ok-sniffed-in-MagicFirst.sniffed.is_high _ c.if-sniffed.true
+    c.in_ok-sniffed-in-MagicFirst.ensures.is_high
+
+pub returns-then-sniffed-clause-read : goal.returns-then-sniffed-clause-read
+returns-then-sniffed-clause-read g c =
+    read_first (plain_database c.args.database.now) c.args.name.now c.args.host c.args.order c.in-MagicFirst.is [] true _ _
+    c.in_ok-sniffed-in-MagicFirst.ensures.read
+
+pub returns-in_ok-kind-in-GlobsFirst-clause-chosen :
+    goal.returns-in_ok-kind-in-GlobsFirst-clause-chosen
+returns-in_ok-kind-in-GlobsFirst-clause-chosen g c =
+    let b = plain_database c.args.database.now in
+    let kinds = texts c.in_ok-kept-in-GlobsFirst.kept.items in
+    let found = c.in_ok-sniffed-in-GlobsFirst.sniffed.kind.now in
+    let kind = c.in_ok-kind-in-GlobsFirst.kind.now in
+    let chosen : ChoosesAmong (pairs_of b) kinds found kind =
+    rw c.deref-in-GlobsFirst.ensures.value at c.in_ok-kind-in-GlobsFirst.ensures in
+    by_globs_and_content b c.args.name.now c.args.host c.args.order c.in-GlobsFirst.is kinds
+    c.in_ok-kept-in-GlobsFirst.ensures.kept _ found kind c.in_ok-sniffed-in-GlobsFirst.ensures.kind chosen
+
+pub returns-in_ok-kind-in-GlobsFirst-clause-read :
+    goal.returns-in_ok-kind-in-GlobsFirst-clause-read
+returns-in_ok-kind-in-GlobsFirst-clause-read g c =
+    let kinds = texts c.in_ok-kept-in-GlobsFirst.kept.items in
+    let conflict : are_one_type kinds ≡ false = rw c.deref.ensures.value at (sym c.are_one_type.ensures ∙ c.if-are_one_type.false) in
+    read_front (plain_database c.args.database.now) c.args.name.now c.args.host c.args.order c.in-GlobsFirst.is kinds
+    c.in_ok-kept-in-GlobsFirst.ensures.kept _ _ conflict c.in_ok-sniffed-in-GlobsFirst.ensures.read
+
+pub returns-in_ok-kind-in-MagicFirst-clause-chosen :
+    goal.returns-in_ok-kind-in-MagicFirst-clause-chosen
+returns-in_ok-kind-in-MagicFirst-clause-chosen g c =
+    let b = plain_database c.args.database.now in
+    let kinds = texts c.in_ok-kept-in-MagicFirst.kept.items in
+    let sniffed = c.in_ok-sniffed-in-MagicFirst.sniffed in
+    let kind = c.in_ok-kind-in-MagicFirst.kind.now in
+    let chosen : ChoosesAmong (pairs_of b) kinds sniffed.kind.now kind =
+    rw c.deref-in-MagicFirst.ensures.value at c.in_ok-kind-in-MagicFirst.ensures in
+    by_magic_and_globs b c.args.name.now c.args.host c.args.order c.in-MagicFirst.is sniffed.kind.now sniffed.is_high _ kinds kind
+    c.in_ok-kept-in-MagicFirst.ensures.kept c.if-sniffed.false c.in_ok-sniffed-in-MagicFirst.ensures.is_high
+    c.in_ok-sniffed-in-MagicFirst.ensures.kind chosen
+
+pub returns-in_ok-kind-in-MagicFirst-clause-read :
+    goal.returns-in_ok-kind-in-MagicFirst-clause-read
+returns-in_ok-kind-in-MagicFirst-clause-read g c =
+    read_first (plain_database c.args.database.now) c.args.name.now c.args.host c.args.order c.in-MagicFirst.is [] true _ _
+    c.in_ok-sniffed-in-MagicFirst.ensures.read
