@@ -1,6 +1,14 @@
+pub mod Commands
+pub mod DataFiles
 pub mod Desks
+pub mod DirectoryFiles
+pub mod DirectoryLists
+pub mod DirectoryLoops
+pub mod DirectorySteps
 pub mod Endings
 pub mod Ends
+pub mod Loads
+pub mod MagicFiles
 pub mod Plains
 pub mod Programs
 pub mod Runs

@@ -1,5 +1,6 @@
 -- What the words of a command line lead to.
 use Rattle.std.specs.Prelude.{◌≡◌, ◌≢◌, ℕ, Bool, true, false, List, []}
+use Rattle.std.specs.Option.{option_to_list}
 use Rattle.clap.specs.Kinds.{IsAmong}
 use Rattle.clap.specs.declared.error.kind.ErrorKind.{ErrorKind}
 use Rattle.clap.specs.declared.error.kind.ErrorKind.TheVariants as kind
@@ -26,7 +27,7 @@ IsShown k run = (k ≢ kind.OutOfMemory) × ((text : List ℕ) × (run ≡ shown
 
 -- the run of a request; a command has a line here
 abbrev pub IsAskedRun : (List ℕ → Stored) → PlainRequest → List (List ℕ) → Run → Type 0
-IsAskedRun stored (plain dir _) = IsPlain stored dir
+IsAskedRun stored (plain dir _) = IsPlain stored (option_to_list dir)
 
 -- the files that a request names
 abbrev pub asked_files : PlainRequest → List (List ℕ)

@@ -2,6 +2,7 @@
 //! project's own.
 
 ghost use Rattle.std.specs.Prelude.{◌≡◌, ◌≢◌, ◌≤◌, ℕ, List, [], false, is_some, length, map, slice_get, true};
+ghost use Rattle.std.specs.Option.{option_to_list};
 ghost use Rattle.clap.specs.Values.{kind_of};
 ghost use Rattle.mime_request.specs.Request.{plain_request, meaning_of, parts};
 ghost use Rattle.mime_request.specs.Spelling.{AreUsual, plain_words};
@@ -49,7 +50,7 @@ pub fn run<F: Files, O: Sink, E: Sink, S: AsStr>(
     ensures plain { is_some (O.holds out.old) ≡ true
         → (dirs : List ℕ) (names : List (List ℕ)) → map S.text words.now ≡ plain_words dirs names
         → AreUsual dirs names → length (parts dirs) ≤ 1
-        → Finishes (IsPlain (F.tells files.old) (slice_get (parts dirs) 0)) names
+        → Finishes (IsPlain (F.tells files.old) (option_to_list (slice_get (parts dirs) 0))) names
         (record { out = O.holds out.old; err = E.holds err.old })
         (record { out = O.holds out.new; err = E.holds err.new }) result }
 
