@@ -44,13 +44,7 @@ magic_parsed path text s file flat_sections spells is =
 
 -- the stop at a fault is a refusal, or memory ran out
 fault_stops : (path : List ℕ) (f : MagicFault) (s : Stop) → IsFaultStop path f s → (s ≡ stop.OutOfMemory) ⊎ IsRefusal (faulty path f) s
-fault_stops path (fault.NoHeader at) s p = inr p
-fault_stops path (fault.Truncated at) s p = inr p
-fault_stops path (fault.BadSection at) s p = inr p
-fault_stops path (fault.BadNumber at) s p = inr p
-fault_stops path (fault.BadWord at) s p = inr p
-fault_stops path (fault.BadIndent at) s p = inr p
-fault_stops path (fault.TooDeep at) s p = inr p
+fault_stops path (fault.Malformed kind offset) s p = inr p
 fault_stops path fault.OutOfMemory s p = inl p
 
 -- memory ran out

@@ -16,6 +16,8 @@ use Rattle.mime_text.specs.Magic.Text.{MagicText}
 use Rattle.mime_text.specs.Merging.{PlainDir, merged}
 use Rattle.mime_text.specs.declared.magic.fault.MagicFault.{MagicFault}
 use Rattle.mime_text.specs.declared.magic.fault.MagicFault.TheVariants as fault
+use Rattle.mime_text.specs.declared.magic.fault.MagicFaultKind.{MagicFaultKind}
+use Rattle.mime_text.specs.declared.magic.fault.MagicFaultKind.TheVariants as kind
 use Rattle.mime_text.specs.declared.magic.file.MagicFile.{MagicFile}
 use Rattle.mime_tool.specs.Files.{IsText, Stored}
 use Rattle.mime_tool.specs.Loading.{◌>>=◌, Gives}
@@ -73,26 +75,14 @@ AreIcons text icons = icons ≡ plain_icons (icons_of text)
 -- ---- the file magic
 
 -- what the message on a fault calls it
-abbrev pub fault_name : MagicFault → List ℕ
-fault_name (fault.NoHeader at) = codes "no header"
-fault_name (fault.Truncated at) = codes "truncated"
-fault_name (fault.BadSection at) = codes "bad section"
-fault_name (fault.BadNumber at) = codes "bad number"
-fault_name (fault.BadWord at) = codes "bad word"
-fault_name (fault.BadIndent at) = codes "bad indent"
-fault_name (fault.TooDeep at) = codes "too deep"
-fault_name fault.OutOfMemory = []
-
--- where it is, in bytes from the front of the text
-abbrev pub fault_offset : MagicFault → ℕ
-fault_offset (fault.NoHeader at) = at
-fault_offset (fault.Truncated at) = at
-fault_offset (fault.BadSection at) = at
-fault_offset (fault.BadNumber at) = at
-fault_offset (fault.BadWord at) = at
-fault_offset (fault.BadIndent at) = at
-fault_offset (fault.TooDeep at) = at
-fault_offset fault.OutOfMemory = 0
+abbrev pub fault_name : MagicFaultKind → List ℕ
+fault_name kind.NoHeader = codes "no header"
+fault_name kind.Truncated = codes "truncated"
+fault_name kind.BadSection = codes "bad section"
+fault_name kind.BadNumber = codes "bad number"
+fault_name kind.BadWord = codes "bad word"
+fault_name kind.BadIndent = codes "bad indent"
+fault_name kind.TooDeep = codes "too deep"
 
 -- the message on a fault of this name at this offset
 abbrev pub faulty_at : List ℕ → List ℕ → ℕ → List ℕ
@@ -101,12 +91,13 @@ faulty_at path name at =
 
 -- the message on the first fault of a text of magic, which lies at this path
 abbrev pub faulty : List ℕ → MagicFault → List ℕ
-faulty path f = faulty_at path (fault_name f) (fault_offset f)
+faulty path (fault.Malformed kind offset) = faulty_at path (fault_name kind) offset
+faulty path fault.OutOfMemory = []
 
 -- what stops at a fault: its message, or that memory ran out
 abbrev pub IsFaultStop : List ℕ → MagicFault → Stop → Type 0
+IsFaultStop path (fault.Malformed kind offset) s = IsRefusal (faulty_at path (fault_name kind) offset) s
 IsFaultStop path fault.OutOfMemory s = s ≡ stop.OutOfMemory
-IsFaultStop path f s = IsRefusal (faulty path f) s
 
 -- a file magic of the code
 abbrev pub plain_magic : MagicFile → List PlainSection × List (List ℕ)

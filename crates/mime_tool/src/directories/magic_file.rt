@@ -1,8 +1,8 @@
 //! The file `magic` of a data directory, and the message on a fault of it.
 
-ghost use Rattle.std.specs.Prelude.{codes};
+ghost use Rattle.std.specs.Prelude.{◌≡◌, codes};
 ghost use Rattle.mime_tool.specs.Desk.{Works};
-ghost use Rattle.mime_tool.specs.Directories.{IsFaultStop, IsMagicAt, IsMagicOrFault, faulty_at, path_of, plain_magic};
+ghost use Rattle.mime_tool.specs.Directories.{IsFaultStop, IsMagicAt, IsMagicOrFault, fault_name, faulty_at, path_of, plain_magic};
 ghost use Rattle.mime_tool.specs.Finish.{Sinks};
 ghost use Rattle.mime_tool.specs.Loading.{Loads};
 ghost use Rattle.mime_tool.specs.Stop.{IsRefusal};
@@ -10,7 +10,7 @@ ghost use Rattle.mime_tool.specs.Stop.{IsRefusal};
 use super::path_of;
 use crate::desk::Desk;
 use crate::stop::Stop;
-use mime_text::{MagicFault, MagicFile, read_magic};
+use mime_text::{MagicFault, MagicFaultKind, MagicFile, read_magic};
 use std::alloc::Global;
 
 /// Reads the file `magic` of a directory.
@@ -44,14 +44,23 @@ fn faulty(alloc: Global, path: &str, fault: MagicFault) -> Stop
     ensures { IsFaultStop path.now fault result }
 {
     match fault {
-        MagicFault::NoHeader(at) => faulty_at(alloc, path, "no header", at),
-        MagicFault::Truncated(at) => faulty_at(alloc, path, "truncated", at),
-        MagicFault::BadSection(at) => faulty_at(alloc, path, "bad section", at),
-        MagicFault::BadNumber(at) => faulty_at(alloc, path, "bad number", at),
-        MagicFault::BadWord(at) => faulty_at(alloc, path, "bad word", at),
-        MagicFault::BadIndent(at) => faulty_at(alloc, path, "bad indent", at),
-        MagicFault::TooDeep(at) => faulty_at(alloc, path, "too deep", at),
+        MagicFault::Malformed { kind, offset } => faulty_at(alloc, path, name_of(kind), offset),
         MagicFault::OutOfMemory => Stop::OutOfMemory,
+    }
+}
+
+// What the message on a fault calls it.
+fn name_of(kind: MagicFaultKind) -> &'static str
+    ensures { result.now ≡ fault_name kind }
+{
+    match kind {
+        MagicFaultKind::NoHeader => "no header",
+        MagicFaultKind::Truncated => "truncated",
+        MagicFaultKind::BadSection => "bad section",
+        MagicFaultKind::BadNumber => "bad number",
+        MagicFaultKind::BadWord => "bad word",
+        MagicFaultKind::BadIndent => "bad indent",
+        MagicFaultKind::TooDeep => "too deep",
     }
 }
 
