@@ -3,6 +3,7 @@ pub mod FaultNumbers
 pub mod FaultMarks
 pub mod FaultOptions
 pub mod FaultFronts
+pub mod FaultKinds
 pub mod FaultBodies
 pub mod FaultLines
 pub mod FaultStarts

@@ -1,5 +1,6 @@
 -- Sections that fail: those that are whole before, and what is wrong.
-use Rattle.std.proofs.Common.{◌≡◌, ℕ, zero, suc, ◌≤◌, List, [], ◌∷◌, ◌++◌, length, Ok, Err, refl, sym, ap, subst, ◌∙◌, append_assoc, arith, inl, inr, ◌⊎◌}
+use Rattle.std.proofs.Common.{◌≡◌, ℕ, zero, suc, ◌≤◌, List, [], ◌∷◌, ◌++◌, length, Ok, Err, refl, sym, ap, subst, ◌∙◌, append_assoc, arith}
+use Rattle.std.proofs.Common.{inl, inr, ◌⊎◌}
 use Rattle.mime_text.specs.declared.magic.fault.Fault.{Fault}
 use Rattle.mime_text.specs.Magic.Entries.{PlainFlatSection}
 use Rattle.mime_text.specs.Magic.Reading.{lines_at, head_at, section_at, sections_at}
@@ -9,15 +10,15 @@ use Rattle.mime_text.proofs.MagicLemmas.Steps.{bind_ok, ok_is}
 use Rattle.mime_text.proofs.MagicLemmas.HeadFound.{head_found}
 use Rattle.mime_text.proofs.MagicLemmas.SectionsFound.{EndsLines, lines_found, regroup_section, section_found}
 use Rattle.mime_text.proofs.FaultLemmas.FaultSteps.{bind_err}
-use Rattle.mime_text.proofs.FaultLemmas.FaultBodies.{LineFails}
+use Rattle.mime_text.proofs.FaultLemmas.FaultKinds.{LineFails}
 use Rattle.mime_text.proofs.FaultLemmas.FaultSections.{lines_fail, head_fails, HeadFails}
 
 -- the sections before a head or a line that fails
 pub data BelowFails (bytes : List ℕ) (f : Fault) : Type 0 where
-  fails_head : (sections tail : List ℕ) (parts : List PlainFlatSection) → bytes ≡ sections ++ tail → AreSections sections parts → HeadFails tail f
-      → (sections ≡ []) ⊎ EndsLines tail → BelowFails bytes f
-  fails_line : (sections last line : List ℕ) (parts : List PlainFlatSection) (section : PlainFlatSection) → bytes ≡ sections ++ (last ++ line)
-      → AreSections sections parts → IsSection last section
+  fails_head : (sections tail : List ℕ) (parts : List PlainFlatSection) → bytes ≡ sections ++ tail
+      → AreSections sections parts → HeadFails tail f → (sections ≡ []) ⊎ EndsLines tail → BelowFails bytes f
+  fails_line : (sections last line : List ℕ) (parts : List PlainFlatSection) (section : PlainFlatSection)
+      → bytes ≡ sections ++ (last ++ line) → AreSections sections parts → IsSection last section
       → (BeginsMarker line → ⊥) → LineFails (limit_after 0 section.entries) line f → BelowFails bytes f
 
 -- a section that is read ends where no line begins
@@ -64,8 +65,8 @@ section_fails b bytes f e =
     ]
 
 -- a whole section before what fails
-after_section : (bytes text rest : List ℕ) (part : PlainFlatSection) (f : Fault) → bytes ≡ text ++ rest → IsSection text part → EndsLines rest
-    → BelowFails rest f → BelowFails bytes f
+after_section : (bytes text rest : List ℕ) (part : PlainFlatSection) (f : Fault) → bytes ≡ text ++ rest → IsSection text part
+    → EndsLines rest → BelowFails rest f → BelowFails bytes f
 after_section bytes text rest part f b s ends (fails_head sections tail parts is are h no_line) =
     let after : EndsLines tail = elim no_line [
       | inl none ↦ subst EndsLines (is ∙ ap (λ (t : List ℕ). t ++ tail) none) ends

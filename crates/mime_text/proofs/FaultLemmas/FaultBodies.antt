@@ -1,38 +1,16 @@
 -- The parts of a line after its `>` that fail have that fault by the table.
 use Rattle.std.proofs.Common.{◌≡◌, ℕ, ◌+◌, List, [], ◌∷◌, ◌++◌, length, length-append, Err, refl, sym, ap, subst, ◌∙◌, arith, inl, inr}
 use Rattle.mime_text.specs.declared.magic.fault.Fault.{Fault}
-use Rattle.mime_text.specs.declared.magic.fault.MagicFaultKind.TheVariants.{NoHeader, Truncated, BadSection, BadNumber, BadWord, BadIndent, TooDeep}
-use Rattle.mime_text.specs.declared.magic.fault.MagicFaultKind.{MagicFaultKind}
-use Rattle.mime_text.specs.Magic.Reading.{fault_at, number_at, start_at, value_at, mask_at, word_at, range_at, body_at}
-use Rattle.mime_text.specs.Magic.FaultTable.{IsToIndent, IsToStart, IsToValue, IsToMask, IsToWord, IsBeforeNumber, before_start, before_word, before_range, IsCut, in_number, in_length, in_value, in_mask, IsMisnumbered, bad_number, no_equals, IsMisworded, IsMisindented, IsTooDeep, IsCutAtEnd}
-use Rattle.mime_text.proofs.FaultLemmas.FaultSteps.{bind_err, Places, places_end, places_behind}
+use Rattle.mime_text.specs.declared.magic.fault.MagicFaultKind.TheVariants.{BadNumber, BadWord}
+use Rattle.mime_text.specs.Magic.Reading.{number_at, start_at, value_at, mask_at, word_at, range_at, body_at}
+use Rattle.mime_text.specs.Magic.FaultTable.{IsToIndent, IsToStart, IsToValue, IsToMask, IsToWord, IsBeforeNumber, before_start}
+use Rattle.mime_text.specs.Magic.FaultTable.{before_word, before_range, in_number, in_length, in_value, in_mask, bad_number, no_equals}
+use Rattle.mime_text.proofs.FaultLemmas.FaultSteps.{bind_err, places_behind}
+use Rattle.mime_text.proofs.FaultLemmas.FaultKinds.{LineFails, cut}
 use Rattle.mime_text.proofs.FaultLemmas.FaultNumbers.{number_fails}
 use Rattle.mime_text.proofs.FaultLemmas.FaultMarks.{start_fails}
 use Rattle.mime_text.proofs.FaultLemmas.FaultOptions.{value_fails, mask_fails, word_fails, range_fails}
 use Rattle.mime_text.proofs.FaultLemmas.FaultFronts.{grown, grow_start, grow_value, grow_mask, grow_word}
-
--- the faults of a line, by kind
-abbrev pub LineFault : MagicFaultKind → ℕ → List ℕ → ℕ → Type 0
-LineFault NoHeader limit line at = ⊥
-LineFault Truncated limit line at = IsCutAtEnd limit line at
-LineFault BadSection limit line at = ⊥
-LineFault BadNumber limit line at = IsMisnumbered limit line at
-LineFault BadWord limit line at = IsMisworded limit line at
-LineFault BadIndent limit line at = IsMisindented limit line at
-LineFault TooDeep limit line at = IsTooDeep limit line at
-
--- the fault by the table of a line that fails
-pub record LineFails (limit : ℕ) (line : List ℕ) (f : Fault) : Type 0 where
-  pub kind : MagicFaultKind
-  pub at : ℕ
-  pub is : LineFault kind limit line at
-  pub places : Places f (length line) kind at
-
--- a line that is cut
-pub cut : (limit : ℕ) (line : List ℕ) (f : Fault) → f ≡ fault_at Truncated 0 → IsCut limit line → LineFails limit line f
-cut limit line f e is =
-    subst (λ (g : Fault). LineFails limit line g) (sym e)
-    (record { kind = Truncated; at = length line; is = (is, refl); places = places_end line (length line) refl })
 
 -- a number that fails where one has to stand
 at_number : (limit : ℕ) (line before rest : List ℕ) (f : Fault) → line ≡ before ++ rest → IsBeforeNumber limit before

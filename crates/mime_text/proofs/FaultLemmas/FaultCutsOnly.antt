@@ -1,5 +1,6 @@
 -- A line that is cut by the table fails so.
-use Rattle.std.proofs.Common.{◌≡◌, ℕ, ◌+◌, ◌*◌, ◌<◌, eqb, ltb, List, [], ◌∷◌, ◌++◌, length, Err, refl, sym, ap, subst, ◌∙◌, append_assoc, arith}
+use Rattle.std.proofs.Common.{◌≡◌, ℕ, ◌+◌, ◌*◌, ◌<◌, eqb, ltb, List, [], ◌∷◌, ◌++◌, length, Err, refl, sym, ap, subst, ◌∙◌, append_assoc}
+use Rattle.std.proofs.Common.{arith}
 use Rattle.std.proofs.lemmas.Bool.{lt-ltb, ne_eqb, cond-true, cond-false}
 use Rattle.std.proofs.lemmas.List.{append-nil}
 use Rattle.mime_base.specs.Magic.{PlainLine}
@@ -14,7 +15,8 @@ use Rattle.mime_text.proofs.FaultLemmas.FaultSteps.{bind_fails, bind_to, Places}
 use Rattle.mime_text.proofs.FaultLemmas.FaultNumbers.{number_cut}
 use Rattle.mime_text.proofs.FaultLemmas.FaultStarts.{digits_start}
 use Rattle.mime_text.proofs.FaultLemmas.FaultIndentsOnly.{front_number}
-use Rattle.mime_text.proofs.FaultLemmas.FaultFrontsOnly.{indent_then, start_then, value_then, mask_then, number_then, fail_so, after_body, after_start, after_value}
+use Rattle.mime_text.proofs.FaultLemmas.FaultFrontsOnly.{indent_then, start_then, value_then, mask_then, number_then, fail_so, after_body}
+use Rattle.mime_text.proofs.FaultLemmas.FaultFrontsOnly.{after_start, after_value}
 
 -- the fault that reading the line gives
 pub record LineGives (limit : ℕ) (line : List ℕ) (kind : MagicFaultKind) (at : ℕ) : Type 0 where
@@ -49,7 +51,8 @@ mask_cut size cut less = bind_fails (bytes_at size cut) _ (fault_at Truncated 0)
 pub row_cut : (cut : List ℕ) → NoNewline cut → row_at cut ≡ Err (fault_at Truncated 0)
 unfolding row_at
 row_cut [] none = refl
-row_cut (b ∷ cut) none = cond-false (eqb b 10) _ _ (ne_eqb b 10 none.0) ∙ bind_fails (row_at cut) _ (fault_at Truncated 0) (row_cut cut none.1)
+row_cut (b ∷ cut) none =
+    cond-false (eqb b 10) _ _ (ne_eqb b 10 none.0) ∙ bind_fails (row_at cut) _ (fault_at Truncated 0) (row_cut cut none.1)
 
 -- what fails after all parts
 pub end_then : (limit : ℕ) (own : PlainLine) (next : ℕ) (line before after : List ℕ) (f : Fault) → line ≡ before ++ next ∷ after

@@ -9,7 +9,7 @@ use Rattle.mime_text.specs.declared.magic.fault.MagicFaultKind.{MagicFaultKind}
 use Rattle.mime_text.specs.Magic.Entries.{ignored, PlainEntry}
 use Rattle.mime_text.specs.Magic.Text.{IsOptional, IsMask, goes_on, NoNewline, IsLine}
 use Rattle.mime_text.specs.Magic.FaultTable.{IsToMask, IsToWord, IsToEnd, IsFinal}
-use Rattle.mime_text.proofs.FaultLemmas.FaultBodies.{LineFault}
+use Rattle.mime_text.proofs.FaultLemmas.FaultKinds.{LineFault}
 
 -- this is a whole line, or has a fault that stays
 abbrev pub IsSettled : ℕ → List ℕ → Type 0

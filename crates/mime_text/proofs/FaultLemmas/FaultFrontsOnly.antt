@@ -1,18 +1,19 @@
 -- After a whole front of a line, what fails next fails the line.
-use Rattle.std.proofs.Common.{◌≡◌, ℕ, false, eqb, ltb, leb, List, [], ◌∷◌, ◌++◌, length, Option, Result, Ok, Err, refl, sym, ap, ◌∙◌, append_assoc, arith}
+use Rattle.std.proofs.Common.{◌≡◌, ℕ, false, eqb, ltb, leb, List, [], ◌∷◌, ◌++◌, length, Option, Result, Ok, Err, refl, sym, ap, ◌∙◌}
+use Rattle.std.proofs.Common.{append_assoc, arith}
 use Rattle.std.proofs.lemmas.Bool.{le-ltb, lt-leb, cond-false}
 use Rattle.mime_base.specs.Magic.{PlainLine, line_from}
 use Rattle.mime_text.specs.declared.magic.fault.Fault.{Fault}
 use Rattle.mime_text.specs.Magic.Entries.{PlainEntry}
-use Rattle.mime_text.specs.Magic.Reading.{◌>>=◌, number_at, indent_at, start_at, value_at, mask_at, word_at, range_at, body_at, end_at, line_at}
+use Rattle.mime_text.specs.Magic.Reading.{◌>>=◌, number_at, indent_at, start_at, value_at, mask_at, word_at, range_at, body_at, end_at}
+use Rattle.mime_text.specs.Magic.Reading.{line_at}
 use Rattle.mime_text.specs.Magic.Text.{IsOptional}
-use Rattle.mime_text.specs.Magic.FaultTable.{IsToIndent, IsToStart, IsToValue, IsToMask, IsToWord, IsBeforeNumber, before_start, before_word, before_range}
+use Rattle.mime_text.specs.Magic.FaultTable.{IsToIndent, IsToStart, IsToValue, IsToMask, IsToWord, IsBeforeNumber, before_start}
+use Rattle.mime_text.specs.Magic.FaultTable.{before_word, before_range}
 use Rattle.mime_text.proofs.MagicLemmas.OptionsFound.{Passes, PassesMask}
 use Rattle.mime_text.proofs.MagicLemmas.PartsOnly.{start_only, indent_only, value_only}
 use Rattle.mime_text.proofs.MagicLemmas.OptionsOnly.{mask_only, word_only}
 use Rattle.mime_text.proofs.FaultLemmas.FaultSteps.{bind_fails, bind_to}
-
--- ---- how reading goes on after each part
 
 -- after the word
 abbrev pub after_word : ℕ → List ℕ → Option (List ℕ) → ℕ → List ℕ → Result (PlainLine × List ℕ) Fault
@@ -47,7 +48,7 @@ step : {A : Type 0} (left : ℕ) (f : Fault) (r : Result A Fault) (x : A) (s : A
     → FailsSo left f (s x) → FailsSo left f (r >>= s)
 step left f r x s e h depth = ap (λ (t : Result _ Fault). (t >>= s) >>= after_body left depth) e ∙ h depth
 
--- ---- what fails next fails the line
+-- ---- after each part
 
 -- a part moves from the front
 ungrown : (before part tail : List ℕ) (front : List ℕ) → front ≡ before ++ part → front ++ tail ≡ before ++ (part ++ tail)

@@ -1,11 +1,13 @@
 -- A line that fails has that fault by the table.
-use Rattle.std.proofs.Common.{◌≡◌, ℕ, ◌+◌, ◌≤◌, false, true, eqb, ltb, leb, List, [], ◌∷◌, ◌++◌, length, Ok, Err, refl, sym, ap, subst, ◌∙◌, append_assoc, arith, inl, inr}
+use Rattle.std.proofs.Common.{◌≡◌, ℕ, ◌+◌, ◌≤◌, false, true, eqb, ltb, leb, List, [], ◌∷◌, ◌++◌, length, Ok, Err, refl, sym, ap, subst, ◌∙◌}
+use Rattle.std.proofs.Common.{append_assoc, arith, inl, inr}
 use Rattle.std.proofs.lemmas.Bool.{ltb-true, ltb-false, leb-true, leb-false, eqb-true, eqb-false, or_from, both_ways}
 use Rattle.mime_base.specs.Magic.{PlainLine}
 use Rattle.mime_text.specs.declared.magic.fault.Fault.{Fault}
 use Rattle.mime_text.specs.declared.magic.fault.MagicFaultKind.TheVariants.{Truncated, BadNumber, BadIndent, TooDeep}
 use Rattle.mime_text.specs.Magic.Reading.{fault_at, is_digit, starts_line, indent_at, row_at, body_at, end_at, line_at}
-use Rattle.mime_text.specs.Magic.FaultTable.{IsToIndent, IsToEnd, IsIndented, in_indent, before_end, before_newline, large_indent, large_sum, no_mark, too_far}
+use Rattle.mime_text.specs.Magic.FaultTable.{IsToIndent, IsToEnd, IsIndented, in_indent, before_end, before_newline, large_indent}
+use Rattle.mime_text.specs.Magic.FaultTable.{large_sum, no_mark, too_far}
 use Rattle.mime_text.proofs.MagicLemmas.Steps.{chosen}
 use Rattle.mime_text.proofs.MagicLemmas.PartsFound.{indent_found}
 use Rattle.mime_text.proofs.MagicLemmas.BodyFound.{body_found}
@@ -14,7 +16,8 @@ use Rattle.mime_text.proofs.FaultLemmas.FaultNumbers.{number_fails}
 use Rattle.mime_text.proofs.FaultLemmas.FaultMarks.{indent_fails}
 use Rattle.mime_text.proofs.FaultLemmas.FaultOptions.{row_fails}
 use Rattle.mime_text.proofs.FaultLemmas.FaultFronts.{grown, ends_at_mask}
-use Rattle.mime_text.proofs.FaultLemmas.FaultBodies.{LineFails, cut, body_fails}
+use Rattle.mime_text.proofs.FaultLemmas.FaultKinds.{LineFails, cut}
+use Rattle.mime_text.proofs.FaultLemmas.FaultBodies.{body_fails}
 
 -- an end that fails
 end_fails : (limit : ℕ) (line before tail : List ℕ) (x : PlainLine × List ℕ) (f : Fault) → line ≡ before ++ tail

@@ -1,17 +1,20 @@
 -- A line that has a fault by the table fails so.
-use Rattle.std.proofs.Common.{◌≡◌, ℕ, ◌+◌, false, eqb, leb, List, [], ◌∷◌, ◌++◌, length, length-append, Err, refl, sym, ap, ◌∙◌, append_assoc, arith, inr}
+use Rattle.std.proofs.Common.{◌≡◌, ℕ, ◌+◌, false, eqb, leb, List, [], ◌∷◌, ◌++◌, length, length-append, Err, refl, sym, ap, ◌∙◌}
+use Rattle.std.proofs.Common.{append_assoc, arith, inr}
 use Rattle.std.specs.Prelude.{◌≢◌}
 use Rattle.std.proofs.lemmas.Bool.{le-leb, ne_eqb, cond-true, cond-false}
 use Rattle.mime_base.specs.Magic.{fits_word}
 use Rattle.mime_text.specs.declared.magic.fault.Fault.{Fault}
-use Rattle.mime_text.specs.declared.magic.fault.MagicFaultKind.TheVariants.{NoHeader, Truncated, BadSection, BadNumber, BadWord, BadIndent, TooDeep}
+use Rattle.mime_text.specs.declared.magic.fault.MagicFaultKind.TheVariants.{NoHeader, Truncated, BadSection, BadNumber, BadWord, BadIndent}
+use Rattle.mime_text.specs.declared.magic.fault.MagicFaultKind.TheVariants.{TooDeep}
 use Rattle.mime_text.specs.declared.magic.fault.MagicFaultKind.{MagicFaultKind}
 use Rattle.mime_text.specs.Magic.Reading.{fault_at, number_at, byte_at, start_at, word_at, body_at, end_at, line_at}
 use Rattle.mime_text.specs.Magic.Text.{IsNumber}
-use Rattle.mime_text.specs.Magic.FaultTable.{IsEnded, IsMisnumbered, large_indent, bad_number, no_equals, large_sum, IsMisworded, IsMisindented, no_mark, too_far}
+use Rattle.mime_text.specs.Magic.FaultTable.{IsEnded, IsMisnumbered, large_indent, bad_number, no_equals, large_sum, IsMisworded}
+use Rattle.mime_text.specs.Magic.FaultTable.{IsMisindented, no_mark, too_far}
 use Rattle.mime_text.proofs.FaultLemmas.FaultSteps.{bind_fails, bind_to, places_end, places_behind, places_first}
 use Rattle.mime_text.proofs.FaultLemmas.FaultNumbers.{number_bad, number_ended}
-use Rattle.mime_text.proofs.FaultLemmas.FaultBodies.{LineFault}
+use Rattle.mime_text.proofs.FaultLemmas.FaultKinds.{LineFault}
 use Rattle.mime_text.proofs.FaultLemmas.FaultStarts.{ended_starts, large_some}
 use Rattle.mime_text.proofs.FaultLemmas.FaultIndentsOnly.{front_number, front_unmarked, front_far, front_deep}
 use Rattle.mime_text.proofs.FaultLemmas.FaultFrontsOnly.{indent_then, mask_then, number_then, fail_so, after_mask}
@@ -46,7 +49,8 @@ misnumbered limit line at (bad_number before rest is place bad e) = record {
 misnumbered limit line at (no_equals before rest start n next is i num ended other e) = record {
   fails = fault_at BadNumber (length rest);
   is = ap (line_at limit) is ∙ indent_then limit before i rest (fault_at BadNumber (length rest))
-      (fail_so (length (before ++ rest)) (fault_at BadNumber (length rest)) (body_at rest) (start_unmarked rest start n next num ended other));
+      (fail_so (length (before ++ rest)) (fault_at BadNumber (length rest)) (body_at rest)
+      (start_unmarked rest start n next num ended other));
   places = places_behind BadNumber before rest line at is e;
 }
 misnumbered limit line at (large_sum before after own is end large e) = record {
@@ -76,7 +80,8 @@ misworded limit line at w =
           (λ bytes start value mask same. fail_so bytes f (after_mask start value mask (126 ∷ w.rest))
           (bind_fails (word_at (length value) (126 ∷ w.rest)) _ f
           (ap (λ (n : ℕ). word_at n (126 ∷ w.rest)) same ∙ word_misfit w.size w.rest w.word w.n w.next w.word_is w.ended w.misfit)));
-      places = places_behind BadWord (w.before ++ 126 ∷ []) w.rest line at whole (omega (arith, w.place, length-append w.before (126 ∷ [])));
+      places = places_behind BadWord (w.before ++ 126 ∷ []) w.rest line at whole
+          (omega (arith, w.place, length-append w.before (126 ∷ [])));
     }
 
 -- an indent that is wrong

@@ -1,6 +1,7 @@
 -- What is wrong with a line stays so where bytes are appended.
 use Rattle.std.proofs.Common.{◌≡◌, ℕ, ◌<◌, List, [], ◌∷◌, ◌++◌, length, refl, sym, ap, ◌∙◌, append_assoc, arith, inl, inr, ◌⊎◌}
-use Rattle.mime_text.specs.Magic.FaultTable.{IsEnded, IsBadNumber, IsIndented, IsMisnumbered, large_indent, bad_number, no_equals, large_sum, IsMisworded, IsMisindented, no_mark, too_far}
+use Rattle.mime_text.specs.Magic.FaultTable.{IsEnded, IsBadNumber, IsIndented, IsMisnumbered, large_indent, bad_number, no_equals}
+use Rattle.mime_text.specs.Magic.FaultTable.{large_sum, IsMisworded, IsMisindented, no_mark, too_far}
 
 -- of two fronts of one text, one is the front of the other
 pub divided : (a b c d : List ℕ) → a ++ b ≡ c ++ d → ((k : List ℕ) × (a ≡ c ++ k)) ⊎ ((k : List ℕ) × (c ≡ a ++ k) × (0 < length k))

@@ -1,11 +1,13 @@
 -- Lines, heads and sections that fail: what is whole before, and what is wrong.
-use Rattle.std.proofs.Common.{◌≡◌, ℕ, zero, suc, ◌+◌, ◌≤◌, eqb, List, [], ◌∷◌, ◌++◌, length, Option, Some, None, Result, Ok, Err, refl, sym, ap, ◌∙◌, append_assoc, arith, inl, inr}
+use Rattle.std.proofs.Common.{◌≡◌, ℕ, zero, suc, ◌+◌, ◌≤◌, eqb, List, [], ◌∷◌, ◌++◌, length, Option, Some, None, Result, Ok, Err, refl, sym}
+use Rattle.std.proofs.Common.{ap, ◌∙◌, append_assoc, arith, inl, inr}
 use Rattle.std.specs.Prelude.{◌≢◌}
 use Rattle.std.proofs.lemmas.Bool.{eqb-true, eqb-false}
 use Rattle.mime_text.specs.declared.magic.fault.Fault.{Fault}
 use Rattle.mime_text.specs.declared.magic.fault.MagicFaultKind.TheVariants.{Truncated, BadSection}
 use Rattle.mime_text.specs.Magic.Entries.{PlainEntry}
-use Rattle.mime_text.specs.Magic.Reading.{fault_at, line_at, after_prefix, marker_at, marked, entry_at, starts_line, lines_at, row_at, head_of, instead, head_at}
+use Rattle.mime_text.specs.Magic.Reading.{fault_at, line_at, after_prefix, marker_at, marked, entry_at, starts_line, lines_at, row_at}
+use Rattle.mime_text.specs.Magic.Reading.{head_of, instead, head_at}
 use Rattle.mime_text.specs.Magic.Text.{NoNewline, BeginsMarker, AreLines}
 use Rattle.mime_text.specs.Magic.FaultTable.{limit_after, IsHead}
 use Rattle.mime_text.proofs.MagicLemmas.Steps.{chosen}
@@ -14,7 +16,7 @@ use Rattle.mime_text.proofs.MagicLemmas.EntryFound.{entry_found}
 use Rattle.mime_text.proofs.MagicLemmas.SectionsOnly.{head_row_only}
 use Rattle.mime_text.proofs.FaultLemmas.FaultSteps.{fault_is, bind_err}
 use Rattle.mime_text.proofs.FaultLemmas.FaultOptions.{row_fails}
-use Rattle.mime_text.proofs.FaultLemmas.FaultBodies.{LineFails}
+use Rattle.mime_text.proofs.FaultLemmas.FaultKinds.{LineFails}
 use Rattle.mime_text.proofs.FaultLemmas.FaultLines.{line_fails}
 
 -- ---- lines

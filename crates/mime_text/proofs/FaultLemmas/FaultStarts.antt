@@ -3,11 +3,15 @@ use Rattle.std.proofs.Common.{◌≡◌, ℕ, ◌<◌, ◌≤◌, true, eqb, Lis
 use Rattle.std.proofs.lemmas.Bool.{or_right}
 use Rattle.mime_base.specs.Magic.{PlainLine}
 use Rattle.mime_text.specs.declared.magic.fault.MagicFaultKind.{MagicFaultKind}
-use Rattle.mime_text.specs.declared.magic.fault.MagicFaultKind.TheVariants.{NoHeader, Truncated, BadSection, BadNumber, BadWord, BadIndent, TooDeep}
+use Rattle.mime_text.specs.declared.magic.fault.MagicFaultKind.TheVariants.{NoHeader, Truncated, BadSection, BadNumber, BadWord, BadIndent}
+use Rattle.mime_text.specs.declared.magic.fault.MagicFaultKind.TheVariants.{TooDeep}
 use Rattle.mime_text.specs.Magic.Reading.{is_digit, starts_line}
 use Rattle.mime_text.specs.Magic.Text.{value_of, AreDigits, IsIndent}
-use Rattle.mime_text.specs.Magic.FaultTable.{IsToIndent, IsToStart, IsToValue, IsToMask, IsToWord, IsToEnd, IsEnded, IsIndented, IsBeforeNumber, before_start, before_word, before_range, IsCut, in_indent, in_number, in_length, in_value, in_mask, before_end, before_newline, IsMisnumbered, large_indent, bad_number, no_equals, large_sum, IsMisindented, no_mark, too_far}
-use Rattle.mime_text.proofs.FaultLemmas.FaultBodies.{LineFault}
+use Rattle.mime_text.specs.Magic.FaultTable.{IsToIndent, IsToStart, IsToValue, IsToMask, IsToWord, IsToEnd, IsEnded, IsIndented}
+use Rattle.mime_text.specs.Magic.FaultTable.{IsBeforeNumber, before_start, before_word, before_range, IsCut, in_indent, in_number}
+use Rattle.mime_text.specs.Magic.FaultTable.{in_length, in_value, in_mask, before_end, before_newline, IsMisnumbered, large_indent}
+use Rattle.mime_text.specs.Magic.FaultTable.{bad_number, no_equals, large_sum, IsMisindented, no_mark, too_far}
+use Rattle.mime_text.proofs.FaultLemmas.FaultKinds.{LineFault}
 
 -- the first byte is a digit
 abbrev pub StartsDigit : List ℕ → Type 0

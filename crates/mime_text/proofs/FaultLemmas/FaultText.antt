@@ -1,9 +1,11 @@
 -- A text that fails has that fault by the table.
-use Rattle.std.proofs.Common.{◌≡◌, ℕ, ◌+◌, List, [], ◌∷◌, ◌++◌, length, length-append, Option, Some, None, Result, Ok, Err, refl, sym, ap, subst, ◌∙◌, append_assoc, arith, inl, inr, ◌⊎◌}
+use Rattle.std.proofs.Common.{◌≡◌, ℕ, ◌+◌, List, [], ◌∷◌, ◌++◌, length, length-append, Option, Some, None, Result, Ok, Err, refl, sym, ap}
+use Rattle.std.proofs.Common.{subst, ◌∙◌, append_assoc, arith, inl, inr, ◌⊎◌}
 use Rattle.mime_text.specs.declared.magic.fault.Fault.{Fault}
 use Rattle.mime_text.specs.declared.magic.fault.MagicFault.TheVariants.{Malformed}
 use Rattle.mime_text.specs.declared.magic.fault.MagicFaultKind.{MagicFaultKind}
-use Rattle.mime_text.specs.declared.magic.fault.MagicFaultKind.TheVariants.{NoHeader, Truncated, BadSection, BadNumber, BadWord, BadIndent, TooDeep}
+use Rattle.mime_text.specs.declared.magic.fault.MagicFaultKind.TheVariants.{NoHeader, Truncated, BadSection, BadNumber, BadWord, BadIndent}
+use Rattle.mime_text.specs.declared.magic.fault.MagicFaultKind.TheVariants.{TooDeep}
 use Rattle.mime_text.specs.declared.magic.fault.MagicFault.{MagicFault}
 use Rattle.mime_text.specs.Magic.Entries.{PlainFlatSection}
 use Rattle.mime_text.specs.Magic.Reading.{fault_at, after_prefix, header, below_header, whole, placed, fault_in, magic_fault}
@@ -12,7 +14,7 @@ use Rattle.mime_text.specs.Magic.FaultTable.{AreWhole, limit_after, IsBeforeLine
 use Rattle.mime_text.proofs.MagicLemmas.Prefixes.{after_prefix_only, after_prefix_found}
 use Rattle.mime_text.proofs.MagicLemmas.SectionsFound.{EndsLines}
 use Rattle.mime_text.proofs.FaultLemmas.FaultSteps.{fault_is}
-use Rattle.mime_text.proofs.FaultLemmas.FaultBodies.{LineFault}
+use Rattle.mime_text.proofs.FaultLemmas.FaultKinds.{LineFault}
 use Rattle.mime_text.proofs.FaultLemmas.FaultSections.{HeadFails, head_cut, head_wrong, head_none}
 use Rattle.mime_text.proofs.FaultLemmas.FaultBelow.{below_fails, BelowFails, fails_head, fails_line}
 

@@ -1,10 +1,12 @@
 -- A text that has a fault by the table fails so.
-use Rattle.std.proofs.Common.{◌≡◌, ℕ, ◌+◌, ◌<◌, List, [], ◌∷◌, ◌++◌, length, length-append, Option, Some, None, Err, refl, sym, ap, subst, ◌∙◌, append_assoc, arith, inl, inr}
+use Rattle.std.proofs.Common.{◌≡◌, ℕ, ◌+◌, ◌<◌, List, [], ◌∷◌, ◌++◌, length, length-append, Option, Some, None, Err, refl, sym, ap, subst}
+use Rattle.std.proofs.Common.{◌∙◌, append_assoc, arith, inl, inr}
 use Rattle.std.specs.Prelude.{◌≢◌}
 use Rattle.mime_text.specs.declared.magic.fault.MagicFaultKind.{MagicFaultKind}
 use Rattle.mime_text.specs.declared.magic.fault.Fault.{Fault}
 use Rattle.mime_text.specs.declared.magic.fault.MagicFault.TheVariants.{Malformed, OutOfMemory}
-use Rattle.mime_text.specs.declared.magic.fault.MagicFaultKind.TheVariants.{NoHeader, Truncated, BadSection, BadNumber, BadWord, BadIndent, TooDeep}
+use Rattle.mime_text.specs.declared.magic.fault.MagicFaultKind.TheVariants.{NoHeader, Truncated, BadSection, BadNumber, BadWord, BadIndent}
+use Rattle.mime_text.specs.declared.magic.fault.MagicFaultKind.TheVariants.{TooDeep}
 use Rattle.mime_text.specs.declared.magic.fault.MagicFault.{MagicFault}
 use Rattle.mime_text.specs.Magic.Entries.{PlainFlatSection}
 use Rattle.mime_text.specs.Magic.Reading.{fault_at, section_at, after_prefix, header, below_header, whole, placed, fault_in, magic_fault}
@@ -12,7 +14,7 @@ use Rattle.mime_text.specs.Magic.Text.{AreSections}
 use Rattle.mime_text.specs.Magic.FaultTable.{AreWhole, IsCutHead, IsMisheaded, IsMisplaced, HasFault, InLine}
 use Rattle.mime_text.proofs.MagicLemmas.Prefixes.{after_prefix_only, after_prefix_found}
 use Rattle.mime_text.proofs.MagicLemmas.SectionsFound.{EndsLines}
-use Rattle.mime_text.proofs.FaultLemmas.FaultBodies.{LineFault}
+use Rattle.mime_text.proofs.FaultLemmas.FaultKinds.{LineFault}
 use Rattle.mime_text.proofs.FaultLemmas.FaultStarts.{StartsLine, line_starts}
 use Rattle.mime_text.proofs.FaultLemmas.FaultLinesOnly.{line_gives}
 use Rattle.mime_text.proofs.FaultLemmas.FaultSectionsOnly.{entry_then, section_then, Follows, sections_then}
@@ -71,7 +73,8 @@ at_section text before rest at is place =
 cut_only : (text : List ℕ) (at : ℕ) → IsCutHead text → at ≡ length text → magic_fault text ≡ Some (Malformed Truncated at)
 cut_only text at cut place =
     text_then text cut.before (91 ∷ cut.row) (fault_at Truncated 0) cut.before_are cut.whole (omega arith)
-    (ends_follow cut.before_are.parts (91 ∷ cut.row) refl) (head_then (91 ∷ cut.row) (fault_at Truncated 0) (cut_head cut.row cut.open_ended))
+    (ends_follow cut.before_are.parts (91 ∷ cut.row) refl)
+    (head_then (91 ∷ cut.row) (fault_at Truncated 0) (cut_head cut.row cut.open_ended))
     ∙ ap (λ (n : ℕ). Some (Malformed Truncated n)) (omega (arith, place))
 
 -- a head that is wrong

@@ -1,9 +1,11 @@
 -- Which texts with a fault can go on: those that are cut, and those that end inside the header or a marker.
-use Rattle.std.proofs.Common.{◌≡◌, ℕ, List, [], ◌∷◌, ◌++◌, length, length-append, Option, Some, None, refl, sym, ap, subst, ◌∙◌, append_assoc, arith, inl, inr}
+use Rattle.std.proofs.Common.{◌≡◌, ℕ, List, [], ◌∷◌, ◌++◌, length, length-append, Option, Some, None, refl, sym, ap, subst, ◌∙◌}
+use Rattle.std.proofs.Common.{append_assoc, arith, inl, inr}
 use Rattle.std.proofs.lemmas.List.{append-nil}
 use Rattle.mime_text.specs.declared.magic.fault.MagicFault.{MagicFault}
 use Rattle.mime_text.specs.declared.magic.fault.MagicFault.TheVariants.{Malformed, OutOfMemory}
-use Rattle.mime_text.specs.declared.magic.fault.MagicFaultKind.TheVariants.{NoHeader, Truncated, BadSection, BadNumber, BadWord, BadIndent, TooDeep}
+use Rattle.mime_text.specs.declared.magic.fault.MagicFaultKind.TheVariants.{NoHeader, Truncated, BadSection, BadNumber, BadWord, BadIndent}
+use Rattle.mime_text.specs.declared.magic.fault.MagicFaultKind.TheVariants.{TooDeep}
 use Rattle.mime_text.specs.Magic.Entries.{marker, PlainEntry, PlainFlatSection}
 use Rattle.mime_text.specs.Magic.Reading.{after_prefix, header}
 use Rattle.mime_text.specs.Magic.Text.{MagicText}
@@ -84,7 +86,8 @@ none_front [] more e = refl
 none_front (b ∷ text) more e = absurd cc
 
 -- a text without a header can go on only inside the header
-no_header_open : (text : List ℕ) (at : ℕ) → HasFault text (Malformed NoHeader at) → CanGoOn text (Malformed NoHeader at) → IsOpen text (Malformed NoHeader at)
+no_header_open : (text : List ℕ) (at : ℕ) → HasFault text (Malformed NoHeader at) → CanGoOn text (Malformed NoHeader at)
+    → IsOpen text (Malformed NoHeader at)
 no_header_open text at has can = go (after_prefix header (text ++ can.0)) refl
   where
     go : (o : Option (List ℕ)) → after_prefix header (text ++ can.0) ≡ o → IsOpen text (Malformed NoHeader at)

@@ -3,16 +3,18 @@ use Rattle.std.proofs.Common.{◌≡◌, ℕ, List, ◌∷◌, ◌++◌, Option,
 use Rattle.mime_text.specs.declared.magic.fault.MagicFault.{MagicFault}
 use Rattle.mime_text.specs.declared.magic.fault.MagicFault.TheVariants.{Malformed, OutOfMemory}
 use Rattle.mime_text.specs.declared.magic.fault.MagicFaultKind.{MagicFaultKind}
-use Rattle.mime_text.specs.declared.magic.fault.MagicFaultKind.TheVariants.{NoHeader, Truncated, BadSection, BadNumber, BadWord, BadIndent, TooDeep}
+use Rattle.mime_text.specs.declared.magic.fault.MagicFaultKind.TheVariants.{NoHeader, Truncated, BadSection, BadNumber, BadWord, BadIndent}
+use Rattle.mime_text.specs.declared.magic.fault.MagicFaultKind.TheVariants.{TooDeep}
 use Rattle.mime_text.specs.Magic.Reading.{marker_at}
 use Rattle.mime_text.specs.Magic.Text.{IsMarker, BeginsMarker}
 use Rattle.mime_text.specs.Magic.FaultTable.{IsBeforeLine, InLine, HasFault, IsFinal, EndsInMarker}
 use Rattle.mime_text.proofs.MagicLemmas.EntryFound.{marker_found}
-use Rattle.mime_text.proofs.FaultLemmas.FaultBodies.{LineFault}
+use Rattle.mime_text.proofs.FaultLemmas.FaultKinds.{LineFault}
 use Rattle.mime_text.proofs.FaultLemmas.FaultStarts.{StartsLine, line_starts}
 use Rattle.mime_text.proofs.FaultLemmas.FaultSections.{begins_read}
 use Rattle.mime_text.proofs.FaultLemmas.FaultSectionsOnly.{starts_some}
-use Rattle.mime_text.proofs.FaultLemmas.FaultLinesStay.{divided, longer, misnumbered_stays, misworded_stays, indented_stays, misindented_stays}
+use Rattle.mime_text.proofs.FaultLemmas.FaultLinesStay.{divided, longer, misnumbered_stays, misworded_stays, indented_stays}
+use Rattle.mime_text.proofs.FaultLemmas.FaultLinesStay.{misindented_stays}
 
 -- no marker begins where none did, or the text ends inside one
 pub marker_stays : (text before line more : List ℕ) (limit : ℕ) → text ≡ before ++ line → IsBeforeLine limit before → StartsLine line

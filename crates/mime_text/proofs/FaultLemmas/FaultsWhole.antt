@@ -9,8 +9,8 @@ use Rattle.mime_text.specs.Magic.FaultTable.{limit_after, IsBeforeLine}
 -- ---- whole texts with more
 
 -- lines after lines
-lines_append : (limit : ℕ) (text : List ℕ) (entries : List PlainEntry) (rest : List ℕ) (others : List PlainEntry) → AreLines limit text entries
-    → AreLines (limit_after limit entries) rest others → AreLines limit (text ++ rest) (entries ++ others)
+lines_append : (limit : ℕ) (text : List ℕ) (entries : List PlainEntry) (rest : List ℕ) (others : List PlainEntry)
+    → AreLines limit text entries → AreLines (limit_after limit entries) rest others → AreLines limit (text ++ rest) (entries ++ others)
 lines_append limit text [] rest others are more = subst (λ (t : List ℕ). AreLines limit (t ++ rest) others) (sym are) more
 lines_append limit text (item ∷ entries) rest others are more = (
   are.0,
@@ -39,8 +39,8 @@ section_append last rest section others is more = record {
     regroup text kind lines rest = simp append_assoc
 
 -- a section after sections
-pub sections_append : (text last : List ℕ) (parts : List PlainFlatSection) (section : PlainFlatSection) → AreSections text parts → IsSection last section
-    → AreSections (text ++ last) (parts ++ section ∷ [])
+pub sections_append : (text last : List ℕ) (parts : List PlainFlatSection) (section : PlainFlatSection)
+    → AreSections text parts → IsSection last section → AreSections (text ++ last) (parts ++ section ∷ [])
 sections_append text last [] section are is =
     subst (λ (t : List ℕ). AreSections (t ++ last) (section ∷ [])) (sym are) (last, [], sym (append-nil last), is, refl)
 sections_append text last (part ∷ parts) section are is = (
@@ -53,10 +53,11 @@ sections_append text last (part ∷ parts) section are is = (
 )
 
 -- lines where a line may come make a whole text
-pub whole_lines : (limit : ℕ) (text before rest : List ℕ) (others : List PlainEntry) → IsBeforeLine limit before → AreLines limit rest others
-    → text ≡ before ++ rest → (parts : List PlainFlatSection) × MagicText text parts
+pub whole_lines : (limit : ℕ) (text before rest : List ℕ) (others : List PlainEntry) → IsBeforeLine limit before
+    → AreLines limit rest others → text ≡ before ++ rest → (parts : List PlainFlatSection) × MagicText text parts
 whole_lines limit text before rest others b are is =
-    let section : PlainFlatSection = record { priority = b.section.priority; kind = b.section.kind; entries = b.section.entries ++ others } in
+    let section : PlainFlatSection =
+    record { priority = b.section.priority; kind = b.section.kind; entries = b.section.entries ++ others } in
     let last : List ℕ = b.last ++ rest in
     let after : AreLines (limit_after 0 b.section.entries) rest others = subst (λ (n : ℕ). AreLines n rest others) (sym b.limit_is) are in
     let s : IsSection last section = section_append b.last rest b.section others b.last_is after in

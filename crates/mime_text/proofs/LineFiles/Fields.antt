@@ -1,5 +1,7 @@
 -- The pieces around a separator of one byte are the fields.
-use Rattle.std.proofs.Common.{◌≡◌, ℕ, zero, suc, ◌+◌, ◌-◌, ◌≤◌, Bool, true, false, cond, List, [], ◌∷◌, ◌++◌, length, take, drop, get_or, eqb, ap, ap₂, ◌∙◌, refl, sym, add-one, arith, ⊎_elim, length-drop, take_all, append-nil, append_assoc, subst, drop-drop}
+use Rattle.std.proofs.Common.{◌≡◌, ℕ, zero, suc, ◌+◌, ◌-◌, ◌≤◌, Bool, true, false, cond, List, [], ◌∷◌, ◌++◌, length, take, drop, get_or}
+use Rattle.std.proofs.Common.{eqb, ap, ap₂, ◌∙◌, refl, sym, add-one, arith, ⊎_elim, length-drop, take_all, append-nil, append_assoc, subst}
+use Rattle.std.proofs.Common.{drop-drop}
 use Rattle.std.proofs.lemmas.Bool.{cases_Bool, cond-true, cond-false, le-leb, lt-leb, and_left}
 use Rattle.std.proofs.Math.Bool.{and-true}
 use Rattle.std.proofs.lemmas.List.Splits.{slice_split-cons_yes, slice_split-cons_no}
@@ -100,7 +102,8 @@ split_at-from : (line : List ℕ) (c last i : ℕ) (xs : List ℕ) → last ≤ 
     → split_at line 1 last (matches_from line (c ∷ []) 0 i (suc (length xs))) ≡ onto_front (part last i line) (fields c xs)
 split_at-from line c last i [] le e fits =
     let none = occurs_at-end line c i (omega arith) in
-    let whole : take (i - last) (drop last line) ≡ drop last line = take_all (i - last) (drop last line) (omega (arith, length-drop last line)) in
+    let whole : take (i - last) (drop last line) ≡ drop last line =
+    take_all (i - last) (drop last line) (omega (arith, length-drop last line)) in
     ap (split_at line 1 last) (matches_from-miss line c i 0 none ∙ matches_from-end line c (suc i))
     ∙ split_at-nil line last
     ∙ ap (λ piece. piece ∷ []) (sym (append-nil (part last i line) ∙ whole))

@@ -1,5 +1,6 @@
 -- The first line of a text, by the place of its newline.
-use Rattle.std.proofs.Common.{◌≡◌, ℕ, zero, suc, ◌+◌, ◌<◌, ◌≤◌, true, false, List, [], ◌∷◌, length, take, drop, get_or, eqb, ap, ◌∙◌, add-one, arith, ⊎_elim}
+use Rattle.std.proofs.Common.{◌≡◌, ℕ, zero, suc, ◌+◌, ◌<◌, ◌≤◌, true, false, List, [], ◌∷◌, length, take, drop, get_or, eqb, ap, ◌∙◌}
+use Rattle.std.proofs.Common.{add-one, arith, ⊎_elim}
 use Rattle.std.proofs.lemmas.Bool.{cond-true, cond-false, cases_Bool, false_from_ne_true}
 use Rattle.std.specs.List.{onto_first}
 use Rattle.memchr.specs.Find.{Passes, is_byte, NoneBefore, Nowhere}

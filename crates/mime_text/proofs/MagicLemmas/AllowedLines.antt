@@ -1,5 +1,6 @@
 -- Lines that are spelled so keep what magic allows of a line.
-use Rattle.std.proofs.Common.{◌≡◌, ℕ, suc, ◌+◌, ◌<◌, true, List, [], ◌∷◌, ◌++◌, length, get_or, Option, Some, None, refl, sym, subst, arith, inl, inr, eq-eqb}
+use Rattle.std.proofs.Common.{◌≡◌, ℕ, suc, ◌+◌, ◌<◌, true, List, [], ◌∷◌, ◌++◌, length, get_or, Option, Some, None, refl, sym, subst, arith}
+use Rattle.std.proofs.Common.{inl, inr, eq-eqb}
 use mir.Val.{Fits}
 use mir.Syntax.{w8}
 use Rattle.std.proofs.Math.Facts.{Fits-lt-pow}

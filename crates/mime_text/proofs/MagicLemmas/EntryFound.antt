@@ -1,5 +1,6 @@
 -- A marker or a line against the grammar: what is read is spelled so.
-use Rattle.std.proofs.Common.{◌≡◌, ℕ, ◌<◌, List, ◌++◌, length, length-append, Option, Some, None, Ok, refl, sym, ap, subst, ◌∙◌, append_assoc, arith, inl, inr, ◌⊎◌}
+use Rattle.std.proofs.Common.{◌≡◌, ℕ, ◌<◌, List, ◌++◌, length, length-append, Option, Some, None, Ok, refl, sym, ap, subst, ◌∙◌}
+use Rattle.std.proofs.Common.{append_assoc, arith, inl, inr, ◌⊎◌}
 use Rattle.mime_text.specs.Magic.Entries.{marker, PlainEntry}
 use Rattle.mime_text.specs.Magic.Reading.{line_at, unsized, short, sized, after_prefix, or_else, marker_at, marked, entry_at}
 use Rattle.mime_text.specs.Magic.Text.{IsMarker, BeginsMarker, IsEntry}

@@ -1,5 +1,6 @@
 -- A deletion marker or a line: what is spelled so is read. A marker that begins within a line ends within it.
-use Rattle.std.proofs.Common.{◌≡◌, ℕ, Bool, true, false, eqb, cond, List, [], ◌∷◌, ◌++◌, Option, Some, None, Ok, refl, sym, ap, ◌∙◌, append_assoc, inl, inr, eq-eqb}
+use Rattle.std.proofs.Common.{◌≡◌, ℕ, Bool, true, false, eqb, cond, List, [], ◌∷◌, ◌++◌, Option, Some, None, Ok, refl, sym, ap, ◌∙◌}
+use Rattle.std.proofs.Common.{append_assoc, inl, inr, eq-eqb}
 use Rattle.mime_base.specs.Magic.{PlainLine}
 use Rattle.mime_text.specs.Magic.Entries.{PlainRole, kept, ignored, marker, PlainEntry}
 use Rattle.mime_text.specs.Magic.Reading.{line_at, unsized, short, sized, after_prefix, or_else, marker_at, marked, entry_at}

@@ -3,7 +3,8 @@ use Rattle.std.proofs.Common.{◌≡◌, ℕ, ◌<◌, true, false, cond, ltb, L
 use Rattle.std.proofs.lemmas.Bool.{cases_Bool, lt-ltb, le-ltb, cond-true, cond-false, ltb-true, ltb-false}
 use Rattle.mime_text.specs.Magic.Entries.{PlainRole, kept, ignored, marker, PlainEntry}
 use Rattle.mime_base.specs.Magic.{Forest, PlainMatchlet, forest_of}
-use Rattle.mime_text.specs.Magic.Forest.{PlainRoot, and_matchlet, deeper, others, kept_matchlets, root_over, roots_of, matchlet_of, forest, run, after_run, with_children, IsByRuns}
+use Rattle.mime_text.specs.Magic.Forest.{PlainRoot, and_matchlet, deeper, others, kept_matchlets, root_over, roots_of, matchlet_of, forest}
+use Rattle.mime_text.specs.Magic.Forest.{run, after_run, with_children, IsByRuns}
 
 -- the deeper ones among the deeper
 deeper_deeper : (d e : ℕ) (ts : List PlainRoot) → d < e → deeper e (deeper d ts) ≡ deeper e ts

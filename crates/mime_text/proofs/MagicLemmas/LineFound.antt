@@ -1,5 +1,6 @@
 -- The end of a line, and a whole line, against the grammar: what is read is spelled so.
-use Rattle.std.proofs.Common.{◌≡◌, ℕ, ◌+◌, ◌<◌, eqb, ltb, leb, cond, List, [], ◌∷◌, ◌++◌, length, length-append, Ok, Err, refl, sym, ap, subst, ◌∙◌, append_assoc, arith, inl, inr}
+use Rattle.std.proofs.Common.{◌≡◌, ℕ, ◌+◌, ◌<◌, eqb, ltb, leb, cond, List, [], ◌∷◌, ◌++◌, length, length-append, Ok, Err, refl, sym, ap}
+use Rattle.std.proofs.Common.{subst, ◌∙◌, append_assoc, arith, inl, inr}
 use Rattle.std.proofs.lemmas.Bool.{ltb-false, eqb-true, eqb-false, leb-false}
 use Rattle.mime_text.specs.declared.magic.fault.MagicFaultKind.TheVariants.{BadNumber, BadIndent, TooDeep}
 use Rattle.mime_base.specs.Magic.{PlainLine}
@@ -28,7 +29,8 @@ end_found left own (b ∷ bytes) x e =
     (cond (leb 4294967296 (own.start + own.range + length own.value)) (Err (fault_at BadNumber left)) (Ok (kept own, bytes)))
     (row_at bytes >>= λ row. Ok (ignored, row.1)) (Ok x) e) [
       | inl h ↦
-          let g = guard_off (leb 4294967296 (own.start + own.range + length own.value)) (fault_at BadNumber left) (Ok (kept own, bytes)) x h.1 in
+          let wrong = fault_at BadNumber left in
+          let g = guard_off (leb 4294967296 (own.start + own.range + length own.value)) wrong (Ok (kept own, bytes)) x h.1 in
           subst (λ (y : PlainRole × List ℕ). Ended own (b ∷ bytes) y.0 y.1) (ok_is (kept own, bytes) x g.1) (record {
             first = b;
             end = [];

@@ -1,5 +1,6 @@
 -- The digits at the front of a text.
-use Rattle.std.proofs.Common.{◌≡◌, ℕ, ◌+◌, ◌-◌, ◌*◌, ◌<◌, true, false, leb, List, [], ◌∷◌, ◌++◌, length, length-append, Ok, subst, eqb, ◌||◌, inl, inr, ap, sym, ◌∙◌, refl, arith}
+use Rattle.std.proofs.Common.{◌≡◌, ℕ, ◌+◌, ◌-◌, ◌*◌, ◌<◌, true, false, leb, List, [], ◌∷◌, ◌++◌, length, length-append, Ok, subst, eqb}
+use Rattle.std.proofs.Common.{◌||◌, inl, inr, ap, sym, ◌∙◌, refl, arith}
 use Rattle.std.proofs.lemmas.Bool.{cases_Bool, lt-leb, or_parts, or_from, eqb-false, ne_eqb, leb-false, cond-true, cond-false}
 use Rattle.mime_text.specs.declared.magic.fault.Fault.{Fault}
 use Rattle.mime_text.specs.declared.magic.fault.MagicFaultKind.TheVariants.{BadNumber}

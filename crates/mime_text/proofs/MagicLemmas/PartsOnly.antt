@@ -1,5 +1,6 @@
 -- Indent, start and value of a line: what is spelled so is read.
-use Rattle.std.proofs.Common.{◌≡◌, ℕ, ◌+◌, ◌*◌, ◌≤◌, true, false, eqb, ltb, leb, List, [], ◌∷◌, ◌++◌, length, length-append, Ok, refl, sym, ap, ◌∙◌, arith, eq-eqb}
+use Rattle.std.proofs.Common.{◌≡◌, ℕ, ◌+◌, ◌*◌, ◌≤◌, true, false, eqb, ltb, leb, List, [], ◌∷◌, ◌++◌, length, length-append, Ok, refl, sym}
+use Rattle.std.proofs.Common.{ap, ◌∙◌, arith, eq-eqb}
 use Rattle.std.proofs.lemmas.Bool.{le-ltb, ne_eqb, and_parts, leb-true, cond-true, cond-false}
 use Rattle.std.proofs.lemmas.List.{take_at, drop_at}
 use Rattle.mime_text.specs.declared.magic.fault.Fault.{Fault}
@@ -35,7 +36,8 @@ indent_only (b ∷ text) n rest is =
     let whole : List ℕ = b ∷ (text ++ 62 ∷ rest) in
     cond-false (eqb b 62) _ _ other
     ∙ bind_on (number_at whole) (n, 62 ∷ rest) _ (n, rest) (number_only (b ∷ text) n 62 rest is refl)
-    (bind_on (byte_at 62 (fault_at BadIndent (length whole)) (62 ∷ rest)) rest _ (n, rest) (byte_only 62 (fault_at BadIndent (length whole)) rest) refl)
+    (bind_on (byte_at 62 (fault_at BadIndent (length whole)) (62 ∷ rest)) rest _ (n, rest)
+    (byte_only 62 (fault_at BadIndent (length whole)) rest) refl)
 
 -- so many bytes before a rest are read
 pub bytes_only : (n : ℕ) (v rest : List ℕ) → length v ≡ n → bytes_at n (v ++ rest) ≡ Ok (v, rest)

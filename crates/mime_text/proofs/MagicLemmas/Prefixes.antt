@@ -1,5 +1,6 @@
 -- What stands after a front, and after the row up to a newline.
-use Rattle.std.proofs.Common.{◌≡◌, ℕ, zero, suc, ◌+◌, ◌<◌, true, false, eqb, List, [], ◌∷◌, ◌++◌, length, take, drop, get_or, Option, Some, None, MatchOption, Result, Ok, Err, refl, sym, ap, subst, ◌∙◌, eq-eqb, arith, inl, inr}
+use Rattle.std.proofs.Common.{◌≡◌, ℕ, zero, suc, ◌+◌, ◌<◌, true, false, eqb, List, [], ◌∷◌, ◌++◌, length, take, drop, get_or, Option, Some}
+use Rattle.std.proofs.Common.{None, MatchOption, Result, Ok, Err, refl, sym, ap, subst, ◌∙◌, eq-eqb, arith, inl, inr}
 use Rattle.std.specs.Prelude.{◌≢◌}
 use Rattle.std.proofs.lemmas.Bool.{eqb-true, eqb-false, ne_eqb, cases_Bool, cond-true, cond-false}
 use Rattle.memchr.specs.Find.{IsFirstByte, is_byte}
@@ -91,7 +92,8 @@ row_cut (b ∷ bytes) (suc k) low before at =
     row_on b bytes (take k bytes) (drop (k + 1) bytes) other rest ∙ sym (ap (λ (m : ℕ). Ok (b ∷ take k bytes, drop m (b ∷ bytes))) n)
 
 -- without a newline there is no row
-row_none : (bytes : List ℕ) → ((j : ℕ) → j < length bytes → eqb (get_or bytes j 0) 10 ≡ true → ⊥) → row_at bytes ≡ Err (fault_at Truncated 0)
+row_none : (bytes : List ℕ) → ((j : ℕ) → j < length bytes → eqb (get_or bytes j 0) 10 ≡ true → ⊥)
+    → row_at bytes ≡ Err (fault_at Truncated 0)
 unfolding row_at
 row_none [] never = refl
 row_none (b ∷ bytes) never =
@@ -102,6 +104,7 @@ row_none (b ∷ bytes) never =
 
 -- a search for the first newline gives the row before it
 pub row_searched : (bytes : List ℕ) (o : Option ℕ) → IsFirstByte (is_byte 10) bytes o
-    → MatchOption o (row_at bytes ≡ Err (fault_at Truncated 0)) (λ k. (k < length bytes) × (row_at bytes ≡ Ok (take k bytes, drop (k + 1) bytes)))
+    → MatchOption o (row_at bytes ≡ Err (fault_at Truncated 0))
+    (λ k. (k < length bytes) × (row_at bytes ≡ Ok (take k bytes, drop (k + 1) bytes)))
 row_searched bytes None first = row_none bytes (λ j lt. first j (omega arith) lt)
 row_searched bytes (Some k) first = (first.0.high, row_cut bytes k first.0.high (λ j lt. first.0.before j (omega arith) lt) first.1)

@@ -1,7 +1,9 @@
 -- Sections against the grammar: what is read is spelled so.
-use Rattle.std.proofs.Common.{◌≡◌, ℕ, zero, suc, ◌+◌, ◌<◌, ◌≤◌, false, List, [], ◌∷◌, ◌++◌, length, length-append, Option, Some, None, Ok, refl, sym, ap, subst, ◌∙◌, append_assoc, arith, inl, inr}
+use Rattle.std.proofs.Common.{◌≡◌, ℕ, zero, suc, ◌+◌, ◌<◌, ◌≤◌, false, List, [], ◌∷◌, ◌++◌, length, length-append, Option, Some, None, Ok}
+use Rattle.std.proofs.Common.{refl, sym, ap, subst, ◌∙◌, append_assoc, arith, inl, inr}
 use Rattle.mime_text.specs.Magic.Entries.{PlainEntry, PlainFlatSection}
-use Rattle.mime_text.specs.Magic.Reading.{◌>>=◌, head_at, entry_at, starts_line, lines_at, section_at, sections_at, after_prefix, header, below_header, whole}
+use Rattle.mime_text.specs.Magic.Reading.{◌>>=◌, head_at, entry_at, starts_line, lines_at, section_at, sections_at, after_prefix, header}
+use Rattle.mime_text.specs.Magic.Reading.{below_header, whole}
 use Rattle.mime_text.proofs.MagicLemmas.Prefixes.{after_prefix_found}
 use Rattle.mime_text.specs.Magic.Text.{AreLines, IsSection, AreSections, MagicText}
 use Rattle.mime_text.proofs.MagicLemmas.Steps.{bind_ok, chosen, ok_is, then_lines}

@@ -1,12 +1,14 @@
 -- What is spelled so is read: heads, sections and the whole.
-use Rattle.std.proofs.Common.{◌≡◌, ℕ, zero, suc, ◌-◌, ◌<◌, ◌≤◌, ◌&&◌, true, not, eqb, ltb, leb, List, [], ◌∷◌, ◌++◌, length, length-append, take, get_or, Ok, refl, sym, ap, subst, ◌∙◌, arith, inl, inr, eq-eqb}
+use Rattle.std.proofs.Common.{◌≡◌, ℕ, zero, suc, ◌-◌, ◌<◌, ◌≤◌, ◌&&◌, true, not, eqb, ltb, leb, List, [], ◌∷◌, ◌++◌, length, length-append}
+use Rattle.std.proofs.Common.{take, get_or, Ok, refl, sym, ap, subst, ◌∙◌, arith, inl, inr, eq-eqb}
 use Rattle.std.specs.List.{list_all}
 use Rattle.std.proofs.lemmas.Bool.{ltb-true, and_parts, and_from, cond-true}
 use Rattle.mime_text.specs.declared.magic.fault.Fault.{Fault}
 use Rattle.mime_text.specs.declared.magic.fault.MagicFaultKind.TheVariants.{BadSection}
 use Rattle.mime_base.specs.Names.{is_type_name, is_name_byte, has_inner_slash}
 use Rattle.mime_text.specs.Magic.Entries.{PlainFlatSection}
-use Rattle.mime_text.specs.Magic.Reading.{fault_at, number_at, byte_at, lines_at, row_at, kind_of, head_of, instead, head_at, section_at, sections_at, header, below_header, whole}
+use Rattle.mime_text.specs.Magic.Reading.{fault_at, number_at, byte_at, lines_at, row_at, kind_of, head_of, instead, head_at, section_at}
+use Rattle.mime_text.specs.Magic.Reading.{sections_at, header, below_header, whole}
 use Rattle.mime_text.specs.Magic.Text.{AreDigits, IsNumber, NoNewline, IsSection, AreSections, MagicText}
 use Rattle.mime_text.proofs.MagicLemmas.Steps.{bind_on}
 use Rattle.mime_text.proofs.MagicLemmas.Prefixes.{after_prefix_only, row_only}

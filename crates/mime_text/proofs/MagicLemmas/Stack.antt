@@ -1,6 +1,5 @@
 -- The stack of roots.
-use Rattle.std.proofs.Common.{◌≡◌, ℕ, ◌<◌, true, ltb, List, [], ◌∷◌, ◌++◌, map, Option, Some, None, MatchOption, sym, ap, ◌∙◌, append_assoc}
-use Rattle.std.proofs.lemmas.Bool.{lt-ltb}
+use Rattle.std.proofs.Common.{◌≡◌, ℕ, true, ltb, List, [], ◌∷◌, ◌++◌, map, Option, Some, None, MatchOption, sym, ap, ◌∙◌, append_assoc}
 use Rattle.std.proofs.lemmas.List.{reverse-append, append-nil}
 use Rattle.std.specs.Option.{option_to_list}
 use Rattle.mime_text.specs.declared.magic.forest.Root.{Root}
@@ -18,13 +17,13 @@ pub record Takes (d : ℕ) (all now : List PlainRoot) (front : List PlainMatchle
   pub left : others d all ≡ others d now
 
 -- the last root is popped where it is deeper
-pub popped : (d : ℕ) (all left : List Root) (o : Option Root) (r : Root) → o ≡ Some r → all ≡ left ++ option_to_list o → d < r.indent
-    → MatchOption o ((deeper d (stack all) ≡ []) × (others d (stack all) ≡ stack left))
+pub popped : (d : ℕ) (all left : List Root) (o : Option Root) (r : Root) → o ≡ Some r → all ≡ left ++ option_to_list o
+    → ltb d r.indent ≡ true → MatchOption o ((deeper d (stack all) ≡ []) × (others d (stack all) ≡ stack left))
     (λ r. (stack all ≡ plain_root r ∷ stack left) × (ltb d r.indent ≡ true))
 popped d all left None r is parts deep = absurd cc
 popped d all left (Some x) r is parts deep =
     let same : x ≡ r = cc in
-    (ap stack parts ∙ stack-push left x, rw same (lt-ltb d r.indent deep))
+    (ap stack parts ∙ stack-push left x, rw same deep)
 
 -- what the loop over all roots keeps, where `front` are the matchlets taken
 pub record TakesAll (all now : List PlainRoot) (front : List PlainMatchlet) : Type 0 where

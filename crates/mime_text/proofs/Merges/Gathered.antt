@@ -23,7 +23,8 @@ append-more f items new dirs dir so_far added =
 
 -- a part more
 part-more : {A : Type 0} (kind_of : A → List ℕ) (part : DirFiles → List A × List (List ℕ)) (dirs : List DirFiles) (dir : DirFiles)
-    (items : List A) (deleted : List (List ℕ)) → KeepsParts kind_of items deleted (map part dirs ++ part dir ∷ []) → KeepsParts kind_of items deleted (map part (dirs ++ dir ∷ []))
+    (items : List A) (deleted : List (List ℕ)) → KeepsParts kind_of items deleted (map part dirs ++ part dir ∷ [])
+    → KeepsParts kind_of items deleted (map part (dirs ++ dir ∷ []))
 part-more kind_of part dirs dir items deleted keeps = subst (KeepsParts kind_of items deleted) (sym (map_push part dirs dir)) keeps
 
 -- all lists of a directory more
@@ -31,7 +32,8 @@ pub gathers-more : (lists new : Lists) (dirs : List DirFiles) (dir : DirFiles) �
     → Gathers new (dirs ++ dir ∷ [])
 gathers-more lists new dirs dir gathers adds = record {
   rules = part-more _ globs_part dirs dir _ _ (keeps-more _ _ _ (globs_part dir) _ _ (map globs_part dirs) gathers.rules adds.rules);
-  sections = part-more _ magic_part dirs dir _ _ (keeps-more _ _ _ (magic_part dir) _ _ (map magic_part dirs) gathers.sections adds.sections);
+  sections = part-more _ magic_part dirs dir _ _
+      (keeps-more _ _ _ (magic_part dir) _ _ (map magic_part dirs) gathers.sections adds.sections);
   aliases = append-more (λ d. d.aliases.pairs.items) _ _ dirs dir gathers.aliases adds.aliases;
   subclasses = append-more (λ d. d.subclasses.pairs.items) _ _ dirs dir gathers.subclasses adds.subclasses;
   icons = append-more (λ d. d.icons.icons.items) _ _ dirs dir gathers.icons adds.icons;

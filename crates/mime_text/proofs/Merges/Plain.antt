@@ -4,7 +4,8 @@ use Rattle.std.proofs.Math.Bool.{and-true}
 use Rattle.std.specs.Str.{bytes_eq}
 use Rattle.mime_base.specs.Database.{PlainDatabase}
 use Rattle.mime_base.specs.Magic.{FallByPriority, PlainSection, are_allowed_sections, plain_section, plain_sections}
-use Rattle.mime_base.specs.Database.PlainPairs.{are_distinct_pairs, have_distinct_names, is_same_pair, plain_icon, plain_icons, plain_pair, plain_pairs}
+use Rattle.mime_base.specs.Database.PlainPairs.{are_distinct_pairs, have_distinct_names, is_same_pair, plain_icon, plain_icons, plain_pair}
+use Rattle.mime_base.specs.Database.PlainPairs.{plain_pairs}
 use Rattle.mime_base.specs.declared.database.icon.Icon.{Icon}
 use Rattle.mime_base.specs.declared.database.pair.Pair.{Pair}
 use Rattle.mime_base.specs.declared.database.rule.GlobRule.{GlobRule}
@@ -60,7 +61,9 @@ pub sections_fall : (sorted kept : List Section) → sorted ≡ falling (λ sect
     → FallByPriority (plain_sections sorted)
 sections_fall sorted kept is =
     let priority = λ (section : PlainSection). section.priority in
-    subst FallByPriority (sym (sections_plain sorted kept is)) (sorted_from_falls priority (falling priority (plain_sections kept)) (falls_falling priority (plain_sections kept)))
+    let sections = plain_sections kept in
+    subst FallByPriority (sym (sections_plain sorted kept is))
+    (sorted_from_falls priority (falling priority sections) (falls_falling priority sections))
 
 -- each line is one that magic can spell
 pub sections_allowed : (sorted kept : List Section) → sorted ≡ falling (λ section. section.priority) kept
@@ -71,8 +74,22 @@ sections_allowed sorted kept is allowed =
 -- ---- the database
 
 -- a database by its lists
-pub same_lists : (rules rules' : List GlobRule) (aliases aliases' parents parents' : List (List ℕ × List ℕ)) (sections sections' : List PlainSection) (icons icons' generic_icons generic_icons' : List (List ℕ × List ℕ))
+pub same_lists : (rules rules' : List GlobRule) (aliases aliases' parents parents' : List (List ℕ × List ℕ))
+    (sections sections' : List PlainSection) (icons icons' generic_icons generic_icons' : List (List ℕ × List ℕ))
     → rules ≡ rules' → aliases ≡ aliases' → parents ≡ parents' → sections ≡ sections' → icons ≡ icons' → generic_icons ≡ generic_icons'
-    → ◌≡◌ {A = PlainDatabase} (record { rules = rules; aliases = aliases; parents = parents; sections = sections; icons = icons; generic_icons = generic_icons })
-    (record { rules = rules'; aliases = aliases'; parents = parents'; sections = sections'; icons = icons'; generic_icons = generic_icons' })
+    → ◌≡◌ {A = PlainDatabase} (record {
+      rules = rules;
+      aliases = aliases;
+      parents = parents;
+      sections = sections;
+      icons = icons;
+      generic_icons = generic_icons;
+    }) (record {
+      rules = rules';
+      aliases = aliases';
+      parents = parents';
+      sections = sections';
+      icons = icons';
+      generic_icons = generic_icons';
+    })
 same_lists rules rules' aliases aliases' parents parents' sections sections' icons icons' generic_icons generic_icons' r a p s i g = cc

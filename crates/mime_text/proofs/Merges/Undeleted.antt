@@ -1,5 +1,6 @@
 -- What markers leave, a directory more at a time.
-use Rattle.std.proofs.Common.{◌≡◌, ℕ, Bool, true, false, not, ◌&&◌, ◌||◌, List, [], ◌∷◌, ◌++◌, ap, ap₂, ◌∙◌, refl, sym, subst, ⊎_elim, append_assoc, append-nil}
+use Rattle.std.proofs.Common.{◌≡◌, ℕ, Bool, true, false, not, ◌&&◌, ◌||◌, List, [], ◌∷◌, ◌++◌, ap, ap₂, ◌∙◌, refl, sym, subst, ⊎_elim}
+use Rattle.std.proofs.Common.{append_assoc, append-nil}
 use Rattle.std.proofs.lemmas.Bool.{cases_Bool, cond-true, cond-false, or_right}
 use Rattle.std.proofs.lemmas.Grind.{flat_map-append}
 use Rattle.std.proofs.lemmas.List.Elements.{filter-append, filter_agree}
@@ -91,7 +92,8 @@ module _ {A : Type 0} (kind_of : A → List ℕ) where
   keeps-none = record { kept = refl; kinds = λ kind. refl }
 
   -- a directory more
-  pub keeps-more : (items : List A) (deleted : List (List ℕ)) (part : List A × List (List ℕ)) (new_items : List A) (new_deleted : List (List ℕ)) (parts : List (List A × List (List ℕ)))
+  pub keeps-more : (items : List A) (deleted : List (List ℕ)) (part : List A × List (List ℕ))
+      (new_items : List A) (new_deleted : List (List ℕ)) (parts : List (List A × List (List ℕ)))
       → KeepsParts kind_of items deleted parts → AddsPart kind_of items deleted part new_items new_deleted
       → KeepsParts kind_of new_items new_deleted (parts ++ part ∷ [])
   keeps-more items deleted part new_items new_deleted parts keeps adds = record {

@@ -5,10 +5,12 @@ use Rattle.mime_base.specs.Magic.{PlainLine, fits_word}
 use Rattle.mime_base.specs.Names.{is_type_name}
 use Rattle.mime_text.specs.declared.magic.fault.MagicFault.{MagicFault}
 use Rattle.mime_text.specs.declared.magic.fault.MagicFault.TheVariants.{Malformed, OutOfMemory}
-use Rattle.mime_text.specs.declared.magic.fault.MagicFaultKind.TheVariants.{NoHeader, Truncated, BadSection, BadNumber, BadWord, BadIndent, TooDeep}
+use Rattle.mime_text.specs.declared.magic.fault.MagicFaultKind.TheVariants.{NoHeader, Truncated, BadSection, BadNumber, BadWord, BadIndent}
+use Rattle.mime_text.specs.declared.magic.fault.MagicFaultKind.TheVariants.{TooDeep}
 use Rattle.mime_text.specs.Magic.Entries.{PlainEntry, PlainFlatSection}
 use Rattle.mime_text.specs.Magic.Reading.{is_digit, starts_line, header}
-use Rattle.mime_text.specs.Magic.Text.{value_of, AreDigits, IsNumber, IsIndent, IsOptional, IsMask, IsBody, NoNewline, IsMarker, BeginsMarker, IsSection, AreSections, MagicText}
+use Rattle.mime_text.specs.Magic.Text.{value_of, AreDigits, IsNumber, IsIndent, IsOptional, IsMask, IsBody, NoNewline, IsMarker}
+use Rattle.mime_text.specs.Magic.Text.{BeginsMarker, IsSection, AreSections, MagicText}
 
 -- ---- what is whole before the fault
 

@@ -1,5 +1,6 @@
 -- The worked faults of a text of magic by the table itself: what is whole before each, and what stands next.
-use Rattle.std.specs.Prelude.{◌≡◌, ℕ, true, false, ◌==◌, not, nat_lt, List, [], ◌∷◌, ◌++◌, codes, length, slice_index_or, Option, Some, None, refl}
+use Rattle.std.specs.Prelude.{◌≡◌, ℕ, true, false, ◌==◌, not, nat_lt, List, [], ◌∷◌, ◌++◌, codes, length, slice_index_or, Option, Some}
+use Rattle.std.specs.Prelude.{None, refl}
 use Rattle.std.specs.List.{list_all}
 use Rattle.std.proofs.Common.{sym, ap, subst, ◌∙◌, inl, inr}
 use Rattle.std.proofs.lemmas.Bool.{and_parts, ltb-true, leb-true, eqb-false, not-true, lt-ltb, false≢true}
@@ -9,7 +10,8 @@ use Rattle.mime_text.specs.declared.magic.fault.MagicFault.TheVariants.{Malforme
 use Rattle.mime_text.specs.declared.magic.fault.MagicFaultKind.TheVariants.{NoHeader, Truncated, BadSection, BadNumber, BadWord, BadIndent}
 use Rattle.mime_text.specs.Magic.Reading.{is_digit, after_prefix, marker_at, header}
 use Rattle.mime_text.specs.Magic.Text.{value_of, AreDigits, IsNumber, NoNewline, BeginsMarker}
-use Rattle.mime_text.specs.Magic.FaultTable.{AreWhole, IsBeforeLine, IsToIndent, IsToStart, IsToMask, IsToEnd, before_start, in_value, bad_number, large_sum, too_far, IsTooDeep, IsHead, HasFault}
+use Rattle.mime_text.specs.Magic.FaultTable.{AreWhole, IsBeforeLine, IsToIndent, IsToStart, IsToMask, IsToEnd, before_start, in_value}
+use Rattle.mime_text.specs.Magic.FaultTable.{bad_number, large_sum, too_far, IsTooDeep, IsHead, HasFault}
 
 -- what the rows compute with
 unfoldable computing : Unit {0}

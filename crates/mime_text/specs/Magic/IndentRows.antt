@@ -50,7 +50,8 @@ unfolding computing
 two_after_back = refl
 
 -- the first line of the next section has no line before it
-next_section : magic_fault (section (codes ">0=" ++ value_a ++ codes "[50:t/b]" ++ 10 ∷ codes "1>0=" ++ value_a)) ≡ Some (Malformed BadIndent 37)
+next_section : magic_fault (section (codes ">0=" ++ value_a ++ codes "[50:t/b]" ++ 10 ∷ codes "1>0=" ++ value_a))
+    ≡ Some (Malformed BadIndent 37)
 unfolding computing
 next_section = refl
 

@@ -4,14 +4,27 @@ use Rattle.mime_base.specs.Magic.{bare, line, PlainSection}
 use Rattle.mime_base.specs.Names.{is_type_name}
 use Rattle.mime_text.specs.declared.magic.fault.Fault.{Fault}
 use Rattle.mime_text.specs.declared.magic.fault.MagicFault.TheVariants.{Malformed}
-use Rattle.mime_text.specs.declared.magic.fault.MagicFaultKind.TheVariants.{NoHeader, Truncated, BadSection, BadNumber, BadWord, BadIndent, TooDeep}
-use Rattle.mime_text.specs.Magic.Reading.{◌>>=◌, digits_at, judged, number_at, byte_at, indent_at, start_at, bytes_at, value_at, mask_at, word_at, range_at, row_at, body_at, end_at, line_at, after_prefix, marker_at, entry_at, lines_at, kind_of, head_of, head_at, section_at, sections_at, header, whole, magic_fault}
+use Rattle.mime_text.specs.declared.magic.fault.MagicFaultKind.TheVariants.{NoHeader, Truncated, BadSection, BadNumber, BadWord, BadIndent}
+use Rattle.mime_text.specs.declared.magic.fault.MagicFaultKind.TheVariants.{TooDeep}
+use Rattle.mime_text.specs.Magic.Reading.{◌>>=◌, digits_at, judged, number_at, byte_at, indent_at, start_at, bytes_at, value_at, mask_at}
+use Rattle.mime_text.specs.Magic.Reading.{word_at, range_at, row_at, body_at, end_at, line_at, after_prefix, marker_at, entry_at, lines_at}
+use Rattle.mime_text.specs.Magic.Reading.{kind_of, head_of, head_at, section_at, sections_at, header, whole, magic_fault}
 use Rattle.mime_text.specs.Magic.Forest.{roots_of, forest}
 use Rattle.mime_text.specs.Magic.File.{kept_sections, deleted_kinds}
 
+-- what a line computes with
+unfoldable computing_line : Unit {0}
+unfolding digits_at judged number_at byte_at indent_at start_at bytes_at value_at mask_at word_at range_at row_at body_at end_at line_at
+computing_line = tt
+
+-- what a section computes with
+unfoldable computing_section : Unit {0}
+unfolding computing_line after_prefix marker_at entry_at lines_at kind_of head_of head_at section_at is_type_name
+computing_section = tt
+
 -- what the rows compute with
 unfoldable pub computing : Unit {0}
-unfolding digits_at judged number_at byte_at indent_at start_at bytes_at value_at mask_at word_at range_at row_at body_at end_at line_at after_prefix marker_at entry_at lines_at kind_of head_of head_at section_at sections_at whole magic_fault roots_of forest is_type_name
+unfolding computing_section sections_at whole magic_fault roots_of forest
 computing = tt
 
 -- the sections that are kept, and the types that are deleted

@@ -43,7 +43,7 @@ pub struct LineFile<T> {
 }
 
 /// Reads a line file.
-#[tactic(auto, using(crate::proofs::LineFiles::FirstLine::lines_within), unfolding(crate::specs::Lines::File::entries_by, crate::specs::Lines::skipped_of))]
+#[tactic(auto, unfolding(crate::specs::Lines::File::entries_by, crate::specs::Lines::skipped_of))]
 pub fn read_lines<T: LineEntry>(alloc: Global, bytes: &[u8]) -> Result<LineFile<T>, OutOfMemory>
     ensures entries { IfOk result (λ file. file.entries.items ≡ entries_by T.entry_of bytes.now) }
     ensures skipped { IfOk result (λ file. file.skipped.items

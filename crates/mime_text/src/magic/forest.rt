@@ -20,6 +20,12 @@ pub struct Root {
     matchlet: Option<Matchlet>,
 }
 
+fn is_deeper(root: &Root, indent: u32) -> bool
+    ensures { result ≡ nat_lt indent root.now.indent }
+{
+    root.indent > indent
+}
+
 /// The nearest root, if it is deeper.
 fn pop_deeper(roots: &mut Vec<Root>, indent: u32) -> Option<Root>
     ensures { let old = stack roots.old.items in let new = stack roots.new.items in
@@ -28,7 +34,7 @@ fn pop_deeper(roots: &mut Vec<Root>, indent: u32) -> Option<Root>
         (λ r. (old ≡ plain_root r ∷ new) × (nat_lt indent r.indent ≡ true)) }
 {
     match roots.last() {
-        Some(last) if last.indent > indent => roots.pop(),
+        Some(last) if is_deeper(last, indent) => roots.pop(),
         _ => None,
     }
 }

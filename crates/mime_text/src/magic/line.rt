@@ -3,7 +3,8 @@
 ghost use Rattle.std.specs.Prelude.{◌≡◌, Ok};
 ghost use Rattle.mime_base.specs.Magic.{fits_word, mask_bytes};
 ghost use Rattle.mime_text.specs.Magic.Entries.{plain_raw_line, plain_entry, plain_line, plain_role, slice_bytes};
-ghost use Rattle.mime_text.specs.Magic.Reading.{Reads, ReadsIfMemory, body_at, bytes_at, end_at, indent_at, line_at, mask_at, range_at, row_at, start_at, value_at, word_at};
+ghost use Rattle.mime_text.specs.Magic.Reading.{Reads, ReadsIfMemory, body_at, bytes_at, end_at, indent_at, line_at, mask_at, range_at};
+ghost use Rattle.mime_text.specs.Magic.Reading.{row_at, start_at, value_at, word_at};
 
 use super::entry::{Entry, Line, Role};
 use super::fault::{Fault, MagicFaultKind, ReadError, fault_at};

@@ -1,4 +1,4 @@
-use Rattle.std.proofs.Common.{◌≡◌, ◌<◌, ◌-◌, length, get_or, Some, arith, ap, ◌∙◌, vec_len}
+use Rattle.std.proofs.Common.{◌≡◌, ◌<◌, ◌-◌, length, get_or, Some, arith, ap, sym, ◌∙◌, vec_len}
 use Rattle.mime_text.proofs.MagicLemmas.Stack.{popped}
 use Rattle.mime_text.proofs.magic.forest.pop_deeper.Goals as goal
 
@@ -9,6 +9,8 @@ returns-in-Some c =
     let some : 0 < vec_len c.args.roots.now = omega (arith, li.3.0, ap length same) in
     let v = c.pop.ensures.value c.in-Some.last.now some in
     let n : length c.deref.result.now ≡ vec_len c.args.roots.now = c.deref.ensures.len in
-    let at : get_or c.args.roots.now.items (vec_len c.args.roots.now - 1) c.in-Some.last.now ≡ c.in-Some.last.now = (cc (same, n, li.1)) in
+    let last = c.in-Some.last.now in
+    let at : get_or c.args.roots.now.items (vec_len c.args.roots.now - 1) last ≡ last = (cc (same, n, li.1)) in
     popped c.args.indent c.args.roots.now.items c.pop.new.self.items c.pop.result c.in-Some.last.now
-    (v ∙ ap (λ r. Some r) at) c.pop.ensures.items c.if-last-indent.true
+    (v ∙ ap (λ r. Some r) at) c.pop.ensures.items
+    (sym c.is_deeper.ensures ∙ c.if-is_deeper.true)

@@ -15,7 +15,8 @@ loop-entry-preserved-in_ok-push g c =
     record {
       lengths = same;
       kept = ap (λ ys. picked marks entries ++ reverse ys) c.in_ok-push.ensures.items
-          ∙ takes-marked marks entries c.loop-entry.kept.items pops.mark pops.entry _ _ pops.ensures'.items pops.ensures.items same c.if-mark.true
+          ∙ takes-marked marks entries c.loop-entry.kept.items pops.mark pops.entry _ _ pops.ensures'.items pops.ensures.items same
+          c.if-mark.true
           ∙ c.loop-entry.invariant.kept;
     }
 
@@ -29,6 +30,7 @@ loop-entry-preserved g c =
     let same : length marks ≡ length entries = omega (arith, fewer, fewer_marks, c.loop-entry.invariant.lengths) in
     record {
       lengths = same;
-      kept = leaves-others marks entries c.loop-entry.kept.items pops.mark pops.entry _ _ pops.ensures'.items pops.ensures.items same c.if-mark.false
+      kept = leaves-others marks entries c.loop-entry.kept.items pops.mark pops.entry _ _ pops.ensures'.items pops.ensures.items same
+          c.if-mark.false
           ∙ c.loop-entry.invariant.kept;
     }
