@@ -1,5 +1,6 @@
 -- The choice among kept types, where there are no pairs.
-use Rattle.std.proofs.Common.{◌≡◌, ℕ, ◌+◌, ◌<◌, ◌≤◌, Bool, true, false, inl, inr, List, [], ◌∷◌, ◌++◌, length, take, drop, get_or, map, refl, sym, ap, subst, ◌∙◌, arith, MatchBool, bytes_eq}
+use Rattle.std.proofs.Common.{◌≡◌, ℕ, ◌+◌, ◌<◌, ◌≤◌, Bool, true, false, inl, inr, List, [], ◌∷◌, ◌++◌, length, take, drop}
+use Rattle.std.proofs.Common.{get_or, map, refl, sym, ap, subst, ◌∙◌, arith, MatchBool, bytes_eq}
 use Rattle.std.specs.List.{All, list_all}
 use Rattle.std.proofs.lemmas.Bool.{true≢false, and_from, and_parts}
 use Rattle.std.proofs.lemmas.List.{append-nil, drop_more, map-append, take-append-drop, take_all}
@@ -52,9 +53,12 @@ module _ (base other : List ℕ) where
         IsFirst no_pairs base other (map kind_of xs) (kind_of x)
     first-here x within is by_itself =
         let parts : take i xs ++ x ∷ drop (i + 1) xs ≡ xs =
-        ap (λ y. take i xs ++ y ∷ drop (i + 1) xs) is ∙ ap (λ end. take i xs ++ end) (sym (drop_more xs i x within)) ∙ take-append-drop i xs in
-        subst (λ ys. IsFirst no_pairs base other ys (kind_of x)) (sym (map-append kind_of (take i xs) (x ∷ drop (i + 1) xs)) ∙ ap (map kind_of) parts)
-        (first-behind (map kind_of (take i xs)) (kind_of x ∷ map kind_of (drop (i + 1) xs)) (kind_of x) front_fails (inl (([], by_itself), refl)))
+        ap (λ y. take i xs ++ y ∷ drop (i + 1) xs) is ∙ ap (λ end. take i xs ++ end) (sym (drop_more xs i x within))
+        ∙ take-append-drop i xs in
+        let kinds = sym (map-append kind_of (take i xs) (x ∷ drop (i + 1) xs)) ∙ ap (map kind_of) parts in
+        subst (λ ys. IsFirst no_pairs base other ys (kind_of x)) kinds
+        (first-behind (map kind_of (take i xs)) (kind_of x ∷ map kind_of (drop (i + 1) xs)) (kind_of x) front_fails
+        (inl (([], by_itself), refl)))
 
     -- none is it
     pub first-nowhere : length xs ≤ i → IsFirst no_pairs base other (map kind_of xs) other
@@ -72,16 +76,17 @@ one_type pairs base first (kind ∷ kinds) answer all (inr later) =
     one_type pairs base first kinds answer (and_parts (bytes_eq first kind) (list_all (bytes_eq first) kinds) all).1 later.1
 
 -- whether the types are one type need not be asked
-pub chooses-from_first : {X : Type 0} (pairs : Pairs) (kind_of : X → List ℕ) (base : List ℕ) (xs : List X) (answer : List ℕ) (d : X) → 0 < length xs →
-    IsFirst pairs base (kind_of (get_or xs 0 d)) (map kind_of xs) answer → ChoosesAmong pairs (map kind_of xs) base answer
+pub chooses-from_first : {X : Type 0} (pairs : Pairs) (kind_of : X → List ℕ) (base : List ℕ) (xs : List X) (answer : List ℕ) (d : X) →
+    0 < length xs → IsFirst pairs base (kind_of (get_or xs 0 d)) (map kind_of xs) answer → ChoosesAmong pairs (map kind_of xs) base answer
 chooses-from_first pairs kind_of base [] answer d some is = absurd (omega arith)
 chooses-from_first pairs kind_of base (x ∷ xs) answer d some is = by_cases (list_all (bytes_eq (kind_of x)) (map kind_of xs)) refl
   where
     by_cases : (one : Bool) → list_all (bytes_eq (kind_of x)) (map kind_of xs) ≡ one →
         MatchBool one (answer ≡ kind_of x) (IsFirst pairs base (kind_of x) (kind_of x ∷ map kind_of xs) answer)
     by_cases true all =
+        let same : bytes_eq (kind_of x) (kind_of x) ≡ true = (bytes_eq-Decides (kind_of x) (kind_of x)).1 refl in
         one_type pairs base (kind_of x) (kind_of x ∷ map kind_of xs) answer
-        (and_from (bytes_eq (kind_of x) (kind_of x)) (list_all (bytes_eq (kind_of x)) (map kind_of xs)) ((bytes_eq-Decides (kind_of x) (kind_of x)).1 refl) all) is
+        (and_from (bytes_eq (kind_of x) (kind_of x)) (list_all (bytes_eq (kind_of x)) (map kind_of xs)) same all) is
     by_cases false all = is
 
 -- the choice among the kept rules is that of the name
@@ -91,4 +96,5 @@ pub chooses-from_kept : (rules : List GlobRule) (name : List ℕ) (kept_for : Li
 unfolding Chooses kept resolved
 chooses-from_kept rules name kept_for answer is chosen =
     subst (λ kinds. ChoosesAmong no_pairs kinds sniffed answer)
-    (sym (map-map (λ (rule : GlobRule). rule.kind) (λ (rule : Bor GlobRule). rule.now) kept_for) ∙ ap (map (λ (rule : GlobRule). rule.kind)) is) chosen
+    (sym (map-map (λ (rule : GlobRule). rule.kind) (λ (rule : Bor GlobRule). rule.now) kept_for)
+    ∙ ap (map (λ (rule : GlobRule). rule.kind)) is) chosen

@@ -28,7 +28,8 @@ pub record KeepsBest (kept : List (ℕ × Bor GlobRule)) (rules : List GlobRule)
 -- an offer more
 pub keeps_more : (kept new : List (ℕ × Bor GlobRule)) (rules : List GlobRule) (rank : ℕ) (rule : Bor GlobRule) → KeepsBest kept rules →
     rank ≡ rank_of_rule rule.now → FitsRank rule.now →
-    ((offers : List (ℕ × Bor GlobRule)) → kept ≡ best offers → new ≡ best (offers ++ (rank, rule) ∷ [])) → KeepsBest new (rules ++ rule.now ∷ [])
+    ((offers : List (ℕ × Bor GlobRule)) → kept ≡ best offers → new ≡ best (offers ++ (rank, rule) ∷ [])) →
+    KeepsBest new (rules ++ rule.now ∷ [])
 keeps_more kept new rules rank rule so_far rank_is ranked says = record {
   offers = so_far.offers ++ (rank, rule) ∷ [];
   kept_is = says so_far.offers so_far.kept_is;
@@ -59,7 +60,8 @@ keeps_all kept rules name so_far =
     ∙ of_greatest-rank_of_rule found so_far.ranked
 
 -- one rule more, which is a hit or a miss
-module _ (rules : List GlobRule) (name : List ℕ) (i : ℕ) (rule : GlobRule) (within : i < length rules) (is : rule ≡ get_or rules i rule) where
+module _ (rules : List GlobRule) (name : List ℕ) (i : ℕ) (rule : GlobRule) (within : i < length rules)
+    (is : rule ≡ get_or rules i rule) where
   hits-more : hits (take (i + 1) rules) name ≡ hits (take i rules) name ++ cond (rule_matches rule.pattern rule.cased name) (rule ∷ []) []
   hits-more =
       filter_more (λ r. rule_matches r.pattern r.cased name) rules i rule within

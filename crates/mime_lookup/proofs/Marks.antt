@@ -1,5 +1,6 @@
 -- A mark more: which types are marked then, and how many pairs are left unmarked.
-use Rattle.std.proofs.Common.{append-nil, ◌≡◌, ◌⊎◌, ℕ, suc, ◌+◌, Bool, true, false, IsTrue, List, [], ◌∷◌, ◌++◌, length, refl, sym, ap, inl, inr, ⊎_elim, ◌∙◌, arith, bytes_eq}
+use Rattle.std.proofs.Common.{append-nil, ◌≡◌, ◌⊎◌, ℕ, suc, ◌+◌, Bool, true, false, IsTrue, List, [], ◌∷◌, ◌++◌, length, bytes_eq}
+use Rattle.std.proofs.Common.{refl, sym, ap, inl, inr, ⊎_elim, ◌∙◌, arith}
 use Rattle.std.proofs.lemmas.Bool.{cases_Bool}
 use Rattle.std.proofs.lemmas.Slice.Eq.{bytes_eq-Decides}
 use Rattle.mime_base.specs.Database.Subclass.{Pairs, above, parents}
@@ -26,7 +27,8 @@ marked_now (mark ∷ marks) kind =
     (λ miss. is_one_of-past mark kind (and_one marks kind) miss ∙ marked_now marks kind)
     (cases_Bool (bytes_eq mark kind))
 
-marked_others : (marks : List (List ℕ)) (kind x : List ℕ) → IsTrue (is_one_of (and_one marks kind) x) → IsTrue (is_one_of marks x) ⊎ (x ≡ kind)
+marked_others : (marks : List (List ℕ)) (kind x : List ℕ) → IsTrue (is_one_of (and_one marks kind) x) →
+    IsTrue (is_one_of marks x) ⊎ (x ≡ kind)
 marked_others [] kind x is =
     ⊎_elim
     (λ hit. inr (sym ((bytes_eq-Decides kind x).0 hit)))
@@ -77,7 +79,8 @@ unfolding unmarked
 unmarked-new pair pairs marked miss = rw miss refl
 
 -- a type that is neither marked nor the new one is not marked
-still_new : (marks : List (List ℕ)) (kind x : List ℕ) → is_one_of marks x ≡ false → bytes_eq x kind ≡ false → is_one_of (and_one marks kind) x ≡ false
+still_new : (marks : List (List ℕ)) (kind x : List ℕ) → is_one_of marks x ≡ false → bytes_eq x kind ≡ false →
+    is_one_of (and_one marks kind) x ≡ false
 still_new marks kind x fresh other =
     ⊎_elim
     (λ is.
@@ -99,7 +102,8 @@ unmarked-falls (pair ∷ pairs) kind marks new =
     (λ hit.
     let same : pair.0 ≡ kind = (bytes_eq-Decides pair.0 kind).0 hit in
     let before = unmarked-new pair pairs (is_one_of marks) (ap (is_one_of marks) same ∙ new) in
-    let after = unmarked-marked pair pairs (is_one_of (and_one marks kind)) (ap (is_one_of (and_one marks kind)) same ∙ marked_now marks kind) in
+    let marked = ap (is_one_of (and_one marks kind)) same ∙ marked_now marks kind in
+    let after = unmarked-marked pair pairs (is_one_of (and_one marks kind)) marked in
     omega (arith, rest, before, after, ap length (parents-here pair.0 pair.1 kind pairs hit)))
     (λ miss.
     let given = ap length (parents-past pair.0 pair.1 kind pairs miss) in

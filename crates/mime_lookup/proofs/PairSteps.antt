@@ -1,5 +1,6 @@
 -- One step of a scan over pairs or over marks.
-use Rattle.std.proofs.Common.{◌≡◌, ℕ, ◌+◌, ◌<◌, true, false, List, [], ◌∷◌, length, get_or, drop, refl, sym, ap, ◌∙◌, bytes_eq, ◌++◌, map, append_assoc}
+use Rattle.std.proofs.Common.{◌≡◌, ℕ, ◌+◌, ◌<◌, true, false, List, [], ◌∷◌, ◌++◌, length, get_or, drop, map, bytes_eq}
+use Rattle.std.proofs.Common.{refl, sym, ap, ◌∙◌, append_assoc}
 use Rattle.std.proofs.lemmas.List.{drop_more}
 use Rattle.mime_base.specs.Database.Subclass.{resolved, parents}
 use Rattle.mime_lookup.specs.Ancestry.{is_one_of}
@@ -9,7 +10,8 @@ pub items_from : {X : Type 0} (xs : List X) (i : ℕ) (x : X) → i < length xs 
 items_from xs i x within is = drop_more xs i x within ∙ ap (λ y. y ∷ drop (i + 1) xs) (sym is)
 
 -- an alias pair of the type, another, and none
-pub resolved-here : (alias target kind : List ℕ) (pairs : List (List ℕ × List ℕ)) → bytes_eq alias kind ≡ true → resolved ((alias, target) ∷ pairs) kind ≡ target
+pub resolved-here : (alias target kind : List ℕ) (pairs : List (List ℕ × List ℕ)) → bytes_eq alias kind ≡ true →
+    resolved ((alias, target) ∷ pairs) kind ≡ target
 unfolding resolved
 resolved-here alias target kind pairs hit = rw hit refl
 

@@ -45,7 +45,8 @@ module _ {R : Type 0} (remaining : R → Option (List ℕ)) (tally : R → Optio
   -- a step that did not ask the globs stopped, and its error is passed on
   pub reads_stopped : {X Y : Type 0} (suffice : Bool) (before after : Option R) (read : ℕ) (cause : Cause) (result : Result Y Cause) →
       suffice ≡ false → IsErrAnd result (λ passed. passed ≡ cause) →
-      Reads {X = X} remaining tally health b false before after read (Err cause) → Reads remaining tally health b suffice before after read result
+      Reads {X = X} remaining tally health b false before after read (Err cause) →
+      Reads remaining tally health b suffice before after read result
   reads_stopped suffice before after read cause (Ok y) is same step = absurd same
   reads_stopped {X} {Y} suffice before after read cause (Err passed) is same step =
       subst (λ s. Reads {X = Y} remaining tally health b s before after read (Err passed)) (sym is)

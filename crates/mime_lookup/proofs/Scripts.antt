@@ -41,7 +41,8 @@ module _ (steps : List Step) (i : ℕ) (d step : Step) (within : i < length step
 -- tallies with the same numbers
 pub tally_same : (a b : Tally) → a.failed ≡ b.failed → a.interrupted ≡ b.interrupted → a ≡ b
 tally_same a b failed interrupted =
-    ap (λ (n : ℕ). record { failed = n; interrupted = a.interrupted }) failed ∙ ap (λ (n : ℕ). record { failed = b.failed; interrupted = n }) interrupted
+    ap (λ (n : ℕ). record { failed = n; interrupted = a.interrupted }) failed
+    ∙ ap (λ (n : ℕ). record { failed = b.failed; interrupted = n }) interrupted
 
 -- a piece that is used up
 pub after_piece : (piece rest all : List ℕ) → length piece ≡ 0 → piece ++ rest ≡ all → rest ≡ all
@@ -66,7 +67,8 @@ nothing_of : (n k : ℕ) (bytes : List ℕ) → length bytes ≡ 0 → take k (d
 nothing_of n k bytes none = take_all k (drop n bytes) (omega (arith, length-drop n bytes)) ∙ drop_all n bytes (omega arith)
 
 -- nothing is left of a used up piece after the last step
-pub at_end : (piece : List ℕ) (steps : List Step) (i n k : ℕ) → length piece ≡ 0 → length steps ≤ i → take k (drop n piece) ++ bytes_in (drop i steps) ≡ []
+pub at_end : (piece : List ℕ) (steps : List Step) (i n k : ℕ) → length piece ≡ 0 → length steps ≤ i →
+    take k (drop n piece) ++ bytes_in (drop i steps) ≡ []
 at_end [] steps i n k none end =
     ap (λ bytes. bytes ++ bytes_in (drop i steps)) (nothing_of n k [] none) ∙ ap bytes_in (drop_all i steps end)
 at_end (byte ∷ piece) steps i n k none end = absurd (omega arith)

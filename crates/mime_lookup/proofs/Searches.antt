@@ -1,5 +1,6 @@
 -- What a search for a subclass keeps: no path to the base is lost, since each leads through the queue.
-use Rattle.std.proofs.Common.{◌≡◌, ◌⊎◌, ℕ, zero, suc, ◌<◌, ◌≤◌, Bool, true, false, IsTrue, List, [], ◌∷◌, length, refl, sym, subst, inl, inr, ⊎_elim, arith}
+use Rattle.std.proofs.Common.{◌≡◌, ◌⊎◌, ℕ, zero, suc, ◌<◌, ◌≤◌, Bool, true, false, IsTrue, List, [], ◌∷◌, length}
+use Rattle.std.proofs.Common.{refl, sym, subst, inl, inr, ⊎_elim, arith}
 use Rattle.std.specs.Prelude.{Contains}
 use Rattle.std.proofs.lemmas.List.Elements.{Contains-append_left, Contains-append_right, Contains-append_cases}
 use Rattle.mime_base.specs.Database.Subclass.{Pairs, above, is_by_itself, IsPath, IsA}
@@ -119,7 +120,8 @@ module _ (pairs : Pairs) (base start : List ℕ) (before marked : List ℕ → B
       expanded.all_or_none)
       (Contains-append_cases queue expanded.more x (rw expanded.grown at is))
 
-  ahead_after : (x : List ℕ) (path : List (List ℕ)) → IsTrue (marked x) → IsPath pairs x base path → OpenBelow pairs base after (length path)
+  ahead_after : (x : List ℕ) (path : List (List ℕ)) → IsTrue (marked x) → IsPath pairs x base path →
+      OpenBelow pairs base after (length path)
   ahead_after x path is leads =
       ⊎_elim
       (λ old. widen (length path) (so_far.ahead x path old leads))

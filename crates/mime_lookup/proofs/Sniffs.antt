@@ -1,5 +1,6 @@
 -- A front that is long enough is sniffed as the whole content.
-use Rattle.std.proofs.Common.{◌≡◌, ◌⊎◌, ℕ, ◌+◌, ◌<◌, ◌≤◌, cond, min, max, List, [], ◌∷◌, ◌++◌, length, Option, None, Some, refl, sym, ap, ◌∙◌, inl, inr, ⊎_elim, arith, append-nil}
+use Rattle.std.proofs.Common.{◌≡◌, ◌⊎◌, ℕ, ◌+◌, ◌<◌, ◌≤◌, cond, min, max, List, [], ◌∷◌, ◌++◌, length, Option, None, Some}
+use Rattle.std.proofs.Common.{refl, sym, ap, ◌∙◌, inl, inr, ⊎_elim, arith, append-nil}
 use Rattle.std.specs.Prelude.{codes, IfSome}
 use Rattle.std.proofs.lemmas.Bool.{cases_lt}
 use Rattle.std.proofs.lemmas.List.{length-append}
@@ -36,7 +37,8 @@ front_is_enough b front rest host (inr long) =
     ∙ by_magic-front b (first_magic b.sections front host) front rest long.0)
 
 -- the same of what comes before the globs
-before_globs-front : (b : PlainDatabase) (front rest : List ℕ) (host : Host) → (rest ≡ []) ⊎ ((128 ≤ length front) × (extent b ≤ length front)) →
+before_globs-front : (b : PlainDatabase) (front rest : List ℕ) (host : Host) →
+    (rest ≡ []) ⊎ ((128 ≤ length front) × (extent b ≤ length front)) →
     before_globs b (Some front) host MagicFirst ≡ before_globs b (Some (front ++ rest)) host MagicFirst
 unfolding before_globs
 before_globs-front b front rest host (inl none) =
@@ -71,7 +73,8 @@ module _ (b : PlainDatabase) (host : Host) (known after : Option (List ℕ)) (fr
       IfSome (option_map (λ bytes. Some bytes) known) (λ content. kind ≡ sniffed b content host)
   sniffed-known kind is = by_cases known consumed
     where
-      by_cases : (known : Option (List ℕ)) → Consumes known after front → IfSome (option_map (λ bytes. Some bytes) known) (λ content. kind ≡ sniffed b content host)
+      by_cases : (known : Option (List ℕ)) → Consumes known after front →
+          IfSome (option_map (λ bytes. Some bytes) known) (λ content. kind ≡ sniffed b content host)
       by_cases None consumed = tt
       by_cases (Some whole) consumed =
           let read = is_read b whole front after consumed limited ends in
@@ -81,16 +84,19 @@ module _ (b : PlainDatabase) (host : Host) (known after : Option (List ℕ)) (fr
       IfSome (option_map (λ bytes. Some bytes) known) (λ content. high ≡ before_globs b content host MagicFirst)
   before_globs-known high is = by_cases known consumed
     where
-      by_cases : (known : Option (List ℕ)) → Consumes known after front → IfSome (option_map (λ bytes. Some bytes) known) (λ content. high ≡ before_globs b content host MagicFirst)
+      by_cases : (known : Option (List ℕ)) → Consumes known after front →
+          IfSome (option_map (λ bytes. Some bytes) known) (λ content. high ≡ before_globs b content host MagicFirst)
       by_cases None consumed = tt
       by_cases (Some whole) consumed =
           let read = is_read b whole front after consumed limited ends in
-          is ∙ before_globs-front b front read.rest host read.long ∙ ap (λ bytes. before_globs b (Some bytes) host MagicFirst) (sym read.split)
+          is ∙ before_globs-front b front read.rest host read.long
+          ∙ ap (λ bytes. before_globs b (Some bytes) host MagicFirst) (sym read.split)
 
   pub front_size-known : (count : ℕ) → length front ≡ count →
       IfSome (option_map (λ bytes. Some bytes) known) (λ content. count ≡ front_size b content)
   front_size-known count is = by_cases known consumed
     where
-      by_cases : (known : Option (List ℕ)) → Consumes known after front → IfSome (option_map (λ bytes. Some bytes) known) (λ content. count ≡ front_size b content)
+      by_cases : (known : Option (List ℕ)) → Consumes known after front →
+          IfSome (option_map (λ bytes. Some bytes) known) (λ content. count ≡ front_size b content)
       by_cases None consumed = tt
       by_cases (Some whole) consumed = sym is ∙ (is_read b whole front after consumed limited ends).size

@@ -1,5 +1,6 @@
 -- The checking order: which type a name and a content have, and how much of the content is read.
-use Rattle.std.specs.Prelude.{◌≡◌, ℕ, Bool, false, nat_le, if◌then◌else◌, min, max, List, [], ◌∷◌, length, Option, None, Some, MatchOption, bytes_eq}
+use Rattle.std.specs.Prelude.{◌≡◌, ℕ, Bool, false, nat_le, if◌then◌else◌, min, max, List, [], ◌∷◌, length, bytes_eq}
+use Rattle.std.specs.Prelude.{Option, None, Some, MatchOption}
 use Rattle.std.specs.List.{list_all}
 use Rattle.mime_base.specs.Database.{PlainDatabase, pairs_of}
 use Rattle.mime_base.specs.Magic.Extent.{extent}

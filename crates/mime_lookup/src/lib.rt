@@ -1,9 +1,21 @@
-//! The checking order: from a database and a name to a type.
+//! The checking order: from a database, a name and a content to a type.
+//!
+//! ```text
+//! let mut content = Some(&b"#!/bin/sh\n"[..]);
+//! let (host, order) = (Host::Little, Order::GlobsFirst);
+//! let answer = look_up_plain(alloc, &database, b"install.sh", &mut content, host, order)?;
+//! // answer.kind is the type, and answer.read says how many bytes of the content were read
+//! ```
 //!
 //! [`look_up_plain`] tries every rule, line and pair of a database. The type that it answers is the
 //! one that the definition of the checking order gives to the name and the whole content, of which
-//! it reads no more than magic can look at; [`Content`] is what it reads from. [`look_up_name`] is
-//! the same for a name without content, over a database of glob rules alone.
+//! it reads no more than magic can look at; [`Content`] is what it reads from, and may tell whether
+//! its reads can fail. [`look_up_name`] is the same for a name without content, over a database of
+//! glob rules alone.
+//!
+//! Read `lists` first, which has the steps of a lookup in their order. Then `content` and `reading`,
+//! what it reads from and how; `kept`, the rules that a name keeps; `sniff`, the type of a content;
+//! and `ancestry`, the search for a subclass.
 #![tactic(auto)]
 
 mod ancestry;

@@ -9,7 +9,8 @@ use Rattle.mime_lookup.proofs.ancestry.expand.Goals as goal
 
 pub returns-then-is_marked-clause-expanded : goal.returns-then-is_marked-clause-expanded
 returns-then-is_marked-clause-expanded c =
-    expanded_marked (pairs_of (plain_database c.args.database.now)) c.args.kind.now (texts c.args.marks.now.items) (texts c.args.queue.now.items)
+    expanded_marked (pairs_of (plain_database c.args.database.now)) c.args.kind.now (texts c.args.marks.now.items)
+    (texts c.args.queue.now.items)
     (rw c.deref.ensures.value at (sym c.is_marked.ensures ∙ c.if-is_marked.true))
 
 pub returns-clause-expanded : goal.returns-clause-expanded
@@ -19,7 +20,8 @@ returns-clause-expanded c =
     let marks = texts c.args.marks.now.items in
     let grown : texts c.push_parents.new.queue.items ≡ texts c.args.queue.now.items ++ above pairs c.args.kind.now =
     rw (c.deref-2.ensures.value, c.deref-3.ensures.value) at c.in_ok-push_parents.ensures.queue in
-    rw (c.in_ok-push.ensures.items, map-append) (expanded_new pairs c.args.kind.now marks (texts c.args.queue.now.items) (texts c.push_parents.new.queue.items) grown)
+    rw (c.in_ok-push.ensures.items, map-append)
+    (expanded_new pairs c.args.kind.now marks (texts c.args.queue.now.items) (texts c.push_parents.new.queue.items) grown)
 
 pub returns-clause-falls : goal.returns-clause-falls
 returns-clause-falls c =

@@ -6,8 +6,8 @@ use Rattle.mime_lookup.proofs.ancestry.is_a.Goals as goal
 
 pub returns-then-is_by_itself-clause-answer : goal.returns-then-is_by_itself-clause-answer
 returns-then-is_by_itself-clause-answer c = λ none. (
-  (λ _. searched_found (pairs_of (plain_database c.args.database.now)) c.args.base.now c.args.kind.now (is_one_of (texts c.loop-here.marks.items))
-      c.in-Some.here.now (texts c.pop_front.new.self.items)
+  (λ _. searched_found (pairs_of (plain_database c.args.database.now)) c.args.base.now c.args.kind.now
+      (is_one_of (texts c.loop-here.marks.items)) c.in-Some.here.now (texts c.pop_front.new.self.items)
       (rw c.in-Some.ensures.items at (c.loop-here.invariant none))
       (sym c.is_by_itself.ensures ∙ c.if-is_by_itself.true)),
   (λ _. refl),
@@ -15,8 +15,9 @@ returns-then-is_by_itself-clause-answer c = λ none. (
 
 pub loop-here-preserved : goal.loop-here-preserved
 loop-here-preserved c = λ none.
-    searched_more (pairs_of (plain_database c.args.database.now)) c.args.base.now c.args.kind.now (is_one_of (texts c.loop-here.marks.items))
-    (is_one_of (texts c.expand.new.marks.items)) c.in-Some.here.now (texts c.pop_front.new.self.items) (texts c.expand.new.queue.items)
+    searched_more (pairs_of (plain_database c.args.database.now)) c.args.base.now c.args.kind.now
+    (is_one_of (texts c.loop-here.marks.items)) (is_one_of (texts c.expand.new.marks.items)) c.in-Some.here.now
+    (texts c.pop_front.new.self.items) (texts c.expand.new.queue.items)
     (rw c.in-Some.ensures.items at (c.loop-here.invariant none))
     (sym c.is_by_itself.ensures ∙ c.if-is_by_itself.false)
     c.in_ok-expand.ensures.expanded

@@ -25,4 +25,5 @@ loop-kind-preserved c =
 pub returns : goal.returns
 returns c =
     sym (ap (λ ks. are_one_type (texts ks)) c.in-Some.ensures.cases.0 ∙ c.loop-kind.invariant
-    ∙ ap (λ ks. list_all (bytes_eq c.in-Some.first.now.now) (texts ks)) (drop_all c.loop-kind.kind-index c.in-Some.more.now c.loop-kind-test.false))
+    ∙ ap (λ ks. list_all (bytes_eq c.in-Some.first.now.now) (texts ks))
+    (drop_all c.loop-kind.kind-index c.in-Some.more.now c.loop-kind-test.false))

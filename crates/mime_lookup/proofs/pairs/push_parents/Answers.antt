@@ -13,7 +13,8 @@ loop-pair-preserved c =
     let kind = c.args.kind.now in
     let step = resolved (plain_pairs c.args.aliases.now) in
     let rest = parents (plain_pairs (drop (c.loop-pair.pair-index + 1) c.args.pairs.now)) kind in
-    let from = ap (λ ps. parents (plain_pairs ps) kind) (items_from c.args.pairs.now c.loop-pair.pair-index pair c.loop-pair-test.true c.pair-item.is) in
+    let items = items_from c.args.pairs.now c.loop-pair.pair-index pair c.loop-pair-test.true c.pair-item.is in
+    let from = ap (λ ps. parents (plain_pairs ps) kind) items in
     elim c.if-is_same.branch [
       | then-is_same+in_ok-push_back w ↦
           (let same : bytes_eq pair.name kind ≡ true = rw c.bytes.ensures.text at (sym c.is_same.ensures ∙ w.if-is_same.true) in
@@ -45,6 +46,7 @@ returns-clause-queue c =
 
 pub returns-clause-longer : goal.returns-clause-longer
 returns-clause-longer c =
-    let none = ap (λ ps. length (parents (plain_pairs ps) c.args.kind.now)) (drop_all c.loop-pair.pair-index c.args.pairs.now c.loop-pair-test.false)
+    let none = ap (λ ps. length (parents (plain_pairs ps) c.args.kind.now))
+    (drop_all c.loop-pair.pair-index c.args.pairs.now c.loop-pair-test.false)
     ∙ ap length (parents-nil c.args.kind.now) in
     omega (arith, none, c.loop-pair.invariant.longer)

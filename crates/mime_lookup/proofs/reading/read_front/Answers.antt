@@ -18,8 +18,9 @@ pub returns-in_err-extend_from_slice-clause-advances :
 returns-in_err-extend_from_slice-clause-advances g c =
     let piece : List ℕ = take c.in_ok-count.count c.read_block.new.block in (
       c.loop-block.front.items ++ piece,
-      Consumes-trans (g.R.Read.remaining c.args.reader.now) (g.R.Read.remaining c.loop-block.reader) (g.R.Read.remaining c.read_block.new.reader)
-          c.loop-block.front.items piece c.loop-block.invariant.consumed c.in_ok-count.ensures.bytes.0,
+      Consumes-trans (g.R.Read.remaining c.args.reader.now) (g.R.Read.remaining c.loop-block.reader)
+          (g.R.Read.remaining c.read_block.new.reader) c.loop-block.front.items piece
+          c.loop-block.invariant.consumed c.in_ok-count.ensures.bytes.0,
       omega (
         arith,
         length-append c.loop-block.front.items piece,

@@ -6,7 +6,8 @@ use Rattle.mime_lookup.specs.Script.{bytes_in, faults_in, interruptions_in, tall
 use Rattle.mime_lookup.proofs.Scripts.{after_piece, at_end, bytes_more, copied, faults_more, interruptions_more, pieces_more, tally_same}
 use Rattle.mime_lookup.proofs.Healths.{tells_nothing, tells_on}
 use Rattle.mime_lookup.proofs.script.Script.next_piece.Goals as goal
-use Rattle.mime_lookup.proofs.script.Script.next_piece.Goals.{then-loop-buffer-test+then-self+else-not-is_empty, then-loop-buffer-test+else-self, else-loop-buffer-test}
+use Rattle.mime_lookup.proofs.script.Script.next_piece.Goals.{then-loop-buffer-test+then-self+else-not-is_empty}
+use Rattle.mime_lookup.proofs.script.Script.next_piece.Goals.{then-loop-buffer-test+else-self, else-loop-buffer-test}
 
 pub loop-buffer-preserved : goal.loop-buffer-preserved
 loop-buffer-preserved c =
@@ -14,8 +15,10 @@ loop-buffer-preserved c =
     let steps = c.loop-buffer.self.steps.now in
     let met = c.loop-buffer.self.met in
     let none : length piece ≡ 0 = eqb-true (length piece) 0 (sym c.is_empty.ensures ∙ c.loop-buffer-test.true) in
-    let faults : faults_in (take (met + 1) steps) ≡ faults_in (take met steps) + 0 = faults_more steps met _ _ c.if-self.true c.in-Piece.is in
-    let interruptions : interruptions_in (take (met + 1) steps) ≡ interruptions_in (take met steps) + 0 = interruptions_more steps met _ _ c.if-self.true c.in-Piece.is in
+    let faults : faults_in (take (met + 1) steps) ≡ faults_in (take met steps) + 0 =
+    faults_more steps met _ _ c.if-self.true c.in-Piece.is in
+    let interruptions : interruptions_in (take (met + 1) steps) ≡ interruptions_in (take met steps) + 0 =
+    interruptions_more steps met _ _ c.if-self.true c.in-Piece.is in
     record {
       bytes =
           sym (bytes_more steps met _ _ c.if-self.true c.in-Piece.is)
@@ -31,8 +34,10 @@ pub returns-in-Interruption-clause-told : goal.returns-in-Interruption-clause-to
 returns-in-Interruption-clause-told c =
     let steps = c.loop-buffer.self.steps.now in
     let met = c.loop-buffer.self.met in
-    let faults : faults_in (take (met + 1) steps) ≡ faults_in (take met steps) + 0 = faults_more steps met _ _ c.if-self.true c.in-Interruption.is in
-    let interruptions : interruptions_in (take (met + 1) steps) ≡ interruptions_in (take met steps) + 1 = interruptions_more steps met _ _ c.if-self.true c.in-Interruption.is in
+    let faults : faults_in (take (met + 1) steps) ≡ faults_in (take met steps) + 0 =
+    faults_more steps met _ _ c.if-self.true c.in-Interruption.is in
+    let interruptions : interruptions_in (take (met + 1) steps) ≡ interruptions_in (take met steps) + 1 =
+    interruptions_more steps met _ _ c.if-self.true c.in-Interruption.is in
     tally_same (tally_in (take (met + 1) steps)) _
     (omega (arith, faults, ap (λ (t : Tally). t.failed) c.loop-buffer.invariant.tally))
     (omega (arith, interruptions, ap (λ (t : Tally). t.interrupted) c.loop-buffer.invariant.tally))
@@ -41,8 +46,10 @@ pub returns-in-Fault-clause-told : goal.returns-in-Fault-clause-told
 returns-in-Fault-clause-told c =
     let steps = c.loop-buffer.self.steps.now in
     let met = c.loop-buffer.self.met in
-    let faults : faults_in (take (met + 1) steps) ≡ faults_in (take met steps) + 1 = faults_more steps met _ _ c.if-self.true c.in-Fault.is in
-    let interruptions : interruptions_in (take (met + 1) steps) ≡ interruptions_in (take met steps) + 0 = interruptions_more steps met _ _ c.if-self.true c.in-Fault.is in
+    let faults : faults_in (take (met + 1) steps) ≡ faults_in (take met steps) + 1 =
+    faults_more steps met _ _ c.if-self.true c.in-Fault.is in
+    let interruptions : interruptions_in (take (met + 1) steps) ≡ interruptions_in (take met steps) + 0 =
+    interruptions_more steps met _ _ c.if-self.true c.in-Fault.is in
     tally_same (tally_in (take (met + 1) steps)) _
     (omega (arith, faults, ap (λ (t : Tally). t.failed) c.loop-buffer.invariant.tally))
     (omega (arith, interruptions, ap (λ (t : Tally). t.interrupted) c.loop-buffer.invariant.tally))
@@ -50,7 +57,8 @@ returns-in-Fault-clause-told c =
 pub returns-in-Interruption-clause-healthy : goal.returns-in-Interruption-clause-healthy
 returns-in-Interruption-clause-healthy c =
     tells_nothing _ _ _
-    (sym c.loop-buffer.invariant.pieces ∙ pieces_more c.loop-buffer.self.steps.now c.loop-buffer.self.met _ _ c.if-self.true c.in-Interruption.is)
+    (sym c.loop-buffer.invariant.pieces
+    ∙ pieces_more c.loop-buffer.self.steps.now c.loop-buffer.self.met _ _ c.if-self.true c.in-Interruption.is)
 
 pub returns-in-Fault-clause-healthy : goal.returns-in-Fault-clause-healthy
 returns-in-Fault-clause-healthy c =
