@@ -1,6 +1,7 @@
 pub mod Desks
 pub mod Endings
 pub mod Ends
+pub mod Lines
 pub mod Plains
 pub mod Programs
 pub mod Runs

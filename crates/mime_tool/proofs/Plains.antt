@@ -1,10 +1,8 @@
 -- From the rules of a directory, and lines, to a run of `plain`.
-use Rattle.std.proofs.Common.{◌≡◌, ◌∙◌, ℕ, true, false, List, [], inl, inr, Option, Some, None, Ok, Err, Result, Vec, ap, refl, subst}
+use Rattle.std.proofs.Common.{◌≡◌, ◌∙◌, ℕ, Bool, List, [], inl, inr, Option, Some, None, Ok, Err, Result, Vec, ap, refl, subst}
 use Rattle.std.proofs.Common.{sym}
 use Rattle.std.specs.declared.alloc.Global.{Global}
 use Rattle.std.specs.List.{flat_map}
-use Rattle.mime_lookup.specs.Choice.{Chooses}
-use Rattle.mime_base.specs.Database.Subclass.{no_pairs}
 use Rattle.mime_base.specs.declared.database.rule.GlobRule.{GlobRule}
 use Rattle.mime_text.specs.Lines.Globs2.{is_malformed_rule, rules_of}
 use Rattle.mime_text.specs.Lines.{skipped_of}
@@ -12,9 +10,10 @@ use Rattle.mime_text.specs.Lines.File.{entries_by}
 use Rattle.mime_tool.specs.Desk.{Does, Ends, ReadsText}
 use Rattle.mime_tool.specs.Files.{Stored}
 use Rattle.mime_tool.specs.Finish.{Sinks, Writes, WritesFront}
-use Rattle.mime_tool.specs.Plain.{IsLine, IsLineBy, IsPlain, all_ignored, base_name, fits, ignored, path_in, stored_in, too_long, type_line}
+use Rattle.mime_tool.specs.Line.{IsLine, PlainLookup}
+use Rattle.mime_tool.specs.Plain.{IsPlain, all_ignored, by_rules, ignored, lookup_by, order_of, path_in, stored_in}
 use Rattle.mime_tool.specs.PlainSteps.{ParsesRules, ReadsRules}
-use Rattle.mime_tool.specs.Run.{IsEach, Run, joined, printed, said, silent, stopped, unanswered}
+use Rattle.mime_tool.specs.Run.{IsEach, Run, joined, said, silent, stopped}
 use Rattle.mime_tool.specs.declared.stop.Stop.{Stop}
 use Rattle.mime_tool.specs.declared.stop.Stop.TheVariants as stop
 use Rattle.mime_tool.proofs.Sinks.{front_nothing}
@@ -24,17 +23,6 @@ use Rattle.mime_tool.proofs.Runs.{joined-silent}
 -- sinks that are the same hold what they held
 pub writes_same : (a b : Sinks) → b ≡ a → Writes a b silent
 writes_same a b same = subst (λ (s : Sinks). Writes a s silent) (sym same) (writes_nothing a)
-
--- ---- one line
-
--- the line of a file whose name has a type
-pub line_typed : (rules : List GlobRule) (file kind : List ℕ) → (fits file ≡ true) × Chooses no_pairs rules (base_name file) kind
-    → IsLine rules file (printed (type_line file kind))
-line_typed rules file kind p = subst (λ b. IsLineBy b rules file (printed (type_line file kind))) (sym p.0) (kind, p.1, refl)
-
--- a file whose name is too long
-pub line_too_long : (rules : List GlobRule) (file : List ℕ) → fits file ≡ false → IsLine rules file (unanswered (too_long file))
-line_too_long rules file p = subst (λ b. IsLineBy b rules file (unanswered (too_long file))) (sym p) refl
 
 -- ---- the rules
 
@@ -93,25 +81,30 @@ rules_parsed stored path a b c text (Err (stop.Refused m)) p q = absurd q
 -- ---- the whole command
 
 -- the rules aren't read
-pub plain_unread : (stored : List ℕ → Stored) (dir : Option (List ℕ)) (files : List (List ℕ)) (a b : Sinks) (s : Stop)
-    → ReadsRules (stored_in stored dir) (path_in dir) a b (Err s) → Ends (IsPlain stored dir) files a b (Err s)
-plain_unread stored dir files a b stop.OutOfMemory (inl p) = inl (writes_same a b p)
-plain_unread stored dir files a b stop.OutOfMemory (inr p) =
+pub plain_unread : (stored : List ℕ → Stored) (dir : Option (List ℕ)) (name_only magic_first : Bool) (files : List (List ℕ)) (a b : Sinks)
+    (s : Stop) → ReadsRules (stored_in stored dir) (path_in dir) a b (Err s) → Ends (IsPlain stored dir name_only magic_first) files a b (Err s)
+plain_unread stored dir name_only magic_first files a b stop.OutOfMemory (inl p) = inl (writes_same a b p)
+plain_unread stored dir name_only magic_first files a b stop.OutOfMemory (inr p) =
     let first = said (all_ignored (path_in dir) p.0) in
     inr (
       joined first silent,
-      part_none (IsPlain stored dir) files (joined first silent) (Some p.0, p.1, (silent, refl, refl)),
+      part_none (IsPlain stored dir name_only magic_first) files (joined first silent) (Some p.0, p.1, (silent, refl, refl)),
       subst
           (λ (r : Run). WritesFront a b r) (sym (joined-silent first)) p.2,
     )
-plain_unread stored dir files a b stop.CannotWrite p = p
-plain_unread stored dir files a b (stop.Refused m) p =
+plain_unread stored dir name_only magic_first files a b stop.CannotWrite p = p
+plain_unread stored dir name_only magic_first files a b (stop.Refused m) p =
     (silent, (None, p.1, ap (λ (t : List ℕ). stopped t silent) p.2), writes_same a b p.0)
 
 -- the rules are read, and the files answered
-pub plain_lines : (stored : List ℕ → Stored) (dir : Option (List ℕ)) (files : List (List ℕ)) (a b c : Sinks) (rules : Vec GlobRule Global)
-    (r : Result ℕ Stop) → ReadsRules (stored_in stored dir) (path_in dir) a b (Ok rules)
-    → Ends (IsEach (IsLine rules.items)) files b c r → Ends (IsPlain stored dir) files a c r
-plain_lines stored dir files a b c rules r read p =
-    ends_said (IsEach (IsLine rules.items)) (IsPlain stored dir) files (all_ignored (path_in dir) read.0) a b c r
-    (λ fs run q. (Some read.0, read.1, (run, subst (λ (rs : List GlobRule). IsEach (IsLine rs) fs run) read.2 q, refl))) refl read.3 p
+pub plain_lines : (stored : List ℕ → Stored) (dir : Option (List ℕ)) (name_only magic_first : Bool) (files : List (List ℕ))
+    (a b c : Sinks) (rules : Vec GlobRule Global) (lookup : PlainLookup) (r : Result ℕ Stop)
+    → ReadsRules (stored_in stored dir) (path_in dir) a b (Ok rules)
+    → lookup ≡ record { database = by_rules rules.items; name_only = name_only; order = order_of magic_first }
+    → Ends (IsEach (IsLine lookup stored)) files b c r → Ends (IsPlain stored dir name_only magic_first) files a c r
+plain_lines stored dir name_only magic_first files a b c rules lookup r read same p =
+    let is : lookup ≡ lookup_by read.0 name_only magic_first =
+    same ∙ ap (λ rs. record { database = by_rules rs; name_only = name_only; order = order_of magic_first }) read.2
+    in
+    ends_said (IsEach (IsLine lookup stored)) (IsPlain stored dir name_only magic_first) files (all_ignored (path_in dir) read.0) a b c r
+    (λ fs run q. (Some read.0, read.1, (run, subst (λ l. IsEach (IsLine l stored) fs run) is q, refl))) refl read.3 p

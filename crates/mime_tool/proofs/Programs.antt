@@ -1,5 +1,5 @@
 -- From the run of a command to the run of the program.
-use Rattle.std.proofs.Common.{◌≡◌, ◌≢◌, ◌∙◌, ◌≤◌, ℕ, Bool, List, [], Result, Ok, Err, ap, inl, inr, length, slice_get, subst}
+use Rattle.std.proofs.Common.{◌≡◌, ◌≢◌, ◌∙◌, ◌≤◌, ℕ, Bool, List, [], Result, Ok, Err, ap, false, inl, inr, length, slice_get, subst, true}
 use Rattle.clap.specs.Values.{kind_of}
 use Rattle.clap.specs.declared.error.Error.{Error}
 use Rattle.clap.specs.declared.error.kind.ErrorKind.{ErrorKind}
@@ -72,6 +72,6 @@ usual_meaning words dirs names are usual few =
 pub usual_finishes : (stored : List ℕ → Stored) (words : List (List ℕ)) (a b : Sinks) (status : ℕ)
     → Finishes (IsAnswer stored (meaning_of words)) (files_of (meaning_of words)) a b status
     → (dirs : List ℕ) (names : List (List ℕ)) → words ≡ plain_words dirs names → AreUsual dirs names → length (parts dirs) ≤ 1
-    → Finishes (IsPlain stored (slice_get (parts dirs) 0)) names a b status
+    → Finishes (IsPlain stored (slice_get (parts dirs) 0) true false) names a b status
 usual_finishes stored words a b status p dirs names are usual few =
     subst (λ (m : Meaning). Finishes (IsAnswer stored m) (files_of m) a b status) (usual_meaning words dirs names are usual few) p

@@ -1,6 +1,8 @@
 pub mod Desk
 pub mod Files
 pub mod Finish
+pub mod Line
+pub mod LineSteps
 pub mod Plain
 pub mod PlainSteps
 pub mod Program

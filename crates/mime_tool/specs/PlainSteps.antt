@@ -1,21 +1,14 @@
 -- What the parts of `plain` give.
-use Rattle.std.specs.Prelude.{◌≡◌, ◌⊎◌, ℕ, true, false, List, Option, Some, None, Result, Ok, Err, Vec, string_bytes}
+use Rattle.std.specs.Prelude.{◌≡◌, ◌⊎◌, ℕ, List, Some, None, Result, Ok, Err, Vec, string_bytes}
 use Rattle.std.specs.declared.alloc.Global.{Global}
-use Rattle.mime_lookup.specs.Choice.{Chooses}
-use Rattle.mime_base.specs.Database.Subclass.{no_pairs}
 use Rattle.mime_base.specs.declared.database.rule.GlobRule.{GlobRule}
 use Rattle.mime_text.specs.Lines.Globs2.{rules_of}
 use Rattle.mime_tool.specs.Files.{IsText, Stored}
 use Rattle.mime_tool.specs.Finish.{Sinks, Writes, WritesFront}
-use Rattle.mime_tool.specs.Plain.{all_ignored, base_name, fits}
+use Rattle.mime_tool.specs.Plain.{all_ignored}
 use Rattle.mime_tool.specs.Run.{cannot_read, said}
 use Rattle.mime_tool.specs.declared.stop.Stop.{Stop}
 use Rattle.mime_tool.specs.declared.stop.Stop.TheVariants as stop
-
--- the type of a file's name, or none where that name is too long
-abbrev pub IsKindOf : List GlobRule → List ℕ → Option (List ℕ) → Type 0
-IsKindOf rules file None = fits file ≡ false
-IsKindOf rules file (Some kind) = (fits file ≡ true) × Chooses no_pairs rules (base_name file) kind
 
 -- the rules are those of the text, whose malformed lines are said
 abbrev pub ParsesRules : List ℕ → List ℕ → Sinks → Sinks → Result (Vec GlobRule Global) Stop → Type 0

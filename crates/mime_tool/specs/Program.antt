@@ -26,7 +26,7 @@ IsShown k run = (k ≢ kind.OutOfMemory) × ((text : List ℕ) × (run ≡ shown
 
 -- the run of a request; a command has a line here
 abbrev pub IsAskedRun : (List ℕ → Stored) → PlainRequest → List (List ℕ) → Run → Type 0
-IsAskedRun stored (plain dir _) = IsPlain stored dir
+IsAskedRun stored (plain dir _) = IsPlain stored dir true false
 
 -- the files that a request names
 abbrev pub asked_files : PlainRequest → List (List ℕ)

@@ -20,6 +20,7 @@
 
 mod desk;
 mod files;
+mod line;
 mod plain;
 mod program;
 mod sink;

@@ -49,7 +49,7 @@ pub fn run<F: Files, O: Sink, E: Sink, S: AsStr>(
     ensures plain { is_some (O.holds out.old) ≡ true
         → (dirs : List ℕ) (names : List (List ℕ)) → map S.text words.now ≡ plain_words dirs names
         → AreUsual dirs names → length (parts dirs) ≤ 1
-        → Finishes (IsPlain (F.tells files.old) (slice_get (parts dirs) 0)) names
+        → Finishes (IsPlain (F.tells files.old) (slice_get (parts dirs) 0) true false) names
         (record { out = O.holds out.old; err = E.holds err.old })
         (record { out = O.holds out.new; err = E.holds err.new }) result }
 
@@ -114,7 +114,9 @@ fn answer<D: Desk>(desk: &mut D, request: &Request<'_>) -> Result<u8, Stop>
         (asked_files (plain_request request.now))) (D.state desk.old) (D.state desk.new) result }
 {
     match request {
-        Request::Plain { directory, files } => print_types(desk, *directory, files.as_slice()),
+        Request::Plain { directory, files } => {
+            print_types(desk, *directory, true, false, files.as_slice())
+        }
     }
 }
 
