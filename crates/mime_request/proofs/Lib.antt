@@ -1,3 +1,4 @@
+pub mod AddedRules
 pub mod CommandWords
 pub mod DirectoryParts
 pub mod FileWords

@@ -1,39 +1,37 @@
 -- The walk of `plain` over its options, in each order.
-use Rattle.std.proofs.Common.{Bool, true, false, List, [], ◌∷◌, Option, Some, None, refl, codes}
-use Rattle.clap.specs.Walk.{Row, Text, Waiting, Walk, idle, nothing_held, option, used, walk_from}
+use Rattle.std.proofs.Common.{Bool, true, false, List, [], ◌∷◌, ◌++◌, Option, Some, None, refl, codes}
+use Rattle.clap.specs.Walk.{Row, Rule, Text, Waiting, Walk, idle, nothing_held, option, used, walk_from}
 use Rattle.clap.specs.Simple.{filled, with_index}
 use Rattle.clap.proofs.OnLiterals.{clap_on_literals}
-use Rattle.mime_request.specs.CommandLine.{directories_rule, name_only_rule}
+use Rattle.mime_request.specs.CommandLine.{directories_rule, magic_first_rule, name_only_rule}
+use Rattle.mime_request.specs.Spelling.{plain_flags}
 use Rattle.mime_request.proofs.FileWords.{in_files, plain_shape}
 use Rattle.mime_request.proofs.PlainWords.{IsPlainWord}
 use Rattle.mime_request.proofs.Walks.{Goes, Leads, goes}
 
--- where the flag `--name-only` stands
+-- whether the flags stand after `-d DIRS` or before it
 pub data Order : Type 0 where
   directories_first : Order
-  flag_first : Order
-  flag_absent : Order
-
-abbrev pub has_flag : Order → Bool
-has_flag flag_absent = false
-has_flag _ = true
+  flags_first : Order
 
 -- the words after `plain`
-abbrev pub option_words : Order → Text → List Text → List Text
-option_words directories_first dirs files = codes "-d" ∷ dirs ∷ codes "--name-only" ∷ files
-option_words flag_first dirs files = codes "--name-only" ∷ codes "-d" ∷ dirs ∷ files
-option_words flag_absent dirs files = codes "-d" ∷ dirs ∷ files
+abbrev pub option_words : Order → Bool → Bool → Text → List Text → List Text
+option_words directories_first n m dirs files = codes "-d" ∷ dirs ∷ (plain_flags n m ++ files)
+option_words flags_first n m dirs files = plain_flags n m ++ codes "-d" ∷ dirs ∷ files
 
-abbrev flag_used : List Row → List Row
-flag_used = used (with_index 1 (filled name_only_rule)) []
+abbrev flag_used : Bool → Rule → List Row → List Row
+flag_used true rule rows = used (with_index 1 (filled rule)) [] rows
+flag_used false rule rows = rows
+
+abbrev flags_used : Bool → Bool → List Row → List Row
+flags_used n m rows = flag_used m magic_first_rule (flag_used n name_only_rule rows)
 
 abbrev directories_used : Text → List Row → List Row
 directories_used dirs = used (with_index 1 (filled directories_rule)) (dirs ∷ [])
 
-abbrev pub option_rows : Order → Text → List Row
-option_rows directories_first dirs = flag_used (directories_used dirs [])
-option_rows flag_first dirs = directories_used dirs (flag_used [])
-option_rows flag_absent dirs = directories_used dirs []
+abbrev pub option_rows : Order → Bool → Bool → Text → List Row
+option_rows directories_first n m dirs = flags_used n m (directories_used dirs [])
+option_rows flags_first n m dirs = directories_used dirs (flags_used n m [])
 
 -- between two options, or before the first file
 abbrev between : List Row → Option (Text × List Text) → Waiting → Walk
@@ -52,9 +50,17 @@ before_dirs rows = between rows (Some (codes "dirs", [])) (option (codes "dirs")
 abbrev after_dirs : List Row → Text → Walk
 after_dirs rows dirs = between rows (Some (codes "dirs", dirs ∷ [])) idle
 
-option_d : Goes plain_shape [] (walk_from nothing_held) (codes "-d") (before_dirs [])
+-- after the flags alone, and after `-d DIRS` and the flags
+abbrev after_flags : Bool → Bool → Walk
+after_flags n m = between (flags_used n m []) None idle
+
+abbrev after_both : Bool → Bool → Text → Walk
+after_both false false dirs = after_dirs [] dirs
+after_both n m dirs = between (option_rows directories_first n m dirs) None idle
+
+option_d : (rows : List Row) → Goes plain_shape [] (between rows None idle) (codes "-d") (before_dirs rows)
 unfolding clap_on_literals
-option_d = record { no_fault = refl; moves = refl }
+option_d rows = record { no_fault = refl; moves = refl }
 
 directories : (rows : List Row) (dirs : Text) → IsPlainWord dirs → Goes plain_shape [] (before_dirs rows) dirs (after_dirs rows dirs)
 unfolding clap_on_literals
@@ -63,53 +69,81 @@ directories rows dirs h = record {
   moves = rw (h.no_dashes, h.no_long, h.no_short) refl;
 }
 
-flag_after : (dirs : Text)
-    → Goes plain_shape [] (after_dirs [] dirs) (codes "--name-only") (between (flag_used (directories_used dirs [])) None idle)
+name_only_first : Goes plain_shape [] (after_flags false false) (codes "--name-only") (after_flags true false)
 unfolding clap_on_literals
-flag_after dirs = record { no_fault = refl; moves = refl }
+name_only_first = record { no_fault = refl; moves = refl }
 
-file_after_flag : (dirs file : Text) → IsPlainWord file
-    → Goes plain_shape [] (between (flag_used (directories_used dirs [])) None idle) file
-    (in_files (option_rows directories_first dirs) (file ∷ []))
+magic_first_first : (n : Bool) → Goes plain_shape [] (after_flags n false) (codes "--magic-first") (after_flags n true)
 unfolding clap_on_literals
-file_after_flag dirs file h = record {
+magic_first_first true = record { no_fault = refl; moves = refl }
+magic_first_first false = record { no_fault = refl; moves = refl }
+
+name_only_last : (dirs : Text) → Goes plain_shape [] (after_dirs [] dirs) (codes "--name-only") (after_both true false dirs)
+unfolding clap_on_literals
+name_only_last dirs = record { no_fault = refl; moves = refl }
+
+magic_first_last : (n : Bool) (dirs : Text) → Goes plain_shape [] (after_both n false dirs) (codes "--magic-first") (after_both n true dirs)
+unfolding clap_on_literals
+magic_first_last true dirs = record { no_fault = refl; moves = refl }
+magic_first_last false dirs = record { no_fault = refl; moves = refl }
+
+-- a file settles DIRS, if that is pending
+file_after_dirs : (n m : Bool) (dirs file : Text) → IsPlainWord file
+    → Goes plain_shape [] (after_dirs (flags_used n m []) dirs) file (in_files (option_rows flags_first n m dirs) (file ∷ []))
+unfolding clap_on_literals
+file_after_dirs true true dirs file h = record {
+  no_fault = rw (h.no_dashes, h.no_long, h.no_short) refl;
+  moves = rw (h.no_dashes, h.no_long, h.no_short) refl;
+}
+file_after_dirs true false dirs file h = record {
+  no_fault = rw (h.no_dashes, h.no_long, h.no_short) refl;
+  moves = rw (h.no_dashes, h.no_long, h.no_short) refl;
+}
+file_after_dirs false true dirs file h = record {
+  no_fault = rw (h.no_dashes, h.no_long, h.no_short) refl;
+  moves = rw (h.no_dashes, h.no_long, h.no_short) refl;
+}
+file_after_dirs false false dirs file h = record {
   no_fault = rw (h.no_dashes, h.no_long, h.no_short) refl;
   moves = rw (h.no_dashes, h.no_long, h.no_short) refl;
 }
 
-flag_before : Goes plain_shape [] (walk_from nothing_held) (codes "--name-only") (between (flag_used []) None idle)
+file_after_flags : (rows : List Row) (file : Text) → IsPlainWord file
+    → Goes plain_shape [] (between rows None idle) file (in_files rows (file ∷ []))
 unfolding clap_on_literals
-flag_before = record { no_fault = refl; moves = refl }
-
-option_d_after : Goes plain_shape [] (between (flag_used []) None idle) (codes "-d") (before_dirs (flag_used []))
-unfolding clap_on_literals
-option_d_after = record { no_fault = refl; moves = refl }
-
-file_after_dirs : (dirs file : Text) → IsPlainWord file
-    → Goes plain_shape [] (after_dirs (flag_used []) dirs) file (in_files (option_rows flag_first dirs) (file ∷ []))
-unfolding clap_on_literals
-file_after_dirs dirs file h = record {
+file_after_flags rows file h = record {
   no_fault = rw (h.no_dashes, h.no_long, h.no_short) refl;
   moves = rw (h.no_dashes, h.no_long, h.no_short) refl;
 }
 
-file_without_flag : (dirs file : Text) → IsPlainWord file
-    → Goes plain_shape [] (after_dirs [] dirs) file (in_files (option_rows flag_absent dirs) (file ∷ []))
-unfolding clap_on_literals
-file_without_flag dirs file h = record {
-  no_fault = rw (h.no_dashes, h.no_long, h.no_short) refl;
-  moves = rw (h.no_dashes, h.no_long, h.no_short) refl;
-}
+file_after_both : (n m : Bool) (dirs file : Text) → IsPlainWord file
+    → Goes plain_shape [] (after_both n m dirs) file (in_files (option_rows directories_first n m dirs) (file ∷ []))
+file_after_both true m dirs file h = file_after_flags _ file h
+file_after_both false true dirs file h = file_after_flags _ file h
+file_after_both false false dirs file h = file_after_dirs false false dirs file h
+
+over_first_flags : (n m : Bool) (words : List Text) (end : Walk) → Leads plain_shape [] (after_flags n m) words end
+    → Leads plain_shape [] (after_flags false false) (plain_flags n m ++ words) end
+over_first_flags true true words end rest = goes _ _ _ _ _ name_only_first (goes _ _ _ _ _ (magic_first_first true) rest)
+over_first_flags true false words end rest = goes _ _ _ _ _ name_only_first rest
+over_first_flags false true words end rest = goes _ _ _ _ _ (magic_first_first false) rest
+over_first_flags false false words end rest = rest
+
+over_last_flags : (n m : Bool) (dirs : Text) (words : List Text) (end : Walk) → Leads plain_shape [] (after_both n m dirs) words end
+    → Leads plain_shape [] (after_dirs [] dirs) (plain_flags n m ++ words) end
+over_last_flags true true dirs words end rest =
+    goes _ _ _ _ _ (name_only_last dirs) (goes _ _ _ _ _ (magic_first_last true dirs) rest)
+over_last_flags true false dirs words end rest = goes _ _ _ _ _ (name_only_last dirs) rest
+over_last_flags false true dirs words end rest = goes _ _ _ _ _ (magic_first_last false dirs) rest
+over_last_flags false false dirs words end rest = rest
 
 -- over the options and the first file
-pub over_options : (o : Order) (dirs file : Text) (files : List Text) (end : Walk) → IsPlainWord dirs → IsPlainWord file
-    → Leads plain_shape [] (in_files (option_rows o dirs) (file ∷ [])) files end
-    → Leads plain_shape [] (walk_from nothing_held) (option_words o dirs (file ∷ files)) end
-over_options directories_first dirs file files end d f rest =
-    goes _ _ _ _ _ option_d (goes _ _ _ _ _ (directories [] dirs d) (goes _ _ _ _ _ (flag_after dirs)
-    (goes _ _ _ _ _ (file_after_flag dirs file f) rest)))
-over_options flag_first dirs file files end d f rest =
-    goes _ _ _ _ _ flag_before (goes _ _ _ _ _ option_d_after (goes _ _ _ _ _ (directories (flag_used []) dirs d)
-    (goes _ _ _ _ _ (file_after_dirs dirs file f) rest)))
-over_options flag_absent dirs file files end d f rest =
-    goes _ _ _ _ _ option_d (goes _ _ _ _ _ (directories [] dirs d) (goes _ _ _ _ _ (file_without_flag dirs file f) rest))
+pub over_options : (o : Order) (n m : Bool) (dirs file : Text) (files : List Text) (end : Walk) → IsPlainWord dirs → IsPlainWord file
+    → Leads plain_shape [] (in_files (option_rows o n m dirs) (file ∷ [])) files end
+    → Leads plain_shape [] (walk_from nothing_held) (option_words o n m dirs (file ∷ files)) end
+over_options directories_first n m dirs file files end d f rest =
+    goes _ _ _ _ _ (option_d []) (goes _ _ _ _ _ (directories [] dirs d)
+    (over_last_flags n m dirs (file ∷ files) end (goes _ _ _ _ _ (file_after_both n m dirs file f) rest)))
+over_options flags_first n m dirs file files end d f rest =
+    over_first_flags n m (codes "-d" ∷ dirs ∷ file ∷ files) end (goes _ _ _ _ _ (option_d (flags_used n m []))
+    (goes _ _ _ _ _ (directories (flags_used n m []) dirs d) (goes _ _ _ _ _ (file_after_dirs n m dirs file f) rest)))

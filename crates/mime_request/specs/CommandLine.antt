@@ -20,6 +20,13 @@ name_only_rule = record (new_rule (codes "name-only")) {
   action = Some SetTrue;
 }
 
+-- `--magic-first`
+abbrev pub magic_first_rule : Rule
+magic_first_rule = record (new_rule (codes "magic-first")) {
+  long = Some (codes "magic-first");
+  action = Some SetTrue;
+}
+
 -- `FILE...`
 abbrev pub files_rule : Rule
 files_rule = record (new_rule (codes "file")) {
@@ -28,10 +35,10 @@ files_rule = record (new_rule (codes "file")) {
   required = true;
 }
 
--- `plain -d DIRS [--name-only] FILE...`
+-- `plain -d DIRS [--name-only] [--magic-first] FILE...`
 abbrev pub plain : App
-plain = with_rule (with_rule (with_rule (new_app (codes "plain")) directories_rule) name_only_rule)
-    files_rule
+plain = with_rule (with_rule (with_rule (with_rule (new_app (codes "plain")) directories_rule)
+    name_only_rule) magic_first_rule) files_rule
 
 -- `mimelook`, without its own name among the words: it has a version and wants a command
 abbrev pub mimelook : App

@@ -1,5 +1,5 @@
 -- What the words of a command line ask for.
-use Rattle.std.specs.Prelude.{◌≡◌, ◌==◌, Bool, true, false, not, List, [], ◌∷◌, Option, Some, None, option_map, filter, codes, slice_get}
+use Rattle.std.specs.Prelude.{◌≡◌, ◌==◌, Bool, false, not, List, [], ◌∷◌, Option, Some, None, filter, codes}
 use Rattle.std.specs.Prelude.{Result, MatchResult, IsErrAnd, if◌then◌else◌}
 use Rattle.std.specs.List.{slice_split}
 use Rattle.std.specs.Option.{option_map_or}
@@ -18,8 +18,9 @@ use Rattle.mime_request.specs.declared.request.Request.TheVariants as request
 
 -- what can be asked for
 pub data PlainRequest : Type 0 where
-  -- the types of these files by their names alone, from this directory or from none
-  plain : Option Text → List Text → PlainRequest
+  -- from these directories, most preferred first, whether by names alone, whether content of high
+  -- priority comes before the globs, and the files whose types are asked for
+  plain : List Text → Bool → Bool → List Text → PlainRequest
 
 -- what words mean: they ask for something, or are answered by an error of one of these kinds, among
 -- them help and the version
@@ -40,18 +41,16 @@ parts_of (Some dirs) = parts dirs
 abbrev pub is_on : Option Text → Bool
 is_on flag = option_map_or (λ text. bytes_eq text (codes "true")) flag false
 
--- what `plain` means by its directories, its flag and its files: at most one directory, the flag, and
--- files; else it is refused
-abbrev pub plain_of : List Text → Bool → Option (List Text) → Meaning
-plain_of (first ∷ second ∷ more) name_only files = refused (kind.TooManyValues ∷ [])
-plain_of dirs false files = refused (kind.MissingRequiredArgument ∷ [])
-plain_of dirs true None = refused (kind.MissingRequiredArgument ∷ [])
-plain_of dirs true (Some files) = asks (plain (slice_get dirs 0) files)
+-- what `plain` means by its directories, its two flags and its files; without files it is refused
+abbrev pub plain_of : List Text → Bool → Bool → Option (List Text) → Meaning
+plain_of dirs name_only magic_first None = refused (kind.MissingRequiredArgument ∷ [])
+plain_of dirs name_only magic_first (Some files) = asks (plain dirs name_only magic_first files)
 
 -- what `plain` means by what clap found after it
 abbrev pub plain_meaning : List Row → Meaning
 plain_meaning rows = plain_of (parts_of (first_of (codes "dirs") rows))
-    (is_on (first_of (codes "name-only") rows)) (all_of (codes "file") rows)
+    (is_on (first_of (codes "name-only") rows)) (is_on (first_of (codes "magic-first") rows))
+    (all_of (codes "file") rows)
 
 -- what the command that clap met means, if it met one
 abbrev pub subcommand_meaning : Option (Text × List Row) → Meaning
@@ -75,8 +74,8 @@ Finds words r = MatchResult r (λ m. (fault_of mimelook words ≡ [])
 
 -- the plain value of a request
 abbrev pub plain_request : Request → PlainRequest
-plain_request (request.Plain directory files) =
-    plain (option_map (λ text. text.now) directory) (texts files.items)
+plain_request (request.Plain directories name_only magic_first files) =
+    plain (texts directories.items) name_only magic_first (texts files.items)
 
 -- the request is what the words mean, unless memory ran out
 abbrev pub Means : Meaning → Result Request Error → Type 0

@@ -1,5 +1,5 @@
 -- The usual spellings of a command line.
-use Rattle.std.specs.Prelude.{◌≡◌, ◌<◌, ◌^◌, ◌==◌, Bool, true, false, not, List, [], ◌∷◌, codes, length}
+use Rattle.std.specs.Prelude.{◌≡◌, ◌<◌, ◌^◌, ◌==◌, Bool, true, false, not, List, [], ◌∷◌, ◌++◌, codes, length}
 use Rattle.std.specs.List.{list_all}
 use Rattle.clap.specs.Walk.{Text}
 
@@ -18,18 +18,25 @@ abbrev pub is_path : Text → Bool
 is_path [] = false
 is_path (x ∷ xs) = list_all (λ b. not (b == 58)) (x ∷ xs)
 
--- `plain -d DIRS --name-only FILE...`
-abbrev pub plain_words : Text → List Text → List Text
-plain_words dirs files = codes "plain" ∷ codes "-d" ∷ dirs ∷ codes "--name-only" ∷ files
+-- the word of a flag where it is on, and else no word
+abbrev pub flag_words : Bool → Text → List Text
+flag_words true word = word ∷ []
+flag_words false word = []
 
--- `plain --name-only -d DIRS FILE...`
-abbrev pub plain_words_flag_first : Text → List Text → List Text
-plain_words_flag_first dirs files =
-    codes "plain" ∷ codes "--name-only" ∷ codes "-d" ∷ dirs ∷ files
+-- `[--name-only] [--magic-first]`
+abbrev pub plain_flags : Bool → Bool → List Text
+plain_flags name_only magic_first =
+    flag_words name_only (codes "--name-only") ++ flag_words magic_first (codes "--magic-first")
 
--- `plain -d DIRS FILE...`
-abbrev pub plain_words_without_flag : Text → List Text → List Text
-plain_words_without_flag dirs files = codes "plain" ∷ codes "-d" ∷ dirs ∷ files
+-- `plain -d DIRS [--name-only] [--magic-first] FILE...`
+abbrev pub plain_words : Text → Bool → Bool → List Text → List Text
+plain_words dirs name_only magic_first files =
+    codes "plain" ∷ codes "-d" ∷ dirs ∷ (plain_flags name_only magic_first ++ files)
+
+-- `plain [--name-only] [--magic-first] -d DIRS FILE...`
+abbrev pub plain_words_flags_first : Text → Bool → Bool → List Text → List Text
+plain_words_flags_first dirs name_only magic_first files =
+    codes "plain" ∷ (plain_flags name_only magic_first ++ codes "-d" ∷ dirs ∷ files)
 
 -- none of the words could be taken for an option, and there are fewer than memory can hold
 pub record AreUsual (dirs : Text) (files : List Text) : Type 0 where

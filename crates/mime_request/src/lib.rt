@@ -4,14 +4,15 @@
 //! text is for the user: help, the version, or what is wrong with the words.
 //!
 //! ```text
-//! let words = ["plain", "--name-only", "-d", "/usr/share", "notes.txt"];
+//! let words = ["plain", "-d", "/usr/local/share:/usr/share", "--name-only", "notes.txt"];
 //! match request_of(alloc, &words) {
-//!     Ok(Request::Plain { directory, files }) => ..,
+//!     Ok(Request::Plain { directories, name_only, magic_first, files }) => ..,
 //!     Err(error) => ..,
 //! }
 //! ```
 //!
-//! Here `directory` is `Some("/usr/share")` and `files` is `["notes.txt"]`.
+//! Here `directories` is `["/usr/local/share", "/usr/share"]`, `name_only` is on, `magic_first` is
+//! off, and `files` is `["notes.txt"]`.
 //!
 //! Read `specs/Request.antt` first for what words mean, then [`request_of`]; `command` describes the
 //! options to clap, and `spelling` has the laws that say what usual words mean with no word of clap.
@@ -23,6 +24,6 @@ mod spelling;
 
 pub use request::{Request, request_of};
 pub use spelling::{
-    flag_first_spelling_of_plain, parts_of_directories, plain_without_name_only,
-    usual_spelling_of_plain, words_without_files,
+    flags_first_spelling_of_plain, parts_of_directories, usual_spelling_of_plain,
+    words_without_files,
 };

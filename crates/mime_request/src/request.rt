@@ -5,7 +5,7 @@ ghost use Rattle.clap.specs.Words.{all_of, first_of, found_of, rows_of, subcomma
 ghost use Rattle.clap.specs.Walk.{texts};
 ghost use Rattle.clap.specs.Kinds.{HasKind};
 ghost use Rattle.clap.specs.Values.{kind_of};
-ghost use Rattle.mime_request.specs.Request.{Finds, Means, is_on, meaning_of, parts, parts_of, plain_of, subcommand_meaning};
+ghost use Rattle.mime_request.specs.Request.{Finds, Means, is_on, meaning_of, parts, plain_meaning, subcommand_meaning};
 
 use crate::command::{mimelook_command, plain_command};
 use clap::error::ErrorKind;
@@ -13,17 +13,17 @@ use clap::{ArgMatches, Error};
 use std::alloc::{AllocError, Global};
 use std::convert::AsStr;
 
-const SEVERAL_DIRECTORIES: &str = "give one directory for -d: several are not merged yet";
-
-const CONTENT_WANTED: &str = "give --name-only: the content of files is not looked at yet";
-
 /// What the words of a command line ask for.
 #[derive(Debug, Drop)]
 pub enum Request<'a> {
-    /// The types of files by their names alone, from the text files of a data directory.
+    /// The types of files, from the text files of data directories.
     Plain {
-        /// The directory that holds `mime/globs2`, or none: then there are no rules.
-        directory: Option<&'a str>,
+        /// The directories, most preferred first. There may be none, and none is empty.
+        directories: Vec<&'a str>,
+        /// The names alone decide: no file is opened.
+        name_only: bool,
+        /// Content is asked before the globs, where its priority is high (80 or more).
+        magic_first: bool,
         /// The files, as they were written. There is at least one.
         files: Vec<&'a str>,
     },
@@ -57,9 +57,7 @@ fn asked_by<'a>(alloc: Global, matches: &ArgMatches<'a>) -> Result<Request<'a>, 
         None => Err(refusal(alloc, ErrorKind::MissingSubcommand, "give a command")),
         Some((name, inner)) => {
             if name == "plain" {
-                let is_name_only = is_on(value_of(inner, "name-only"));
-                let files = values_of(inner, "file");
-                request_of_plain(alloc, value_of(inner, "dirs"), is_name_only, files)
+                request_of_plain(alloc, inner)
             } else {
                 let message = "give a command that --help names";
                 Err(refusal(alloc, ErrorKind::InvalidSubcommand, message))
@@ -68,29 +66,18 @@ fn asked_by<'a>(alloc: Global, matches: &ArgMatches<'a>) -> Result<Request<'a>, 
     }
 }
 
-fn request_of_plain<'a>(
-    alloc: Global,
-    dirs: Option<&'a str>,
-    is_name_only: bool,
-    files: Option<&[&'a str]>,
-) -> Result<Request<'a>, Error>
-    ensures { Means (plain_of (parts_of (option_map (λ s. s.now) dirs.entry)) is_name_only
-        (option_map (λ s. texts s.now) files.entry)) result }
+fn request_of_plain<'a>(alloc: Global, matches: &ArgMatches<'a>) -> Result<Request<'a>, Error>
+    ensures { Means (plain_meaning (rows_of (found_of matches.now))) result }
 {
-    let directories = parts(alloc, dirs.unwrap_or(""))?;
-    let directory = match directories.as_slice() {
-        [] => None,
-        [directory] => Some(*directory),
-        _ => return Err(refusal(alloc, ErrorKind::TooManyValues, SEVERAL_DIRECTORIES)),
-    };
-    if !is_name_only {
-        return Err(refusal(alloc, ErrorKind::MissingRequiredArgument, CONTENT_WANTED));
-    }
-    let Some(files) = files else {
+    let Some(files) = values_of(matches, "file") else {
         return Err(refusal(alloc, ErrorKind::MissingRequiredArgument, "give a FILE"));
     };
-    let files = files.to_vec(alloc)?;
-    Ok(Request::Plain { directory, files })
+    Ok(Request::Plain {
+        directories: parts(alloc, value_of(matches, "dirs").unwrap_or(""))?,
+        name_only: is_on(value_of(matches, "name-only")),
+        magic_first: is_on(value_of(matches, "magic-first")),
+        files: files.to_vec(alloc)?,
+    })
 }
 
 // The parts of a list with colons, but for the empty ones.

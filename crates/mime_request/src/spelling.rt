@@ -1,34 +1,27 @@
 //! What usual command lines ask for, with no word of clap.
 
-ghost use Rattle.std.specs.Prelude.{◌≡◌, ◌<◌, ◌≤◌, List, [], ◌∷◌, ◌++◌, codes, length, slice_get, true};
+ghost use Rattle.std.specs.Prelude.{◌≡◌, Bool, List, [], ◌∷◌, ◌++◌, codes, true};
 ghost use Rattle.clap.specs.Walk.{Text};
 ghost use Rattle.clap.specs.declared.error.kind.ErrorKind.TheVariants.{DisplayHelp, DisplayVersion, MissingRequiredArgument};
-ghost use Rattle.clap.specs.declared.error.kind.ErrorKind.TheVariants.{MissingSubcommand, TooManyValues};
+ghost use Rattle.clap.specs.declared.error.kind.ErrorKind.TheVariants.{MissingSubcommand};
 ghost use Rattle.mime_request.specs.Request.{asks, meaning_of, parts, plain, refused};
-ghost use Rattle.mime_request.specs.Spelling.{AreUsual, is_path, plain_words, plain_words_flag_first, plain_words_without_flag};
+ghost use Rattle.mime_request.specs.Spelling.{AreUsual, is_path, plain_words, plain_words_flags_first};
 
-/// `plain -d DIRS --name-only FILE...` asks for these files, from the one directory of DIRS or from
-/// none; several directories are refused.
+/// `plain -d DIRS [--name-only] [--magic-first] FILE...` asks for these files, from the directories
+/// of DIRS in their order, with just the flags that are given.
 pub fn usual_spelling_of_plain()
-    ensures asked { (dirs : Text) (files : List Text) → AreUsual dirs files
-        → length (parts dirs) ≤ 1
-        → meaning_of (plain_words dirs files) ≡ asks (plain (slice_get (parts dirs) 0) files) }
-    ensures several { (dirs : Text) (files : List Text) → AreUsual dirs files
-        → 1 < length (parts dirs)
-        → meaning_of (plain_words dirs files) ≡ refused (TooManyValues ∷ []) }
+    ensures { (dirs : Text) (name_only magic_first : Bool) (files : List Text)
+        → AreUsual dirs files
+        → meaning_of (plain_words dirs name_only magic_first files)
+        ≡ asks (plain (parts dirs) name_only magic_first files) }
 {}
 
-/// `plain --name-only -d DIRS FILE...` asks for the same.
-pub fn flag_first_spelling_of_plain()
-    ensures { (dirs : Text) (files : List Text) → AreUsual dirs files
-        → meaning_of (plain_words_flag_first dirs files) ≡ meaning_of (plain_words dirs files) }
-{}
-
-/// `plain -d DIRS FILE...` is refused, as content is not looked at yet.
-pub fn plain_without_name_only()
-    ensures { (dirs : Text) (files : List Text) → AreUsual dirs files → length (parts dirs) ≤ 1
-        → meaning_of (plain_words_without_flag dirs files)
-        ≡ refused (MissingRequiredArgument ∷ []) }
+/// `plain [--name-only] [--magic-first] -d DIRS FILE...` asks for the same.
+pub fn flags_first_spelling_of_plain()
+    ensures { (dirs : Text) (name_only magic_first : Bool) (files : List Text)
+        → AreUsual dirs files
+        → meaning_of (plain_words_flags_first dirs name_only magic_first files)
+        ≡ meaning_of (plain_words dirs name_only magic_first files) }
 {}
 
 /// `--help`, alone or after the command, asks for help, and `--version` for the version; no words at

@@ -1,0 +1,8 @@
+-- The arguments of a command, added in turn.
+use Rattle.std.proofs.Common.{◌≡◌, ◌∙◌, ap}
+use Rattle.clap.specs.Simple.{App, with_rule}
+use Rattle.clap.specs.Walk.{Rule}
+
+-- one more argument
+pub with_one_more : (a b c : App) (r s : Rule) → c ≡ with_rule b r → b ≡ a → r ≡ s → c ≡ with_rule a s
+with_one_more a b c r s added before is = added ∙ (ap (λ (x : App). with_rule x r) before ∙ ap (with_rule a) is)
