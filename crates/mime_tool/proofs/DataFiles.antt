@@ -73,8 +73,8 @@ lines_said F X U plain Spells is_malformed path text numbers a b u file are spel
     (flat_map (ignored path) numbers, (spells, ap (flat_map (ignored path)) are), w)
 
 -- or weren't
-pub lines_unsaid : (F X U : Type 0) (plain : F → X) (Spells : List ℕ → X → Type 0) (is_malformed : List ℕ → Bool) (path text numbers : List ℕ)
-    (a b : Sinks) (file : F) (s : Stop) → numbers ≡ skipped_of is_malformed text → Spells text (plain file)
+pub lines_unsaid : (F X U : Type 0) (plain : F → X) (Spells : List ℕ → X → Type 0) (is_malformed : List ℕ → Bool)
+    (path text numbers : List ℕ) (a b : Sinks) (file : F) (s : Stop) → numbers ≡ skipped_of is_malformed text → Spells text (plain file)
     → Does {X = U} (said (flat_map (ignored path) numbers)) a b (Err s)
     → Loads plain (AreLines Spells is_malformed path text) a b (Err s)
 lines_unsaid F X U plain Spells is_malformed path text numbers a b file stop.OutOfMemory are spells w =

@@ -1,3 +1,4 @@
+mod directories;
 mod faults;
 mod rows;
 mod system;
