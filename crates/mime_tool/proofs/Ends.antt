@@ -1,5 +1,5 @@
 -- How the parts of a command come to its end.
-use Rattle.std.proofs.Common.{◌∙◌, ℕ, List, [], ◌∷◌, ◌++◌, inl, inr, Ok, Err, Result, append_assoc}
+use Rattle.std.proofs.Common.{◌≡◌, ◌∙◌, ℕ, List, [], ◌∷◌, ◌++◌, inl, inr, Ok, Err, Result, append_assoc}
 use Rattle.std.proofs.Common.{append-nil, max, nat_le, refl, sym, ap, subst}
 use Rattle.mime_tool.specs.Desk.{Ends}
 use Rattle.mime_tool.specs.Finish.{IsCut, IsPart, Sinks, Writes, WritesFront}
@@ -7,7 +7,7 @@ use Rattle.mime_tool.specs.Run.{IsEach, Run, joined, said, silent, stopped}
 use Rattle.mime_tool.specs.Stop.{message}
 use Rattle.mime_tool.specs.declared.stop.Stop.{Stop}
 use Rattle.mime_tool.specs.declared.stop.Stop.TheVariants as stop
-use Rattle.mime_tool.proofs.Sinks.{front-append, front_all, wrote-append, wrote_kept, wrote_nothing, wrote_unknown}
+use Rattle.mime_tool.proofs.Sinks.{front-append, front_all, front_whole, wrote-append, wrote_kept, wrote_nothing, wrote_unknown}
 use Rattle.mime_tool.proofs.Runs.{both_go_on, each-append, each_one, each_stopped, joined-stopped, said-status, said-stopped}
 
 -- ---- both sinks
@@ -15,6 +15,10 @@ use Rattle.mime_tool.proofs.Runs.{both_go_on, each-append, each_one, each_stoppe
 -- nothing is written
 pub writes_nothing : (s : Sinks) → Writes s s silent
 writes_nothing s = (wrote_nothing s.out, wrote_nothing s.err)
+
+-- sinks that are the same hold what they held
+pub writes_same : (a b : Sinks) → b ≡ a → Writes a b silent
+writes_same a b same = subst (λ (s : Sinks). Writes a s silent) (sym same) (writes_nothing a)
 
 -- a run after another
 pub writes-append : (a b c : Sinks) (x y : Run) → Writes a b x → Writes b c y → Writes a c (joined x y)
@@ -49,14 +53,14 @@ cut_all P files a b run p w = inr (run, part_all P files run p, w)
 
 -- memory ran out after that
 cut_said : (P Q : List (List ℕ) → Run → Type 0) (files : List (List ℕ)) (text : List ℕ) (a b c : Sinks)
-    → ((fs : List (List ℕ)) (run : Run) → P fs run → Q fs (joined (said text) run)) → P [] silent
+    → ((fs : List (List ℕ)) (run : Run) → P fs run → Q fs (joined (said text) run)) → (run : Run) × P [] run
     → Writes a b (said text) → IsCut P files b c → IsCut Q files a c
 cut_said P Q files text a b c more none w (inl p) =
     inr (
-      joined (said text) silent,
-      part_none Q files (joined (said text) silent) (more [] silent none),
-      writes_all a c
-          (joined (said text) silent) (writes-append a b c (said text) silent w p),
+      joined (said text) none.0,
+      part_none Q files (joined (said text) none.0) (more [] none.0 none.1),
+      writes-front a b c (said text) none.0 w
+          (front_whole b.out c.out [] none.0.out p.0, front_whole b.err c.err [] none.0.err p.1),
     )
 cut_said P Q files text a b c more none w (inr p) = inr (
   joined (said text) p.0,
@@ -66,7 +70,7 @@ cut_said P Q files text a b c more none w (inr p) = inr (
 
 -- the files are answered after that
 pub ends_said : (P Q : List (List ℕ) → Run → Type 0) (files : List (List ℕ)) (text : List ℕ) (a b c : Sinks) (r : Result ℕ Stop)
-    → ((fs : List (List ℕ)) (run : Run) → P fs run → Q fs (joined (said text) run)) → P [] silent
+    → ((fs : List (List ℕ)) (run : Run) → P fs run → Q fs (joined (said text) run)) → (run : Run) × P [] run
     → Writes a b (said text) → Ends P files b c r → Ends Q files a c r
 ends_said P Q files text a b c (Ok status) more none w p = (
   joined (said text) p.0,

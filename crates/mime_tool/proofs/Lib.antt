@@ -1,8 +1,15 @@
+pub mod Commands
+pub mod DataFiles
 pub mod Desks
+pub mod DirectoryFiles
+pub mod DirectoryLists
+pub mod DirectoryLoops
+pub mod DirectorySteps
 pub mod Endings
 pub mod Ends
 pub mod Lines
-pub mod Plains
+pub mod Loads
+pub mod MagicFiles
 pub mod Programs
 pub mod Runs
 pub mod Sinks

@@ -1,15 +1,23 @@
 -- From what a file comes to, to its line.
-use Rattle.std.proofs.Common.{◌≡◌, ℕ, List, [], inl, Ok, Err, Result, subst, sym}
+use Rattle.std.proofs.Common.{◌≡◌, ℕ, Bool, List, [], inl, Ok, Err, Result, refl, subst, sym}
+use Rattle.mime_base.specs.Database.{PlainDatabase}
 use Rattle.mime_tool.specs.Desk.{Ends}
 use Rattle.mime_tool.specs.Files.{Stored}
 use Rattle.mime_tool.specs.Finish.{Sinks}
 use Rattle.mime_tool.specs.Line.{IsLine, PlainLookup}
 use Rattle.mime_tool.specs.LineSteps.{ComesTo, run_of}
+use Rattle.mime_tool.specs.Plain.{AreLines}
+use Rattle.mime_tool.specs.Run.{Run, silent}
 use Rattle.mime_tool.specs.declared.line.Outcome.{Outcome}
 use Rattle.mime_tool.specs.declared.stop.Stop.{Stop}
 use Rattle.mime_tool.specs.declared.stop.Stop.TheVariants as stop
-use Rattle.mime_tool.proofs.Plains.{writes_same}
+use Rattle.mime_tool.proofs.Ends.{writes_same}
 use Rattle.mime_tool.proofs.Programs.{ends_weaker}
+
+-- no file has no line
+pub no_lines : (stored : List ℕ → Stored) (name_only magic_first : Bool) (database : PlainDatabase)
+    → (run : Run) × AreLines stored name_only magic_first database [] run
+no_lines stored name_only magic_first database = (silent, refl)
 
 -- memory ran out before it came to anything
 pub comes_undone : (lookup : PlainLookup) (stored : List ℕ → Stored) (file : List ℕ) (a b : Sinks) (s : Stop)

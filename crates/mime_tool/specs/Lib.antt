@@ -1,10 +1,11 @@
 pub mod Desk
+pub mod Directories
 pub mod Files
 pub mod Finish
 pub mod Line
 pub mod LineSteps
+pub mod Loading
 pub mod Plain
-pub mod PlainSteps
 pub mod Program
 pub mod Run
 pub mod Sink

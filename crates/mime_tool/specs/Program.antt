@@ -26,11 +26,11 @@ IsShown k run = (k ≢ kind.OutOfMemory) × ((text : List ℕ) × (run ≡ shown
 
 -- the run of a request; a command has a line here
 abbrev pub IsAskedRun : (List ℕ → Stored) → PlainRequest → List (List ℕ) → Run → Type 0
-IsAskedRun stored (plain dir _) = IsPlain stored dir true false
+IsAskedRun stored (plain dirs name_only magic_first _) = IsPlain stored dirs name_only magic_first
 
 -- the files that a request names
 abbrev pub asked_files : PlainRequest → List (List ℕ)
-asked_files (plain _ files) = files
+asked_files (plain _ _ _ files) = files
 
 -- the run that the words ask for, or help, or what is wrong with them
 abbrev pub IsAnswer : (List ℕ → Stored) → Meaning → List (List ℕ) → Run → Type 0

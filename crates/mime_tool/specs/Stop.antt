@@ -1,7 +1,7 @@
 -- Why a command stops, and what is said on standard error.
 use Rattle.std.specs.Prelude.{◌≡◌, ◌⊎◌, ℕ, List, [], Option, Some, Result, Ok, Err, codes, string_bytes}
 use Rattle.mime_base.specs.declared.memory.OutOfMemory.{OutOfMemory as NoMemory}
-use Rattle.mime_tool.specs.Run.{cannot_read, out_of_memory}
+use Rattle.mime_tool.specs.Run.{out_of_memory}
 use Rattle.mime_tool.specs.Sink.{Flush, Wrote, WroteFront}
 use Rattle.mime_tool.specs.declared.sink.SinkFault.{SinkFault}
 use Rattle.mime_tool.specs.declared.sink.SinkFault.TheVariants as fault
@@ -24,11 +24,11 @@ message (stop.Refused text) = string_bytes text
 message stop.CannotWrite = codes "mimelook: cannot write output\n"
 message stop.OutOfMemory = []
 
--- the message is that the file of this path can't be read, unless memory ran out
-abbrev pub IsUnreadable : List ℕ → Stop → Type 0
-IsUnreadable path (stop.Refused text) = string_bytes text ≡ cannot_read path
-IsUnreadable path stop.CannotWrite = ⊥
-IsUnreadable path stop.OutOfMemory = Unit {0}
+-- the data are refused with this message, unless memory ran out
+abbrev pub IsRefusal : List ℕ → Stop → Type 0
+IsRefusal text (stop.Refused message) = string_bytes message ≡ text
+IsRefusal text stop.CannotWrite = ⊥
+IsRefusal text stop.OutOfMemory = Unit {0}
 
 -- the message of a stop is said; that memory ran out isn't said here
 abbrev pub SaysStop : Stop → Option (List ℕ) → Option (List ℕ) → Result (Unit {0}) NoMemory → Type 0

@@ -19,6 +19,7 @@
 #![tactic(auto)]
 
 mod desk;
+mod directories;
 mod files;
 mod line;
 mod plain;

@@ -3,12 +3,12 @@
 ghost use Rattle.std.specs.Prelude.{◌≡◌};
 ghost use Rattle.mime_tool.specs.declared.stop.Stop.TheVariants.{OutOfMemory};
 ghost use Rattle.mime_tool.specs.Run.{cannot_read};
-ghost use Rattle.mime_tool.specs.Stop.{IsUnreadable, Says, SaysStop, TellsStop, stop_of};
+ghost use Rattle.mime_tool.specs.Stop.{IsRefusal, Says, SaysStop, TellsStop, stop_of};
 
 use crate::sink::{Sink, SinkFault, put_now};
 use crate::status::{OUT_OF_MEMORY, STOPPED};
 use mime_base::OutOfMemory;
-use std::alloc::{AllocError, Global};
+use std::alloc::{AllocError, AllocFailed, Global};
 
 /// Why a command stops before its end.
 #[derive(Debug, Drop)]
@@ -37,6 +37,14 @@ impl From<AllocError> for Stop {
     }
 }
 
+impl<T: Drop> From<AllocFailed<T>> for Stop {
+    ghost from_gives = { λ _ stop. stop ≡ OutOfMemory };
+
+    fn from(_error: AllocFailed<T>) -> Stop {
+        Stop::OutOfMemory
+    }
+}
+
 impl From<SinkFault> for Stop {
     ghost from_gives = { λ fault stop. stop ≡ stop_of fault };
 
@@ -50,7 +58,7 @@ impl From<SinkFault> for Stop {
 
 /// The file of this path can't be read.
 pub(crate) fn unreadable(alloc: Global, path: &str) -> Stop
-    ensures { IsUnreadable path.now result }
+    ensures { IsRefusal (cannot_read path.now) result }
 {
     match format!(in alloc; "mimelook: {path}: cannot read\n") {
         Ok(message) => Stop::Refused(message),

@@ -1,8 +1,8 @@
 use Rattle.std.proofs.Common.{◌<◌, ◌∙◌, length, arith}
 use Rattle.std.proofs.lemmas.Result.{err_from_is_err_and}
-use Rattle.mime_tool.specs.Plain.{ignored}
+use Rattle.mime_tool.specs.Directories.{ignored}
 use Rattle.mime_tool.proofs.Desks.{says_cut_at}
-use Rattle.mime_tool.proofs.plain.report_ignored.Goals as goal
+use Rattle.mime_tool.proofs.directories.line_file.report_ignored.Goals as goal
 
 pub returns-in_err-report_line : goal.returns-in_err-report_line
 returns-in_err-report_line g c =

@@ -1,0 +1,179 @@
+-- What the text files of data directories give, and the messages on them.
+use Rattle.std.specs.Prelude.{◌≡◌, ℕ, Bool, List, [], ◌∷◌, ◌++◌, Option, Some, None, codes, decimal}
+use Rattle.std.specs.List.{flat_map}
+use Rattle.mime_base.specs.Database.{PlainDatabase}
+use Rattle.mime_base.specs.Database.PlainPairs.{plain_icons, plain_pairs}
+use Rattle.mime_base.specs.Magic.{PlainSection, plain_sections}
+use Rattle.mime_base.specs.declared.database.rule.GlobRule.{GlobRule}
+use Rattle.mime_text.specs.Lines.{HasJust, skipped_of}
+use Rattle.mime_text.specs.Lines.Globs2.{is_malformed_rule, markers_of, rules_of}
+use Rattle.mime_text.specs.Lines.Icons.{icons_of, is_malformed_icon}
+use Rattle.mime_text.specs.Lines.Pairs.{is_malformed_pair, pairs_of}
+use Rattle.mime_text.specs.Magic.Entries.{PlainFlatSection}
+use Rattle.mime_text.specs.Magic.File.{deleted_kinds, kept_sections}
+use Rattle.mime_text.specs.Magic.Reading.{magic_fault}
+use Rattle.mime_text.specs.Magic.Text.{MagicText}
+use Rattle.mime_text.specs.Merging.{PlainDir, merged}
+use Rattle.mime_text.specs.declared.magic.fault.MagicFault.{MagicFault}
+use Rattle.mime_text.specs.declared.magic.fault.MagicFault.TheVariants as fault
+use Rattle.mime_text.specs.declared.magic.file.MagicFile.{MagicFile}
+use Rattle.mime_tool.specs.Files.{IsText, Stored}
+use Rattle.mime_tool.specs.Loading.{◌>>=◌, Gives}
+use Rattle.mime_tool.specs.Run.{Run, cannot_read, joined, said, silent, stopped}
+use Rattle.mime_tool.specs.Stop.{IsRefusal}
+use Rattle.mime_tool.specs.declared.stop.Stop.{Stop}
+use Rattle.mime_tool.specs.declared.stop.Stop.TheVariants as stop
+
+-- ---- one file
+
+-- where a file of a directory lies
+abbrev pub path_of : List ℕ → List ℕ → List ℕ
+path_of dir name = dir ++ (codes "/mime/" ++ name)
+
+-- what is said where there is no text at this path
+abbrev pub unread : List ℕ → Option (List ℕ) → List ℕ
+unread path None = cannot_read path
+unread path (Some text) = []
+
+-- the text of the file at this path, an empty one where it is missing; or it can't be read
+abbrev pub IsTextAt : (List ℕ → Stored) → List ℕ → Option (List ℕ) → List ℕ → Type 0
+IsTextAt stored path text messages = IsText (stored path) text × (messages ≡ unread path text)
+
+-- ---- files of lines
+
+-- the message on a malformed line, by its number
+abbrev pub ignored : List ℕ → ℕ → List ℕ
+ignored path number = codes "mimelook: " ++ (path ++ (codes ": line " ++ (decimal number ++ codes " ignored\n")))
+
+-- what is said of the malformed lines of a text, which lies at this path
+abbrev pub all_ignored : (List ℕ → Bool) → List ℕ → List ℕ → List ℕ
+all_ignored is_malformed path text = flat_map (ignored path) (skipped_of is_malformed text)
+
+-- what the text spells, with the messages on its malformed lines; Spells says what a text spells
+abbrev pub AreLines : {X : Type 0} → (List ℕ → X → Type 0) → (List ℕ → Bool) → List ℕ → List ℕ → Option X → List ℕ → Type 0
+AreLines Spells is_malformed path text None messages = ⊥
+AreLines Spells is_malformed path text (Some x) messages = Spells text x × (messages ≡ all_ignored is_malformed path text)
+
+-- what the file of lines at this path spells
+abbrev pub AreLinesAt : {X : Type 0} → (List ℕ → X → Type 0) → (List ℕ → Bool) → (List ℕ → Stored) → List ℕ → Option X → List ℕ → Type 0
+AreLinesAt Spells is_malformed stored path = IsTextAt stored path >>= AreLines Spells is_malformed path
+
+-- the rules of a text of globs2, and the types of its markers
+abbrev pub AreGlobs : List ℕ → List GlobRule × List (List ℕ) → Type 0
+AreGlobs text globs = (globs.0 ≡ rules_of text) × HasJust globs.1 (markers_of text)
+
+-- the pairs of a text of aliases or subclasses
+abbrev pub ArePairs : List ℕ → List (List ℕ × List ℕ) → Type 0
+ArePairs text pairs = pairs ≡ plain_pairs (pairs_of text)
+
+-- the icons of a text of icons or generic-icons
+abbrev pub AreIcons : List ℕ → List (List ℕ × List ℕ) → Type 0
+AreIcons text icons = icons ≡ plain_icons (icons_of text)
+
+-- ---- the file magic
+
+-- what the message on a fault calls it
+abbrev pub fault_name : MagicFault → List ℕ
+fault_name (fault.NoHeader at) = codes "no header"
+fault_name (fault.Truncated at) = codes "truncated"
+fault_name (fault.BadSection at) = codes "bad section"
+fault_name (fault.BadNumber at) = codes "bad number"
+fault_name (fault.BadWord at) = codes "bad word"
+fault_name (fault.BadIndent at) = codes "bad indent"
+fault_name (fault.TooDeep at) = codes "too deep"
+fault_name fault.OutOfMemory = []
+
+-- where it is, in bytes from the front of the text
+abbrev pub fault_offset : MagicFault → ℕ
+fault_offset (fault.NoHeader at) = at
+fault_offset (fault.Truncated at) = at
+fault_offset (fault.BadSection at) = at
+fault_offset (fault.BadNumber at) = at
+fault_offset (fault.BadWord at) = at
+fault_offset (fault.BadIndent at) = at
+fault_offset (fault.TooDeep at) = at
+fault_offset fault.OutOfMemory = 0
+
+-- the message on a fault of this name at this offset
+abbrev pub faulty_at : List ℕ → List ℕ → ℕ → List ℕ
+faulty_at path name at =
+    codes "mimelook: " ++ (path ++ (codes ": magic " ++ (name ++ (codes " at " ++ (decimal at ++ codes "\n")))))
+
+-- the message on the first fault of a text of magic, which lies at this path
+abbrev pub faulty : List ℕ → MagicFault → List ℕ
+faulty path f = faulty_at path (fault_name f) (fault_offset f)
+
+-- what stops at a fault: its message, or that memory ran out
+abbrev pub IsFaultStop : List ℕ → MagicFault → Stop → Type 0
+IsFaultStop path fault.OutOfMemory s = s ≡ stop.OutOfMemory
+IsFaultStop path f s = IsRefusal (faulty path f) s
+
+-- a file magic of the code
+abbrev pub plain_magic : MagicFile → List PlainSection × List (List ℕ)
+plain_magic file = (plain_sections file.sections.items, file.deleted.items)
+
+-- the sections that a text of magic spells, and the types that it deletes
+abbrev pub IsMagic : List ℕ → List PlainSection × List (List ℕ) → Type 0
+IsMagic text magic =
+    (flat_sections : List PlainFlatSection) × MagicText text flat_sections
+    × (magic.0 ≡ kept_sections flat_sections) × HasJust magic.1 (deleted_kinds flat_sections)
+
+-- what a text of magic spells; or it has a fault, and that stops
+abbrev pub IsMagicOrFault : List ℕ → List ℕ → Option (List PlainSection × List (List ℕ)) → List ℕ → Type 0
+IsMagicOrFault path text None messages =
+    (f : MagicFault) × (magic_fault text ≡ Some f) × (messages ≡ faulty path f)
+IsMagicOrFault path text (Some magic) messages = IsMagic text magic × (messages ≡ [])
+
+-- what the file magic at this path spells
+abbrev pub IsMagicAt : (List ℕ → Stored) → List ℕ → Option (List PlainSection × List (List ℕ)) → List ℕ → Type 0
+IsMagicAt stored path = IsTextAt stored path >>= IsMagicOrFault path
+
+-- ---- directories
+
+-- what the six files of a directory give, in the order in which they are read
+unfoldable pub IsDirectory : (List ℕ → Stored) → List ℕ → Option PlainDir → List ℕ → Type 0
+IsDirectory stored dir = do
+  globs ← AreLinesAt AreGlobs is_malformed_rule stored (path_of dir (codes "globs2"))
+  magic ← IsMagicAt stored (path_of dir (codes "magic"))
+  aliases ← AreLinesAt ArePairs is_malformed_pair stored (path_of dir (codes "aliases"))
+  subclasses ← AreLinesAt ArePairs is_malformed_pair stored (path_of dir (codes "subclasses"))
+  icons ← AreLinesAt AreIcons is_malformed_icon stored (path_of dir (codes "icons"))
+  generic_icons ← AreLinesAt AreIcons is_malformed_icon stored (path_of dir (codes "generic-icons"))
+  Gives (record {
+    rules = globs.0;
+    deleted_globs = globs.1;
+    sections = magic.0;
+    deleted_magic = magic.1;
+    aliases = aliases;
+    subclasses = subclasses;
+    icons = icons;
+    generic_icons = generic_icons;
+  })
+
+-- what directories give, one after another up to the first that stops
+unfoldable pub AreDirectories : (List ℕ → Stored) → List (List ℕ) → Option (List PlainDir) → List ℕ → Type 0
+AreDirectories stored [] = Gives []
+AreDirectories stored (dir ∷ dirs) = do
+  first ← IsDirectory stored dir
+  others ← AreDirectories stored dirs
+  Gives (first ∷ others)
+
+-- the database of directories, the most preferred first
+unfoldable pub IsDatabase : (List ℕ → Stored) → List (List ℕ) → Option PlainDatabase → List ℕ → Type 0
+IsDatabase stored dirs = do
+  plain_dirs ← AreDirectories stored dirs
+  Gives (merged plain_dirs)
+
+-- ---- a command over a database
+
+-- the run after loading, which had these messages; IsOver says what a run over files is by a database
+abbrev pub IsAfterLoading : Option PlainDatabase → List ℕ → (PlainDatabase → List (List ℕ) → Run → Type 0) → List (List ℕ) → Run → Type 0
+IsAfterLoading None messages IsOver files run = run ≡ stopped messages silent
+IsAfterLoading (Some database) messages IsOver files run =
+    (rest : Run) × IsOver database files rest × (run ≡ joined (said messages) rest)
+
+-- the run of a command over the database of these directories
+abbrev pub IsCommand : (List ℕ → Stored) → List (List ℕ) → (PlainDatabase → List (List ℕ) → Run → Type 0) → List (List ℕ) → Run → Type 0
+IsCommand stored dirs IsOver files run =
+    (database : Option PlainDatabase) × (messages : List ℕ) × IsDatabase stored dirs database messages
+    × IsAfterLoading database messages IsOver files run

@@ -1,0 +1,79 @@
+//! Data directories: the six text files of each, and the database of all of them ("Directory
+//! layout").
+//!
+//! A missing file counts as empty. A malformed line of a file of lines is passed over with a message
+//! once its file was read; a file that can't be read, and a fault of `magic`, stop the command. That,
+//! the messages and the order of the files are this project's own.
+
+ghost use Rattle.std.specs.Prelude.{◌≡◌, IfOk, string_bytes};
+ghost use Rattle.clap.specs.Walk.{texts};
+ghost use Rattle.mime_base.specs.Database.{plain_database};
+ghost use Rattle.mime_text.specs.Merging.{plain_dir, plain_dirs};
+ghost use Rattle.mime_tool.specs.Desk.{Works};
+ghost use Rattle.mime_tool.specs.Directories.{AreDirectories, IsDatabase, IsDirectory, path_of};
+ghost use Rattle.mime_tool.specs.Loading.{Loads};
+
+mod line_file;
+mod magic_file;
+
+use crate::desk::Desk;
+use crate::stop::Stop;
+use line_file::read_lines;
+use magic_file::read_magic_in;
+use mime_base::{Database, OutOfMemory};
+use mime_text::{DirFiles, merge};
+use std::alloc::{AllocError, Global};
+
+/// The database of data directories, the most preferred first.
+///
+/// Of each directory `mime/globs2`, `mime/magic`, `mime/aliases`, `mime/subclasses`, `mime/icons` and
+/// `mime/generic-icons` are read, in this order, up to the first that stops.
+pub(crate) fn load<D: Desk>(desk: &mut D, directories: &[&str]) -> Result<Database, Stop>
+    ensures { Works (Loads plain_database
+        (IsDatabase (D.state desk.old).stored (texts directories.now)))
+        (D.state desk.old) (D.state desk.new) result }
+{
+    let dirs = read_directories(desk, directories)?;
+    let database = merge(desk.alloc(), dirs)?;
+    Ok(database)
+}
+
+fn read_directories<D: Desk>(desk: &mut D, directories: &[&str]) -> Result<Vec<DirFiles>, Stop>
+    ensures { Works (Loads (λ dirs. plain_dirs dirs.items)
+        (AreDirectories (D.state desk.old).stored (texts directories.now)))
+        (D.state desk.old) (D.state desk.new) result }
+{
+    let mut dirs = Vec::new(desk.alloc());
+    for directory in directories {
+        let dir = read_directory(desk, directory)?;
+        dirs.push(dir)?;
+    }
+    Ok(dirs)
+}
+
+fn read_directory<D: Desk>(desk: &mut D, directory: &str) -> Result<DirFiles, Stop>
+    ensures { Works (Loads plain_dir (IsDirectory (D.state desk.old).stored directory.now))
+        (D.state desk.old) (D.state desk.new) result }
+{
+    let globs = read_lines(desk, directory, "globs2")?;
+    let magic = read_magic_in(desk, directory)?;
+    let aliases = read_lines(desk, directory, "aliases")?;
+    let subclasses = read_lines(desk, directory, "subclasses")?;
+    let icons = read_lines(desk, directory, "icons")?;
+    let generic_icons = read_lines(desk, directory, "generic-icons")?;
+    Ok(DirFiles {
+        globs,
+        magic,
+        aliases,
+        subclasses,
+        icons,
+        generic_icons,
+    })
+}
+
+/// Where a file of a directory lies.
+fn path_of(alloc: Global, directory: &str, name: &str) -> Result<String, AllocError>
+    ensures { IfOk result (λ path. string_bytes path ≡ path_of directory.now name.now) }
+{
+    format!(in alloc; "{directory}/mime/{name}")
+}
