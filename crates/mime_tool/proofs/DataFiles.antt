@@ -5,7 +5,7 @@ use Rattle.std.specs.declared.alloc.Global.{Global}
 use Rattle.mime_text.specs.Lines.{skipped_of}
 use Rattle.mime_tool.specs.Desk.{Does, ReadsText, State, Works}
 use Rattle.mime_tool.specs.Directories.{AreLines, AreLinesAt, IsTextAt, all_ignored, ignored, unread}
-use Rattle.mime_tool.specs.Files.{IsText, Stored, bytes, nothing, unknown, unreadable}
+use Rattle.mime_tool.specs.Files.{IsText, Stored, bytes, closed, nothing, unknown, unreadable}
 use Rattle.mime_tool.specs.Finish.{Sinks}
 use Rattle.mime_tool.specs.Loading.{Loads}
 use Rattle.mime_tool.specs.Run.{said}
@@ -19,6 +19,7 @@ use Rattle.mime_tool.proofs.Loads.{CanBe, can_then, loads_nothing}
 -- there is some text, or none
 some_text : (stored : Stored) → (text : Option (List ℕ)) × IsText stored text
 some_text nothing = (Some [], refl)
+some_text closed = (None, refl)
 some_text unreadable = (None, refl)
 some_text (bytes bs) = (Some bs, refl)
 some_text unknown = (None, tt)
@@ -73,8 +74,8 @@ lines_said F X U plain Spells is_malformed path text numbers a b u file are spel
     (flat_map (ignored path) numbers, (spells, ap (flat_map (ignored path)) are), w)
 
 -- or weren't
-pub lines_unsaid : (F X U : Type 0) (plain : F → X) (Spells : List ℕ → X → Type 0) (is_malformed : List ℕ → Bool) (path text numbers : List ℕ)
-    (a b : Sinks) (file : F) (s : Stop) → numbers ≡ skipped_of is_malformed text → Spells text (plain file)
+pub lines_unsaid : (F X U : Type 0) (plain : F → X) (Spells : List ℕ → X → Type 0) (is_malformed : List ℕ → Bool)
+    (path text numbers : List ℕ) (a b : Sinks) (file : F) (s : Stop) → numbers ≡ skipped_of is_malformed text → Spells text (plain file)
     → Does {X = U} (said (flat_map (ignored path) numbers)) a b (Err s)
     → Loads plain (AreLines Spells is_malformed path text) a b (Err s)
 lines_unsaid F X U plain Spells is_malformed path text numbers a b file stop.OutOfMemory are spells w =

@@ -91,8 +91,8 @@ unfolding AreDirectories
 none_read stored = (refl, refl)
 
 -- directories before others
-pub directories_after : (stored : List ℕ → Stored) (xs ys : List (List ℕ)) (ds : List PlainDir) (found : Option (List PlainDir)) (m n : List ℕ)
-    → AreDirectories stored xs (Some ds) m → AreDirectories stored ys found n
+pub directories_after : (stored : List ℕ → Stored) (xs ys : List (List ℕ)) (ds : List PlainDir) (found : Option (List PlainDir))
+    (m n : List ℕ) → AreDirectories stored xs (Some ds) m → AreDirectories stored ys found n
     → AreDirectories stored (xs ++ ys) (option_map (λ es. ds ++ es) found) (m ++ n)
 directories_after stored [] ys ds found m n p q =
     let e = no_directories stored ds m p in

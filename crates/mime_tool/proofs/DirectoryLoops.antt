@@ -1,5 +1,6 @@
 -- The directories of a loop, as they are read.
-use Rattle.std.proofs.Common.{◌≡◌, ◌∙◌, ℕ, List, [], ◌∷◌, ◌++◌, Option, Some, None, Result, Ok, Err, Vec, append_assoc, ap, refl, string_bytes}
+use Rattle.std.proofs.Common.{◌≡◌, ◌∙◌, ℕ, List, [], ◌∷◌, ◌++◌, Option, Some, None, Result, Ok, Err, Vec, append_assoc, ap, refl}
+use Rattle.std.proofs.Common.{string_bytes}
 use Rattle.std.proofs.Common.{◌+◌, ◌<◌, Bor, drop, get_or, length, subst, sym, take}
 use Rattle.std.proofs.lemmas.List.{map-append}
 use Rattle.std.specs.declared.alloc.Global.{Global}

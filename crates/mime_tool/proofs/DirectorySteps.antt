@@ -13,8 +13,10 @@ use Rattle.mime_tool.specs.Loading.{◌>>=◌, Gives, Loads}
 use Rattle.mime_tool.specs.declared.stop.Stop.{Stop}
 use Rattle.mime_tool.proofs.Loads.{works_stop, works_then}
 use Rattle.mime_tool.proofs.Ends.{writes_nothing}
-use Rattle.mime_tool.proofs.DirectoryFiles.{AfterAliases, AfterGlobs, AfterIcons, AfterMagic, AfterSubclasses, AreGlobsIn, AreIconsIn, ArePairsIn}
-use Rattle.mime_tool.proofs.DirectoryFiles.{Globs, IsMagicIn, Magic, Pairs, after_aliases, after_generic, after_globs, after_icons, after_magic}
+use Rattle.mime_tool.proofs.DirectoryFiles.{AfterAliases, AfterGlobs, AfterIcons, AfterMagic, AfterSubclasses, AreGlobsIn}
+use Rattle.mime_tool.proofs.DirectoryFiles.{AreIconsIn, ArePairsIn}
+use Rattle.mime_tool.proofs.DirectoryFiles.{Globs, IsMagicIn, Magic, Pairs, after_aliases, after_generic, after_globs}
+use Rattle.mime_tool.proofs.DirectoryFiles.{after_icons, after_magic}
 use Rattle.mime_tool.proofs.DirectoryFiles.{after_subclasses, directory}
 
 -- ---- the plain values of the files
@@ -49,8 +51,8 @@ pub aliases_read : (dir : List ℕ) (globs : Globs) (magic : Magic) (a b c : Sta
     → Works (Loads plain_dir (AfterAliases dir globs magic b.stored (pairs_in aliases))) b c r
     → Works (Loads plain_dir (AfterMagic dir globs a.stored magic)) a c r
 aliases_read dir globs magic a b c aliases r p q =
-    works_then PairsFile Pairs DirFiles PlainDir pairs_in plain_dir (ArePairsIn (codes "aliases") a.stored dir) (AfterAliases dir globs magic)
-    a b c aliases r p q
+    works_then PairsFile Pairs DirFiles PlainDir pairs_in plain_dir (ArePairsIn (codes "aliases") a.stored dir)
+    (AfterAliases dir globs magic) a b c aliases r p q
 
 pub subclasses_read : (dir : List ℕ) (globs : Globs) (magic : Magic) (aliases : Pairs) (a b c : State) (subclasses : PairsFile)
     (r : Result DirFiles Stop) → Works (Loads pairs_in (ArePairsIn (codes "subclasses") a.stored dir)) a b (Ok subclasses)

@@ -7,9 +7,9 @@ pub mod DirectoryLoops
 pub mod DirectorySteps
 pub mod Endings
 pub mod Ends
+pub mod Lines
 pub mod Loads
 pub mod MagicFiles
-pub mod Plains
 pub mod Programs
 pub mod Runs
 pub mod Sinks

@@ -1,5 +1,6 @@
 -- How the steps of loading follow one another.
-use Rattle.std.proofs.Common.{◌≡◌, ◌∙◌, ℕ, List, [], ◌∷◌, ◌++◌, Option, Some, None, Result, Ok, Err, append_assoc, append-nil, ap, refl, subst}
+use Rattle.std.proofs.Common.{◌≡◌, ◌∙◌, ℕ, List, [], ◌∷◌, ◌++◌, Option, Some, None, Result, Ok, Err, append_assoc, append-nil, ap}
+use Rattle.std.proofs.Common.{refl, subst}
 use Rattle.std.proofs.Common.{string_bytes, sym}
 use Rattle.mime_tool.specs.Desk.{State, Works}
 use Rattle.mime_tool.specs.Files.{Stored}

@@ -37,8 +37,8 @@ can_be_magic_at stored path =
     (can_be_magic path)
 
 -- what was parsed is what the text spells
-pub magic_parsed : (path text : List ℕ) (s : Sinks) (file : MagicFile) (flat_sections : List PlainFlatSection) → MagicText text flat_sections
-    → IsFileOf flat_sections file → Loads plain_magic (IsMagicOrFault path text) s s (Ok file)
+pub magic_parsed : (path text : List ℕ) (s : Sinks) (file : MagicFile) (flat_sections : List PlainFlatSection)
+    → MagicText text flat_sections → IsFileOf flat_sections file → Loads plain_magic (IsMagicOrFault path text) s s (Ok file)
 magic_parsed path text s file flat_sections spells is =
     ([], ((flat_sections, spells, is.sections, is.deleted), refl), writes_nothing s)
 

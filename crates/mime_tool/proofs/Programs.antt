@@ -1,6 +1,5 @@
 -- From the run of a command to the run of the program.
-use Rattle.std.proofs.Common.{◌≡◌, ◌≢◌, ◌∙◌, ◌≤◌, ℕ, Bool, List, [], Result, Ok, Err, ap, inl, inr, length, slice_get, subst}
-use Rattle.std.specs.Option.{option_to_list}
+use Rattle.std.proofs.Common.{◌≡◌, ◌≢◌, ◌∙◌, ℕ, Bool, List, [], Result, Ok, Err, ap, inl, inr, subst}
 use Rattle.clap.specs.Values.{kind_of}
 use Rattle.clap.specs.declared.error.Error.{Error}
 use Rattle.clap.specs.declared.error.kind.ErrorKind.{ErrorKind}
@@ -8,8 +7,7 @@ use Rattle.clap.specs.declared.error.kind.ErrorKind.TheVariants as kind
 use Rattle.mime_request.specs.Request.{PlainRequest, Meaning, Means, plain_request, asks, meaning_of, parts, plain, refused}
 use Rattle.mime_request.specs.Spelling.{AreUsual, plain_words}
 use Rattle.mime_request.specs.declared.request.Request.{Request}
-use Rattle.mime_request.proofs.OptionWords.{directories_first}
-use Rattle.mime_request.proofs.UsualWords.{meaning_of-usual, plain_of-one}
+use Rattle.mime_request.proofs.UsualWords.{meaning_of-usual}
 use Rattle.mime_tool.specs.Desk.{Ends}
 use Rattle.mime_tool.specs.Files.{Stored}
 use Rattle.mime_tool.specs.Finish.{Finishes, Sinks}
@@ -64,15 +62,17 @@ shown_text k help text a b r other is p =
 
 -- ---- the usual words
 
-usual_meaning : (words : List (List ℕ)) (dirs : List ℕ) (names : List (List ℕ)) → words ≡ plain_words dirs names → AreUsual dirs names
-    → length (parts dirs) ≤ 1 → meaning_of words ≡ asks (plain (slice_get (parts dirs) 0) names)
-usual_meaning words dirs names are usual few =
-    ap meaning_of are ∙ meaning_of-usual directories_first dirs names usual ∙ plain_of-one (parts dirs) names few
+usual_meaning : (words : List (List ℕ)) (dirs : List ℕ) (name_only magic_first : Bool) (names : List (List ℕ))
+    → words ≡ plain_words dirs name_only magic_first names → AreUsual dirs names
+    → meaning_of words ≡ asks (plain (parts dirs) name_only magic_first names)
+usual_meaning words dirs name_only magic_first names are usual =
+    ap meaning_of are ∙ meaning_of-usual dirs name_only magic_first names usual
 
 -- the run of the usual words
 pub usual_finishes : (stored : List ℕ → Stored) (words : List (List ℕ)) (a b : Sinks) (status : ℕ)
     → Finishes (IsAnswer stored (meaning_of words)) (files_of (meaning_of words)) a b status
-    → (dirs : List ℕ) (names : List (List ℕ)) → words ≡ plain_words dirs names → AreUsual dirs names → length (parts dirs) ≤ 1
-    → Finishes (IsPlain stored (option_to_list (slice_get (parts dirs) 0))) names a b status
-usual_finishes stored words a b status p dirs names are usual few =
-    subst (λ (m : Meaning). Finishes (IsAnswer stored m) (files_of m) a b status) (usual_meaning words dirs names are usual few) p
+    → (dirs : List ℕ) (name_only magic_first : Bool) (names : List (List ℕ)) → words ≡ plain_words dirs name_only magic_first names
+    → AreUsual dirs names → Finishes (IsPlain stored (parts dirs) name_only magic_first) names a b status
+usual_finishes stored words a b status p dirs name_only magic_first names are usual =
+    subst (λ (m : Meaning). Finishes (IsAnswer stored m) (files_of m) a b status)
+    (usual_meaning words dirs name_only magic_first names are usual) p

@@ -1,7 +1,8 @@
 -- What becomes of a desk: before a part of the program, after it, and what that part gives.
-use Rattle.std.specs.Prelude.{◌≡◌, ℕ, false, List, Some, None, Result, Ok, Err, Vec, string_bytes}
+use Rattle.std.specs.Prelude.{◌≡◌, ℕ, false, List, Option, Some, None, Result, Ok, Err, Vec, string_bytes}
 use Rattle.std.specs.declared.alloc.Global.{Global}
-use Rattle.mime_tool.specs.Files.{IsText, Stored}
+use Rattle.mime_lookup.specs.Content.{Health}
+use Rattle.mime_tool.specs.Files.{IsReaderOf, IsShut, IsText, Stored}
 use Rattle.mime_tool.specs.Finish.{IsCut, Sinks, Writes, WritesFront}
 use Rattle.mime_tool.specs.Run.{Run, cannot_read, stopped, stops}
 use Rattle.mime_tool.specs.Stop.{message}
@@ -45,3 +46,10 @@ ReadsText stored path old new (Err (stop.Refused text)) =
     (new ≡ old) × IsText stored None × (string_bytes text ≡ cannot_read path)
 ReadsText stored path old new (Err stop.CannotWrite) = ⊥
 ReadsText stored path old new (Err stop.OutOfMemory) = new ≡ old
+
+-- a file is opened; or it can't be, or memory ran out
+abbrev pub OpensFile : {R : Type 0} → (R → Option (List ℕ)) → (R → Health) → Stored → Sinks → Sinks → Result (Option R) Stop → Type 0
+OpensFile remaining health stored old new (Ok (Some reader)) = (new ≡ old) × IsReaderOf remaining health stored reader
+OpensFile remaining health stored old new (Ok None) = (new ≡ old) × IsShut stored
+OpensFile remaining health stored old new (Err stop.OutOfMemory) = new ≡ old
+OpensFile remaining health stored old new (Err _) = ⊥

@@ -1,13 +1,15 @@
 -- What files hold.
-use Rattle.std.specs.Prelude.{◌≡◌, ℕ, List, [], Option, Some, None, Result, Ok, Err, Vec}
+use Rattle.std.specs.Prelude.{◌≡◌, ◌⊎◌, ℕ, List, [], Option, Some, None, Result, Ok, Err, Vec}
 use Rattle.std.specs.declared.alloc.Global.{Global}
+use Rattle.mime_lookup.specs.Content.{Health, broken, sound}
 use Rattle.mime_tool.specs.declared.files.FileFault.{FileFault}
 use Rattle.mime_tool.specs.declared.files.FileFault.TheVariants.{Failed, OutOfMemory}
 
--- what is stored at a path: nothing, something that can't be read, or a file of these bytes; or that
--- isn't known
+-- what is stored at a path: nothing, something that can't be opened, something that opens and whose reads all fail (a
+-- directory), or a file of these bytes; or that isn't known
 pub data Stored : Type 0 where
   nothing : Stored
+  closed : Stored
   unreadable : Stored
   bytes : List ℕ → Stored
   unknown : Stored
@@ -16,13 +18,36 @@ pub data Stored : Type 0 where
 abbrev pub Tells : Stored → Result (Option (Vec ℕ Global)) FileFault → Type 0
 Tells unknown answer = Unit {0}
 Tells stored (Err OutOfMemory) = Unit {0}
-Tells stored (Err Failed) = stored ≡ unreadable
+Tells stored (Err Failed) = (stored ≡ closed) ⊎ (stored ≡ unreadable)
 Tells stored (Ok None) = stored ≡ nothing
 Tells stored (Ok (Some v)) = stored ≡ bytes v.items
+
+-- a reader of what is stored: it gives just the bytes, or its reads all fail
+abbrev pub IsReaderOf : {R : Type 0} → (R → Option (List ℕ)) → (R → Health) → Stored → R → Type 0
+IsReaderOf remaining health nothing reader = ⊥
+IsReaderOf remaining health closed reader = ⊥
+IsReaderOf remaining health unreadable reader = (remaining reader ≡ Some []) × (health reader ≡ broken)
+IsReaderOf remaining health (bytes bs) reader = (remaining reader ≡ Some bs) × (health reader ≡ sound)
+IsReaderOf remaining health unknown reader = Unit {0}
+
+-- nothing that can be opened is stored
+abbrev pub IsShut : Stored → Type 0
+IsShut nothing = Unit {0}
+IsShut closed = Unit {0}
+IsShut unreadable = ⊥
+IsShut (bytes bs) = ⊥
+IsShut unknown = Unit {0}
+
+-- a reader of what is stored is given; or it can't be opened, or memory ran out
+abbrev pub Opens : {R : Type 0} → (R → Option (List ℕ)) → (R → Health) → Stored → Result R FileFault → Type 0
+Opens remaining health stored (Ok reader) = IsReaderOf remaining health stored reader
+Opens remaining health stored (Err Failed) = IsShut stored
+Opens remaining health stored (Err OutOfMemory) = Unit {0}
 
 -- the text of a file: an empty one where there is no file, and none where it can't be read
 abbrev pub IsText : Stored → Option (List ℕ) → Type 0
 IsText nothing text = text ≡ Some []
+IsText closed text = text ≡ None
 IsText unreadable text = text ≡ None
 IsText (bytes bs) text = text ≡ Some bs
 IsText unknown text = Unit {0}

@@ -2,6 +2,8 @@ pub mod Desk
 pub mod Directories
 pub mod Files
 pub mod Finish
+pub mod Line
+pub mod LineSteps
 pub mod Loading
 pub mod Plain
 pub mod Program

@@ -1,6 +1,5 @@
 -- What the words of a command line lead to.
 use Rattle.std.specs.Prelude.{◌≡◌, ◌≢◌, ℕ, Bool, true, false, List, []}
-use Rattle.std.specs.Option.{option_to_list}
 use Rattle.clap.specs.Kinds.{IsAmong}
 use Rattle.clap.specs.declared.error.kind.ErrorKind.{ErrorKind}
 use Rattle.clap.specs.declared.error.kind.ErrorKind.TheVariants as kind
@@ -27,11 +26,11 @@ IsShown k run = (k ≢ kind.OutOfMemory) × ((text : List ℕ) × (run ≡ shown
 
 -- the run of a request; a command has a line here
 abbrev pub IsAskedRun : (List ℕ → Stored) → PlainRequest → List (List ℕ) → Run → Type 0
-IsAskedRun stored (plain dir _) = IsPlain stored (option_to_list dir)
+IsAskedRun stored (plain dirs name_only magic_first _) = IsPlain stored dirs name_only magic_first
 
 -- the files that a request names
 abbrev pub asked_files : PlainRequest → List (List ℕ)
-asked_files (plain _ files) = files
+asked_files (plain _ _ _ files) = files
 
 -- the run that the words ask for, or help, or what is wrong with them
 abbrev pub IsAnswer : (List ℕ → Stored) → Meaning → List (List ℕ) → Run → Type 0

@@ -2,12 +2,13 @@
 
 ghost use Rattle.std.specs.Prelude.{◌≡◌, IfOk};
 ghost use Rattle.std.specs.List.{flat_map};
-ghost use Rattle.mime_tool.specs.Desk.{Does, ReadsText, State, Works};
+ghost use Rattle.mime_tool.specs.Desk.{Does, OpensFile, ReadsText, State, Works};
 ghost use Rattle.mime_tool.specs.Run.{cannot_read, printed, said};
 
 use crate::files::{FileFault, Files};
 use crate::sink::{Sink, put_all};
 use crate::stop::{Stop, complain, unreadable};
+use mime_lookup::Content;
 use std::alloc::Global;
 
 /// What a command works with.
@@ -18,6 +19,9 @@ pub(crate) trait Desk {
     // What is stored, what the sinks hold, and which references the desk has.
     ghost state: { Self → State };
 
+    /// A reader of a file's content.
+    type Reader: Content + Drop;
+
     /// Where memory comes from.
     fn alloc(&self) -> Global;
 
@@ -25,6 +29,11 @@ pub(crate) trait Desk {
     fn read_text(&mut self, path: &str) -> Result<Vec<u8>, Stop>
         ensures { Works (ReadsText ((state self.old).stored path.now) path.now)
             (state self.old) (state self.new) result };
+
+    /// Opens a file, or gives `None` where it can't be opened.
+    fn open(&mut self, path: &str) -> Result<Option<Self::Reader>, Stop>
+        ensures { Works (OpensFile Self.Reader.remaining Self.Reader.health
+            ((state self.old).stored path.now)) (state self.old) (state self.new) result };
 
     /// Prints the pieces on standard output, one after another.
     fn print(&mut self, pieces: &[&[u8]]) -> Result<(), Stop>
@@ -52,6 +61,8 @@ impl<F: Files, O: Sink, E: Sink> Desk for Streams<'_, '_, '_, F, O, E> {
       sinks = record { out = O.holds desk.out.now; err = E.holds desk.err.now };
     } };
 
+    type Reader = F::Reader;
+
     fn alloc(&self) -> Global {
         self.alloc
     }
@@ -61,6 +72,14 @@ impl<F: Files, O: Sink, E: Sink> Desk for Streams<'_, '_, '_, F, O, E> {
             Ok(Some(text)) => Ok(text),
             Ok(None) => Ok(Vec::new(self.alloc)),
             Err(FileFault::Failed) => Err(unreadable(self.alloc, path)),
+            Err(FileFault::OutOfMemory) => Err(Stop::OutOfMemory),
+        }
+    }
+
+    fn open(&mut self, path: &str) -> Result<Option<F::Reader>, Stop> {
+        match self.files.open(self.alloc, path) {
+            Ok(reader) => Ok(Some(reader)),
+            Err(FileFault::Failed) => Ok(None),
             Err(FileFault::OutOfMemory) => Err(Stop::OutOfMemory),
         }
     }

@@ -1,19 +1,20 @@
 //! Where files come from. This project's own.
 
 ghost use Rattle.std.specs.Prelude.{◌≡◌, ℕ, List};
-ghost use Rattle.mime_tool.specs.Files.{Stored, Tells, unknown};
+ghost use Rattle.mime_tool.specs.Files.{Opens, Stored, Tells, unknown};
 ghost use Rattle.mime_tool.specs.declared.files.FileFault.TheVariants.{OutOfMemory};
 
+use mime_lookup::Content;
 use std::alloc::{AllocError, Global};
 use thiserror::Error;
 
-/// Why a file was not read.
+/// Why a file was not opened or not read.
 #[derive(Clone, Copy, Debug, PartialEq, Eq, Error)]
 pub enum FileFault {
-    /// The file is there and can't be read, or is past a limit of its reader.
+    /// The file can't be opened or can't be read, or is past a limit of its reader.
     #[error("cannot read")]
     Failed,
-    /// There was no memory for its bytes.
+    /// There was no memory for it.
     #[error("out of memory")]
     OutOfMemory,
 }
@@ -31,11 +32,25 @@ pub trait Files {
     // What is stored at each path.
     ghost tells: { Self → List ℕ → Stored } = { λ _ _. unknown };
 
+    /// A reader of a file's content.
+    type Reader: Content + Drop;
+
     /// All the bytes of a file, or `None` where there is no such file.
     ///
     /// Errors: [`FileFault::Failed`] for a file that is there and can't be read, a directory too;
     /// [`FileFault::OutOfMemory`] where there is no memory for it.
     fn whole(&mut self, alloc: Global, path: &str) -> Result<Option<Vec<u8>>, FileFault>
         ensures told { Tells (tells self.old path.now) result }
+        ensures stays { tells self.new ≡ tells self.old };
+
+    /// Opens a file, of which nothing is read yet.
+    ///
+    /// A directory may be opened; then each read fails.
+    ///
+    /// Errors: [`FileFault::Failed`] where there is no such file or it can't be opened;
+    /// [`FileFault::OutOfMemory`] where there is no memory for it.
+    fn open(&mut self, alloc: Global, path: &str) -> Result<Self::Reader, FileFault>
+        ensures opened { Opens Self.Reader.remaining Self.Reader.health
+            (tells self.old path.now) result }
         ensures stays { tells self.new ≡ tells self.old };
 }

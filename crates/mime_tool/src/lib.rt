@@ -21,6 +21,7 @@
 mod desk;
 mod directories;
 mod files;
+mod line;
 mod plain;
 mod program;
 mod sink;

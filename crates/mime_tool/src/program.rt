@@ -1,8 +1,7 @@
 //! The whole program: from words, files and sinks to written bytes and an exit status. This
 //! project's own.
 
-ghost use Rattle.std.specs.Prelude.{◌≡◌, ◌≢◌, ◌≤◌, ℕ, List, [], false, is_some, length, map, slice_get, true};
-ghost use Rattle.std.specs.Option.{option_to_list};
+ghost use Rattle.std.specs.Prelude.{◌≡◌, ◌≢◌, ℕ, Bool, List, [], false, is_some, map, true};
 ghost use Rattle.clap.specs.Values.{kind_of};
 ghost use Rattle.mime_request.specs.Request.{plain_request, meaning_of, parts};
 ghost use Rattle.mime_request.specs.Spelling.{AreUsual, plain_words};
@@ -28,9 +27,9 @@ use std::convert::AsStr;
 
 /// Runs the program on the words after its name, and gives the exit status.
 ///
-/// The status is 0 where every file was answered or help was shown, 1 where some file's name is too
-/// long, 2 where the words are wrong, 3 where the data can't be read or `out` fails, and 4 where
-/// memory ran out. Messages go to `err`, a line each; its faults are passed over, unless memory ran
+/// The status is 0 where every file was answered or help was shown, 1 where some file can't be opened
+/// or read or has a name that is too long, 2 where the words are wrong, 3 where the data can't be
+/// read or are refused or `out` fails, and 4 where memory ran out. Messages go to `err`, a line each; its faults are passed over, unless memory ran
 /// out. Lines that were printed before a stop stay, and are flushed.
 pub fn run<F: Files, O: Sink, E: Sink, S: AsStr>(
     alloc: Global,
@@ -46,11 +45,11 @@ pub fn run<F: Files, O: Sink, E: Sink, S: AsStr>(
         (record { out = O.holds out.old; err = E.holds err.old })
         (record { out = O.holds out.new; err = E.holds err.new }) result }
 
-    // `plain -d DIRS --name-only FILE...`, with no word of the parser of command lines.
+    // `plain -d DIRS [--name-only] [--magic-first] FILE...`, with no word of the parser of command lines.
     ensures plain { is_some (O.holds out.old) ≡ true
-        → (dirs : List ℕ) (names : List (List ℕ)) → map S.text words.now ≡ plain_words dirs names
-        → AreUsual dirs names → length (parts dirs) ≤ 1
-        → Finishes (IsPlain (F.tells files.old) (option_to_list (slice_get (parts dirs) 0))) names
+        → (dirs : List ℕ) (name_only magic_first : Bool) (names : List (List ℕ))
+        → map S.text words.now ≡ plain_words dirs name_only magic_first names → AreUsual dirs names
+        → Finishes (IsPlain (F.tells files.old) (parts dirs) name_only magic_first) names
         (record { out = O.holds out.old; err = E.holds err.old })
         (record { out = O.holds out.new; err = E.holds err.new }) result }
 
@@ -115,7 +114,18 @@ fn answer<D: Desk>(desk: &mut D, request: &Request<'_>) -> Result<u8, Stop>
         (asked_files (plain_request request.now))) (D.state desk.old) (D.state desk.new) result }
 {
     match request {
-        Request::Plain { directory, files } => print_types(desk, *directory, files.as_slice()),
+        Request::Plain {
+            directories,
+            name_only,
+            magic_first,
+            files,
+        } => print_types(
+            desk,
+            directories.as_slice(),
+            *name_only,
+            *magic_first,
+            files.as_slice(),
+        ),
     }
 }
 

@@ -7,6 +7,7 @@ ghost use Rattle.mime_tool.specs.Sink.{Takes};
 
 use crate::files::{FileFault, Files};
 use crate::sink::{Sink, SinkFault};
+use mime_lookup::Untold;
 use std::alloc::Global;
 use std::fs::{File, OpenFile};
 use std::io::{ErrorKind, Read, Write};
@@ -23,9 +24,9 @@ const BLOCK: usize = 65_536;
 
 /// The files of the system.
 ///
-/// A file that doesn't exist is none; any other that can't be opened or read, a directory too, is
-/// [`FileFault::Failed`], and so is one of more than 4 GiB. A file that says that it is so long isn't
-/// read.
+/// Of files that are read whole, one that doesn't exist is none; any other that can't be opened or
+/// read, a directory too, is [`FileFault::Failed`], and so is one of more than 4 GiB. A file that
+/// says that it is so long isn't read.
 #[derive(Drop)]
 pub struct SystemFiles<'r, R: rt::Files>(&'r R);
 
@@ -37,6 +38,8 @@ impl<'r, R: rt::Files> SystemFiles<'r, R> {
 }
 
 impl<R: rt::Files> Files for SystemFiles<'_, R> {
+    type Reader = Untold<R::File>;
+
     fn whole(&mut self, alloc: Global, path: &str) -> Result<Option<Vec<u8>>, FileFault> {
         match File::open(self.0, path) {
             Ok(mut file) => Ok(Some(read_open(alloc, LONGEST_FILE, &mut file)?)),
@@ -47,6 +50,13 @@ impl<R: rt::Files> Files for SystemFiles<'_, R> {
                     Err(file_fault(&error))
                 }
             }
+        }
+    }
+
+    fn open(&mut self, _alloc: Global, path: &str) -> Result<Untold<R::File>, FileFault> {
+        match File::open(self.0, path) {
+            Ok(file) => Ok(Untold(file)),
+            Err(error) => Err(file_fault(&error)),
         }
     }
 }

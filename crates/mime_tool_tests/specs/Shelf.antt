@@ -2,15 +2,29 @@
 use Rattle.std.specs.Prelude.{ℕ, List, [], ◌∷◌, Option, Some, None, if◌then◌else◌}
 use Rattle.std.specs.Borrow.{Bor}
 use Rattle.std.specs.Str.{bytes_eq}
-use Rattle.mime_tool.specs.Files.{Stored, bytes, nothing, unreadable}
+use Rattle.mime_lookup.specs.Content.{Health, broken, sound}
+use Rattle.mime_tool.specs.Files.{Stored, bytes, closed, nothing, unreadable}
 use Rattle.mime_tool_tests.specs.declared.shelf.Entry.{Entry}
-use Rattle.mime_tool_tests.specs.declared.shelf.Entry.TheVariants.{Bytes, Unreadable}
+use Rattle.mime_tool_tests.specs.declared.shelf.Entry.TheVariants.{Bytes, Closed, Unreadable}
+use Rattle.mime_tool_tests.specs.declared.shelf.Page.{Page}
+use Rattle.mime_tool_tests.specs.declared.shelf.Page.TheVariants as page
 
 -- what a file in memory holds
 abbrev pub stored : Option Entry → Stored
 stored None = nothing
 stored (Some (Bytes bs)) = bytes bs.now
+stored (Some Closed) = closed
 stored (Some Unreadable) = unreadable
+
+-- the bytes that an opened file still gives
+abbrev pub left_of : Page → List ℕ
+left_of (page.Bytes bs) = bs.now
+left_of page.Unreadable = []
+
+-- whether the reads of an opened file all fail
+abbrev pub health_of : Page → Health
+health_of (page.Bytes bs) = sound
+health_of page.Unreadable = broken
 
 -- the first entry of this path
 abbrev pub entry_in : List (Bor (List ℕ) × Entry) → List ℕ → Option Entry

@@ -1,5 +1,6 @@
 //! Files and sinks that fail at a call of choice, and tell nothing.
 
+use crate::{Page, Shelf};
 use mime_tool::{FileFault, Files, Sink, SinkFault};
 use std::alloc::Global;
 
@@ -8,8 +9,47 @@ use std::alloc::Global;
 pub struct FailingFiles(pub FileFault);
 
 impl Files for FailingFiles {
+    type Reader = Page<'static>;
+
     fn whole(&mut self, _alloc: Global, _path: &str) -> Result<Option<Vec<u8>>, FileFault> {
         Err(self.0)
+    }
+
+    fn open(&mut self, _alloc: Global, _path: &str) -> Result<Page<'static>, FileFault> {
+        Err(self.0)
+    }
+}
+
+/// Files of a shelf of which one call fails: so many are met before it.
+#[derive(Clone, Copy)]
+pub struct FailingShelf<'a> {
+    pub shelf: Shelf<'a>,
+    pub calls: usize,
+    pub fault: FileFault,
+}
+
+impl FailingShelf<'_> {
+    fn step(&mut self) -> Result<(), FileFault> {
+        if self.calls == 0 {
+            self.calls = usize::MAX;
+            return Err(self.fault);
+        }
+        self.calls -= 1;
+        Ok(())
+    }
+}
+
+impl<'a> Files for FailingShelf<'a> {
+    type Reader = Page<'a>;
+
+    fn whole(&mut self, alloc: Global, path: &str) -> Result<Option<Vec<u8>>, FileFault> {
+        self.step()?;
+        self.shelf.whole(alloc, path)
+    }
+
+    fn open(&mut self, alloc: Global, path: &str) -> Result<Page<'a>, FileFault> {
+        self.step()?;
+        self.shelf.open(alloc, path)
     }
 }
 

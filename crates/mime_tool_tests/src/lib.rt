@@ -1,8 +1,8 @@
 //! Files, sinks, readers and a disk in memory, over which the program is tested.
 //!
 //! [`Shelf`] tells what it stores, so a run over it is one of which every clause of the program
-//! speaks; [`FailingFiles`], [`FailingSink`], [`Script`] and [`Disk`] fail at a call of choice. The
-//! tests hold what no clause says: the texts of help and of messages, and what is done with each
+//! speaks; [`FailingFiles`], [`FailingShelf`], [`FailingSink`], [`Script`] and [`Disk`] fail at a
+//! call of choice. The tests hold what no clause says: the texts of help and of messages, and what is done with each
 //! failure of the system.
 #![tactic(auto)]
 
@@ -12,9 +12,9 @@ mod reader;
 mod shelf;
 
 pub use disk::{Disk, Opened};
-pub use failing::{FailingFiles, FailingSink};
+pub use failing::{FailingFiles, FailingShelf, FailingSink};
 pub use reader::{Script, Step};
-pub use shelf::{Entry, Shelf};
+pub use shelf::{Entry, Page, Shelf};
 
 #[cfg(test)]
 mod tests;

@@ -3,14 +3,54 @@
 ghost use Rattle.std.specs.Prelude.{◌≡◌};
 ghost use Rattle.mime_tool_tests.specs.Shelf.{entry_in, stored_at};
 
+use mime_lookup::{Content, ReadFault};
 use mime_tool::{FileFault, Files};
 use std::alloc::Global;
+use std::io;
+use std::io::{ErrorKind, Read};
 
 /// What is stored at a path.
 #[derive(Clone, Copy)]
 pub enum Entry<'a> {
     Bytes(&'a [u8]),
+    /// It can't be opened.
+    Closed,
+    /// It can be opened, and each read fails, as of a directory.
     Unreadable,
+}
+
+/// A file of a shelf that was opened: what is left of its bytes, or that each read fails.
+#[derive(Clone, Copy)]
+pub enum Page<'a> {
+    Bytes(&'a [u8]),
+    Unreadable,
+}
+
+impl Read for Page<'_> {
+    ghost use Rattle.std.specs.Prelude.{Some};
+    ghost use Rattle.mime_tool_tests.specs.Shelf.{left_of};
+
+    ghost remaining = { λ page. Some (left_of page) };
+
+    fn read(&mut self, buffer: &mut [u8]) -> io::Result<usize> {
+        match self {
+            Page::Bytes(bytes) => bytes.read(buffer),
+            Page::Unreadable => Err(io::Error::from(ErrorKind::IsADirectory)),
+        }
+    }
+}
+
+impl Content for Page<'_> {
+    ghost use Rattle.mime_tool_tests.specs.Shelf.{health_of};
+
+    ghost health = { health_of };
+
+    fn read_piece(&mut self, buffer: &mut [u8]) -> Result<usize, ReadFault> {
+        match self {
+            Page::Bytes(bytes) => bytes.read_piece(buffer),
+            Page::Unreadable => Err(ReadFault::Failed),
+        }
+    }
 }
 
 /// Files in memory, by their paths.
@@ -19,17 +59,27 @@ pub struct Shelf<'a> {
     pub entries: &'a [(&'a str, Entry<'a>)],
 }
 
-impl Files for Shelf<'_> {
+impl<'a> Files for Shelf<'a> {
     ghost tells = { λ shelf. stored_at shelf.entries.now };
+
+    type Reader = Page<'a>;
 
     fn whole(&mut self, alloc: Global, path: &str) -> Result<Option<Vec<u8>>, FileFault> {
         match entry_at(self.entries, path) {
             None => Ok(None),
-            Some(Entry::Unreadable) => Err(FileFault::Failed),
+            Some(Entry::Closed | Entry::Unreadable) => Err(FileFault::Failed),
             Some(Entry::Bytes(bytes)) => match bytes.to_vec(alloc) {
                 Ok(bytes) => Ok(Some(bytes)),
                 Err(_) => Err(FileFault::OutOfMemory),
             },
+        }
+    }
+
+    fn open(&mut self, _alloc: Global, path: &str) -> Result<Page<'a>, FileFault> {
+        match entry_at(self.entries, path) {
+            None | Some(Entry::Closed) => Err(FileFault::Failed),
+            Some(Entry::Unreadable) => Ok(Page::Unreadable),
+            Some(Entry::Bytes(bytes)) => Ok(Page::Bytes(bytes)),
         }
     }
 }

@@ -1,4 +1,7 @@
+mod contents;
+mod directories;
 mod faults;
+mod files;
 mod rows;
 mod system;
 mod texts;

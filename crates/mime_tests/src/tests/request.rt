@@ -4,71 +4,157 @@ use clap::error::ErrorKind;
 use mime_request::{Request, request_of};
 use std::test::Fail;
 
+#[derive(Clone, Copy)]
+struct Asked {
+    name: &'static str,
+    words: &'static [&'static str],
+    directories: &'static [&'static str],
+    name_only: bool,
+    magic_first: bool,
+    files: &'static [&'static str],
+}
+
+const ASKED: [Asked; 15] = [
+    Asked {
+        name: "no directory",
+        words: &["plain", "--name-only", "-d", "", "a"],
+        directories: &[],
+        name_only: true,
+        magic_first: false,
+        files: &["a"],
+    },
+    Asked {
+        name: "one directory",
+        words: &["plain", "-d", "a", "x", "y"],
+        directories: &["a"],
+        name_only: false,
+        magic_first: false,
+        files: &["x", "y"],
+    },
+    Asked {
+        name: "several directories",
+        words: &["plain", "-d", "b:a:b", "x"],
+        directories: &["b", "a", "b"],
+        name_only: false,
+        magic_first: false,
+        files: &["x"],
+    },
+    Asked {
+        name: "empty parts",
+        words: &["plain", "-d", ":a::b:", "x"],
+        directories: &["a", "b"],
+        name_only: false,
+        magic_first: false,
+        files: &["x"],
+    },
+    Asked {
+        name: "empty parts alone",
+        words: &["plain", "-d", "::", "x"],
+        directories: &[],
+        name_only: false,
+        magic_first: false,
+        files: &["x"],
+    },
+    Asked {
+        name: "names alone",
+        words: &["plain", "-d", "a", "--name-only", "x"],
+        directories: &["a"],
+        name_only: true,
+        magic_first: false,
+        files: &["x"],
+    },
+    Asked {
+        name: "magic first",
+        words: &["plain", "-d", "a", "--magic-first", "x"],
+        directories: &["a"],
+        name_only: false,
+        magic_first: true,
+        files: &["x"],
+    },
+    Asked {
+        name: "both flags",
+        words: &["plain", "-d", "a", "--name-only", "--magic-first", "x"],
+        directories: &["a"],
+        name_only: true,
+        magic_first: true,
+        files: &["x"],
+    },
+    Asked {
+        name: "flags the other way round",
+        words: &["plain", "--magic-first", "--name-only", "-d", "a", "x"],
+        directories: &["a"],
+        name_only: true,
+        magic_first: true,
+        files: &["x"],
+    },
+    Asked {
+        name: "a flag before and one after",
+        words: &["plain", "--magic-first", "-d", "a", "--name-only", "x"],
+        directories: &["a"],
+        name_only: true,
+        magic_first: true,
+        files: &["x"],
+    },
+    Asked {
+        name: "options last",
+        words: &["plain", "x", "y", "-da/b:c", "--magic-first"],
+        directories: &["a/b", "c"],
+        name_only: false,
+        magic_first: true,
+        files: &["x", "y"],
+    },
+    Asked {
+        name: "hyphens",
+        words: &["plain", "-d", "a", "--", "-x", "--"],
+        directories: &["a"],
+        name_only: false,
+        magic_first: false,
+        files: &["-x", "--"],
+    },
+    Asked {
+        name: "one hyphen",
+        words: &["plain", "-d", "a", "--name-only", "-"],
+        directories: &["a"],
+        name_only: true,
+        magic_first: false,
+        files: &["-"],
+    },
+    Asked {
+        name: "command's name",
+        words: &["plain", "-d", "plain", "plain"],
+        directories: &["plain"],
+        name_only: false,
+        magic_first: false,
+        files: &["plain"],
+    },
+    Asked {
+        name: "empty FILE",
+        words: &["plain", "-d", "a", ""],
+        directories: &["a"],
+        name_only: false,
+        magic_first: false,
+        files: &[""],
+    },
+];
+
 #[test]
 fn asks_for_files(rt: HostRuntime) -> Result<(), Fail> {
-    let rows: [(&str, &[&str], Option<&str>, &[&str]); 9] = [
-        (
-            "no directory",
-            &["plain", "--name-only", "-d", "", "a"],
-            None,
-            &["a"],
-        ),
-        (
-            "one directory",
-            &["plain", "-d", "a", "--name-only", "x", "y"],
-            Some("a"),
-            &["x", "y"],
-        ),
-        (
-            "empty parts",
-            &["plain", "-d", ":a:", "--name-only", "x"],
-            Some("a"),
-            &["x"],
-        ),
-        (
-            "empty parts alone",
-            &["plain", "-d", "::", "--name-only", "x"],
-            None,
-            &["x"],
-        ),
-        (
-            "options last",
-            &["plain", "x", "y", "-da/b", "--name-only"],
-            Some("a/b"),
-            &["x", "y"],
-        ),
-        (
-            "hyphens",
-            &["plain", "-d", "a", "--name-only", "--", "-x", "--"],
-            Some("a"),
-            &["-x", "--"],
-        ),
-        (
-            "one hyphen",
-            &["plain", "-d", "a", "--name-only", "-"],
-            Some("a"),
-            &["-"],
-        ),
-        (
-            "command's name",
-            &["plain", "-d", "plain", "--name-only", "plain"],
-            Some("plain"),
-            &["plain"],
-        ),
-        (
-            "empty FILE",
-            &["plain", "-d", "a", "--name-only", ""],
-            Some("a"),
-            &[""],
-        ),
-    ];
-    for (name, words, want_directory, want_files) in rows {
-        match request_of(rt.alloc(), words) {
-            Ok(Request::Plain { directory, files }) => {
-                assert_eq!(rt; directory, want_directory, "{name}");
-                assert_eq!(rt; files.as_slice(), want_files, "{name}");
+    for row in ASKED {
+        match request_of(rt.alloc(), row.words) {
+            Ok(
+                Request::Plain {
+                    directories,
+                    name_only,
+                    magic_first,
+                    files,
+                },
+            ) => {
+                assert_eq!(rt; directories.as_slice(), row.directories, "{}", row.name);
+                assert_eq!(rt; name_only, row.name_only, "{}", row.name);
+                assert_eq!(rt; magic_first, row.magic_first, "{}", row.name);
+                assert_eq!(rt; files.as_slice(), row.files, "{}", row.name);
             }
-            Err(error) => assert!(rt; false, "{name}: {error}"),
+            Err(error) => assert!(rt; false, "{}: {error}", row.name),
         }
     }
     Ok(())
@@ -124,19 +210,9 @@ fn refuses_by_kind(rt: HostRuntime) -> Result<(), Fail> {
             ErrorKind::InvalidValue,
         ),
         (
-            "no --name-only",
-            &["plain", "-d", "a", "x"],
+            "no words after plain",
+            &["plain"],
             ErrorKind::MissingRequiredArgument,
-        ),
-        (
-            "two directories",
-            &["plain", "-d", "a:b", "--name-only", "x"],
-            ErrorKind::TooManyValues,
-        ),
-        (
-            "two mistakes",
-            &["plain", "-d", "a:b", "x"],
-            ErrorKind::TooManyValues,
         ),
         (
             "-d twice",
@@ -147,6 +223,16 @@ fn refuses_by_kind(rt: HostRuntime) -> Result<(), Fail> {
             "flag twice",
             &["plain", "--name-only", "-d", "a", "--name-only", "x"],
             ErrorKind::ArgumentConflict,
+        ),
+        (
+            "the other flag twice",
+            &["plain", "--magic-first", "--magic-first", "-d", "a", "x"],
+            ErrorKind::ArgumentConflict,
+        ),
+        (
+            "flag with a value",
+            &["plain", "-d", "a", "--magic-first=true", "x"],
+            ErrorKind::TooManyValues,
         ),
         (
             "unknown option",
@@ -171,79 +257,69 @@ fn refuses_by_kind(rt: HostRuntime) -> Result<(), Fail> {
 const HELP: &str = "\
 Tells the MIME types of files
 
-Usage: mimelook plain --name-only -d DIRS FILE...
+Usage: mimelook plain -d DIRS [--name-only] [--magic-first] FILE...
 
 Commands:
-  plain  Prints a line FILE: TYPE for each FILE, from the rules of a data directory
+  plain  Prints a line FILE: TYPE for each FILE, from the text files of data directories
 
 Options:
   -h, --help     Print help
   -V, --version  Print version
 
-Messages go to standard error. A missing DIRS/mime/globs2 counts as empty.
+Messages go to standard error. The files are DIR/mime/globs2, magic, aliases,
+subclasses, icons and generic-icons; a missing one counts as empty.
 A FILE that is not UTF-8 refuses the whole call.
 
 Exit status:
   0  every FILE was answered; or help or the version was printed
-  1  the name of some FILE is too long (above 4096 bytes); the others were answered
+  1  some FILE can't be opened or read, or its name is too long (above 4096 bytes);
+     the others were answered
   2  the command line is wrong, or a word of it is not UTF-8
-  3  the data can't be read, or the output can't be written
+  3  the data can't be read or is refused, or the output can't be written
   4  out of memory
 
 Example:
-  $ mimelook plain --name-only -d /usr/share notes.txt
+  $ mimelook plain -d /usr/local/share:/usr/share notes.txt
   notes.txt: text/plain
 ";
 
 const PLAIN_HELP: &str = "\
-Prints a line FILE: TYPE for each FILE, from the rules of a data directory
+Prints a line FILE: TYPE for each FILE, from the text files of data directories
 
-Usage: mimelook plain --name-only -d DIRS FILE...
+Usage: mimelook plain -d DIRS [--name-only] [--magic-first] FILE...
 
 Arguments:
   <FILE>...  The files to tell the types of; put -- before one that begins with -
 
 Options:
-  -d <DIRS>        The data directory, such as /usr/share, whose mime/globs2 has the rules; \"\" is none
-      --name-only  Go by the names alone; this is needed, since content is not looked at yet
-  -h, --help       Print help
+  -d <DIRS>          Data directories, most preferred first, with colons between them, such as
+                     /usr/local/share:/usr/share; an empty part is passed over
+      --name-only    Go by the names alone: no FILE is opened
+      --magic-first  Let content of high priority (80 or more) decide before names
+  -h, --help         Print help
 
-Messages go to standard error. A missing DIRS/mime/globs2 counts as empty.
+Messages go to standard error. The files are DIR/mime/globs2, magic, aliases,
+subclasses, icons and generic-icons; a missing one counts as empty.
 A FILE that is not UTF-8 refuses the whole call.
 
 Exit status:
   0  every FILE was answered; or help or the version was printed
-  1  the name of some FILE is too long (above 4096 bytes); the others were answered
+  1  some FILE can't be opened or read, or its name is too long (above 4096 bytes);
+     the others were answered
   2  the command line is wrong, or a word of it is not UTF-8
-  3  the data can't be read, or the output can't be written
+  3  the data can't be read or is refused, or the output can't be written
   4  out of memory
 
 Example:
-  $ mimelook plain --name-only -d /usr/share notes.txt
+  $ mimelook plain -d /usr/local/share:/usr/share notes.txt
   notes.txt: text/plain
-";
-
-const SEVERAL_DIRECTORIES: &str = "\
-error: give one directory for -d: several are not merged yet
-
-Usage: mimelook plain --name-only -d DIRS FILE...
-
-For more information, try '--help'.
-";
-
-const CONTENT_WANTED: &str = "\
-error: give --name-only: the content of files is not looked at yet
-
-Usage: mimelook plain --name-only -d DIRS FILE...
-
-For more information, try '--help'.
 ";
 
 const NO_COMMAND: &str = "\
 error: 'mimelook' requires a subcommand but one was not provided
   [subcommands: plain]
 
-Usage: mimelook plain --name-only -d DIRS FILE...
+Usage: mimelook plain -d DIRS [--name-only] [--magic-first] FILE...
 
 For more information, try '--help'.
 ";
@@ -252,7 +328,7 @@ const NO_FILE: &str = "\
 error: the following required arguments were not provided:
   <FILE>...
 
-Usage: mimelook plain --name-only -d DIRS FILE...
+Usage: mimelook plain -d DIRS [--name-only] [--magic-first] FILE...
 
 For more information, try '--help'.
 ";
@@ -262,23 +338,17 @@ error: unexpected argument '--names' found
 
   tip: a similar argument exists: '--name-only'
 
-Usage: mimelook plain --name-only -d DIRS FILE...
+Usage: mimelook plain -d DIRS [--name-only] [--magic-first] FILE...
 
 For more information, try '--help'.
 ";
 
 #[test]
 fn says_what_to_do(rt: HostRuntime) -> Result<(), Fail> {
-    let rows: [(&str, &[&str], &str); 8] = [
+    let rows: [(&str, &[&str], &str); 6] = [
         ("help", &["--help"], HELP),
         ("help of plain", &["plain", "--help"], PLAIN_HELP),
         ("version", &["--version"], "mimelook 0.1.0\n"),
-        (
-            "two directories",
-            &["plain", "-d", "a:b", "--name-only", "x"],
-            SEVERAL_DIRECTORIES,
-        ),
-        ("no --name-only", &["plain", "-d", "a", "x"], CONTENT_WANTED),
         ("no words", &[], NO_COMMAND),
         ("no FILE", &["plain", "--name-only", "-d", "a"], NO_FILE),
         (

@@ -21,6 +21,53 @@ fn tells_missing_files_from_unreadable_ones(rt: HostRuntime) -> Result<(), Fail>
     Ok(())
 }
 
+#[test]
+fn opens_whatever_can_be_opened(rt: HostRuntime) -> Result<(), Fail> {
+    let mut files = SystemFiles::new(&rt);
+    let failed = Err(FileFault::Failed);
+    let rows = [
+        ("/dev/null", Ok(())),
+        ("/", Ok(())),
+        ("/dev/no-such-file", failed),
+        ("/dev/null/below", failed),
+    ];
+    for (path, want) in rows {
+        let opened = files.open(rt.alloc(), path).map(|_| ());
+        assert_eq!(rt; opened, want, "at {path:?}");
+    }
+    Ok(())
+}
+
+// Opening looks at nothing but the opening.
+#[test]
+fn names_what_opening_fails_with(rt: HostRuntime) -> Result<(), Fail> {
+    let failed = Err(FileFault::Failed);
+    let denied = ErrorKind::PermissionDenied;
+    let memory = ErrorKind::OutOfMemory;
+    let rows = [
+        ("missing", Disk::Fails(ErrorKind::NotFound), failed),
+        ("denied", Disk::Fails(denied), failed),
+        ("interrupted", Disk::Fails(ErrorKind::Interrupted), failed),
+        (
+            "no memory",
+            Disk::Fails(memory),
+            Err(FileFault::OutOfMemory),
+        ),
+        ("no size", gives(Err(denied), None), Ok(())),
+        (
+            "too long to be read whole",
+            gives(Ok(u64::MAX), None),
+            Ok(()),
+        ),
+        ("unreadable", gives(Ok(1), Some(memory)), Ok(())),
+    ];
+    for (name, disk, want) in rows {
+        let opened = SystemFiles::new(&disk).open(rt.alloc(), "a").map(|_| ());
+        assert_eq!(rt; opened, want, "{name}");
+    }
+    Ok(())
+}
+
 fn gives(size: Result<u64, ErrorKind>, read: Option<ErrorKind>) -> Disk {
     Disk::Gives(Opened { size, read })
 }

@@ -7,55 +7,61 @@ use std::test::Fail;
 const HELP: &str = "\
 Tells the MIME types of files
 
-Usage: mimelook plain --name-only -d DIRS FILE...
+Usage: mimelook plain -d DIRS [--name-only] [--magic-first] FILE...
 
 Commands:
-  plain  Prints a line FILE: TYPE for each FILE, from the rules of a data directory
+  plain  Prints a line FILE: TYPE for each FILE, from the text files of data directories
 
 Options:
   -h, --help     Print help
   -V, --version  Print version
 
-Messages go to standard error. A missing DIRS/mime/globs2 counts as empty.
+Messages go to standard error. The files are DIR/mime/globs2, magic, aliases,
+subclasses, icons and generic-icons; a missing one counts as empty.
 A FILE that is not UTF-8 refuses the whole call.
 
 Exit status:
   0  every FILE was answered; or help or the version was printed
-  1  the name of some FILE is too long (above 4096 bytes); the others were answered
+  1  some FILE can't be opened or read, or its name is too long (above 4096 bytes);
+     the others were answered
   2  the command line is wrong, or a word of it is not UTF-8
-  3  the data can't be read, or the output can't be written
+  3  the data can't be read or is refused, or the output can't be written
   4  out of memory
 
 Example:
-  $ mimelook plain --name-only -d /usr/share notes.txt
+  $ mimelook plain -d /usr/local/share:/usr/share notes.txt
   notes.txt: text/plain
 ";
 
 const PLAIN_HELP: &str = "\
-Prints a line FILE: TYPE for each FILE, from the rules of a data directory
+Prints a line FILE: TYPE for each FILE, from the text files of data directories
 
-Usage: mimelook plain --name-only -d DIRS FILE...
+Usage: mimelook plain -d DIRS [--name-only] [--magic-first] FILE...
 
 Arguments:
   <FILE>...  The files to tell the types of; put -- before one that begins with -
 
 Options:
-  -d <DIRS>        The data directory, such as /usr/share, whose mime/globs2 has the rules; \"\" is none
-      --name-only  Go by the names alone; this is needed, since content is not looked at yet
-  -h, --help       Print help
+  -d <DIRS>          Data directories, most preferred first, with colons between them, such as
+                     /usr/local/share:/usr/share; an empty part is passed over
+      --name-only    Go by the names alone: no FILE is opened
+      --magic-first  Let content of high priority (80 or more) decide before names
+  -h, --help         Print help
 
-Messages go to standard error. A missing DIRS/mime/globs2 counts as empty.
+Messages go to standard error. The files are DIR/mime/globs2, magic, aliases,
+subclasses, icons and generic-icons; a missing one counts as empty.
 A FILE that is not UTF-8 refuses the whole call.
 
 Exit status:
   0  every FILE was answered; or help or the version was printed
-  1  the name of some FILE is too long (above 4096 bytes); the others were answered
+  1  some FILE can't be opened or read, or its name is too long (above 4096 bytes);
+     the others were answered
   2  the command line is wrong, or a word of it is not UTF-8
-  3  the data can't be read, or the output can't be written
+  3  the data can't be read or is refused, or the output can't be written
   4  out of memory
 
 Example:
-  $ mimelook plain --name-only -d /usr/share notes.txt
+  $ mimelook plain -d /usr/local/share:/usr/share notes.txt
   notes.txt: text/plain
 ";
 
@@ -65,7 +71,7 @@ const NO_COMMAND: &str = "\
 error: 'mimelook' requires a subcommand but one was not provided
   [subcommands: plain]
 
-Usage: mimelook plain --name-only -d DIRS FILE...
+Usage: mimelook plain -d DIRS [--name-only] [--magic-first] FILE...
 
 For more information, try '--help'.
 ";
@@ -73,7 +79,7 @@ For more information, try '--help'.
 const UNKNOWN_COMMAND: &str = "\
 error: unrecognized subcommand 'help'
 
-Usage: mimelook plain --name-only -d DIRS FILE...
+Usage: mimelook plain -d DIRS [--name-only] [--magic-first] FILE...
 
 For more information, try '--help'.
 ";
@@ -83,7 +89,7 @@ error: the following required arguments were not provided:
   -d <DIRS>
   <FILE>...
 
-Usage: mimelook plain --name-only -d DIRS FILE...
+Usage: mimelook plain -d DIRS [--name-only] [--magic-first] FILE...
 
 For more information, try '--help'.
 ";
@@ -92,7 +98,7 @@ const NO_FILE: &str = "\
 error: the following required arguments were not provided:
   <FILE>...
 
-Usage: mimelook plain --name-only -d DIRS FILE...
+Usage: mimelook plain -d DIRS [--name-only] [--magic-first] FILE...
 
 For more information, try '--help'.
 ";
@@ -101,7 +107,7 @@ const NO_DIRECTORY: &str = "\
 error: the following required arguments were not provided:
   -d <DIRS>
 
-Usage: mimelook plain --name-only -d DIRS FILE...
+Usage: mimelook plain -d DIRS [--name-only] [--magic-first] FILE...
 
 For more information, try '--help'.
 ";
@@ -112,26 +118,10 @@ error: a value is required for '-d <DIRS>' but none was supplied
 For more information, try '--help'.
 ";
 
-const SEVERAL_DIRECTORIES: &str = "\
-error: give one directory for -d: several are not merged yet
-
-Usage: mimelook plain --name-only -d DIRS FILE...
-
-For more information, try '--help'.
-";
-
-const CONTENT_WANTED: &str = "\
-error: give --name-only: the content of files is not looked at yet
-
-Usage: mimelook plain --name-only -d DIRS FILE...
-
-For more information, try '--help'.
-";
-
 const OPTION_TWICE: &str = "\
 error: the argument '-d <DIRS>' cannot be used multiple times
 
-Usage: mimelook plain --name-only -d DIRS FILE...
+Usage: mimelook plain -d DIRS [--name-only] [--magic-first] FILE...
 
 For more information, try '--help'.
 ";
@@ -141,7 +131,7 @@ error: unexpected argument '--cost' found
 
   tip: to pass '--cost' as a value, use '-- --cost'
 
-Usage: mimelook plain --name-only -d DIRS FILE...
+Usage: mimelook plain -d DIRS [--name-only] [--magic-first] FILE...
 
 For more information, try '--help'.
 ";
@@ -187,16 +177,6 @@ fn shows_help_and_mistakes_whole(rt: HostRuntime) -> Result<(), Fail> {
         mistake("no FILE", &["plain", "--name-only", "-d", ""], NO_FILE),
         mistake("no -d", &["plain", "--name-only", "a"], NO_DIRECTORY),
         mistake("no DIRS", &["plain", "--name-only", "-d"], NO_VALUE),
-        mistake(
-            "several directories",
-            &["plain", "--name-only", "-d", "/s:/t", "a"],
-            SEVERAL_DIRECTORIES,
-        ),
-        mistake(
-            "no --name-only",
-            &["plain", "-d", "/s", "a"],
-            CONTENT_WANTED,
-        ),
         mistake(
             "-d twice",
             &["plain", "--name-only", "-d", "/s", "-d", "/s", "a"],

@@ -1,9 +1,9 @@
 use Rattle.std.proofs.Common.{◌∙◌, refl}
 use Rattle.std.proofs.lemmas.Result.{err_from_is_err_and}
-use Rattle.mime_tool.specs.Plain.{too_long}
+use Rattle.mime_tool.specs.Line.{refusal}
 use Rattle.mime_tool.specs.Run.{said}
 use Rattle.mime_tool.proofs.Desks.{does_nothing}
-use Rattle.mime_tool.proofs.plain.report_too_long.Goals as goal
+use Rattle.mime_tool.proofs.line.report.Goals as goal
 
 pub returns-in_err-text : goal.returns-in_err-text
 returns-in_err-text g c =
@@ -11,7 +11,7 @@ returns-in_err-text g c =
     rw (e.1, e.2) (record {
       same_files = refl;
       same_places = refl;
-      sinks = does_nothing (Unit {0}) (said (too_long c.args.file.now))
+      sinks = does_nothing (Unit {0}) (said (refusal c.args.file.now c.args.why.now))
           (g.D.Desk.state c.args.desk.now).sinks;
     })
 

@@ -1,8 +1,9 @@
 use Rattle.std.proofs.Common.{◌<◌, ◌∙◌, Bor, List, ℕ, [], length, arith}
 use Rattle.std.proofs.lemmas.Result.{err_from_is_err_and}
-use Rattle.mime_tool.specs.Plain.{IsLine}
+use Rattle.mime_tool.specs.Line.{IsLine}
+use Rattle.mime_tool.specs.LineSteps.{plain_lookup}
 use Rattle.mime_tool.proofs.Texts.{ends_more_at, ends_stop_at}
-use Rattle.mime_tool.proofs.plain.print_lines.Goals as goal
+use Rattle.mime_tool.proofs.line.print_lines.Goals as goal
 
 abbrev no_text : Bor (List ℕ)
 no_text = record { ref_ptr = (0, 0); now = [] }
@@ -13,11 +14,13 @@ returns-in_err-print_line g c =
     let e = err_from_is_err_and c.from_residual.result c.from_residual.ensures.1 in
     let before = c.loop-file.invariant in
     let line = c.in_err-print_line.ensures in
+    let here = rw before.same_files at line in
+    let stored = (g.D.Desk.state c.args.desk.now).stored in
     rw (e.1, e.2) (record {
       same_files = line.same_files ∙ before.same_files;
       same_places = line.same_places ∙ before.same_places;
-      sinks = ends_stop_at (IsLine c.args.database.now.rules.items) c.args.files.now c.loop-file.file-index no_text lt _ _ _ _ _
-          before.sinks line.sinks;
+      sinks = ends_stop_at (IsLine (plain_lookup c.args.lookup) stored) c.args.files.now c.loop-file.file-index no_text lt _ _ _ _ _
+          before.sinks here.sinks;
     })
 
 pub loop-file-preserved : goal.loop-file-preserved
@@ -25,9 +28,11 @@ loop-file-preserved g c =
     let lt : c.loop-file.file-index < length c.args.files.now = omega arith in
     let before = c.loop-file.invariant in
     let line = c.in_ok-print_line.ensures in
+    let here = rw before.same_files at line in
+    let stored = (g.D.Desk.state c.args.desk.now).stored in
     rw c.max-status.ensures (record {
       same_files = line.same_files ∙ before.same_files;
       same_places = line.same_places ∙ before.same_places;
-      sinks = ends_more_at (IsLine c.args.database.now.rules.items) c.args.files.now c.loop-file.file-index no_text lt _ _ _ _ _
-          before.sinks line.sinks;
+      sinks = ends_more_at (IsLine (plain_lookup c.args.lookup) stored) c.args.files.now c.loop-file.file-index no_text lt _ _ _ _ _
+          before.sinks here.sinks;
     })

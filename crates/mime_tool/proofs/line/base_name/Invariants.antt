@@ -1,6 +1,6 @@
 use Rattle.std.proofs.Common.{◌≡◌, ◌+◌, ◌≤◌, ◌==◌, not, length, take}
 use Rattle.std.specs.List.{suffix_len}
-use Rattle.mime_tool.proofs.plain.base_name.Given as goal
+use Rattle.mime_tool.proofs.line.base_name.Given as goal
 
 abbrev pub invariant-loop-start : goal.invariant-loop-start
 invariant-loop-start l = record {

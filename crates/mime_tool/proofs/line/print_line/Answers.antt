@@ -1,0 +1,27 @@
+use Rattle.std.proofs.Common.{◌∙◌}
+use Rattle.std.proofs.lemmas.Result.{err_from_is_err_and}
+use Rattle.mime_tool.specs.LineSteps.{plain_lookup}
+use Rattle.mime_tool.proofs.Lines.{comes_undone, comes_written}
+use Rattle.mime_tool.proofs.line.print_line.Goals as goal
+
+pub returns-in_err-outcome : goal.returns-in_err-outcome
+returns-in_err-outcome g c =
+    let e = err_from_is_err_and c.from_residual.result c.from_residual.ensures.1 in
+    let found = c.in_err-outcome.ensures in
+    let stored = (g.D.Desk.state c.args.desk.now).stored in
+    rw (e.1, e.2) (record {
+      same_files = found.same_files;
+      same_places = found.same_places;
+      sinks = comes_undone (plain_lookup c.args.lookup) stored c.args.file.now _ _ _ found.sinks;
+    })
+
+pub returns : goal.returns
+returns g c =
+    let found = c.in_ok-outcome.ensures in
+    let written = c.print_outcome.ensures in
+    let stored = (g.D.Desk.state c.args.desk.now).stored in
+    record {
+      same_files = written.same_files ∙ found.same_files;
+      same_places = written.same_places ∙ found.same_places;
+      sinks = comes_written (plain_lookup c.args.lookup) stored c.args.file.now c.in_ok-outcome.outcome _ _ _ _ found.sinks written.sinks;
+    }

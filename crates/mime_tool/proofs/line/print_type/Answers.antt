@@ -1,0 +1,26 @@
+use Rattle.std.proofs.Common.{◌≡◌, refl}
+use Rattle.std.proofs.lemmas.Result.{err_from_is_err_and}
+use Rattle.mime_tool.specs.Line.{type_line}
+use Rattle.mime_tool.specs.Run.{Run, printed}
+use Rattle.mime_tool.proofs.Desks.{ends_undone}
+use Rattle.mime_tool.proofs.line.print_type.Goals as goal
+
+pub returns-in_err-print_pieces : goal.returns-in_err-print_pieces
+returns-in_err-print_pieces g c =
+    let e = err_from_is_err_and c.from_residual.result c.from_residual.ensures.1 in
+    let put = c.in_err-print_pieces.ensures in
+    let line = printed (type_line c.args.file.now c.args.kind.now) in
+    rw (e.1, e.2) (record {
+      same_files = put.same_files;
+      same_places = put.same_places;
+      sinks = ends_undone (Unit {0}) (λ (run : Run). run ≡ line) line _ _ _ refl put.sinks;
+    })
+
+pub returns : goal.returns
+returns g c =
+    let put = c.in_ok-print_pieces.ensures in
+    record {
+      same_files = put.same_files;
+      same_places = put.same_places;
+      sinks = (printed (type_line c.args.file.now c.args.kind.now), refl, refl, refl, put.sinks);
+    }

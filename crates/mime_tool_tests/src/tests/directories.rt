@@ -1,0 +1,146 @@
+//! What is said of the files of data directories.
+
+use crate::{Entry, Shelf};
+use mime_tool::run;
+use std::test::Fail;
+
+#[derive(Clone, Copy)]
+struct Row<'a> {
+    name: &'a str,
+    entries: &'a [(&'a str, Entry<'a>)],
+    status: u8,
+    out: &'a str,
+    err: &'a str,
+}
+
+// Each file of lines has a malformed line.
+const MALFORMED: [(&str, Entry<'static>); 7] = [
+    ("/b/mime/generic-icons", Entry::Bytes(b"t/a:x\nt/a\n")),
+    ("/b/mime/icons", Entry::Bytes(b"\n:x\n")),
+    (
+        "/b/mime/subclasses",
+        Entry::Bytes(b"# a comment\nt/a t/b\nt/a  t/b\n"),
+    ),
+    ("/b/mime/aliases", Entry::Bytes(b"t/a\nt/b t/a")),
+    ("/b/mime/magic", Entry::Bytes(b"MIME-Magic\0\n")),
+    (
+        "/b/mime/globs2",
+        Entry::Bytes(b"50:t/a:*.a\nnothing\n300:t/a:*.b\n"),
+    ),
+    ("/b/globs2", Entry::Bytes(b"nothing")),
+];
+
+const IN_ORDER: &str = "\
+mimelook: /b/mime/globs2: line 2 ignored
+mimelook: /b/mime/globs2: line 3 ignored
+mimelook: /b/mime/aliases: line 1 ignored
+mimelook: /b/mime/subclasses: line 3 ignored
+mimelook: /b/mime/icons: line 2 ignored
+mimelook: /b/mime/generic-icons: line 2 ignored
+";
+
+#[test]
+fn says_what_is_wrong_with_a_directory(rt: HostRuntime) -> Result<(), Fail> {
+    let rows = [
+        Row {
+            name: "each file's lines, in the order of the files",
+            entries: &MALFORMED,
+            status: 0,
+            out: "x.a: t/a\n",
+            err: IN_ORDER,
+        },
+        Row {
+            name: "no header",
+            entries: &[("/b/mime/magic", Entry::Bytes(b"MIME"))],
+            status: 3,
+            out: "",
+            err: "mimelook: /b/mime/magic: magic no header at 0\n",
+        },
+        Row {
+            name: "a stop after messages, and before later files",
+            entries: &[
+                ("/b/mime/globs2", Entry::Bytes(b"nothing\n")),
+                ("/b/mime/magic", Entry::Bytes(b"MIME-Magic\0\n")),
+                ("/b/mime/aliases", Entry::Unreadable),
+                ("/b/mime/subclasses", Entry::Bytes(b"nothing")),
+            ],
+            status: 3,
+            out: "",
+            err: "mimelook: /b/mime/globs2: line 1 ignored\n\
+                mimelook: /b/mime/aliases: cannot read\n",
+        },
+        Row {
+            name: "the last file can't be read",
+            entries: &[("/b/mime/generic-icons", Entry::Unreadable)],
+            status: 3,
+            out: "",
+            err: "mimelook: /b/mime/generic-icons: cannot read\n",
+        },
+    ];
+    for row in &rows {
+        let mut files = Shelf {
+            entries: row.entries,
+        };
+        let mut out = Vec::new(rt.alloc());
+        let mut err = Vec::new(rt.alloc());
+        let words = ["plain", "--name-only", "-d", "/b", "x.a"];
+        let status = run(rt.alloc(), &words, &mut files, &mut out, &mut err);
+        let name = row.name;
+        assert_eq!(rt; status, row.status, "{name}");
+        assert_eq!(rt; str::from_utf8(out.as_slice())?, row.out, "{name}");
+        assert_eq!(rt; str::from_utf8(err.as_slice())?, row.err, "{name}");
+    }
+    Ok(())
+}
+
+// Texts of magic after the header, and what is said of each. Offsets count the header's 12 bytes.
+const FAULTS: [(&[u8], &str); 6] = [
+    (b"[50:t/a]\n>0=\0\x01", "truncated at 26"),
+    (b"50:t/a]\n", "bad section at 12"),
+    (b"[50:t/a]\n>0x\0\x01a\n", "bad number at 22"),
+    (b"[50:t/a]\n>0=\0\x03aaa~2\n", "bad word at 30"),
+    (b"[50:t/a]\n1>0=\0\x01a\n", "bad indent at 21"),
+    (b"[50:t/a]\n>0=\0\x01a\n2>0=\0\x01a\n", "bad indent at 28"),
+];
+
+#[test]
+fn names_faults_of_magic(rt: HostRuntime) -> Result<(), Fail> {
+    let alloc = rt.alloc();
+    for (text, fault) in FAULTS {
+        let mut magic = b"MIME-Magic\0\n".to_vec(alloc)?;
+        magic.extend_from_slice(text)?;
+        let entries = [("/b/mime/magic", Entry::Bytes(magic.as_slice()))];
+        let mut files = Shelf { entries: &entries };
+        let mut out = Vec::new(alloc);
+        let mut err = Vec::new(alloc);
+        let words = ["plain", "--name-only", "-d", "/b", "x.a"];
+        let status = run(alloc, &words, &mut files, &mut out, &mut err);
+        let line = format!(in alloc; "mimelook: /b/mime/magic: magic {fault}\n")?;
+        assert_eq!(rt; status, 3, "{fault}");
+        assert!(rt; out.is_empty(), "{fault}");
+        assert_eq!(rt; str::from_utf8(err.as_slice())?, line.as_str(), "{fault}");
+    }
+    Ok(())
+}
+
+// Lines with indents from 0 to 64, of which the last is too deep: it begins after the header, the head
+// of the section, 10 lines of 8 bytes and 54 of 9.
+#[test]
+fn names_the_first_line_that_is_too_deep(rt: HostRuntime) -> Result<(), Fail> {
+    let alloc = rt.alloc();
+    let mut magic = b"MIME-Magic\0\n[50:t/a]\n".to_vec(alloc)?;
+    for indent in 0..65 {
+        let line = format!(in alloc; "{indent}>0=\0\x01a\n")?;
+        magic.extend_from_slice(line.as_bytes())?;
+    }
+    let entries = [("/b/mime/magic", Entry::Bytes(magic.as_slice()))];
+    let mut files = Shelf { entries: &entries };
+    let mut out = Vec::new(alloc);
+    let mut err = Vec::new(alloc);
+    let words = ["plain", "--name-only", "-d", "/b", "x.a"];
+    let status = run(alloc, &words, &mut files, &mut out, &mut err);
+    let want = "mimelook: /b/mime/magic: magic too deep at 587\n";
+    assert_eq!(rt; status, 3);
+    assert_eq!(rt; str::from_utf8(err.as_slice())?, want);
+    Ok(())
+}
