@@ -1,5 +1,5 @@
 -- The offsets of a header that stands are its numbers.
-use Rattle.std.proofs.Common.{◌≡◌, ℕ, List, get_or, refl, sym, ap, ◌∙◌}
+use Rattle.std.proofs.Common.{◌≡◌, ℕ, List, get_or, ap}
 use Rattle.mime_base.specs.Cache.Bytes.{Stands, field, fields}
 use Rattle.mime_base.specs.Format.Header.{HeaderAt, Offsets, header_numbers}
 use Rattle.mime_view.proofs.Records.{numbers_read}

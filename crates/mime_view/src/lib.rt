@@ -9,6 +9,7 @@
 
 mod budget;
 mod cache;
+mod entry;
 mod fault;
 mod list;
 mod pairs;
