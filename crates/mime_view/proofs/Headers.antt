@@ -9,11 +9,15 @@ pub header_read : (c : List ℕ) (offsets : Offsets) → HeaderAt (Stands c) off
 header_read c offsets stand = numbers_read c 0 (header_numbers offsets) stand
 
 -- number i of a header
-number : (c : List ℕ) (offsets : Offsets) (i : ℕ) → HeaderAt (Stands c) offsets → get_or (fields c 0 10) i 0 ≡ get_or (header_numbers offsets) i 0
+number : (c : List ℕ) (offsets : Offsets) (i : ℕ) → HeaderAt (Stands c) offsets
+    → get_or (fields c 0 10) i 0 ≡ get_or (header_numbers offsets) i 0
 number c offsets i stand = ap (λ (ns : List ℕ). get_or ns i 0) (header_read c offsets stand)
 
 pub aliases_read : (c : List ℕ) (offsets : Offsets) → HeaderAt (Stands c) offsets → field c 0 1 ≡ offsets.aliases
 aliases_read c offsets stand = number c offsets 1 stand
+
+pub parents_read : (c : List ℕ) (offsets : Offsets) → HeaderAt (Stands c) offsets → field c 0 2 ≡ offsets.parents
+parents_read c offsets stand = number c offsets 2 stand
 
 pub magic_read : (c : List ℕ) (offsets : Offsets) → HeaderAt (Stands c) offsets → field c 0 6 ≡ offsets.magic
 magic_read c offsets stand = number c offsets 6 stand

@@ -4,5 +4,9 @@ mod Lookups
 mod EqualTexts
 mod PairTexts
 mod Records
-mod Spelled
+mod TextLists
+mod ParentEntries
 mod Headers
+mod Subclasses
+mod ParentLists
+mod Spelled

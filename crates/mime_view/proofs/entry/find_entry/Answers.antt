@@ -9,7 +9,8 @@ use Rattle.mime_view.proofs.entry.find_entry.Goals as goal
 pub returns-in_err-place-clause-answer : goal.returns-in_err-place-clause-answer
 returns-in_err-place-clause-answer c = λ keys reads.
     let n : c.in_ok-count.count ≡ length keys = c.in_ok-count.ensures.count.0 ∙ reads.count in
-    absurd (cc (c.in_err-place.ensures.answers (keys_have_texts c.args.counted.now (c.args.at + 4) 8 c.in_ok-count.count keys n reads.texts)))
+    let texts = keys_have_texts c.args.counted.now (c.args.at + 4) 8 c.in_ok-count.count keys n reads.texts in
+    absurd (cc (c.in_err-place.ensures.answers texts))
 
 pub returns-then-place-count-clause-answer : goal.returns-then-place-count-clause-answer
 returns-then-place-count-clause-answer c = λ keys reads.

@@ -18,7 +18,8 @@ returns-in_err-text-clause-answer c = λ pairs reads.
     let entry = rw c.in-Some.is at c.in_ok-entry.ensures.entry in
     let n = reads.count in
     let below : c.in-Some.entry.place < length pairs = omega (arith, entry.0) in
-    let text = ap (text_at c.args.counted.now) (c.from.ensures ∙ entry.2) ∙ target_at c.args.counted.now (c.args.at + 4) pairs c.in-Some.entry.place reads.entries below in
+    let text = ap (text_at c.args.counted.now) (c.from.ensures ∙ entry.2)
+    ∙ target_at c.args.counted.now (c.args.at + 4) pairs c.in-Some.entry.place reads.entries below in
     absurd (cc (text, c.in_err-text.ensures.text))
 
 pub returns-clause-answer : goal.returns-clause-answer
@@ -28,6 +29,7 @@ returns-clause-answer c = λ pairs reads.
     let entry = rw c.in-Some.is at c.in_ok-entry.ensures.entry in
     let n = reads.count in
     let below : c.in-Some.entry.place < length pairs = omega (arith, entry.0) in
-    let text = ap (text_at c.args.counted.now) (c.from.ensures ∙ entry.2) ∙ target_at c.args.counted.now (c.args.at + 4) pairs c.in-Some.entry.place reads.entries below in
+    let text = ap (text_at c.args.counted.now) (c.from.ensures ∙ entry.2)
+    ∙ target_at c.args.counted.now (c.args.at + 4) pairs c.in-Some.entry.place reads.entries below in
     let is = looked_up-at pairs c.args.key.now (Some c.in-Some.entry.place) place in
     cc (is, text, c.in_ok-text.ensures.text)
