@@ -1,1 +1,3 @@
+mod parents;
 mod request;
+mod sample;

@@ -1,6 +1,12 @@
 mod Halving
 mod Places
 mod Lookups
+mod EqualTexts
+mod PairTexts
 mod Records
-mod Spelled
+mod TextLists
+mod ParentEntries
 mod Headers
+mod Subclasses
+mod ParentLists
+mod Spelled

@@ -1,62 +1,31 @@
--- What a sorted list of pairs gives for a key stands at the place of the key.
-use Rattle.std.proofs.Common.{◌≡◌, ℕ, zero, suc, ◌+◌, ◌*◌, ◌<◌, ◌≤◌, Bool, true, false, List, [], ◌∷◌, length, map, get_or, Option, None, Some, Ordering, Less, Equal, Greater, nat_cmp, true≢false, refl, sym, ap, ap₂, ◌∙◌, arith, inl, inr}
-use Rattle.std.specs.Prelude.{bytes_eq, Ok}
+-- Where a key stands in a sorted list of texts.
+use Rattle.std.proofs.Common.{◌≡◌, ℕ, zero, suc, ◌<◌, ◌≤◌, true, false, List, [], ◌∷◌, length, get_or}
+use Rattle.std.proofs.Common.{None, Some, Ordering, Less, Equal, Greater, nat_cmp, true≢false, refl, sym, ap, ◌∙◌, arith, inl, inr}
+use Rattle.std.specs.Prelude.{bytes_eq}
 use Rattle.std.specs.Ordering.{is_eq, is_lt, ordering_reverse}
 use Rattle.std.specs.Cmp.Lexicographic.{slice_cmp}
 use Rattle.std.proofs.lemmas.Bool.{cases_lt, false_from_ne_true}
 use Rattle.std.proofs.lemmas.Cmp.{nat_list_cmp_total}
-use Rattle.std.proofs.lemmas.List.{get_or-map, length-map}
 use Rattle.std.proofs.lemmas.List.Sorted.{sorted_far}
 use Rattle.std.proofs.lemmas.Map.Text.{is_eq-slice_cmp}
-use Rattle.mime_base.specs.Cache.Bytes.{field}
-use Rattle.mime_base.specs.Cache.Texts.{text_at}
-use Rattle.mime_view.specs.Lists.{AreSorted, HasText, KeysAt, SplitsAt, is_less}
-use Rattle.mime_view.specs.Pairs.{PairsAt, looked_up}
+use Rattle.mime_view.specs.Lists.{AreSorted, SplitsAt, is_less, place_of}
 use Rattle.mime_view.proofs.Places.{text_order}
 
-abbrev pub Pair : Type 0
-Pair = List ℕ × List ℕ
+-- no text is the key
+place_of-none : (keys : List (List ℕ)) (key : List ℕ) → ((i : ℕ) → i < length keys → bytes_eq (get_or keys i []) key ≡ false)
+    → place_of keys key ≡ None
+place_of-none [] key others = refl
+place_of-none (text ∷ keys) key others =
+    rw (others 0 (omega arith), place_of-none keys key (λ i l. others (suc i) (omega arith))) refl
 
-abbrev pub none : Pair
-none = ([], [])
-
-abbrev pub names : List Pair → List (List ℕ)
-names pairs = map (λ pair. pair.0) pairs
-
--- the first names of pairs that stand are keys that stand
-pub keys_at : (c : List ℕ) (at : ℕ) (pairs : List Pair) → PairsAt c at pairs → KeysAt c at 8 (names pairs)
-keys_at c at [] stand = stand
-keys_at c at (pair ∷ pairs) stand = (stand.0, keys_at c (at + 8) pairs stand.2)
-
--- the pair i stands at the record i
-pub pair_at : (c : List ℕ) (at : ℕ) (pairs : List Pair) (i : ℕ) → PairsAt c at pairs → i < length pairs
-    → (text_at c (field c (at + 8 * i) 0) ≡ Ok (get_or pairs i none).0) × (text_at c (field c (at + 8 * i) 1) ≡ Ok (get_or pairs i none).1)
-pair_at c at [] i stand l = absurd (omega arith)
-pair_at c at (p ∷ ps) zero stand l = let e : at + 8 * 0 ≡ at = omega arith in rw e (stand.0, stand.1)
-pair_at c at (p ∷ ps) (suc i) stand l =
-    let e : at + 8 * suc i ≡ at + 8 + 8 * i = omega arith in
-    rw e (pair_at c (at + 8) ps i stand.2 (omega arith))
-
--- each record has the name of its pair
-pub names_stand : (c : List ℕ) (at count : ℕ) (pairs : List Pair) → count ≡ length pairs → PairsAt c at pairs
-    → (i : ℕ) → i < count → (text : List ℕ) × HasText c at 8 i text
-names_stand c at count pairs n stand i l = ((get_or pairs i none).0, (pair_at c at pairs i stand (omega arith)).0)
-
--- no first name is the key
-looked_up-none : (pairs : List Pair) (key : List ℕ) → ((i : ℕ) → i < length pairs → bytes_eq (get_or pairs i none).0 key ≡ false)
-    → looked_up pairs key ≡ None
-looked_up-none [] key others = refl
-looked_up-none (p ∷ ps) key others =
-    rw (others 0 (omega arith)) (looked_up-none ps key (λ i l. others (suc i) (omega arith)))
-
--- the pair r is the first whose first name is the key
-looked_up-at : (pairs : List Pair) (key : List ℕ) (r : ℕ) → r < length pairs
-    → ((i : ℕ) → i < r → bytes_eq (get_or pairs i none).0 key ≡ false) → bytes_eq (get_or pairs r none).0 key ≡ true
-    → looked_up pairs key ≡ Some (get_or pairs r none).1
-looked_up-at [] key r l others e = absurd (omega arith)
-looked_up-at (p ∷ ps) key zero l others e = rw e refl
-looked_up-at (p ∷ ps) key (suc r) l others e =
-    rw (others 0 (omega arith)) (looked_up-at ps key r (omega arith) (λ i m. others (suc i) (omega arith)) e)
+-- the text r is the first that is the key
+place_of-at : (keys : List (List ℕ)) (key : List ℕ) (r : ℕ) → r < length keys
+    → ((i : ℕ) → i < r → bytes_eq (get_or keys i []) key ≡ false) → bytes_eq (get_or keys r []) key ≡ true
+    → place_of keys key ≡ Some r
+place_of-at [] key r l others e = absurd (omega arith)
+place_of-at (text ∷ keys) key zero l others e = rw e refl
+place_of-at (text ∷ keys) key (suc r) l others e =
+    rw (others 0 (omega arith), place_of-at keys key r (omega arith) (λ i m. others (suc i) (omega arith)) e) refl
 
 -- a lesser text is another
 less_differs : (a b : List ℕ) → is_less a b ≡ true → bytes_eq a b ≡ false
@@ -86,56 +55,42 @@ same_less a b z same = ap is_lt (nat_list_cmp_total.congr a b z (equal (slice_cm
     equal Equal e = refl
     equal Greater e = absurd (true≢false (sym e))
 
--- the name of the pair i among the names
-pub name_of : (pairs : List Pair) (i : ℕ) → i < length pairs → (get_or pairs i none).0 ≡ get_or (names pairs) i []
-name_of pairs i l = sym (get_or-map (λ (pair : Pair). pair.0) pairs i none [] l)
+module _ (keys : List (List ℕ)) (key : List ℕ) (place : ℕ) (is : SplitsAt keys key place) where
+  abbrev text : ℕ → List ℕ
+  text i = get_or keys i []
 
-module _ (pairs : List Pair) (key : List ℕ) (place : ℕ) (is : SplitsAt (names pairs) key place) where
-  abbrev name : ℕ → List ℕ
-  name i = (get_or pairs i none).0
+  -- the texts before the place are others
+  before : (i : ℕ) → i < place → bytes_eq (text i) key ≡ false
+  before i l = less_differs (text i) key (is.less i l)
 
-  size : length (names pairs) ≡ length pairs
-  size = length-map pairs (λ (pair : Pair). pair.0)
+  -- the text at the place is the key
+  pub place_of-found : place < length keys → bytes_eq (text place) key ≡ true → place_of keys key ≡ Some place
+  place_of-found l e = place_of-at keys key place l before e
 
-  -- the names before the place are others
-  before : (i : ℕ) → i < place → bytes_eq (name i) key ≡ false
-  before i l =
-      let within = is.within in
-      let n = size in
-      less_differs (name i) key (ap (λ (text : List ℕ). is_less text key) (name_of pairs i (omega arith)) ∙ is.less i l)
-
-  -- the pair at the place has the key
-  pub looked_up-found : place < length pairs → bytes_eq (name place) key ≡ true → looked_up pairs key ≡ Some (get_or pairs place none).1
-  looked_up-found l e = looked_up-at pairs key place l before e
-
-  -- a name from the place on is another, where the one there is
-  after : AreSorted (names pairs) → (i : ℕ) → place ≤ i → i < length pairs → bytes_eq (name place) key ≡ false → bytes_eq (name i) key ≡ false
+  -- a text from the place on is another, where the one there is
+  after : AreSorted keys → (i : ℕ) → place ≤ i → i < length keys → bytes_eq (text place) key ≡ false → bytes_eq (text i) key ≡ false
   after sorted i g l other =
-      let n = size in
-      let here = name_of pairs place (omega arith) in
-      let far : is_less (name i) (name place) ≡ false =
-      ap₂ is_less (name_of pairs i l) here ∙ sorted_far {X = List ℕ} is_less text_order (names pairs) sorted place i [] g (omega arith) in
-      let no_less : is_less (name place) key ≡ false =
-      ap (λ (text : List ℕ). is_less text key) here ∙ is.not_less place (omega arith) (omega arith) in
+      let far : is_less (text i) (text place) ≡ false = sorted_far {X = List ℕ} is_less text_order keys sorted place i [] g l in
+      let no_less : is_less (text place) key ≡ false = is.not_less place (omega arith) (omega arith) in
       false_from_ne_true _ (λ same.
-      let back : is_less key (name place) ≡ false = sym (same_less (name i) key (name place) same) ∙ far in
-      true≢false (sym (neither_less (name place) key no_less back) ∙ other))
+      let back : is_less key (text place) ≡ false = sym (same_less (text i) key (text place) same) ∙ far in
+      true≢false (sym (neither_less (text place) key no_less back) ∙ other))
 
-  -- no pair stands at the place, or one of another name
-  pub looked_up-missed : AreSorted (names pairs) → (place < length pairs → bytes_eq (name place) key ≡ false) → looked_up pairs key ≡ None
-  looked_up-missed sorted other =
-      looked_up-none pairs key (λ i l. elim (cases_lt i place) [
+  -- no text stands at the place, or another
+  pub place_of-missed : AreSorted keys → (place < length keys → bytes_eq (text place) key ≡ false) → place_of keys key ≡ None
+  place_of-missed sorted other =
+      place_of-none keys key (λ i l. elim (cases_lt i place) [
         | inl m ↦ before i m
         | inr g ↦ after sorted i g l (other (omega arith))
       ])
 
--- names of the order Equal are the same
-pub equal_names : (a b : List ℕ) → slice_cmp nat_cmp a b ≡ Equal → bytes_eq a b ≡ true
-equal_names a b e = sym (is_eq-slice_cmp a b) ∙ ap is_eq e
+-- texts of the order Equal are the same
+pub equal_texts : (a b : List ℕ) → slice_cmp nat_cmp a b ≡ Equal → bytes_eq a b ≡ true
+equal_texts a b e = sym (is_eq-slice_cmp a b) ∙ ap is_eq e
 
--- names of another order are not
-pub other_names : (a b : List ℕ) → (slice_cmp nat_cmp a b ≡ Equal → ⊥) → bytes_eq a b ≡ false
-other_names a b other = sym (is_eq-slice_cmp a b) ∙ by_order (slice_cmp nat_cmp a b) other
+-- texts of another order are not
+pub other_texts : (a b : List ℕ) → (slice_cmp nat_cmp a b ≡ Equal → ⊥) → bytes_eq a b ≡ false
+other_texts a b other = sym (is_eq-slice_cmp a b) ∙ by_order (slice_cmp nat_cmp a b) other
   where
     by_order : (o : Ordering) → (o ≡ Equal → ⊥) → is_eq o ≡ false
     by_order Less other = refl

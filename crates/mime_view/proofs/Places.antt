@@ -1,15 +1,13 @@
 -- The place that a search finds in a sorted list: as many texts are less than the key as stand before it.
-use Rattle.std.proofs.Common.{◌≡◌, ℕ, zero, suc, ◌+◌, ◌-◌, ◌*◌, ◌<◌, ◌≤◌, Bool, true, false, List, [], ◌∷◌, length, get_or, Less, nat_cmp, Ordering, Equal, Greater, true≢false, refl, sym, ap, ◌∙◌, arith, inl, inr}
+use Rattle.std.proofs.Common.{◌≡◌, ℕ, zero, suc, ◌+◌, ◌-◌, ◌*◌, ◌<◌, true, false, List, [], ◌∷◌}
+use Rattle.std.proofs.Common.{length, get_or, Less, Ordering, Equal, Greater, true≢false, refl, sym, ap, ◌∙◌, arith}
 use Rattle.std.specs.Prelude.{◌≢◌}
 use Rattle.std.specs.Ordering.{is_lt}
 use Rattle.std.specs.Cmp.{IsStrictWeakOrder}
-use Rattle.std.specs.Cmp.Lexicographic.{slice_cmp}
-use Rattle.std.proofs.lemmas.Bool.{cases_lt, cases_Bool, false_from_ne_true, true_from_ne_false}
+use Rattle.std.proofs.lemmas.Bool.{true_from_ne_false}
 use Rattle.std.proofs.lemmas.Cmp.{nat_list_cmp_total}
 use Rattle.std.proofs.lemmas.List.MinMax.{ranks_by}
 use Rattle.std.proofs.lemmas.List.Sorted.{sorted_far}
-use Rattle.mime_base.specs.Cache.Bytes.{field}
-use Rattle.mime_base.specs.Cache.Texts.{text_at}
 use Rattle.mime_view.specs.Lists.{AreSorted, HasText, IsPlace, KeysAt, SplitsAt, is_less}
 
 -- texts are ordered by bytes
@@ -25,6 +23,11 @@ key_at c at size (key ∷ keys) (suc i) stand l =
     let m : size * suc i ≡ size + size * i = omega arith in
     let e : at + size * suc i ≡ at + size + size * i = omega arith in
     rw e (key_at c (at + size) size keys i stand.1 (omega arith))
+
+-- each record has the text of its key
+pub keys_have_texts : (c : List ℕ) (at size count : ℕ) (keys : List (List ℕ)) → count ≡ length keys → KeysAt c at size keys
+    → (i : ℕ) → i < count → (text : List ℕ) × HasText c at size i text
+keys_have_texts c at size count keys n stand i l = (get_or keys i [], key_at c at size keys i stand (omega arith))
 
 -- an order that is no Less is no less
 no_less : (o : Ordering) → o ≢ Less → is_lt o ≡ false

@@ -1,5 +1,5 @@
 -- What stands in a cache reads back: records of numbers, lists of them, and texts.
-use Rattle.std.proofs.Common.{◌≡◌, ℕ, zero, suc, ◌+◌, ◌*◌, ◌<◌, ◌≤◌, List, [], ◌∷◌, length, length-append, get_or, Ok, refl, sym, ap, ◌∙◌, arith}
+use Rattle.std.proofs.Common.{◌≡◌, ℕ, zero, suc, ◌+◌, ◌*◌, ◌<◌, ◌≤◌, List, [], ◌∷◌, length, length-append, get_or, Ok, refl, ap, arith}
 use Rattle.mime_base.specs.Cache.Bytes.{Stands, card_bytes, cards, field, fields}
 use Rattle.mime_base.specs.Cache.Texts.{text_at}
 use Rattle.mime_base.specs.Format.Records.{CardsAt, ListAt, RecordsAt, TextAt}

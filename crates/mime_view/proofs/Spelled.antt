@@ -1,11 +1,10 @@
 -- Pairs that stand in a cache are read as their list says, whatever the order in which they stand.
-use Rattle.std.proofs.Common.{◌≡◌, ℕ, ◌+◌, ◌*◌, ◌<◌, ◌≤◌, Bool, true, false, cond, List, [], ◌∷◌, length, map, get_or, Option, None, Some, refl, sym, ap, ap₂, ◌∙◌, arith, inl, inr}
-use Rattle.std.specs.Prelude.{IsOkAnd, Result, Ok, Err, bytes_eq, filter}
-use Rattle.std.proofs.lemmas.Bool.{cases_Bool}
+use Rattle.std.proofs.Common.{◌≡◌, ℕ, ◌+◌, ◌*◌, ◌<◌, Bool, true, false, List, [], ◌∷◌, length, get_or, refl, sym, ap, ap₂, ◌∙◌, arith}
+use Rattle.std.specs.Prelude.{IsOkAnd, Result, Ok, Err, bytes_eq}
 use Rattle.std.specs.Option.{option_map_or}
 use Rattle.std.specs.List.Sorted.{IsSortedBy}
 use Rattle.std.proofs.lemmas.List.{get_or-map, length-map}
-use Rattle.mime_base.specs.Cache.Bytes.{Stands, field}
+use Rattle.mime_base.specs.Cache.Bytes.{Stands}
 use Rattle.mime_base.specs.Cache.Texts.{text_at}
 use Rattle.mime_base.specs.Database.Subclass.{resolved}
 use Rattle.mime_base.specs.Format.Pairs.{IsPair, PairsAt}
@@ -13,7 +12,7 @@ use Rattle.mime_base.specs.Format.Records.{RecordsAt}
 use Rattle.mime_base.specs.Format.Sorted.{IsSortedByText, text_lt, with_key}
 use Rattle.mime_view.specs.Pairs.{PairsAt as ReadPairsAt, ReadsPairs, looked_up}
 use Rattle.mime_view.specs.Lists.{AreSorted, is_less}
-use Rattle.mime_view.proofs.Lookups.{Pair, names, none}
+use Rattle.mime_view.proofs.PairTexts.{Pair, names, none}
 use Rattle.mime_view.proofs.Records.{count_read, first_read, list_inside, second_read, text_read}
 
 -- pairs in records are read by the offsets that their numbers name

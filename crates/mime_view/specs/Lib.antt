@@ -2,3 +2,4 @@ pub mod Faults
 pub mod Opening
 pub mod Lists
 pub mod Pairs
+pub mod Parents

@@ -1,5 +1,6 @@
 -- Lists of records of a cache, and what is wrong where one can't be read.
-use Rattle.std.specs.Prelude.{◌≡◌, ◌≢◌, ℕ, ◌+◌, ◌*◌, ◌<◌, ◌≤◌, Bool, true, false, List, [], ◌∷◌, get_or, length, Ok, Err}
+use Rattle.std.specs.Prelude.{◌≡◌, ◌≢◌, ℕ, suc, ◌+◌, ◌*◌, ◌<◌, ◌≤◌, Bool, true, false, List, [], ◌∷◌, get_or, length, Ok, Err}
+use Rattle.std.specs.Prelude.{Option, None, Some, option_map, if◌then◌else◌, bytes_eq}
 use Rattle.std.specs.Ordering.{is_lt, nat_cmp}
 use Rattle.std.specs.List.Sorted.{IsSortedBy}
 use Rattle.std.specs.Cmp.Lexicographic.{slice_cmp}
@@ -27,6 +28,18 @@ is_less left right = is_lt (slice_cmp nat_cmp left right)
 -- no text is less than the one before it
 abbrev pub AreSorted : List (List ℕ) → Type 0
 AreSorted keys = IsSortedBy is_less keys
+
+-- the place of the first text that is the key
+abbrev pub place_of : List (List ℕ) → List ℕ → Option ℕ
+place_of [] key = None
+place_of (text ∷ texts) key = if bytes_eq text key then Some 0 else option_map suc (place_of texts key)
+
+-- the list at `at`, of two numbers an entry, has these texts as its entries' first, and they are sorted
+pub record ReadsKeys (c : List ℕ) (at : ℕ) (keys : List (List ℕ)) : Type 0 where
+  pub count : field c at 0 ≡ length keys
+  pub inside : at + 4 + 8 * length keys ≤ length c
+  pub texts : KeysAt c (at + 4) 8 keys
+  pub sorted : AreSorted keys
 
 -- the texts before a place are less than a key, and those from it on are not
 pub record SplitsAt (keys : List (List ℕ)) (key : List ℕ) (place : ℕ) : Type 0 where

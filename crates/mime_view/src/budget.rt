@@ -27,4 +27,17 @@ impl Budget {
             value_bytes: length,
         }
     }
+
+    /// Takes a record.
+    pub(crate) fn take_record(&mut self) -> Result<(), CacheFault>
+        ensures taken { OnOk result (self.new.records + 1 ≡ self.old.records) }
+        ensures spent { IfErr result (λ e. (e ≡ CacheFault.Spent) × (self.old.records ≡ 0) × (self.new.records ≡ 0)) }
+        ensures value_bytes { self.new.value_bytes ≡ self.old.value_bytes }
+    {
+        if self.records == 0 {
+            return Err(CacheFault::Spent);
+        }
+        self.records -= 1;
+        Ok(())
+    }
 }

@@ -1,22 +1,29 @@
 //! A cache whose header was read ("The mime.cache files").
 
-ghost use Rattle.std.specs.Prelude.{◌≡◌, ◌⊎◌, ℕ, ◌+◌, ◌*◌, ◌<◌, ◌≤◌, List, Ok, length, option_map, IfErr, IfOk, IfSome, IsOkAnd, MatchResult};
+ghost use Rattle.std.specs.Prelude.{◌≡◌, ◌⊎◌, true, false, ℕ, ◌+◌, ◌*◌, ◌<◌, ◌≤◌, List};
+ghost use Rattle.std.specs.Prelude.{Ok, length, option_map, IfErr, IfOk, IfSome, IsOkAnd, MatchOption, MatchResult, OnErr};
 ghost use Rattle.mime_base.specs.Cache.Bytes.{Stands, field};
 ghost use Rattle.mime_base.specs.Cache.Texts.{text_at};
 ghost use Rattle.mime_base.specs.Database.Subclass.{resolved};
 ghost use Rattle.mime_base.specs.Format.Header.{HeaderAt, Offsets};
 ghost use Rattle.mime_base.specs.Format.Magic.{MagicAt};
 ghost use Rattle.mime_base.specs.Format.Pairs.{PairsAt};
+ghost use Rattle.mime_base.specs.Format.Parents.{ParentsAt};
+ghost use Rattle.mime_base.specs.Meter.{raised};
 ghost use Rattle.mime_base.specs.Magic.{PlainSection};
 ghost use Rattle.mime_base.specs.Magic.Extent.{sections_extent};
 ghost use Rattle.mime_view.specs.Lists.{IsListFault, IsTextFault};
 ghost use Rattle.mime_view.specs.Pairs.{looked_up};
+ghost use Rattle.mime_view.specs.Parents.{IsGiven, IsParentsFault, IsRead, is_among, is_marked, unmarked_parents, with_place};
 ghost use Rattle.mime_view.specs.Opening.{IsOpenFault, Opens};
 
 use crate::budget::Budget;
 use crate::fault::CacheFault;
+use crate::marks::Marks;
 use crate::pairs::look_up_pair;
+use crate::parents::{Parents, parents_of};
 use mime_base::{Counted, Meter};
+use std::alloc::Global;
 use std::marker::Model;
 
 /// The fewest bytes of a cache: its header.
@@ -169,6 +176,56 @@ impl<'a> Cache<'a> {
         let _ = budget;
         let name = look_up_pair(&self.counted, u64::from(self.header[9]), kind, meter)?;
         Ok(name)
+    }
+
+    /// The parents of a type, with the place of its entry, where the type has a parent ("The mime.cache files").
+    ///
+    /// An entry that is marked gives no types and takes no record. Any other is marked by the answer. Each
+    /// of its parents takes a record of the budget before its number and its text are read.
+    ///
+    /// # Errors
+    ///
+    /// [`CacheFault::OutOfRange`] with the offset of the parent list, or of the entry's parents, where not all
+    /// of it lies in the cache; the fault of a text that is compared or given; [`CacheFault::Spent`] where a
+    /// parent has no record left; [`CacheFault::OutOfMemory`]. The marks are as they were.
+    pub fn parents_of(
+        &self,
+        alloc: Global,
+        kind: &[u8],
+        marks: &mut Marks,
+        meter: &mut Meter,
+        budget: &mut Budget,
+    ) -> Result<Option<Parents<'a>>, CacheFault>
+        ensures answer { (offsets : Offsets) (pairs : List (List ℕ × List ℕ)) → HeaderAt (Stands self.now) offsets →
+            (stand : ParentsAt (Stands self.now) offsets.parents pairs) → IfOk result
+            (IsGiven pairs stand.kinds (is_marked self.now (field self.now 0 2) marks.old kind.now) kind.now) }
+        ensures read { IfOk result (λ found. IfSome found (IsRead self.now (field self.now 0 2) marks.old kind.now)) }
+        ensures marked { IfOk result (λ found. MatchOption found (marks.new ≡ marks.old) (λ parents.
+            (is_among marks.old parents.entry ≡ true) × (marks.new ≡ marks.old)
+            ⊎ (is_among marks.old parents.entry ≡ false) × (marks.new ≡ with_place marks.old parents.entry))) }
+        ensures need { (offsets : Offsets) (pairs : List (List ℕ × List ℕ)) → HeaderAt (Stands self.now) offsets →
+            ParentsAt (Stands self.now) offsets.parents pairs → length (unmarked_parents pairs
+            (is_marked self.now (field self.now 0 2) marks.old kind.now) kind.now) ≤ budget.old.records →
+            IfErr result (λ e. e ≡ CacheFault.OutOfMemory) }
+        ensures fault { IfErr result
+            (IsParentsFault self.now (field self.now 0 2) marks.old kind.now budget.old.records budget.new.records) }
+        ensures marks_stay { OnErr result (marks.new ≡ marks.old) }
+        ensures takes { IfOk result (λ found. MatchOption found (budget.new.records ≡ budget.old.records)
+            (λ parents. budget.new.records + length parents.types ≡ budget.old.records)) }
+        ensures takes_at_most { (offsets : Offsets) (pairs : List (List ℕ × List ℕ)) → HeaderAt (Stands self.now) offsets →
+            ParentsAt (Stands self.now) offsets.parents pairs → budget.old.records ≤ budget.new.records
+            + length (unmarked_parents pairs (is_marked self.now (field self.now 0 2) marks.old kind.now) kind.now) }
+        ensures records { budget.new.records ≤ budget.old.records }
+        ensures value_bytes { budget.new.value_bytes ≡ budget.old.value_bytes }
+        ensures rises { meter.old.nodes ≤ meter.new.nodes }
+        ensures nodes { meter.new.nodes + budget.new.records ≤ meter.old.nodes + budget.old.records + 29 }
+        ensures fair { raised meter.old.nodes budget.old.records ≤ meter.new.nodes + budget.new.records }
+        ensures bytes_rise { meter.old.bytes ≤ meter.new.bytes }
+        ensures bytes { meter.new.bytes + 256 * budget.new.records
+            ≤ meter.old.bytes + 256 * budget.old.records + 256 * 27 }
+    {
+        let at = u64::from(self.header[2]);
+        parents_of(alloc, &self.counted, at, kind, marks, meter, budget)
     }
 
     /// How much of a content the lines of magic can look at, as the cache states it, in bytes ("The

@@ -3,6 +3,7 @@
 ghost use Rattle.mime_view.specs.Faults.{cache_fault};
 
 use mime_base::ByteFault;
+use std::alloc::{AllocError, AllocFailed};
 use thiserror::Error;
 
 /// Why a cache gives no answer.
@@ -46,5 +47,27 @@ impl From<ByteFault> for CacheFault {
             ByteFault::OutOfRange(at) => CacheFault::OutOfRange(at),
             ByteFault::LongText(at) => CacheFault::LongText(at),
         }
+    }
+}
+
+impl From<AllocError> for CacheFault {
+    ghost use Rattle.std.specs.Prelude.{◌≡◌};
+    ghost use Rattle.mime_view.specs.declared.fault.CacheFault.TheVariants.{OutOfMemory};
+
+    ghost from_gives = { λ _ e. e ≡ OutOfMemory };
+
+    fn from(_error: AllocError) -> CacheFault {
+        CacheFault::OutOfMemory
+    }
+}
+
+impl<T: Drop> From<AllocFailed<T>> for CacheFault {
+    ghost use Rattle.std.specs.Prelude.{◌≡◌};
+    ghost use Rattle.mime_view.specs.declared.fault.CacheFault.TheVariants.{OutOfMemory};
+
+    ghost from_gives = { λ _ e. e ≡ OutOfMemory };
+
+    fn from(_error: AllocFailed<T>) -> CacheFault {
+        CacheFault::OutOfMemory
     }
 }

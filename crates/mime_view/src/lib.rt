@@ -18,11 +18,18 @@
 
 mod budget;
 mod cache;
+mod entry;
 mod fault;
 mod list;
+mod marks;
 mod pairs;
+mod parents;
 mod search;
+mod texts;
 
 pub use budget::Budget;
 pub use cache::Cache;
 pub use fault::CacheFault;
+pub use marks::Marks;
+pub use parents::Parents;
+pub use texts::Texts;

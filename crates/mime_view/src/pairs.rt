@@ -5,11 +5,9 @@ ghost use Rattle.mime_base.specs.Cache.Texts.{text_at};
 ghost use Rattle.mime_view.specs.Lists.{IsListFault, IsTextFault};
 ghost use Rattle.mime_view.specs.Pairs.{ReadsPairs, looked_up};
 
+use crate::entry::find_entry;
 use crate::fault::CacheFault;
-use crate::list::count_at;
-use crate::search::first_not_less;
 use mime_base::{Counted, Meter};
-use std::cmp::Ordering;
 
 /// The second name of the pair that begins with the key, in the list at `at`.
 pub fn look_up_pair<'a>(
@@ -30,18 +28,9 @@ pub fn look_up_pair<'a>(
     ensures bytes_rise { meter.old.bytes ≤ meter.new.bytes }
     ensures bytes { meter.new.bytes ≤ meter.old.bytes + 256 * 29 }
 {
-    let count = count_at(counted, at, 8, meter)?;
-    let first = at + 4;
-    let place = first_not_less(counted, first, count, 8, key, meter)?;
-    if place == count {
+    let Some(entry) = find_entry(counted, at, key, meter)? else {
         return Ok(None);
-    }
-    let [name, target] = counted.cards::<2>(first + 8 * place, meter)?;
-    match counted.compare_text(u64::from(name), key, meter)? {
-        Ordering::Equal => {
-            let text = counted.text_at(u64::from(target), meter)?;
-            Ok(Some(text))
-        }
-        _ => Ok(None),
-    }
+    };
+    let text = counted.text_at(u64::from(entry.target), meter)?;
+    Ok(Some(text))
 }

@@ -1,7 +1,5 @@
-use Rattle.std.proofs.Common.{◌≡◌, ℕ, ◌∷◌, [], List, length, get_or, arith, ◌∙◌, sym, ap}
-use Rattle.mime_base.specs.Cache.Bytes.{Stands, field, fields}
-use Rattle.mime_base.specs.Format.Magic.{MagicAt}
-use Rattle.mime_base.specs.Magic.Extent.{sections_extent}
+use Rattle.std.proofs.Common.{◌≡◌, ℕ, List, get_or, arith, ◌∙◌, ap}
+use Rattle.mime_base.specs.Cache.Bytes.{field}
 use Rattle.mime_view.proofs.Headers.{magic_read}
 use Rattle.mime_view.proofs.Records.{record_inside, second_read}
 use Rattle.mime_view.proofs.cache.Cache.extent.Goals as goal

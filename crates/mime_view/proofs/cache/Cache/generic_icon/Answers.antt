@@ -1,11 +1,6 @@
-use Rattle.std.proofs.Common.{◌≡◌, ℕ, List, Option, get_or, arith, ◌∙◌, sym, ap}
-use Rattle.std.specs.Prelude.{option_map}
-use Rattle.mime_base.specs.Cache.Bytes.{Stands, field, fields}
-use Rattle.mime_base.specs.Format.Header.{HeaderAt}
-use Rattle.mime_base.specs.Format.Pairs.{PairsAt}
-use Rattle.mime_view.specs.Pairs.{ReadsPairs, looked_up}
+use Rattle.std.proofs.Common.{◌≡◌, ℕ, List, get_or, ◌∙◌, sym, ap}
 use Rattle.mime_view.proofs.Headers.{generic_icons_read}
-use Rattle.mime_view.proofs.Spelled.{looked_up-sorted, no_answer, pairs_reads, resolved-looked_up}
+use Rattle.mime_view.proofs.Spelled.{looked_up-sorted, pairs_reads}
 use Rattle.mime_view.proofs.cache.Cache.generic_icon.Goals as goal
 
 pub returns-in_err-name-clause-answer : goal.returns-in_err-name-clause-answer

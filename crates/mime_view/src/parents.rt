@@ -1,0 +1,140 @@
+//! The parent list: each type that has a parent, with all its parents ("The mime.cache files").
+
+ghost use Rattle.std.specs.Prelude.{◌≡◌, ◌⊎◌, true, false, ℕ, ◌+◌, ◌*◌, ◌^◌, ◌≤◌, ◌<◌, List};
+ghost use Rattle.std.specs.Prelude.{Ok, Err, length, map, IfOk, IfErr, IfSome, OnErr, OnOk, MatchOption};
+ghost use Rattle.mime_base.specs.Cache.Bytes.{field};
+ghost use Rattle.mime_base.specs.Cache.Texts.{text_at};
+ghost use Rattle.mime_base.specs.Meter.{raised};
+ghost use Rattle.mime_base.specs.declared.cache.byte_fault.ByteFault.{ByteFault};
+ghost use Rattle.mime_view.specs.Faults.{cache_fault};
+ghost use Rattle.mime_view.specs.Parents.{IsGiven, IsParentsFault, IsRead, IsTextsFault, ReadsParents};
+ghost use Rattle.mime_view.specs.Parents.{ReadsTexts, is_among, is_marked, unmarked_parents, with_place};
+
+use crate::budget::Budget;
+use crate::entry::find_entry;
+use crate::fault::CacheFault;
+use crate::list::count_at;
+use crate::marks::Marks;
+use crate::texts::Texts;
+use mime_base::{Counted, Meter};
+use std::alloc::Global;
+
+/// The parents of a type.
+#[derive(Drop)]
+pub struct Parents<'a> {
+    /// Which entry of the parent list is the type's, counted from 0.
+    pub entry: u32,
+    /// The parents, in the order of the cache; none where the entry was marked.
+    pub types: Texts<'a>,
+}
+
+/// The parents of a type, by the parent list at `at`, with a mark on its entry.
+pub fn parents_of<'a>(
+    alloc: Global,
+    counted: &Counted<'a>,
+    at: u64,
+    kind: &[u8],
+    marks: &mut Marks,
+    meter: &mut Meter,
+    budget: &mut Budget,
+) -> Result<Option<Parents<'a>>, CacheFault>
+    requires at { at < 2 ^ 32 }
+    requires limit { length counted.now ≤ 2 ^ 28 }
+    ensures answer { (pairs : List (List ℕ × List ℕ)) (kinds : List (List ℕ)) → ReadsParents counted.now at pairs kinds →
+        IfOk result (IsGiven pairs kinds (is_marked counted.now at marks.old kind.now) kind.now) }
+    ensures read { IfOk result (λ found. IfSome found (IsRead counted.now at marks.old kind.now)) }
+    ensures marked { IfOk result (λ found. MatchOption found (marks.new ≡ marks.old) (λ parents.
+        (is_among marks.old parents.entry ≡ true) × (marks.new ≡ marks.old)
+        ⊎ (is_among marks.old parents.entry ≡ false) × (marks.new ≡ with_place marks.old parents.entry))) }
+    ensures need { (pairs : List (List ℕ × List ℕ)) (kinds : List (List ℕ)) → ReadsParents counted.now at pairs kinds →
+        length (unmarked_parents pairs (is_marked counted.now at marks.old kind.now) kind.now) ≤ budget.old.records →
+        IfErr result (λ e. e ≡ CacheFault.OutOfMemory) }
+    ensures fault { IfErr result (IsParentsFault counted.now at marks.old kind.now budget.old.records budget.new.records) }
+    ensures marks_stay { OnErr result (marks.new ≡ marks.old) }
+    ensures takes { IfOk result (λ found. MatchOption found (budget.new.records ≡ budget.old.records)
+        (λ parents. budget.new.records + length parents.types ≡ budget.old.records)) }
+    ensures takes_at_most { (pairs : List (List ℕ × List ℕ)) (kinds : List (List ℕ)) → ReadsParents counted.now at pairs kinds →
+        budget.old.records ≤ budget.new.records
+        + length (unmarked_parents pairs (is_marked counted.now at marks.old kind.now) kind.now) }
+    ensures records { budget.new.records ≤ budget.old.records }
+    ensures value_bytes { budget.new.value_bytes ≡ budget.old.value_bytes }
+    ensures rises { meter.old.nodes ≤ meter.new.nodes }
+    ensures nodes { meter.new.nodes + budget.new.records ≤ meter.old.nodes + budget.old.records + 29 }
+    ensures fair { raised meter.old.nodes budget.old.records ≤ meter.new.nodes + budget.new.records }
+    ensures bytes_rise { meter.old.bytes ≤ meter.new.bytes }
+    ensures bytes { meter.new.bytes + 256 * budget.new.records ≤ meter.old.bytes + 256 * budget.old.records + 256 * 27 }
+{
+    let Some(found) = find_entry(counted, at, kind, meter)? else {
+        return Ok(None);
+    };
+    let entry = found.place;
+    if marks.contains(entry) {
+        let types = Texts::none(alloc);
+        return Ok(Some(Parents { entry, types }));
+    }
+    let types = take_texts(alloc, counted, u64::from(found.target), meter, budget)?;
+    marks.add(entry)?;
+    Ok(Some(Parents { entry, types }))
+}
+
+/// The texts that the list of offsets at `at` names, each with a record of the budget.
+fn take_texts<'a>(
+    alloc: Global,
+    counted: &Counted<'a>,
+    at: u64,
+    meter: &mut Meter,
+    budget: &mut Budget,
+) -> Result<Texts<'a>, CacheFault>
+    requires at { at < 2 ^ 32 }
+    requires limit { length counted.now ≤ 2 ^ 28 }
+    ensures texts { IfOk result (ReadsTexts counted.now at) }
+    ensures need { (texts : List (List ℕ)) → ReadsTexts counted.now at texts → length texts ≤ budget.old.records →
+        IfErr result (λ e. e ≡ CacheFault.OutOfMemory) }
+    ensures fault { IfErr result (IsTextsFault counted.now at budget.old.records budget.new.records) }
+    ensures takes { IfOk result (λ texts. budget.new.records + length texts ≡ budget.old.records) }
+    ensures takes_at_most { budget.old.records ≤ budget.new.records + field counted.now at 0 }
+    ensures records { budget.new.records ≤ budget.old.records }
+    ensures value_bytes { budget.new.value_bytes ≡ budget.old.value_bytes }
+    ensures rises { meter.old.nodes ≤ meter.new.nodes }
+    ensures nodes { meter.new.nodes + budget.new.records ≤ meter.old.nodes + budget.old.records + 1 }
+    ensures fair { raised meter.old.nodes budget.old.records ≤ meter.new.nodes + budget.new.records }
+    ensures bytes_rise { meter.old.bytes ≤ meter.new.bytes }
+    ensures bytes { meter.new.bytes + 256 * budget.new.records ≤ meter.old.bytes + 256 * budget.old.records }
+{
+    let count = count_at(counted, at, 4, meter)?;
+    let first = at + 4;
+    let mut texts = Vec::new(alloc);
+    for i in 0..count {
+        let text = take_text(counted, first + 4 * i, meter, budget)?;
+        texts.push(text)?;
+    }
+    Ok(Texts::of(texts))
+}
+
+/// The text whose offset stands at `at`, with a record of the budget.
+fn take_text<'a>(
+    counted: &Counted<'a>,
+    at: u64,
+    meter: &mut Meter,
+    budget: &mut Budget,
+) -> Result<&'a [u8], CacheFault>
+    requires inside { at + 4 ≤ length counted.now }
+    ensures text { IfOk result (λ text. text_at counted.now (field counted.now at 0) ≡ Ok text.now) }
+    ensures fault { IfErr result (λ e. (e ≡ CacheFault.Spent) × (budget.old.records ≡ 0) × (budget.new.records ≡ 0)
+        ⊎ (fault : ByteFault) × (text_at counted.now (field counted.now at 0) ≡ Err fault)
+        × (e ≡ cache_fault fault) × (0 < budget.old.records)) }
+    ensures takes { OnOk result (budget.new.records + 1 ≡ budget.old.records) }
+    ensures records { budget.new.records ≤ budget.old.records }
+    ensures takes_at_most { budget.old.records ≤ budget.new.records + 1 }
+    ensures value_bytes { budget.new.value_bytes ≡ budget.old.value_bytes }
+    ensures rises { meter.old.nodes ≤ meter.new.nodes }
+    ensures nodes { meter.new.nodes + budget.new.records ≤ meter.old.nodes + budget.old.records }
+    ensures fair { raised meter.old.nodes budget.old.records ≤ meter.new.nodes + budget.new.records }
+    ensures bytes_rise { meter.old.bytes ≤ meter.new.bytes }
+    ensures bytes { meter.new.bytes + 256 * budget.new.records ≤ meter.old.bytes + 256 * budget.old.records }
+{
+    budget.take_record()?;
+    let [name] = counted.cards::<1>(at, meter)?;
+    let text = counted.text_at(u64::from(name), meter)?;
+    Ok(text)
+}
