@@ -245,6 +245,3 @@ fn unended(front: &[u8], at: u64) -> ByteFault
         ByteFault::OutOfRange(at)
     }
 }
-
-#[cfg(test)]
-mod tests;

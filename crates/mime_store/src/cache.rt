@@ -137,6 +137,3 @@ fn write_parts(
     );
     Ok(out)
 }
-
-#[cfg(test)]
-mod tests;

@@ -130,6 +130,3 @@ impl Lists {
         Ok(())
     }
 }
-
-#[cfg(test)]
-mod tests;

@@ -184,6 +184,3 @@ impl<'a> Cache<'a> {
         Ok(extent)
     }
 }
-
-#[cfg(test)]
-mod tests;

@@ -161,6 +161,3 @@ fn has_cs(flags: &[u8]) -> bool
 {
     fields(flags, b",").any(|flag| flag == CASED)
 }
-
-#[cfg(test)]
-mod tests;

@@ -1,0 +1,3 @@
+mod by_name;
+mod plain;
+mod reads;
