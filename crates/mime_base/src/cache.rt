@@ -246,6 +246,3 @@ fn unended(front: &[u8], at: u64) -> ByteFault
         ByteFault::OutOfRange(at)
     }
 }
-
-#[cfg(test)]
-mod tests;

@@ -112,6 +112,3 @@ impl<T: Drop> Best<T> {
         items
     }
 }
-
-#[cfg(test)]
-mod tests;

@@ -172,6 +172,3 @@ fn try_at_end(pattern: &[u8], endless: usize, cased: bool, size: usize, name: &[
         tests: last.tests,
     }
 }
-
-#[cfg(test)]
-mod tests;

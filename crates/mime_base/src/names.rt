@@ -229,6 +229,3 @@ fn is_icon_name(bytes: &[u8]) -> bool
 {
     0 < bytes.len() && bytes.len() <= LONGEST && are_icon_bytes(bytes)
 }
-
-#[cfg(test)]
-mod tests;

@@ -60,6 +60,3 @@ pub fn look_up_name<'a>(
         }),
     }
 }
-
-#[cfg(test)]
-mod tests;

@@ -207,6 +207,3 @@ fn front_limit(database: &Database) -> usize
 {
     SHORTEST_FRONT.max(extent(database)) as usize
 }
-
-#[cfg(test)]
-mod tests;

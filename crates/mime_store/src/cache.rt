@@ -144,6 +144,3 @@ fn write_parts(
     );
     Ok(out)
 }
-
-#[cfg(test)]
-mod tests;

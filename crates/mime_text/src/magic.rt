@@ -24,6 +24,3 @@ pub use laws::{
     fault_is_by_table, faults_stay, forest_is_by_runs, magic_text_or_fault, truncated_can_go_on,
 };
 pub use read::read_magic;
-
-#[cfg(test)]
-mod tests;

@@ -137,6 +137,3 @@ impl Lists {
         Ok(())
     }
 }
-
-#[cfg(test)]
-mod tests;

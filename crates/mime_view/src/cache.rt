@@ -248,6 +248,3 @@ impl<'a> Cache<'a> {
         Ok(extent)
     }
 }
-
-#[cfg(test)]
-mod tests;

@@ -40,25 +40,3 @@ pub fn class_of_bytes(text: &[u8]) -> Class
         },
     }
 }
-
-#[cfg(test)]
-mod tests {
-    use super::*;
-    use std::test::Fail;
-
-    #[test]
-    fn classes(rt: HostRuntime) -> Result<(), Fail> {
-        let rows: [(&str, &[u8], Class); 5] = [
-            ("no special byte", b"makefile", Class::Literal),
-            ("a star alone", b"*", Class::Suffix),
-            ("a star and a text", b"*.tar.gz", Class::Suffix),
-            ("a question mark after it", b"*.g?", Class::Full),
-            ("a star that is not first", b"a*", Class::Full),
-        ];
-        for (row, text, class) in rows {
-            let pattern = Pattern::new(rt.alloc(), text)?;
-            assert_eq!(rt; class_of(&pattern), class, "{row}");
-        }
-        Ok(())
-    }
-}

@@ -39,16 +39,3 @@ pub fn as_compared(cased: bool, byte: u8) -> u8
 {
     if cased { byte } else { fold_byte(byte) }
 }
-
-#[cfg(test)]
-mod tests {
-    use super::*;
-    use std::test::Fail;
-
-    #[test]
-    fn folds_the_capitals_of_ascii(rt: HostRuntime) -> Result<(), Fail> {
-        let text = fold(rt.alloc(), b"Ab\xC3\x84")?;
-        assert_eq!(rt; text.as_slice(), b"ab\xC3\x84".as_slice());
-        Ok(())
-    }
-}

@@ -167,6 +167,3 @@ fn has_cs(flags: &[u8]) -> bool
 {
     fields(flags, b",").any(|flag| flag == CASED)
 }
-
-#[cfg(test)]
-mod tests;

@@ -65,6 +65,3 @@ fn cut_at_colon(line: &[u8]) -> Option<(&[u8], &[u8])>
         None => None,
     }
 }
-
-#[cfg(test)]
-mod tests;

@@ -55,6 +55,3 @@ impl LineEntry for Pair {
         Ok(Some(Pair { name, target }))
     }
 }
-
-#[cfg(test)]
-mod tests;

@@ -1,4 +1,6 @@
-use super::*;
+//! Names at their limits.
+
+use mime_base::{IconName, NameFault, Pattern, TypeName};
 use std::test::Fail;
 
 #[test]

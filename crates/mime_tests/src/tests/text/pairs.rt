@@ -1,4 +1,6 @@
-use super::*;
+//! Lines of `aliases` and `subclasses`.
+
+use mime_text::read_pairs;
 use std::test::Fail;
 
 struct Row {
@@ -42,8 +44,7 @@ fn rows(rt: HostRuntime) -> Result<(), Fail> {
         let file = read_pairs(rt.alloc(), row.text)?;
         assert_eq!(rt; file.pairs.len(), row.pairs.len(), "{name}");
         for (pair, want) in file.pairs.iter().zip(row.pairs) {
-            assert_eq!(rt; pair.name.bytes(), want.0, "{name}");
-            assert_eq!(rt; pair.target.bytes(), want.1, "{name}");
+            assert_eq!(rt; (pair.name.bytes(), pair.target.bytes()), *want, "{name}");
         }
         assert_eq!(rt; file.skipped.as_slice(), row.skipped, "{name}");
     }

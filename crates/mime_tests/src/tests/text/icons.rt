@@ -1,4 +1,6 @@
-use super::*;
+//! Lines of `icons` and `generic-icons`.
+
+use mime_text::read_icons;
 use std::test::Fail;
 
 struct Row {
@@ -42,8 +44,7 @@ fn rows(rt: HostRuntime) -> Result<(), Fail> {
         let file = read_icons(rt.alloc(), row.text)?;
         assert_eq!(rt; file.icons.len(), row.icons.len(), "{name}");
         for (icon, want) in file.icons.iter().zip(row.icons) {
-            assert_eq!(rt; icon.kind.bytes(), want.0, "{name}");
-            assert_eq!(rt; icon.name.bytes(), want.1, "{name}");
+            assert_eq!(rt; (icon.kind.bytes(), icon.name.bytes()), *want, "{name}");
         }
         assert_eq!(rt; file.skipped.as_slice(), row.skipped, "{name}");
     }

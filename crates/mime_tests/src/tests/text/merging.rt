@@ -1,34 +1,24 @@
-use super::*;
-use crate::lines::globs2::read_globs2;
-use crate::lines::icons::read_icons;
-use crate::lines::pairs::read_pairs;
-use crate::magic::read_magic;
+//! What is merged of several directories.
+
+use crate::tests::texts::{EMPTY, Texts, merged};
+use mime_base::{Icon, Pair};
 use std::test::Fail;
 
-type Texts = &'static [(&'static [u8], &'static [u8])];
-
-/// The files of a directory.
-struct Files {
-    globs2: &'static [u8],
-    magic: &'static [u8],
-    aliases: &'static [u8],
-    subclasses: &'static [u8],
-    icons: &'static [u8],
-    generic_icons: &'static [u8],
-}
+/// Pairs of texts.
+type TextPairs = &'static [(&'static [u8], &'static [u8])];
 
 struct Row {
     name: &'static str,
-    dirs: &'static [Files],
-    rules: Texts,
+    dirs: &'static [Texts<'static>],
+    rules: TextPairs,
     sections: &'static [(u32, &'static [u8])],
-    aliases: Texts,
-    parents: Texts,
-    icons: Texts,
-    generic_icons: Texts,
+    aliases: TextPairs,
+    parents: TextPairs,
+    icons: TextPairs,
+    generic_icons: TextPairs,
 }
 
-const MARKER: Files = Files {
+const MARKER: Texts<'static> = Texts {
     globs2: b"0:t/a:__NOGLOBS__\n50:t/a:*.new\n",
     magic: b"MIME-Magic\0\n[60:t/a]\n>0__NOMAGIC__\n>0=\0\x01a\n[40:t/b]\n>0=\0\x01b\n",
     aliases: b"a/b c/d\na/b e/f\n",
@@ -37,7 +27,7 @@ const MARKER: Files = Files {
     generic_icons: b"",
 };
 
-const OLD: Files = Files {
+const OLD: Texts<'static> = Texts {
     globs2: b"50:t/a:*.old\n",
     magic: b"MIME-Magic\0\n[80:t/a]\n>0=\0\x01c\n[40:t/c]\n>0=\0\x01d\n[90:t/d]\n>0=\0\x01e\n",
     aliases: b"a/b g/h\na/c c/d\n",
@@ -46,13 +36,26 @@ const OLD: Files = Files {
     generic_icons: b"t/a:w\n",
 };
 
-const ROWS: [Row; 3] = [
+const ROWS: [Row; 4] = [
     Row {
         name: "no directories",
         dirs: &[],
         rules: &[],
         sections: &[],
         aliases: &[],
+        parents: &[],
+        icons: &[],
+        generic_icons: &[],
+    },
+    Row {
+        name: "first-alias-pair",
+        dirs: &[Texts {
+            aliases: b"a/b c/d\nx y\na/b e/f\n# z",
+            ..EMPTY
+        }],
+        rules: &[],
+        sections: &[],
+        aliases: &[(b"a/b", b"c/d")],
         parents: &[],
         icons: &[],
         generic_icons: &[],
@@ -85,18 +88,7 @@ const ROWS: [Row; 3] = [
     },
 ];
 
-fn read(alloc: Global, files: &Files) -> Result<DirFiles, Fail> {
-    Ok(DirFiles {
-        globs: read_globs2(alloc, files.globs2)?,
-        magic: read_magic(alloc, files.magic)?,
-        aliases: read_pairs(alloc, files.aliases)?,
-        subclasses: read_pairs(alloc, files.subclasses)?,
-        icons: read_icons(alloc, files.icons)?,
-        generic_icons: read_icons(alloc, files.generic_icons)?,
-    })
-}
-
-fn are_pairs(pairs: &[Pair], want: Texts) -> bool {
+fn are_pairs(pairs: &[Pair], want: TextPairs) -> bool {
     let mut same = pairs.len() == want.len();
     for (pair, want) in pairs.iter().zip(want) {
         same = same && pair.name.bytes() == want.0 && pair.target.bytes() == want.1;
@@ -104,7 +96,7 @@ fn are_pairs(pairs: &[Pair], want: Texts) -> bool {
     same
 }
 
-fn are_icons(icons: &[Icon], want: Texts) -> bool {
+fn are_icons(icons: &[Icon], want: TextPairs) -> bool {
     let mut same = icons.len() == want.len();
     for (icon, want) in icons.iter().zip(want) {
         same = same && icon.kind.bytes() == want.0 && icon.name.bytes() == want.1;
@@ -116,20 +108,14 @@ fn are_icons(icons: &[Icon], want: Texts) -> bool {
 fn rows(rt: HostRuntime) -> Result<(), Fail> {
     for row in &ROWS {
         let name = row.name;
-        let mut dirs = Vec::new(rt.alloc());
-        for files in row.dirs {
-            dirs.push(read(rt.alloc(), files)?)?;
-        }
-        let database = merge(rt.alloc(), dirs)?;
+        let database = merged(rt.alloc(), row.dirs)?;
         assert_eq!(rt; database.rules.len(), row.rules.len(), "{name}");
         for (rule, want) in database.rules.iter().zip(row.rules) {
-            assert_eq!(rt; rule.kind.bytes(), want.0, "{name}");
-            assert_eq!(rt; rule.pattern.bytes(), want.1, "{name}");
+            assert_eq!(rt; (rule.kind.bytes(), rule.pattern.bytes()), *want, "{name}");
         }
         assert_eq!(rt; database.sections.len(), row.sections.len(), "{name}");
         for (section, want) in database.sections.iter().zip(row.sections) {
-            assert_eq!(rt; section.priority, want.0, "{name}");
-            assert_eq!(rt; section.kind.bytes(), want.1, "{name}");
+            assert_eq!(rt; (section.priority, section.kind.bytes()), *want, "{name}");
         }
         assert!(rt; are_pairs(&database.aliases, row.aliases), "{name}");
         assert!(rt; are_pairs(&database.parents, row.parents), "{name}");

@@ -1,4 +1,7 @@
-use super::*;
+//! Rules and markers of `globs2`.
+
+use super::are_names;
+use mime_text::read_globs2;
 use std::test::Fail;
 
 struct Row {
@@ -61,15 +64,15 @@ fn rows(rt: HostRuntime) -> Result<(), Fail> {
         let file = read_globs2(rt.alloc(), row.text)?;
         assert_eq!(rt; file.rules.len(), row.rules.len(), "{name}");
         for (rule, want) in file.rules.iter().zip(row.rules) {
-            assert_eq!(rt; rule.weight, want.0, "{name}");
-            assert_eq!(rt; rule.kind.bytes(), want.1, "{name}");
-            assert_eq!(rt; rule.pattern.bytes(), want.2, "{name}");
-            assert_eq!(rt; rule.cased, want.3, "{name}");
+            let fields = (
+                rule.weight,
+                rule.kind.bytes(),
+                rule.pattern.bytes(),
+                rule.cased,
+            );
+            assert_eq!(rt; fields, *want, "{name}");
         }
-        assert_eq!(rt; file.deleted.len(), row.deleted.len(), "{name}");
-        for (kind, want) in file.deleted.iter().zip(row.deleted) {
-            assert_eq!(rt; kind.bytes(), *want, "{name}");
-        }
+        assert!(rt; are_names(&file.deleted, row.deleted), "{name}");
         assert_eq!(rt; file.skipped.as_slice(), row.skipped, "{name}");
     }
     Ok(())

@@ -1,5 +1,23 @@
-use super::*;
+//! Classes of patterns, and which offers a [`Best`] keeps.
+
+use mime_base::{Best, Class, Pattern, class_of, rank_of};
 use std::test::Fail;
+
+#[test]
+fn classes(rt: HostRuntime) -> Result<(), Fail> {
+    let rows: [(&str, &[u8], Class); 5] = [
+        ("no special byte", b"makefile", Class::Literal),
+        ("a star alone", b"*", Class::Suffix),
+        ("a star and a text", b"*.tar.gz", Class::Suffix),
+        ("a question mark after it", b"*.g?", Class::Full),
+        ("a star that is not first", b"a*", Class::Full),
+    ];
+    for (row, text, class) in rows {
+        let pattern = Pattern::new(rt.alloc(), text)?;
+        assert_eq!(rt; class_of(&pattern), class, "{row}");
+    }
+    Ok(())
+}
 
 #[test]
 fn keeps_the_best_in_their_order(rt: HostRuntime) -> Result<(), Fail> {

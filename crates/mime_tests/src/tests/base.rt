@@ -1,0 +1,5 @@
+mod cache;
+mod kept;
+mod matching;
+mod names;
+mod values;

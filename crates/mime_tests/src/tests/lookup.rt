@@ -1,0 +1,4 @@
+mod by_name;
+mod health;
+mod plain;
+mod reads;

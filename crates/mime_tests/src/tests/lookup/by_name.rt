@@ -1,0 +1,142 @@
+//! Types of names without content, over glob rules alone.
+
+use crate::tests::texts::of_rules;
+use mime_base::{Meter, glob_matches};
+use mime_lookup::{Cause, Stopped, look_up_name};
+use std::test::Fail;
+
+struct Row {
+    name: &'static str,
+    globs2: &'static [u8],
+    file: &'static [u8],
+    kind: &'static [u8],
+}
+
+const ARCHIVES: &[u8] = b"50:application/gzip:*.gz\n50:application/x-compressed-tar:*.tar.gz\n";
+
+const SOURCES: &[u8] = b"50:text/x-c++src:*.C:cs\n50:text/x-csrc:*.c\n";
+
+const ROWS: [Row; 11] = [
+    Row {
+        name: "no-directories",
+        globs2: b"",
+        file: b"a",
+        kind: b"application/octet-stream",
+    },
+    Row {
+        name: "longest-suffix",
+        globs2: ARCHIVES,
+        file: b"Data.tar.gz",
+        kind: b"application/x-compressed-tar",
+    },
+    Row {
+        name: "literal-before-weight",
+        globs2: b"50:t/m:makefile\n90:t/f:*file\n",
+        file: b"Makefile",
+        kind: b"t/m",
+    },
+    Row {
+        name: "weight-before-length",
+        globs2: b"60:t/g:*.gz\n50:t/t:*.tar.gz\n",
+        file: b"a.tar.gz",
+        kind: b"t/g",
+    },
+    Row {
+        name: "case-preference, a capital",
+        globs2: SOURCES,
+        file: b"main.C",
+        kind: b"text/x-c++src",
+    },
+    Row {
+        name: "case-preference, a small letter",
+        globs2: SOURCES,
+        file: b"main.c",
+        kind: b"text/x-csrc",
+    },
+    Row {
+        name: "case-preference, the longer ending in another case",
+        globs2: ARCHIVES,
+        file: b"Foo.TAR.gz",
+        kind: b"application/x-compressed-tar",
+    },
+    Row {
+        name: "star-weight",
+        globs2: b"50:t/any:*\n10:t/g:*.gz\n",
+        file: b"a.gz",
+        kind: b"t/any",
+    },
+    Row {
+        name: "conflict-textual",
+        globs2: b"50:application/msword:*.doc\n50:text/x-notes:*.doc\n",
+        file: b"a.doc",
+        kind: b"application/msword",
+    },
+    Row {
+        name: "an inode is no octet stream",
+        globs2: b"50:inode/x:*.a\n50:t/b:*.a\n",
+        file: b"q.a",
+        kind: b"t/b",
+    },
+    Row {
+        name: "the empty name",
+        globs2: b"50:t/any:*\n",
+        file: b"",
+        kind: b"t/any",
+    },
+];
+
+#[test]
+fn rows(rt: HostRuntime) -> Result<(), Fail> {
+    for row in &ROWS {
+        let database = of_rules(rt.alloc(), row.globs2)?;
+        let answer = look_up_name(rt.alloc(), &database, row.file)?;
+        assert_eq!(rt; answer.kind, row.kind, "{}", row.name);
+    }
+    Ok(())
+}
+
+#[test]
+fn name_too_long(rt: HostRuntime) -> Result<(), Fail> {
+    let name = [b'a'; 4097];
+    let database = of_rules(rt.alloc(), ARCHIVES)?;
+    let refused = look_up_name(rt.alloc(), &database, &name).err();
+    let too_long = Stopped {
+        cause: Cause::NameTooLong,
+        read: 0,
+        meter: Meter::new(),
+    };
+    assert_eq!(rt; refused, Some(too_long));
+    let answer = look_up_name(rt.alloc(), &database, &name[1..])?;
+    assert_eq!(rt; answer.kind, b"application/octet-stream".as_slice());
+    Ok(())
+}
+
+#[test]
+fn counts_what_matching_counts(rt: HostRuntime) -> Result<(), Fail> {
+    let mut meter = Meter::new();
+    let database = of_rules(rt.alloc(), ARCHIVES)?;
+    for rule in &database.rules {
+        glob_matches(rule.pattern.bytes(), rule.cased, b"Data.tar.gz", &mut meter);
+    }
+    let answer = look_up_name(rt.alloc(), &database, b"Data.tar.gz")?;
+    assert_eq!(rt; answer.meter, meter);
+    assert_ne!(rt; answer.meter, Meter::new());
+    Ok(())
+}
+
+#[test]
+fn texts_of_causes(rt: HostRuntime) -> Result<(), Fail> {
+    for (cause, text) in [
+        (Cause::NameTooLong, "name too long"),
+        (Cause::OutOfMemory, "out of memory"),
+    ] {
+        let stopped = Stopped {
+            cause,
+            read: 0,
+            meter: Meter::new(),
+        };
+        assert_eq!(rt; format!(in rt.alloc(); "{cause}")?.as_str(), text);
+        assert_eq!(rt; format!(in rt.alloc(); "{stopped}")?.as_str(), text);
+    }
+    Ok(())
+}

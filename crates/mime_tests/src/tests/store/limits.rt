@@ -1,0 +1,121 @@
+//! Many rules of one ending, and texts of the greatest length. The numbers are sums of the terms of
+//! `room`.
+
+use crate::tests::texts::{EMPTY, Texts, merged};
+use mime_base::{Counted, Meter};
+use mime_store::{StoreFault, write_cache};
+use mime_view::{Budget, Cache};
+use std::alloc::Global;
+use std::process::Abort;
+use std::test::Fail;
+
+/// The cache of a directory, which fits in so many bytes and in no less.
+fn cache_of(
+    rt: &impl Abort,
+    alloc: Global,
+    texts: Texts<'_>,
+    size: usize,
+) -> Result<Vec<u8>, Fail> {
+    let database = merged(alloc, &[texts])?;
+    let refused = write_cache(alloc, &database, size.saturating_sub(1)).err();
+    assert_eq!(rt; refused, Some(StoreFault::TooLarge));
+    let bytes = write_cache(alloc, &database, size)?;
+    assert_eq!(rt; bytes.len(), size);
+    Ok(bytes)
+}
+
+/// The cache of rules alone opens and has no magic.
+fn takes(rt: &impl Abort, alloc: Global, globs2: &[u8], size: usize) -> Result<(), Fail> {
+    let bytes = cache_of(rt, alloc, Texts { globs2, ..EMPTY }, size)?;
+    let mut meter = Meter::new();
+    let cache = Cache::open(Counted::new(&bytes), &mut meter)?;
+    let mut budget = Budget::of(&cache);
+    assert_eq!(rt; cache.extent(&mut meter, &mut budget)?, 0);
+    Ok(())
+}
+
+#[test]
+fn one_ending_of_4096_equal_rules(rt: HostRuntime) -> Result<(), Fail> {
+    let mut globs2 = Vec::new(rt.alloc());
+    for _ in 0..4096 {
+        globs2.extend_from_slice(b"50:t/g:*.a\n")?;
+    }
+    takes(&rt, rt.alloc(), &globs2, 88 + 2 * 12 + 4096 * (12 + 4))
+}
+
+#[test]
+fn one_ending_of_4096_types(rt: HostRuntime) -> Result<(), Fail> {
+    let mut globs2 = Vec::new(rt.alloc());
+    for number in 1000..5096 {
+        let line = format!(in rt.alloc(); "50:t/{number}:*.a\n")?;
+        globs2.extend_from_slice(line.as_bytes())?;
+    }
+    takes(&rt, rt.alloc(), &globs2, 88 + 2 * 12 + 4096 * (12 + 8))
+}
+
+#[test]
+fn one_ending_of_256_weights_16_times(rt: HostRuntime) -> Result<(), Fail> {
+    let mut globs2 = Vec::new(rt.alloc());
+    for number in 0..4096 {
+        let line = format!(in rt.alloc(); "{}:t/g:*.a\n", number % 256)?;
+        globs2.extend_from_slice(line.as_bytes())?;
+    }
+    takes(&rt, rt.alloc(), &globs2, 88 + 2 * 12 + 4096 * (12 + 4))
+}
+
+#[test]
+fn the_longest_ending_has_254_nodes(rt: HostRuntime) -> Result<(), Fail> {
+    let mut globs2 = Vec::from_slice(rt.alloc(), b"50:t/g:*")?;
+    globs2.extend_from_slice(&[b'a'; 254])?;
+    takes(&rt, rt.alloc(), &globs2, 88 + 254 * 12 + (12 + 4))
+}
+
+#[test]
+fn the_longest_literal_has_256_bytes_with_its_zero(rt: HostRuntime) -> Result<(), Fail> {
+    let mut globs2 = Vec::from_slice(rt.alloc(), b"50:t/g:")?;
+    globs2.extend_from_slice(&[b'a'; 255])?;
+    takes(&rt, rt.alloc(), &globs2, 88 + (12 + 256 + 4))
+}
+
+/// A type of 255 bytes, all the same but the slash.
+fn longest_type(byte: u8) -> [u8; 255] {
+    let mut kind = [byte; 255];
+    kind[1] = b'/';
+    kind
+}
+
+/// A line of two texts.
+fn line(alloc: Global, first: &[u8], between: u8, second: &[u8]) -> Result<Vec<u8>, Fail> {
+    let mut line = Vec::from_slice(alloc, first)?;
+    line.push(between)?;
+    line.extend_from_slice(second)?;
+    Ok(line)
+}
+
+fn texts_of<'a>(aliases: &'a [u8], icons: &'a [u8]) -> Texts<'a> {
+    Texts {
+        aliases,
+        icons,
+        generic_icons: icons,
+        ..EMPTY
+    }
+}
+
+#[test]
+fn the_longest_names_are_read_back(rt: HostRuntime) -> Result<(), Fail> {
+    let (alias, kind, icon) = (longest_type(b'a'), longest_type(b'b'), [b'i'; 255]);
+    let aliases = line(rt.alloc(), &alias, b' ', &kind)?;
+    let icons = line(rt.alloc(), &kind, b':', &icon)?;
+    let texts = texts_of(&aliases, &icons);
+    let bytes = cache_of(&rt, rt.alloc(), texts, 88 + 3 * (8 + 256 + 256))?;
+    let mut meter = Meter::new();
+    let cache = Cache::open(Counted::new(&bytes), &mut meter)?;
+    let mut budget = Budget::of(&cache);
+    let found = cache.unalias(&alias, &mut meter, &mut budget)? == kind.as_slice();
+    assert!(rt; found, "alias");
+    let found = cache.icon(&kind, &mut meter, &mut budget)? == Some(icon.as_slice());
+    assert!(rt; found, "icon");
+    let found = cache.generic_icon(&kind, &mut meter, &mut budget)? == Some(icon.as_slice());
+    assert!(rt; found, "generic icon");
+    Ok(())
+}
