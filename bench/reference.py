@@ -214,8 +214,11 @@ class Database:
             seen.update(above)
         return False
 
-    def answer(self, name, content):
+    def answer(self, name, content, is_magic_first=False):
         """The type by the checking order; None is content that is not available."""
+        section = self.first_section(content) if is_magic_first and content is not None else None
+        if section and section[0] >= 80:
+            return self.resolved(section[1])
         kept = self.kept(name)
         if len(set(kept)) == 1:
             return kept[0]
