@@ -1,5 +1,6 @@
-mod cache;
 mod kept;
 mod matching;
 mod names;
+mod numbers;
+mod texts;
 mod values;
