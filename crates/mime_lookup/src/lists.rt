@@ -209,4 +209,6 @@ fn front_limit(database: &Database) -> usize
 }
 
 #[cfg(test)]
+mod name_tests;
+#[cfg(test)]
 mod tests;

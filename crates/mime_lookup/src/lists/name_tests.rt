@@ -114,6 +114,23 @@ fn database_of(alloc: Global, lines: &[Line]) -> Result<Database, NameFault> {
     Ok(Database::of_rules(alloc, rules))
 }
 
+/// The answer to a name whose content is not available.
+fn look_up_name<'a>(
+    alloc: Global,
+    database: &'a Database,
+    name: &[u8],
+) -> Result<Answer<'a>, Stopped> {
+    let mut content: Option<&[u8]> = None;
+    look_up_plain(
+        alloc,
+        database,
+        name,
+        &mut content,
+        Host::Little,
+        Order::GlobsFirst,
+    )
+}
+
 #[test]
 fn rows(rt: HostRuntime) -> Result<(), Fail> {
     for row in &ROWS {
@@ -157,6 +174,7 @@ fn counts_what_matching_counts(rt: HostRuntime) -> Result<(), Fail> {
 fn texts_of_causes(rt: HostRuntime) -> Result<(), Fail> {
     for (cause, text) in [
         (Cause::NameTooLong, "name too long"),
+        (Cause::Read, "cannot read"),
         (Cause::OutOfMemory, "out of memory"),
     ] {
         let stopped = Stopped {
