@@ -1,13 +1,9 @@
--- The checking order, where content is not available.
-use Rattle.std.specs.Prelude.{◌≡◌, ◌⊎◌, MatchBool, ℕ, List, [], ◌∷◌, map, bytes_eq, codes}
+-- The choice among the kept types.
+use Rattle.std.specs.Prelude.{◌≡◌, ◌⊎◌, MatchBool, ℕ, List, [], ◌∷◌, map, bytes_eq}
 use Rattle.std.specs.List.{list_all}
 use Rattle.mime_base.specs.Kept.{kept_rules}
 use Rattle.mime_base.specs.Database.Subclass.{Pairs, IsA, resolved}
 use Rattle.mime_base.specs.declared.database.rule.GlobRule.{GlobRule}
-
--- what content that is not available is sniffed as
-abbrev pub sniffed : List ℕ
-sniffed = codes "application/octet-stream"
 
 -- the types of the kept rules, each after one alias step
 unfoldable pub kept : Pairs → List GlobRule → List ℕ → List (List ℕ)
@@ -27,7 +23,3 @@ ChoosesAmong pairs [] base answer = answer ≡ base
 ChoosesAmong pairs (first ∷ more) base answer =
     MatchBool (list_all (bytes_eq first) more) (answer ≡ first)
     (IsFirst pairs base first (first ∷ more) answer)
-
--- the type that the checking order gives to a name
-unfoldable pub Chooses : Pairs → List GlobRule → List ℕ → List ℕ → Type 0
-Chooses pairs rules name answer = ChoosesAmong pairs (kept pairs rules name) sniffed answer

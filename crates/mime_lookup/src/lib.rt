@@ -10,8 +10,7 @@
 //! [`look_up_plain`] tries every rule, line and pair of a database. The type that it answers is the
 //! one that the definition of the checking order gives to the name and the whole content, of which
 //! it reads no more than magic can look at; [`Content`] is what it reads from, and may tell whether
-//! its reads can fail. [`look_up_name`] is the same for a name without content, over a database of
-//! glob rules alone.
+//! its reads can fail.
 //!
 //! Read `lists` first, which has the steps of a lookup in their order. Then `content` and `reading`,
 //! what it reads from and how; `kept`, the rules that a name keeps; `sniff`, the type of a content;
@@ -20,8 +19,6 @@
 
 mod ancestry;
 mod answer;
-mod by_name;
-mod choice;
 mod content;
 mod fixed;
 mod kept;
@@ -35,7 +32,6 @@ mod stopped;
 mod subclass;
 
 pub use answer::Answer;
-pub use by_name::look_up_name;
 pub use content::{Content, ReadFault, Untold};
 pub use lists::look_up_plain;
 pub use order::Order;

@@ -1,8 +1,9 @@
 //! Types of names without content, over glob rules alone.
 
 use crate::tests::texts::of_rules;
-use mime_base::{Meter, glob_matches};
-use mime_lookup::{Cause, Stopped, look_up_name};
+use mime_base::{Database, Host, Meter, glob_matches};
+use mime_lookup::{Answer, Cause, Order, Stopped, look_up_plain};
+use std::alloc::Global;
 use std::test::Fail;
 
 struct Row {
@@ -84,6 +85,23 @@ const ROWS: [Row; 11] = [
         kind: b"t/any",
     },
 ];
+
+/// The answer to a name whose content is not available.
+fn look_up_name<'a>(
+    alloc: Global,
+    database: &'a Database,
+    name: &[u8],
+) -> Result<Answer<'a>, Stopped> {
+    let mut content: Option<&[u8]> = None;
+    look_up_plain(
+        alloc,
+        database,
+        name,
+        &mut content,
+        Host::Little,
+        Order::GlobsFirst,
+    )
+}
 
 #[test]
 fn rows(rt: HostRuntime) -> Result<(), Fail> {
