@@ -1,11 +1,9 @@
 //! What is merged of several directories.
 
+use super::{TextPairs, are_icons, are_pairs};
 use crate::tests::texts::{EMPTY, Texts, merged};
-use mime_base::{Icon, Pair};
+use mime_base::{GlobRule, Section};
 use std::test::Fail;
-
-/// Pairs of texts.
-type TextPairs = &'static [(&'static [u8], &'static [u8])];
 
 struct Row {
     name: &'static str,
@@ -88,18 +86,18 @@ const ROWS: [Row; 4] = [
     },
 ];
 
-fn are_pairs(pairs: &[Pair], want: TextPairs) -> bool {
-    let mut same = pairs.len() == want.len();
-    for (pair, want) in pairs.iter().zip(want) {
-        same = same && pair.name.bytes() == want.0 && pair.target.bytes() == want.1;
+fn are_rules(rules: &[GlobRule], want: TextPairs) -> bool {
+    let mut same = rules.len() == want.len();
+    for (rule, want) in rules.iter().zip(want) {
+        same = same && rule.kind.bytes() == want.0 && rule.pattern.bytes() == want.1;
     }
     same
 }
 
-fn are_icons(icons: &[Icon], want: TextPairs) -> bool {
-    let mut same = icons.len() == want.len();
-    for (icon, want) in icons.iter().zip(want) {
-        same = same && icon.kind.bytes() == want.0 && icon.name.bytes() == want.1;
+fn are_sections(sections: &[Section], want: &[(u32, &[u8])]) -> bool {
+    let mut same = sections.len() == want.len();
+    for (section, want) in sections.iter().zip(want) {
+        same = same && section.priority == want.0 && section.kind.bytes() == want.1;
     }
     same
 }
@@ -109,14 +107,8 @@ fn rows(rt: HostRuntime) -> Result<(), Fail> {
     for row in &ROWS {
         let name = row.name;
         let database = merged(rt.alloc(), row.dirs)?;
-        assert_eq!(rt; database.rules.len(), row.rules.len(), "{name}");
-        for (rule, want) in database.rules.iter().zip(row.rules) {
-            assert_eq!(rt; (rule.kind.bytes(), rule.pattern.bytes()), *want, "{name}");
-        }
-        assert_eq!(rt; database.sections.len(), row.sections.len(), "{name}");
-        for (section, want) in database.sections.iter().zip(row.sections) {
-            assert_eq!(rt; (section.priority, section.kind.bytes()), *want, "{name}");
-        }
+        assert!(rt; are_rules(&database.rules, row.rules), "{name}");
+        assert!(rt; are_sections(&database.sections, row.sections), "{name}");
         assert!(rt; are_pairs(&database.aliases, row.aliases), "{name}");
         assert!(rt; are_pairs(&database.parents, row.parents), "{name}");
         assert!(rt; are_icons(&database.icons, row.icons), "{name}");
