@@ -9,4 +9,8 @@ mod ParentEntries
 mod Headers
 mod Subclasses
 mod ParentLists
+mod LineRows
+mod LineValues
+mod SectionRows
+mod MagicLists
 mod Spelled
