@@ -1,3 +1,4 @@
 mod parents;
 mod request;
 mod sample;
+mod sniffing;

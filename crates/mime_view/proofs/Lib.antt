@@ -9,6 +9,7 @@ mod ParentEntries
 mod Headers
 mod Subclasses
 mod ParentLists
+mod AllOf
 mod LineRows
 mod LineValues
 mod SectionRows

@@ -1,13 +1,14 @@
 -- Lines that stand side by side in a cache, one after another.
 use Rattle.std.proofs.Common.{◌≡◌, ℕ, suc, ◌+◌, ◌*◌, ◌<◌, ◌≤◌, ◌&&◌, ◌||◌, Bool, true, false, true≢false, List, length, refl, sym, ap, ◌∙◌, arith}
 use Rattle.std.proofs.Math.Bool.{or-false}
-use Rattle.std.proofs.lemmas.Bool.{and_from, or_left}
+use Rattle.std.proofs.lemmas.Bool.{or_left}
 use Rattle.mime_base.specs.Format.Magic.{line_count, width}
 use Rattle.mime_base.specs.Format.Packed.{forest_value_length}
 use Rattle.mime_base.specs.Magic.{Forest, PlainLine, are_allowed, bare, is_allowed, line}
 use Rattle.mime_base.specs.Magic.Holds.{equals_from, is_bare, some_holds}
 use Rattle.mime_base.specs.declared.magic.host.Host.{Host}
 use Rattle.mime_view.specs.Magic.{ReadsLines, ReadsParent}
+use Rattle.mime_view.proofs.AllOf.{second, third}
 
 -- a line with its children alone, and those after it
 some_holds-split : (own : PlainLine) (children rest : Forest) (content : List ℕ) (host : Host)
@@ -38,21 +39,6 @@ pub record Next (c : List ℕ) (first count : ℕ) (content : List ℕ) (host : 
   pub holds : some_holds (line own children bare) content host ≡ true → some_holds lines content host ≡ true
   pub later : (r' v' : ℕ) → some_holds (line own children bare) content host ≡ false → r ≤ r' + (1 + line_count children)
       → v ≤ v' + (length own.value + forest_value_length children) → Left c first count content host lines r0 v0 (i + 1) r' v'
-
--- each of three facts
-pub first_of : (a b c : Bool) → (a && b && c) ≡ true → a ≡ true
-first_of true b c all = refl
-first_of false b c all = absurd (true≢false (sym all))
-
-pub second : (a b c : Bool) → (a && b && c) ≡ true → b ≡ true
-second true true c all = refl
-second true false c all = absurd (true≢false (sym all))
-second false b c all = absurd (true≢false (sym all))
-
-pub third : (a b c : Bool) → (a && b && c) ≡ true → c ≡ true
-third true true c all = all
-third true false c all = absurd (true≢false (sym all))
-third false b c all = absurd (true≢false (sym all))
 
 next_of : (c : List ℕ) (first count : ℕ) (content : List ℕ) (host : Host) (lines : Forest) (r0 v0 i r v : ℕ) (rest : Forest)
     → i < count → width rest + i ≡ count → ReadsLines c (first + 32 * i) rest → some_holds lines content host ≡ some_holds rest content host

@@ -1,8 +1,8 @@
 -- The value of a line as its record states it.
-use Rattle.std.proofs.Common.{◌≡◌, ℕ, ◌+◌, ◌-◌, ◌*◌, ◌≤◌, ◌&&◌, ◌||◌, ◌==◌, Bool, true, false, true≢false, List, length, get_or, take, drop}
-use Rattle.std.proofs.Common.{Some, refl, sym, ap, ap₂, ◌∙◌, arith, length-drop, ⊎_elim}
+use Rattle.std.proofs.Common.{◌≡◌, ℕ, ◌+◌, ◌≤◌, ◌||◌, ◌==◌, Bool, true, false, List, length, get_or, drop}
+use Rattle.std.proofs.Common.{Some, refl, ap, ap₂, ◌∙◌, arith, length-drop}
 use Rattle.std.specs.Prelude.{nat_le}
-use Rattle.std.proofs.lemmas.Bool.{cases_Bool, eqb-true, leb-true}
+use Rattle.std.proofs.lemmas.Bool.{eqb-true, leb-true}
 use Rattle.std.proofs.lemmas.List.{length-take-le}
 use Rattle.mime_base.specs.Cache.Bytes.{both_lie, field, fields, lies, optional_mask, value_at}
 use Rattle.mime_base.specs.Magic.{PlainLine, line_from}
@@ -10,10 +10,7 @@ use Rattle.mime_base.specs.Magic.Holds.{bytes_of_mask, equals_from}
 use Rattle.mime_base.specs.declared.magic.host.Host.{Host}
 use Rattle.mime_base.proofs.MagicLemmas.HoldingLines.{equals_from-mask}
 use Rattle.mime_view.specs.Magic.{ReadsLine}
-
-both_left : (a b : Bool) → (a && b) ≡ true → a ≡ true
-both_left true b all = refl
-both_left false b all = absurd (true≢false (sym all))
+use Rattle.mime_view.proofs.AllOf.{both_left}
 
 -- bytes that lie in the cache are as many as were asked for
 length-lying : (c : List ℕ) (at size : ℕ) → lies c at size ≡ true → length (value_at c at size) ≡ size

@@ -1,5 +1,5 @@
 -- A magic list that stands in a cache, of lines that are allowed, is read as its sections.
-use Rattle.std.proofs.Common.{◌≡◌, ℕ, zero, suc, ◌+◌, ◌*◌, ◌<◌, ◌≤◌, ◌&&◌, ◌||◌, ◌==◌, Bool, true, false, true≢false, List, [], ◌∷◌}
+use Rattle.std.proofs.Common.{◌≡◌, ℕ, zero, suc, ◌+◌, ◌*◌, ◌<◌, ◌≤◌, ◌==◌, true, false, true≢false, List, [], ◌∷◌}
 use Rattle.std.proofs.Common.{length, get_or, Option, None, Some, refl, sym, ap, subst, ◌∙◌, arith, inl, inr}
 use Rattle.std.proofs.lemmas.Bool.{cases_lt, eqb-true, false_from_ne_true, le-leb}
 use Rattle.std.specs.Prelude.{nat_lt}
@@ -11,18 +11,10 @@ use Rattle.mime_base.specs.Format.Records.{CardsAt, RecordsAt}
 use Rattle.mime_base.specs.Magic.{Forest, PlainLine, PlainSection, are_allowed, are_allowed_sections, bare, fits_mask, fits_word, is_allowed, line}
 use Rattle.mime_base.specs.Magic.Holds.{bytes_of_mask}
 use Rattle.mime_base.proofs.CacheLemmas.Standing.{Stands-inside, value_at-standing}
-use Rattle.mime_view.specs.Magic.{LiesBlock, ReadsLine, ReadsLines, ReadsMagic, ReadsSection, ReadsSections}
+use Rattle.mime_view.specs.Magic.{ReadsLines, ReadsMagic, ReadsSection, ReadsSections}
 use Rattle.mime_view.proofs.Headers.{magic_read}
-use Rattle.mime_view.proofs.LineRows.{first_of, second, third}
+use Rattle.mime_view.proofs.AllOf.{both_left, both_right, first_of, last, second, third}
 use Rattle.mime_view.proofs.Records.{numbers_read, record_inside, records_inside, text_read}
-
-both_left : (a b : Bool) → (a && b) ≡ true → a ≡ true
-both_left true b all = refl
-both_left false b all = absurd (true≢false (sym all))
-
-both_right : (a b : Bool) → (a && b) ≡ true → b ≡ true
-both_right true b all = all
-both_right false b all = absurd (true≢false (sym all))
 
 -- bytes that stand lie in the cache
 lies_standing : (c : List ℕ) (at : ℕ) (bytes : List ℕ) → Stands c at bytes → lies c at (length bytes) ≡ true
@@ -60,13 +52,6 @@ lines_inside c at (line own children rest) (value, mask, first, here, is, bits, 
       | inl more ↦ let rest_inside = lines_inside c (at + 32) rest later more in (omega arith)
       | inr none ↦ (omega arith)
     ]
-
--- the last of four facts
-last : (a b c d : Bool) → (a && b && c && d) ≡ true → d ≡ true
-last true true true d all = all
-last true true false d all = absurd (true≢false (sym all))
-last true false c d all = absurd (true≢false (sym all))
-last false b c d all = absurd (true≢false (sym all))
 
 -- a line that is allowed has a mask of its value's length
 mask_fits : (own : PlainLine) → is_allowed own ≡ true → fits_mask own.mask (length own.value) ≡ true

@@ -1,5 +1,5 @@
 -- Sections that stand one after another in a cache.
-use Rattle.std.proofs.Common.{◌≡◌, ℕ, ◌+◌, ◌*◌, ◌<◌, ◌≤◌, ◌&&◌, Bool, true, false, cond, true≢false, List, [], ◌∷◌, length, Option, None, Some, refl, sym, ap, ◌∙◌, arith}
+use Rattle.std.proofs.Common.{◌≡◌, ℕ, ◌+◌, ◌*◌, ◌<◌, ◌≤◌, Bool, true, false, cond, List, [], ◌∷◌, length, Option, None, Some, refl, sym, ◌∙◌, arith}
 use Rattle.std.specs.Prelude.{if◌then◌else◌}
 use Rattle.std.proofs.lemmas.List.Sums.{sum_by-cons}
 use Rattle.mime_base.specs.Format.Magic.{line_count}
@@ -8,6 +8,7 @@ use Rattle.mime_base.specs.Magic.{PlainSection, are_allowed, are_allowed_section
 use Rattle.mime_base.specs.Magic.Holds.{first_magic, some_holds}
 use Rattle.mime_base.specs.declared.magic.host.Host.{Host}
 use Rattle.mime_view.specs.Magic.{ReadsSection, ReadsSections}
+use Rattle.mime_view.proofs.AllOf.{both_left, both_right}
 
 abbrev Sections : Type 0
 Sections = List PlainSection
@@ -58,14 +59,6 @@ first-passed section rest content host is = by_lines (some_holds section.lines c
         → cond holds (Some own) (first_magic rest content host) ≡ first_magic rest content host
     by_lines true own is = absurd (cc)
     by_lines false own is = refl
-
-both_left : (a b : Bool) → (a && b) ≡ true → a ≡ true
-both_left true b all = refl
-both_left false b all = absurd (true≢false (sym all))
-
-both_right : (a b : Bool) → (a && b) ≡ true → b ≡ true
-both_right true b all = all
-both_right false b all = absurd (true≢false (sym all))
 
 next_of : (c : List ℕ) (first count : ℕ) (content : List ℕ) (host : Host) (sections : Sections) (r0 v0 i r v : ℕ) (rest : Sections)
     → i < count → length rest + i ≡ count → ReadsSections c (first + 16 * i) rest

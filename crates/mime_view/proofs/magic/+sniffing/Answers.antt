@@ -1,8 +1,8 @@
-use Rattle.std.proofs.Common.{◌≡◌, ◌+◌, ◌-◌, ◌*◌, ◌<◌, ◌≤◌, ℕ, Bool, suc, true, false, length, arith, refl, rules, sym, ap, subst, ◌∙◌}
+use Rattle.std.proofs.Common.{◌≡◌, ◌-◌, ℕ, Bool, suc, true, arith, rules, sym, subst, ◌∙◌}
 use Rattle.std.specs.Prelude.{IfOk}
-use Rattle.mime_base.specs.Magic.{Forest, are_allowed}
+use Rattle.mime_base.specs.Magic.{are_allowed}
 use Rattle.mime_view.specs.Magic.{ReadsLines}
-use Rattle.mime_view.proofs.LineRows.{all_left, alone, differs, next, no_level, none_left, parent}
+use Rattle.mime_view.proofs.LineRows.{alone, differs, next, no_level, none_left, parent}
 use Rattle.mime_view.proofs.magic.+sniffing.Goals as goal
 
 pub line_holds-returns-then-not-equals-clause-answer : goal.line_holds-returns-then-not-equals-clause-answer

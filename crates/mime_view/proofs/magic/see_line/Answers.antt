@@ -1,4 +1,4 @@
-use Rattle.std.proofs.Common.{◌≡◌, ℕ, ◌+◌, ◌*◌, length, arith, ap, sym, ◌∙◌, rules}
+use Rattle.std.proofs.Common.{◌≡◌, ℕ, ◌+◌, ◌*◌, length, arith, ap}
 use Rattle.mime_view.proofs.LineValues.{line_stated}
 use Rattle.mime_view.proofs.magic.see_line.Goals as goal
 

@@ -1,4 +1,4 @@
-use Rattle.std.proofs.Common.{◌≡◌, ◌+◌, ◌*◌, ℕ, List, length, get_or, arith, rules, sym, ap, subst, ◌∙◌}
+use Rattle.std.proofs.Common.{◌≡◌, ℕ, List, length, get_or, arith, rules, sym, ap, subst, ◌∙◌}
 use Rattle.mime_base.specs.Cache.Bytes.{field}
 use Rattle.mime_view.specs.Magic.{ReadsSections}
 use Rattle.mime_view.proofs.SectionRows.{next, none_left}
