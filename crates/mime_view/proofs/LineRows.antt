@@ -1,5 +1,6 @@
 -- Lines that stand side by side in a cache, one after another.
-use Rattle.std.proofs.Common.{◌≡◌, ℕ, suc, ◌+◌, ◌*◌, ◌<◌, ◌≤◌, ◌&&◌, ◌||◌, Bool, true, false, true≢false, List, length, refl, sym, ap, ◌∙◌, arith}
+use Rattle.std.proofs.Common.{◌≡◌, ℕ, suc, ◌+◌, ◌*◌, ◌<◌, ◌≤◌, ◌&&◌, ◌||◌, Bool}
+use Rattle.std.proofs.Common.{true, false, true≢false, List, length, refl, sym, ap, ◌∙◌, arith}
 use Rattle.std.proofs.Math.Bool.{or-false}
 use Rattle.std.proofs.lemmas.Bool.{or_left}
 use Rattle.mime_base.specs.Format.Magic.{line_count, width}
@@ -96,7 +97,8 @@ all_left c first count content host lines r v w reads = record {
 }
 
 -- a line that does not equal its value does not hold
-pub differs : (own : PlainLine) (children : Forest) (content : List ℕ) (host : Host) → equals_from own host content own.start own.range ≡ false
+pub differs : (own : PlainLine) (children : Forest) (content : List ℕ) (host : Host)
+    → equals_from own host content own.start own.range ≡ false
     → some_holds (line own children bare) content host ≡ false
 unfolding some_holds
 differs own children content host e = rw e refl
@@ -109,7 +111,8 @@ alone own bare content host e w = rw e refl
 alone own (line first below rest) content host e w = absurd (omega arith)
 
 -- any other where besides some child holds
-pub parent : (own : PlainLine) (children : Forest) (content : List ℕ) (host : Host) → equals_from own host content own.start own.range ≡ true
+pub parent : (own : PlainLine) (children : Forest) (content : List ℕ) (host : Host)
+    → equals_from own host content own.start own.range ≡ true
     → 0 < width children → some_holds (line own children bare) content host ≡ some_holds children content host
 unfolding some_holds
 parent own bare content host e w = absurd (omega arith)

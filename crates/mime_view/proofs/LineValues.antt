@@ -60,5 +60,6 @@ line_stated c at own numbers host content equals are reads given =
         ∙ ap₂ (λ (v m : List ℕ). equals_from (line_from n0 n1 n2 v (Some m)) host content n0 n1) value mask
         ∙ ap (λ (n : ℕ). equals_from (line_from n n1 n2 own.value (Some (bytes_of_mask own.mask))) host content n n1) start
         ∙ ap (λ (n : ℕ). equals_from (line_from own.start n n2 own.value (Some (bytes_of_mask own.mask))) host content own.start n) range
-        ∙ ap (λ (n : ℕ). equals_from (line_from own.start own.range n own.value (Some (bytes_of_mask own.mask))) host content own.start own.range) word
+        ∙ ap (λ (n : ℕ). equals_from (line_from own.start own.range n own.value (Some (bytes_of_mask own.mask)))
+        host content own.start own.range) word
         ∙ equals_from-mask own.start own.range own.word own.value own.mask host content own.start own.range

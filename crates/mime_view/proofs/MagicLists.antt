@@ -8,7 +8,8 @@ use Rattle.mime_base.specs.Cache.Bytes.{Stands, both_lie, field, fields, lies, o
 use Rattle.mime_base.specs.Format.Header.{HeaderAt, Offsets}
 use Rattle.mime_base.specs.Format.Magic.{IsSection, LinesAt, MagicAt, MaskAt, line_numbers, width}
 use Rattle.mime_base.specs.Format.Records.{CardsAt, RecordsAt}
-use Rattle.mime_base.specs.Magic.{Forest, PlainLine, PlainSection, are_allowed, are_allowed_sections, bare, fits_mask, fits_word, is_allowed, line}
+use Rattle.mime_base.specs.Magic.{Forest, PlainLine, PlainSection, are_allowed, are_allowed_sections}
+use Rattle.mime_base.specs.Magic.{bare, fits_mask, fits_word, is_allowed, line}
 use Rattle.mime_base.specs.Magic.Holds.{bytes_of_mask}
 use Rattle.mime_base.proofs.CacheLemmas.Standing.{Stands-inside, value_at-standing}
 use Rattle.mime_view.specs.Magic.{ReadsLines, ReadsMagic, ReadsSection, ReadsSections}
@@ -59,7 +60,8 @@ mask_fits own allowed =
     last (nat_lt (own.start + own.range + length own.value) 4294967296) (nat_lt (length own.value) 65536)
     (fits_word own.word (length own.value)) (fits_mask own.mask (length own.value)) allowed
 
-lines_read : (c : List ℕ) (at levels : ℕ) (lines : Forest) → are_allowed levels lines ≡ true → LinesAt (Stands c) at lines → ReadsLines c at lines
+lines_read : (c : List ℕ) (at levels : ℕ) (lines : Forest) → are_allowed levels lines ≡ true
+    → LinesAt (Stands c) at lines → ReadsLines c at lines
 lines_read c at levels bare allowed stand = stand
 lines_read c at zero (line own children rest) allowed stand = absurd (true≢false (sym allowed))
 lines_read c at (suc levels) (line own children rest) allowed (value, mask, first, here, is, bits, below, later) =
@@ -139,7 +141,8 @@ magic_reads c at sections allowed stand =
 
 -- the same by the number of the header that names the list, on bytes that are the cache's
 pub magic_named : (c d : List ℕ) (at : ℕ) (offsets : Offsets) (sections : List PlainSection) → d ≡ c → at ≡ field d 0 6
-    → HeaderAt (Stands c) offsets → are_allowed_sections sections ≡ true → MagicAt (Stands c) offsets.magic sections → ReadsMagic d at sections
+    → HeaderAt (Stands c) offsets → are_allowed_sections sections ≡ true → MagicAt (Stands c) offsets.magic sections
+    → ReadsMagic d at sections
 magic_named c d at offsets sections same number header allowed stand =
     let here : at ≡ offsets.magic = number ∙ ap (λ (bytes : List ℕ). field bytes 0 6) same ∙ magic_read c offsets header in
     let reads = subst (λ (n : ℕ). ReadsMagic c n sections) (sym here) (magic_reads c offsets.magic sections allowed stand) in

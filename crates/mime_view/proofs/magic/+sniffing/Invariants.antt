@@ -14,6 +14,7 @@ decreases-some_line_holds l = 2 * (64 - l.level) + 1
 abbrev pub invariant-some_line_holds-loop-i : goal.invariant-some_line_holds-loop-i
 invariant-some_line_holds-loop-i l = record {
   left : (lines : Forest) → width lines ≡ l.count → ReadsLines l.counted l.first lines
-      → Left l.counted l.first l.count l.content l.fn.host lines l.initial.budget.records l.initial.budget.value_bytes l.i l.budget.records l.budget.value_bytes;
+      → Left l.counted l.first l.count l.content l.fn.host lines
+      l.initial.budget.records l.initial.budget.value_bytes l.i l.budget.records l.budget.value_bytes;
   cost : Paid (length l.content) 0 0 l.initial.budget l.budget l.initial.meter l.meter;
 }
