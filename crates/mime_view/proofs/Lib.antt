@@ -9,4 +9,9 @@ mod ParentEntries
 mod Headers
 mod Subclasses
 mod ParentLists
+mod AllOf
+mod LineRows
+mod LineValues
+mod SectionRows
+mod MagicLists
 mod Spelled

@@ -3,3 +3,4 @@ pub mod Opening
 pub mod Lists
 pub mod Pairs
 pub mod Parents
+pub mod Magic

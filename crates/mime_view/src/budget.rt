@@ -40,4 +40,18 @@ impl Budget {
         self.records -= 1;
         Ok(())
     }
+
+    /// Takes so many value bytes.
+    pub(crate) fn take_value_bytes(&mut self, count: u64) -> Result<(), CacheFault>
+        ensures taken { OnOk result (self.new.value_bytes + count ≡ self.old.value_bytes) }
+        ensures spent { IfErr result (λ e. (e ≡ CacheFault.Spent) × (self.old.value_bytes < count)
+            × (self.new.value_bytes ≡ self.old.value_bytes)) }
+        ensures records { self.new.records ≡ self.old.records }
+    {
+        if self.value_bytes < count {
+            return Err(CacheFault::Spent);
+        }
+        self.value_bytes -= count;
+        Ok(())
+    }
 }

@@ -10,7 +10,11 @@ ghost use Rattle.mime_base.specs.Format.Magic.{MagicAt};
 ghost use Rattle.mime_base.specs.Format.Pairs.{PairsAt};
 ghost use Rattle.mime_base.specs.Format.Parents.{ParentsAt};
 ghost use Rattle.mime_base.specs.Meter.{raised};
-ghost use Rattle.mime_base.specs.Magic.{PlainSection};
+ghost use Rattle.mime_base.specs.Format.Packed.{matchlet_count, value_length};
+ghost use Rattle.mime_base.specs.Magic.{PlainSection, are_allowed_sections};
+ghost use Rattle.mime_base.specs.Magic.Holds.{first_magic};
+ghost use Rattle.mime_view.specs.Magic.{IsMagicFault, Paid, Takes, plain_found};
+ghost use Rattle.std.specs.Prelude.{IsOk};
 ghost use Rattle.mime_base.specs.Magic.Extent.{sections_extent};
 ghost use Rattle.mime_view.specs.Lists.{IsListFault, IsTextFault};
 ghost use Rattle.mime_view.specs.Pairs.{looked_up};
@@ -19,10 +23,11 @@ ghost use Rattle.mime_view.specs.Opening.{IsOpenFault, Opens};
 
 use crate::budget::Budget;
 use crate::fault::CacheFault;
+use crate::magic::sniff;
 use crate::marks::Marks;
 use crate::pairs::look_up_pair;
 use crate::parents::{Parents, parents_of};
-use mime_base::{Counted, Meter};
+use mime_base::{Counted, Host, Meter};
 use std::alloc::Global;
 use std::marker::Model;
 
@@ -226,6 +231,43 @@ impl<'a> Cache<'a> {
     {
         let at = u64::from(self.header[2]);
         parents_of(alloc, &self.counted, at, kind, marks, meter, budget)
+    }
+
+    /// The type and the priority of the first section of magic with a line of indent 0 that holds for a
+    /// content, where there is one ("The magic files").
+    ///
+    /// Each section and each line takes a record of the budget, and each line then as many value bytes as its
+    /// value has. It takes no memory.
+    ///
+    /// # Errors
+    ///
+    /// [`CacheFault::OutOfRange`] with the offset of the magic list, of sections, of lines, or of a value or a
+    /// mask that is compared, where not all of it lies in the cache; the fault of the section's type;
+    /// [`CacheFault::Spent`]; [`CacheFault::TooDeep`] where a line of the 64th level holds by itself and has
+    /// children.
+    pub fn sniff(
+        &self,
+        content: &[u8],
+        host: Host,
+        meter: &mut Meter,
+        budget: &mut Budget,
+    ) -> Result<Option<(&'a [u8], u32)>, CacheFault>
+        ensures answer { (offsets : Offsets) (sections : List PlainSection) → HeaderAt (Stands self.now) offsets →
+            are_allowed_sections sections ≡ true → MagicAt (Stands self.now) offsets.magic sections →
+            IfOk result (λ found. plain_found found ≡ first_magic sections content.now host) }
+        ensures text { IfOk result (λ found. IfSome found (λ pair. (at : ℕ) × (text_at self.now at ≡ Ok pair.0.now))) }
+        ensures need { (offsets : Offsets) (sections : List PlainSection) → HeaderAt (Stands self.now) offsets →
+            are_allowed_sections sections ≡ true → MagicAt (Stands self.now) offsets.magic sections →
+            length sections + matchlet_count sections ≤ budget.old.records →
+            value_length sections ≤ budget.old.value_bytes → IsOk result }
+        ensures fault { IfErr result (IsMagicFault self.now (field self.now 0 6) budget.new) }
+        ensures takes_at_most { (offsets : Offsets) (sections : List PlainSection) → HeaderAt (Stands self.now) offsets →
+            are_allowed_sections sections ≡ true → MagicAt (Stands self.now) offsets.magic sections →
+            Takes (length sections + matchlet_count sections) (value_length sections) budget.old budget.new }
+        ensures cost { Paid (length content.now) 256 1 budget.old budget.new meter.old meter.new }
+    {
+        let at = u64::from(self.header[6]);
+        sniff(&self.counted, at, content, host, meter, budget)
     }
 
     /// How much of a content the lines of magic can look at, as the cache states it, in bytes ("The

@@ -21,6 +21,7 @@ mod cache;
 mod entry;
 mod fault;
 mod list;
+mod magic;
 mod marks;
 mod pairs;
 mod parents;

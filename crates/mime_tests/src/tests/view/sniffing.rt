@@ -1,0 +1,89 @@
+//! Contents that are sniffed by the magic list of a cache.
+
+use crate::tests::sample::SAMPLE;
+use mime_base::{Counted, Host, Meter};
+use mime_view::{Budget, Cache, CacheFault};
+
+/// A cache whose one magic line has an empty value and names itself as its child.
+const SELF_CHILD: [u8; 112] = [
+    0x00, 0x01, 0x00, 0x02, 0x00, 0x00, 0x00, 0x28, 0x00, 0x00, 0x00, 0x28, 0x00, 0x00, 0x00, 0x28,
+    0x00, 0x00, 0x00, 0x28, 0x00, 0x00, 0x00, 0x28, 0x00, 0x00, 0x00, 0x30, 0x00, 0x00, 0x00, 0x28,
+    0x00, 0x00, 0x00, 0x28, 0x00, 0x00, 0x00, 0x28, 0x00, 0x00, 0x00, 0x00, 0x00, 0x00, 0x00, 0x00,
+    0x00, 0x00, 0x00, 0x01, 0x00, 0x00, 0x00, 0x80, 0x00, 0x00, 0x00, 0x3c, 0x00, 0x00, 0x00, 0x32,
+    0x00, 0x00, 0x00, 0x6c, 0x00, 0x00, 0x00, 0x01, 0x00, 0x00, 0x00, 0x4c, 0x00, 0x00, 0x00, 0x00,
+    0x00, 0x00, 0x00, 0x01, 0x00, 0x00, 0x00, 0x01, 0x00, 0x00, 0x00, 0x00, 0x00, 0x00, 0x00, 0x6c,
+    0x00, 0x00, 0x00, 0x00, 0x00, 0x00, 0x00, 0x01, 0x00, 0x00, 0x00, 0x4c, 0x61, 0x2f, 0x62, 0x00,
+];
+
+/// A content, and the type and the priority that the sample gives it.
+type Row = (&'static [u8], Option<(&'static [u8], u32)>);
+
+const ROWS: [Row; 5] = [
+    (&[0x1f, 0x8b], Some((b"t/g", 40))),
+    (&[0x1f, 0x8b, 8], Some((b"t/g", 40))),
+    (&[0, 0x1f, 0x8b], None),
+    (&[0x1f], None),
+    (&[], None),
+];
+
+#[test]
+fn contents_of_the_sample(rt: HostRuntime) -> Result<(), CacheFault> {
+    let mut meter = Meter::new();
+    let cache = Cache::open(Counted::new(&SAMPLE), &mut meter)?;
+    for (content, given) in ROWS {
+        let mut budget = Budget::of(&cache);
+        let found = cache.sniff(content, Host::Little, &mut meter, &mut budget)?;
+        assert_eq!(rt; found, given, "{content:?}");
+        // a section and a line, whose value has two bytes
+        assert_eq!(rt;
+            (budget.records, budget.value_bytes),
+            (58, 238),
+            "{content:?}"
+        );
+    }
+    Ok(())
+}
+
+/// The budget ends the descent, or the 64th level does: a section and 64 lines were taken then.
+#[test]
+fn a_line_that_is_its_own_child(rt: HostRuntime) -> Result<(), CacheFault> {
+    let mut meter = Meter::new();
+    let cache = Cache::open(Counted::new(&SELF_CHILD), &mut meter)?;
+    let mut budget = Budget::of(&cache);
+    let found = cache.sniff(b"x", Host::Little, &mut meter, &mut budget);
+    assert_eq!(rt; found.err(), Some(CacheFault::Spent));
+    assert_eq!(rt; budget.records, 0);
+    budget.records = 100;
+    let found = cache.sniff(b"x", Host::Big, &mut meter, &mut budget);
+    assert_eq!(rt; found.err(), Some(CacheFault::TooDeep));
+    assert_eq!(rt; (budget.records, budget.value_bytes), (35, 112));
+    Ok(())
+}
+
+/// Where four bytes of the sample are all ones, and the fault then.
+const DAMAGES: [(&str, usize, CacheFault); 6] = [
+    ("the offset of the list", 24, FAR),
+    ("the count of sections", 148, CacheFault::OutOfRange(160)),
+    ("the offset of the sections", 156, FAR),
+    ("the offset of the type", 164, FAR),
+    ("the offset of the lines", 172, FAR),
+    ("the offset of the value", 192, FAR),
+];
+
+const FAR: CacheFault = CacheFault::OutOfRange(4_294_967_295);
+
+#[test]
+fn damaged_magic(rt: HostRuntime) -> Result<(), CacheFault> {
+    for (name, at, fault) in DAMAGES {
+        let mut bytes = SAMPLE;
+        for byte in bytes.iter_mut().skip(at).take(4) {
+            *byte = 0xff;
+        }
+        let mut meter = Meter::new();
+        let cache = Cache::open(Counted::new(&bytes), &mut meter)?;
+        let mut budget = Budget::of(&cache);
+        let found = cache.sniff(&[0x1f, 0x8b], Host::Big, &mut meter, &mut budget);
+        assert_eq!(rt; found.err(), Some(fault), "{name}");
+    }
+    Ok(())
+}

@@ -1,0 +1,65 @@
+-- The value of a line as its record states it.
+use Rattle.std.proofs.Common.{◌≡◌, ℕ, ◌+◌, ◌≤◌, ◌||◌, ◌==◌, Bool, true, false, List, length, get_or, drop}
+use Rattle.std.proofs.Common.{Some, refl, ap, ap₂, ◌∙◌, arith, length-drop}
+use Rattle.std.specs.Prelude.{nat_le}
+use Rattle.std.proofs.lemmas.Bool.{eqb-true, leb-true}
+use Rattle.std.proofs.lemmas.List.{length-take-le}
+use Rattle.mime_base.specs.Cache.Bytes.{both_lie, field, fields, lies, optional_mask, value_at}
+use Rattle.mime_base.specs.Magic.{PlainLine, line_from}
+use Rattle.mime_base.specs.Magic.Holds.{bytes_of_mask, equals_from}
+use Rattle.mime_base.specs.declared.magic.host.Host.{Host}
+use Rattle.mime_base.proofs.MagicLemmas.HoldingLines.{equals_from-mask}
+use Rattle.mime_view.specs.Magic.{ReadsLine}
+use Rattle.mime_view.proofs.AllOf.{both_left}
+
+-- bytes that lie in the cache are as many as were asked for
+length-lying : (c : List ℕ) (at size : ℕ) → lies c at size ≡ true → length (value_at c at size) ≡ size
+length-lying c at size lie = by_size (size == 0) refl lie
+  where
+    by_size : (none : Bool) → (size == 0) ≡ none → (none || nat_le (at + size) (length c)) ≡ true → length (value_at c at size) ≡ size
+    by_size true e lie = let zero : size ≡ 0 = eqb-true size 0 e in rw zero refl
+    by_size false e lie =
+        let inside : at + size ≤ length c = leb-true (at + size) (length c) lie in
+        length-take-le size (drop at c) (omega (arith, length-drop at c))
+
+pub length-value : (c : List ℕ) (at mask size : ℕ) → both_lie c at mask size ≡ true → length (value_at c at size) ≡ size
+length-value c at mask size lie = length-lying c at size (both_left (lies c at size) (mask == 0 || lies c mask size) lie)
+
+-- the line that a record states
+abbrev pub stated : List ℕ → ℕ → ℕ → ℕ → ℕ → ℕ → ℕ → PlainLine
+stated c start range word size at mask = line_from start range word (value_at c at size) (Some (optional_mask c mask size))
+
+-- what the numbers of a line's record state is the line
+pub line_stated : (c : List ℕ) (at : ℕ) (own : PlainLine) (numbers : List ℕ) (host : Host) (content : List ℕ) (equals : Bool)
+    → numbers ≡ fields c at 8 → ReadsLine c at own
+    → (both_lie c (get_or numbers 4 0) (get_or numbers 5 0) (get_or numbers 3 0) ≡ true
+    → equals ≡ equals_from (stated c (get_or numbers 0 0) (get_or numbers 1 0) (get_or numbers 2 0) (get_or numbers 3 0)
+    (get_or numbers 4 0) (get_or numbers 5 0)) host content (get_or numbers 0 0) (get_or numbers 1 0))
+    → equals ≡ equals_from own host content own.start own.range
+line_stated c at own numbers host content equals are reads given =
+    let number : (i : ℕ) → get_or numbers i 0 ≡ get_or (fields c at 8) i 0 = λ i. ap (λ (ns : List ℕ). get_or ns i 0) are in
+    let start : get_or numbers 0 0 ≡ own.start = number 0 ∙ reads.start in
+    let range : get_or numbers 1 0 ≡ own.range = number 1 ∙ reads.range in
+    let word : get_or numbers 2 0 ≡ own.word = number 2 ∙ reads.word in
+    let size : get_or numbers 3 0 ≡ length own.value = number 3 ∙ reads.size in
+    let value_place : get_or numbers 4 0 ≡ field c at 4 = number 4 in
+    let mask_place : get_or numbers 5 0 ≡ field c at 5 = number 5 in
+    by_numbers (get_or numbers 0 0) (get_or numbers 1 0) (get_or numbers 2 0) (get_or numbers 3 0) (get_or numbers 4 0) (get_or numbers 5 0)
+    start range word size value_place mask_place given
+  where
+    by_numbers : (n0 n1 n2 n3 n4 n5 : ℕ) → n0 ≡ own.start → n1 ≡ own.range → n2 ≡ own.word → n3 ≡ length own.value
+        → n4 ≡ field c at 4 → n5 ≡ field c at 5
+        → (both_lie c n4 n5 n3 ≡ true → equals ≡ equals_from (stated c n0 n1 n2 n3 n4 n5) host content n0 n1)
+        → equals ≡ equals_from own host content own.start own.range
+    by_numbers n0 n1 n2 n3 n4 n5 start range word size value_place mask_place given =
+        let lie : both_lie c n4 n5 n3 ≡ true =
+        ap (both_lie c n4 n5) size ∙ ap₂ (λ (a m : ℕ). both_lie c a m (length own.value)) value_place mask_place ∙ reads.lies in
+        let value : value_at c n4 n3 ≡ own.value = ap₂ (value_at c) value_place size ∙ reads.value in
+        let mask : optional_mask c n5 n3 ≡ bytes_of_mask own.mask = ap₂ (optional_mask c) mask_place size ∙ reads.mask in
+        given lie
+        ∙ ap₂ (λ (v m : List ℕ). equals_from (line_from n0 n1 n2 v (Some m)) host content n0 n1) value mask
+        ∙ ap (λ (n : ℕ). equals_from (line_from n n1 n2 own.value (Some (bytes_of_mask own.mask))) host content n n1) start
+        ∙ ap (λ (n : ℕ). equals_from (line_from own.start n n2 own.value (Some (bytes_of_mask own.mask))) host content own.start n) range
+        ∙ ap (λ (n : ℕ). equals_from (line_from own.start own.range n own.value (Some (bytes_of_mask own.mask)))
+        host content own.start own.range) word
+        ∙ equals_from-mask own.start own.range own.word own.value own.mask host content own.start own.range

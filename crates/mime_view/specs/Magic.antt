@@ -1,0 +1,121 @@
+-- The magic list as it is read, what a search of it takes, and why it gives no answer.
+use Rattle.std.specs.Prelude.{◌≡◌, ◌⊎◌, ℕ, ◌+◌, ◌*◌, ◌<◌, ◌≤◌, true, false, if◌then◌else◌, List, [], ◌∷◌, length, Ok, Option, None, Some}
+use Rattle.std.specs.Borrow.{Bor}
+use Rattle.mime_base.specs.Cache.Bytes.{both_lie, field, lies, optional_mask, value_at}
+use Rattle.mime_base.specs.Cache.Texts.{text_at}
+use Rattle.mime_base.specs.Format.Magic.{width}
+use Rattle.mime_base.specs.Magic.{Forest, PlainLine, PlainSection, bare, line}
+use Rattle.mime_base.specs.Magic.Holds.{bytes_of_mask}
+use Rattle.mime_base.specs.Meter.{raised}
+use Rattle.mime_base.specs.declared.meter.Meter.{Meter}
+use Rattle.mime_view.specs.Lists.{IsTextFault}
+use Rattle.mime_view.specs.declared.budget.Budget.{Budget}
+use Rattle.mime_view.specs.declared.fault.CacheFault.{CacheFault}
+use Rattle.mime_view.specs.declared.fault.CacheFault.TheVariants.{OutOfRange, Spent, TooDeep}
+
+-- so many records of a size lie in the cache; no records lie anywhere
+pub record LiesBlock (c : List ℕ) (first size count : ℕ) : Type 0 where
+  pub inside : 0 < count → first + size * count ≤ length c
+
+-- the record at `at` is that of a line without its children
+pub record ReadsLine (c : List ℕ) (at : ℕ) (own : PlainLine) : Type 0 where
+  pub start : field c at 0 ≡ own.start
+  pub range : field c at 1 ≡ own.range
+  pub word : field c at 2 ≡ own.word
+  pub size : field c at 3 ≡ length own.value
+  pub lies : both_lie c (field c at 4) (field c at 5) (length own.value) ≡ true
+  pub value : value_at c (field c at 4) (length own.value) ≡ own.value
+  pub mask : optional_mask c (field c at 5) (length own.value) ≡ bytes_of_mask own.mask
+
+-- lines are read one after another, and the children of each
+abbrev pub ReadsLines : List ℕ → ℕ → Forest → Type 0
+ReadsLines c at bare = Unit {0}
+ReadsLines c at (line own children rest) =
+    ReadsLine c at own × (field c at 6 ≡ width children) × LiesBlock c (field c at 7) 32 (width children)
+    × ReadsLines c (field c at 7) children × ReadsLines c (at + 32) rest
+
+-- a line and its children
+pub record ReadsParent (c : List ℕ) (at : ℕ) (own : PlainLine) (children : Forest) : Type 0 where
+  pub own_line : ReadsLine c at own
+  pub count : field c at 6 ≡ width children
+  pub block : LiesBlock c (field c at 7) 32 (width children)
+  pub below : ReadsLines c (field c at 7) children
+
+-- a section with its lines
+pub record ReadsSection (c : List ℕ) (at : ℕ) (section : PlainSection) : Type 0 where
+  pub priority : field c at 0 ≡ section.priority
+  pub kind : text_at c (field c at 1) ≡ Ok section.kind
+  pub count : field c at 2 ≡ width section.lines
+  pub block : LiesBlock c (field c at 3) 32 (width section.lines)
+  pub lines : ReadsLines c (field c at 3) section.lines
+
+-- sections are read one after another
+abbrev pub ReadsSections : List ℕ → ℕ → List PlainSection → Type 0
+ReadsSections c at [] = Unit {0}
+ReadsSections c at (section ∷ sections) = ReadsSection c at section × ReadsSections c (at + 16) sections
+
+-- the magic list at `at` is of these sections
+pub record ReadsMagic (c : List ℕ) (at : ℕ) (sections : List PlainSection) : Type 0 where
+  pub head : at + 12 ≤ length c
+  pub count : field c at 0 ≡ length sections
+  pub block : LiesBlock c (field c at 2) 16 (length sections)
+  pub sections_read : ReadsSections c (field c at 2) sections
+
+-- What a search of magic costs, for a content of so many bytes: each record adds one node and at most so many bytes of
+-- texts, each value byte at most one byte more than the content has, and so many nodes come besides.
+pub record Paid (content texts more : ℕ) (old new : Budget) (before after : Meter) : Type 0 where
+  pub records : new.records ≤ old.records
+  pub value_bytes : new.value_bytes ≤ old.value_bytes
+  pub rises : before.nodes ≤ after.nodes
+  pub nodes : after.nodes + new.records ≤ before.nodes + old.records + more
+  pub fair : raised before.nodes old.records ≤ after.nodes + new.records
+  pub bytes_rise : before.bytes ≤ after.bytes
+  pub bytes : after.bytes + (content + 1) * new.value_bytes + texts * new.records
+      ≤ before.bytes + (content + 1) * old.value_bytes + texts * old.records
+
+-- at most so many records and value bytes are taken
+pub record Takes (records value_bytes : ℕ) (old new : Budget) : Type 0 where
+  pub most_records : old.records ≤ new.records + records
+  pub most_value_bytes : old.value_bytes ≤ new.value_bytes + value_bytes
+
+-- a type and a priority that were found, as plain values
+abbrev pub plain_found : Option (Bor (List ℕ) × ℕ) → Option (List ℕ × ℕ)
+plain_found None = None
+plain_found (Some found) = Some (found.0.now, found.1)
+
+-- the records that a record names do not lie in the cache
+pub record IsBlockFault (c : List ℕ) (first size count : ℕ) (e : CacheFault) : Type 0 where
+  pub some : 0 < count
+  pub outside : length c < first + size * count
+  pub is : e ≡ OutOfRange first
+
+-- the value of a line, or its mask, does not lie in the cache
+pub record IsValueFault (c : List ℕ) (r : ℕ) (e : CacheFault) : Type 0 where
+  pub outside : both_lie c (field c r 4) (field c r 5) (field c r 3) ≡ false
+  pub is : e ≡ OutOfRange (if lies c (field c r 4) (field c r 3) then field c r 5 else field c r 4)
+
+-- no record is left, or fewer value bytes than a line states
+abbrev pub IsLineSpent : List ℕ → ℕ → Budget → CacheFault → Type 0
+IsLineSpent c r after e = (e ≡ Spent) × ((after.records ≡ 0) ⊎ (after.value_bytes < field c r 3))
+
+-- why a line gives no answer: its value, its children, what is left, or that it has children on the last level
+abbrev pub IsLineFault : List ℕ → ℕ → Budget → CacheFault → Type 0
+IsLineFault c r after e =
+    IsValueFault c r e ⊎ IsBlockFault c (field c r 7) 32 (field c r 6) e ⊎ IsLineSpent c r after e
+    ⊎ (e ≡ TooDeep) × (0 < field c r 6)
+
+-- some line gives no answer
+abbrev pub IsLinesFault : List ℕ → Budget → CacheFault → Type 0
+IsLinesFault c after e = (r : ℕ) × IsLineFault c r after e
+
+-- some section gives no answer: its lines, what is left, or its type
+abbrev pub IsSectionFault : List ℕ → Budget → CacheFault → Type 0
+IsSectionFault c after e =
+    ((r : ℕ) × IsBlockFault c (field c r 3) 32 (field c r 2) e) ⊎ ((e ≡ Spent) × (after.records ≡ 0))
+    ⊎ IsLinesFault c after e ⊎ IsTextFault c e
+
+-- the magic list at `at`, or some section, gives no answer
+abbrev pub IsMagicFault : List ℕ → ℕ → Budget → CacheFault → Type 0
+IsMagicFault c at after e =
+    ((length c < at + 12) × (e ≡ OutOfRange at)) ⊎ IsBlockFault c (field c at 2) 16 (field c at 0) e
+    ⊎ IsSectionFault c after e

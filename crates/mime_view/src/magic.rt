@@ -1,0 +1,290 @@
+//! The magic list: sections, and lines with their children ("The mime.cache files").
+
+ghost use Rattle.std.specs.Prelude.{◌≡◌, ℕ, ◌+◌, ◌*◌, ◌^◌, ◌<◌, ◌≤◌, true, false, List, Some, None};
+ghost use Rattle.std.specs.Prelude.{length, if◌then◌else◌, IfOk, IfErr, IfSome, IsOk, IsOkAnd, Ok, OnOk};
+ghost use Rattle.mime_base.specs.Cache.Bytes.{both_lie, field, lies, optional_mask, value_at};
+ghost use Rattle.mime_base.specs.Cache.Texts.{text_at};
+ghost use Rattle.mime_base.specs.Format.Magic.{line_count, width};
+ghost use Rattle.mime_base.specs.Format.Packed.{forest_value_length, matchlet_count, value_length};
+ghost use Rattle.mime_base.specs.Magic.{Forest, PlainLine, PlainSection, are_allowed, are_allowed_sections, bare, line, line_from};
+ghost use Rattle.mime_base.specs.Magic.Holds.{equals_from, first_magic, some_holds};
+ghost use Rattle.mime_view.specs.Magic.{IsBlockFault, IsLineFault, IsLinesFault, IsMagicFault, IsSectionFault, LiesBlock, plain_found};
+ghost use Rattle.mime_view.specs.Magic.{Paid, ReadsLine, ReadsLines, ReadsMagic, ReadsParent, ReadsSection, Takes};
+
+use crate::budget::Budget;
+use crate::fault::CacheFault;
+use mime_base::{Counted, Host, Meter};
+
+/// The last level on which a line stands, counted from 0.
+const LAST_LEVEL: u32 = 63;
+
+/// A value with its mask, as the record of a line states them.
+#[derive(Clone, Copy)]
+struct Value {
+    at: u32,
+    mask: u32,
+    size: u32,
+    word: u32,
+}
+
+/// Whether the window at one of `range` offsets from `start` on equals a value.
+fn equals_in_range(
+    counted: &Counted<'_>,
+    value: Value,
+    start: u32,
+    range: u32,
+    content: &[u8],
+    host: Host,
+    meter: &mut Meter,
+) -> Result<bool, CacheFault>
+    ensures answer { both_lie counted.now value.at value.mask value.size ≡ true → IsOkAnd result (λ equal.
+        equal ≡ equals_from (line_from start range value.word (value_at counted.now value.at value.size)
+        (Some (optional_mask counted.now value.mask value.size))) host content.now start range) }
+    ensures fault { IfErr result (λ e. (both_lie counted.now value.at value.mask value.size ≡ false)
+        × (e ≡ CacheFault.OutOfRange (if lies counted.now value.at value.size then value.mask else value.at))) }
+    ensures nodes { meter.new.nodes ≡ meter.old.nodes }
+    ensures bytes_rise { meter.old.bytes ≤ meter.new.bytes }
+    ensures bytes { meter.new.bytes ≤ meter.old.bytes + (length content.now + 1) * value.size }
+{
+    let Value {
+        at,
+        mask,
+        size,
+        word,
+    } = value;
+    let (start, range, wide) = (u64::from(start), u64::from(range), u64::from(size));
+    let length = content.len() as u64;
+    if length < wide {
+        return Ok(false);
+    }
+    let places = length - wide + 1;
+    for place in start..places.min(start + range) {
+        let window = &content[place as usize..(place + wide) as usize];
+        if counted.value_equals(
+            u64::from(at),
+            u64::from(mask),
+            size,
+            word,
+            window,
+            host,
+            meter,
+        )? {
+            return Ok(true);
+        }
+    }
+    Ok(false)
+}
+
+/// Whether a line by itself holds, and where its children stand.
+#[derive(Clone, Copy)]
+struct Seen {
+    equals: bool,
+    count: u64,
+    first: u64,
+}
+
+/// Takes the record and the value of the line at `at`, and compares the value.
+fn see_line(
+    counted: &Counted<'_>,
+    at: u64,
+    content: &[u8],
+    host: Host,
+    meter: &mut Meter,
+    budget: &mut Budget,
+) -> Result<Seen, CacheFault>
+    requires inside { at + 32 ≤ length counted.now }
+    ensures count { IfOk result (λ seen. (seen.count ≡ field counted.now at 6) × (seen.count < 2 ^ 32)) }
+    ensures first { IfOk result (λ seen. (seen.first ≡ field counted.now at 7) × (seen.first < 2 ^ 32)) }
+    ensures answer { (own : PlainLine) → ReadsLine counted.now at own →
+        IfOk result (λ seen. seen.equals ≡ equals_from own host content.now own.start own.range) }
+    ensures need { (own : PlainLine) → ReadsLine counted.now at own → 1 ≤ budget.old.records →
+        length own.value ≤ budget.old.value_bytes → IsOk result }
+    ensures takes { (own : PlainLine) → ReadsLine counted.now at own → Takes 1 (length own.value) budget.old budget.new }
+    ensures fault { IfErr result (IsLineFault counted.now at budget.new) }
+    ensures cost { Paid (length content.now) 0 0 budget.old budget.new meter.old meter.new }
+{
+    budget.take_record()?;
+    let [start, range, word, size, at, mask, count, first] = counted.cards::<8>(at, meter)?;
+    budget.take_value_bytes(u64::from(size))?;
+    let value = Value {
+        at,
+        mask,
+        size,
+        word,
+    };
+    let equals = equals_in_range(counted, value, start, range, content, host, meter)?;
+    Ok(Seen {
+        equals,
+        count: u64::from(count),
+        first: u64::from(first),
+    })
+}
+
+/// Whether one of the `count` lines from `first` on holds, with its children.
+#[cycle(sniffing)]
+fn some_line_holds(
+    counted: &Counted<'_>,
+    first: u64,
+    count: u64,
+    level: u32,
+    content: &[u8],
+    host: Host,
+    meter: &mut Meter,
+    budget: &mut Budget,
+) -> Result<bool, CacheFault>
+    requires level { level ≤ 63 }
+    requires limit { length counted.now ≤ 2 ^ 28 }
+    requires fits { LiesBlock counted.now first 32 count }
+    ensures answer { (lines : Forest) → width lines ≡ count → ReadsLines counted.now first lines →
+        IfOk result (λ holds. holds ≡ some_holds lines content.now host) }
+    ensures need { (lines : Forest) (levels : ℕ) → width lines ≡ count → ReadsLines counted.now first lines →
+        levels + level ≡ 64 → are_allowed levels lines ≡ true → line_count lines ≤ budget.old.records →
+        forest_value_length lines ≤ budget.old.value_bytes → IsOk result }
+    ensures takes { (lines : Forest) → width lines ≡ count → ReadsLines counted.now first lines →
+        Takes (line_count lines) (forest_value_length lines) budget.old budget.new }
+    ensures fault { IfErr result (IsLinesFault counted.now budget.new) }
+    ensures cost { Paid (length content.now) 0 0 budget.old budget.new meter.old meter.new }
+{
+    for i in 0..count {
+        let at = first + 32 * i;
+        if line_holds(counted, at, level, content, host, meter, budget)? {
+            return Ok(true);
+        }
+    }
+    Ok(false)
+}
+
+/// Whether the line at `at` holds, with its children.
+#[cycle(sniffing)]
+fn line_holds(
+    counted: &Counted<'_>,
+    at: u64,
+    level: u32,
+    content: &[u8],
+    host: Host,
+    meter: &mut Meter,
+    budget: &mut Budget,
+) -> Result<bool, CacheFault>
+    requires level { level ≤ 63 }
+    requires limit { length counted.now ≤ 2 ^ 28 }
+    requires inside { at + 32 ≤ length counted.now }
+    ensures answer { (own : PlainLine) (children : Forest) → ReadsParent counted.now at own children →
+        IfOk result (λ holds. holds ≡ some_holds (line own children bare) content.now host) }
+    ensures need { (own : PlainLine) (children : Forest) (levels : ℕ) → ReadsParent counted.now at own children →
+        levels + 1 + level ≡ 64 → are_allowed levels children ≡ true → 1 + line_count children ≤ budget.old.records →
+        length own.value + forest_value_length children ≤ budget.old.value_bytes → IsOk result }
+    ensures takes { (own : PlainLine) (children : Forest) → ReadsParent counted.now at own children →
+        Takes (1 + line_count children) (length own.value + forest_value_length children) budget.old budget.new }
+    ensures fault { IfErr result (IsLinesFault counted.now budget.new) }
+    ensures cost { Paid (length content.now) 0 0 budget.old budget.new meter.old meter.new }
+{
+    let Seen {
+        equals,
+        count,
+        first,
+    } = see_line(counted, at, content, host, meter, budget)?;
+    if !equals {
+        return Ok(false);
+    }
+    if count == 0 {
+        return Ok(true);
+    }
+    if level == LAST_LEVEL {
+        return Err(CacheFault::TooDeep);
+    }
+    check_block(counted, first, 32, count)?;
+    some_line_holds(
+        counted,
+        first,
+        count,
+        level + 1,
+        content,
+        host,
+        meter,
+        budget,
+    )
+}
+
+/// The type and the priority of the section at `at`, if one of its lines holds.
+fn take_section<'a>(
+    counted: &Counted<'a>,
+    at: u64,
+    content: &[u8],
+    host: Host,
+    meter: &mut Meter,
+    budget: &mut Budget,
+) -> Result<Option<(&'a [u8], u32)>, CacheFault>
+    requires limit { length counted.now ≤ 2 ^ 28 }
+    requires inside { at + 16 ≤ length counted.now }
+    ensures answer { (section : PlainSection) → ReadsSection counted.now at section → IfOk result (λ found.
+        plain_found found
+        ≡ (if some_holds section.lines content.now host then Some (section.kind, section.priority) else None)) }
+    ensures need { (section : PlainSection) → ReadsSection counted.now at section → are_allowed 64 section.lines ≡ true →
+        1 + line_count section.lines ≤ budget.old.records →
+        forest_value_length section.lines ≤ budget.old.value_bytes → IsOk result }
+    ensures takes { (section : PlainSection) → ReadsSection counted.now at section →
+        Takes (1 + line_count section.lines) (forest_value_length section.lines) budget.old budget.new }
+    ensures text { IfOk result (λ found. IfSome found (λ pair. (place : ℕ) × (text_at counted.now place ≡ Ok pair.0.now))) }
+    ensures fault { IfErr result (IsSectionFault counted.now budget.new) }
+    ensures cost { Paid (length content.now) 256 0 budget.old budget.new meter.old meter.new }
+{
+    budget.take_record()?;
+    let [priority, kind, count, first] = counted.cards::<4>(at, meter)?;
+    let count = u64::from(count);
+    let first = u64::from(first);
+    check_block(counted, first, 32, count)?;
+    if !some_line_holds(counted, first, count, 0, content, host, meter, budget)? {
+        return Ok(None);
+    }
+    let text = counted.text_at(u64::from(kind), meter)?;
+    Ok(Some((text, priority)))
+}
+
+/// The type and the priority of the first section with a top line that holds, by the magic list at `at`.
+pub fn sniff<'a>(
+    counted: &Counted<'a>,
+    at: u64,
+    content: &[u8],
+    host: Host,
+    meter: &mut Meter,
+    budget: &mut Budget,
+) -> Result<Option<(&'a [u8], u32)>, CacheFault>
+    requires at { at < 2 ^ 32 }
+    requires limit { length counted.now ≤ 2 ^ 28 }
+    ensures answer { (sections : List PlainSection) → ReadsMagic counted.now at sections → IfOk result (λ found.
+        plain_found found ≡ first_magic sections content.now host) }
+    ensures need { (sections : List PlainSection) → ReadsMagic counted.now at sections →
+        are_allowed_sections sections ≡ true → length sections + matchlet_count sections ≤ budget.old.records →
+        value_length sections ≤ budget.old.value_bytes → IsOk result }
+    ensures takes { (sections : List PlainSection) → ReadsMagic counted.now at sections →
+        Takes (length sections + matchlet_count sections) (value_length sections) budget.old budget.new }
+    ensures text { IfOk result (λ found. IfSome found (λ pair. (place : ℕ) × (text_at counted.now place ≡ Ok pair.0.now))) }
+    ensures fault { IfErr result (IsMagicFault counted.now at budget.new) }
+    ensures cost { Paid (length content.now) 256 1 budget.old budget.new meter.old meter.new }
+{
+    let [count, _, first] = counted.cards::<3>(at, meter)?;
+    let count = u64::from(count);
+    let first = u64::from(first);
+    check_block(counted, first, 16, count)?;
+    for i in 0..count {
+        match take_section(counted, first + 16 * i, content, host, meter, budget)? {
+            Some(found) => return Ok(Some(found)),
+            None => {}
+        }
+    }
+    Ok(None)
+}
+
+/// Refuses records that don't lie in the cache. No records lie anywhere.
+fn check_block(counted: &Counted<'_>, first: u64, size: u64, count: u64) -> Result<(), CacheFault>
+    requires first { first < 2 ^ 32 }
+    requires count { count < 2 ^ 32 }
+    requires size { size ≤ 32 }
+    ensures lies { OnOk result (LiesBlock counted.now first size count) }
+    ensures fault { IfErr result (IsBlockFault counted.now first size count) }
+{
+    if count > 0 && counted.length() < first + size * count {
+        return Err(CacheFault::OutOfRange(first));
+    }
+    Ok(())
+}
