@@ -28,9 +28,10 @@ use std::convert::AsStr;
 /// Runs the program on the words after its name, and gives the exit status.
 ///
 /// The status is 0 where every file was answered or help was shown, 1 where some file can't be opened
-/// or read or has a name that is too long, 2 where the words are wrong, 3 where the data can't be
-/// read or are refused or `out` fails, and 4 where memory ran out. Messages go to `err`, a line each; its faults are passed over, unless memory ran
-/// out. Lines that were printed before a stop stay, and are flushed.
+/// or read or has a name that is too long, 2 where the words are wrong, 3 where the data can't be read
+/// or are refused or `out` fails, and 4 where memory ran out. Messages go to `err`, a line each; its
+/// faults are passed over, unless memory ran out. Lines that were printed before a stop stay, and are
+/// flushed.
 pub fn run<F: Files, O: Sink, E: Sink, S: AsStr>(
     alloc: Global,
     words: &[S],

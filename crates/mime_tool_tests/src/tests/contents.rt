@@ -22,174 +22,259 @@ const ZERO_AT_127: &[u8] = b"aaaaaaaaaaaaaaaaaaaaaaaaaaaaaaaaaaaaaaaaaaaaaaaaaaa
 const ZERO_AT_128: &[u8] = b"aaaaaaaaaaaaaaaaaaaaaaaaaaaaaaaaaaaaaaaaaaaaaaaaaaaaaaaaaaaaaaaa\
     aaaaaaaaaaaaaaaaaaaaaaaaaaaaaaaaaaaaaaaaaaaaaaaaaaaaaaaaaaaaaaaa\0";
 
-const HELLO: Entry<'static> = Entry::Bytes(b"hello");
+const NOTES: &[u8] = b"50:application/msword:*.doc\n50:text/x-notes:*.doc\n";
 
-const NOTES: (&str, Entry<'static>) = (
-    "/s/mime/globs2",
-    Entry::Bytes(b"50:application/msword:*.doc\n50:text/x-notes:*.doc\n"),
-);
+const GLOBS: &[u8] = b"50:t/a:*.a\n";
 
-const A: (&str, Entry<'static>) = ("/s/mime/globs2", Entry::Bytes(b"50:t/a:*.a\n"));
+const HIGH: &[u8] = b"MIME-Magic\0\n[80:image/x-sig]\n>0=\0\x03SIG\n";
 
-const HIGH: (&str, Entry<'static>) = (
-    "/s/mime/magic",
-    Entry::Bytes(b"MIME-Magic\0\n[80:image/x-sig]\n>0=\0\x03SIG\n"),
-);
+const LOW: &[u8] = b"MIME-Magic\0\n[79:image/x-sig]\n>0=\0\x03SIG\n";
 
-const LOW: (&str, Entry<'static>) = (
-    "/s/mime/magic",
-    Entry::Bytes(b"MIME-Magic\0\n[79:image/x-sig]\n>0=\0\x03SIG\n"),
-);
+const SIGNED: &[u8] = b"SIG and more";
 
-const SIGNED: Entry<'static> = Entry::Bytes(b"SIG and more");
-
-const TYPED: [Row<'static>; 9] = [
-    Row {
-        name: "no rules",
-        words: &["plain", "-d", "", "e", "t", "b", "l"],
-        entries: &[
-            ("e", Entry::Bytes(b"")),
-            ("t", Entry::Bytes(b"hi\n")),
-            ("b", Entry::Bytes(ZERO_AT_127)),
-            ("l", Entry::Bytes(ZERO_AT_128)),
-        ],
-        status: 0,
-        out: "e: application/x-zerosize\nt: text/plain\n\
-            b: application/octet-stream\nl: text/plain\n",
-        err: "",
-    },
-    Row {
-        name: "content decides among kept rules",
-        words: &["plain", "-d", "/s", "x/a.doc"],
-        entries: &[NOTES, ("x/a.doc", HELLO)],
-        status: 0,
-        out: "x/a.doc: text/x-notes\n",
-        err: "",
-    },
-    Row {
-        name: "the name alone decides among them",
-        words: &["plain", "-d", "/s", "--name-only", "x/a.doc"],
-        entries: &[NOTES, ("x/a.doc", HELLO)],
-        status: 0,
-        out: "x/a.doc: application/msword\n",
-        err: "",
-    },
-    Row {
-        name: "globs before magic",
-        words: &["plain", "-d", "/s", "x.a", "x"],
-        entries: &[A, HIGH, ("x.a", SIGNED), ("x", SIGNED)],
-        status: 0,
-        out: "x.a: t/a\nx: image/x-sig\n",
-        err: "",
-    },
-    Row {
-        name: "magic of high priority before globs",
-        words: &["plain", "-d", "/s", "--magic-first", "x.a", "y.a"],
-        entries: &[A, HIGH, ("x.a", SIGNED), ("y.a", HELLO)],
-        status: 0,
-        out: "x.a: image/x-sig\ny.a: t/a\n",
-        err: "",
-    },
-    Row {
-        name: "globs before magic of low priority",
-        words: &["plain", "-d", "/s", "--magic-first", "x.a"],
-        entries: &[A, LOW, ("x.a", SIGNED)],
-        status: 0,
-        out: "x.a: t/a\n",
-        err: "",
-    },
-    Row {
-        name: "nothing is opened for names alone",
-        words: &[
-            "plain",
-            "-d",
-            "/s",
-            "--name-only",
-            "--magic-first",
-            "x.a",
-            "y.a",
-            "z",
-        ],
-        entries: &[A, HIGH, ("x.a", SIGNED), ("y.a", Entry::Closed)],
-        status: 0,
-        out: "x.a: t/a\ny.a: t/a\nz: application/octet-stream\n",
-        err: "",
-    },
-    Row {
-        name: "the first of several directories is preferred",
-        words: &["plain", "-d", "/s:/u", "--name-only", "x.a", "x.b"],
-        entries: &[
-            A,
-            ("/u/mime/globs2", Entry::Bytes(b"50:t/b:*.b\n50:t/c:*.a\n")),
-        ],
-        status: 0,
-        out: "x.a: t/a\nx.b: t/b\n",
-        err: "",
-    },
-    Row {
-        name: "a type that the first directory hides",
-        words: &["plain", "-d", "/s:/u", "--name-only", "x.b"],
-        entries: &[
-            ("/s/mime/globs2", Entry::Bytes(b"0:t/b:__NOGLOBS__\n")),
-            ("/u/mime/globs2", Entry::Bytes(b"50:t/b:*.b\n")),
-        ],
-        status: 0,
-        out: "x.b: application/octet-stream\n",
-        err: "",
-    },
-];
-
-const REFUSED: [Row<'static>; 5] = [
-    Row {
-        name: "a FILE that can't be opened",
-        words: &["plain", "-d", "/s", "x.a", "y.a", "z"],
-        entries: &[A, ("x.a", HELLO), ("y.a", Entry::Closed), ("z", HELLO)],
-        status: 1,
-        out: "x.a: t/a\nz: text/plain\n",
-        err: "mimelook: y.a: cannot open\n",
-    },
-    Row {
-        name: "a FILE that isn't there",
-        words: &["plain", "-d", "/s", "x.a", "y.a", "z"],
-        entries: &[A, ("x.a", HELLO), ("z", HELLO)],
-        status: 1,
-        out: "x.a: t/a\nz: text/plain\n",
-        err: "mimelook: y.a: cannot open\n",
-    },
-    Row {
-        name: "a directory, by globs alone",
-        words: &["plain", "-d", "/s", "d.a"],
-        entries: &[A, ("d.a", Entry::Unreadable)],
-        status: 0,
-        out: "d.a: t/a\n",
-        err: "",
-    },
-    Row {
-        name: "a directory of which content is wanted",
-        words: &["plain", "-d", "/s", "d", "x.a", "a.doc"],
-        entries: &[
-            NOTES,
-            ("d", Entry::Unreadable),
-            ("x.a", HELLO),
-            ("a.doc", Entry::Unreadable),
-        ],
-        status: 1,
-        out: "x.a: text/plain\n",
-        err: "mimelook: d: cannot read\nmimelook: a.doc: cannot read\n",
-    },
-    Row {
-        name: "a directory of which magic is wanted first",
-        words: &["plain", "-d", "/s", "--magic-first", "d.a", "x.a"],
-        entries: &[A, ("d.a", Entry::Unreadable), ("x.a", HELLO)],
-        status: 1,
-        out: "x.a: t/a\n",
-        err: "mimelook: d.a: cannot read\n",
-    },
-];
+const HELLO: &[u8] = b"hello";
 
 #[test]
 fn answers_by_content(rt: HostRuntime) -> Result<(), Fail> {
-    for row in TYPED.iter().chain(REFUSED.iter()) {
+    let rows = [
+        Row {
+            name: "no rules",
+            words: &["plain", "-d", "", "e", "t", "b", "l"],
+            entries: &[
+                ("e", Entry::Bytes(b"")),
+                ("t", Entry::Bytes(b"hi\n")),
+                ("b", Entry::Bytes(ZERO_AT_127)),
+                ("l", Entry::Bytes(ZERO_AT_128)),
+            ],
+            status: 0,
+            out: "e: application/x-zerosize\nt: text/plain\n\
+                b: application/octet-stream\nl: text/plain\n",
+            err: "",
+        },
+        Row {
+            name: "content decides among kept rules",
+            words: &["plain", "-d", "/s", "x/a.doc"],
+            entries: &[
+                ("/s/mime/globs2", Entry::Bytes(NOTES)),
+                ("x/a.doc", Entry::Bytes(HELLO)),
+            ],
+            status: 0,
+            out: "x/a.doc: text/x-notes\n",
+            err: "",
+        },
+        Row {
+            name: "the name alone decides among them",
+            words: &["plain", "-d", "/s", "--name-only", "x/a.doc"],
+            entries: &[
+                ("/s/mime/globs2", Entry::Bytes(NOTES)),
+                ("x/a.doc", Entry::Bytes(HELLO)),
+            ],
+            status: 0,
+            out: "x/a.doc: application/msword\n",
+            err: "",
+        },
+    ];
+    for row in &rows {
+        let mut files = Shelf {
+            entries: row.entries,
+        };
+        let mut out = Vec::new(rt.alloc());
+        let mut err = Vec::new(rt.alloc());
+        let status = run(rt.alloc(), row.words, &mut files, &mut out, &mut err);
+        let name = row.name;
+        assert_eq!(rt; status, row.status, "{name}");
+        assert_eq!(rt; str::from_utf8(out.as_slice())?, row.out, "{name}");
+        assert_eq!(rt; str::from_utf8(err.as_slice())?, row.err, "{name}");
+    }
+    Ok(())
+}
+
+#[test]
+fn asks_globs_or_magic_first(rt: HostRuntime) -> Result<(), Fail> {
+    let rows = [
+        Row {
+            name: "globs before magic",
+            words: &["plain", "-d", "/s", "x.a", "x"],
+            entries: &[
+                ("/s/mime/globs2", Entry::Bytes(GLOBS)),
+                ("/s/mime/magic", Entry::Bytes(HIGH)),
+                ("x.a", Entry::Bytes(SIGNED)),
+                ("x", Entry::Bytes(SIGNED)),
+            ],
+            status: 0,
+            out: "x.a: t/a\nx: image/x-sig\n",
+            err: "",
+        },
+        Row {
+            name: "magic of high priority before globs",
+            words: &["plain", "-d", "/s", "--magic-first", "x.a", "y.a"],
+            entries: &[
+                ("/s/mime/globs2", Entry::Bytes(GLOBS)),
+                ("/s/mime/magic", Entry::Bytes(HIGH)),
+                ("x.a", Entry::Bytes(SIGNED)),
+                ("y.a", Entry::Bytes(HELLO)),
+            ],
+            status: 0,
+            out: "x.a: image/x-sig\ny.a: t/a\n",
+            err: "",
+        },
+        Row {
+            name: "globs before magic of low priority",
+            words: &["plain", "-d", "/s", "--magic-first", "x.a"],
+            entries: &[
+                ("/s/mime/globs2", Entry::Bytes(GLOBS)),
+                ("/s/mime/magic", Entry::Bytes(LOW)),
+                ("x.a", Entry::Bytes(SIGNED)),
+            ],
+            status: 0,
+            out: "x.a: t/a\n",
+            err: "",
+        },
+        Row {
+            name: "nothing is opened for names alone",
+            words: &[
+                "plain",
+                "-d",
+                "/s",
+                "--name-only",
+                "--magic-first",
+                "x.a",
+                "y.a",
+                "z",
+            ],
+            entries: &[
+                ("/s/mime/globs2", Entry::Bytes(GLOBS)),
+                ("/s/mime/magic", Entry::Bytes(HIGH)),
+                ("x.a", Entry::Bytes(SIGNED)),
+                ("y.a", Entry::Closed),
+            ],
+            status: 0,
+            out: "x.a: t/a\ny.a: t/a\nz: application/octet-stream\n",
+            err: "",
+        },
+    ];
+    for row in &rows {
+        let mut files = Shelf {
+            entries: row.entries,
+        };
+        let mut out = Vec::new(rt.alloc());
+        let mut err = Vec::new(rt.alloc());
+        let status = run(rt.alloc(), row.words, &mut files, &mut out, &mut err);
+        let name = row.name;
+        assert_eq!(rt; status, row.status, "{name}");
+        assert_eq!(rt; str::from_utf8(out.as_slice())?, row.out, "{name}");
+        assert_eq!(rt; str::from_utf8(err.as_slice())?, row.err, "{name}");
+    }
+    Ok(())
+}
+
+#[test]
+fn prefers_the_first_directory(rt: HostRuntime) -> Result<(), Fail> {
+    let rows = [
+        Row {
+            name: "the first of several directories is preferred",
+            words: &["plain", "-d", "/s:/u", "--name-only", "x.a", "x.b"],
+            entries: &[
+                ("/s/mime/globs2", Entry::Bytes(GLOBS)),
+                ("/u/mime/globs2", Entry::Bytes(b"50:t/b:*.b\n50:t/c:*.a\n")),
+            ],
+            status: 0,
+            out: "x.a: t/a\nx.b: t/b\n",
+            err: "",
+        },
+        Row {
+            name: "a type that the first directory hides",
+            words: &["plain", "-d", "/s:/u", "--name-only", "x.b"],
+            entries: &[
+                ("/s/mime/globs2", Entry::Bytes(b"0:t/b:__NOGLOBS__\n")),
+                ("/u/mime/globs2", Entry::Bytes(b"50:t/b:*.b\n")),
+            ],
+            status: 0,
+            out: "x.b: application/octet-stream\n",
+            err: "",
+        },
+    ];
+    for row in &rows {
+        let mut files = Shelf {
+            entries: row.entries,
+        };
+        let mut out = Vec::new(rt.alloc());
+        let mut err = Vec::new(rt.alloc());
+        let status = run(rt.alloc(), row.words, &mut files, &mut out, &mut err);
+        let name = row.name;
+        assert_eq!(rt; status, row.status, "{name}");
+        assert_eq!(rt; str::from_utf8(out.as_slice())?, row.out, "{name}");
+        assert_eq!(rt; str::from_utf8(err.as_slice())?, row.err, "{name}");
+    }
+    Ok(())
+}
+
+#[test]
+fn says_why_a_file_has_no_line(rt: HostRuntime) -> Result<(), Fail> {
+    let rows = [
+        Row {
+            name: "a FILE that can't be opened",
+            words: &["plain", "-d", "/s", "x.a", "y.a", "z"],
+            entries: &[
+                ("/s/mime/globs2", Entry::Bytes(GLOBS)),
+                ("x.a", Entry::Bytes(HELLO)),
+                ("y.a", Entry::Closed),
+                ("z", Entry::Bytes(HELLO)),
+            ],
+            status: 1,
+            out: "x.a: t/a\nz: text/plain\n",
+            err: "mimelook: y.a: cannot open\n",
+        },
+        Row {
+            name: "a FILE that isn't there",
+            words: &["plain", "-d", "/s", "x.a", "y.a", "z"],
+            entries: &[
+                ("/s/mime/globs2", Entry::Bytes(GLOBS)),
+                ("x.a", Entry::Bytes(HELLO)),
+                ("z", Entry::Bytes(HELLO)),
+            ],
+            status: 1,
+            out: "x.a: t/a\nz: text/plain\n",
+            err: "mimelook: y.a: cannot open\n",
+        },
+        Row {
+            name: "a directory, by globs alone",
+            words: &["plain", "-d", "/s", "d.a"],
+            entries: &[
+                ("/s/mime/globs2", Entry::Bytes(GLOBS)),
+                ("d.a", Entry::Unreadable),
+            ],
+            status: 0,
+            out: "d.a: t/a\n",
+            err: "",
+        },
+        Row {
+            name: "a directory of which content is wanted",
+            words: &["plain", "-d", "/s", "d", "x.a", "a.doc"],
+            entries: &[
+                ("/s/mime/globs2", Entry::Bytes(NOTES)),
+                ("d", Entry::Unreadable),
+                ("x.a", Entry::Bytes(HELLO)),
+                ("a.doc", Entry::Unreadable),
+            ],
+            status: 1,
+            out: "x.a: text/plain\n",
+            err: "mimelook: d: cannot read\nmimelook: a.doc: cannot read\n",
+        },
+        Row {
+            name: "a directory of which magic is wanted first",
+            words: &["plain", "-d", "/s", "--magic-first", "d.a", "x.a"],
+            entries: &[
+                ("/s/mime/globs2", Entry::Bytes(GLOBS)),
+                ("d.a", Entry::Unreadable),
+                ("x.a", Entry::Bytes(HELLO)),
+            ],
+            status: 1,
+            out: "x.a: t/a\n",
+            err: "mimelook: d.a: cannot read\n",
+        },
+    ];
+    for row in &rows {
         let mut files = Shelf {
             entries: row.entries,
         };
@@ -209,12 +294,12 @@ fn answers_by_content(rt: HostRuntime) -> Result<(), Fail> {
 fn opens_before_it_looks_at_the_name(rt: HostRuntime) -> Result<(), Fail> {
     let alloc = rt.alloc();
     let long = "a".repeat(alloc, 4_097)?;
-    let rows = [
-        (Entry::Closed, "cannot open"),
-        (Entry::Unreadable, "name too long"),
-        (HELLO, "name too long"),
-    ];
-    for (entry, why) in rows {
+    for (opens, why) in [(false, "cannot open"), (true, "name too long")] {
+        let entry = if opens {
+            Entry::Unreadable
+        } else {
+            Entry::Closed
+        };
         let entries = [(long.as_str(), entry)];
         let mut files = Shelf { entries: &entries };
         let mut out = Vec::new(alloc);
