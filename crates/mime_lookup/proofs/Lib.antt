@@ -4,7 +4,10 @@ pub mod Tallies
 pub mod Healths
 pub mod ReadsLemmas
 pub mod PairSteps
+pub mod PlacesLemmas
+pub mod Walks
 pub mod Marks
+pub mod MarkSets
 pub mod Searches
 pub mod Sniffs
 pub mod Answering

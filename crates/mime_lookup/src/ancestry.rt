@@ -2,7 +2,8 @@
 //!
 //! It goes breadth first over a queue, and marks each type that it expands. The marks serve all
 //! candidates of a lookup: after a search that found nothing, no marked type leads to the base, so
-//! no type is expanded twice.
+//! no type is expanded twice. The places of all pairs are found once, so a search goes through the
+//! pairs of the types that it meets, and no others.
 
 ghost use Rattle.std.specs.Prelude.{◌≡◌, ◌↔◌, ◌+◌, false, List, ℕ, IfOk, OnOk, IsTrue};
 ghost use Rattle.std.specs.VecDeque.{deque_len};
@@ -11,9 +12,11 @@ ghost use Rattle.mime_base.specs.Database.PlainPairs.{plain_pairs};
 ghost use Rattle.mime_base.specs.Database.Subclass.{IsA};
 ghost use Rattle.mime_lookup.specs.Ancestry.{Expanded, NoneLeadsTo, is_one_of, texts, unmarked};
 ghost use Rattle.mime_lookup.specs.Choice.{IsFirst};
+ghost use Rattle.mime_lookup.specs.Places.{IsIndexed, pairs_at, place_in};
 
-use crate::pairs::{is_same, push_parents};
+use crate::places::{Places, places_of, push_parents};
 use crate::subclass::is_by_itself;
+use indexmap::IndexSet;
 use mime_base::{Database, OutOfMemory};
 use std::alloc::Global;
 use std::collections::VecDeque;
@@ -29,9 +32,29 @@ pub fn first_of<'a>(
     ensures { IfOk result (λ kind. IsFirst (pairs_of (plain_database database.entry.now))
         base.now default.entry.now (texts kinds.now) kind.now) }
 {
-    let mut marks = Vec::new(alloc);
+    let aliases = places_of(alloc, &database.aliases)?;
+    let parents = places_of(alloc, &database.parents)?;
+    let kind = first_at(alloc, &aliases, &parents, kinds, default, base)?;
+    Ok(kind)
+}
+
+/// The same over pairs whose places are known.
+fn first_at<'a>(
+    alloc: Global,
+    aliases: &Places<'a>,
+    parents: &Places<'a>,
+    kinds: &[&'a [u8]],
+    default: &'a [u8],
+    base: &[u8],
+) -> Result<&'a [u8], OutOfMemory>
+    requires aliases { IsIndexed aliases.now.pairs.now 0 (place_in aliases.now.first) aliases.now.next.items }
+    requires parents { IsIndexed parents.now.pairs.now 0 (place_in parents.now.first) parents.now.next.items }
+    ensures { IfOk result (λ kind. IsFirst (pairs_at aliases.now.pairs.now parents.now.pairs.now)
+        base.now default.entry.now (texts kinds.now) kind.now) }
+{
+    let mut marks = IndexSet::new(alloc);
     for kind in kinds {
-        if is_a(alloc, database, &mut marks, *kind, base)? {
+        if is_a(alloc, aliases, parents, &mut marks, *kind, base)? {
             return Ok(*kind);
         }
     }
@@ -41,17 +64,20 @@ pub fn first_of<'a>(
 /// Whether a type is the base or a subclass of it.
 fn is_a<'a>(
     alloc: Global,
-    database: &'a Database,
-    marks: &mut Vec<&'a [u8]>,
+    aliases: &Places<'a>,
+    parents: &Places<'a>,
+    marks: &mut IndexSet<&'a [u8]>,
     kind: &'a [u8],
     base: &[u8],
 ) -> Result<bool, OutOfMemory>
+    requires aliases { IsIndexed aliases.now.pairs.now 0 (place_in aliases.now.first) aliases.now.next.items }
+    requires parents { IsIndexed parents.now.pairs.now 0 (place_in parents.now.first) parents.now.next.items }
     ensures answer { IfOk result (λ yes.
-        NoneLeadsTo (is_one_of (texts marks.old.items)) (pairs_of (plain_database database.entry.now)) base.now
-        → (IsTrue yes ↔ IsA (pairs_of (plain_database database.entry.now)) kind.entry.now base.now)) }
+        NoneLeadsTo (is_one_of (texts marks.old.keys)) (pairs_at aliases.now.pairs.now parents.now.pairs.now) base.now
+        → (IsTrue yes ↔ IsA (pairs_at aliases.now.pairs.now parents.now.pairs.now) kind.entry.now base.now)) }
     ensures marked { IfOk result (λ yes. yes ≡ false →
-        NoneLeadsTo (is_one_of (texts marks.old.items)) (pairs_of (plain_database database.entry.now)) base.now
-        → NoneLeadsTo (is_one_of (texts marks.new.items)) (pairs_of (plain_database database.entry.now)) base.now) }
+        NoneLeadsTo (is_one_of (texts marks.old.keys)) (pairs_at aliases.now.pairs.now parents.now.pairs.now) base.now
+        → NoneLeadsTo (is_one_of (texts marks.new.keys)) (pairs_at aliases.now.pairs.now parents.now.pairs.now) base.now) }
 {
     let mut queue = VecDeque::new(alloc);
     queue.push_back(kind)?;
@@ -59,41 +85,39 @@ fn is_a<'a>(
         if is_by_itself(here, base) {
             return Ok(true);
         }
-        expand(database, marks, here, &mut queue)?;
+        expand(aliases, parents, marks, here, &mut queue)?;
     }
     Ok(false)
 }
 
 /// Puts what is above a type at the end of the queue and marks it, unless it is marked.
 fn expand<'a>(
-    database: &'a Database,
-    marks: &mut Vec<&'a [u8]>,
+    aliases: &Places<'a>,
+    parents: &Places<'a>,
+    marks: &mut IndexSet<&'a [u8]>,
     kind: &'a [u8],
     queue: &mut VecDeque<&'a [u8]>,
 ) -> Result<(), OutOfMemory>
-    ensures expanded { OnOk result (Expanded (pairs_of (plain_database database.entry.now)) kind.entry.now
-        (is_one_of (texts marks.old.items)) (is_one_of (texts marks.new.items))
+    requires aliases { IsIndexed aliases.now.pairs.now 0 (place_in aliases.now.first) aliases.now.next.items }
+    requires parents { IsIndexed parents.now.pairs.now 0 (place_in parents.now.first) parents.now.next.items }
+    ensures expanded { OnOk result (Expanded (pairs_at aliases.now.pairs.now parents.now.pairs.now) kind.entry.now
+        (is_one_of (texts marks.old.keys)) (is_one_of (texts marks.new.keys))
         (texts queue.old.items) (texts queue.new.items)) }
     ensures falls { OnOk result (
-        deque_len queue.new + unmarked (plain_database database.entry.now).parents (is_one_of (texts marks.new.items))
-        ≡ deque_len queue.old + unmarked (plain_database database.entry.now).parents (is_one_of (texts marks.old.items))) }
+        deque_len queue.new + unmarked (plain_pairs parents.now.pairs.now) (is_one_of (texts marks.new.keys))
+        ≡ deque_len queue.old + unmarked (plain_pairs parents.now.pairs.now) (is_one_of (texts marks.old.keys))) }
 {
     if is_marked(marks, kind) {
         return Ok(());
     }
-    push_parents(&database.aliases, &database.parents, kind, queue)?;
-    marks.push(kind)?;
+    push_parents(aliases, parents, kind, queue)?;
+    marks.insert(kind)?;
     Ok(())
 }
 
 /// Whether a type is marked.
-fn is_marked(marks: &[&[u8]], kind: &[u8]) -> bool
-    ensures { result ≡ is_one_of (texts marks.now) kind.now }
+fn is_marked(marks: &IndexSet<&[u8]>, kind: &[u8]) -> bool
+    ensures { result ≡ is_one_of (texts marks.now.keys) kind.now }
 {
-    for mark in marks {
-        if is_same(*mark, kind) {
-            return true;
-        }
-    }
-    false
+    marks.contains(kind)
 }

@@ -14,7 +14,7 @@
 //!
 //! Read `lists` first, which has the steps of a lookup in their order. Then `content` and `reading`,
 //! what it reads from and how; `kept`, the rules that a name keeps; `sniff`, the type of a content;
-//! and `ancestry`, the search for a subclass.
+//! and `ancestry`, the search for a subclass, over `places`, the index of the pairs.
 #![tactic(auto)]
 
 mod ancestry;
@@ -25,6 +25,7 @@ mod kept;
 mod lists;
 mod order;
 mod pairs;
+mod places;
 mod reading;
 mod script;
 mod sniff;

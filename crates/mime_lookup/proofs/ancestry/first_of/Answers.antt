@@ -1,9 +1,6 @@
-use Rattle.mime_base.specs.Database.{pairs_of, plain_database}
-use Rattle.mime_lookup.proofs.Marks.{none_marked}
 use Rattle.mime_lookup.proofs.ancestry.first_of.Goals as goal
 
-pub loop-kind-init : goal.loop-kind-init
-loop-kind-init c = record {
-  settled = rw c.new-marks.ensures.items (none_marked (pairs_of (plain_database c.args.database.now)) c.args.base.now);
-  rest = λ answer first. first;
-}
+pub returns : goal.returns
+returns c =
+    rw (c.in_ok-aliases.ensures.pairs, c.deref.ensures.value, c.in_ok-parents.ensures.pairs, c.deref-2.ensures.value) at
+    c.in_ok-kind.ensures

@@ -1,13 +1,13 @@
 use Rattle.std.proofs.Common.{refl, sym, ◌∙◌}
-use Rattle.mime_base.specs.Database.{pairs_of, plain_database}
+use Rattle.mime_lookup.specs.Places.{pairs_at}
 use Rattle.mime_lookup.specs.Ancestry.{is_one_of, texts}
 use Rattle.mime_lookup.proofs.Searches.{searched_found, searched_more}
 use Rattle.mime_lookup.proofs.ancestry.is_a.Goals as goal
 
 pub returns-then-is_by_itself-clause-answer : goal.returns-then-is_by_itself-clause-answer
 returns-then-is_by_itself-clause-answer c = λ none. (
-  (λ _. searched_found (pairs_of (plain_database c.args.database.now)) c.args.base.now c.args.kind.now
-      (is_one_of (texts c.loop-here.marks.items)) c.in-Some.here.now (texts c.pop_front.new.self.items)
+  (λ _. searched_found (pairs_at c.args.aliases.now.pairs.now c.args.parents.now.pairs.now) c.args.base.now c.args.kind.now
+      (is_one_of (texts c.loop-here.marks.keys)) c.in-Some.here.now (texts c.pop_front.new.self.items)
       (rw c.in-Some.ensures.items at (c.loop-here.invariant none))
       (sym c.is_by_itself.ensures ∙ c.if-is_by_itself.true)),
   (λ _. refl),
@@ -15,8 +15,8 @@ returns-then-is_by_itself-clause-answer c = λ none. (
 
 pub loop-here-preserved : goal.loop-here-preserved
 loop-here-preserved c = λ none.
-    searched_more (pairs_of (plain_database c.args.database.now)) c.args.base.now c.args.kind.now
-    (is_one_of (texts c.loop-here.marks.items)) (is_one_of (texts c.expand.new.marks.items)) c.in-Some.here.now
+    searched_more (pairs_at c.args.aliases.now.pairs.now c.args.parents.now.pairs.now) c.args.base.now c.args.kind.now
+    (is_one_of (texts c.loop-here.marks.keys)) (is_one_of (texts c.expand.new.marks.keys)) c.in-Some.here.now
     (texts c.pop_front.new.self.items) (texts c.expand.new.queue.items)
     (rw c.in-Some.ensures.items at (c.loop-here.invariant none))
     (sym c.is_by_itself.ensures ∙ c.if-is_by_itself.false)

@@ -1,0 +1,12 @@
+use Rattle.std.proofs.Common.{◌≤◌, length}
+use Rattle.mime_lookup.specs.Places.{IsIndexed, place_in}
+use Rattle.mime_lookup.proofs.places.places_of.Given as goal
+
+abbrev pub invariant-loop-place : goal.invariant-loop-place
+invariant-loop-place l = record {
+  within : l.place ≤ length l.pairs;
+  so_far : IsIndexed l.pairs l.place (place_in l.first) l.next.items;
+}
+
+abbrev pub decreases-loop-place : goal.decreases-loop-place
+decreases-loop-place l = l.place

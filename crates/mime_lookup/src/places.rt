@@ -1,0 +1,88 @@
+//! Where the pairs of each name stand, so that a search goes through no other pairs.
+
+ghost use Rattle.std.specs.Prelude.{◌≡◌, ◌+◌, ◌<◌, ◌++◌, get_or, length, map, IfOk, OnOk};
+ghost use Rattle.std.specs.VecDeque.{deque_len};
+ghost use Rattle.mime_base.specs.Database.PlainPairs.{plain_pairs};
+ghost use Rattle.mime_base.specs.Database.Subclass as above;
+ghost use Rattle.mime_base.specs.declared.database.pair.Pair as plain;
+ghost use Rattle.mime_base.specs.Database.Subclass.{resolved};
+ghost use Rattle.mime_lookup.specs.Ancestry.{texts};
+ghost use Rattle.mime_lookup.specs.Places.{IsIndexed, place_in};
+
+use indexmap::IndexMap;
+use mime_base::{OutOfMemory, Pair};
+use std::alloc::Global;
+use std::collections::VecDeque;
+
+/// Some pairs, with the place of each by its name.
+#[derive(Drop)]
+pub struct Places<'a> {
+    /// The pairs.
+    pub pairs: &'a [Pair],
+    /// The first place of each name.
+    pub first: IndexMap<&'a [u8], usize>,
+    /// From the last place to the first, the next place of its name.
+    pub next: Vec<Option<usize>>,
+}
+
+/// The places of some pairs.
+pub fn places_of<'a>(alloc: Global, pairs: &'a [Pair]) -> Result<Places<'a>, OutOfMemory>
+    ensures pairs { IfOk result (λ places. places.pairs.now ≡ pairs.entry.now) }
+    ensures indexed { IfOk result (λ places.
+        IsIndexed places.pairs.now 0 (place_in places.first) places.next.items) }
+{
+    let mut first = IndexMap::new(alloc);
+    let mut next = Vec::new(alloc);
+    let mut place = pairs.len();
+    while place > 0 {
+        place -= 1;
+        let pair = &pairs[place];
+        let later = first.insert(pair.name.bytes(), place)?;
+        next.push(later)?;
+    }
+    Ok(Places { pairs, first, next })
+}
+
+/// A type after one alias step.
+pub fn resolve_at<'a>(aliases: &Places<'a>, kind: &'a [u8]) -> &'a [u8]
+    requires indexed { IsIndexed aliases.now.pairs.now 0 (place_in aliases.now.first) aliases.now.next.items }
+    ensures { result.now ≡ resolved (plain_pairs aliases.now.pairs.now) kind.entry.now }
+{
+    match aliases.first.get(kind).copied() {
+        Some(place) => target_at(aliases.pairs, place),
+        None => kind,
+    }
+}
+
+/// What the pair at a place points to.
+fn target_at<'a>(pairs: &'a [Pair], place: usize) -> &'a [u8]
+    requires within { place < length pairs.now }
+    ensures { (pair : plain.Pair) → pair ≡ get_or pairs.entry.now place pair → result.now ≡ pair.target }
+{
+    let pair = &pairs[place];
+    pair.target.bytes()
+}
+
+/// Puts the parents of a type at the end of a queue, each after one alias step.
+pub fn push_parents<'a>(
+    aliases: &Places<'a>,
+    parents: &Places<'a>,
+    kind: &[u8],
+    queue: &mut VecDeque<&'a [u8]>,
+) -> Result<(), OutOfMemory>
+    requires aliases { IsIndexed aliases.now.pairs.now 0 (place_in aliases.now.first) aliases.now.next.items }
+    requires parents { IsIndexed parents.now.pairs.now 0 (place_in parents.now.first) parents.now.next.items }
+    ensures queue { OnOk result (texts queue.new.items ≡ texts queue.old.items
+        ++ map (resolved (plain_pairs aliases.now.pairs.now)) (above.parents (plain_pairs parents.now.pairs.now) kind.now)) }
+    ensures longer { OnOk result (deque_len queue.new
+        ≡ deque_len queue.old + length (above.parents (plain_pairs parents.now.pairs.now) kind.now)) }
+{
+    let pairs = parents.pairs;
+    let mut place = parents.first.get(kind).copied();
+    while let Some(here) = place {
+        let pair = &pairs[here];
+        queue.push_back(resolve_at(aliases, pair.target.bytes()))?;
+        place = parents.next[pairs.len() - 1 - here];
+    }
+    Ok(())
+}
