@@ -5,19 +5,14 @@ use Rattle.std.specs.List.{list_all}
 use Rattle.std.proofs.lemmas.Bool.Decides.{nat_tests}
 use Rattle.clap.specs.Lexer.{usize_max}
 use Rattle.clap.specs.Walk.{Row, Text, Walk, positional}
-use Rattle.clap.specs.Simple.{Shape, built_leaf, inherited, marked_built, with_leaf_noted}
 use Rattle.clap.specs.Faults.{settle_fault}
 use Rattle.clap.specs.Kinds.{range_kinds, values_kinds}
 use Rattle.clap.specs.declared.builder.value_parser.ValueParser.TheVariants as vp
 use Rattle.clap.proofs.OnLiterals.{clap_on_literals}
-use Rattle.mime_request.specs.CommandLine.{mimelook, plain}
 use Rattle.mime_request.specs.Spelling.{is_option}
 use Rattle.mime_request.proofs.PlainWords.{IsPlainWord, neither, plain_word}
+use Rattle.mime_request.proofs.Shapes.{plain_shape}
 use Rattle.mime_request.proofs.Walks.{Goes, Leads, ends, goes, neither_fault}
-
--- `plain` as clap builds it below `mimelook`
-abbrev pub plain_shape : Shape
-plain_shape = built_leaf (inherited (with_leaf_noted (marked_built mimelook.top)) plain.top)
 
 -- after these files, where the options before them gave these rows
 abbrev pub in_files : List Row → List Text → Walk

@@ -1,4 +1,5 @@
 pub mod AddedRules
+pub mod BuildWords
 pub mod CommandWords
 pub mod DirectoryParts
 pub mod FileWords
@@ -6,5 +7,6 @@ pub mod Meanings
 pub mod OptionWords
 pub mod PlainEnds
 pub mod PlainWords
+pub mod Shapes
 pub mod UsualWords
 pub mod Walks

@@ -5,8 +5,9 @@ use Rattle.clap.specs.Simple.{filled, with_index}
 use Rattle.clap.proofs.OnLiterals.{clap_on_literals}
 use Rattle.mime_request.specs.CommandLine.{directories_rule, magic_first_rule, name_only_rule}
 use Rattle.mime_request.specs.Spelling.{plain_flags}
-use Rattle.mime_request.proofs.FileWords.{in_files, plain_shape}
+use Rattle.mime_request.proofs.FileWords.{in_files}
 use Rattle.mime_request.proofs.PlainWords.{IsPlainWord}
+use Rattle.mime_request.proofs.Shapes.{plain_shape}
 use Rattle.mime_request.proofs.Walks.{Goes, Leads, goes}
 
 -- whether the flags stand after `-d DIRS` or before it
@@ -26,7 +27,7 @@ flag_used false rule rows = rows
 abbrev flags_used : Bool → Bool → List Row → List Row
 flags_used n m rows = flag_used m magic_first_rule (flag_used n name_only_rule rows)
 
-abbrev directories_used : Text → List Row → List Row
+abbrev pub directories_used : Text → List Row → List Row
 directories_used dirs = used (with_index 1 (filled directories_rule)) (dirs ∷ [])
 
 abbrev pub option_rows : Order → Bool → Bool → Text → List Row
@@ -34,7 +35,7 @@ option_rows directories_first n m dirs = flags_used n m (directories_used dirs [
 option_rows flags_first n m dirs = directories_used dirs (flags_used n m [])
 
 -- between two options, or before the first file
-abbrev between : List Row → Option (Text × List Text) → Waiting → Walk
+abbrev pub between : List Row → Option (Text × List Text) → Waiting → Walk
 between rows pending waiting = record {
   held = record { rows = rows; pending = pending; skip = 0 };
   waiting = waiting;

@@ -4,8 +4,9 @@ use Rattle.clap.specs.Walk.{Row, Text, finished, settled}
 use Rattle.clap.specs.Faults.{check_fault, defaults_fault}
 use Rattle.clap.proofs.OnLiterals.{clap_on_literals}
 use Rattle.mime_request.specs.Request.{asks, parts, plain, plain_meaning}
-use Rattle.mime_request.proofs.FileWords.{files_fit, in_files, plain_shape}
+use Rattle.mime_request.proofs.FileWords.{files_fit, in_files}
 use Rattle.mime_request.proofs.OptionWords.{Order, directories_first, flags_first, option_rows}
+use Rattle.mime_request.proofs.Shapes.{plain_shape}
 use Rattle.mime_request.proofs.Walks.{end_fault, neither_fault}
 
 defaults_fit : (o : Order) (n m : Bool) (dirs file : Text) (files : List Text)
@@ -20,7 +21,7 @@ defaults_fit flags_first true false dirs file files = refl
 defaults_fit flags_first false true dirs file files = refl
 defaults_fit flags_first false false dirs file files = refl
 
-abbrev pub rows_at_end : Order → Bool → Bool → Text → List Text → List Row
+abbrev rows_at_end : Order → Bool → Bool → Text → List Text → List Row
 rows_at_end o n m dirs files = finished plain_shape.rules (in_files (option_rows o n m dirs) files).held
 
 nothing_missing : (o : Order) (n m : Bool) (dirs file : Text) (files : List Text)

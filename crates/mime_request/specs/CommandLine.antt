@@ -35,16 +35,32 @@ files_rule = record (new_rule (codes "file")) {
   required = true;
 }
 
+-- `-o FILE`
+abbrev pub output_rule : Rule
+output_rule = record (new_rule (codes "output")) {
+  short = Some 111;
+  value_names = 1;
+  required = true;
+}
+
+-- `build -d DIRS -o FILE`
+abbrev pub build : App
+build = with_rule (with_rule (new_app (codes "build")) directories_rule) output_rule
+
 -- `plain -d DIRS [--name-only] [--magic-first] FILE...`
 abbrev pub plain : App
 plain = with_rule (with_rule (with_rule (with_rule (new_app (codes "plain")) directories_rule)
     name_only_rule) magic_first_rule) files_rule
 
 -- `mimelook`, without its own name among the words: it has a version and wants a command
-abbrev pub mimelook : App
-mimelook = with_subcommand (on_top (λ s. record s {
+abbrev pub mimelook_alone : App
+mimelook_alone = on_top (λ s. record s {
   has_version = true;
   no_binary_name = true;
   subcommand_required = true;
   disable_help_subcommand = true;
-}) (new_app (codes "mimelook"))) plain.top
+}) (new_app (codes "mimelook"))
+
+-- `mimelook` with its commands
+abbrev pub mimelook : App
+mimelook = with_subcommand (with_subcommand mimelook_alone build.top) plain.top

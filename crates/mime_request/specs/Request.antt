@@ -18,6 +18,8 @@ use Rattle.mime_request.specs.declared.request.Request.TheVariants as request
 
 -- what can be asked for
 pub data PlainRequest : Type 0 where
+  -- the cache of these directories, most preferred first, written to this file
+  build : List Text → Text → PlainRequest
   -- from these directories, most preferred first, whether by names alone, whether content of high
   -- priority comes before the globs, and the files whose types are asked for
   plain : List Text → Bool → Bool → List Text → PlainRequest
@@ -41,6 +43,16 @@ parts_of (Some dirs) = parts dirs
 abbrev pub is_on : Option Text → Bool
 is_on flag = option_map_or (λ text. bytes_eq text (codes "true")) flag false
 
+-- what `build` means by its directories and its output; without an output it is refused
+abbrev pub build_of : List Text → Option Text → Meaning
+build_of dirs None = refused (kind.MissingRequiredArgument ∷ [])
+build_of dirs (Some file) = asks (build dirs file)
+
+-- what `build` means by what clap found after it
+abbrev pub build_meaning : List Row → Meaning
+build_meaning rows =
+    build_of (parts_of (first_of (codes "dirs") rows)) (first_of (codes "output") rows)
+
 -- what `plain` means by its directories, its two flags and its files; without files it is refused
 abbrev pub plain_of : List Text → Bool → Bool → Option (List Text) → Meaning
 plain_of dirs name_only magic_first None = refused (kind.MissingRequiredArgument ∷ [])
@@ -55,8 +67,9 @@ plain_meaning rows = plain_of (parts_of (first_of (codes "dirs") rows))
 -- what the command that clap met means, if it met one
 abbrev pub subcommand_meaning : Option (Text × List Row) → Meaning
 subcommand_meaning None = refused (kind.MissingSubcommand ∷ [])
-subcommand_meaning (Some p) = if bytes_eq p.0 (codes "plain") then plain_meaning p.1
-    else refused (kind.InvalidSubcommand ∷ [])
+subcommand_meaning (Some p) = if bytes_eq p.0 (codes "build") then build_meaning p.1
+    else (if bytes_eq p.0 (codes "plain") then plain_meaning p.1
+    else refused (kind.InvalidSubcommand ∷ []))
 
 -- the kinds of error come first; where there are none, the command decides
 abbrev pub meaning_by : Kinds → Option (Text × List Row) → Meaning
@@ -74,6 +87,7 @@ Finds words r = MatchResult r (λ m. (fault_of mimelook words ≡ [])
 
 -- the plain value of a request
 abbrev pub plain_request : Request → PlainRequest
+plain_request (request.Build directories file) = build (texts directories.items) file.now
 plain_request (request.Plain directories name_only magic_first files) =
     plain (texts directories.items) name_only magic_first (texts files.items)
 

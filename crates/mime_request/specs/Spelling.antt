@@ -18,6 +18,15 @@ abbrev pub is_path : Text → Bool
 is_path [] = false
 is_path (x ∷ xs) = list_all (λ b. not (b == 58)) (x ∷ xs)
 
+-- `build -d DIRS -o FILE`
+abbrev pub build_words : Text → Text → List Text
+build_words dirs file = codes "build" ∷ codes "-d" ∷ dirs ∷ codes "-o" ∷ file ∷ []
+
+-- `build -o FILE -d DIRS`
+abbrev pub build_words_output_first : Text → Text → List Text
+build_words_output_first dirs file =
+    codes "build" ∷ codes "-o" ∷ file ∷ codes "-d" ∷ dirs ∷ []
+
 -- the word of a flag where it is on, and else no word
 abbrev pub flag_words : Bool → Text → List Text
 flag_words true word = word ∷ []

@@ -12,7 +12,7 @@
 //! ```
 //!
 //! Here `directories` is `["/usr/local/share", "/usr/share"]`, `name_only` is on, `magic_first` is
-//! off, and `files` is `["notes.txt"]`.
+//! off, and `files` is `["notes.txt"]`. `build -d DIRS -o FILE` gives a [`Request::Build`].
 //!
 //! Read `specs/Request.antt` first for what words mean, then [`request_of`]; `command` describes the
 //! options to clap, and `spelling` has the laws that say what usual words mean with no word of clap.
@@ -24,6 +24,6 @@ mod spelling;
 
 pub use request::{Request, request_of};
 pub use spelling::{
-    flags_first_spelling_of_plain, parts_of_directories, usual_spelling_of_plain,
-    words_without_files,
+    flags_first_spelling_of_plain, output_first_spelling_of_build, parts_of_directories,
+    usual_spelling_of_build, usual_spelling_of_plain, words_without_files,
 };

@@ -1,13 +1,14 @@
 //! From words to a request, or to an error that is shown to the user. This project's own.
 
-ghost use Rattle.std.specs.Prelude.{◌≡◌, IfOk, map, option_map, [], ◌∷◌};
+ghost use Rattle.std.specs.Prelude.{◌≡◌, IfOk, codes, map, option_map, [], ◌∷◌};
 ghost use Rattle.clap.specs.Words.{all_of, first_of, found_of, rows_of, subcommand_rows_of};
 ghost use Rattle.clap.specs.Walk.{texts};
 ghost use Rattle.clap.specs.Kinds.{HasKind};
 ghost use Rattle.clap.specs.Values.{kind_of};
-ghost use Rattle.mime_request.specs.Request.{Finds, Means, is_on, meaning_of, parts, plain_meaning, subcommand_meaning};
+ghost use Rattle.mime_request.specs.Request.{Finds, Means, build_meaning, is_on, meaning_of, parts, parts_of, plain_meaning};
+ghost use Rattle.mime_request.specs.Request.{subcommand_meaning};
 
-use crate::command::{mimelook_command, plain_command};
+use crate::command::mimelook_command;
 use clap::error::ErrorKind;
 use clap::{ArgMatches, Error};
 use std::alloc::{AllocError, Global};
@@ -16,6 +17,13 @@ use std::convert::AsStr;
 /// What the words of a command line ask for.
 #[derive(Debug, Drop)]
 pub enum Request<'a> {
+    /// A cache of the text files of data directories.
+    Build {
+        /// The directories, most preferred first. There may be none, and none is empty.
+        directories: Vec<&'a str>,
+        /// The file that the cache is written to.
+        file: &'a str,
+    },
     /// The types of files, from the text files of data directories.
     Plain {
         /// The directories, most preferred first. There may be none, and none is empty.
@@ -53,17 +61,27 @@ fn matches_of<'a, S: AsStr>(alloc: Global, words: &'a [S]) -> Result<ArgMatches<
 fn asked_by<'a>(alloc: Global, matches: &ArgMatches<'a>) -> Result<Request<'a>, Error>
     ensures { Means (subcommand_meaning (subcommand_rows_of matches.now)) result }
 {
-    match subcommand_of(matches) {
-        None => Err(refusal(alloc, ErrorKind::MissingSubcommand, "give a command")),
-        Some((name, inner)) => {
-            if name == "plain" {
-                request_of_plain(alloc, inner)
-            } else {
-                let message = "give a command that --help names";
-                Err(refusal(alloc, ErrorKind::InvalidSubcommand, message))
-            }
-        }
+    let Some((name, inner)) = subcommand_of(matches) else {
+        return Err(refusal(alloc, ErrorKind::MissingSubcommand, "give a command"));
+    };
+    if name == "build" {
+        request_of_build(alloc, inner)
+    } else if name == "plain" {
+        request_of_plain(alloc, inner)
+    } else {
+        let message = "give a command that --help names";
+        Err(refusal(alloc, ErrorKind::InvalidSubcommand, message))
     }
+}
+
+fn request_of_build<'a>(alloc: Global, matches: &ArgMatches<'a>) -> Result<Request<'a>, Error>
+    ensures { Means (build_meaning (rows_of (found_of matches.now))) result }
+{
+    let Some(file) = value_of(matches, "output") else {
+        return Err(refusal(alloc, ErrorKind::MissingRequiredArgument, "give -o FILE"));
+    };
+    let directories = directories_of(alloc, matches)?;
+    Ok(Request::Build { directories, file })
 }
 
 fn request_of_plain<'a>(alloc: Global, matches: &ArgMatches<'a>) -> Result<Request<'a>, Error>
@@ -73,11 +91,20 @@ fn request_of_plain<'a>(alloc: Global, matches: &ArgMatches<'a>) -> Result<Reque
         return Err(refusal(alloc, ErrorKind::MissingRequiredArgument, "give a FILE"));
     };
     Ok(Request::Plain {
-        directories: parts(alloc, value_of(matches, "dirs").unwrap_or(""))?,
+        directories: directories_of(alloc, matches)?,
         name_only: is_on(value_of(matches, "name-only")),
         magic_first: is_on(value_of(matches, "magic-first")),
         files: files.to_vec(alloc)?,
     })
+}
+
+// The parts of DIRS, none where it is missing.
+fn directories_of<'a>(alloc: Global, matches: &ArgMatches<'a>) -> Result<Vec<&'a str>, AllocError>
+    ensures { IfOk result (λ v. texts v.items
+        ≡ parts_of (first_of (codes "dirs") (rows_of (found_of matches.now)))) }
+{
+    let directories = parts(alloc, value_of(matches, "dirs").unwrap_or(""))?;
+    Ok(directories)
 }
 
 // The parts of a list with colons, but for the empty ones.
@@ -131,10 +158,9 @@ fn refusal(alloc: Global, kind: ErrorKind, message: &str) -> Error
     }
 }
 
-// The message with the usage of `plain` below it.
+// The message with the usage below it.
 fn refusal_text(alloc: Global, kind: ErrorKind, message: &str) -> Result<Error, AllocError>
     ensures { IfOk result (λ e. kind_of e ≡ kind) }
 {
-    let command = plain_command(alloc)?;
-    command.bin_name("mimelook plain")?.error(kind, message)
+    mimelook_command(alloc)?.error(kind, message)
 }

@@ -84,9 +84,9 @@ command_unloaded X plain stored dirs IsOver files a b (stop.Refused m) none p =
 -- the database is loaded, and the files answered
 pub command_over : (X : Type 0) (plain : X → PlainDatabase) (stored : List ℕ → Stored) (dirs : List (List ℕ)) (IsOver : Over)
     (files : List (List ℕ)) (database : X) (a b c : Sinks) (r : Result ℕ Stop)
-    → ((database : PlainDatabase) → (run : Run) × IsOver database [] run)
+    → (run : Run) × IsOver (plain database) [] run
     → Loads plain (IsDatabase stored dirs) a b (Ok database) → Ends (IsOver (plain database)) files b c r
     → Ends (IsCommand stored dirs IsOver) files a c r
 command_over X plain stored dirs IsOver files database a b c r none p q =
     ends_said (IsOver (plain database)) (IsCommand stored dirs IsOver) files p.0 a b c r
-    (λ fs run is. (Some (plain database), p.0, p.1, (run, is, refl))) (none (plain database)) p.2 q
+    (λ fs run is. (Some (plain database), p.0, p.1, (run, is, refl))) none p.2 q

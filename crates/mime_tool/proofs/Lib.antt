@@ -1,3 +1,5 @@
+pub mod BuildOvers
+pub mod Builds
 pub mod Commands
 pub mod DataFiles
 pub mod Desks

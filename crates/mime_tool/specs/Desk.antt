@@ -2,10 +2,10 @@
 use Rattle.std.specs.Prelude.{◌≡◌, ℕ, false, List, Option, Some, None, Result, Ok, Err, Vec, string_bytes}
 use Rattle.std.specs.declared.alloc.Global.{Global}
 use Rattle.mime_lookup.specs.Content.{Health}
-use Rattle.mime_tool.specs.Files.{IsReaderOf, IsShut, IsText, Stored}
+use Rattle.mime_tool.specs.Files.{IsReaderOf, IsShut, IsText, Replaced, Stored, Untouched}
 use Rattle.mime_tool.specs.Finish.{IsCut, Sinks, Writes, WritesFront}
-use Rattle.mime_tool.specs.Run.{Run, cannot_read, stopped, stops}
-use Rattle.mime_tool.specs.Stop.{message}
+use Rattle.mime_tool.specs.Run.{Run, cannot_read, cannot_write, stopped, stops}
+use Rattle.mime_tool.specs.Stop.{IsRefusal, message}
 use Rattle.mime_tool.specs.declared.stop.Stop.{Stop}
 use Rattle.mime_tool.specs.declared.stop.Stop.TheVariants as stop
 
@@ -46,6 +46,17 @@ ReadsText stored path old new (Err (stop.Refused text)) =
     (new ≡ old) × IsText stored None × (string_bytes text ≡ cannot_read path)
 ReadsText stored path old new (Err stop.CannotWrite) = ⊥
 ReadsText stored path old new (Err stop.OutOfMemory) = new ≡ old
+
+-- a file is replaced; or it can't be, and that names its path; or memory ran out
+abbrev pub ReplacesOrStops : List ℕ → List ℕ → List ℕ → (List ℕ → Stored) → (List ℕ → Stored) → Result (Unit {0}) Stop → Type 0
+ReplacesOrStops temp path bs old new (Ok _) = Replaced temp path bs old new
+ReplacesOrStops temp path bs old new (Err s) = Untouched temp old new × IsRefusal (cannot_write path) s
+
+-- the references and the sinks stay, and a file is replaced or not
+pub record ReplacesFile (temp path bs : List ℕ) (before after : State) (result : Result (Unit {0}) Stop) : Type 0 where
+  pub same_places : after.places ≡ before.places
+  pub same_sinks : after.sinks ≡ before.sinks
+  pub files : ReplacesOrStops temp path bs before.stored after.stored result
 
 -- a file is opened; or it can't be, or memory ran out
 abbrev pub OpensFile : {R : Type 0} → (R → Option (List ℕ)) → (R → Health) → Stored → Sinks → Sinks → Result (Option R) Stop → Type 0

@@ -1,5 +1,5 @@
 -- What files hold.
-use Rattle.std.specs.Prelude.{◌≡◌, ◌⊎◌, ℕ, List, [], Option, Some, None, Result, Ok, Err, Vec}
+use Rattle.std.specs.Prelude.{◌≡◌, ◌≢◌, ◌⊎◌, ℕ, List, [], Option, Some, None, Result, Ok, Err, Vec}
 use Rattle.std.specs.declared.alloc.Global.{Global}
 use Rattle.mime_lookup.specs.Content.{Health, broken, sound}
 use Rattle.mime_tool.specs.declared.files.FileFault.{FileFault}
@@ -43,6 +43,27 @@ abbrev pub Opens : {R : Type 0} → (R → Option (List ℕ)) → (R → Health)
 Opens remaining health stored (Ok reader) = IsReaderOf remaining health stored reader
 Opens remaining health stored (Err Failed) = IsShut stored
 Opens remaining health stored (Err OutOfMemory) = Unit {0}
+
+-- what a path holds after it came to hold this, where it was known what it held
+abbrev pub Becomes : Stored → Stored → Stored → Type 0
+Becomes unknown this new = Unit {0}
+Becomes old this new = new ≡ this
+
+-- a file of these bytes took the place of what was stored at a path; it came by the path temp, where
+-- nothing is left, and every other path holds what it held
+pub record Replaced (temp path bs : List ℕ) (old new : List ℕ → Stored) : Type 0 where
+  pub written : Becomes (old path) (bytes bs) (new path)
+  pub moved : temp ≢ path → Becomes (old temp) nothing (new temp)
+  pub others : (other : List ℕ) → other ≢ path → other ≢ temp → new other ≡ old other
+
+-- every path but temp holds what it held
+abbrev pub Untouched : List ℕ → (List ℕ → Stored) → (List ℕ → Stored) → Type 0
+Untouched temp old new = (other : List ℕ) → other ≢ temp → new other ≡ old other
+
+-- the file is replaced, or untouched where that failed
+abbrev pub Replaces : List ℕ → List ℕ → List ℕ → (List ℕ → Stored) → (List ℕ → Stored) → Result (Unit {0}) FileFault → Type 0
+Replaces temp path bs old new (Ok _) = Replaced temp path bs old new
+Replaces temp path bs old new (Err _) = Untouched temp old new
 
 -- the text of a file: an empty one where there is no file, and none where it can't be read
 abbrev pub IsText : Stored → Option (List ℕ) → Type 0

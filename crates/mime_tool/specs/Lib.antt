@@ -1,3 +1,4 @@
+pub mod Build
 pub mod Desk
 pub mod Directories
 pub mod Files

@@ -1,12 +1,15 @@
 -- What the words of a command line lead to.
-use Rattle.std.specs.Prelude.{◌≡◌, ◌≢◌, ℕ, Bool, true, false, List, []}
+use Rattle.std.specs.Prelude.{◌≡◌, ◌≢◌, ℕ, Bool, true, false, List, [], Result}
 use Rattle.clap.specs.Kinds.{IsAmong}
 use Rattle.clap.specs.declared.error.kind.ErrorKind.{ErrorKind}
 use Rattle.clap.specs.declared.error.kind.ErrorKind.TheVariants as kind
-use Rattle.mime_request.specs.Request.{PlainRequest, Meaning, asks, plain, refused}
+use Rattle.mime_request.specs.Request.{PlainRequest, Meaning, asks, build, plain, refused}
+use Rattle.mime_tool.specs.Build.{IsBuild, LeavesBuilt}
+use Rattle.mime_tool.specs.Desk.{Ends, State}
 use Rattle.mime_tool.specs.Files.{Stored}
 use Rattle.mime_tool.specs.Plain.{IsPlain}
 use Rattle.mime_tool.specs.Run.{Run, printed}
+use Rattle.mime_tool.specs.declared.stop.Stop.{Stop}
 
 -- whether the error is help or the version, which were asked for
 abbrev pub is_help : ErrorKind → Bool
@@ -24,20 +27,39 @@ shown false text = record { status = 2; out = []; err = text }
 abbrev pub IsShown : ErrorKind → Run → Type 0
 IsShown k run = (k ≢ kind.OutOfMemory) × ((text : List ℕ) × (run ≡ shown (is_help k) text))
 
--- the run of a request; a command has a line here
-abbrev pub IsAskedRun : (List ℕ → Stored) → PlainRequest → List (List ℕ) → Run → Type 0
-IsAskedRun stored (plain dirs name_only magic_first _) = IsPlain stored dirs name_only magic_first
+-- the run of a request, where this was stored and then that; a command has a line here
+abbrev pub IsAskedRun : (List ℕ → Stored) → (List ℕ → Stored) → PlainRequest → List (List ℕ) → Run → Type 0
+IsAskedRun old new (build dirs file) = IsBuild dirs file old new
+IsAskedRun old new (plain dirs name_only magic_first _) = IsPlain old dirs name_only magic_first
 
 -- the files that a request names
 abbrev pub asked_files : PlainRequest → List (List ℕ)
+asked_files (build _ _) = []
 asked_files (plain _ _ _ files) = files
 
 -- the run that the words ask for, or help, or what is wrong with them
-abbrev pub IsAnswer : (List ℕ → Stored) → Meaning → List (List ℕ) → Run → Type 0
-IsAnswer stored (asks a) = IsAskedRun stored a
-IsAnswer stored (refused kinds) = λ _ run. (k : ErrorKind) × IsAmong k kinds × IsShown k run
+abbrev pub IsAnswer : (List ℕ → Stored) → (List ℕ → Stored) → Meaning → List (List ℕ) → Run → Type 0
+IsAnswer old new (asks a) = IsAskedRun old new a
+IsAnswer old new (refused kinds) = λ _ run. (k : ErrorKind) × IsAmong k kinds × IsShown k run
 
 -- the files that the words name
 abbrev pub files_of : Meaning → List (List ℕ)
 files_of (asks a) = asked_files a
 files_of (refused kinds) = []
+
+-- what a request leaves stored: all that was, but for what `build` replaces
+abbrev pub LeavesAsked : PlainRequest → (List ℕ → Stored) → (List ℕ → Stored) → Type 0
+LeavesAsked (build dirs file) old new = LeavesBuilt dirs file old new
+LeavesAsked (plain _ _ _ _) old new = new ≡ old
+
+-- the same of words
+abbrev pub Leaves : Meaning → (List ℕ → Stored) → (List ℕ → Stored) → Type 0
+Leaves (asks a) old new = LeavesAsked a old new
+Leaves (refused kinds) old new = new ≡ old
+
+-- the references stay, the run that the words ask for is done, up to the message of a stop, and this is
+-- left stored
+pub record Answers (m : Meaning) (before after : State) (result : Result ℕ Stop) : Type 0 where
+  pub same_places : after.places ≡ before.places
+  pub sinks : Ends (IsAnswer before.stored after.stored m) (files_of m) before.sinks after.sinks result
+  pub leaves : Leaves m before.stored after.stored

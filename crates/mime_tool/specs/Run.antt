@@ -50,6 +50,9 @@ IsEach IsOne (file ∷ files) run =
 abbrev pub cannot_read : List ℕ → List ℕ
 cannot_read path = codes "mimelook: " ++ (path ++ codes ": cannot read\n")
 
+abbrev pub cannot_write : List ℕ → List ℕ
+cannot_write path = codes "mimelook: " ++ (path ++ codes ": cannot write\n")
+
 -- the message on running out of memory
 abbrev pub out_of_memory : List ℕ
 out_of_memory = codes "mimelook: out of memory\n"

@@ -2,12 +2,12 @@
 
 ghost use Rattle.std.specs.Prelude.{◌≡◌, IfOk};
 ghost use Rattle.std.specs.List.{flat_map};
-ghost use Rattle.mime_tool.specs.Desk.{Does, OpensFile, ReadsText, State, Works};
+ghost use Rattle.mime_tool.specs.Desk.{Does, OpensFile, ReadsText, ReplacesFile, State, Works};
 ghost use Rattle.mime_tool.specs.Run.{cannot_read, printed, said};
 
 use crate::files::{FileFault, Files};
 use crate::sink::{Sink, put_all};
-use crate::stop::{Stop, complain, unreadable};
+use crate::stop::{Stop, complain, unreadable, unwritable};
 use mime_lookup::Content;
 use std::alloc::Global;
 
@@ -34,6 +34,10 @@ pub(crate) trait Desk {
     fn open(&mut self, path: &str) -> Result<Option<Self::Reader>, Stop>
         ensures { Works (OpensFile Self.Reader.remaining Self.Reader.health
             ((state self.old).stored path.now)) (state self.old) (state self.new) result };
+
+    /// Makes these bytes the file of `path`, whole, by way of a file of `temp`.
+    fn replace(&mut self, temp: &str, path: &str, bytes: &[u8]) -> Result<(), Stop>
+        ensures { ReplacesFile temp.now path.now bytes.now (state self.old) (state self.new) result };
 
     /// Prints the pieces on standard output, one after another.
     fn print(&mut self, pieces: &[&[u8]]) -> Result<(), Stop>
@@ -80,6 +84,14 @@ impl<F: Files, O: Sink, E: Sink> Desk for Streams<'_, '_, '_, F, O, E> {
         match self.files.open(self.alloc, path) {
             Ok(reader) => Ok(Some(reader)),
             Err(FileFault::Failed) => Ok(None),
+            Err(FileFault::OutOfMemory) => Err(Stop::OutOfMemory),
+        }
+    }
+
+    fn replace(&mut self, temp: &str, path: &str, bytes: &[u8]) -> Result<(), Stop> {
+        match self.files.replace(self.alloc, temp, path, bytes) {
+            Ok(()) => Ok(()),
+            Err(FileFault::Failed) => Err(unwritable(self.alloc, path)),
             Err(FileFault::OutOfMemory) => Err(Stop::OutOfMemory),
         }
     }

@@ -1,17 +1,17 @@
 //! Where files come from. This project's own.
 
 ghost use Rattle.std.specs.Prelude.{◌≡◌, ℕ, List};
-ghost use Rattle.mime_tool.specs.Files.{Opens, Stored, Tells, unknown};
+ghost use Rattle.mime_tool.specs.Files.{Opens, Replaces, Stored, Tells, unknown};
 ghost use Rattle.mime_tool.specs.declared.files.FileFault.TheVariants.{OutOfMemory};
 
 use mime_lookup::Content;
 use std::alloc::{AllocError, Global};
 use thiserror::Error;
 
-/// Why a file was not opened or not read.
+/// Why a file was not opened, not read or not replaced.
 #[derive(Clone, Copy, Debug, PartialEq, Eq, Error)]
 pub enum FileFault {
-    /// The file can't be opened or can't be read, or is past a limit of its reader.
+    /// The file can't be opened, read or replaced, or is past a limit of its reader.
     #[error("cannot read")]
     Failed,
     /// There was no memory for it.
@@ -53,4 +53,20 @@ pub trait Files {
         ensures opened { Opens Self.Reader.remaining Self.Reader.health
             (tells self.old path.now) result }
         ensures stays { tells self.new ≡ tells self.old };
+
+    /// Makes these bytes the file of `path`, whole: they are written to `temp`, which is then renamed.
+    ///
+    /// What was stored at `temp` is lost. After a fault the file of `path` is as it was, and a file of
+    /// `temp` may stand.
+    ///
+    /// Errors: [`FileFault::Failed`] where they can't be written or renamed;
+    /// [`FileFault::OutOfMemory`] where there is no memory for that.
+    fn replace(
+        &mut self,
+        alloc: Global,
+        temp: &str,
+        path: &str,
+        bytes: &[u8],
+    ) -> Result<(), FileFault>
+        ensures { Replaces temp.now path.now bytes.now (tells self.old) (tells self.new) result };
 }

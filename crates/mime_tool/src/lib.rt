@@ -18,6 +18,7 @@
 //! data, answers each FILE, and gives its status or a `stop`.
 #![tactic(auto)]
 
+mod build;
 mod desk;
 mod directories;
 mod files;

@@ -3,16 +3,18 @@
 
 ghost use Rattle.std.specs.Prelude.{◌≡◌, ◌≢◌, ℕ, Bool, List, [], false, is_some, map, true};
 ghost use Rattle.clap.specs.Values.{kind_of};
-ghost use Rattle.mime_request.specs.Request.{plain_request, meaning_of, parts};
-ghost use Rattle.mime_request.specs.Spelling.{AreUsual, plain_words};
+ghost use Rattle.mime_request.specs.Request.{asks, meaning_of, parts, plain_request};
+ghost use Rattle.mime_request.specs.Spelling.{AreUsual, build_words, is_option, plain_words};
+ghost use Rattle.mime_tool.specs.Build.{IsBuild};
 ghost use Rattle.mime_tool.specs.Desk.{Does, Ends, Works};
 ghost use Rattle.mime_tool.specs.Finish.{Finishes};
 ghost use Rattle.mime_tool.specs.Plain.{IsPlain};
-ghost use Rattle.mime_tool.specs.Program.{IsAnswer, IsAskedRun, IsShown, asked_files, files_of, is_help, shown};
+ghost use Rattle.mime_tool.specs.Program.{Answers, IsAnswer, IsShown, Leaves, files_of, is_help, shown};
 ghost use Rattle.mime_tool.specs.Run.{printed};
 ghost use Rattle.mime_tool.specs.Sink.{IsHandedOn, Wrote};
 ghost use Rattle.mime_tool.specs.Stop.{IsFlushed};
 
+use crate::build::build;
 use crate::desk::{Desk, Streams};
 use crate::files::Files;
 use crate::plain::print_types;
@@ -27,11 +29,11 @@ use std::convert::AsStr;
 
 /// Runs the program on the words after its name, and gives the exit status.
 ///
-/// The status is 0 where every file was answered or help was shown, 1 where some file can't be opened
-/// or read or has a name that is too long, 2 where the words are wrong, 3 where the data can't be read
-/// or are refused or `out` fails, and 4 where memory ran out. Messages go to `err`, a line each; its
-/// faults are passed over, unless memory ran out. Lines that were printed before a stop stay, and are
-/// flushed.
+/// The status is 0 where every file was answered, a cache was stored or help was shown, 1 where some
+/// file can't be opened or read or has a name that is too long, 2 where the words are wrong, 3 where
+/// the data can't be read or are refused, a cache can't be written or `out` fails, and 4 where memory
+/// ran out. Messages go to `err`, a line each; its faults are passed over, unless memory ran out.
+/// Lines that were printed before a stop stay, and are flushed.
 pub fn run<F: Files, O: Sink, E: Sink, S: AsStr>(
     alloc: Global,
     words: &[S],
@@ -41,7 +43,7 @@ pub fn run<F: Files, O: Sink, E: Sink, S: AsStr>(
 ) -> u8
     // Whatever the words mean, where it is known what standard output holds.
     ensures answers { is_some (O.holds out.old) ≡ true
-        → Finishes (IsAnswer (F.tells files.old) (meaning_of (map S.text words.now)))
+        → Finishes (IsAnswer (F.tells files.old) (F.tells files.new) (meaning_of (map S.text words.now)))
         (files_of (meaning_of (map S.text words.now)))
         (record { out = O.holds out.old; err = E.holds err.old })
         (record { out = O.holds out.new; err = E.holds err.new }) result }
@@ -53,6 +55,17 @@ pub fn run<F: Files, O: Sink, E: Sink, S: AsStr>(
         → Finishes (IsPlain (F.tells files.old) (parts dirs) name_only magic_first) names
         (record { out = O.holds out.old; err = E.holds err.old })
         (record { out = O.holds out.new; err = E.holds err.new }) result }
+
+    // `build -d DIRS -o FILE`, with no word of the parser of command lines.
+    ensures build { is_some (O.holds out.old) ≡ true
+        → (dirs file : List ℕ) → map S.text words.now ≡ build_words dirs file
+        → is_option dirs ≡ false → is_option file ≡ false
+        → Finishes (IsBuild (parts dirs) file (F.tells files.old) (F.tells files.new)) []
+        (record { out = O.holds out.old; err = E.holds err.old })
+        (record { out = O.holds out.new; err = E.holds err.new }) result }
+
+    // What is left stored, however the run ends: all that was, but for what `build` replaces.
+    ensures leaves { Leaves (meaning_of (map S.text words.now)) (F.tells files.old) (F.tells files.new) }
 
     // The last that standard output was asked is to hand on what it held back.
     ensures flushed { is_some (O.holds out.old) ≡ true → IsHandedOn result (O.flushed out.new) }
@@ -72,10 +85,12 @@ fn perform<F: Files, O: Sink, E: Sink, S: AsStr>(
     out: &mut O,
     err: &mut E,
 ) -> Result<u8, Stop>
-    ensures { Ends (IsAnswer (F.tells files.old) (meaning_of (map S.text words.now)))
+    ensures ended { Ends
+        (IsAnswer (F.tells files.old) (F.tells files.new) (meaning_of (map S.text words.now)))
         (files_of (meaning_of (map S.text words.now)))
         (record { out = O.holds out.old; err = E.holds err.old })
         (record { out = O.holds out.new; err = E.holds err.new }) result }
+    ensures leaves { Leaves (meaning_of (map S.text words.now)) (F.tells files.old) (F.tells files.new) }
 {
     let mut desk = Streams {
         alloc,
@@ -100,8 +115,7 @@ fn flush_after<O: Sink>(ended: Result<u8, Stop>, out: &mut O) -> Result<u8, Stop
 
 // Does what the words ask for, or shows help or what is wrong with them.
 fn answer_words<D: Desk, S: AsStr>(desk: &mut D, words: &[S]) -> Result<u8, Stop>
-    ensures { Works (Ends (IsAnswer (D.state desk.old).stored (meaning_of (map S.text words.now)))
-        (files_of (meaning_of (map S.text words.now))))
+    ensures { Answers (meaning_of (map S.text words.now))
         (D.state desk.old) (D.state desk.new) result }
 {
     match request_of(desk.alloc(), words) {
@@ -111,10 +125,10 @@ fn answer_words<D: Desk, S: AsStr>(desk: &mut D, words: &[S]) -> Result<u8, Stop
 }
 
 fn answer<D: Desk>(desk: &mut D, request: &Request<'_>) -> Result<u8, Stop>
-    ensures { Works (Ends (IsAskedRun (D.state desk.old).stored (plain_request request.now))
-        (asked_files (plain_request request.now))) (D.state desk.old) (D.state desk.new) result }
+    ensures { Answers (asks (plain_request request.now)) (D.state desk.old) (D.state desk.new) result }
 {
     match request {
+        Request::Build { directories, file } => build(desk, directories.as_slice(), *file),
         Request::Plain {
             directories,
             name_only,

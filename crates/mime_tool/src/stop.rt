@@ -2,7 +2,7 @@
 
 ghost use Rattle.std.specs.Prelude.{◌≡◌};
 ghost use Rattle.mime_tool.specs.declared.stop.Stop.TheVariants.{OutOfMemory};
-ghost use Rattle.mime_tool.specs.Run.{cannot_read};
+ghost use Rattle.mime_tool.specs.Run.{cannot_read, cannot_write};
 ghost use Rattle.mime_tool.specs.Stop.{IsRefusal, Says, SaysStop, TellsStop, stop_of};
 
 use crate::sink::{Sink, SinkFault, put_now};
@@ -61,6 +61,16 @@ pub(crate) fn unreadable(alloc: Global, path: &str) -> Stop
     ensures { IsRefusal (cannot_read path.now) result }
 {
     match format!(in alloc; "mimelook: {path}: cannot read\n") {
+        Ok(message) => Stop::Refused(message),
+        Err(_) => Stop::OutOfMemory,
+    }
+}
+
+/// The file of this path can't be written.
+pub(crate) fn unwritable(alloc: Global, path: &str) -> Stop
+    ensures { IsRefusal (cannot_write path.now) result }
+{
+    match format!(in alloc; "mimelook: {path}: cannot write\n") {
         Ok(message) => Stop::Refused(message),
         Err(_) => Stop::OutOfMemory,
     }

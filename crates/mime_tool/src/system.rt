@@ -11,7 +11,7 @@ use mime_lookup::Untold;
 use std::alloc::Global;
 use std::fs::{File, OpenFile};
 use std::io::{ErrorKind, Read, Write};
-use std::{io, rt};
+use std::{fs, io, rt};
 
 /// The longest file that is read whole, in bytes.
 const LONGEST_FILE: usize = 4_294_967_296;
@@ -59,6 +59,27 @@ impl<R: rt::Files> Files for SystemFiles<'_, R> {
             Err(error) => Err(file_fault(&error)),
         }
     }
+
+    fn replace(
+        &mut self,
+        _alloc: Global,
+        temp: &str,
+        path: &str,
+        bytes: &[u8],
+    ) -> Result<(), FileFault> {
+        match replace_by(self.0, temp, path, bytes) {
+            Ok(()) => Ok(()),
+            Err(error) => Err(file_fault(&error)),
+        }
+    }
+}
+
+// Writes a file of `temp` that lasts, and renames it.
+fn replace_by<R: rt::Files>(rt: &R, temp: &str, path: &str, bytes: &[u8]) -> io::Result<()> {
+    let mut file = File::create(rt, temp)?;
+    file.write_all(bytes)?;
+    file.sync_all()?;
+    fs::rename(rt, temp, path)
 }
 
 // All the bytes of an open file, at most `limit`. A file that says that it is longer isn't read.

@@ -18,6 +18,16 @@ impl Files for FailingFiles {
     fn open(&mut self, _alloc: Global, _path: &str) -> Result<Page<'static>, FileFault> {
         Err(self.0)
     }
+
+    fn replace(
+        &mut self,
+        _alloc: Global,
+        _temp: &str,
+        _path: &str,
+        _bytes: &[u8],
+    ) -> Result<(), FileFault> {
+        Err(self.0)
+    }
 }
 
 /// Files of a shelf of which one call fails: so many are met before it.
@@ -50,6 +60,17 @@ impl<'a> Files for FailingShelf<'a> {
     fn open(&mut self, alloc: Global, path: &str) -> Result<Page<'a>, FileFault> {
         self.step()?;
         self.shelf.open(alloc, path)
+    }
+
+    fn replace(
+        &mut self,
+        alloc: Global,
+        temp: &str,
+        path: &str,
+        bytes: &[u8],
+    ) -> Result<(), FileFault> {
+        self.step()?;
+        self.shelf.replace(alloc, temp, path, bytes)
     }
 }
 

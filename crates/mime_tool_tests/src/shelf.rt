@@ -82,6 +82,17 @@ impl<'a> Files for Shelf<'a> {
             Some(Entry::Bytes(bytes)) => Ok(Page::Bytes(bytes)),
         }
     }
+
+    // Nothing on a shelf can be replaced.
+    fn replace(
+        &mut self,
+        _alloc: Global,
+        _temp: &str,
+        _path: &str,
+        _bytes: &[u8],
+    ) -> Result<(), FileFault> {
+        Err(FileFault::Failed)
+    }
 }
 
 fn entry_at<'a>(entries: &[(&'a str, Entry<'a>)], path: &str) -> Option<Entry<'a>>

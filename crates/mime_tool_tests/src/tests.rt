@@ -1,3 +1,4 @@
+mod build;
 mod contents;
 mod directories;
 mod faults;

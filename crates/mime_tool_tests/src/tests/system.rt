@@ -245,3 +245,26 @@ fn passes_on_each_failure_of_a_stream(rt: HostRuntime) -> Result<(), Fail> {
     assert_eq!(rt; full.flush(), Ok(()));
     Ok(())
 }
+
+#[test]
+fn names_what_replacing_fails_with(rt: HostRuntime) -> Result<(), Fail> {
+    let denied = ErrorKind::PermissionDenied;
+    let rows = [
+        ("denied", Disk::Fails(denied), FileFault::Failed),
+        (
+            "no memory",
+            Disk::Fails(ErrorKind::OutOfMemory),
+            FileFault::OutOfMemory,
+        ),
+        ("no write", gives(Ok(0), None), FileFault::Failed),
+    ];
+    for (name, disk, want) in rows {
+        let mut files = SystemFiles::new(&disk);
+        let fault = files.replace(rt.alloc(), "c.new", "c", b"x").err();
+        assert_eq!(rt; fault, Some(want), "{name}");
+    }
+    let mut files = SystemFiles::new(&rt);
+    let fault = files.replace(rt.alloc(), "/proc/c.new", "/proc/c", b"x");
+    assert_eq!(rt; fault, Err(FileFault::Failed));
+    Ok(())
+}

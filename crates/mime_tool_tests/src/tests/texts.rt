@@ -7,30 +7,49 @@ use std::test::Fail;
 const HELP: &str = "\
 Tells the MIME types of files
 
-Usage: mimelook plain -d DIRS [--name-only] [--magic-first] FILE...
+Usage: mimelook <COMMAND>
 
 Commands:
+  build  Writes a mime.cache from the text files of data directories
   plain  Prints a line FILE: TYPE for each FILE, from the text files of data directories
 
 Options:
   -h, --help     Print help
   -V, --version  Print version
 
+Messages go to standard error. The --help of a command says what its exit statuses are;
+help and the version have 0, and a wrong command line has 2.
+
+Examples:
+  $ mimelook plain -d /usr/local/share:/usr/share notes.txt
+  notes.txt: text/plain
+  $ mimelook build -d /usr/local/share:/usr/share -o /usr/share/mime/mime.cache
+";
+
+const BUILD_HELP: &str = "\
+Writes a mime.cache from the text files of data directories
+
+Usage: mimelook build -d DIRS -o FILE
+
+Options:
+  -d <DIRS>   Data directories, most preferred first, with colons between them, such as
+              /usr/local/share:/usr/share; an empty part is passed over
+  -o <FILE>   The cache to write, such as /usr/share/mime/mime.cache;
+              it is written as FILE.new and then renamed
+  -h, --help  Print help
+
 Messages go to standard error. The files are DIR/mime/globs2, magic, aliases,
 subclasses, icons and generic-icons; a missing one counts as empty.
-A FILE that is not UTF-8 refuses the whole call.
 
 Exit status:
-  0  every FILE was answered; or help or the version was printed
-  1  some FILE can't be opened or read, or its name is too long (above 4096 bytes);
-     the others were answered
+  0  FILE was written; or help was printed
   2  the command line is wrong, or a word of it is not UTF-8
-  3  the data can't be read or is refused, or the output can't be written
+  3  the data can't be read or is refused, the database is too large, or FILE can't
+     be written
   4  out of memory
 
 Example:
-  $ mimelook plain -d /usr/local/share:/usr/share notes.txt
-  notes.txt: text/plain
+  $ mimelook build -d /usr/local/share:/usr/share -o /usr/share/mime/mime.cache
 ";
 
 const PLAIN_HELP: &str = "\
@@ -53,7 +72,7 @@ subclasses, icons and generic-icons; a missing one counts as empty.
 A FILE that is not UTF-8 refuses the whole call.
 
 Exit status:
-  0  every FILE was answered; or help or the version was printed
+  0  every FILE was answered; or help was printed
   1  some FILE can't be opened or read, or its name is too long (above 4096 bytes);
      the others were answered
   2  the command line is wrong, or a word of it is not UTF-8
@@ -69,9 +88,9 @@ const VERSION: &str = "mimelook 0.1.0\n";
 
 const NO_COMMAND: &str = "\
 error: 'mimelook' requires a subcommand but one was not provided
-  [subcommands: plain]
+  [subcommands: build, plain]
 
-Usage: mimelook plain -d DIRS [--name-only] [--magic-first] FILE...
+Usage: mimelook <COMMAND>
 
 For more information, try '--help'.
 ";
@@ -79,7 +98,16 @@ For more information, try '--help'.
 const UNKNOWN_COMMAND: &str = "\
 error: unrecognized subcommand 'help'
 
-Usage: mimelook plain -d DIRS [--name-only] [--magic-first] FILE...
+Usage: mimelook <COMMAND>
+
+For more information, try '--help'.
+";
+
+const NO_OUTPUT: &str = "\
+error: the following required arguments were not provided:
+  -o <FILE>
+
+Usage: mimelook build -d DIRS -o FILE
 
 For more information, try '--help'.
 ";
@@ -170,9 +198,11 @@ fn shows_help_and_mistakes_whole(rt: HostRuntime) -> Result<(), Fail> {
         help("help in short", &["-h"], HELP),
         help("version", &["--version"], VERSION),
         help("version in short", &["-V"], VERSION),
+        help("help of build", &["build", "--help"], BUILD_HELP),
         help("help of plain", &["plain", "--help"], PLAIN_HELP),
         mistake("no command", &[], NO_COMMAND),
         mistake("unknown command", &["help"], UNKNOWN_COMMAND),
+        mistake("no -o", &["build", "-d", "/s"], NO_OUTPUT),
         mistake("neither -d nor FILE", &["plain"], NO_DIRECTORY_NO_FILE),
         mistake("no FILE", &["plain", "--name-only", "-d", ""], NO_FILE),
         mistake("no -d", &["plain", "--name-only", "a"], NO_DIRECTORY),

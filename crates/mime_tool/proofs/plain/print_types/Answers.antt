@@ -34,5 +34,6 @@ returns g c =
       same_files = lines.same_files ∙ load.same_files;
       same_places = lines.same_places ∙ load.same_places;
       sinks = command_over Database plain_database stored (texts c.args.directories.now) (AreLines stored name_only magic_first)
-          (texts c.args.files.now) c.in_ok-database.database _ _ _ _ (no_lines stored name_only magic_first) load.sinks here.sinks;
+          (texts c.args.files.now) c.in_ok-database.database _ _ _ _
+          (no_lines stored name_only magic_first (plain_database c.in_ok-database.database)) load.sinks here.sinks;
     }

@@ -1,0 +1,105 @@
+-- What the usual spellings of `build` mean.
+use Rattle.std.proofs.Common.{◌≡◌, false, List, [], ◌∷◌, Some, refl, codes}
+use Rattle.clap.specs.Walk.{Row, Text, Walk, finished, idle, nothing_held, option, used, walk_from}
+use Rattle.clap.specs.Simple.{filled, with_index}
+use Rattle.clap.proofs.OnLiterals.{clap_on_literals}
+use Rattle.mime_request.specs.CommandLine.{output_rule}
+use Rattle.mime_request.specs.Request.{asks, build, build_meaning, meaning_of, parts}
+use Rattle.mime_request.specs.Spelling.{build_words, build_words_output_first, is_option}
+use Rattle.mime_request.proofs.CommandWords.{meaning_of-met}
+use Rattle.mime_request.proofs.OptionWords.{between, directories_used}
+use Rattle.mime_request.proofs.PlainWords.{IsPlainWord, plain_word}
+use Rattle.mime_request.proofs.Shapes.{build_met, build_shape}
+use Rattle.mime_request.proofs.Walks.{Goes, Leads, end_fault, ends, goes}
+
+abbrev output_used : Text → List Row → List Row
+output_used file = used (with_index 1 (filled output_rule)) (file ∷ [])
+
+-- before the value of the option, and after it
+abbrev before_value : Text → List Row → Walk
+before_value id rows = between rows (Some (id, [])) (option id)
+
+abbrev after_value : Text → List Row → Text → Walk
+after_value id rows value = between rows (Some (id, value ∷ [])) idle
+
+directories : (rows : List Row) (dirs : Text) → IsPlainWord dirs
+    → Goes build_shape [] (before_value (codes "dirs") rows) dirs (after_value (codes "dirs") rows dirs)
+unfolding clap_on_literals
+directories rows dirs h = record {
+  no_fault = rw (h.no_dashes, h.no_long, h.no_short) refl;
+  moves = rw (h.no_dashes, h.no_long, h.no_short) refl;
+}
+
+output : (rows : List Row) (file : Text) → IsPlainWord file
+    → Goes build_shape [] (before_value (codes "output") rows) file (after_value (codes "output") rows file)
+unfolding clap_on_literals
+output rows file h = record {
+  no_fault = rw (h.no_dashes, h.no_long, h.no_short) refl;
+  moves = rw (h.no_dashes, h.no_long, h.no_short) refl;
+}
+
+option_d : Goes build_shape [] (walk_from nothing_held) (codes "-d") (before_value (codes "dirs") [])
+unfolding clap_on_literals
+option_d = record { no_fault = refl; moves = refl }
+
+option_o : Goes build_shape [] (walk_from nothing_held) (codes "-o") (before_value (codes "output") [])
+unfolding clap_on_literals
+option_o = record { no_fault = refl; moves = refl }
+
+option_o-after : (dirs : Text)
+    → Goes build_shape [] (after_value (codes "dirs") [] dirs) (codes "-o") (before_value (codes "output") (directories_used dirs []))
+unfolding clap_on_literals
+option_o-after dirs = record { no_fault = refl; moves = refl }
+
+option_d-after : (file : Text)
+    → Goes build_shape [] (after_value (codes "output") [] file) (codes "-d") (before_value (codes "dirs") (output_used file []))
+unfolding clap_on_literals
+option_d-after file = record { no_fault = refl; moves = refl }
+
+-- after the last word, in each order
+abbrev output_last : Text → Text → Walk
+output_last dirs file = after_value (codes "output") (directories_used dirs []) file
+
+abbrev output_first : Text → Text → Walk
+output_first dirs file = after_value (codes "dirs") (output_used file []) dirs
+
+output_last_walk : (dirs file : Text) → IsPlainWord dirs → IsPlainWord file
+    → Leads build_shape [] (walk_from nothing_held) (codes "-d" ∷ dirs ∷ codes "-o" ∷ file ∷ []) (output_last dirs file)
+output_last_walk dirs file d f =
+    goes _ _ _ _ _ option_d (goes _ _ _ _ _ (directories [] dirs d) (goes _ _ _ _ _ (option_o-after dirs)
+    (goes _ _ _ _ _ (output (directories_used dirs []) file f) (ends (output_last dirs file)))))
+
+output_first_walk : (dirs file : Text) → IsPlainWord dirs → IsPlainWord file
+    → Leads build_shape [] (walk_from nothing_held) (codes "-o" ∷ file ∷ codes "-d" ∷ dirs ∷ []) (output_first dirs file)
+output_first_walk dirs file d f =
+    goes _ _ _ _ _ option_o (goes _ _ _ _ _ (output [] file f) (goes _ _ _ _ _ (option_d-after file)
+    (goes _ _ _ _ _ (directories (output_used file []) dirs d) (ends (output_first dirs file)))))
+
+output_last_fits : (dirs file : Text) → end_fault build_shape false (output_last dirs file).held ≡ []
+unfolding clap_on_literals
+output_last_fits dirs file = refl
+
+output_first_fits : (dirs file : Text) → end_fault build_shape false (output_first dirs file).held ≡ []
+unfolding clap_on_literals
+output_first_fits dirs file = refl
+
+output_last_means : (dirs file : Text) → build_meaning (finished build_shape.rules (output_last dirs file).held) ≡ asks (build (parts dirs) file)
+unfolding clap_on_literals
+output_last_means dirs file = refl
+
+output_first_means : (dirs file : Text)
+    → build_meaning (finished build_shape.rules (output_first dirs file).held) ≡ asks (build (parts dirs) file)
+unfolding clap_on_literals
+output_first_means dirs file = refl
+
+pub meaning_of-usual_build : (dirs file : Text) → is_option dirs ≡ false → is_option file ≡ false
+    → meaning_of (build_words dirs file) ≡ asks (build (parts dirs) file)
+meaning_of-usual_build dirs file d f =
+    meaning_of-met build_met _ (output_last dirs file) _ (output_last_walk dirs file (plain_word dirs d) (plain_word file f))
+    (output_last_fits dirs file) (output_last_means dirs file)
+
+pub meaning_of-output_first : (dirs file : Text) → is_option dirs ≡ false → is_option file ≡ false
+    → meaning_of (build_words_output_first dirs file) ≡ asks (build (parts dirs) file)
+meaning_of-output_first dirs file d f =
+    meaning_of-met build_met _ (output_first dirs file) _ (output_first_walk dirs file (plain_word dirs d) (plain_word file f))
+    (output_first_fits dirs file) (output_first_means dirs file)

@@ -1,0 +1,83 @@
+-- What `build` stores, and what it says.
+use Rattle.std.specs.Prelude.{◌≡◌, ◌⊎◌, ◌<◌, ◌≤◌, ℕ, true, List, [], ◌++◌, Some, Result, Ok, Err, Vec, codes, length, string_bytes}
+use Rattle.std.specs.declared.alloc.Global.{Global}
+use Rattle.mime_base.specs.Database.{PlainDatabase}
+use Rattle.mime_base.specs.Format.Packed.{Packed}
+use Rattle.mime_base.specs.Format.Room.{room}
+use Rattle.mime_base.specs.Format.Spells.{Spells, cache_limit}
+use Rattle.mime_tool.specs.Desk.{Ends, State}
+use Rattle.mime_tool.specs.Directories.{IsCommand, IsDatabase}
+use Rattle.mime_tool.specs.Files.{Replaced, Stored, Untouched}
+use Rattle.mime_tool.specs.Run.{Run, cannot_write, silent, stopped, stops}
+use Rattle.mime_tool.specs.declared.stop.Stop.{Stop}
+use Rattle.mime_tool.specs.declared.stop.Stop.TheVariants as stop
+
+-- the file by which the cache comes
+abbrev pub temp_of : List ℕ → List ℕ
+temp_of file = file ++ codes ".new"
+
+-- the message on a database that no cache can hold
+abbrev pub too_large : List ℕ
+too_large = codes "mimelook: database too large\n"
+
+-- the bytes are a cache of the database, and no longer than its room
+pub record IsCacheOf (database : PlainDatabase) (cache : List ℕ) : Type 0 where
+  pub spells : Spells cache database
+  pub packed : Packed cache database
+  pub long : length cache ≤ room database
+
+-- the database fits in a cache, and one took the place of the file
+abbrev pub IsBuilt : List ℕ → (List ℕ → Stored) → (List ℕ → Stored) → PlainDatabase → Type 0
+IsBuilt file old new database =
+    (room database ≤ cache_limit)
+    × ((cache : List ℕ) × IsCacheOf database cache × Replaced (temp_of file) file cache old new)
+
+-- the run over a database, which was stored so and is stored so then: there can be no cache; or the
+-- cache can't be written; or it takes the place of the file, and nothing is said
+abbrev pub IsBuildOver : List ℕ → (List ℕ → Stored) → (List ℕ → Stored) → PlainDatabase → Run → Type 0
+IsBuildOver file old new database run =
+    ((cache_limit < room database) × (new ≡ old) × (run ≡ stopped too_large silent))
+    ⊎ (((room database ≤ cache_limit) × Untouched (temp_of file) old new × (run ≡ stopped (cannot_write file) silent))
+    ⊎ (IsBuilt file old new database × (run ≡ silent)))
+
+-- the run of `build` over these directories; where it stops, the file is as it was
+abbrev pub IsBuild : List (List ℕ) → List ℕ → (List ℕ → Stored) → (List ℕ → Stored) → List (List ℕ) → Run → Type 0
+IsBuild dirs file old new files run =
+    IsCommand old dirs (λ database _. IsBuildOver file old new database) files run
+    × (stops run ≡ true → Untouched (temp_of file) old new)
+
+-- what `build` may leave stored, however it ends: the file is as it was, or it is a cache of the database
+-- of these directories
+abbrev pub LeavesBuilt : List (List ℕ) → List ℕ → (List ℕ → Stored) → (List ℕ → Stored) → Type 0
+LeavesBuilt dirs file old new =
+    Untouched (temp_of file) old new
+    ⊎ ((database : PlainDatabase) × (messages : List ℕ) × IsDatabase old dirs (Some database) messages
+    × IsBuilt file old new database)
+
+-- ---- the parts of `build`
+
+-- a cache of the database, or that there can be none, unless memory ran out
+abbrev pub GivesCache : PlainDatabase → Result (Vec ℕ Global) Stop → Type 0
+GivesCache database (Ok cache) = IsCacheOf database cache.items × (room database ≤ cache_limit)
+GivesCache database (Err (stop.Refused text)) = (string_bytes text ≡ too_large) × (cache_limit < room database)
+GivesCache database (Err stop.CannotWrite) = ⊥
+GivesCache database (Err stop.OutOfMemory) = Unit {0}
+
+-- what the run over a database leaves stored
+abbrev pub LeavesOver : List ℕ → (List ℕ → Stored) → (List ℕ → Stored) → PlainDatabase → Result ℕ Stop → Type 0
+LeavesOver file old new database (Ok status) = IsBuilt file old new database
+LeavesOver file old new database (Err s) = Untouched (temp_of file) old new
+
+-- the run over a database, up to the message of a stop
+pub record BuildsOver (database : PlainDatabase) (file : List ℕ) (before after : State) (result : Result ℕ Stop) : Type 0 where
+  pub same_places : after.places ≡ before.places
+  pub can_be : (run : Run) × IsBuildOver file before.stored after.stored database run
+  pub sinks :
+      Ends (λ _. IsBuildOver file before.stored after.stored database) [] before.sinks after.sinks result
+  pub leaves : LeavesOver file before.stored after.stored database result
+
+-- the run of `build`, up to the message of a stop
+pub record Builds (dirs : List (List ℕ)) (file : List ℕ) (before after : State) (result : Result ℕ Stop) : Type 0 where
+  pub same_places : after.places ≡ before.places
+  pub sinks : Ends (IsBuild dirs file before.stored after.stored) [] before.sinks after.sinks result
+  pub leaves : LeavesBuilt dirs file before.stored after.stored

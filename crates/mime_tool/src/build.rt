@@ -1,0 +1,60 @@
+//! The command `build`: a cache of the text files of data directories ("The mime.cache files").
+//!
+//! That the cache takes the place of a file whole, by way of a file beside it, is this project's own.
+
+ghost use Rattle.std.specs.Prelude.{IfOk, ◌≡◌, string_bytes};
+ghost use Rattle.clap.specs.Walk.{texts};
+ghost use Rattle.mime_base.specs.Database.{plain_database};
+ghost use Rattle.mime_tool.specs.Build.{Builds, BuildsOver, GivesCache, too_large};
+ghost use Rattle.mime_tool.specs.Stop.{IsRefusal};
+
+use crate::desk::Desk;
+use crate::directories::load;
+use crate::status::ANSWERED;
+use crate::stop::Stop;
+use mime_base::Database;
+use mime_store::{StoreFault, write_cache};
+use std::alloc::Global;
+
+/// The most bytes that a cache may have.
+const CACHE_LIMIT: usize = 268_435_456;
+
+/// Stores the cache of the directories as this file, and gives the status.
+///
+/// It is written to a file of this path and `.new`, which is then renamed. Where the database is too
+/// large for a cache, or the cache can't be written, the file is as it was.
+pub(crate) fn build<D: Desk>(desk: &mut D, directories: &[&str], file: &str) -> Result<u8, Stop>
+    ensures { Builds (texts directories.now) file.now (D.state desk.old) (D.state desk.new) result }
+{
+    let database = load(desk, directories)?;
+    store(desk, &database, file)
+}
+
+fn store<D: Desk>(desk: &mut D, database: &Database, file: &str) -> Result<u8, Stop>
+    ensures { BuildsOver (plain_database database.now) file.now
+        (D.state desk.old) (D.state desk.new) result }
+{
+    let cache = cache_of(desk.alloc(), database)?;
+    let temp = format!(in desk.alloc(); "{file}.new")?;
+    desk.replace(temp.as_str(), file, cache.as_slice())?;
+    Ok(ANSWERED)
+}
+
+fn cache_of(alloc: Global, database: &Database) -> Result<Vec<u8>, Stop>
+    ensures { GivesCache (plain_database database.now) result }
+{
+    match write_cache(alloc, database, CACHE_LIMIT) {
+        Ok(cache) => Ok(cache),
+        Err(StoreFault::TooLarge) => Err(too_large(alloc)),
+        Err(StoreFault::OutOfMemory) => Err(Stop::OutOfMemory),
+    }
+}
+
+fn too_large(alloc: Global) -> Stop
+    ensures { IsRefusal too_large result }
+{
+    match format!(in alloc; "mimelook: database too large\n") {
+        Ok(message) => Stop::Refused(message),
+        Err(_) => Stop::OutOfMemory,
+    }
+}
