@@ -46,10 +46,11 @@ IsEach IsOne [] run = run ≡ silent
 IsEach IsOne (file ∷ files) run =
     (first : Run) × IsOne file first × IsFollowed (stops first) first (IsEach IsOne files) run
 
--- the messages that any command may come to
+-- the message on a file that can't be read
 abbrev pub cannot_read : List ℕ → List ℕ
 cannot_read path = codes "mimelook: " ++ (path ++ codes ": cannot read\n")
 
+-- the message on a file that can't be written
 abbrev pub cannot_write : List ℕ → List ℕ
 cannot_write path = codes "mimelook: " ++ (path ++ codes ": cannot write\n")
 
