@@ -22,7 +22,9 @@ pairs_read c at (pair ∷ pairs) (numbers, here, (first, second, are, name, targ
     let here = rw are at here in
     let first_at = first_read c at first (second ∷ []) here in
     let second_at = second_read c at first second [] here in
-    (ap (text_at c) first_at ∙ text_read c first pair.0 name, ap (text_at c) second_at ∙ text_read c second pair.1 target, pairs_read c (at + 8) pairs rest)
+    let first_text = ap (text_at c) first_at ∙ text_read c first pair.0 name in
+    let second_text = ap (text_at c) second_at ∙ text_read c second pair.1 target in
+    (first_text, second_text, pairs_read c (at + 8) pairs rest)
 
 -- a record of a pair has two numbers
 pair_size : (c : List ℕ) (pair : Pair) (numbers : List ℕ) → IsPair (Stands c) pair numbers → 4 * length numbers ≡ 8

@@ -12,7 +12,9 @@ invariant-loop-low l = record {
   after : (text : List ℕ) → l.high < l.count → HasText l.counted l.first l.size l.high text → slice_cmp nat_cmp text l.key ≢ Less;
   rises : l.initial.meter.nodes ≤ l.meter.nodes;
   bytes_rise : l.initial.meter.bytes ≤ l.meter.bytes;
-  probes : (p : ℕ) × (p ≤ 26) × (2 ^ p * (l.high - l.low) ≤ l.count) × (l.meter.nodes ≤ l.initial.meter.nodes + p) × (l.meter.bytes ≤ l.initial.meter.bytes + 256 * p);
+  probes :
+      (p : ℕ) × (p ≤ 26) × (2 ^ p * (l.high - l.low) ≤ l.count)
+      × (l.meter.nodes ≤ l.initial.meter.nodes + p) × (l.meter.bytes ≤ l.initial.meter.bytes + 256 * p);
 }
 
 abbrev pub decreases-loop-low : goal.decreases-loop-low
