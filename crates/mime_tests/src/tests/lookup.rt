@@ -5,6 +5,7 @@ mod globs;
 mod health;
 mod magic;
 mod reads;
+mod sample;
 
 use crate::tests::texts::{Texts, merged};
 use mime_base::Host;
