@@ -48,8 +48,8 @@ GivesUp (Some before) (Some after) retries =
     (before.failed < after.failed) ⊎ (before.interrupted + retries < after.interrupted)
 
 -- no read failed, and no more were interrupted than may be tried again
-abbrev pub Goes : Option Tally → Option Tally → ℕ → Type 0
-Goes before after retries = (count : ℕ) × (count ≤ retries) × Interrupts before after count
+abbrev pub Retries : Option Tally → Option Tally → ℕ → Type 0
+Retries before after retries = (count : ℕ) × (count ≤ retries) × Interrupts before after count
 
 -- what a lookup takes for the content, where it is known: none is known not to be available
 abbrev pub known_content : {R : Type 0} → (R → Option (List ℕ)) → Option R → Option (Option (List ℕ))

@@ -2,7 +2,7 @@
 use Rattle.std.specs.Prelude.{◌≡◌, ◌≢◌, ◌⊎◌, ℕ, ◌≤◌, Bool, true, false, List, Option, Result, IfErr, OnOk, ⊤}
 use Rattle.mime_base.specs.Database.{PlainDatabase}
 use Rattle.mime_lookup.specs.CheckingOrder.{read_limit}
-use Rattle.mime_lookup.specs.Content.{Advances, GivesUp, Goes, Health, OfReader, Tally, broken, sound}
+use Rattle.mime_lookup.specs.Content.{Advances, GivesUp, Retries, Health, OfReader, Tally, broken, sound}
 use Rattle.mime_lookup.specs.declared.stopped.Cause.{Cause}
 use Rattle.mime_lookup.specs.declared.stopped.Cause.TheVariants.{OutOfMemory, Read}
 
@@ -12,7 +12,7 @@ pub record Reads {R X : Type 0} (remaining : R → Option (List ℕ)) (tally : R
   pub causes : IfErr result (λ cause. (cause ≡ Read) ⊎ (cause ≡ OutOfMemory))
   pub gives_up :
       IfErr result (λ cause. cause ≡ Read → OfReader (λ old new. GivesUp (tally old) (tally new) 1000) ⊥ before after)
-  pub goes : OnOk result (OfReader (λ old new. Goes (tally old) (tally new) 1000) ⊤ before after)
+  pub goes : OnOk result (OfReader (λ old new. Retries (tally old) (tally new) 1000) ⊤ before after)
   pub answers : OnOk result (OfReader (λ old _. health old ≡ broken → suffice ≡ true) ⊤ before after)
   pub fails :
       IfErr result

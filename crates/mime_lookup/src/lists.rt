@@ -8,7 +8,7 @@ ghost use Rattle.mime_lookup.specs.CheckingOrder.{Chooses, are_one_type, before_
 ghost use Rattle.mime_lookup.specs.Choice.{ChoosesAmong};
 ghost use Rattle.mime_lookup.specs.Sniffing.{sniffed};
 ghost use Rattle.mime_lookup.specs.Reads.{Reads};
-ghost use Rattle.mime_lookup.specs.Content.{Advances, GivesUp, Goes, OfReader, broken, known_content, sound};
+ghost use Rattle.mime_lookup.specs.Content.{Advances, GivesUp, Retries, OfReader, broken, known_content, sound};
 
 use crate::ancestry::first_of;
 use crate::answer::Answer;
@@ -60,7 +60,7 @@ pub fn look_up_plain<'a, R: Content>(
     ensures gives_up { IfErr result (λ stopped. stopped.cause ≡ Cause.Read →
         OfReader (λ before after. GivesUp (R.tally before) (R.tally after) 1000) ⊥ content.old content.new) }
     ensures goes { OnOk result (OfReader
-        (λ before after. Goes (R.tally before) (R.tally after) 1000) ⊤ content.old content.new) }
+        (λ before after. Retries (R.tally before) (R.tally after) 1000) ⊤ content.old content.new) }
     ensures answers { OnOk result (OfReader (λ before _. R.health before ≡ broken →
         globs_suffice (plain_database database.entry.now) name.now order ≡ true) ⊤ content.old content.new) }
     ensures fails { IfErr result (λ stopped. stopped.cause ≡ Cause.Read → OfReader (λ before _. (R.health before ≢ sound)

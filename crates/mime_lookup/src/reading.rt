@@ -2,7 +2,7 @@
 
 ghost use Rattle.std.specs.Prelude.{◌≡◌, ◌≢◌, ◌⊎◌, ◌+◌, ◌-◌, ◌<◌, ◌≤◌, List, ℕ, length, [], OnOk, OnErr, IfErr, IfOk, IsOk, IsErr, take};
 ghost use Rattle.std.specs.Io.KnownBytes.{Consumes, IsAtEnd, ReadConsumes};
-ghost use Rattle.mime_lookup.specs.Content.{Advances, GivesUp, Goes, Interrupts, broken, sound};
+ghost use Rattle.mime_lookup.specs.Content.{Advances, GivesUp, Retries, Interrupts, broken, sound};
 
 use crate::content::{Content, ReadFault};
 use crate::stopped::Cause;
@@ -28,7 +28,7 @@ pub fn read_front<R: Content>(
     ensures front { IfOk result (λ front.
         (length front.items ≡ read.new) × Consumes (R.remaining reader.old) (R.remaining reader.new) front.items) }
     ensures whole { OnOk result (read.new < limit → IsAtEnd (R.remaining reader.new)) }
-    ensures goes { OnOk result (Goes (R.tally reader.old) (R.tally reader.new) 1000) }
+    ensures goes { OnOk result (Retries (R.tally reader.old) (R.tally reader.new) 1000) }
     ensures gives_up { IfErr result (λ cause. cause ≡ Cause.Read → GivesUp (R.tally reader.old) (R.tally reader.new) 1000) }
     ensures sound { IfErr result (λ cause. cause ≡ Cause.Read → R.health reader.old ≢ sound) }
     ensures broken { OnOk result (0 < limit → R.health reader.old ≢ broken) }

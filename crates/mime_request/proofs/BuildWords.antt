@@ -10,7 +10,7 @@ use Rattle.mime_request.proofs.CommandWords.{meaning_of-met}
 use Rattle.mime_request.proofs.OptionWords.{between, directories_used}
 use Rattle.mime_request.proofs.PlainWords.{IsPlainWord, plain_word}
 use Rattle.mime_request.proofs.Shapes.{build_met, build_shape}
-use Rattle.mime_request.proofs.Walks.{Goes, Leads, end_fault, ends, goes}
+use Rattle.mime_request.proofs.Walks.{Steps, Leads, end_fault, ends, goes}
 
 abbrev output_used : Text → List Row → List Row
 output_used file = used (with_index 1 (filled output_rule)) (file ∷ [])
@@ -23,7 +23,7 @@ abbrev after_value : Text → List Row → Text → Walk
 after_value id rows value = between rows (Some (id, value ∷ [])) idle
 
 directories : (rows : List Row) (dirs : Text) → IsPlainWord dirs
-    → Goes build_shape [] (before_value (codes "dirs") rows) dirs (after_value (codes "dirs") rows dirs)
+    → Steps build_shape [] (before_value (codes "dirs") rows) dirs (after_value (codes "dirs") rows dirs)
 unfolding clap_on_literals
 directories rows dirs h = record {
   no_fault = rw (h.no_dashes, h.no_long, h.no_short) refl;
@@ -31,28 +31,28 @@ directories rows dirs h = record {
 }
 
 output : (rows : List Row) (file : Text) → IsPlainWord file
-    → Goes build_shape [] (before_value (codes "output") rows) file (after_value (codes "output") rows file)
+    → Steps build_shape [] (before_value (codes "output") rows) file (after_value (codes "output") rows file)
 unfolding clap_on_literals
 output rows file h = record {
   no_fault = rw (h.no_dashes, h.no_long, h.no_short) refl;
   moves = rw (h.no_dashes, h.no_long, h.no_short) refl;
 }
 
-option_d : Goes build_shape [] (walk_from nothing_held) (codes "-d") (before_value (codes "dirs") [])
+option_d : Steps build_shape [] (walk_from nothing_held) (codes "-d") (before_value (codes "dirs") [])
 unfolding clap_on_literals
 option_d = record { no_fault = refl; moves = refl }
 
-option_o : Goes build_shape [] (walk_from nothing_held) (codes "-o") (before_value (codes "output") [])
+option_o : Steps build_shape [] (walk_from nothing_held) (codes "-o") (before_value (codes "output") [])
 unfolding clap_on_literals
 option_o = record { no_fault = refl; moves = refl }
 
 option_o-after : (dirs : Text)
-    → Goes build_shape [] (after_value (codes "dirs") [] dirs) (codes "-o") (before_value (codes "output") (directories_used dirs []))
+    → Steps build_shape [] (after_value (codes "dirs") [] dirs) (codes "-o") (before_value (codes "output") (directories_used dirs []))
 unfolding clap_on_literals
 option_o-after dirs = record { no_fault = refl; moves = refl }
 
 option_d-after : (file : Text)
-    → Goes build_shape [] (after_value (codes "output") [] file) (codes "-d") (before_value (codes "dirs") (output_used file []))
+    → Steps build_shape [] (after_value (codes "output") [] file) (codes "-d") (before_value (codes "dirs") (output_used file []))
 unfolding clap_on_literals
 option_d-after file = record { no_fault = refl; moves = refl }
 

@@ -8,7 +8,7 @@ use Rattle.clap.proofs.OnLiterals.{clap_on_literals}
 use Rattle.mime_request.specs.CommandLine.{mimelook}
 use Rattle.mime_request.specs.Request.{Meaning, meaning_by, meaning_of, subcommand_meaning}
 use Rattle.mime_request.proofs.Shapes.{Met, build_met, name_of, plain_met, shape_of}
-use Rattle.mime_request.proofs.Walks.{Goes, Leads, end_fault, ends, goes, no_level_fault, walk_leads}
+use Rattle.mime_request.proofs.Walks.{Steps, Leads, end_fault, ends, goes, no_level_fault, walk_leads}
 
 abbrev top : Shape
 top = (built mimelook).top
@@ -26,13 +26,13 @@ at_command name words = record {
   stopped = Some (name, words);
 }
 
-meets : (m : Met) → Goes top commands (walk_from nothing_held) (name_of m) (at_command (name_of m) [])
+meets : (m : Met) → Steps top commands (walk_from nothing_held) (name_of m) (at_command (name_of m) [])
 unfolding clap_on_literals
 meets build_met = record { no_fault = refl; moves = refl }
 meets plain_met = record { no_fault = refl; moves = refl }
 
 passes_on : (name : Text) (before : List Text) (word : Text)
-    → Goes top commands (at_command name before) word (at_command name (before ++ word ∷ []))
+    → Steps top commands (at_command name before) word (at_command name (before ++ word ∷ []))
 unfolding clap_on_literals
 passes_on name before word = record { no_fault = refl; moves = refl }
 

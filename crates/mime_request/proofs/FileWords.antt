@@ -12,7 +12,7 @@ use Rattle.clap.proofs.OnLiterals.{clap_on_literals}
 use Rattle.mime_request.specs.Spelling.{is_option}
 use Rattle.mime_request.proofs.PlainWords.{IsPlainWord, neither, plain_word}
 use Rattle.mime_request.proofs.Shapes.{plain_shape}
-use Rattle.mime_request.proofs.Walks.{Goes, Leads, ends, goes, neither_fault}
+use Rattle.mime_request.proofs.Walks.{Steps, Leads, ends, goes, neither_fault}
 
 -- after these files, where the options before them gave these rows
 abbrev pub in_files : List Row → List Text → Walk
@@ -25,7 +25,7 @@ in_files rows files = record {
 }
 
 next_file : (rows : List Row) (file : Text) (files : List Text) → IsPlainWord file
-    → Goes plain_shape [] (in_files rows files) file (in_files rows (files ++ file ∷ []))
+    → Steps plain_shape [] (in_files rows files) file (in_files rows (files ++ file ∷ []))
 unfolding clap_on_literals
 next_file rows file files h = record {
   no_fault = rw (h.no_dashes, h.no_long, h.no_short) refl;

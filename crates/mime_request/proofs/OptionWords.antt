@@ -8,7 +8,7 @@ use Rattle.mime_request.specs.Spelling.{plain_flags}
 use Rattle.mime_request.proofs.FileWords.{in_files}
 use Rattle.mime_request.proofs.PlainWords.{IsPlainWord}
 use Rattle.mime_request.proofs.Shapes.{plain_shape}
-use Rattle.mime_request.proofs.Walks.{Goes, Leads, goes}
+use Rattle.mime_request.proofs.Walks.{Steps, Leads, goes}
 
 -- whether the flags stand after `-d DIRS` or before it
 pub data Order : Type 0 where
@@ -59,38 +59,38 @@ abbrev after_both : Bool → Bool → Text → Walk
 after_both false false dirs = after_dirs [] dirs
 after_both n m dirs = between (option_rows directories_first n m dirs) None idle
 
-option_d : (rows : List Row) → Goes plain_shape [] (between rows None idle) (codes "-d") (before_dirs rows)
+option_d : (rows : List Row) → Steps plain_shape [] (between rows None idle) (codes "-d") (before_dirs rows)
 unfolding clap_on_literals
 option_d rows = record { no_fault = refl; moves = refl }
 
-directories : (rows : List Row) (dirs : Text) → IsPlainWord dirs → Goes plain_shape [] (before_dirs rows) dirs (after_dirs rows dirs)
+directories : (rows : List Row) (dirs : Text) → IsPlainWord dirs → Steps plain_shape [] (before_dirs rows) dirs (after_dirs rows dirs)
 unfolding clap_on_literals
 directories rows dirs h = record {
   no_fault = rw (h.no_dashes, h.no_long, h.no_short) refl;
   moves = rw (h.no_dashes, h.no_long, h.no_short) refl;
 }
 
-name_only_first : Goes plain_shape [] (after_flags false false) (codes "--name-only") (after_flags true false)
+name_only_first : Steps plain_shape [] (after_flags false false) (codes "--name-only") (after_flags true false)
 unfolding clap_on_literals
 name_only_first = record { no_fault = refl; moves = refl }
 
-magic_first_first : (n : Bool) → Goes plain_shape [] (after_flags n false) (codes "--magic-first") (after_flags n true)
+magic_first_first : (n : Bool) → Steps plain_shape [] (after_flags n false) (codes "--magic-first") (after_flags n true)
 unfolding clap_on_literals
 magic_first_first true = record { no_fault = refl; moves = refl }
 magic_first_first false = record { no_fault = refl; moves = refl }
 
-name_only_last : (dirs : Text) → Goes plain_shape [] (after_dirs [] dirs) (codes "--name-only") (after_both true false dirs)
+name_only_last : (dirs : Text) → Steps plain_shape [] (after_dirs [] dirs) (codes "--name-only") (after_both true false dirs)
 unfolding clap_on_literals
 name_only_last dirs = record { no_fault = refl; moves = refl }
 
-magic_first_last : (n : Bool) (dirs : Text) → Goes plain_shape [] (after_both n false dirs) (codes "--magic-first") (after_both n true dirs)
+magic_first_last : (n : Bool) (dirs : Text) → Steps plain_shape [] (after_both n false dirs) (codes "--magic-first") (after_both n true dirs)
 unfolding clap_on_literals
 magic_first_last true dirs = record { no_fault = refl; moves = refl }
 magic_first_last false dirs = record { no_fault = refl; moves = refl }
 
 -- a file settles DIRS, if that is pending
 file_after_dirs : (n m : Bool) (dirs file : Text) → IsPlainWord file
-    → Goes plain_shape [] (after_dirs (flags_used n m []) dirs) file (in_files (option_rows flags_first n m dirs) (file ∷ []))
+    → Steps plain_shape [] (after_dirs (flags_used n m []) dirs) file (in_files (option_rows flags_first n m dirs) (file ∷ []))
 unfolding clap_on_literals
 file_after_dirs true true dirs file h = record {
   no_fault = rw (h.no_dashes, h.no_long, h.no_short) refl;
@@ -110,7 +110,7 @@ file_after_dirs false false dirs file h = record {
 }
 
 file_after_flags : (rows : List Row) (file : Text) → IsPlainWord file
-    → Goes plain_shape [] (between rows None idle) file (in_files rows (file ∷ []))
+    → Steps plain_shape [] (between rows None idle) file (in_files rows (file ∷ []))
 unfolding clap_on_literals
 file_after_flags rows file h = record {
   no_fault = rw (h.no_dashes, h.no_long, h.no_short) refl;
@@ -118,7 +118,7 @@ file_after_flags rows file h = record {
 }
 
 file_after_both : (n m : Bool) (dirs file : Text) → IsPlainWord file
-    → Goes plain_shape [] (after_both n m dirs) file (in_files (option_rows directories_first n m dirs) (file ∷ []))
+    → Steps plain_shape [] (after_both n m dirs) file (in_files (option_rows directories_first n m dirs) (file ∷ []))
 file_after_both true m dirs file h = file_after_flags _ file h
 file_after_both false true dirs file h = file_after_flags _ file h
 file_after_both false false dirs file h = file_after_dirs false false dirs file h

@@ -6,14 +6,14 @@ use Rattle.clap.specs.Faults.{check_fault, defaults_fault, level_fault, settle_f
 use Rattle.clap.specs.Kinds.{Kinds, or_else}
 
 -- the word leads a command's walk on without a fault
-pub record Goes (s : Shape) (names : Names) (here : Walk) (word : Text) (next : Walk) : Type 0 where
+pub record Steps (s : Shape) (names : Names) (here : Walk) (word : Text) (next : Walk) : Type 0 where
   pub no_fault : turn_fault s names here word ≡ []
   pub moves : walked s.rules names here word ≡ next
 
 -- so do the words
 pub data Leads (s : Shape) (names : Names) : Walk → List Text → Walk → Type 0 where
   ends : (here : Walk) → Leads s names here [] here
-  goes : (here next end : Walk) (word : Text) (words : List Text) → Goes s names here word next → Leads s names next words end
+  goes : (here next end : Walk) (word : Text) (words : List Text) → Steps s names here word next → Leads s names next words end
       → Leads s names here (word ∷ words) end
 
 fold_leads : (s : Shape) (names : Names) (here end : Walk) (words : List Text) → Leads s names here words end

@@ -5,7 +5,7 @@ use Rattle.std.specs.List.{common_prefix_len}
 use Rattle.std.proofs.lemmas.List.{map-append, take-append-drop}
 use Rattle.std.proofs.lemmas.List.Sums.{sum_by-append, sum_by-cons}
 use Rattle.mime_base.specs.Format.Room.{text_room}
-use Rattle.mime_store.specs.Endings.{Entry, common, ending_room, entries_room, entry_at}
+use Rattle.mime_store.specs.Endings.{Entry, common, ending_room, entries_room, ending_entry}
 use Rattle.mime_store.specs.declared.ending.Ending.{Ending}
 use Rattle.mime_store.proofs.Loops.{views_more}
 use Rattle.mime_store.proofs.Paths.{last_path, nodes-append}
@@ -35,22 +35,22 @@ last_path-push before [] e = refl
 last_path-push before (x ∷ es) e = last_path-push x.0 es e
 
 pub entries_more : (endings : List Ending) (i : ℕ) (x : Ending) → i < length endings → x ≡ get_or endings i x
-    → entries_room (map (entry_at 0) (take (i + 1) endings))
-    ≡ entries_room (map (entry_at 0) (take i endings)) + ending_room (last_path [] (map (entry_at 0) (take i endings))) (entry_at 0 x)
+    → entries_room (map (ending_entry 0) (take (i + 1) endings))
+    ≡ entries_room (map (ending_entry 0) (take i endings)) + ending_room (last_path [] (map (ending_entry 0) (take i endings))) (ending_entry 0 x)
 entries_more endings i x lt e =
-    ap entries_room (views_more (entry_at 0) endings i x lt e) ∙ entries_room-push (map (entry_at 0) (take i endings)) (entry_at 0 x)
+    ap entries_room (views_more (ending_entry 0) endings i x lt e) ∙ entries_room-push (map (ending_entry 0) (take i endings)) (ending_entry 0 x)
 
 pub last_more : (endings : List Ending) (i : ℕ) (x : Ending) → i < length endings → x ≡ get_or endings i x
-    → last_path [] (map (entry_at 0) (take (i + 1) endings)) ≡ x.path.items
+    → last_path [] (map (ending_entry 0) (take (i + 1) endings)) ≡ x.path.items
 last_more endings i x lt e =
-    ap (last_path []) (views_more (entry_at 0) endings i x lt e) ∙ last_path-push [] (map (entry_at 0) (take i endings)) (entry_at 0 x)
+    ap (last_path []) (views_more (ending_entry 0) endings i x lt e) ∙ last_path-push [] (map (ending_entry 0) (take i endings)) (ending_entry 0 x)
 
 -- the first of them take at most what all take
 pub entries_within : (endings : List Ending) (n : ℕ)
-    → entries_room (map (entry_at 0) (take n endings)) ≤ entries_room (map (entry_at 0) endings)
+    → entries_room (map (ending_entry 0) (take n endings)) ≤ entries_room (map (ending_entry 0) endings)
 entries_within endings n =
-    let es = map (entry_at 0) (take n endings) in
-    let fs = map (entry_at 0) (drop n endings) in
-    let whole : map (entry_at 0) endings ≡ es ++ fs =
-    ap (map (entry_at 0)) (sym (take-append-drop n endings)) ∙ map-append (entry_at 0) (take n endings) (drop n endings) in
+    let es = map (ending_entry 0) (take n endings) in
+    let fs = map (ending_entry 0) (drop n endings) in
+    let whole : map (ending_entry 0) endings ≡ es ++ fs =
+    ap (map (ending_entry 0)) (sym (take-append-drop n endings)) ∙ map-append (ending_entry 0) (take n endings) (drop n endings) in
     omega (arith, ap entries_room whole, nodes-append [] es fs, sum_by-append (λ (x : Entry). text_room x.1.kind) es fs)

@@ -12,7 +12,7 @@ use Rattle.mime_base.specs.Magic.{plain_matchlet_over, plain_matchlets}
 use Rattle.mime_base.specs.declared.magic.matchlet.Matchlet.{Matchlet}
 use Rattle.mime_base.specs.declared.magic.matchlet.Matchlet.TheFolds.{fold_out-Matchlet}
 use Rattle.mime_base.specs.declared.magic.matchlet.Matchlet.TheViews.{out-Matchlet}
-use Rattle.mime_store.specs.Lines.{IsLine, matchlet_extent, parts_room}
+use Rattle.mime_store.specs.Lines.{IsLineRecord, matchlet_extent, matchlet_parts_room}
 use Rattle.mime_store.specs.Written.{Grew, Written}
 use Rattle.mime_store.proofs.Entries.{cards_carry, text_carry}
 use Rattle.mime_store.proofs.Gather.{Keeps, Sized}
@@ -35,7 +35,7 @@ lines_carry S S' f at (line own children rest) h = (
   lines_carry S S' f (at + 32) rest h.7,
 )
 
-pub line_keeps : Keeps IsLine
+pub line_keeps : Keeps IsLineRecord
 line_keeps S S' f m row h = (
   h.0,
   h.1,
@@ -46,7 +46,7 @@ line_keeps S S' f m row h = (
   lines_carry S S' f h.2 m.children h.6,
 )
 
-pub line_sized : Sized IsLine 32
+pub line_sized : Sized IsLineRecord 32
 line_sized S m row h = rw h.3 refl
 
 pub section_keeps : Keeps IsSection
@@ -56,7 +56,7 @@ pub section_sized : Sized IsSection 16
 section_sized S section row h = rw h.2 refl
 
 -- records of lines are a forest
-pub lines_from_records : (S : Standing) (at : ℕ) (ms : List PlainMatchlet) → RecordsAt S 32 (IsLine S) at ms
+pub lines_from_records : (S : Standing) (at : ℕ) (ms : List PlainMatchlet) → RecordsAt S 32 (IsLineRecord S) at ms
     → LinesAt S at (forest_of ms)
 lines_from_records S at [] h = tt
 lines_from_records S at (m ∷ ms) h =
@@ -70,12 +70,12 @@ width-forest_of (m ∷ ms) = omega (arith, width-forest_of ms)
 pub width-lines : (ms : List Matchlet) → width (forest_of (plain_matchlets ms)) ≡ length ms
 width-lines ms = width-forest_of (plain_matchlets ms) ∙ length-map ms plain_matchlet
 
-room-forest_of : (ms : List PlainMatchlet) → lines_room (forest_of ms) ≡ 32 * length ms + sum_by parts_room ms
+room-forest_of : (ms : List PlainMatchlet) → lines_room (forest_of ms) ≡ 32 * length ms + sum_by matchlet_parts_room ms
 room-forest_of [] = refl
-room-forest_of (m ∷ ms) = omega (arith, room-forest_of ms, sum_by-cons parts_room m ms)
+room-forest_of (m ∷ ms) = omega (arith, room-forest_of ms, sum_by-cons matchlet_parts_room m ms)
 
 pub room-lines : (ms : List Matchlet)
-    → lines_room (forest_of (plain_matchlets ms)) ≡ 32 * length ms + sum_by parts_room (map plain_matchlet ms)
+    → lines_room (forest_of (plain_matchlets ms)) ≡ 32 * length ms + sum_by matchlet_parts_room (map plain_matchlet ms)
 room-lines ms = omega (arith, room-forest_of (plain_matchlets ms), length-map ms plain_matchlet)
 
 -- one level of a matchlet
@@ -89,10 +89,10 @@ out_line m = record {
 matchlet_out : (m : Matchlet) → plain_matchlet m ≡ out_line m
 matchlet_out m = fold_out-Matchlet PlainMatchlet plain_matchlet_over m
 
-pub room_out : (m : Matchlet) → parts_room (plain_matchlet m)
+pub room_out : (m : Matchlet) → matchlet_parts_room (plain_matchlet m)
     ≡ padded (length (out-Matchlet m).value.items) + mask_room (mask_bytes (out-Matchlet m).mask)
     + lines_room (forest_of (plain_matchlets (out-Matchlet m).children.items))
-room_out m = ap parts_room (matchlet_out m)
+room_out m = ap matchlet_parts_room (matchlet_out m)
 
 pub extent_out : (m : Matchlet) → matchlet_extent (plain_matchlet m)
     ≡ max ((out-Matchlet m).start + (out-Matchlet m).range + length (out-Matchlet m).value.items)
@@ -105,14 +105,14 @@ pub line_row : (c mid mid' new : List ℕ) (m : Matchlet) (value mask first w n 
     → Written mid value (out-Matchlet m).value.items → Grew mid mid' by
     → MaskAt (Written mid') mask (mask_bytes (out-Matchlet m).mask) → Grew mid' new by'
     → LinesAt (Written new) first (forest_of (plain_matchlets (out-Matchlet m).children.items))
-    → IsLine (Written new) (plain_matchlet m)
+    → IsLineRecord (Written new) (plain_matchlet m)
     ((out-Matchlet m).start ∷ (out-Matchlet m).range ∷ (out-Matchlet m).word ∷ w ∷ value ∷ mask ∷ n ∷ first ∷ [])
 line_row c mid mid' new m value mask first w n by by' ew en sv g sm g' sl =
     let to_mid' = written_more mid mid' by g in
     let to_new = written_more mid' new by' g' in
     let o = out-Matchlet m in
     let count : n ≡ width (forest_of (plain_matchlets o.children.items)) = en ∙ sym (width-lines o.children.items) in
-    subst (λ (l : PlainMatchlet). IsLine (Written new) l (o.start ∷ o.range ∷ o.word ∷ w ∷ value ∷ mask ∷ n ∷ first ∷ []))
+    subst (λ (l : PlainMatchlet). IsLineRecord (Written new) l (o.start ∷ o.range ∷ o.word ∷ w ∷ value ∷ mask ∷ n ∷ first ∷ []))
     (sym (matchlet_out m)) (
       value,
       mask,

@@ -7,7 +7,7 @@ use Rattle.mime_base.specs.Format.Records.{CardsAt, TextAt}
 use Rattle.mime_base.specs.Format.Room.{text_room}
 use Rattle.mime_base.specs.Format.Stored.{weight_and_flags}
 use Rattle.mime_base.specs.declared.database.rule.GlobRule.{GlobRule}
-use Rattle.mime_store.specs.Endings.{ClearOf, Entry, Fresh, IsBlock, PathLe, Rises, StartAll, TreeOf, Writes}
+use Rattle.mime_store.specs.Endings.{ClearOf, Entry, Fresh, IsBlock, PathLe, Rises, StartAll, TreeOf, WritesSibling}
 use Rattle.mime_store.specs.Endings.{a_leaf, a_node, common, entries_room, first_byte, kinds_room, leaves_of}
 use Rattle.mime_store.specs.Endings.{nodes, pick}
 use Rattle.mime_store.specs.Paths.{NoZero}
@@ -33,7 +33,7 @@ group_first before b (e ∷ es) fs lt s h f =
 -- an ending that is at its end makes a leaf, once its type is written
 pub leaf_sibling : (old new k : List ℕ) (kind : ℕ) (rule : GlobRule) (es : List Entry) → k ≡ []
     → Grew old new (text_room rule.kind) → TextAt (Written new) kind rule.kind
-    → Writes old new (0 ∷ kind ∷ weight_and_flags rule ∷ []) 1 ((k, rule) ∷ es)
+    → WritesSibling old new (0 ∷ kind ∷ weight_and_flags rule ∷ []) 1 ((k, rule) ∷ es)
 leaf_sibling old new k kind rule es e g w =
     rw e (record {
       sibling = a_leaf rule;
@@ -70,7 +70,7 @@ kinds-tails (e ∷ es) =
 -- endings that go on with one byte make a node
 pub group_sibling : (old new : List ℕ) (b count first n : ℕ) (es : List Entry) → 0 < n → n ≤ length es → StartAll b (take n es)
     → ClearOf b (drop n es) → Grew old new (entries_room (map tail_of (take n es)))
-    → IsBlock (Written new) count first (map tail_of (take n es)) → Writes old new (b ∷ count ∷ first ∷ []) n es
+    → IsBlock (Written new) count first (map tail_of (take n es)) → WritesSibling old new (b ∷ count ∷ first ∷ []) n es
 group_sibling old new b count first n es pos le all clear g t =
     let gs = take n es in
     let fs = drop n es in

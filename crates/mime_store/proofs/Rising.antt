@@ -4,7 +4,7 @@ use Rattle.std.proofs.Common.{arith, Bool}
 use Rattle.std.specs.List.Sorted.{IsSortedBy}
 use Rattle.std.proofs.lemmas.Bool.{cases_order, eq-eqb, lt-ltb, le-ltb}
 use Rattle.mime_base.specs.Format.Sorted.{text_lt}
-use Rattle.mime_store.specs.Endings.{PathLe, Rises, entry_at}
+use Rattle.mime_store.specs.Endings.{PathLe, Rises, ending_entry}
 use Rattle.mime_store.proofs.Texts.{NoZero-from_test}
 use Rattle.mime_store.specs.declared.ending.Ending.{Ending}
 
@@ -28,7 +28,7 @@ sorted_tail lt x xs s k d low within =
     subst (λ (n : ℕ). lt (get_or (x ∷ xs) n d) (get_or xs k d) ≡ false) e (s (suc k) d (omega arith) (omega (arith, within)))
 
 rises_from : (before : List ℕ) (xs : List Ending) → ((d : Ending) → 0 < length xs → PathLe before (get_or xs 0 d).path.items)
-    → IsSortedBy (λ a b. text_lt a.path.items b.path.items) xs → Rises before (map (entry_at 0) xs)
+    → IsSortedBy (λ a b. text_lt a.path.items b.path.items) xs → Rises before (map (ending_entry 0) xs)
 rises_from before [] h s = tt
 rises_from before (x ∷ xs) h s =
     let next : (d : Ending) → 0 < length xs → PathLe x.path.items (get_or xs 0 d).path.items =
@@ -38,5 +38,5 @@ rises_from before (x ∷ xs) h s =
       rises_from x.path.items xs next (sorted_tail (λ a b. text_lt a.path.items b.path.items) x xs s),
     )
 
-pub sorted_rises : (xs : List Ending) → IsSortedBy (λ a b. text_lt a.path.items b.path.items) xs → Rises [] (map (entry_at 0) xs)
+pub sorted_rises : (xs : List Ending) → IsSortedBy (λ a b. text_lt a.path.items b.path.items) xs → Rises [] (map (ending_entry 0) xs)
 sorted_rises xs s = rises_from [] xs (λ d lt. tt) s

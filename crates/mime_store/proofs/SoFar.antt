@@ -4,7 +4,7 @@ use Rattle.std.proofs.Common.{ap, ◌∙◌, append_assoc, arith, length-append}
 use Rattle.std.proofs.lemmas.List.{append-nil}
 use Rattle.mime_base.specs.Format.Records.{CardsAt}
 use Rattle.mime_base.specs.Format.Tree.{InOrder, leaf_count, leaves_at, node_count}
-use Rattle.mime_store.specs.Endings.{Entry, Fresh, IsBlock, IsSibling, Rises, Sibling, Writes}
+use Rattle.mime_store.specs.Endings.{Entry, Fresh, IsBlock, IsSibling, Rises, Sibling, WritesSibling}
 use Rattle.mime_store.specs.Endings.{as_tree, entries_room, first_byte, leaves_of, next_byte}
 use Rattle.mime_store.specs.Endings.{nodes, pick}
 use Rattle.mime_store.specs.Written.{Grew, Written}
@@ -55,7 +55,7 @@ sofar_none old es = record {
 }
 
 pub sofar_more : (old now next rows row : List ℕ) (count n : ℕ) (es rest : List Entry) → Sofar old now rows count es rest
-    → Writes now next row n rest → Sofar old next (rows ++ row) (count + 1) es (drop n rest)
+    → WritesSibling now next row n rest → Sofar old next (rows ++ row) (count + 1) es (drop n rest)
 sofar_more old now next rows row count n es rest s w =
     let r = s.room in
     let r' = w.room in

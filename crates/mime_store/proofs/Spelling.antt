@@ -11,7 +11,7 @@ use Rattle.mime_base.specs.Format.Rules.{IsRule}
 use Rattle.mime_base.specs.Format.Spells.{Spells, cache_limit}
 use Rattle.mime_base.specs.Magic.{plain_sections}
 use Rattle.mime_base.specs.declared.database.Database as code
-use Rattle.mime_store.specs.Endings.{TreeOf, entry_at}
+use Rattle.mime_store.specs.Endings.{TreeOf, ending_entry}
 use Rattle.mime_store.specs.Parts.{AreParts}
 use Rattle.mime_store.specs.Runs.{AreRuns, IsRun, plain_run}
 use Rattle.mime_store.specs.Views.{rule_of, texts}
@@ -39,7 +39,7 @@ pub cache_spells : (o1 o2 o3 o4 o5 o6 o7 o8 o9 c : List ℕ) (parts : Parts) (ru
     → ListAt (Written o1) 8 (IsPair (Written o1)) o.aliases (map texts parts.aliases.items)
     → Grew o1 o2 s2 → ListAt (Written o2) 8 (IsRun (Written o2)) o.parents (map plain_run runs)
     → Grew o2 o3 s3 → ListAt (Written o3) 12 (IsRule (Written o3)) o.literals (map rule_of parts.literals.items)
-    → Grew o3 o4 s4 → TreeOf (Written o4) o.tree (map (entry_at 0) parts.endings.items)
+    → Grew o3 o4 s4 → TreeOf (Written o4) o.tree (map (ending_entry 0) parts.endings.items)
     → Grew o4 o5 s5 → ListAt (Written o5) 12 (IsRule (Written o5)) o.globs (map rule_of parts.globs.items)
     → Grew o5 o6 s6 → MagicAt (Written o6) o.magic (plain_sections b.sections.items)
     → Grew o6 o7 s7

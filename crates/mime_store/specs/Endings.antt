@@ -21,8 +21,8 @@ abbrev pub Entry : Type 0
 Entry = List ℕ × GlobRule
 
 -- what is left of an ending at a depth
-abbrev pub entry_at : ℕ → Ending → Entry
-entry_at depth ending = (drop depth ending.path.items, ending.rule.now)
+abbrev pub ending_entry : ℕ → Ending → Entry
+ending_entry depth ending = (drop depth ending.path.items, ending.rule.now)
 
 -- the rules of the entries with this path, in their order
 abbrev pub pick : List ℕ → List Entry → List GlobRule
@@ -122,7 +122,7 @@ pub record IsBlock (S : Standing) (count first : ℕ) (es : List Entry) : Type 0
   pub ordered : Rises [] es → InOrder 0 tree
 
 -- after a path that the entries do not go on from, the sibling is in order, and some such path stands before the rest
-pub record Goes (before : List ℕ) (sibling : Sibling) (rest : List Entry) : Type 0 where
+pub record GoesBehind (before : List ℕ) (sibling : Sibling) (rest : List Entry) : Type 0 where
   pub after : List ℕ
   pub here : InOrder (first_byte before) (as_tree (sibling ∷ []))
   pub now : next_byte (first_byte before) sibling ≡ first_byte after
@@ -130,7 +130,7 @@ pub record Goes (before : List ℕ) (sibling : Sibling) (rest : List Entry) : Ty
   pub fresh : Fresh after rest
 
 -- the first n entries make one sibling, and what belongs to it was written
-pub record Writes (old new row : List ℕ) (n : ℕ) (es : List Entry) : Type 0 where
+pub record WritesSibling (old new row : List ℕ) (n : ℕ) (es : List Entry) : Type 0 where
   pub sibling : Sibling
   pub by : ℕ
   pub grew : Grew old new by
@@ -139,7 +139,7 @@ pub record Writes (old new row : List ℕ) (n : ℕ) (es : List Entry) : Type 0 
   pub room : by + 12 + entries_room (drop n es) ≡ entries_room es
   pub leaves : (path : List ℕ) → leaves_of path sibling ++ pick path (drop n es) ≡ pick path es
   pub counts : sibling_leaves sibling + length (drop n es) ≡ length es
-  pub goes : (before : List ℕ) → Rises before es → Fresh before es → Goes before sibling (drop n es)
+  pub goes : (before : List ℕ) → Rises before es → Fresh before es → GoesBehind before sibling (drop n es)
   pub some : 0 < n
   pub within : n ≤ length es
 

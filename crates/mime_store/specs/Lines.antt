@@ -7,14 +7,14 @@ use Rattle.mime_base.specs.Magic.Extent.{forest_extent, line_extent}
 use Rattle.mime_base.specs.Magic.{PlainMatchlet, PlainSection}
 
 -- the numbers of a line's record, and what they say of its parts
-abbrev pub IsLine : Standing → PlainMatchlet → List ℕ → Type 0
-IsLine S m numbers =
+abbrev pub IsLineRecord : Standing → PlainMatchlet → List ℕ → Type 0
+IsLineRecord S m numbers =
     (value mask first : ℕ) × (numbers ≡ line_numbers m.own value mask (width m.children) first)
     × S value m.own.value × MaskAt S mask m.own.mask × LinesAt S first m.children
 
 -- what a line takes beside its record
-abbrev pub parts_room : PlainMatchlet → ℕ
-parts_room m = padded (length m.own.value) + mask_room m.own.mask + lines_room m.children
+abbrev pub matchlet_parts_room : PlainMatchlet → ℕ
+matchlet_parts_room m = padded (length m.own.value) + mask_room m.own.mask + lines_room m.children
 
 -- how far a line and its children look at a content
 abbrev pub matchlet_extent : PlainMatchlet → ℕ

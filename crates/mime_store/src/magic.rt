@@ -6,7 +6,7 @@ ghost use Rattle.mime_base.specs.Format.Room.{lines_room, mask_room, sections_ro
 ghost use Rattle.mime_base.specs.Magic.Extent.{forest_extent, sections_extent};
 ghost use Rattle.mime_base.specs.Magic.{are_allowed_sections, forest_of, mask_bytes, plain_matchlet, plain_matchlets};
 ghost use Rattle.mime_base.specs.Magic.{plain_section, plain_sections};
-ghost use Rattle.mime_store.specs.Lines.{IsLine, matchlet_extent, parts_room, section_parts_room};
+ghost use Rattle.mime_store.specs.Lines.{IsLineRecord, matchlet_extent, matchlet_parts_room, section_parts_room};
 ghost use Rattle.mime_store.specs.Written.{Grew, Written};
 
 use crate::bytes::{append_numbers, append_text, append_value};
@@ -75,10 +75,10 @@ fn write_lines(alloc: Global, out: &mut Vec<u8>, lines: &[Matchlet]) -> Result<u
 /// What belongs to a line; answers its record.
 #[cycle(lines)]
 fn write_parts(alloc: Global, out: &mut Vec<u8>, line: &Matchlet) -> Result<[u32; 8], OutOfMemory>
-    requires room { length out.old.items + parts_room (plain_matchlet line.now) < 2 ^ 32 }
+    requires room { length out.old.items + matchlet_parts_room (plain_matchlet line.now) < 2 ^ 32 }
     requires begun { 40 ≤ length out.old.items }
-    ensures grew { OnOk result (Grew out.old.items out.new.items (parts_room (plain_matchlet line.now))) }
-    ensures row { IfOk result (λ row. IsLine (Written out.new.items) (plain_matchlet line.now) row) }
+    ensures grew { OnOk result (Grew out.old.items out.new.items (matchlet_parts_room (plain_matchlet line.now))) }
+    ensures row { IfOk result (λ row. IsLineRecord (Written out.new.items) (plain_matchlet line.now) row) }
 {
     let value = append_value(out, &line.value)?;
     let mask = write_mask(out, &line.mask)?;

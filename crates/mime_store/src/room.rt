@@ -4,8 +4,8 @@ ghost use Rattle.std.specs.Prelude.{◌≡◌, ◌+◌, ◌-◌, ◌^◌, ◌<�
 ghost use Rattle.std.specs.List.{common_prefix_len};
 ghost use Rattle.mime_base.specs.Format.Room.{lines_room, mask_room, padded, pairs_room, rules_room, sections_room, text_room};
 ghost use Rattle.mime_base.specs.Magic.{forest_of, mask_bytes, plain_matchlet, plain_matchlets, plain_section, plain_sections};
-ghost use Rattle.mime_store.specs.Endings.{common, ending_room, entries_room, entry_at};
-ghost use Rattle.mime_store.specs.Lines.{parts_room, section_parts_room};
+ghost use Rattle.mime_store.specs.Endings.{common, ending_room, entries_room, ending_entry};
+ghost use Rattle.mime_store.specs.Lines.{matchlet_parts_room, section_parts_room};
 ghost use Rattle.mime_store.specs.Runs.{plain_run, run_parts_room, runs_room, seconds_room};
 ghost use Rattle.mime_store.specs.Views.{pair_texts_room, rule_of, rule_texts_room, texts};
 
@@ -124,8 +124,8 @@ fn take_lines(left: usize, lines: &[Matchlet]) -> Option<usize>
 #[cycle(rooms)]
 fn take_line(left: usize, line: &Matchlet) -> Option<usize>
     requires { left < 2 ^ 32 }
-    ensures { MatchOption result (left < 32 + parts_room (plain_matchlet line.now))
-        (λ rest. rest + (32 + parts_room (plain_matchlet line.now)) ≡ left) }
+    ensures { MatchOption result (left < 32 + matchlet_parts_room (plain_matchlet line.now))
+        (λ rest. rest + (32 + matchlet_parts_room (plain_matchlet line.now)) ≡ left) }
 {
     let left = left.checked_sub(32)?;
     let left = take_padded(left, line.value.len())?;
@@ -193,8 +193,8 @@ fn take_second(left: usize, pair: &TextPair<'_>) -> Option<usize>
 /// Room for the tree of sorted endings, with the types of its leaves.
 pub fn take_tree(left: usize, endings: &[Ending<'_>]) -> Option<usize>
     requires { left < 2 ^ 32 }
-    ensures { MatchOption result (left < entries_room (map (entry_at 0) endings.now))
-        (λ rest. rest + entries_room (map (entry_at 0) endings.now) ≡ left) }
+    ensures { MatchOption result (left < entries_room (map (ending_entry 0) endings.now))
+        (λ rest. rest + entries_room (map (ending_entry 0) endings.now) ≡ left) }
 {
     let mut rest = left;
     let mut before: &[u8] = &[];
@@ -208,8 +208,8 @@ pub fn take_tree(left: usize, endings: &[Ending<'_>]) -> Option<usize>
 /// Room for a leaf, its type, and a node for each byte past what its path shares with the one before.
 fn take_ending(left: usize, before: &[u8], ending: &Ending<'_>) -> Option<usize>
     requires { left < 2 ^ 32 }
-    ensures { MatchOption result (left < ending_room before.now (entry_at 0 ending.now))
-        (λ rest. rest + ending_room before.now (entry_at 0 ending.now) ≡ left) }
+    ensures { MatchOption result (left < ending_room before.now (ending_entry 0 ending.now))
+        (λ rest. rest + ending_room before.now (ending_entry 0 ending.now) ≡ left) }
 {
     let left = left.checked_sub(12 * nodes_of(before, ending))?;
     take_text(left, ending.rule.kind.bytes())

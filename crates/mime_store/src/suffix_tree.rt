@@ -7,8 +7,8 @@
 
 ghost use Rattle.std.specs.Prelude.{◌≡◌, ◌+◌, ◌^◌, ◌<◌, ◌≤◌, [], true, length, map, take, drop, OnOk, IfOk};
 ghost use Rattle.mime_base.specs.Format.Stored.{reversed_ending, tree_rules};
-ghost use Rattle.mime_store.specs.Endings.{AreEndings, ClearOf, IsBlock, Rises, StartAll, TreeOf, Writes, ending_rule, entries_room};
-ghost use Rattle.mime_store.specs.Endings.{entry_at};
+ghost use Rattle.mime_store.specs.Endings.{AreEndings, ClearOf, IsBlock, Rises, StartAll, TreeOf, WritesSibling, ending_rule, entries_room};
+ghost use Rattle.mime_store.specs.Endings.{ending_entry};
 ghost use Rattle.mime_store.specs.Paths.{has_no_zero};
 ghost use Rattle.mime_store.specs.Written.{Grew, Written};
 
@@ -48,7 +48,7 @@ pub fn endings(alloc: Global, rules: &[GlobRule]) -> Result<Vec<Ending<'_>>, Out
 
 /// Sorts endings by their paths; those of one path stay in merged order.
 pub fn sort_endings(endings: &mut Vec<Ending<'_>>) -> Result<(), OutOfMemory>
-    ensures { OnOk result (AreEndings (map (entry_at 0) endings.new.items) (map ending_rule endings.old.items)) }
+    ensures { OnOk result (AreEndings (map (ending_entry 0) endings.new.items) (map ending_rule endings.old.items)) }
 {
     endings.sort_by(|left, right| left.path.cmp(&right.path))?;
     Ok(())
@@ -60,11 +60,11 @@ pub fn write_tree(
     out: &mut Vec<u8>,
     endings: &[Ending<'_>],
 ) -> Result<u32, OutOfMemory>
-    requires room { length out.old.items + (8 + entries_room (map (entry_at 0) endings.now)) < 2 ^ 32 }
+    requires room { length out.old.items + (8 + entries_room (map (ending_entry 0) endings.now)) < 2 ^ 32 }
     requires begun { 40 ≤ length out.old.items }
-    requires rises { Rises [] (map (entry_at 0) endings.now) }
-    ensures grew { OnOk result (Grew out.old.items out.new.items (8 + entries_room (map (entry_at 0) endings.now))) }
-    ensures stands { IfOk result (λ at. TreeOf (Written out.new.items) at (map (entry_at 0) endings.now)) }
+    requires rises { Rises [] (map (ending_entry 0) endings.now) }
+    ensures grew { OnOk result (Grew out.old.items out.new.items (8 + entries_room (map (ending_entry 0) endings.now))) }
+    ensures stands { IfOk result (λ at. TreeOf (Written out.new.items) at (map (ending_entry 0) endings.now)) }
 {
     let roots = write_siblings(alloc, out, endings, 0)?;
     let at = append_numbers(out, &[roots.count, roots.first])?;
@@ -79,12 +79,12 @@ fn write_siblings(
     endings: &[Ending<'_>],
     depth: usize,
 ) -> Result<Block, OutOfMemory>
-    requires room { length out.old.items + entries_room (map (entry_at depth) endings.now) < 2 ^ 32 }
+    requires room { length out.old.items + entries_room (map (ending_entry depth) endings.now) < 2 ^ 32 }
     requires begun { 40 ≤ length out.old.items }
     requires deep { depth < 256 }
-    ensures grew { OnOk result (Grew out.old.items out.new.items (entries_room (map (entry_at depth) endings.now))) }
+    ensures grew { OnOk result (Grew out.old.items out.new.items (entries_room (map (ending_entry depth) endings.now))) }
     ensures stands { IfOk result
-        (λ block. IsBlock (Written out.new.items) block.count block.first (map (entry_at depth) endings.now)) }
+        (λ block. IsBlock (Written out.new.items) block.count block.first (map (ending_entry depth) endings.now)) }
 {
     let mut records = Vec::new(alloc);
     let mut count = 0;
@@ -109,11 +109,11 @@ fn write_sibling(
     depth: usize,
 ) -> Result<Sibling, OutOfMemory>
     requires some { 0 < length endings.now }
-    requires room { length out.old.items + entries_room (map (entry_at depth) endings.now) < 2 ^ 32 }
+    requires room { length out.old.items + entries_room (map (ending_entry depth) endings.now) < 2 ^ 32 }
     requires begun { 40 ≤ length out.old.items }
     requires deep { depth < 256 }
     ensures { IfOk result (λ sibling.
-        Writes out.old.items out.new.items sibling.row sibling.taken (map (entry_at depth) endings.now)) }
+        WritesSibling out.old.items out.new.items sibling.row sibling.taken (map (ending_entry depth) endings.now)) }
 {
     let first = &endings[0];
     if first.path.len() <= depth {
@@ -135,8 +135,8 @@ fn write_sibling(
 /// How many endings from the front go on with this byte.
 fn run_length(endings: &[Ending<'_>], depth: usize, byte: u8) -> usize
     ensures within { result ≤ length endings.now }
-    ensures all { StartAll byte (map (entry_at depth) (take result endings.now)) }
-    ensures clear { ClearOf byte (map (entry_at depth) (drop result endings.now)) }
+    ensures all { StartAll byte (map (ending_entry depth) (take result endings.now)) }
+    ensures clear { ClearOf byte (map (ending_entry depth) (drop result endings.now)) }
 {
     let mut count = 0;
     for ending in endings {

@@ -14,7 +14,7 @@ use Rattle.mime_tool.specs.Run.{Run, joined, said, silent, stopped}
 use Rattle.mime_tool.specs.declared.stop.Stop.{Stop}
 use Rattle.mime_tool.specs.declared.stop.Stop.TheVariants as stop
 use Rattle.mime_tool.proofs.DirectoryLists.{can_be_directories}
-use Rattle.mime_tool.proofs.DirectoryLoops.{Reads, plain_of}
+use Rattle.mime_tool.proofs.DirectoryLoops.{ReadsDirectories, plain_of}
 use Rattle.mime_tool.proofs.Ends.{ends_said, part_none, writes_nothing}
 use Rattle.mime_tool.proofs.Loads.{can_give, works_nothing, works_stop, works_then}
 use Rattle.mime_tool.proofs.Sinks.{front_longer}
@@ -22,7 +22,7 @@ use Rattle.mime_tool.proofs.Sinks.{front_longer}
 -- ---- the database of directories
 
 -- they are not read
-pub database_unread : (dirs : List (List ℕ)) (a b : State) (s : Stop) → Reads dirs a b (Err s)
+pub database_unread : (dirs : List (List ℕ)) (a b : State) (s : Stop) → ReadsDirectories dirs a b (Err s)
     → Works (Loads plain_database (IsDatabase a.stored dirs)) a b (Err s)
 unfolding IsDatabase
 database_unread dirs a b s p =
@@ -31,7 +31,7 @@ database_unread dirs a b s p =
 
 -- they are merged
 pub database_merged : (dirs : List (List ℕ)) (a b : State) (files : Vec DirFiles Global) (database : Database)
-    → plain_database database ≡ merged (plain_dirs files.items) → Reads dirs a b (Ok files)
+    → plain_database database ≡ merged (plain_dirs files.items) → ReadsDirectories dirs a b (Ok files)
     → Works (Loads plain_database (IsDatabase a.stored dirs)) a b (Ok database)
 unfolding IsDatabase
 database_merged dirs a b files database is p =
@@ -40,7 +40,7 @@ database_merged dirs a b files database is p =
     (record { same_files = refl; same_places = refl; sinks = ([], (ap Some is, refl), writes_nothing b.sinks) })
 
 -- there is no memory to merge them
-pub database_unmerged : (dirs : List (List ℕ)) (a b : State) (files : Vec DirFiles Global) → Reads dirs a b (Ok files)
+pub database_unmerged : (dirs : List (List ℕ)) (a b : State) (files : Vec DirFiles Global) → ReadsDirectories dirs a b (Ok files)
     → Works (Loads plain_database (IsDatabase a.stored dirs)) a b (Err stop.OutOfMemory)
 unfolding IsDatabase
 database_unmerged dirs a b files p =

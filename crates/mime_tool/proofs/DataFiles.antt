@@ -4,8 +4,8 @@ use Rattle.std.specs.List.{flat_map}
 use Rattle.std.specs.declared.alloc.Global.{Global}
 use Rattle.mime_text.specs.Lines.{skipped_of}
 use Rattle.mime_tool.specs.Desk.{Does, ReadsText, State, Works}
-use Rattle.mime_tool.specs.Directories.{AreLines, AreLinesAt, IsTextAt, all_ignored, ignored, unread}
-use Rattle.mime_tool.specs.Files.{IsText, Stored, bytes, closed, nothing, unknown, unreadable}
+use Rattle.mime_tool.specs.Directories.{AreFileLines, AreLinesAt, IsTextAt, all_ignored, ignored, unread}
+use Rattle.mime_tool.specs.Files.{IsTextOf, Stored, bytes, closed, nothing, unknown, unreadable}
 use Rattle.mime_tool.specs.Finish.{Sinks}
 use Rattle.mime_tool.specs.Loading.{Loads}
 use Rattle.mime_tool.specs.Run.{said}
@@ -17,7 +17,7 @@ use Rattle.mime_tool.proofs.Loads.{CanBe, can_then, loads_nothing}
 -- ---- texts
 
 -- there is some text, or none
-some_text : (stored : Stored) → (text : Option (List ℕ)) × IsText stored text
+some_text : (stored : Stored) → (text : Option (List ℕ)) × IsTextOf stored text
 some_text nothing = (Some [], refl)
 some_text closed = (None, refl)
 some_text unreadable = (None, refl)
@@ -53,7 +53,7 @@ works_text path a b r p = record {
 
 -- lines can be parsed
 pub can_be_lines : (X : Type 0) (Spells : List ℕ → X → Type 0) (is_malformed : List ℕ → Bool) (path text : List ℕ)
-    → ((t : List ℕ) → (x : X) × Spells t x) → CanBe (AreLines Spells is_malformed path text)
+    → ((t : List ℕ) → (x : X) × Spells t x) → CanBe (AreFileLines Spells is_malformed path text)
 can_be_lines X Spells is_malformed path text total =
     let x = total text in
     (Some x.0, all_ignored is_malformed path text, (x.1, refl))
@@ -62,14 +62,14 @@ can_be_lines X Spells is_malformed path text total =
 pub can_be_lines_at : (X : Type 0) (Spells : List ℕ → X → Type 0) (is_malformed : List ℕ → Bool) (stored : List ℕ → Stored) (path : List ℕ)
     → ((t : List ℕ) → (x : X) × Spells t x) → CanBe (AreLinesAt Spells is_malformed stored path)
 can_be_lines_at X Spells is_malformed stored path total =
-    can_then (List ℕ) X (IsTextAt stored path) (AreLines Spells is_malformed path) (can_be_text stored path)
+    can_then (List ℕ) X (IsTextAt stored path) (AreFileLines Spells is_malformed path) (can_be_text stored path)
     (λ text. can_be_lines X Spells is_malformed path text total)
 
 -- the messages on malformed lines were written
 pub lines_said : (F X U : Type 0) (plain : F → X) (Spells : List ℕ → X → Type 0) (is_malformed : List ℕ → Bool) (path text numbers : List ℕ)
     (a b : Sinks) (u : U) (file : F) → numbers ≡ skipped_of is_malformed text → Spells text (plain file)
     → Does {X = U} (said (flat_map (ignored path) numbers)) a b (Ok u)
-    → Loads plain (AreLines Spells is_malformed path text) a b (Ok file)
+    → Loads plain (AreFileLines Spells is_malformed path text) a b (Ok file)
 lines_said F X U plain Spells is_malformed path text numbers a b u file are spells w =
     (flat_map (ignored path) numbers, (spells, ap (flat_map (ignored path)) are), w)
 
@@ -77,7 +77,7 @@ lines_said F X U plain Spells is_malformed path text numbers a b u file are spel
 pub lines_unsaid : (F X U : Type 0) (plain : F → X) (Spells : List ℕ → X → Type 0) (is_malformed : List ℕ → Bool)
     (path text numbers : List ℕ) (a b : Sinks) (file : F) (s : Stop) → numbers ≡ skipped_of is_malformed text → Spells text (plain file)
     → Does {X = U} (said (flat_map (ignored path) numbers)) a b (Err s)
-    → Loads plain (AreLines Spells is_malformed path text) a b (Err s)
+    → Loads plain (AreFileLines Spells is_malformed path text) a b (Err s)
 lines_unsaid F X U plain Spells is_malformed path text numbers a b file stop.OutOfMemory are spells w =
     (Some (plain file), flat_map (ignored path) numbers, (spells, ap (flat_map (ignored path)) are), w)
 lines_unsaid F X U plain Spells is_malformed path text numbers a b file stop.CannotWrite are spells w = w

@@ -25,11 +25,11 @@ abbrev pub plain_of : Vec DirFiles Global → List PlainDir
 plain_of dirs = plain_dirs dirs.items
 
 -- directories that were read, or not
-abbrev pub Reads : List (List ℕ) → State → State → Result (Vec DirFiles Global) Stop → Type 0
-Reads dirs a b r = Works (Loads plain_of (AreDirectories a.stored dirs)) a b r
+abbrev pub ReadsDirectories : List (List ℕ) → State → State → Result (Vec DirFiles Global) Stop → Type 0
+ReadsDirectories dirs a b r = Works (Loads plain_of (AreDirectories a.stored dirs)) a b r
 
 -- none is read
-pub reads_none : (a : State) (dirs : Vec DirFiles Global) → dirs.items ≡ [] → Reads [] a a (Ok dirs)
+pub reads_none : (a : State) (dirs : Vec DirFiles Global) → dirs.items ≡ [] → ReadsDirectories [] a a (Ok dirs)
 unfolding AreDirectories
 reads_none a dirs none = record {
   same_files = refl;
@@ -39,8 +39,8 @@ reads_none a dirs none = record {
 
 -- one more is read
 pub reads_more : (xs : List (List ℕ)) (dir : List ℕ) (a b c : State) (dirs more : Vec DirFiles Global) (d : DirFiles)
-    → more.items ≡ dirs.items ++ d ∷ [] → Reads xs a b (Ok dirs) → Works (Loads plain_dir (IsDirectory b.stored dir)) b c (Ok d)
-    → Reads (xs ++ dir ∷ []) a c (Ok more)
+    → more.items ≡ dirs.items ++ d ∷ [] → ReadsDirectories xs a b (Ok dirs) → Works (Loads plain_dir (IsDirectory b.stored dir)) b c (Ok d)
+    → ReadsDirectories (xs ++ dir ∷ []) a c (Ok more)
 reads_more xs dir a b c dirs more d are p q =
     let here = subst (λ (stored : List ℕ → Stored). IsDirectory stored dir (Some (plain_dir d)) q.sinks.0) p.same_files q.sinks.1 in
     let all = ap plain_dirs are ∙ map-append plain_dir dirs.items (d ∷ []) in
@@ -77,8 +77,8 @@ stops_after stored xs ys a b c dirs (stop.Refused m) p q = (
   (wrote-append a.out b.out c.out [] [] p.2.0 q.2.0, wrote-append a.err b.err c.err p.0 q.0 p.2.1 q.2.1),
 )
 
-works_after : (xs ys : List (List ℕ)) (a b c : State) (dirs : Vec DirFiles Global) (s : Stop) → Reads xs a b (Ok dirs)
-    → Reads ys b c (Err s) → Reads (xs ++ ys) a c (Err s)
+works_after : (xs ys : List (List ℕ)) (a b c : State) (dirs : Vec DirFiles Global) (s : Stop) → ReadsDirectories xs a b (Ok dirs)
+    → ReadsDirectories ys b c (Err s) → ReadsDirectories (xs ++ ys) a c (Err s)
 works_after xs ys a b c dirs s p q = record {
   same_files = q.same_files ∙ p.same_files;
   same_places = q.same_places ∙ p.same_places;
@@ -92,7 +92,7 @@ After dirs stored first = AreDirectories stored dirs >>= λ others. Gives (first
 
 -- the first is not read
 first_unread : (dir : List ℕ) (ys : List (List ℕ)) (b c : State) (s : Stop)
-    → Works (Loads plain_dir (IsDirectory b.stored dir)) b c (Err s) → Reads (dir ∷ ys) b c (Err s)
+    → Works (Loads plain_dir (IsDirectory b.stored dir)) b c (Err s) → ReadsDirectories (dir ∷ ys) b c (Err s)
 unfolding AreDirectories
 first_unread dir ys b c s q =
     works_stop DirFiles PlainDir (Vec DirFiles Global) (List PlainDir) plain_dir plain_of (IsDirectory b.stored dir) (After ys b.stored)
@@ -102,12 +102,12 @@ first_unread dir ys b c s q =
 
 -- one is not read
 pub reads_stop : (xs : List (List ℕ)) (dir : List ℕ) (ys : List (List ℕ)) (a b c : State) (dirs : Vec DirFiles Global) (s : Stop)
-    → Reads xs a b (Ok dirs) → Works (Loads plain_dir (IsDirectory b.stored dir)) b c (Err s) → Reads (xs ++ (dir ∷ ys)) a c (Err s)
+    → ReadsDirectories xs a b (Ok dirs) → Works (Loads plain_dir (IsDirectory b.stored dir)) b c (Err s) → ReadsDirectories (xs ++ (dir ∷ ys)) a c (Err s)
 reads_stop xs dir ys a b c dirs s p q = works_after xs (dir ∷ ys) a b c dirs s p (first_unread dir ys b c s q)
 
 -- the first is read, and then memory runs out
 first_full : (dir : List ℕ) (ys : List (List ℕ)) (b c : State) (d : DirFiles)
-    → Works (Loads plain_dir (IsDirectory b.stored dir)) b c (Ok d) → Reads (dir ∷ ys) b c (Err stop.OutOfMemory)
+    → Works (Loads plain_dir (IsDirectory b.stored dir)) b c (Ok d) → ReadsDirectories (dir ∷ ys) b c (Err stop.OutOfMemory)
 unfolding AreDirectories
 first_full dir ys b c d q =
     works_then DirFiles PlainDir (Vec DirFiles Global) (List PlainDir) plain_dir plain_of (IsDirectory b.stored dir) (After ys)
@@ -118,29 +118,29 @@ first_full dir ys b c d q =
 
 -- one is read, and then memory runs out
 pub reads_full : (xs : List (List ℕ)) (dir : List ℕ) (ys : List (List ℕ)) (a b c : State) (dirs : Vec DirFiles Global) (d : DirFiles)
-    → Reads xs a b (Ok dirs) → Works (Loads plain_dir (IsDirectory b.stored dir)) b c (Ok d)
-    → Reads (xs ++ (dir ∷ ys)) a c (Err stop.OutOfMemory)
+    → ReadsDirectories xs a b (Ok dirs) → Works (Loads plain_dir (IsDirectory b.stored dir)) b c (Ok d)
+    → ReadsDirectories (xs ++ (dir ∷ ys)) a c (Err stop.OutOfMemory)
 reads_full xs dir ys a b c dirs d p q = works_after xs (dir ∷ ys) a b c dirs stop.OutOfMemory p (first_full dir ys b c d q)
 
 -- ---- by the index of a loop
 
 pub reads_more_at : (names : List (Bor (List ℕ))) (i : ℕ) (n : Bor (List ℕ)) → i < length names → (a b c : State)
-    (dirs more : Vec DirFiles Global) (d : DirFiles) → more.items ≡ dirs.items ++ d ∷ [] → Reads (texts (take i names)) a b (Ok dirs)
-    → Works (Loads plain_dir (IsDirectory b.stored (get_or names i n).now)) b c (Ok d) → Reads (texts (take (i + 1) names)) a c (Ok more)
+    (dirs more : Vec DirFiles Global) (d : DirFiles) → more.items ≡ dirs.items ++ d ∷ [] → ReadsDirectories (texts (take i names)) a b (Ok dirs)
+    → Works (Loads plain_dir (IsDirectory b.stored (get_or names i n).now)) b c (Ok d) → ReadsDirectories (texts (take (i + 1) names)) a c (Ok more)
 reads_more_at names i n lt a b c dirs more d are p q =
-    subst (λ (ds : List (List ℕ)). Reads ds a c (Ok more)) (sym (texts-more names i n lt))
+    subst (λ (ds : List (List ℕ)). ReadsDirectories ds a c (Ok more)) (sym (texts-more names i n lt))
     (reads_more (texts (take i names)) (get_or names i n).now a b c dirs more d are p q)
 
 pub reads_stop_at : (names : List (Bor (List ℕ))) (i : ℕ) (n : Bor (List ℕ)) → i < length names → (a b c : State)
-    (dirs : Vec DirFiles Global) (s : Stop) → Reads (texts (take i names)) a b (Ok dirs)
-    → Works (Loads plain_dir (IsDirectory b.stored (get_or names i n).now)) b c (Err s) → Reads (texts names) a c (Err s)
+    (dirs : Vec DirFiles Global) (s : Stop) → ReadsDirectories (texts (take i names)) a b (Ok dirs)
+    → Works (Loads plain_dir (IsDirectory b.stored (get_or names i n).now)) b c (Err s) → ReadsDirectories (texts names) a c (Err s)
 reads_stop_at names i n lt a b c dirs s p q =
-    subst (λ (ds : List (List ℕ)). Reads ds a c (Err s)) (sym (texts-split names i n lt))
+    subst (λ (ds : List (List ℕ)). ReadsDirectories ds a c (Err s)) (sym (texts-split names i n lt))
     (reads_stop (texts (take i names)) (get_or names i n).now (texts (drop (i + 1) names)) a b c dirs s p q)
 
 pub reads_full_at : (names : List (Bor (List ℕ))) (i : ℕ) (n : Bor (List ℕ)) → i < length names → (a b c : State)
-    (dirs : Vec DirFiles Global) (d : DirFiles) → Reads (texts (take i names)) a b (Ok dirs)
-    → Works (Loads plain_dir (IsDirectory b.stored (get_or names i n).now)) b c (Ok d) → Reads (texts names) a c (Err stop.OutOfMemory)
+    (dirs : Vec DirFiles Global) (d : DirFiles) → ReadsDirectories (texts (take i names)) a b (Ok dirs)
+    → Works (Loads plain_dir (IsDirectory b.stored (get_or names i n).now)) b c (Ok d) → ReadsDirectories (texts names) a c (Err stop.OutOfMemory)
 reads_full_at names i n lt a b c dirs d p q =
-    subst (λ (ds : List (List ℕ)). Reads ds a c (Err stop.OutOfMemory)) (sym (texts-split names i n lt))
+    subst (λ (ds : List (List ℕ)). ReadsDirectories ds a c (Err stop.OutOfMemory)) (sym (texts-split names i n lt))
     (reads_full (texts (take i names)) (get_or names i n).now (texts (drop (i + 1) names)) a b c dirs d p q)

@@ -4,9 +4,9 @@ use Rattle.mime_base.specs.Database.{PlainDatabase}
 use Rattle.mime_tool.specs.Desk.{Ends}
 use Rattle.mime_tool.specs.Files.{Stored}
 use Rattle.mime_tool.specs.Finish.{Sinks}
-use Rattle.mime_tool.specs.Line.{IsLine, PlainLookup}
+use Rattle.mime_tool.specs.Line.{IsTypeLine, PlainLookup}
 use Rattle.mime_tool.specs.LineSteps.{ComesTo, run_of}
-use Rattle.mime_tool.specs.Plain.{AreLines}
+use Rattle.mime_tool.specs.Plain.{AreTypeLines}
 use Rattle.mime_tool.specs.Run.{Run, silent}
 use Rattle.mime_tool.specs.declared.line.Outcome.{Outcome}
 use Rattle.mime_tool.specs.declared.stop.Stop.{Stop}
@@ -16,12 +16,12 @@ use Rattle.mime_tool.proofs.Programs.{ends_weaker}
 
 -- no file has no line
 pub no_lines : (stored : List ℕ → Stored) (name_only magic_first : Bool) (database : PlainDatabase)
-    → (run : Run) × AreLines stored name_only magic_first database [] run
+    → (run : Run) × AreTypeLines stored name_only magic_first database [] run
 no_lines stored name_only magic_first database = (silent, refl)
 
 -- memory ran out before it came to anything
 pub comes_undone : (lookup : PlainLookup) (stored : List ℕ → Stored) (file : List ℕ) (a b : Sinks) (s : Stop)
-    → ComesTo lookup (stored file) file a b (Err s) → Ends (λ _. IsLine lookup stored file) [] a b (Err s)
+    → ComesTo lookup (stored file) file a b (Err s) → Ends (λ _. IsTypeLine lookup stored file) [] a b (Err s)
 comes_undone lookup stored file a b stop.OutOfMemory p = inl (writes_same a b p)
 comes_undone lookup stored file a b stop.CannotWrite p = absurd p
 comes_undone lookup stored file a b (stop.Refused m) p = absurd p
@@ -29,8 +29,8 @@ comes_undone lookup stored file a b (stop.Refused m) p = absurd p
 -- what it came to is written
 pub comes_written : (lookup : PlainLookup) (stored : List ℕ → Stored) (file : List ℕ) (o : Outcome) (a b c : Sinks) (r : Result ℕ Stop)
     → ComesTo lookup (stored file) file a b (Ok o) → Ends (λ _ run. run ≡ run_of file o) [] b c r
-    → Ends (λ _. IsLine lookup stored file) [] a c r
+    → Ends (λ _. IsTypeLine lookup stored file) [] a c r
 comes_written lookup stored file o a b c r p q =
-    subst (λ s. Ends (λ _. IsLine lookup stored file) [] s c r) p.0
-    (ends_weaker (λ _ run. run ≡ run_of file o) (λ _. IsLine lookup stored file) [] b c r
-    (λ _ run is. subst (IsLine lookup stored file) (sym is) p.1) q)
+    subst (λ s. Ends (λ _. IsTypeLine lookup stored file) [] s c r) p.0
+    (ends_weaker (λ _ run. run ≡ run_of file o) (λ _. IsTypeLine lookup stored file) [] b c r
+    (λ _ run is. subst (IsTypeLine lookup stored file) (sym is) p.1) q)

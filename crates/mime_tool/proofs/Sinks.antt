@@ -5,7 +5,7 @@ use Rattle.std.specs.List.{flat_map}
 use Rattle.std.proofs.lemmas.List.{take-append-drop}
 use Rattle.std.proofs.lemmas.Grind.{flat_map-append}
 use Rattle.mime_base.specs.declared.memory.OutOfMemory.{OutOfMemory as NoMemory}
-use Rattle.mime_tool.specs.Sink.{Takes, Wrote, WroteFront}
+use Rattle.mime_tool.specs.Sink.{IsPut, Wrote, WroteFront}
 use Rattle.mime_tool.specs.Stop.{Says}
 use Rattle.mime_tool.specs.declared.sink.SinkFault.{SinkFault}
 use Rattle.mime_tool.specs.declared.sink.SinkFault.TheVariants as fault
@@ -55,14 +55,14 @@ wrote_unknown None b x p q = refl
 wrote_unknown (Some xs) b x p q = cc
 
 -- a call of `put` after others
-pub takes-append : (a b c : Option (List ℕ)) (r : Result (Unit {0}) SinkFault) (x y : List ℕ) → Wrote a b x → Takes b c r y
-    → Takes a c r (x ++ y)
+pub takes-append : (a b c : Option (List ℕ)) (r : Result (Unit {0}) SinkFault) (x y : List ℕ) → Wrote a b x → IsPut b c r y
+    → IsPut a c r (x ++ y)
 takes-append a b c (Ok _) x y p q = wrote-append a b c x y p q
 takes-append a b c (Err fault.OutOfMemory) x y p q = front-append a b c x y p q
 takes-append a b c (Err fault.Failed) x y p q = wrote_unknown a b x p q
 
 -- a call of `put` that failed, with more to come
-pub takes_no_more : (a b : Option (List ℕ)) (f : SinkFault) (x y : List ℕ) → Takes a b (Err f) x → Takes a b (Err f) (x ++ y)
+pub takes_no_more : (a b : Option (List ℕ)) (f : SinkFault) (x y : List ℕ) → IsPut a b (Err f) x → IsPut a b (Err f) (x ++ y)
 takes_no_more a b fault.OutOfMemory x y p = front_longer a b x y p
 takes_no_more a b fault.Failed x y p = p
 
@@ -75,9 +75,9 @@ flat_map-split f xs i d lt =
 
 -- the piece at an index was not taken
 pub takes_pieces : {X : Type 0} (f : X → List ℕ) (xs : List X) (i : ℕ) (d : X) (a b c : Option (List ℕ)) (e : SinkFault) → i < length xs
-    → Wrote a b (flat_map f (take i xs)) → Takes b c (Err e) (f (get_or xs i d)) → Takes a c (Err e) (flat_map f xs)
+    → Wrote a b (flat_map f (take i xs)) → IsPut b c (Err e) (f (get_or xs i d)) → IsPut a c (Err e) (flat_map f xs)
 takes_pieces f xs i d a b c e lt before here =
-    subst (λ (bs : List ℕ). Takes a c (Err e) bs) (flat_map-split f xs i d lt)
+    subst (λ (bs : List ℕ). IsPut a c (Err e) bs) (flat_map-split f xs i d lt)
     (takes-append a b c (Err e) (flat_map f (take i xs)) _ before
     (takes_no_more b c e (f (get_or xs i d)) (flat_map f (drop (i + 1) xs)) here))
 
@@ -93,7 +93,7 @@ wrote_empty (Some xs) b p =
     empty_front (b ∷ x) y h = cc
 
 -- whatever a flush answers, nothing is added
-pub flushed : (a b : Option (List ℕ)) (r : Result (Unit {0}) SinkFault) → Takes a b r [] → Wrote a b []
+pub flushed : (a b : Option (List ℕ)) (r : Result (Unit {0}) SinkFault) → IsPut a b r [] → Wrote a b []
 flushed a b (Ok _) p = p
 flushed a b (Err fault.OutOfMemory) p = wrote_empty a b p
 flushed None b (Err fault.Failed) p = tt

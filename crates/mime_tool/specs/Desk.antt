@@ -2,7 +2,7 @@
 use Rattle.std.specs.Prelude.{◌≡◌, ℕ, false, List, Option, Some, None, Result, Ok, Err, Vec, string_bytes}
 use Rattle.std.specs.declared.alloc.Global.{Global}
 use Rattle.mime_lookup.specs.Content.{Health}
-use Rattle.mime_tool.specs.Files.{IsReaderOf, IsShut, IsText, Replaced, Stored, Untouched}
+use Rattle.mime_tool.specs.Files.{IsReaderOf, IsShut, IsTextOf, Replaced, Stored, Untouched}
 use Rattle.mime_tool.specs.Finish.{IsCut, Sinks, Writes, WritesFront}
 use Rattle.mime_tool.specs.Run.{Run, cannot_read, cannot_write, stopped, stops}
 use Rattle.mime_tool.specs.Stop.{IsRefusal, message}
@@ -41,9 +41,9 @@ Ends IsRun files old new (Err s) =
 -- the text of a file is read, an empty one where there is no file; or it is refused, and that names its
 -- path; or memory ran out
 abbrev pub ReadsText : Stored → List ℕ → Sinks → Sinks → Result (Vec ℕ Global) Stop → Type 0
-ReadsText stored path old new (Ok v) = (new ≡ old) × IsText stored (Some v.items)
+ReadsText stored path old new (Ok v) = (new ≡ old) × IsTextOf stored (Some v.items)
 ReadsText stored path old new (Err (stop.Refused text)) =
-    (new ≡ old) × IsText stored None × (string_bytes text ≡ cannot_read path)
+    (new ≡ old) × IsTextOf stored None × (string_bytes text ≡ cannot_read path)
 ReadsText stored path old new (Err stop.CannotWrite) = ⊥
 ReadsText stored path old new (Err stop.OutOfMemory) = new ≡ old
 

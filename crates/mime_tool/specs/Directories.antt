@@ -19,7 +19,7 @@ use Rattle.mime_text.specs.declared.magic.fault.MagicFault.TheVariants as fault
 use Rattle.mime_text.specs.declared.magic.fault.MagicFaultKind.{MagicFaultKind}
 use Rattle.mime_text.specs.declared.magic.fault.MagicFaultKind.TheVariants as kind
 use Rattle.mime_text.specs.declared.magic.file.MagicFile.{MagicFile}
-use Rattle.mime_tool.specs.Files.{IsText, Stored}
+use Rattle.mime_tool.specs.Files.{IsTextOf, Stored}
 use Rattle.mime_tool.specs.Loading.{◌>>=◌, Gives}
 use Rattle.mime_tool.specs.Run.{Run, cannot_read, joined, said, silent, stopped}
 use Rattle.mime_tool.specs.Stop.{IsRefusal}
@@ -39,7 +39,7 @@ unread path (Some text) = []
 
 -- the text of the file at this path, an empty one where it is missing; or it can't be read
 abbrev pub IsTextAt : (List ℕ → Stored) → List ℕ → Option (List ℕ) → List ℕ → Type 0
-IsTextAt stored path text messages = IsText (stored path) text × (messages ≡ unread path text)
+IsTextAt stored path text messages = IsTextOf (stored path) text × (messages ≡ unread path text)
 
 -- ---- files of lines
 
@@ -52,13 +52,13 @@ abbrev pub all_ignored : (List ℕ → Bool) → List ℕ → List ℕ → List 
 all_ignored is_malformed path text = flat_map (ignored path) (skipped_of is_malformed text)
 
 -- what the text spells, with the messages on its malformed lines; Spells says what a text spells
-abbrev pub AreLines : {X : Type 0} → (List ℕ → X → Type 0) → (List ℕ → Bool) → List ℕ → List ℕ → Option X → List ℕ → Type 0
-AreLines Spells is_malformed path text None messages = ⊥
-AreLines Spells is_malformed path text (Some x) messages = Spells text x × (messages ≡ all_ignored is_malformed path text)
+abbrev pub AreFileLines : {X : Type 0} → (List ℕ → X → Type 0) → (List ℕ → Bool) → List ℕ → List ℕ → Option X → List ℕ → Type 0
+AreFileLines Spells is_malformed path text None messages = ⊥
+AreFileLines Spells is_malformed path text (Some x) messages = Spells text x × (messages ≡ all_ignored is_malformed path text)
 
 -- what the file of lines at this path spells
 abbrev pub AreLinesAt : {X : Type 0} → (List ℕ → X → Type 0) → (List ℕ → Bool) → (List ℕ → Stored) → List ℕ → Option X → List ℕ → Type 0
-AreLinesAt Spells is_malformed stored path = IsTextAt stored path >>= AreLines Spells is_malformed path
+AreLinesAt Spells is_malformed stored path = IsTextAt stored path >>= AreFileLines Spells is_malformed path
 
 -- the rules of a text of globs2, and the types of its markers
 abbrev pub AreGlobs : List ℕ → List GlobRule × List (List ℕ) → Type 0

@@ -39,10 +39,10 @@ IsShut (bytes bs) = ⊥
 IsShut unknown = Unit {0}
 
 -- a reader of what is stored is given; or it can't be opened, or memory ran out
-abbrev pub Opens : {R : Type 0} → (R → Option (List ℕ)) → (R → Health) → Stored → Result R FileFault → Type 0
-Opens remaining health stored (Ok reader) = IsReaderOf remaining health stored reader
-Opens remaining health stored (Err Failed) = IsShut stored
-Opens remaining health stored (Err OutOfMemory) = Unit {0}
+abbrev pub IsOpening : {R : Type 0} → (R → Option (List ℕ)) → (R → Health) → Stored → Result R FileFault → Type 0
+IsOpening remaining health stored (Ok reader) = IsReaderOf remaining health stored reader
+IsOpening remaining health stored (Err Failed) = IsShut stored
+IsOpening remaining health stored (Err OutOfMemory) = Unit {0}
 
 -- what a path holds after it came to hold this, where it was known what it held
 abbrev pub Becomes : Stored → Stored → Stored → Type 0
@@ -66,9 +66,9 @@ Replaces temp path bs old new (Ok _) = Replaced temp path bs old new
 Replaces temp path bs old new (Err _) = Untouched temp old new
 
 -- the text of a file: an empty one where there is no file, and none where it can't be read
-abbrev pub IsText : Stored → Option (List ℕ) → Type 0
-IsText nothing text = text ≡ Some []
-IsText closed text = text ≡ None
-IsText unreadable text = text ≡ None
-IsText (bytes bs) text = text ≡ Some bs
-IsText unknown text = Unit {0}
+abbrev pub IsTextOf : Stored → Option (List ℕ) → Type 0
+IsTextOf nothing text = text ≡ Some []
+IsTextOf closed text = text ≡ None
+IsTextOf unreadable text = text ≡ None
+IsTextOf (bytes bs) text = text ≡ Some bs
+IsTextOf unknown text = Unit {0}

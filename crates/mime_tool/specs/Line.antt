@@ -68,10 +68,10 @@ IsOpened lookup (bytes bs) file run = IsNamed (fits file) file (IsTyped lookup (
 IsOpened lookup unknown file run = (run ≡ unanswered (cannot_open file)) ⊎ IsNamed (fits file) file (IsGuessed file) run
 
 -- the run over a file: by its name alone, or it is opened
-abbrev pub IsLineBy : Bool → PlainLookup → Stored → List ℕ → Run → Type 0
-IsLineBy true lookup stored file run = IsNamed (fits file) file (IsTyped lookup None file) run
-IsLineBy false lookup stored file run = IsOpened lookup stored file run
+abbrev pub IsTypeLineBy : Bool → PlainLookup → Stored → List ℕ → Run → Type 0
+IsTypeLineBy true lookup stored file run = IsNamed (fits file) file (IsTyped lookup None file) run
+IsTypeLineBy false lookup stored file run = IsOpened lookup stored file run
 
 -- the run over a file, where this is stored at each path
-abbrev pub IsLine : PlainLookup → (List ℕ → Stored) → List ℕ → Run → Type 0
-IsLine lookup stored file run = IsLineBy lookup.name_only lookup (stored file) file run
+abbrev pub IsTypeLine : PlainLookup → (List ℕ → Stored) → List ℕ → Run → Type 0
+IsTypeLine lookup stored file run = IsTypeLineBy lookup.name_only lookup (stored file) file run

@@ -4,7 +4,7 @@ use Rattle.mime_base.specs.Database.{plain_database}
 use Rattle.mime_lookup.specs.Content.{Health}
 use Rattle.mime_tool.specs.Files.{IsReaderOf, Stored}
 use Rattle.mime_tool.specs.Finish.{Sinks}
-use Rattle.mime_tool.specs.Line.{IsLineBy, PlainLookup, cannot_open, too_long, type_line}
+use Rattle.mime_tool.specs.Line.{IsTypeLineBy, PlainLookup, cannot_open, too_long, type_line}
 use Rattle.mime_tool.specs.Run.{Run, cannot_read, printed, unanswered}
 use Rattle.mime_tool.specs.declared.line.Lookup.{Lookup}
 use Rattle.mime_tool.specs.declared.line.Outcome.{Outcome}
@@ -36,6 +36,6 @@ IsContent remaining health false stored (Some reader) = IsReaderOf remaining hea
 
 -- what is written of what a file comes to is its line, and nothing is written yet; or memory ran out
 abbrev pub ComesTo : PlainLookup → Stored → List ℕ → Sinks → Sinks → Result Outcome Stop → Type 0
-ComesTo lookup stored file old new (Ok o) = (new ≡ old) × IsLineBy lookup.name_only lookup stored file (run_of file o)
+ComesTo lookup stored file old new (Ok o) = (new ≡ old) × IsTypeLineBy lookup.name_only lookup stored file (run_of file o)
 ComesTo lookup stored file old new (Err stop.OutOfMemory) = new ≡ old
 ComesTo lookup stored file old new (Err _) = ⊥

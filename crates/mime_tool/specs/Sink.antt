@@ -15,10 +15,10 @@ WroteFront (Some xs) new bs =
     (front : List ℕ) × (rest : List ℕ) × (bs ≡ front ++ rest) × (new ≡ Some (xs ++ front))
 
 -- all the bytes are taken, or memory runs out in the middle of them, or the sink isn't known
-abbrev pub Takes : Option (List ℕ) → Option (List ℕ) → Result (Unit {0}) SinkFault → List ℕ → Type 0
-Takes old new (Ok _) bs = Wrote old new bs
-Takes old new (Err OutOfMemory) bs = WroteFront old new bs
-Takes old new (Err Failed) bs = old ≡ None
+abbrev pub IsPut : Option (List ℕ) → Option (List ℕ) → Result (Unit {0}) SinkFault → List ℕ → Type 0
+IsPut old new (Ok _) bs = Wrote old new bs
+IsPut old new (Err OutOfMemory) bs = WroteFront old new bs
+IsPut old new (Err Failed) bs = old ≡ None
 
 -- what the flush after the last bytes answered, if there was one
 abbrev pub Flush : Type 0

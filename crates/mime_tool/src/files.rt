@@ -1,7 +1,7 @@
 //! Where files come from. This project's own.
 
 ghost use Rattle.std.specs.Prelude.{◌≡◌, ℕ, List};
-ghost use Rattle.mime_tool.specs.Files.{Opens, Replaces, Stored, Tells, unknown};
+ghost use Rattle.mime_tool.specs.Files.{IsOpening, Replaces, Stored, Tells, unknown};
 ghost use Rattle.mime_tool.specs.declared.files.FileFault.TheVariants.{OutOfMemory};
 
 use mime_lookup::Content;
@@ -50,7 +50,7 @@ pub trait Files {
     /// Errors: [`FileFault::Failed`] where there is no such file or it can't be opened;
     /// [`FileFault::OutOfMemory`] where there is no memory for it.
     fn open(&mut self, alloc: Global, path: &str) -> Result<Self::Reader, FileFault>
-        ensures opened { Opens Self.Reader.remaining Self.Reader.health
+        ensures opened { IsOpening Self.Reader.remaining Self.Reader.health
             (tells self.old path.now) result }
         ensures stays { tells self.new ≡ tells self.old };
 

@@ -4,7 +4,7 @@ ghost use Rattle.std.specs.Prelude.{◌≡◌, IfOk, []};
 ghost use Rattle.clap.specs.Walk.{texts};
 ghost use Rattle.mime_tool.specs.Desk.{Does, Ends, Works};
 ghost use Rattle.mime_tool.specs.Files.{Stored};
-ghost use Rattle.mime_tool.specs.Line.{IsLine, IsLineBy, base_name, refusal, type_line};
+ghost use Rattle.mime_tool.specs.Line.{IsTypeLine, IsTypeLineBy, base_name, refusal, type_line};
 ghost use Rattle.mime_tool.specs.LineSteps.{ComesTo, IsContent, plain_lookup, run_of};
 ghost use Rattle.mime_tool.specs.Run.{IsEach, printed, said, unanswered};
 
@@ -40,7 +40,7 @@ pub(crate) fn print_lines<D: Desk>(
     lookup: Lookup<'_>,
     files: &[&str],
 ) -> Result<u8, Stop>
-    ensures { Works (Ends (IsEach (IsLine (plain_lookup lookup.entry) (D.state desk.old).stored))
+    ensures { Works (Ends (IsEach (IsTypeLine (plain_lookup lookup.entry) (D.state desk.old).stored))
         (texts files.now)) (D.state desk.old) (D.state desk.new) result }
 {
     let mut status = ANSWERED;
@@ -52,7 +52,7 @@ pub(crate) fn print_lines<D: Desk>(
 
 // Prints the line of one file, or says why there is none.
 fn print_line<D: Desk>(desk: &mut D, lookup: Lookup<'_>, file: &str) -> Result<u8, Stop>
-    ensures { Works (Ends (λ _. IsLine (plain_lookup lookup.entry) (D.state desk.old).stored file.now) [])
+    ensures { Works (Ends (λ _. IsTypeLine (plain_lookup lookup.entry) (D.state desk.old).stored file.now) [])
         (D.state desk.old) (D.state desk.new) result }
 {
     let outcome = outcome_of(desk, lookup, file)?;
@@ -88,7 +88,7 @@ fn look_up<'a, R: Content + Drop>(
 ) -> Result<Outcome<'a>, OutOfMemory>
     ensures { IfOk result (λ outcome. (stored : Stored)
         → IsContent R.remaining R.health lookup.entry.name_only stored content
-        → IsLineBy lookup.entry.name_only (plain_lookup lookup.entry) stored file.now
+        → IsTypeLineBy lookup.entry.name_only (plain_lookup lookup.entry) stored file.now
         (run_of file.now outcome)) }
 {
     let name = base_name(file.as_bytes());

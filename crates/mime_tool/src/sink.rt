@@ -2,7 +2,7 @@
 
 ghost use Rattle.std.specs.Prelude.{ℕ, List, Option, Some, None, Ok, []};
 ghost use Rattle.std.specs.List.{flat_map};
-ghost use Rattle.mime_tool.specs.Sink.{Flush, Flushes, Takes};
+ghost use Rattle.mime_tool.specs.Sink.{Flush, Flushes, IsPut};
 
 use std::alloc::AllocError;
 use thiserror::Error;
@@ -31,11 +31,11 @@ pub trait Sink {
 
     /// Takes all the bytes.
     fn put(&mut self, bytes: &[u8]) -> Result<(), SinkFault>
-        ensures { Takes (holds self.old) (holds self.new) result bytes.now };
+        ensures { IsPut (holds self.old) (holds self.new) result bytes.now };
 
     /// Hands on what it held back.
     fn flush(&mut self) -> Result<(), SinkFault>
-        ensures kept { Takes (holds self.old) (holds self.new) result [] }
+        ensures kept { IsPut (holds self.old) (holds self.new) result [] }
         ensures flushed { Flushes (holds self.old) (flushed self.new) result };
 }
 
@@ -59,7 +59,7 @@ impl Sink for Vec<u8> {
 
 /// Puts the pieces, one after another.
 pub(crate) fn put_all<S: Sink>(sink: &mut S, pieces: &[&[u8]]) -> Result<(), SinkFault>
-    ensures { Takes (S.holds sink.old) (S.holds sink.new) result
+    ensures { IsPut (S.holds sink.old) (S.holds sink.new) result
         (flat_map (λ piece. piece.now) pieces.now) }
 {
     for piece in pieces {
@@ -70,7 +70,7 @@ pub(crate) fn put_all<S: Sink>(sink: &mut S, pieces: &[&[u8]]) -> Result<(), Sin
 
 /// Puts the bytes, and flushes.
 pub(crate) fn put_now<S: Sink>(sink: &mut S, bytes: &[u8]) -> Result<(), SinkFault>
-    ensures { Takes (S.holds sink.old) (S.holds sink.new) result bytes.now }
+    ensures { IsPut (S.holds sink.old) (S.holds sink.new) result bytes.now }
 {
     sink.put(bytes)?;
     sink.flush()

@@ -3,7 +3,7 @@
 ghost use Rattle.std.specs.Prelude.{◌≡◌, ◌≢◌, ◌≤◌, None, [], IfOk, IfSome, OnOk, length};
 ghost use Rattle.std.specs.IoError.{error_kind};
 ghost use Rattle.std.specs.Io.KnownBytes.{Appends, Keeps, ReadConsumes};
-ghost use Rattle.mime_tool.specs.Sink.{Takes};
+ghost use Rattle.mime_tool.specs.Sink.{IsPut};
 
 use crate::files::{FileFault, Files};
 use crate::sink::{Sink, SinkFault};
@@ -165,7 +165,7 @@ pub struct Stream<W: Write + Drop>(pub W);
 
 impl<W: Write + Drop> Sink for Stream<W> {
     fn put(&mut self, bytes: &[u8]) -> Result<(), SinkFault>
-        ensures unknown { Takes None None result bytes.now }
+        ensures unknown { IsPut None None result bytes.now }
         ensures written { OnOk result
             (Appends (W.contents self.old.0) (W.contents self.new.0) bytes.now) }
     {
@@ -176,7 +176,7 @@ impl<W: Write + Drop> Sink for Stream<W> {
     }
 
     fn flush(&mut self) -> Result<(), SinkFault>
-        ensures unknown { Takes None None result [] }
+        ensures unknown { IsPut None None result [] }
         ensures kept { Keeps (W.contents self.old.0) (W.contents self.new.0) }
     {
         match self.0.flush() {

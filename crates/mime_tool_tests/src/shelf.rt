@@ -65,7 +65,7 @@ impl<'a> Files for Shelf<'a> {
     type Reader = Page<'a>;
 
     fn whole(&mut self, alloc: Global, path: &str) -> Result<Option<Vec<u8>>, FileFault> {
-        match entry_at(self.entries, path) {
+        match find_entry(self.entries, path) {
             None => Ok(None),
             Some(Entry::Closed | Entry::Unreadable) => Err(FileFault::Failed),
             Some(Entry::Bytes(bytes)) => match bytes.to_vec(alloc) {
@@ -76,7 +76,7 @@ impl<'a> Files for Shelf<'a> {
     }
 
     fn open(&mut self, _alloc: Global, path: &str) -> Result<Page<'a>, FileFault> {
-        match entry_at(self.entries, path) {
+        match find_entry(self.entries, path) {
             None | Some(Entry::Closed) => Err(FileFault::Failed),
             Some(Entry::Unreadable) => Ok(Page::Unreadable),
             Some(Entry::Bytes(bytes)) => Ok(Page::Bytes(bytes)),
@@ -95,7 +95,7 @@ impl<'a> Files for Shelf<'a> {
     }
 }
 
-fn entry_at<'a>(entries: &[(&'a str, Entry<'a>)], path: &str) -> Option<Entry<'a>>
+fn find_entry<'a>(entries: &[(&'a str, Entry<'a>)], path: &str) -> Option<Entry<'a>>
     ensures { result ≡ entry_in entries.now path.now }
 {
     for named in entries {

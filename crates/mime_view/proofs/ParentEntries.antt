@@ -13,7 +13,7 @@ use Rattle.mime_base.specs.Cache.Bytes.{field}
 use Rattle.mime_base.specs.Cache.Texts.{text_at}
 use Rattle.mime_base.specs.Database.Subclass.{parents}
 use Rattle.mime_base.specs.declared.cache.byte_fault.ByteFault.{ByteFault}
-use Rattle.mime_view.specs.Parents.{ReadsParents, ReadsTexts, is_among, is_entry, is_marked, is_text, parents_at, unmarked_parents}
+use Rattle.mime_view.specs.Parents.{ReadsParents, ReadsTexts, has_place, is_entry, is_marked, is_text, parents_at, unmarked_parents}
 use Rattle.mime_view.proofs.Places.{key_at}
 
 -- what was read is this text
@@ -49,14 +49,14 @@ places_same a b is = by_test (nat_lt a b) (a == b) refl is
 
 -- a marked place marks its type
 pub marked_here : (c : List ℕ) (at : ℕ) (marks kind : List ℕ) (place : ℕ) → is_entry c at kind place ≡ true
-    → is_among marks place ≡ true → is_marked c at marks kind ≡ true
+    → has_place marks place ≡ true → is_marked c at marks kind ≡ true
 unfolding is_marked
 marked_here c at [] kind place is among = absurd (true≢false (sym among))
 marked_here c at (mark ∷ marks) kind place is among =
     by_mark (is_eq (nat_cmp place mark)) refl among (marked_here c at marks kind place is)
   where
-    by_mark : (same : Bool) → is_eq (nat_cmp place mark) ≡ same → (same || is_among marks place) ≡ true
-        → (is_among marks place ≡ true → is_marked c at marks kind ≡ true)
+    by_mark : (same : Bool) → is_eq (nat_cmp place mark) ≡ same → (same || has_place marks place) ≡ true
+        → (has_place marks place ≡ true → is_marked c at marks kind ≡ true)
         → (is_entry c at kind mark || list_any (is_entry c at kind) marks) ≡ true
     by_mark true same among more =
         let here : is_entry c at kind mark ≡ true = ap (is_entry c at kind) (sym (places_same place mark same)) ∙ is in
@@ -81,15 +81,15 @@ module _ (c : List ℕ) (at : ℕ) (pairs : List (List ℕ × List ℕ)) (kinds 
       reads.once i j l.0 r.0 (l.1 ∙ sym r.1)
 
   -- a type whose place is not marked is not marked
-  pub unmarked_here : (marks kind : List ℕ) (place : ℕ) → is_entry c at kind place ≡ true → is_among marks place ≡ false
+  pub unmarked_here : (marks kind : List ℕ) (place : ℕ) → is_entry c at kind place ≡ true → has_place marks place ≡ false
       → is_marked c at marks kind ≡ false
   unfolding is_marked
   unmarked_here [] kind place is among = refl
   unmarked_here (mark ∷ marks) kind place is among =
       by_mark (is_eq (nat_cmp place mark)) refl among (unmarked_here marks kind place is)
     where
-      by_mark : (same : Bool) → is_eq (nat_cmp place mark) ≡ same → (same || is_among marks place) ≡ false
-          → (is_among marks place ≡ false → is_marked c at marks kind ≡ false)
+      by_mark : (same : Bool) → is_eq (nat_cmp place mark) ≡ same → (same || has_place marks place) ≡ false
+          → (has_place marks place ≡ false → is_marked c at marks kind ≡ false)
           → (is_entry c at kind mark || list_any (is_entry c at kind) marks) ≡ false
       by_mark true same among more = absurd (true≢false among)
       by_mark false same among more =
@@ -105,12 +105,12 @@ module _ (c : List ℕ) (at : ℕ) (pairs : List (List ℕ × List ℕ)) (kinds 
       subst (λ (k : List ℕ). 0 < length (parents pairs k)) here.1 (reads.some place here.0)
 
   -- what is given for a marked entry
-  pub marked_parents : (marks kind : List ℕ) (place : ℕ) → is_entry c at kind place ≡ true → is_among marks place ≡ true
+  pub marked_parents : (marks kind : List ℕ) (place : ℕ) → is_entry c at kind place ≡ true → has_place marks place ≡ true
       → unmarked_parents pairs (is_marked c at marks kind) kind ≡ []
   marked_parents marks kind place is among = rw (marked_here c at marks kind place is among) refl
 
   -- the parents of an entry that is not marked stand
-  pub unmarked_read : (marks kind : List ℕ) (place : ℕ) → is_entry c at kind place ≡ true → is_among marks place ≡ false
+  pub unmarked_read : (marks kind : List ℕ) (place : ℕ) → is_entry c at kind place ≡ true → has_place marks place ≡ false
       → ReadsTexts c (parents_at c at place) (unmarked_parents pairs (is_marked c at marks kind) kind)
   unmarked_read marks kind place is among =
       let here = kind_at kind place is in

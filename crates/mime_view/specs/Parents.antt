@@ -15,8 +15,8 @@ use Rattle.mime_view.specs.declared.fault.CacheFault.TheVariants.{OutOfMemory, S
 use Rattle.mime_view.specs.declared.parents.Parents.{Parents}
 
 -- whether a place is among these
-abbrev pub is_among : List ℕ → ℕ → Bool
-is_among places place = list_any (λ other. is_eq (nat_cmp place other)) places
+abbrev pub has_place : List ℕ → ℕ → Bool
+has_place places place = list_any (λ other. is_eq (nat_cmp place other)) places
 
 -- rising places, and this one among them
 abbrev pub with_place : List ℕ → ℕ → List ℕ
@@ -67,8 +67,8 @@ IsGiven pairs kinds marked kind (Some found) =
 -- what is given on any bytes: an entry of the type, with no types where it is marked, else with the texts that stand there
 pub record IsRead (c : List ℕ) (at : ℕ) (marks kind : List ℕ) (found : Parents) : Type 0 where
   pub entry : is_entry c at kind found.entry ≡ true
-  pub marked : is_among marks found.entry ≡ true → found.types ≡ []
-  pub unmarked : is_among marks found.entry ≡ false → ReadsTexts c (parents_at c at found.entry) found.types
+  pub marked : has_place marks found.entry ≡ true → found.types ≡ []
+  pub unmarked : has_place marks found.entry ≡ false → ReadsTexts c (parents_at c at found.entry) found.types
 
 -- one of the texts of a list at `at` does not stand
 pub record IsNamedFault (c : List ℕ) (at : ℕ) (e : CacheFault) : Type 0 where
@@ -93,7 +93,7 @@ IsTextsFault c at before after e =
 pub record IsEntryFault (c : List ℕ) (at : ℕ) (marks kind : List ℕ) (before after : ℕ) (e : CacheFault) : Type 0 where
   pub place : ℕ
   pub entry : is_entry c at kind place ≡ true
-  pub unmarked : is_among marks place ≡ false
+  pub unmarked : has_place marks place ≡ false
   pub fault : IsTextsFault c (parents_at c at place) before after e
 
 -- why nothing is said of a type's parents: the list, a text that the search compares, or the parents of its entry

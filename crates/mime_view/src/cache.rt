@@ -18,7 +18,7 @@ ghost use Rattle.std.specs.Prelude.{IsOk};
 ghost use Rattle.mime_base.specs.Magic.Extent.{sections_extent};
 ghost use Rattle.mime_view.specs.Lists.{IsListFault, IsTextFault};
 ghost use Rattle.mime_view.specs.Pairs.{looked_up};
-ghost use Rattle.mime_view.specs.Parents.{IsGiven, IsParentsFault, IsRead, is_among, is_marked, unmarked_parents, with_place};
+ghost use Rattle.mime_view.specs.Parents.{IsGiven, IsParentsFault, IsRead, has_place, is_marked, unmarked_parents, with_place};
 ghost use Rattle.mime_view.specs.Opening.{IsOpenFault, Opens};
 
 use crate::budget::Budget;
@@ -206,8 +206,8 @@ impl<'a> Cache<'a> {
             (IsGiven pairs stand.kinds (is_marked self.now (field self.now 0 2) marks.old kind.now) kind.now) }
         ensures read { IfOk result (λ found. IfSome found (IsRead self.now (field self.now 0 2) marks.old kind.now)) }
         ensures marked { IfOk result (λ found. MatchOption found (marks.new ≡ marks.old) (λ parents.
-            (is_among marks.old parents.entry ≡ true) × (marks.new ≡ marks.old)
-            ⊎ (is_among marks.old parents.entry ≡ false) × (marks.new ≡ with_place marks.old parents.entry))) }
+            (has_place marks.old parents.entry ≡ true) × (marks.new ≡ marks.old)
+            ⊎ (has_place marks.old parents.entry ≡ false) × (marks.new ≡ with_place marks.old parents.entry))) }
         ensures need { (offsets : Offsets) (pairs : List (List ℕ × List ℕ)) → HeaderAt (Stands self.now) offsets →
             ParentsAt (Stands self.now) offsets.parents pairs → length (unmarked_parents pairs
             (is_marked self.now (field self.now 0 2) marks.old kind.now) kind.now) ≤ budget.old.records →

@@ -1,7 +1,7 @@
 //! Which entries of the parent list were expanded. This project's own.
 
 ghost use Rattle.std.specs.Prelude.{◌≡◌, [], IfErr, OnErr, OnOk};
-ghost use Rattle.mime_view.specs.Parents.{is_among, with_place};
+ghost use Rattle.mime_view.specs.Parents.{has_place, with_place};
 
 use crate::fault::CacheFault;
 use std::alloc::Global;
@@ -36,7 +36,7 @@ impl Marks {
 
     /// Whether a place is in the set.
     pub fn contains(&self, place: u32) -> bool
-        ensures { result ≡ is_among self.now place }
+        ensures { result ≡ has_place self.now place }
     {
         self.places.contains(&place)
     }

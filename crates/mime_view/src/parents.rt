@@ -8,7 +8,7 @@ ghost use Rattle.mime_base.specs.Meter.{raised};
 ghost use Rattle.mime_base.specs.declared.cache.byte_fault.ByteFault.{ByteFault};
 ghost use Rattle.mime_view.specs.Faults.{cache_fault};
 ghost use Rattle.mime_view.specs.Parents.{IsGiven, IsParentsFault, IsRead, IsTextsFault, ReadsParents};
-ghost use Rattle.mime_view.specs.Parents.{ReadsTexts, is_among, is_marked, unmarked_parents, with_place};
+ghost use Rattle.mime_view.specs.Parents.{ReadsTexts, has_place, is_marked, unmarked_parents, with_place};
 
 use crate::budget::Budget;
 use crate::entry::find_entry;
@@ -44,8 +44,8 @@ pub fn parents_of<'a>(
         IfOk result (IsGiven pairs kinds (is_marked counted.now at marks.old kind.now) kind.now) }
     ensures read { IfOk result (λ found. IfSome found (IsRead counted.now at marks.old kind.now)) }
     ensures marked { IfOk result (λ found. MatchOption found (marks.new ≡ marks.old) (λ parents.
-        (is_among marks.old parents.entry ≡ true) × (marks.new ≡ marks.old)
-        ⊎ (is_among marks.old parents.entry ≡ false) × (marks.new ≡ with_place marks.old parents.entry))) }
+        (has_place marks.old parents.entry ≡ true) × (marks.new ≡ marks.old)
+        ⊎ (has_place marks.old parents.entry ≡ false) × (marks.new ≡ with_place marks.old parents.entry))) }
     ensures need { (pairs : List (List ℕ × List ℕ)) (kinds : List (List ℕ)) → ReadsParents counted.now at pairs kinds →
         length (unmarked_parents pairs (is_marked counted.now at marks.old kind.now) kind.now) ≤ budget.old.records →
         IfErr result (λ e. e ≡ CacheFault.OutOfMemory) }

@@ -6,7 +6,7 @@ use Rattle.mime_base.specs.Matching.Count.{tests_of}
 use Rattle.mime_base.specs.Matching.Matches.{matches}
 use Rattle.mime_base.specs.Matching.Folding.{compared}
 use Rattle.mime_base.specs.declared.matching.attempt.Step.{Step}
-use Rattle.mime_base.specs.declared.matching.attempt.Step.TheVariants.{Takes, Halts}
+use Rattle.mime_base.specs.declared.matching.attempt.Step.TheVariants.{Passes, Halts}
 use Rattle.mime_base.specs.declared.matching.attempt.Halt.{Halt}
 use Rattle.mime_base.specs.declared.matching.attempt.Halt.TheVariants.{BothEnd, PatternEnds, NameEnds, Star, Refused}
 
@@ -38,7 +38,7 @@ TakesOne _ _ left rest = ⊥
 
 -- what comes of the first element and the first byte of two texts
 abbrev pub IsStep : Bool → List ℕ → List ℕ → Step → Type 0
-IsStep cased pattern name (Takes left rest) =
+IsStep cased pattern name (Passes left rest) =
     TakesOne (elements (compared cased pattern)) (compared cased name) (elements (compared cased left.now)) (compared cased rest.now)
 IsStep cased pattern name (Halts halt after) =
     HaltsAt halt (elements (compared cased pattern)) (compared cased name) (elements (compared cased after.now))
@@ -53,13 +53,13 @@ last_tests Refused = 1
 
 -- the step leaves less of both texts, and a pattern pays for a last test
 abbrev pub IsShorter : List ℕ → List ℕ → Step → Type 0
-IsShorter pattern name (Takes left rest) = (length left.now < length pattern) × (length rest.now + 1 ≡ length name)
+IsShorter pattern name (Passes left rest) = (length left.now < length pattern) × (length rest.now + 1 ≡ length name)
 IsShorter pattern name (Halts halt after) =
     (last_tests halt ≤ length pattern) × (halt ≡ Star → length after.now < length pattern)
 
 -- none of the last so many bytes of what it leaves of the pattern is a `]`
 abbrev pub LeavesNoEnd : ℕ → Step → Type 0
-LeavesNoEnd endless (Takes left rest) = HasNoEnd endless left.now
+LeavesNoEnd endless (Passes left rest) = HasNoEnd endless left.now
 LeavesNoEnd endless (Halts halt after) = HasNoEnd endless after.now
 
 -- so many elements take a byte each, and then they halt

@@ -77,7 +77,7 @@ pub fn attempt<'a>(pattern: &'a [u8], endless: usize, cased: bool, name: &[u8]) 
     let mut passed = 0;
     loop {
         match try_first(pattern, endless, cased, name) {
-            Step::Takes(left, rest) => {
+            Step::Passes(left, rest) => {
                 pattern = left;
                 name = rest;
                 passed += 1;
@@ -98,7 +98,7 @@ pub fn attempt<'a>(pattern: &'a [u8], endless: usize, cased: bool, name: &[u8]) 
 #[derive(Clone, Copy)]
 enum Step<'a, 'b> {
     /// The element takes the byte: what is left of the pattern and of the name.
-    Takes(&'a [u8], &'b [u8]),
+    Passes(&'a [u8], &'b [u8]),
     /// It halts; at a star, what stands after it.
     Halts(Halt, &'a [u8]),
 }
@@ -130,7 +130,7 @@ fn try_first<'a, 'b>(pattern: &'a [u8], endless: usize, cased: bool, name: &'b [
         cased,
         as_compared(cased, *byte),
     ) {
-        Some(left) => Step::Takes(left, rest),
+        Some(left) => Step::Passes(left, rest),
         None => Step::Halts(Halt::Refused, after),
     }
 }

@@ -4,7 +4,7 @@ use Rattle.std.proofs.lemmas.Bool.{cases_lt, cases_Bool, eqb-false}
 use Rattle.mime_base.specs.Magic.{fits_word}
 use Rattle.mime_text.specs.declared.magic.fault.MagicFaultKind.TheVariants.{BadNumber, BadWord, BadIndent}
 use Rattle.mime_text.specs.Magic.Text.{value_of, AreDigits, IsNumber}
-use Rattle.mime_text.specs.Magic.FaultTable.{IsToMask, IsToWord, IsBeforeNumber, before_start, before_word, before_range, IsCut, in_indent}
+use Rattle.mime_text.specs.Magic.FaultTable.{IsToMask, IsToWord, IsBeforeNumber, before_start, before_word, before_range, IsCutLine, in_indent}
 use Rattle.mime_text.specs.Magic.FaultTable.{in_number, in_length, in_value, in_mask, before_end, before_newline, large_indent, bad_number}
 use Rattle.mime_text.specs.Magic.FaultTable.{no_equals, no_mark}
 use Rattle.mime_text.proofs.FaultLemmas.FaultSteps.{number_final, word_final, indent_final}
@@ -84,7 +84,7 @@ number_ends limit line before digits is (before_range size b at w) are num =
     subst (λ (t : List ℕ). LineEnds limit t) (sym whole) (range_ends limit size b (43 ∷ digits) (value_of 0 digits) w (refl, num))
 
 -- any line that is cut
-pub cut_ends : (limit : ℕ) (line : List ℕ) → IsCut limit line → LineEnds limit line
+pub cut_ends : (limit : ℕ) (line : List ℕ) → IsCutLine limit line → LineEnds limit line
 cut_ends limit line (in_indent some are) = elim (judge line are) [
   | inl num ↦
       faulty limit line (120 ∷ []) BadIndent 0

@@ -9,7 +9,7 @@ use Rattle.mime_text.specs.declared.magic.fault.MagicFaultKind.TheVariants.{Trun
 use Rattle.mime_text.specs.declared.magic.fault.MagicFaultKind.{MagicFaultKind}
 use Rattle.mime_text.specs.Magic.Reading.{fault_at, bytes_at, value_at, mask_at, word_at, range_at, row_at, body_at, end_at, line_at}
 use Rattle.mime_text.specs.Magic.Text.{NoNewline}
-use Rattle.mime_text.specs.Magic.FaultTable.{IsToEnd, IsCut, in_indent, in_number, in_length, in_value, in_mask, before_end, before_newline}
+use Rattle.mime_text.specs.Magic.FaultTable.{IsToEnd, IsCutLine, in_indent, in_number, in_length, in_value, in_mask, before_end, before_newline}
 use Rattle.mime_text.proofs.MagicLemmas.LineOnly.{body_only}
 use Rattle.mime_text.proofs.FaultLemmas.FaultSteps.{bind_fails, bind_to, Places}
 use Rattle.mime_text.proofs.FaultLemmas.FaultNumbers.{number_cut}
@@ -69,7 +69,7 @@ end_then limit own next line before after f is end e =
     (subst (λ (n : ℕ). end_at n own (next ∷ after) ≡ Err f) (ap length whole) e)))
 
 -- a line that is cut
-pub cut_line : (limit : ℕ) (line : List ℕ) → IsCut limit line → line_at limit line ≡ Err (fault_at Truncated 0)
+pub cut_line : (limit : ℕ) (line : List ℕ) → IsCutLine limit line → line_at limit line ≡ Err (fault_at Truncated 0)
 unfolding end_at word_at range_at
 cut_line limit line (in_indent some are) = front_number limit line (fault_at Truncated 0) (digits_start line are some) (number_cut line are)
 cut_line limit line (in_number before digits is place are) =

@@ -5,7 +5,7 @@ use Rattle.mime_text.specs.declared.magic.fault.MagicFaultKind.{MagicFaultKind}
 use Rattle.mime_text.specs.declared.magic.fault.MagicFaultKind.TheVariants.{NoHeader, Truncated, BadSection, BadNumber, BadWord, BadIndent}
 use Rattle.mime_text.specs.declared.magic.fault.MagicFaultKind.TheVariants.{TooDeep}
 use Rattle.mime_text.specs.Magic.Reading.{fault_at}
-use Rattle.mime_text.specs.Magic.FaultTable.{IsCut, IsMisnumbered, IsMisworded, IsMisindented, IsTooDeep, IsCutAtEnd}
+use Rattle.mime_text.specs.Magic.FaultTable.{IsCutLine, IsMisnumbered, IsMisworded, IsMisindented, IsTooDeep, IsCutAtEnd}
 use Rattle.mime_text.proofs.FaultLemmas.FaultSteps.{Places, places_end}
 
 -- the faults of a line, by kind
@@ -26,7 +26,7 @@ pub record LineFails (limit : ℕ) (line : List ℕ) (f : Fault) : Type 0 where
   pub places : Places f (length line) kind at
 
 -- a line that is cut
-pub cut : (limit : ℕ) (line : List ℕ) (f : Fault) → f ≡ fault_at Truncated 0 → IsCut limit line → LineFails limit line f
+pub cut : (limit : ℕ) (line : List ℕ) (f : Fault) → f ≡ fault_at Truncated 0 → IsCutLine limit line → LineFails limit line f
 cut limit line f e is =
     subst (λ (g : Fault). LineFails limit line g) (sym e)
     (record { kind = Truncated; at = length line; is = (is, refl); places = places_end line (length line) refl })

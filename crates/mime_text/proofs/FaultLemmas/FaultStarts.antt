@@ -8,7 +8,7 @@ use Rattle.mime_text.specs.declared.magic.fault.MagicFaultKind.TheVariants.{TooD
 use Rattle.mime_text.specs.Magic.Reading.{is_digit, starts_line}
 use Rattle.mime_text.specs.Magic.Text.{value_of, AreDigits, IsIndent}
 use Rattle.mime_text.specs.Magic.FaultTable.{IsToIndent, IsToStart, IsToValue, IsToMask, IsToWord, IsToEnd, IsEnded, IsIndented}
-use Rattle.mime_text.specs.Magic.FaultTable.{IsBeforeNumber, before_start, before_word, before_range, IsCut, in_indent, in_number}
+use Rattle.mime_text.specs.Magic.FaultTable.{IsBeforeNumber, before_start, before_word, before_range, IsCutLine, in_indent, in_number}
 use Rattle.mime_text.specs.Magic.FaultTable.{in_length, in_value, in_mask, before_end, before_newline, IsMisnumbered, large_indent}
 use Rattle.mime_text.specs.Magic.FaultTable.{bad_number, no_equals, large_sum, IsMisindented, no_mark, too_far}
 use Rattle.mime_text.proofs.FaultLemmas.FaultKinds.{LineFault}
@@ -85,7 +85,7 @@ to_number limit text (before_word size before is m) = of_front text before (126 
 to_number limit text (before_range size before is w) = of_front text before (43 ∷ []) is (to_word limit size before w)
 
 -- a line that is cut
-cut_starts : (limit : ℕ) (line : List ℕ) → IsCut limit line → StartsLine line
+cut_starts : (limit : ℕ) (line : List ℕ) → IsCutLine limit line → StartsLine line
 cut_starts limit line (in_indent some are) = digit_line line (digits_start line are some)
 cut_starts limit line (in_number before digits is place are) = of_front line before digits is (to_number limit before place)
 cut_starts limit line (in_length before cut is s short) = of_front line before cut is (to_start limit before s)

@@ -12,7 +12,7 @@ pub stack-push : (rs : List Root) (r : Root) → stack (rs ++ r ∷ []) ≡ plai
 stack-push rs r = ap (λ (x : List Root). map plain_root x) (reverse-append rs (r ∷ []))
 
 -- what the loop keeps, where `front` are the matchlets taken
-pub record Takes (d : ℕ) (all now : List PlainRoot) (front : List PlainMatchlet) : Type 0 where
+pub record TakesOff (d : ℕ) (all now : List PlainRoot) (front : List PlainMatchlet) : Type 0 where
   pub taken : kept_matchlets (deeper d all) ≡ front ++ kept_matchlets (deeper d now)
   pub left : others d all ≡ others d now
 

@@ -21,5 +21,5 @@ abbrev pub is_malformed_pair : List ℕ → Bool
 is_malformed_pair line = is_malformed (line_by pair_of line)
 
 -- the pairs of a text, in the order of their lines
-abbrev pub pairs_of : List ℕ → List Pair
-pairs_of text = entries_by pair_of text
+abbrev pub pairs_in : List ℕ → List Pair
+pairs_in text = entries_by pair_of text

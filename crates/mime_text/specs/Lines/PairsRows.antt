@@ -6,7 +6,7 @@ use Rattle.mime_base.specs.declared.database.pair.Pair.{Pair}
 use Rattle.mime_text.specs.declared.lines.file.Line.TheVariants.{Spelled, Passed, Malformed}
 use Rattle.mime_text.specs.Lines.{skipped_of}
 use Rattle.mime_text.specs.Lines.File.{entries_by, line_by}
-use Rattle.mime_text.specs.Lines.Pairs.{pair_of, is_malformed_pair, pairs_of}
+use Rattle.mime_text.specs.Lines.Pairs.{pair_of, is_malformed_pair, pairs_in}
 
 abbrev pair : List ℕ → List ℕ → Pair
 pair name target = record { name = name; target = target }
@@ -42,7 +42,7 @@ pair_lines = refl
 abbrev first_alias_pair : List ℕ
 first_alias_pair = join_with_byte 10 (codes "a/b c/d" ∷ codes "x y" ∷ codes "a/b e/f" ∷ codes "# z" ∷ [])
 
-pub first_alias_pair-pairs : pairs_of first_alias_pair ≡ pair (codes "a/b") (codes "c/d") ∷ pair (codes "a/b") (codes "e/f") ∷ []
+pub first_alias_pair-pairs : pairs_in first_alias_pair ≡ pair (codes "a/b") (codes "c/d") ∷ pair (codes "a/b") (codes "e/f") ∷ []
 unfolding pair_of entries_by is_type_name
 first_alias_pair-pairs = refl
 

@@ -117,24 +117,24 @@ pub record IsBadNumber (text : List ℕ) : Type 0 where
   pub bad : (digits ≡ []) ⊎ (4294967296 ≤ value_of 0 digits)
 
 -- Truncated: the text ends inside the line
-pub data IsCut (limit : ℕ) (line : List ℕ) : Type 0 where
+pub data IsCutLine (limit : ℕ) (line : List ℕ) : Type 0 where
   -- in the digits of the indent
-  in_indent : 0 < length line → AreDigits line → IsCut limit line
+  in_indent : 0 < length line → AreDigits line → IsCutLine limit line
   -- before or in the digits of another number, however large they are so far
-  in_number : (before digits : List ℕ) → line ≡ before ++ digits → IsBeforeNumber limit before → AreDigits digits → IsCut limit line
+  in_number : (before digits : List ℕ) → line ≡ before ++ digits → IsBeforeNumber limit before → AreDigits digits → IsCutLine limit line
   -- before the value's two bytes of length, or between them
-  in_length : (before cut : List ℕ) → line ≡ before ++ cut → IsToStart limit before → length cut < 2 → IsCut limit line
+  in_length : (before cut : List ℕ) → line ≡ before ++ cut → IsToStart limit before → length cut < 2 → IsCutLine limit line
   -- in the value
   in_value : (before : List ℕ) (high low : ℕ) (cut : List ℕ) → line ≡ before ++ (high ∷ low ∷ cut) → IsToStart limit before
-      → length cut < 256 * high + low → IsCut limit line
+      → length cut < 256 * high + low → IsCutLine limit line
   -- in the mask
   in_mask : (size : ℕ) (before cut : List ℕ) → line ≡ before ++ 38 ∷ cut → IsToValue limit size before
-      → length cut < size → IsCut limit line
+      → length cut < size → IsCutLine limit line
   -- after the value or the mask
-  before_end : (size : ℕ) → IsToMask limit size line → IsCut limit line
+  before_end : (size : ℕ) → IsToMask limit size line → IsCutLine limit line
   -- in what makes the line ignored
   before_newline : (before after : List ℕ) (own : PlainLine) (next : ℕ) → line ≡ before ++ next ∷ after → IsToEnd limit own next before
-      → next ≢ 10 → NoNewline after → IsCut limit line
+      → next ≢ 10 → NoNewline after → IsCutLine limit line
 
 -- BadNumber, at the number where one is wrong, or else at the line
 pub data IsMisnumbered (limit : ℕ) (line : List ℕ) (at : ℕ) : Type 0 where
@@ -239,7 +239,7 @@ pub record InLine (IsWrong : ℕ → List ℕ → ℕ → Type 0) (text : List �
 
 -- the line is cut where the text ends
 abbrev pub IsCutAtEnd : ℕ → List ℕ → ℕ → Type 0
-IsCutAtEnd limit line at = IsCut limit line × (at ≡ length line)
+IsCutAtEnd limit line at = IsCutLine limit line × (at ≡ length line)
 
 -- the text has this fault
 abbrev pub HasFault : List ℕ → MagicFault → Type 0

@@ -29,14 +29,14 @@ Fails errors.OutOfMemory read = Unit {0}
 Fails (errors.Fault f) read = read ≡ Err f
 
 -- what a reader of the code returned, its value seen by view, is what reading gives, unless memory ran out
-abbrev pub ReadsIfMemory : {X Y : Type 0} → (X → Y) → Result X ReadError → Result Y Fault → Type 0
-ReadsIfMemory view (Ok x) read = read ≡ Ok (view x)
-ReadsIfMemory view (Err e) read = Fails e read
+abbrev pub AgreesIfMemory : {X Y : Type 0} → (X → Y) → Result X ReadError → Result Y Fault → Type 0
+AgreesIfMemory view (Ok x) read = read ≡ Ok (view x)
+AgreesIfMemory view (Err e) read = Fails e read
 
 -- what a reader of the code returned, its value seen by view, is what reading gives
-abbrev pub Reads : {X Y : Type 0} → (X → Y) → Result X Fault → Result Y Fault → Type 0
-Reads view (Ok x) read = read ≡ Ok (view x)
-Reads view (Err f) read = read ≡ Err f
+abbrev pub Agrees : {X Y : Type 0} → (X → Y) → Result X Fault → Result Y Fault → Type 0
+Agrees view (Ok x) read = read ≡ Ok (view x)
+Agrees view (Err f) read = read ≡ Err f
 
 -- ---- numbers
 

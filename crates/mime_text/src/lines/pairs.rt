@@ -4,7 +4,7 @@
 
 ghost use Rattle.std.specs.Prelude.{◌≡◌, IfOk};
 ghost use Rattle.mime_text.specs.Lines.{skipped_of};
-ghost use Rattle.mime_text.specs.Lines.Pairs.{is_malformed_pair, pair_of, pairs_of};
+ghost use Rattle.mime_text.specs.Lines.Pairs.{is_malformed_pair, pair_of, pairs_in};
 
 use super::fields;
 use super::file::{LineEntry, LineFile, read_lines};
@@ -25,7 +25,7 @@ pub struct PairsFile {
 ///
 /// A malformed line is told by its number. Empty lines and comments are passed over.
 pub fn read_pairs(alloc: Global, bytes: &[u8]) -> Result<PairsFile, OutOfMemory>
-    ensures pairs { IfOk result (λ file. file.pairs.items ≡ pairs_of bytes.now) }
+    ensures pairs { IfOk result (λ file. file.pairs.items ≡ pairs_in bytes.now) }
     ensures skipped { IfOk result (λ file. file.skipped.items ≡ skipped_of is_malformed_pair bytes.now) }
 {
     let file: LineFile<Pair> = read_lines(alloc, bytes)?;

@@ -3,7 +3,7 @@
 ghost use Rattle.std.specs.Prelude.{◌≡◌, Ok};
 ghost use Rattle.mime_base.specs.Magic.{fits_word, mask_bytes};
 ghost use Rattle.mime_text.specs.Magic.Entries.{plain_raw_line, plain_entry, plain_line, plain_role, slice_bytes};
-ghost use Rattle.mime_text.specs.Magic.Reading.{Reads, ReadsIfMemory, body_at, bytes_at, end_at, indent_at, line_at, mask_at, range_at};
+ghost use Rattle.mime_text.specs.Magic.Reading.{Agrees, AgreesIfMemory, body_at, bytes_at, end_at, indent_at, line_at, mask_at, range_at};
 ghost use Rattle.mime_text.specs.Magic.Reading.{row_at, start_at, value_at, word_at};
 
 use super::entry::{Entry, Line, Role};
@@ -27,7 +27,7 @@ pub struct RawLine<'a> {
 
 /// The bytes before the next newline, and those after it.
 pub fn row(bytes: &[u8]) -> Result<(&[u8], &[u8]), Fault>
-    ensures { Reads (λ x. (x.0.now, x.1.now)) result (row_at bytes.now) }
+    ensures { Agrees (λ x. (x.0.now, x.1.now)) result (row_at bytes.now) }
 {
     let Some(end) = memchr(b'\n', bytes) else {
         return Err(Fault::TRUNCATED);
@@ -37,7 +37,7 @@ pub fn row(bytes: &[u8]) -> Result<(&[u8], &[u8]), Fault>
 
 #[tactic(auto, unfolding(crate::specs::Magic::Reading::indent_at))]
 fn indent(bytes: &[u8]) -> Result<(u32, &[u8]), Fault>
-    ensures { Reads (λ x. (x.0, x.1.now)) result (indent_at bytes.now) }
+    ensures { Agrees (λ x. (x.0, x.1.now)) result (indent_at bytes.now) }
 {
     match bytes {
         [] => Err(Fault::TRUNCATED),
@@ -52,7 +52,7 @@ fn indent(bytes: &[u8]) -> Result<(u32, &[u8]), Fault>
 
 #[tactic(auto, unfolding(crate::specs::Magic::Reading::start_at))]
 fn start(bytes: &[u8]) -> Result<(u32, &[u8]), Fault>
-    ensures { Reads (λ x. (x.0, x.1.now)) result (start_at bytes.now) }
+    ensures { Agrees (λ x. (x.0, x.1.now)) result (start_at bytes.now) }
 {
     let (start, rest) = number(bytes)?;
     let rest = byte(b'=', fault_at(MagicFaultKind::BadNumber, bytes), rest)?;
@@ -61,7 +61,7 @@ fn start(bytes: &[u8]) -> Result<(u32, &[u8]), Fault>
 
 #[tactic(auto, unfolding(crate::specs::Magic::Reading::bytes_at))]
 fn some_bytes(bytes: &[u8], n: usize) -> Result<(&[u8], &[u8]), Fault>
-    ensures { Reads (λ x. (x.0.now, x.1.now)) result (bytes_at n bytes.now) }
+    ensures { Agrees (λ x. (x.0.now, x.1.now)) result (bytes_at n bytes.now) }
 {
     if bytes.len() < n {
         return Err(Fault::TRUNCATED);
@@ -71,7 +71,7 @@ fn some_bytes(bytes: &[u8], n: usize) -> Result<(&[u8], &[u8]), Fault>
 
 #[tactic(auto, unfolding(crate::specs::Magic::Reading::value_at))]
 fn value(bytes: &[u8]) -> Result<(&[u8], &[u8]), Fault>
-    ensures { Reads (λ x. (x.0.now, x.1.now)) result (value_at bytes.now) }
+    ensures { Agrees (λ x. (x.0.now, x.1.now)) result (value_at bytes.now) }
 {
     match bytes {
         [] => Err(Fault::TRUNCATED),
@@ -85,7 +85,7 @@ fn value(bytes: &[u8]) -> Result<(&[u8], &[u8]), Fault>
 
 #[tactic(auto, unfolding(crate::specs::Magic::Reading::mask_at))]
 fn mask(bytes: &[u8], n: usize) -> Result<(Option<&[u8]>, &[u8]), Fault>
-    ensures { Reads (λ x. (slice_bytes x.0, x.1.now)) result (mask_at n bytes.now) }
+    ensures { Agrees (λ x. (slice_bytes x.0, x.1.now)) result (mask_at n bytes.now) }
 {
     match bytes {
         [b'&', rest @ ..] => {
@@ -105,7 +105,7 @@ fn fits_word(word: u32, size: usize) -> bool
 
 #[tactic(auto, unfolding(crate::specs::Magic::Reading::word_at))]
 fn word(bytes: &[u8], size: usize) -> Result<(u32, &[u8]), Fault>
-    ensures { Reads (λ x. (x.0, x.1.now)) result (word_at size bytes.now) }
+    ensures { Agrees (λ x. (x.0, x.1.now)) result (word_at size bytes.now) }
 {
     match bytes {
         [b'~', rest @ ..] => {
@@ -121,7 +121,7 @@ fn word(bytes: &[u8], size: usize) -> Result<(u32, &[u8]), Fault>
 
 #[tactic(auto, unfolding(crate::specs::Magic::Reading::range_at))]
 fn range(bytes: &[u8]) -> Result<(u32, &[u8]), Fault>
-    ensures { Reads (λ x. (x.0, x.1.now)) result (range_at bytes.now) }
+    ensures { Agrees (λ x. (x.0, x.1.now)) result (range_at bytes.now) }
 {
     match bytes {
         [b'+', rest @ ..] => number(rest),
@@ -131,7 +131,7 @@ fn range(bytes: &[u8]) -> Result<(u32, &[u8]), Fault>
 
 #[tactic(auto, unfolding(crate::specs::Magic::Reading::body_at))]
 fn body(bytes: &[u8]) -> Result<(RawLine<'_>, &[u8]), Fault>
-    ensures { Reads (λ x. (plain_raw_line x.0, x.1.now)) result (body_at bytes.now) }
+    ensures { Agrees (λ x. (plain_raw_line x.0, x.1.now)) result (body_at bytes.now) }
 {
     let (start, rest) = start(bytes)?;
     let (value, rest) = value(rest)?;
@@ -149,7 +149,7 @@ fn body(bytes: &[u8]) -> Result<(RawLine<'_>, &[u8]), Fault>
 }
 
 fn copied_mask(alloc: Global, mask: Option<&[u8]>) -> Result<Option<Vec<u8>>, ReadError>
-    ensures { ReadsIfMemory mask_bytes result (Ok (slice_bytes mask.entry)) }
+    ensures { AgreesIfMemory mask_bytes result (Ok (slice_bytes mask.entry)) }
 {
     match mask {
         Some(mask) => Ok(Some(Vec::from_slice(alloc, mask)?)),
@@ -159,7 +159,7 @@ fn copied_mask(alloc: Global, mask: Option<&[u8]>) -> Result<Option<Vec<u8>>, Re
 
 /// The line as it is kept, with copies of its bytes.
 fn copied(alloc: Global, body: RawLine) -> Result<Line, ReadError>
-    ensures { ReadsIfMemory plain_line result (Ok (plain_raw_line body.entry)) }
+    ensures { AgreesIfMemory plain_line result (Ok (plain_raw_line body.entry)) }
 {
     let value = Vec::from_slice(alloc, body.value)?;
     let mask = copied_mask(alloc, body.mask)?;
@@ -181,7 +181,7 @@ fn end<'a>(
     body: RawLine<'a>,
     bytes: &'a [u8],
 ) -> Result<(Role, &'a [u8]), ReadError>
-    ensures { ReadsIfMemory (λ x. (plain_role x.0, x.1.now)) result
+    ensures { AgreesIfMemory (λ x. (plain_role x.0, x.1.now)) result
         (end_at left (plain_raw_line body.entry) bytes.now) }
 {
     match bytes {
@@ -206,7 +206,7 @@ fn end<'a>(
 /// A line whose indent may be at most `limit`, and what comes after it.
 #[tactic(auto, unfolding(crate::specs::Magic::Reading::line_at))]
 pub fn line(alloc: Global, limit: u32, bytes: &[u8]) -> Result<(Entry, &[u8]), ReadError>
-    ensures { ReadsIfMemory (λ x. (plain_entry x.0, x.1.now)) result (line_at limit bytes.now) }
+    ensures { AgreesIfMemory (λ x. (plain_entry x.0, x.1.now)) result (line_at limit bytes.now) }
 {
     let (indent, rest) = indent(bytes)?;
     if indent > limit {

@@ -1,7 +1,7 @@
 //! Decimal numbers below 2^32, and single bytes that have to stand somewhere.
 
 ghost use Rattle.std.specs.Prelude.{◌≡◌, min};
-ghost use Rattle.mime_text.specs.Magic.Reading.{Reads, byte_at, digits_at, is_digit, number_at};
+ghost use Rattle.mime_text.specs.Magic.Reading.{Agrees, byte_at, digits_at, is_digit, number_at};
 
 use super::fault::{Fault, MagicFaultKind, fault_at};
 
@@ -34,7 +34,7 @@ fn digits(bytes: &[u8]) -> (u64, &[u8])
 /// A number and what comes after it. It ends at the first byte that is no digit, and is judged there.
 #[tactic(auto, unfolding(crate::specs::Magic::Reading::number_at, crate::specs::Magic::Reading::judged))]
 pub fn number(bytes: &[u8]) -> Result<(u32, &[u8]), Fault>
-    ensures { Reads (λ x. (x.0, x.1.now)) result (number_at bytes.now) }
+    ensures { Agrees (λ x. (x.0, x.1.now)) result (number_at bytes.now) }
 {
     let (value, rest) = digits(bytes);
     if rest.is_empty() {
@@ -49,7 +49,7 @@ pub fn number(bytes: &[u8]) -> Result<(u32, &[u8]), Fault>
 /// What comes after the byte `want`, which has to stand here.
 #[tactic(auto, unfolding(crate::specs::Magic::Reading::byte_at))]
 pub fn byte(want: u8, wrong: Fault, bytes: &[u8]) -> Result<&[u8], Fault>
-    ensures { Reads (λ x. x.now) result (byte_at want wrong bytes.now) }
+    ensures { Agrees (λ x. x.now) result (byte_at want wrong bytes.now) }
 {
     let Some((b, rest)) = bytes.split_first() else {
         return Err(Fault::TRUNCATED);

@@ -2,7 +2,7 @@
 
 ghost use Rattle.std.specs.Prelude.{◌≡◌, length};
 ghost use Rattle.mime_text.specs.Magic.Entries.{plain_entry, plain_entries, plain_flat_section, slice_bytes};
-ghost use Rattle.mime_text.specs.Magic.Reading.{Reads, ReadsIfMemory, after_prefix, entry_at, head_at, head_of, kind_of, lines_at};
+ghost use Rattle.mime_text.specs.Magic.Reading.{Agrees, AgreesIfMemory, after_prefix, entry_at, head_at, head_of, kind_of, lines_at};
 ghost use Rattle.mime_text.specs.Magic.Reading.{marker_at, section_at, starts_line};
 
 use super::entry::{Entry, FlatSection, Role};
@@ -36,7 +36,7 @@ fn marker(bytes: &[u8]) -> Option<&[u8]>
 /// A marker, or a line whose indent may be at most `limit`.
 #[tactic(auto, unfolding(crate::specs::Magic::Reading::entry_at))]
 fn entry(alloc: Global, limit: u32, bytes: &[u8]) -> Result<(Entry, &[u8]), ReadError>
-    ensures { ReadsIfMemory (λ x. (plain_entry x.0, x.1.now)) result (entry_at limit bytes.now) }
+    ensures { AgreesIfMemory (λ x. (plain_entry x.0, x.1.now)) result (entry_at limit bytes.now) }
 {
     if let Some(rest) = marker(bytes) {
         let entry = Entry {
@@ -56,7 +56,7 @@ fn starts_line(b: u8) -> bool
 
 /// The lines of a section, up to a byte that starts none.
 fn lines(alloc: Global, bytes: &[u8]) -> Result<(Vec<Entry>, &[u8]), ReadError>
-    ensures { ReadsIfMemory (λ x. (plain_entries x.0.items, x.1.now)) result
+    ensures { AgreesIfMemory (λ x. (plain_entries x.0.items, x.1.now)) result
         (lines_at (length bytes.now) 0 bytes.now) }
 {
     let mut entries = Vec::new(alloc);
@@ -77,7 +77,7 @@ fn lines(alloc: Global, bytes: &[u8]) -> Result<(Vec<Entry>, &[u8]), ReadError>
 /// The type before the last byte, a `]`.
 #[tactic(auto, unfolding(crate::specs::Magic::Reading::kind_of))]
 fn kind(alloc: Global, wrong: Fault, bytes: &[u8]) -> Result<TypeName, ReadError>
-    ensures { ReadsIfMemory (λ kind. kind) result (kind_of wrong bytes.now) }
+    ensures { AgreesIfMemory (λ kind. kind) result (kind_of wrong bytes.now) }
 {
     match bytes {
         [name @ .., b']'] => match TypeName::new(alloc, name) {
@@ -92,7 +92,7 @@ fn kind(alloc: Global, wrong: Fault, bytes: &[u8]) -> Result<TypeName, ReadError
 /// The priority and the type of a head, read from its bytes after the `[`.
 #[tactic(auto, unfolding(crate::specs::Magic::Reading::head_of))]
 fn head_row(alloc: Global, wrong: Fault, row: &[u8]) -> Result<(u32, TypeName), ReadError>
-    ensures { ReadsIfMemory (λ x. (x.0, x.1)) result (head_of wrong row.now) }
+    ensures { AgreesIfMemory (λ x. (x.0, x.1)) result (head_of wrong row.now) }
 {
     let (priority, rest) = number(row)?;
     let rest = byte(b':', wrong, rest)?;
@@ -103,7 +103,7 @@ fn head_row(alloc: Global, wrong: Fault, row: &[u8]) -> Result<(u32, TypeName), 
 /// The priority and the type of a section, and what comes after its head.
 #[tactic(auto, unfolding(crate::specs::Magic::Reading::head_at))]
 fn head(alloc: Global, bytes: &[u8]) -> Result<((u32, TypeName), &[u8]), ReadError>
-    ensures { ReadsIfMemory (λ x. ((x.0.0, x.0.1), x.1.now)) result (head_at bytes.now) }
+    ensures { AgreesIfMemory (λ x. ((x.0.0, x.0.1), x.1.now)) result (head_at bytes.now) }
 {
     let wrong = fault_at(MagicFaultKind::BadSection, bytes);
     match bytes {
@@ -123,7 +123,7 @@ fn head(alloc: Global, bytes: &[u8]) -> Result<((u32, TypeName), &[u8]), ReadErr
 /// A section and what comes after it.
 #[tactic(auto, unfolding(crate::specs::Magic::Reading::section_at))]
 pub fn section(alloc: Global, bytes: &[u8]) -> Result<(FlatSection, &[u8]), ReadError>
-    ensures { ReadsIfMemory (λ x. (plain_flat_section x.0, x.1.now)) result (section_at bytes.now) }
+    ensures { AgreesIfMemory (λ x. (plain_flat_section x.0, x.1.now)) result (section_at bytes.now) }
 {
     let ((priority, kind), rest) = head(alloc, bytes)?;
     let (entries, rest) = lines(alloc, rest)?;

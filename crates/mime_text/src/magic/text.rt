@@ -2,7 +2,7 @@
 
 ghost use Rattle.std.specs.Prelude.{◌≡◌, IfOk, List, Ok, length};
 ghost use Rattle.mime_text.specs.Magic.Entries.{plain_flat_sections};
-ghost use Rattle.mime_text.specs.Magic.Reading.{ReadsIfMemory, sections_at, whole};
+ghost use Rattle.mime_text.specs.Magic.Reading.{AgreesIfMemory, sections_at, whole};
 
 use super::entry::FlatSection;
 use super::fault::{MagicFaultKind, ReadError, fault_at};
@@ -10,7 +10,7 @@ use super::section::{after_prefix, section};
 use std::alloc::Global;
 
 fn sections(alloc: Global, bytes: &[u8]) -> Result<Vec<FlatSection>, ReadError>
-    ensures { ReadsIfMemory (λ v. plain_flat_sections v.items) result (sections_at (length bytes.now) bytes.now) }
+    ensures { AgreesIfMemory (λ v. plain_flat_sections v.items) result (sections_at (length bytes.now) bytes.now) }
 {
     let mut sections = Vec::new(alloc);
     let mut rest = bytes;
@@ -25,7 +25,7 @@ fn sections(alloc: Global, bytes: &[u8]) -> Result<Vec<FlatSection>, ReadError>
 /// The sections that the text spells, or its first fault.
 #[tactic(auto, unfolding(crate::specs::Magic::Reading::whole))]
 pub fn flat_sections(alloc: Global, text: &[u8]) -> Result<Vec<FlatSection>, ReadError>
-    ensures { ReadsIfMemory (λ v. plain_flat_sections v.items) result (whole text.now) }
+    ensures { AgreesIfMemory (λ v. plain_flat_sections v.items) result (whole text.now) }
 {
     if text.is_empty() {
         return Ok(Vec::new(alloc));

@@ -8,7 +8,7 @@ ghost use Rattle.mime_text.specs.Lines.Globs2.{is_malformed_rule};
 ghost use Rattle.mime_text.specs.Lines.Icons.{is_malformed_icon};
 ghost use Rattle.mime_text.specs.Lines.Pairs.{is_malformed_pair};
 ghost use Rattle.mime_tool.specs.Desk.{Does, Works};
-ghost use Rattle.mime_tool.specs.Directories.{AreGlobs, AreIcons, AreLines, AreLinesAt, ArePairs, ignored, path_of};
+ghost use Rattle.mime_tool.specs.Directories.{AreGlobs, AreIcons, AreFileLines, AreLinesAt, ArePairs, ignored, path_of};
 ghost use Rattle.mime_tool.specs.Loading.{Loads};
 ghost use Rattle.mime_tool.specs.Run.{said};
 
@@ -69,7 +69,7 @@ fn read_lines_at<D: Desk, T: LineFile>(desk: &mut D, path: &str) -> Result<T, St
 }
 
 fn parse_lines<D: Desk, T: LineFile>(desk: &mut D, path: &str, text: &[u8]) -> Result<T, Stop>
-    ensures { Works (Loads T.plain (AreLines T.Spells T.is_malformed path.now text.now))
+    ensures { Works (Loads T.plain (AreFileLines T.Spells T.is_malformed path.now text.now))
         (D.state desk.old) (D.state desk.new) result }
 {
     let file = T::parse(desk.alloc(), text)?;

@@ -3,7 +3,7 @@ use denote.Param.Weighed.{at_most}
 use Rattle.mime_base.proofs.magic.matchlet.Matchlet.TheLaws.{the_size}
 use Rattle.mime_base.specs.Magic.{plain_matchlet}
 use Rattle.mime_base.specs.declared.magic.matchlet.Matchlet.TheViews.{out-Matchlet}
-use Rattle.mime_store.specs.Lines.{IsLine, parts_room}
+use Rattle.mime_store.specs.Lines.{IsLineRecord, matchlet_parts_room}
 use Rattle.mime_store.proofs.Gather.{gather_end, gather_push}
 use Rattle.mime_store.proofs.Lines.{line_keeps, line_row, line_sized, lines_from_records, room-lines, room_out}
 use Rattle.mime_store.proofs.Loops.{grew_all, grew_more, next_fits}
@@ -18,7 +18,7 @@ write_lines-write_parts-requires t c =
     let item = ap the_size c.line-item.is in (
       omega (arith, deep, item),
       (
-        next_fits plain_matchlet parts_room c.args.lines.now c.loop-line.line-index c.line-item.result c.args.out.now.items
+        next_fits plain_matchlet matchlet_parts_room c.args.lines.now c.loop-line.line-index c.line-item.result c.args.out.now.items
             _ _ c.loop-line-test.true c.line-item.is c.loop-line.invariant.grew (omega (arith, c.requires.room)),
         omega (arith, long, c.requires.begun),
       ),
@@ -27,9 +27,9 @@ write_lines-write_parts-requires t c =
 pub write_lines-loop-line-preserved : goal.write_lines-loop-line-preserved
 write_lines-loop-line-preserved t c =
     record {
-      grew = grew_more plain_matchlet parts_room c.args.lines.now c.loop-line.line-index c.line-item.result
+      grew = grew_more plain_matchlet matchlet_parts_room c.args.lines.now c.loop-line.line-index c.line-item.result
           c.args.out.now.items _ _ c.loop-line-test.true c.line-item.is c.loop-line.invariant.grew c.in_ok-record.ensures.grew;
-      gathered = rw c.in_ok-extend_from_slice.ensures.items (gather_push plain_matchlet IsLine line_keeps _ _ _ _ _
+      gathered = rw c.in_ok-extend_from_slice.ensures.items (gather_push plain_matchlet IsLineRecord line_keeps _ _ _ _ _
           c.args.lines.now _ _ c.loop-line-test.true c.line-item.is c.in_ok-record.ensures.grew
           c.loop-line.invariant.gathered c.in_ok-record.ensures.row);
       count = search rules;
@@ -37,7 +37,7 @@ write_lines-loop-line-preserved t c =
 
 pub write_lines-append_numbers-requires-clause-room : goal.write_lines-append_numbers-requires-clause-room
 write_lines-append_numbers-requires-clause-room t c =
-    let g = grew_all plain_matchlet parts_room c.args.lines.now c.loop-line.line-index
+    let g = grew_all plain_matchlet matchlet_parts_room c.args.lines.now c.loop-line.line-index
     c.args.out.now.items _ c.loop-line-test.false c.loop-line.invariant.grew in
     omega (arith, grew_length _ _ _ g, room-lines c.args.lines.now, c.deref.ensures.len, c.requires.room, c.loop-line.invariant.count)
 
@@ -47,7 +47,7 @@ write_lines-append_numbers-requires-clause-begun t c =
 
 pub write_lines-returns-clause-grew : goal.write_lines-returns-clause-grew
 write_lines-returns-clause-grew t c =
-    let g = grew_all plain_matchlet parts_room c.args.lines.now c.loop-line.line-index
+    let g = grew_all plain_matchlet matchlet_parts_room c.args.lines.now c.loop-line.line-index
     c.args.out.now.items _ c.loop-line-test.false c.loop-line.invariant.grew in
     grew_to _ _ _ _ (omega (arith, room-lines c.args.lines.now, c.deref.ensures.len, c.loop-line.invariant.count))
     (grew_on _ _ _ _ _ g c.in_ok-at.ensures.grew)
@@ -55,7 +55,7 @@ write_lines-returns-clause-grew t c =
 pub write_lines-returns-clause-stand : goal.write_lines-returns-clause-stand
 write_lines-returns-clause-stand t c =
     lines_from_records _ _ (map plain_matchlet c.args.lines.now)
-    (gather_end plain_matchlet IsLine line_keeps 32 line_sized _ _ _ c.loop-line.out.items _ _ c.args.lines.now
+    (gather_end plain_matchlet IsLineRecord line_keeps 32 line_sized _ _ _ c.loop-line.out.items _ _ c.args.lines.now
     c.loop-line-test.false c.in_ok-at.ensures.grew c.loop-line.invariant.gathered
     (rw (← c.deref.ensures.value) c.in_ok-at.ensures.stand))
 

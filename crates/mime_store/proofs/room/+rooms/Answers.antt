@@ -1,7 +1,7 @@
 use Rattle.std.proofs.Common.{arith, take, ap, ◌+◌}
 use Rattle.std.proofs.lemmas.List.{length-take-le}
 use Rattle.mime_base.specs.Format.Room.{lines_room}
-use Rattle.mime_store.specs.Lines.{parts_room}
+use Rattle.mime_store.specs.Lines.{matchlet_parts_room}
 use Rattle.mime_base.specs.declared.magic.matchlet.Matchlet.TheViews.{out-Matchlet}
 use Rattle.mime_base.specs.Magic.{forest_of, plain_matchlet, plain_matchlets}
 use Rattle.mime_store.proofs.Loops.{room_more, room_within}
@@ -15,8 +15,8 @@ take_lines-returns-in_err-rest t c =
     rw c.from_residual.ensures (omega (
       arith,
       c.in_err-rest.ensures,
-      room_more plain_matchlet parts_room xs i c.line-item.result c.loop-line-test.true c.line-item.is,
-      room_within plain_matchlet parts_room xs (i + 1),
+      room_more plain_matchlet matchlet_parts_room xs i c.line-item.result c.loop-line-test.true c.line-item.is,
+      room_within plain_matchlet matchlet_parts_room xs (i + 1),
       room-lines xs,
       room-lines (take i xs),
       length-take-le i xs (omega arith),
@@ -29,7 +29,7 @@ take_lines-loop-line-preserved t c =
     omega (
       arith,
       c.in_ok-rest.ensures,
-      room_more plain_matchlet parts_room xs i c.line-item.result c.loop-line-test.true c.line-item.is,
+      room_more plain_matchlet matchlet_parts_room xs i c.line-item.result c.loop-line-test.true c.line-item.is,
       room-lines (take (i + 1) xs),
       room-lines (take i xs),
       length-take-le i xs (omega arith),

@@ -2,7 +2,7 @@ use Rattle.std.proofs.Common.{arith, map, length, drop, List, [], ◌∷◌, ◌
 use Rattle.std.specs.List.{between}
 use Rattle.std.proofs.lemmas.List.{length-map, drop-drop, drop_all, get_or_default, take_rest, length-drop}
 use Rattle.std.proofs.lemmas.Slice.{first_rest}
-use Rattle.mime_store.specs.Endings.{Entry, Writes, entries_room, entry_at}
+use Rattle.mime_store.specs.Endings.{Entry, WritesSibling, entries_room, ending_entry}
 use Rattle.mime_store.specs.declared.ending.Ending.{Ending}
 use Rattle.mime_store.proofs.Groups.{a_group, first_fits, first_group, first_leaf, group_room, rest_is, starts}
 use Rattle.mime_store.proofs.SoFar.{sofar_all, sofar_grew, sofar_more, sofar_none}
@@ -56,7 +56,7 @@ write_siblings-loop-at-init t c =
     record {
       within = omega arith;
       sofar = rw c.new-records.ensures.items
-          (sofar_none c.args.out.now.items (map (entry_at c.args.depth) c.args.endings.now));
+          (sofar_none c.args.out.now.items (map (ending_entry c.args.depth) c.args.endings.now));
     }
 
 pub write_siblings-write_sibling-requires : goal.write_siblings-write_sibling-requires
@@ -77,31 +77,31 @@ write_siblings-write_sibling-requires t c =
 pub write_siblings-loop-at-preserved : goal.write_siblings-loop-at-preserved
 write_siblings-loop-at-preserved t c =
     let xs = c.args.endings.now in
-    let es = map (entry_at c.args.depth) xs in
+    let es = map (ending_entry c.args.depth) xs in
     let at = c.loop-at.at in
     let n = c.in_ok-sibling.sibling.taken in
-    let w : Writes c.loop-at.out.items c.write_sibling.new.out.items c.in_ok-sibling.sibling.row n (drop at es) =
-    subst (λ (l : List Entry). Writes c.loop-at.out.items c.write_sibling.new.out.items c.in_ok-sibling.sibling.row n l)
+    let w : WritesSibling c.loop-at.out.items c.write_sibling.new.out.items c.in_ok-sibling.sibling.row n (drop at es) =
+    subst (λ (l : List Entry). WritesSibling c.loop-at.out.items c.write_sibling.new.out.items c.in_ok-sibling.sibling.row n l)
     (rest_is c.args.depth at xs) c.in_ok-sibling.ensures in
     let within = w.within in
     record {
-      within = omega (arith, length-drop at es, length-map xs (entry_at c.args.depth));
+      within = omega (arith, length-drop at es, length-map xs (ending_entry c.args.depth));
       sofar = rw (← drop-drop n at es, c.in_ok-extend_from_slice.ensures.items)
           (sofar_more _ _ _ _ _ _ _ es (drop at es) c.loop-at.invariant.sofar w);
     }
 
 pub write_siblings-returns-clause-grew : goal.write_siblings-returns-clause-grew
 write_siblings-returns-clause-grew t c =
-    let es = map (entry_at c.args.depth) c.args.endings.now in
+    let es = map (ending_entry c.args.depth) c.args.endings.now in
     let done : drop c.loop-at.at es ≡ [] = drop_all c.loop-at.at es
-    (omega (arith, length-map c.args.endings.now (entry_at c.args.depth))) in
+    (omega (arith, length-map c.args.endings.now (ending_entry c.args.depth))) in
     sofar_grew _ _ _ c.loop-at.records.items _ es (rw done at c.loop-at.invariant.sofar)
     (rw c.deref.ensures.value at c.in_ok-first.ensures.grew)
 
 pub write_siblings-returns-clause-stands : goal.write_siblings-returns-clause-stands
 write_siblings-returns-clause-stands t c =
-    let es = map (entry_at c.args.depth) c.args.endings.now in
+    let es = map (ending_entry c.args.depth) c.args.endings.now in
     let done : drop c.loop-at.at es ≡ [] = drop_all c.loop-at.at es
-    (omega (arith, length-map c.args.endings.now (entry_at c.args.depth))) in
+    (omega (arith, length-map c.args.endings.now (ending_entry c.args.depth))) in
     sofar_all _ _ _ c.loop-at.records.items _ _ _ es (rw done at c.loop-at.invariant.sofar) c.in_ok-first.ensures.grew
     (rw c.deref.ensures.value at c.in_ok-first.ensures.stand)

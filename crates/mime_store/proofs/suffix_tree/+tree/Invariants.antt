@@ -1,5 +1,5 @@
 use Rattle.std.proofs.Common.{length, ◌-◌, ◌+◌, ◌*◌, ◌≤◌, map, drop}
-use Rattle.mime_store.specs.Endings.{entry_at}
+use Rattle.mime_store.specs.Endings.{ending_entry}
 use Rattle.mime_store.proofs.SoFar.{Sofar}
 use Rattle.mime_store.proofs.suffix_tree.+tree.Given as goal
 
@@ -12,8 +12,8 @@ decreases-write_siblings l = 2 * (256 - l.depth) + 1
 abbrev pub invariant-write_siblings-loop-at : goal.invariant-write_siblings-loop-at
 invariant-write_siblings-loop-at l = record {
   within : l.at ≤ length l.endings;
-  sofar : Sofar l.fn.out.items l.out.items l.records.items l.count (map (entry_at l.depth) l.endings)
-      (drop l.at (map (entry_at l.depth) l.endings));
+  sofar : Sofar l.fn.out.items l.out.items l.records.items l.count (map (ending_entry l.depth) l.endings)
+      (drop l.at (map (ending_entry l.depth) l.endings));
 }
 
 abbrev pub decreases-write_siblings-loop-at : goal.decreases-write_siblings-loop-at

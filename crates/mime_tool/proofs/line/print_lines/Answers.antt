@@ -1,6 +1,6 @@
 use Rattle.std.proofs.Common.{◌<◌, ◌∙◌, Bor, List, ℕ, [], length, arith}
 use Rattle.std.proofs.lemmas.Result.{err_from_is_err_and}
-use Rattle.mime_tool.specs.Line.{IsLine}
+use Rattle.mime_tool.specs.Line.{IsTypeLine}
 use Rattle.mime_tool.specs.LineSteps.{plain_lookup}
 use Rattle.mime_tool.proofs.Texts.{ends_more_at, ends_stop_at}
 use Rattle.mime_tool.proofs.line.print_lines.Goals as goal
@@ -19,7 +19,7 @@ returns-in_err-print_line g c =
     rw (e.1, e.2) (record {
       same_files = line.same_files ∙ before.same_files;
       same_places = line.same_places ∙ before.same_places;
-      sinks = ends_stop_at (IsLine (plain_lookup c.args.lookup) stored) c.args.files.now c.loop-file.file-index no_text lt _ _ _ _ _
+      sinks = ends_stop_at (IsTypeLine (plain_lookup c.args.lookup) stored) c.args.files.now c.loop-file.file-index no_text lt _ _ _ _ _
           before.sinks here.sinks;
     })
 
@@ -33,6 +33,6 @@ loop-file-preserved g c =
     rw c.max-status.ensures (record {
       same_files = line.same_files ∙ before.same_files;
       same_places = line.same_places ∙ before.same_places;
-      sinks = ends_more_at (IsLine (plain_lookup c.args.lookup) stored) c.args.files.now c.loop-file.file-index no_text lt _ _ _ _ _
+      sinks = ends_more_at (IsTypeLine (plain_lookup c.args.lookup) stored) c.args.files.now c.loop-file.file-index no_text lt _ _ _ _ _
           before.sinks here.sinks;
     })

@@ -3,7 +3,7 @@ use Rattle.std.proofs.lemmas.Result.{err_from_is_err_and}
 use Rattle.clap.specs.Walk.{texts}
 use Rattle.mime_base.specs.Database.{plain_database}
 use Rattle.mime_base.specs.declared.database.Database.{Database}
-use Rattle.mime_tool.specs.Plain.{AreLines}
+use Rattle.mime_tool.specs.Plain.{AreTypeLines}
 use Rattle.mime_tool.proofs.Commands.{command_over, command_unloaded}
 use Rattle.mime_tool.proofs.Lines.{no_lines}
 use Rattle.mime_tool.proofs.plain.print_types.Goals as goal
@@ -18,7 +18,7 @@ returns-in_err-database g c =
     rw (e.1, e.2) (record {
       same_files = load.same_files;
       same_places = load.same_places;
-      sinks = command_unloaded Database plain_database stored (texts c.args.directories.now) (AreLines stored name_only magic_first)
+      sinks = command_unloaded Database plain_database stored (texts c.args.directories.now) (AreTypeLines stored name_only magic_first)
           (texts c.args.files.now) _ _ _ (no_lines stored name_only magic_first) load.sinks;
     })
 
@@ -33,7 +33,7 @@ returns g c =
     record {
       same_files = lines.same_files ∙ load.same_files;
       same_places = lines.same_places ∙ load.same_places;
-      sinks = command_over Database plain_database stored (texts c.args.directories.now) (AreLines stored name_only magic_first)
+      sinks = command_over Database plain_database stored (texts c.args.directories.now) (AreTypeLines stored name_only magic_first)
           (texts c.args.files.now) c.in_ok-database.database _ _ _ _
           (no_lines stored name_only magic_first (plain_database c.in_ok-database.database)) load.sinks here.sinks;
     }

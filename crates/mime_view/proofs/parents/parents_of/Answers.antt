@@ -1,6 +1,6 @@
 use Rattle.std.proofs.Common.{◌≡◌, true, false, ℕ, sym, subst, ◌∙◌, arith, inr}
 use Rattle.std.proofs.lemmas.Result.{err_from_is_err_and}
-use Rattle.mime_view.specs.Parents.{IsTextsFault, ReadsTexts, is_among, parents_at}
+use Rattle.mime_view.specs.Parents.{IsTextsFault, ReadsTexts, has_place, parents_at}
 use Rattle.mime_view.proofs.ParentEntries.{entry_is, marked_parents, some_parent, unmarked_read}
 use Rattle.mime_view.proofs.TextLists.{texts-same}
 use Rattle.mime_view.proofs.parents.parents_of.Goals as goal
@@ -9,7 +9,7 @@ pub returns-then-contains-clause-answer : goal.returns-then-contains-clause-answ
 returns-then-contains-clause-answer c = λ pairs kinds reads.
     let entry = rw c.in-Some.is at c.in_ok-found.ensures.entry in
     let is = entry_is c.args.counted.now c.args.at c.args.kind.now c.in-Some.found.place entry.0 entry.1 in
-    let marked : is_among c.args.marks.now c.in-Some.found.place ≡ true = sym c.contains.ensures ∙ c.if-contains.true in
+    let marked : has_place c.args.marks.now c.in-Some.found.place ≡ true = sym c.contains.ensures ∙ c.if-contains.true in
     let place = rw c.in-Some.is at (c.in_ok-found.ensures.answer kinds reads.types) in
     let some = some_parent c.args.counted.now c.args.at pairs kinds reads c.args.kind.now c.in-Some.found.place is in
     let none = marked_parents c.args.counted.now c.args.at pairs kinds reads c.args.marks.now
@@ -20,7 +20,7 @@ pub returns-then-contains-clause-read : goal.returns-then-contains-clause-read
 returns-then-contains-clause-read c =
     let entry = rw c.in-Some.is at c.in_ok-found.ensures.entry in
     let is = entry_is c.args.counted.now c.args.at c.args.kind.now c.in-Some.found.place entry.0 entry.1 in
-    let marked : is_among c.args.marks.now c.in-Some.found.place ≡ true = sym c.contains.ensures ∙ c.if-contains.true in
+    let marked : has_place c.args.marks.now c.in-Some.found.place ≡ true = sym c.contains.ensures ∙ c.if-contains.true in
     record {
       entry = is;
       marked = λ _. c.none-types.ensures;
@@ -31,7 +31,7 @@ pub returns-in_err-types-clause-need : goal.returns-in_err-types-clause-need
 returns-in_err-types-clause-need c = λ pairs kinds reads enough.
     let entry = rw c.in-Some.is at c.in_ok-found.ensures.entry in
     let is = entry_is c.args.counted.now c.args.at c.args.kind.now c.in-Some.found.place entry.0 entry.1 in
-    let unmarked : is_among c.args.marks.now c.in-Some.found.place ≡ false = sym c.contains.ensures ∙ c.if-contains.false in
+    let unmarked : has_place c.args.marks.now c.in-Some.found.place ≡ false = sym c.contains.ensures ∙ c.if-contains.false in
     let at : c.from.result ≡ parents_at c.args.counted.now c.args.at c.in-Some.found.place = c.from.ensures ∙ entry.2 in
     let above = unmarked_read c.args.counted.now c.args.at pairs kinds reads c.args.marks.now
     c.args.kind.now c.in-Some.found.place is unmarked in
@@ -42,7 +42,7 @@ pub returns-in_err-types-clause-fault : goal.returns-in_err-types-clause-fault
 returns-in_err-types-clause-fault c =
     let entry = rw c.in-Some.is at c.in_ok-found.ensures.entry in
     let is = entry_is c.args.counted.now c.args.at c.args.kind.now c.in-Some.found.place entry.0 entry.1 in
-    let unmarked : is_among c.args.marks.now c.in-Some.found.place ≡ false = sym c.contains.ensures ∙ c.if-contains.false in
+    let unmarked : has_place c.args.marks.now c.in-Some.found.place ≡ false = sym c.contains.ensures ∙ c.if-contains.false in
     let at : c.from.result ≡ parents_at c.args.counted.now c.args.at c.in-Some.found.place = c.from.ensures ∙ entry.2 in
     let p = err_from_is_err_and c.from_residual-in_err-types.result c.from_residual-in_err-types.ensures.1 in
     rw (p.1, p.2) (inr (inr (record {
@@ -57,7 +57,7 @@ pub returns-in_err-types-clause-takes_at_most : goal.returns-in_err-types-clause
 returns-in_err-types-clause-takes_at_most c = λ pairs kinds reads.
     let entry = rw c.in-Some.is at c.in_ok-found.ensures.entry in
     let is = entry_is c.args.counted.now c.args.at c.args.kind.now c.in-Some.found.place entry.0 entry.1 in
-    let unmarked : is_among c.args.marks.now c.in-Some.found.place ≡ false = sym c.contains.ensures ∙ c.if-contains.false in
+    let unmarked : has_place c.args.marks.now c.in-Some.found.place ≡ false = sym c.contains.ensures ∙ c.if-contains.false in
     let at : c.from.result ≡ parents_at c.args.counted.now c.args.at c.in-Some.found.place = c.from.ensures ∙ entry.2 in
     let above = unmarked_read c.args.counted.now c.args.at pairs kinds reads c.args.marks.now
     c.args.kind.now c.in-Some.found.place is unmarked in
@@ -69,7 +69,7 @@ pub returns-in_err-add-clause-fault : goal.returns-in_err-add-clause-fault
 returns-in_err-add-clause-fault c =
     let entry = rw c.in-Some.is at c.in_ok-found.ensures.entry in
     let is = entry_is c.args.counted.now c.args.at c.args.kind.now c.in-Some.found.place entry.0 entry.1 in
-    let unmarked : is_among c.args.marks.now c.in-Some.found.place ≡ false = sym c.contains.ensures ∙ c.if-contains.false in
+    let unmarked : has_place c.args.marks.now c.in-Some.found.place ≡ false = sym c.contains.ensures ∙ c.if-contains.false in
     let p = err_from_is_err_and c.from_residual-in_err-add.result c.from_residual-in_err-add.ensures.1 in
     rw (p.1, p.2) (inr (inr (record {
       place = c.in-Some.found.place;
@@ -82,7 +82,7 @@ pub returns-in_err-add-clause-takes_at_most : goal.returns-in_err-add-clause-tak
 returns-in_err-add-clause-takes_at_most c = λ pairs kinds reads.
     let entry = rw c.in-Some.is at c.in_ok-found.ensures.entry in
     let is = entry_is c.args.counted.now c.args.at c.args.kind.now c.in-Some.found.place entry.0 entry.1 in
-    let unmarked : is_among c.args.marks.now c.in-Some.found.place ≡ false = sym c.contains.ensures ∙ c.if-contains.false in
+    let unmarked : has_place c.args.marks.now c.in-Some.found.place ≡ false = sym c.contains.ensures ∙ c.if-contains.false in
     let at : c.from.result ≡ parents_at c.args.counted.now c.args.at c.in-Some.found.place = c.from.ensures ∙ entry.2 in
     let above = unmarked_read c.args.counted.now c.args.at pairs kinds reads c.args.marks.now
     c.args.kind.now c.in-Some.found.place is unmarked in
@@ -94,7 +94,7 @@ pub returns-clause-answer : goal.returns-clause-answer
 returns-clause-answer c = λ pairs kinds reads.
     let entry = rw c.in-Some.is at c.in_ok-found.ensures.entry in
     let is = entry_is c.args.counted.now c.args.at c.args.kind.now c.in-Some.found.place entry.0 entry.1 in
-    let unmarked : is_among c.args.marks.now c.in-Some.found.place ≡ false = sym c.contains.ensures ∙ c.if-contains.false in
+    let unmarked : has_place c.args.marks.now c.in-Some.found.place ≡ false = sym c.contains.ensures ∙ c.if-contains.false in
     let at : c.from.result ≡ parents_at c.args.counted.now c.args.at c.in-Some.found.place = c.from.ensures ∙ entry.2 in
     let place = rw c.in-Some.is at (c.in_ok-found.ensures.answer kinds reads.types) in
     let some = some_parent c.args.counted.now c.args.at pairs kinds reads c.args.kind.now c.in-Some.found.place is in
@@ -111,7 +111,7 @@ pub returns-clause-read : goal.returns-clause-read
 returns-clause-read c =
     let entry = rw c.in-Some.is at c.in_ok-found.ensures.entry in
     let is = entry_is c.args.counted.now c.args.at c.args.kind.now c.in-Some.found.place entry.0 entry.1 in
-    let unmarked : is_among c.args.marks.now c.in-Some.found.place ≡ false = sym c.contains.ensures ∙ c.if-contains.false in
+    let unmarked : has_place c.args.marks.now c.in-Some.found.place ≡ false = sym c.contains.ensures ∙ c.if-contains.false in
     let at : c.from.result ≡ parents_at c.args.counted.now c.args.at c.in-Some.found.place = c.from.ensures ∙ entry.2 in
     record {
       entry = is;
@@ -123,7 +123,7 @@ pub returns-clause-takes_at_most : goal.returns-clause-takes_at_most
 returns-clause-takes_at_most c = λ pairs kinds reads.
     let entry = rw c.in-Some.is at c.in_ok-found.ensures.entry in
     let is = entry_is c.args.counted.now c.args.at c.args.kind.now c.in-Some.found.place entry.0 entry.1 in
-    let unmarked : is_among c.args.marks.now c.in-Some.found.place ≡ false = sym c.contains.ensures ∙ c.if-contains.false in
+    let unmarked : has_place c.args.marks.now c.in-Some.found.place ≡ false = sym c.contains.ensures ∙ c.if-contains.false in
     let at : c.from.result ≡ parents_at c.args.counted.now c.args.at c.in-Some.found.place = c.from.ensures ∙ entry.2 in
     let above = unmarked_read c.args.counted.now c.args.at pairs kinds reads c.args.marks.now
     c.args.kind.now c.in-Some.found.place is unmarked in

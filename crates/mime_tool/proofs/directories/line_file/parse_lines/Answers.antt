@@ -1,6 +1,6 @@
 use Rattle.std.proofs.Common.{◌∙◌}
 use Rattle.std.proofs.lemmas.Result.{err_from_is_err_and}
-use Rattle.mime_tool.specs.Directories.{AreLines}
+use Rattle.mime_tool.specs.Directories.{AreFileLines}
 use Rattle.mime_tool.proofs.DataFiles.{can_be_lines, lines_said, lines_unsaid}
 use Rattle.mime_tool.proofs.Loads.{works_nothing}
 use Rattle.mime_tool.proofs.directories.line_file.parse_lines.Goals as goal
@@ -11,7 +11,7 @@ returns-in_err-file g c =
     let path = c.args.path.now in
     let text = c.args.text.now in
     rw (e.1, e.2) (works_nothing _ g.T.LineFile.Plain g.T.LineFile.plain
-    (AreLines g.T.LineFile.Spells g.T.LineFile.is_malformed path text) _
+    (AreFileLines g.T.LineFile.Spells g.T.LineFile.is_malformed path text) _
     (can_be_lines g.T.LineFile.Plain g.T.LineFile.Spells g.T.LineFile.is_malformed path text g.met.T.LineFile.total))
 
 pub returns-in_err-report_ignored : goal.returns-in_err-report_ignored
