@@ -20,6 +20,7 @@ mod budget;
 mod cache;
 mod entry;
 mod fault;
+mod hits;
 mod list;
 mod magic;
 mod marks;

@@ -1,0 +1,105 @@
+-- What a cache offers for a name, what is kept of it, and what it costs.
+use Rattle.std.specs.Prelude.{◌≡◌, ◌⊎◌, ℕ, ◌+◌, ◌*◌, ◌≤◌, Bool, true, false, not, ◌||◌, List, [], ◌∷◌, ◌++◌, length, min, filter, reverse, Ok}
+use Rattle.std.specs.List.{flat_map}
+use Rattle.mime_base.specs.Cache.Texts.{text_at}
+use Rattle.mime_base.specs.Format.Sorted.{with_key}
+use Rattle.mime_base.specs.Format.Stored.{glob_rules, is_in_globs, literal_rules, reversed_ending, stored_text, tree_rules}
+use Rattle.mime_base.specs.Format.SuffixTree.{fronts, tree_size}
+use Rattle.mime_base.specs.Kept.{of_greatest, rank_of_rule}
+use Rattle.mime_base.specs.Matching.Folding.{compared}
+use Rattle.mime_base.specs.Matching.Matches.{rule_matches}
+use Rattle.mime_base.specs.Meter.{raised}
+use Rattle.mime_base.specs.declared.database.rule.GlobRule.{GlobRule}
+use Rattle.mime_base.specs.declared.meter.Meter.{Meter}
+use Rattle.mime_view.specs.declared.budget.Budget.{Budget}
+use Rattle.mime_view.specs.declared.hits.Case.{Case}
+use Rattle.mime_view.specs.declared.hits.Case.TheVariants.{Both, Exact, Folded}
+
+-- whether a search takes a rule with or without the case-sensitive flag
+abbrev pub admits : Case → Bool → Bool
+admits Exact cased = cased
+admits Folded cased = not cased
+admits Both cased = true
+
+-- how many visits more a visit stands for: that of the other search where one serves both
+abbrev pub extra_visits : Case → ℕ
+extra_visits Exact = 0
+extra_visits Folded = 0
+extra_visits Both = 1
+
+-- how many records a visit takes
+abbrev pub visits : Case → ℕ
+visits case = 1 + extra_visits case
+
+-- these offers, each a rank and the offset of a type, are those of the rules, in their order
+abbrev pub AreOffers : List ℕ → List (ℕ × ℕ) → List GlobRule → Type 0
+AreOffers c [] [] = Unit {0}
+AreOffers c [] (rule ∷ rules) = ⊥
+AreOffers c (offer ∷ offers) [] = ⊥
+AreOffers c (offer ∷ offers) (rule ∷ rules) =
+    (offer.0 ≡ rank_of_rule rule) × (text_at c offer.1 ≡ Ok rule.kind) × AreOffers c offers rules
+
+-- of the rules that were offered, those of the greatest rank are kept
+abbrev pub AreKept : List ℕ → List (ℕ × ℕ) → List GlobRule → Type 0
+AreKept c kept offered = AreOffers c kept (of_greatest rank_of_rule offered)
+
+-- what was kept of some rules becomes what is kept of them and of these after them
+abbrev pub Offers : List ℕ → List GlobRule → List (ℕ × ℕ) → List (ℕ × ℕ) → Type 0
+Offers c rules old new = (before : List GlobRule) → AreKept c old before → AreKept c new (before ++ rules)
+
+-- the literal rules of a text that a search for it takes
+abbrev pub literal_hits : Case → List ℕ → List GlobRule → List GlobRule
+literal_hits case key rules = filter (λ rule. admits case rule.cased) (with_key stored_text key (literal_rules rules))
+
+-- how many entries of the literal list a search for a text visits: those of the text, and the one after them
+abbrev pub literal_visits : List ℕ → List GlobRule → ℕ
+literal_visits key rules =
+    min (length (with_key stored_text key (literal_rules rules)) + 1) (length (literal_rules rules))
+
+-- the rules of the tree with an ending of the name, the shortest first
+abbrev pub ending_rules : List ℕ → List GlobRule → List GlobRule
+ending_rules name rules =
+    flat_map (λ path. with_key reversed_ending path (tree_rules rules)) (fronts (reverse name))
+
+-- those that a walk along the name takes
+abbrev pub tree_hits : Case → List ℕ → List GlobRule → List GlobRule
+tree_hits case name rules = filter (λ rule. admits case rule.cased) (ending_rules name rules)
+
+-- how many records of the tree a walk along the name visits at most: leaves, and on each level the one after them
+abbrev pub tree_visits : List ℕ → List GlobRule → ℕ
+tree_visits name rules = min (length (ending_rules name rules) + length name) (tree_size rules)
+
+-- the rules of the glob list that match the name
+abbrev pub glob_list_hits : List ℕ → List GlobRule → List GlobRule
+glob_list_hits name rules = filter (λ rule. rule_matches rule.pattern rule.cased name) (glob_rules rules)
+
+-- what the lists offer for a name that folding leaves alone: one search of the literals, one walk, then the glob list
+abbrev pub offered_once : List ℕ → List GlobRule → List GlobRule
+offered_once name rules = literal_hits Both name rules ++ (tree_hits Both name rules ++ glob_list_hits name rules)
+
+-- what they offer for any other name: the searches for the name and for the folded name, likewise both walks
+abbrev pub offered_twice : List ℕ → List GlobRule → List GlobRule
+offered_twice name rules =
+    literal_hits Exact name rules ++ (literal_hits Folded (compared false name) rules ++ (tree_hits Exact name rules
+    ++ (tree_hits Folded (compared false name) rules ++ glob_list_hits name rules)))
+
+-- how many records are taken for a name at most
+abbrev pub hit_visits : List ℕ → List GlobRule → ℕ
+hit_visits name rules =
+    literal_visits name rules + literal_visits (compared false name) rules + (tree_visits name rules
+    + tree_visits (compared false name) rules + length (glob_rules rules))
+
+-- how many rules are general patterns, or match the name once both texts are folded
+abbrev pub near : List ℕ → List GlobRule → ℕ
+near name rules = length (filter (λ rule. is_in_globs rule || rule_matches rule.pattern false name) rules)
+
+-- What a search for hits costs: each record adds one node and at most `each` bytes, and `more` nodes come besides, each
+-- with at most 256 bytes.
+pub record Charged (each more : ℕ) (old new : Budget) (before after : Meter) : Type 0 where
+  pub records : new.records ≤ old.records
+  pub value_bytes : new.value_bytes ≡ old.value_bytes
+  pub rises : before.nodes ≤ after.nodes
+  pub nodes : after.nodes + new.records ≤ before.nodes + old.records + more
+  pub fair : raised before.nodes old.records ≤ after.nodes + new.records
+  pub bytes_rise : before.bytes ≤ after.bytes
+  pub bytes : after.bytes + each * new.records ≤ before.bytes + each * old.records + 256 * more
