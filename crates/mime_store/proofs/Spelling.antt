@@ -1,24 +1,25 @@
 -- All parts, written one after another below the header, are the cache of their database.
-use Rattle.std.proofs.Common.{◌≡◌, ℕ, ◌≤◌, List, [], ◌++◌, length, map, drop, sym, ap, subst, ◌∙◌, arith}
+use Rattle.std.proofs.Common.{◌≡◌, ℕ, ◌≤◌, List, [], ◌∷◌, ◌++◌, length, map, drop, sym, ap, subst, ◌∙◌, arith}
 use Rattle.std.proofs.Common.{replicate, length-append, length-drop}
 use Rattle.mime_base.specs.Cache.Bytes.{Stands, cards}
 use Rattle.mime_base.specs.Database.{plain_database}
 use Rattle.mime_base.specs.Format.Header.{HeaderAt, Offsets, header_numbers}
 use Rattle.mime_base.specs.Format.Magic.{MagicAt}
 use Rattle.mime_base.specs.Format.Pairs.{IsPair}
-use Rattle.mime_base.specs.Format.Records.{ListAt}
+use Rattle.mime_base.specs.Format.Records.{CardsAt, ListAt}
 use Rattle.mime_base.specs.Format.Rules.{IsRule}
 use Rattle.mime_base.specs.Format.Spells.{Spells, cache_limit}
 use Rattle.mime_base.specs.Magic.{plain_sections}
 use Rattle.mime_base.specs.declared.database.Database as code
 use Rattle.mime_store.specs.Endings.{TreeOf, ending_entry}
+use Rattle.mime_store.specs.Namespaces.{HasNoNamespaces}
 use Rattle.mime_store.specs.Parts.{AreParts}
 use Rattle.mime_store.specs.Runs.{AreRuns, IsRun, plain_run}
 use Rattle.mime_store.specs.Views.{rule_of, texts}
 use Rattle.mime_store.specs.Written.{Grew, Written}
 use Rattle.mime_store.specs.declared.run.Run.{Run}
 use Rattle.mime_store.specs.declared.parts.Parts.{Parts}
-use Rattle.mime_store.proofs.Entries.{pair_keeps, rule_keeps}
+use Rattle.mime_store.proofs.Entries.{cards_carry, pair_keeps, rule_keeps}
 use Rattle.mime_store.proofs.Header.{patched}
 use Rattle.mime_store.proofs.ParentLists.{parents_stand, run_keeps}
 use Rattle.mime_store.proofs.Records.{length-cards}
@@ -77,3 +78,14 @@ cache_spells o1 o2 o3 o4 o5 o6 o7 o8 o9 c parts runs b o s2 s3 s4 s5 s6 s7 s8 s9
       generic_icons = pairs_stand (Stands c) o.generic_icons _ _ are.generic_icons
           (list_carry IsPair pair_keeps (Written o9) (Stands c) u9 8 o.generic_icons _ generic);
     }
+
+-- the empty list that was written for namespaces stands in the whole cache
+pub no_namespaces : (o7 o8 o9 c : List ℕ) (o : Offsets) (s8 s9 : ℕ) → CardsAt (Written o7) o.namespaces (0 ∷ [])
+    → Grew o7 o8 s8 → Grew o8 o9 s9 → c ≡ cards (header_numbers o) ++ drop 40 o9 → HeaderAt (Stands c) o → HasNoNamespaces c
+no_namespaces o7 o8 o9 c o s8 s9 count g8 g9 is header =
+    let u9 : Carries (Written o9) (Stands c) =
+    subst (λ (bytes : List ℕ). Carries (Written o9) (Stands bytes)) (sym is)
+    (patched o9 (cards (header_numbers o)) (length-cards (header_numbers o))) in
+    let u7 : Carries (Written o7) (Stands c) =
+    λ at bs w. u9 at bs (written_more o8 o9 s9 g9 at bs (written_more o7 o8 s8 g8 at bs w)) in
+    record { offsets = o; header = header; none = cards_carry (Written o7) (Stands c) u7 o.namespaces _ count }

@@ -1,3 +1,4 @@
+pub mod Namespaces
 pub mod Written
 pub mod Views
 pub mod Lines

@@ -8,6 +8,7 @@ ghost use Rattle.mime_base.specs.Database.{plain_database};
 ghost use Rattle.mime_base.specs.Format.Packed.{Packed};
 ghost use Rattle.mime_base.specs.Format.Room.{room};
 ghost use Rattle.mime_base.specs.Format.Spells.{Spells, cache_limit};
+ghost use Rattle.mime_store.specs.Namespaces.{HasNoNamespaces};
 ghost use Rattle.mime_store.specs.Parts.{AreParts, parts_room};
 ghost use Rattle.mime_store.specs.Runs.{AreRuns, plain_run};
 ghost use Rattle.mime_store.specs.Views.{texts};
@@ -50,6 +51,7 @@ const FIXED_ROOM: usize = 88;
 pub fn write_cache(alloc: Global, database: &Database, limit: usize) -> Result<Vec<u8>, StoreFault>
     ensures spells { IfOk result (λ cache. Spells cache.items (plain_database database.now)) }
     ensures packed { IfOk result (λ cache. Packed cache.items (plain_database database.now)) }
+    ensures no_namespaces { IfOk result (λ cache. HasNoNamespaces cache.items) }
     ensures long { IfOk result (λ cache. length cache.items ≤ room (plain_database database.now)) }
     ensures fits { IfOk result (λ cache. room (plain_database database.now) ≤ min limit cache_limit) }
     ensures too_large { IfErr result
@@ -114,6 +116,7 @@ fn write_parts(
     requires room { parts_room parts.now runs.now database.now.sections.items ≤ cache_limit }
     ensures spells { IfOk result (λ cache. Spells cache.items (plain_database database.now)) }
     ensures packed { IfOk result (λ cache. Packed cache.items (plain_database database.now)) }
+    ensures no_namespaces { IfOk result (λ cache. HasNoNamespaces cache.items) }
     ensures long { IfOk result (λ cache. length cache.items ≡ room (plain_database database.now)) }
 {
     let mut out = Vec::new(alloc);

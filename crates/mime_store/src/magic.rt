@@ -63,7 +63,7 @@ fn write_lines(alloc: Global, out: &mut Vec<u8>, lines: &[Matchlet]) -> Result<u
     ensures grew { OnOk result (Grew out.old.items out.new.items (lines_room (forest_of (plain_matchlets lines.now)))) }
     ensures stand { IfOk result (λ at. LinesAt (Written out.new.items) at (forest_of (plain_matchlets lines.now))) }
 {
-    let mut records = Vec::new(alloc);
+    let mut records = Vec::with_capacity(alloc, 8 * lines.len())?;
     for line in lines {
         let record = write_parts(alloc, out, line)?;
         records.extend_from_slice(&record)?;

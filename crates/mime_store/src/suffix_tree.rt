@@ -18,6 +18,9 @@ use crate::rules::{compared, is_in_tree, weight_and_flags};
 use mime_base::{GlobRule, OutOfMemory};
 use std::alloc::Global;
 
+/// How many numbers the record of a sibling has.
+const ROW: usize = 3;
+
 /// How many siblings there are, and where the first one stands.
 #[derive(Clone, Copy)]
 struct Block {
@@ -86,7 +89,7 @@ fn write_siblings(
     ensures stands { IfOk result
         (λ block. IsBlock (Written out.new.items) block.count block.first (map (ending_entry depth) endings.now)) }
 {
-    let mut records = Vec::new(alloc);
+    let mut records = Vec::with_capacity(alloc, 4 * ROW)?;
     let mut count = 0;
     let mut at = 0;
     while at < endings.len() {

@@ -1,6 +1,6 @@
 use Rattle.std.proofs.Common.{arith, ◌∙◌}
 use Rattle.mime_base.specs.Format.Header.{Offsets}
-use Rattle.mime_store.proofs.Spelling.{cache_length, cache_spells, kept_length}
+use Rattle.mime_store.proofs.Spelling.{cache_length, cache_spells, kept_length, no_namespaces}
 use Rattle.mime_store.proofs.Packing.{room_packs}
 use Rattle.mime_store.proofs.Spelled.{parts_room-is}
 use Rattle.mime_store.proofs.Written.{grew_length}
@@ -81,6 +81,24 @@ returns-clause-long c =
 
 pub returns-clause-packed : goal.returns-clause-packed
 returns-clause-packed c = room_packs _ _ (returns-clause-long c)
+
+pub returns-clause-no_namespaces : goal.returns-clause-no_namespaces
+returns-clause-no_namespaces c =
+    let offsets : Offsets = record {
+      aliases = c.in_ok-aliases.aliases;
+      parents = c.in_ok-parents.parents;
+      literals = c.in_ok-literals.literals;
+      tree = c.in_ok-tree.tree;
+      globs = c.in_ok-globs.globs;
+      magic = c.in_ok-magic.magic;
+      namespaces = c.in_ok-namespaces.namespaces;
+      icons = c.in_ok-icons.icons;
+      generic_icons = c.in_ok-generic_icons.generic_icons;
+    } in
+    no_namespaces _ _ _ _ offsets _ _ c.in_ok-namespaces.ensures.count
+    (rw c.deref-6.ensures.value at c.in_ok-icons.ensures.grew)
+    (rw c.deref-7.ensures.value at c.in_ok-generic_icons.ensures.grew)
+    c.patch.ensures.after c.patch.ensures.stand
 
 pub returns-clause-spells : goal.returns-clause-spells
 returns-clause-spells c =

@@ -55,7 +55,7 @@ pub write_siblings-loop-at-init : goal.write_siblings-loop-at-init
 write_siblings-loop-at-init t c =
     record {
       within = omega arith;
-      sofar = rw c.new-records.ensures.items
+      sofar = rw c.in_ok-records.ensures.items
           (sofar_none c.args.out.now.items (map (ending_entry c.args.depth) c.args.endings.now));
     }
 
