@@ -17,3 +17,6 @@ mod MagicLists
 mod Spelled
 mod Charges
 mod OffersLemmas
+mod LiteralEntries
+mod LiteralRuns
+mod LiteralPlaces
