@@ -15,3 +15,8 @@ mod LineValues
 mod SectionRows
 mod MagicLists
 mod Spelled
+mod Charges
+mod OffersLemmas
+mod LiteralEntries
+mod LiteralRuns
+mod LiteralPlaces

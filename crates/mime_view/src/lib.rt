@@ -22,6 +22,7 @@ mod entry;
 mod fault;
 mod hits;
 mod list;
+mod literals;
 mod magic;
 mod marks;
 mod pairs;
