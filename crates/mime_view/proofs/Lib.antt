@@ -17,3 +17,9 @@ mod MagicLists
 mod Spelled
 mod Charges
 mod OffersLemmas
+mod TreeBlocks
+mod TreeScans
+mod TreeRules
+mod TreeStands
+mod TreeWalks
+mod TreePaths
