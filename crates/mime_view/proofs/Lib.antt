@@ -20,3 +20,9 @@ mod OffersLemmas
 mod LiteralEntries
 mod LiteralRuns
 mod LiteralPlaces
+mod TreeBlocks
+mod TreeScans
+mod TreeRules
+mod TreeStands
+mod TreeWalks
+mod TreePaths
