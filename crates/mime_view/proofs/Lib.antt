@@ -15,3 +15,12 @@ mod LineValues
 mod SectionRows
 mod MagicLists
 mod Spelled
+mod FilterSteps
+mod FilterCounts
+mod SameRanks
+mod PlainMatches
+mod PathFronts
+mod RulePlaces
+mod RankParts
+mod OnePlace
+mod WalkOrder
