@@ -24,3 +24,5 @@ mod RulePlaces
 mod RankParts
 mod OnePlace
 mod WalkOrder
+mod NearRules
+mod VisitCounts
