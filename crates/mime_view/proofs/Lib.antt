@@ -26,3 +26,14 @@ mod TreeRules
 mod TreeStands
 mod TreeWalks
 mod TreePaths
+mod FilterSteps
+mod FilterCounts
+mod SameRanks
+mod PlainMatches
+mod PathFronts
+mod RulePlaces
+mod RankParts
+mod OnePlace
+mod WalkOrder
+mod NearRules
+mod VisitCounts
