@@ -1,6 +1,3 @@
 mod kept;
 mod matching;
 mod names;
-mod numbers;
-mod texts;
-mod values;

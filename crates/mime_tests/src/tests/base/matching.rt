@@ -1,6 +1,7 @@
 //! Matches and counts of worked rows, with counts that were made by hand, and what is folded.
 
 use mime_base::{Meter, fold, glob_matches};
+use std::process::Abort;
 use std::test::Fail;
 
 #[test]
@@ -12,6 +13,14 @@ fn folds_the_capitals_of_ascii(rt: HostRuntime) -> Result<(), Fail> {
 
 /// What a row shows, a pattern, a name, and whether they match.
 type Row = (&'static str, &'static [u8], &'static [u8], bool);
+
+/// Each row's name matches its pattern or doesn't, as the row says.
+fn are_matched(rt: &impl Abort, cased: bool, rows: &[Row]) {
+    for (row, pattern, name, matches) in rows {
+        let found = glob_matches(pattern, cased, name, &mut Meter::new());
+        assert_eq!(rt; found, *matches, "{row}");
+    }
+}
 
 #[test]
 fn glob_elements(rt: HostRuntime) {
@@ -25,13 +34,7 @@ fn glob_elements(rt: HostRuntime) {
         ("is no star", b"x\\*", b"xy", false),
         ("a backslash at the end", b"a\\", b"a\\", true),
     ];
-    for (row, pattern, name, matches) in rows {
-        assert_eq!(rt;
-            glob_matches(pattern, true, name, &mut Meter::new()),
-            matches,
-            "{row}"
-        );
-    }
+    are_matched(&rt, true, &rows);
 }
 
 #[test]
@@ -41,13 +44,7 @@ fn without_case(rt: HostRuntime) {
         ("a range that is empty once folded", b"[Z-a]", b"a", false),
         ("a range and an escape", b"[A-Z]\\A", b"qa", true),
     ];
-    for (row, pattern, name, matches) in rows {
-        assert_eq!(rt;
-            glob_matches(pattern, false, name, &mut Meter::new()),
-            matches,
-            "{row}"
-        );
-    }
+    are_matched(&rt, false, &rows);
 }
 
 /// A pattern, a name, whether they match, and how many tests of an element that takes.

@@ -1,5 +1,6 @@
 //! Contents that are sniffed by the magic list of a cache.
 
+use super::{FAR, damaged};
 use crate::tests::sample::{SAMPLE, SELF_CHILD};
 use mime_base::{Counted, Host, Meter};
 use mime_view::{Budget, Cache, CacheFault};
@@ -59,15 +60,10 @@ const DAMAGES: [(&str, usize, CacheFault); 6] = [
     ("the offset of the value", 192, FAR),
 ];
 
-const FAR: CacheFault = CacheFault::OutOfRange(4_294_967_295);
-
 #[test]
 fn damaged_magic(rt: HostRuntime) -> Result<(), CacheFault> {
     for (name, at, fault) in DAMAGES {
-        let mut bytes = SAMPLE;
-        for byte in bytes.iter_mut().skip(at).take(4) {
-            *byte = 0xff;
-        }
+        let bytes = damaged(at);
         let mut meter = Meter::new();
         let cache = Cache::open(Counted::new(&bytes), &mut meter)?;
         let mut budget = Budget::of(&cache);

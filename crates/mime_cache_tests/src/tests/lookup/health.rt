@@ -4,6 +4,7 @@ ghost use Rattle.std.specs.Prelude.{◌≡◌, ◌≢◌, true, false, IfErr, Is
 ghost use Rattle.mime_base.specs.Database.{plain_database};
 ghost use Rattle.mime_lookup.specs.CheckingOrder.{globs_suffice};
 
+use super::outcome_of;
 use crate::tests::texts::of_rules;
 use mime_base::{Database, Host};
 use mime_lookup::{Answer, Cause, Content, Order, ReadFault, Stopped, look_up_plain};
@@ -11,14 +12,6 @@ use std::alloc::Global;
 use std::io;
 use std::io::{ErrorKind, Read};
 use std::test::Fail;
-
-/// The type and how much was read, or why there is none and how much was read.
-fn outcome_of<'a>(found: Result<Answer<'a>, Stopped>) -> Result<(&'a [u8], u64), (Cause, u64)> {
-    match found {
-        Ok(answer) => Ok((answer.kind, answer.read)),
-        Err(stopped) => Err((stopped.cause, stopped.read)),
-    }
-}
 
 /// A content each read of which fails.
 #[derive(Drop)]

@@ -1,9 +1,11 @@
 //! What is merged of several directories.
 
-use super::{TextPairs, are_icons, are_pairs};
 use crate::tests::texts::{EMPTY, Texts, merged};
-use mime_base::{GlobRule, Section};
+use mime_base::{GlobRule, Icon, Pair, Section};
 use std::test::Fail;
+
+/// Pairs of texts.
+type TextPairs = &'static [(&'static [u8], &'static [u8])];
 
 struct Row {
     name: &'static str,
@@ -98,6 +100,24 @@ fn are_sections(sections: &[Section], want: &[(u32, &[u8])]) -> bool {
     let mut same = sections.len() == want.len();
     for (section, want) in sections.iter().zip(want) {
         same = same && section.priority == want.0 && section.kind.bytes() == want.1;
+    }
+    same
+}
+
+/// Whether pairs have these texts.
+fn are_pairs(pairs: &[Pair], want: TextPairs) -> bool {
+    let mut same = pairs.len() == want.len();
+    for (pair, want) in pairs.iter().zip(want) {
+        same = same && pair.name.bytes() == want.0 && pair.target.bytes() == want.1;
+    }
+    same
+}
+
+/// Whether icons have these texts.
+fn are_icons(icons: &[Icon], want: TextPairs) -> bool {
+    let mut same = icons.len() == want.len();
+    for (icon, want) in icons.iter().zip(want) {
+        same = same && icon.kind.bytes() == want.0 && icon.name.bytes() == want.1;
     }
     same
 }

@@ -5,6 +5,7 @@
 
 ghost use Rattle.std.specs.Prelude.{◌+◌, ◌≤◌};
 
+use super::FAR;
 use crate::tests::sample::SAMPLE;
 use mime_base::{Counted, Meter};
 use mime_view::{Budget, Cache, CacheFault, Marks};
@@ -86,8 +87,6 @@ struct Damage {
 }
 
 const ONES: [u8; 4] = [0xff; 4];
-
-const FAR: CacheFault = CacheFault::OutOfRange(4_294_967_295);
 
 const DAMAGES: [Damage; 8] = [
     Damage {

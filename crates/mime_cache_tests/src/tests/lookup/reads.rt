@@ -1,14 +1,12 @@
 //! What is read of contents, through readers that follow a script and tell their failures, and
 //! through the same readers where they tell nothing.
 
+use super::{Outcome, outcome_of};
 use crate::tests::texts::of_rules;
 use mime_base::{Database, Host};
 use mime_lookup::{Cause, Content, Order, Script, Step, Untold, look_up_plain};
 use std::alloc::Global;
 use std::test::Fail;
-
-/// The type and how much was read, or why there is none and how much was read.
-type Outcome = Result<(&'static [u8], u64), (Cause, u64)>;
 
 struct Row {
     name: &'static str,
@@ -16,7 +14,7 @@ struct Row {
     file: &'static [u8],
     content: Option<&'static [Step<'static>]>,
     order: Order,
-    outcome: Outcome,
+    outcome: Outcome<'static>,
 }
 
 const NOTES: &[u8] = b"50:application/msword:*.doc\n50:text/x-notes:*.doc\n";
@@ -134,11 +132,8 @@ fn outcome<'a, R: Content>(
     file: &[u8],
     content: &mut Option<R>,
     order: Order,
-) -> Result<(&'a [u8], u64), (Cause, u64)> {
-    match look_up_plain(alloc, database, file, content, Host::Little, order) {
-        Ok(answer) => Ok((answer.kind, answer.read)),
-        Err(stopped) => Err((stopped.cause, stopped.read)),
-    }
+) -> Outcome<'a> {
+    outcome_of(look_up_plain(alloc, database, file, content, Host::Little, order))
 }
 
 #[test]

@@ -9,10 +9,20 @@ mod sample;
 
 use crate::tests::texts::{Texts, merged};
 use mime_base::Host;
-use mime_lookup::{Order, look_up_plain};
+use mime_lookup::{Answer, Cause, Order, Stopped, look_up_plain};
 use std::alloc::Global;
 use std::process::Abort;
 use std::test::Fail;
+
+/// The type and how much was read, or why there is none and how much was read.
+type Outcome<'a> = Result<(&'a [u8], u64), (Cause, u64)>;
+
+fn outcome_of<'a>(found: Result<Answer<'a>, Stopped>) -> Outcome<'a> {
+    match found {
+        Ok(answer) => Ok((answer.kind, answer.read)),
+        Err(stopped) => Err((stopped.cause, stopped.read)),
+    }
+}
 
 /// A name in these directories, a content, and the type and how much was read of it.
 struct Row {

@@ -100,14 +100,15 @@ struct Damage {
     fault: Option<CacheFault>,
 }
 
-const FAR: Option<CacheFault> = Some(CacheFault::OutOfRange(4_294_967_295));
+/// The fault of four bytes that are all ones and are taken for an offset.
+const FAR: CacheFault = CacheFault::OutOfRange(4_294_967_295);
 
 const DAMAGES: [Damage; 7] = [
     Damage {
         name: "the offset of the icons",
         at: 32,
         call: Call::Icon,
-        fault: FAR,
+        fault: Some(FAR),
     },
     Damage {
         name: "the offset of the icons, an alias",
@@ -119,19 +120,19 @@ const DAMAGES: [Damage; 7] = [
         name: "the offset of the generic icons",
         at: 36,
         call: Call::GenericIcon,
-        fault: FAR,
+        fault: Some(FAR),
     },
     Damage {
         name: "the offset of the aliases",
         at: 4,
         call: Call::Alias,
-        fault: FAR,
+        fault: Some(FAR),
     },
     Damage {
         name: "the offset of the magic list",
         at: 24,
         call: Call::Extent,
-        fault: FAR,
+        fault: Some(FAR),
     },
     Damage {
         name: "a count of more aliases than there are bytes",
@@ -143,7 +144,7 @@ const DAMAGES: [Damage; 7] = [
         name: "the offset of an alias's text",
         at: 44,
         call: Call::Alias,
-        fault: FAR,
+        fault: Some(FAR),
     },
 ];
 

@@ -1,0 +1,7 @@
+mod base;
+mod lookup;
+mod sample;
+mod store;
+mod text;
+mod texts;
+mod view;

@@ -1,0 +1,3 @@
+mod numbers;
+mod texts;
+mod values;

@@ -1,0 +1,205 @@
+//! Words that are refused: the kind of error that answers them, and the texts of some.
+//!
+//! The other texts are held by the tests of the program, which prints them.
+
+use clap::error::ErrorKind;
+use mime_request::request_of;
+use std::test::Fail;
+
+/// Words, and the kind of error that answers them.
+struct Refused {
+    name: &'static str,
+    words: &'static [&'static str],
+    kind: ErrorKind,
+}
+
+const REFUSED: [Refused; 24] = [
+    Refused {
+        name: "no words",
+        words: &[],
+        kind: ErrorKind::MissingSubcommand,
+    },
+    Refused {
+        name: "unknown command",
+        words: &["sniff", "x"],
+        kind: ErrorKind::InvalidSubcommand,
+    },
+    Refused {
+        name: "help as a command",
+        words: &["help"],
+        kind: ErrorKind::InvalidSubcommand,
+    },
+    Refused {
+        name: "version",
+        words: &["--version"],
+        kind: ErrorKind::DisplayVersion,
+    },
+    Refused {
+        name: "short version",
+        words: &["-V"],
+        kind: ErrorKind::DisplayVersion,
+    },
+    Refused {
+        name: "version of plain",
+        words: &["plain", "--version"],
+        kind: ErrorKind::UnknownArgument,
+    },
+    Refused {
+        name: "no FILE",
+        words: &["plain", "--name-only", "-d", ""],
+        kind: ErrorKind::MissingRequiredArgument,
+    },
+    Refused {
+        name: "no -d",
+        words: &["plain", "--name-only", "x"],
+        kind: ErrorKind::MissingRequiredArgument,
+    },
+    Refused {
+        name: "-d without DIRS",
+        words: &["plain", "--name-only", "x", "-d"],
+        kind: ErrorKind::InvalidValue,
+    },
+    Refused {
+        name: "no words after build",
+        words: &["build"],
+        kind: ErrorKind::MissingRequiredArgument,
+    },
+    Refused {
+        name: "no -o",
+        words: &["build", "-d", "a"],
+        kind: ErrorKind::MissingRequiredArgument,
+    },
+    Refused {
+        name: "no -d of build",
+        words: &["build", "-o", "c"],
+        kind: ErrorKind::MissingRequiredArgument,
+    },
+    Refused {
+        name: "-o without FILE",
+        words: &["build", "-d", "a", "-o"],
+        kind: ErrorKind::InvalidValue,
+    },
+    Refused {
+        name: "-o twice",
+        words: &["build", "-d", "a", "-o", "c", "-o", "c"],
+        kind: ErrorKind::ArgumentConflict,
+    },
+    Refused {
+        name: "a word too many",
+        words: &["build", "-d", "a", "-o", "c", "x"],
+        kind: ErrorKind::UnknownArgument,
+    },
+    Refused {
+        name: "an option of plain",
+        words: &["build", "-d", "a", "-o", "c", "--name-only"],
+        kind: ErrorKind::UnknownArgument,
+    },
+    Refused {
+        name: "an option of build",
+        words: &["plain", "-d", "a", "-o", "c", "x"],
+        kind: ErrorKind::UnknownArgument,
+    },
+    Refused {
+        name: "no words after plain",
+        words: &["plain"],
+        kind: ErrorKind::MissingRequiredArgument,
+    },
+    Refused {
+        name: "-d twice",
+        words: &["plain", "-d", "a", "-d", "a", "--name-only", "x"],
+        kind: ErrorKind::ArgumentConflict,
+    },
+    Refused {
+        name: "flag twice",
+        words: &["plain", "--name-only", "-d", "a", "--name-only", "x"],
+        kind: ErrorKind::ArgumentConflict,
+    },
+    Refused {
+        name: "the other flag twice",
+        words: &["plain", "--magic-first", "--magic-first", "-d", "a", "x"],
+        kind: ErrorKind::ArgumentConflict,
+    },
+    Refused {
+        name: "flag with a value",
+        words: &["plain", "-d", "a", "--magic-first=true", "x"],
+        kind: ErrorKind::TooManyValues,
+    },
+    Refused {
+        name: "unknown option",
+        words: &["plain", "-d", "a", "--names", "x"],
+        kind: ErrorKind::UnknownArgument,
+    },
+    Refused {
+        name: "FILE with a hyphen",
+        words: &["plain", "-d", "a", "--name-only", "-x"],
+        kind: ErrorKind::UnknownArgument,
+    },
+];
+
+#[test]
+fn refuses_by_kind(rt: HostRuntime) -> Result<(), Fail> {
+    for row in &REFUSED {
+        match request_of(rt.alloc(), row.words) {
+            Ok(request) => assert!(rt; false, "{}: {request:?}", row.name),
+            Err(error) => assert_eq!(rt; error.kind(), row.kind, "{}", row.name),
+        }
+    }
+    Ok(())
+}
+
+const UNKNOWN_COMMAND: &str = "\
+error: unrecognized subcommand 'sniff'
+
+Usage: mimelook <COMMAND>
+
+For more information, try '--help'.
+";
+
+/// What is said of an option that is like one of the command.
+const SIMILAR_OPTION: &str = "\
+error: unexpected argument '--names' found
+
+  tip: a similar argument exists: '--name-only'
+
+Usage: mimelook plain -d DIRS [--name-only] [--magic-first] FILE...
+
+For more information, try '--help'.
+";
+
+/// Words, and the whole text that answers them.
+struct Mistake {
+    name: &'static str,
+    words: &'static [&'static str],
+    text: &'static str,
+}
+
+const MISTAKES: [Mistake; 2] = [
+    Mistake {
+        name: "unknown command",
+        words: &["sniff", "x"],
+        text: UNKNOWN_COMMAND,
+    },
+    Mistake {
+        name: "unknown option",
+        words: &["plain", "-d", "a", "--names", "x"],
+        text: SIMILAR_OPTION,
+    },
+];
+
+#[test]
+fn says_what_is_wrong(rt: HostRuntime) -> Result<(), Fail> {
+    for row in &MISTAKES {
+        match request_of(rt.alloc(), row.words) {
+            Ok(request) => assert!(rt; false, "{}: {request:?}", row.name),
+            Err(error) => {
+                assert_eq!(rt;
+                    error.to_string(rt.alloc())?.as_str(),
+                    row.text,
+                    "{}",
+                    row.name
+                )
+            }
+        }
+    }
+    Ok(())
+}

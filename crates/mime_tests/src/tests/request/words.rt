@@ -1,0 +1,233 @@
+//! What words ask for: a cache that is built, or the types of files.
+
+use mime_request::{Request, request_of};
+use std::test::Fail;
+
+#[derive(Clone, Copy)]
+struct Built {
+    name: &'static str,
+    words: &'static [&'static str],
+    directories: &'static [&'static str],
+    file: &'static str,
+}
+
+const BUILT: [Built; 7] = [
+    Built {
+        name: "two directories",
+        words: &["build", "-d", "b:a", "-o", "c"],
+        directories: &["b", "a"],
+        file: "c",
+    },
+    Built {
+        name: "no directory",
+        words: &["build", "-d", "", "-o", "c"],
+        directories: &[],
+        file: "c",
+    },
+    Built {
+        name: "output first",
+        words: &["build", "-o", "c", "-d", "a"],
+        directories: &["a"],
+        file: "c",
+    },
+    Built {
+        name: "values in the options' words",
+        words: &["build", "-da:b", "-oc/d"],
+        directories: &["a", "b"],
+        file: "c/d",
+    },
+    Built {
+        name: "colon in FILE",
+        words: &["build", "-d", "a", "-o", "c:d"],
+        directories: &["a"],
+        file: "c:d",
+    },
+    Built {
+        name: "empty FILE",
+        words: &["build", "-d", "a", "-o", ""],
+        directories: &["a"],
+        file: "",
+    },
+    Built {
+        name: "command's name",
+        words: &["build", "-d", "build", "-o", "build"],
+        directories: &["build"],
+        file: "build",
+    },
+];
+
+#[test]
+fn asks_for_a_cache(rt: HostRuntime) -> Result<(), Fail> {
+    for row in BUILT {
+        match request_of(rt.alloc(), row.words) {
+            Ok(Request::Build { directories, file }) => {
+                let found = (directories.as_slice(), file);
+                assert_eq!(rt; found, (row.directories, row.file), "{}", row.name);
+            }
+            Ok(request) => assert!(rt; false, "{}: {request:?}", row.name),
+            Err(error) => assert!(rt; false, "{}: {error}", row.name),
+        }
+    }
+    Ok(())
+}
+
+#[derive(Clone, Copy)]
+struct Asked {
+    name: &'static str,
+    words: &'static [&'static str],
+    directories: &'static [&'static str],
+    name_only: bool,
+    magic_first: bool,
+    files: &'static [&'static str],
+}
+
+const ASKED: [Asked; 15] = [
+    Asked {
+        name: "no directory",
+        words: &["plain", "--name-only", "-d", "", "a"],
+        directories: &[],
+        name_only: true,
+        magic_first: false,
+        files: &["a"],
+    },
+    Asked {
+        name: "one directory",
+        words: &["plain", "-d", "a", "x", "y"],
+        directories: &["a"],
+        name_only: false,
+        magic_first: false,
+        files: &["x", "y"],
+    },
+    Asked {
+        name: "several directories",
+        words: &["plain", "-d", "b:a:b", "x"],
+        directories: &["b", "a", "b"],
+        name_only: false,
+        magic_first: false,
+        files: &["x"],
+    },
+    Asked {
+        name: "empty parts",
+        words: &["plain", "-d", ":a::b:", "x"],
+        directories: &["a", "b"],
+        name_only: false,
+        magic_first: false,
+        files: &["x"],
+    },
+    Asked {
+        name: "empty parts alone",
+        words: &["plain", "-d", "::", "x"],
+        directories: &[],
+        name_only: false,
+        magic_first: false,
+        files: &["x"],
+    },
+    Asked {
+        name: "names alone",
+        words: &["plain", "-d", "a", "--name-only", "x"],
+        directories: &["a"],
+        name_only: true,
+        magic_first: false,
+        files: &["x"],
+    },
+    Asked {
+        name: "magic first",
+        words: &["plain", "-d", "a", "--magic-first", "x"],
+        directories: &["a"],
+        name_only: false,
+        magic_first: true,
+        files: &["x"],
+    },
+    Asked {
+        name: "both flags",
+        words: &["plain", "-d", "a", "--name-only", "--magic-first", "x"],
+        directories: &["a"],
+        name_only: true,
+        magic_first: true,
+        files: &["x"],
+    },
+    Asked {
+        name: "flags the other way round",
+        words: &["plain", "--magic-first", "--name-only", "-d", "a", "x"],
+        directories: &["a"],
+        name_only: true,
+        magic_first: true,
+        files: &["x"],
+    },
+    Asked {
+        name: "a flag before and one after",
+        words: &["plain", "--magic-first", "-d", "a", "--name-only", "x"],
+        directories: &["a"],
+        name_only: true,
+        magic_first: true,
+        files: &["x"],
+    },
+    Asked {
+        name: "options last",
+        words: &["plain", "x", "y", "-da/b:c", "--magic-first"],
+        directories: &["a/b", "c"],
+        name_only: false,
+        magic_first: true,
+        files: &["x", "y"],
+    },
+    Asked {
+        name: "hyphens",
+        words: &["plain", "-d", "a", "--", "-x", "--"],
+        directories: &["a"],
+        name_only: false,
+        magic_first: false,
+        files: &["-x", "--"],
+    },
+    Asked {
+        name: "one hyphen",
+        words: &["plain", "-d", "a", "--name-only", "-"],
+        directories: &["a"],
+        name_only: true,
+        magic_first: false,
+        files: &["-"],
+    },
+    Asked {
+        name: "command's name",
+        words: &["plain", "-d", "plain", "plain"],
+        directories: &["plain"],
+        name_only: false,
+        magic_first: false,
+        files: &["plain"],
+    },
+    Asked {
+        name: "empty FILE",
+        words: &["plain", "-d", "a", ""],
+        directories: &["a"],
+        name_only: false,
+        magic_first: false,
+        files: &[""],
+    },
+];
+
+#[test]
+fn asks_for_files(rt: HostRuntime) -> Result<(), Fail> {
+    for row in ASKED {
+        match request_of(rt.alloc(), row.words) {
+            Ok(
+                Request::Plain {
+                    directories,
+                    name_only,
+                    magic_first,
+                    files,
+                },
+            ) => {
+                let found = (
+                    directories.as_slice(),
+                    name_only,
+                    magic_first,
+                    files.as_slice(),
+                );
+                let wanted = (row.directories, row.name_only, row.magic_first, row.files);
+                assert_eq!(rt; found, wanted, "{}", row.name);
+            }
+            Ok(request) => assert!(rt; false, "{}: {request:?}", row.name),
+            Err(error) => assert!(rt; false, "{}: {error}", row.name),
+        }
+    }
+    Ok(())
+}
