@@ -83,7 +83,8 @@ output_first_fits : (dirs file : Text) → end_fault build_shape false (output_f
 unfolding clap_on_literals
 output_first_fits dirs file = refl
 
-output_last_means : (dirs file : Text) → build_meaning (finished build_shape.rules (output_last dirs file).held) ≡ asks (build (parts dirs) file)
+output_last_means : (dirs file : Text) → build_meaning (finished build_shape.rules (output_last dirs file).held)
+    ≡ asks (build (parts dirs) file)
 unfolding clap_on_literals
 output_last_means dirs file = refl
 

@@ -83,7 +83,8 @@ name_only_last : (dirs : Text) → Steps plain_shape [] (after_dirs [] dirs) (co
 unfolding clap_on_literals
 name_only_last dirs = record { no_fault = refl; moves = refl }
 
-magic_first_last : (n : Bool) (dirs : Text) → Steps plain_shape [] (after_both n false dirs) (codes "--magic-first") (after_both n true dirs)
+magic_first_last : (n : Bool) (dirs : Text) → Steps plain_shape [] (after_both n false dirs) (codes "--magic-first")
+    (after_both n true dirs)
 unfolding clap_on_literals
 magic_first_last true dirs = record { no_fault = refl; moves = refl }
 magic_first_last false dirs = record { no_fault = refl; moves = refl }

@@ -45,7 +45,8 @@ up_tails x k ((y ∷ r) ∷ rs) h =
     (λ s. rw (eq-eqb x y s.0) (s.1, up_tails x r rs (subst (λ (z : ℕ). Up (z ∷ r) rs) (sym s.0) h.1))) h.0
 
 next_tails : (x : ℕ) (k : List ℕ) (rs : List (List ℕ)) → Up (x ∷ k) rs
-    → ((next_common (x ∷ k) rs ≡ next_common k (tails x rs) + 1) × (has [] (tails x rs) ≡ true)) ⊎ ((next_common (x ∷ k) rs ≡ 0) × (tails x rs ≡ []))
+    → ((next_common (x ∷ k) rs ≡ next_common k (tails x rs) + 1) × (has [] (tails x rs) ≡ true))
+        ⊎ ((next_common (x ∷ k) rs ≡ 0) × (tails x rs ≡ []))
 next_tails x k [] h = inr (refl, refl)
 next_tails x k ([] ∷ rs) h = absurd h.0
 next_tails x k ((y ∷ r) ∷ rs) h =

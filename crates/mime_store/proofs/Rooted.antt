@@ -19,7 +19,8 @@ use Rattle.mime_store.proofs.Rising.{sorted_rises}
 use Rattle.mime_store.proofs.Sorting.{ties_stay}
 
 -- what is picked of endings are the rules with that ending
-pick-endings : (path : List ℕ) (es : List Ending) → pick path (map (ending_entry 0) es) ≡ map ending_rule (with_key (λ e. e.path.items) path es)
+pick-endings : (path : List ℕ) (es : List Ending) → pick path (map (ending_entry 0) es)
+    ≡ map ending_rule (with_key (λ e. e.path.items) path es)
 pick-endings path [] = refl
 pick-endings path (e ∷ es) =
     rw (pick-endings path es) (elim (bytes_eq e.path.items path) as (λ t.

@@ -4,7 +4,8 @@ use Rattle.std.proofs.lemmas.Bool.{cases_lt, cases_Bool, eqb-false}
 use Rattle.mime_base.specs.Magic.{fits_word}
 use Rattle.mime_text.specs.declared.magic.fault.MagicFaultKind.TheVariants.{BadNumber, BadWord, BadIndent}
 use Rattle.mime_text.specs.Magic.Text.{value_of, AreDigits, IsNumber}
-use Rattle.mime_text.specs.Magic.FaultTable.{IsToMask, IsToWord, IsBeforeNumber, before_start, before_word, before_range, IsCutLine, in_indent}
+use Rattle.mime_text.specs.Magic.FaultTable.{IsToMask, IsToWord, IsBeforeNumber, before_start}
+use Rattle.mime_text.specs.Magic.FaultTable.{before_word, before_range, IsCutLine, in_indent}
 use Rattle.mime_text.specs.Magic.FaultTable.{in_number, in_length, in_value, in_mask, before_end, before_newline, large_indent, bad_number}
 use Rattle.mime_text.specs.Magic.FaultTable.{no_equals, no_mark}
 use Rattle.mime_text.proofs.FaultLemmas.FaultSteps.{number_final, word_final, indent_final}

@@ -9,7 +9,8 @@ use Rattle.mime_text.specs.declared.magic.fault.MagicFaultKind.TheVariants.{Trun
 use Rattle.mime_text.specs.declared.magic.fault.MagicFaultKind.{MagicFaultKind}
 use Rattle.mime_text.specs.Magic.Reading.{fault_at, bytes_at, value_at, mask_at, word_at, range_at, row_at, body_at, end_at, line_at}
 use Rattle.mime_text.specs.Magic.Text.{NoNewline}
-use Rattle.mime_text.specs.Magic.FaultTable.{IsToEnd, IsCutLine, in_indent, in_number, in_length, in_value, in_mask, before_end, before_newline}
+use Rattle.mime_text.specs.Magic.FaultTable.{IsToEnd, IsCutLine, in_indent, in_number}
+use Rattle.mime_text.specs.Magic.FaultTable.{in_length, in_value, in_mask, before_end, before_newline}
 use Rattle.mime_text.proofs.MagicLemmas.LineOnly.{body_only}
 use Rattle.mime_text.proofs.FaultLemmas.FaultSteps.{bind_fails, bind_to, Places}
 use Rattle.mime_text.proofs.FaultLemmas.FaultNumbers.{number_cut}

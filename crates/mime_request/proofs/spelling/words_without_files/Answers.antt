@@ -5,4 +5,12 @@ use Rattle.mime_request.proofs.spelling.words_without_files.Goals as goal
 
 pub returns : goal.returns
 unfolding clap_on_literals meaning_of
-returns c = record { help = refl; help_of_build = refl; help_of_plain = refl; version = refl; nothing = refl; no_output = refl; no_file = refl }
+returns c = record {
+  help = refl;
+  help_of_build = refl;
+  help_of_plain = refl;
+  version = refl;
+  nothing = refl;
+  no_output = refl;
+  no_file = refl;
+}

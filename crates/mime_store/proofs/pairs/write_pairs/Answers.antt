@@ -32,7 +32,8 @@ loop-pair-preserved c =
 pub append_list-requires-clause-room : goal.append_list-requires-clause-room
 append_list-requires-clause-room c =
     let xs = c.args.pairs.now in
-    let g = grew_all texts pair_texts_room xs c.loop-pair.pair-index c.args.out.now.items _ c.loop-pair-test.false c.loop-pair.invariant.grew in
+    let g = grew_all texts pair_texts_room xs c.loop-pair.pair-index c.args.out.now.items _ c.loop-pair-test.false
+        c.loop-pair.invariant.grew in
     omega (
       arith,
       c.requires.room,
@@ -49,7 +50,8 @@ append_list-requires-clause-begun c = omega (arith, c.requires.begun, grew_lengt
 pub returns-clause-grew : goal.returns-clause-grew
 returns-clause-grew c =
     let xs = c.args.pairs.now in
-    let g = grew_all texts pair_texts_room xs c.loop-pair.pair-index c.args.out.now.items _ c.loop-pair-test.false c.loop-pair.invariant.grew in
+    let g = grew_all texts pair_texts_room xs c.loop-pair.pair-index c.args.out.now.items _ c.loop-pair-test.false
+        c.loop-pair.invariant.grew in
     grew_to _ _ _ _ (omega (
       arith,
       length-map xs texts,

@@ -12,7 +12,8 @@ loop-ending-preserved c =
     record {
       place = ap (λ n. n + 1) c.loop-ending.invariant.place;
       all = rw (views_more
-          (ending_entry c.args.depth) c.args.endings.now c.loop-ending.ending-index c.ending-item.result c.loop-ending-test.true c.ending-item.is)
+          (ending_entry c.args.depth) c.args.endings.now c.loop-ending.ending-index c.ending-item.result
+          c.loop-ending-test.true c.ending-item.is)
           (start_push _ _ _ c.loop-ending.invariant.all
           (starts c.args.depth c.ending-item.result c.args.byte lt (get_or_default e.path.items c.args.depth 0 c.index.result.now lt
           ∙ sym c.index.ensures ∙ c.if-index-byte.false)));
