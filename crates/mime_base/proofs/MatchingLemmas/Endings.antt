@@ -1,6 +1,7 @@
 -- A text that stands for itself: its elements are its bytes, and they go along a name of its length as far as both
 -- are compared as equal.
-use Rattle.std.proofs.Common.{◌≡◌, ℕ, zero, suc, ◌+◌, ◌<◌, ◌==◌, nat_eq, Bool, true, false, cond, not, ◌||◌, List, [], ◌∷◌, length, refl, sym, ap, ◌∙◌, arith}
+use Rattle.std.proofs.Common.{◌≡◌, ℕ, zero, suc, ◌+◌, ◌<◌, ◌==◌, nat_eq, Bool, true, false, cond, not, ◌||◌, List, [], ◌∷◌}
+use Rattle.std.proofs.Common.{length, refl, sym, ap, ◌∙◌, arith}
 use Rattle.std.proofs.lemmas.Bool.{and_parts, not-true, or_parts}
 use Rattle.std.proofs.lemmas.List.{length-map}
 use Rattle.std.specs.List.{common_prefix_len}
@@ -135,12 +136,14 @@ module _ (pattern : List ℕ) (cased : Bool) (name after : List ℕ) (is : patte
       ∙ ap (λ es. tests_of es (compared cased name)) (elements-star cased after)
 
   -- and the least of them
-  pub star-least : (found : Bool) → least_tests found (elements (compared cased pattern)) ≡ least_tests found (elements (compared cased after))
+  pub star-least : (found : Bool) →
+      least_tests found (elements (compared cased pattern)) ≡ least_tests found (elements (compared cased after))
   star-least found =
       ap (λ text. least_tests found (elements (compared cased text))) is
       ∙ ap (least_tests found) (elements-star cased after)
       ∙ unstarred found
     where
-      unstarred : (found : Bool) → least_tests found (any_bytes ∷ elements (compared cased after)) ≡ least_tests found (elements (compared cased after))
+      unstarred : (found : Bool) →
+          least_tests found (any_bytes ∷ elements (compared cased after)) ≡ least_tests found (elements (compared cased after))
       unstarred true = refl
       unstarred false = refl

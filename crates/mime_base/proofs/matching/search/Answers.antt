@@ -27,9 +27,10 @@ returns-then-is_literal_text c =
     let tests = star-tests c.args.pattern.now c.args.cased c.args.name.now c.in-Some.ending.now is in
     let paid = once-paid (length c.args.pattern.now) (length c.args.name.now) c.try_ending.result.tests
     (omega (arith, c.try_ending.ensures.most, ap length is)) in
+    let least = star-least c.args.pattern.now c.args.cased c.args.name.now c.in-Some.ending.now is c.try_ending.result.found in
     record {
       found = c.try_ending.ensures.found ∙ sym (star-matches c.args.pattern.now c.args.cased c.args.name.now c.in-Some.ending.now is);
       tests = omega (arith, tests, c.try_ending.ensures.tests);
-      least = rw (star-least c.args.pattern.now c.args.cased c.args.name.now c.in-Some.ending.now is c.try_ending.result.found) c.try_ending.ensures.least;
+      least = rw least c.try_ending.ensures.least;
       most = paid;
     }

@@ -49,8 +49,10 @@ returns-else-equal-ending c =
     c.common_compared-equal.result (rw left at c.common_compared-equal.ensures.common)
     (omega (arith, c.common_compared-equal.ensures.within, c.if-equal-ending.false)) in
     let made = end-tests c.args.cased es c.args.name.now size none is (omega arith) c.common_compared-equal.result [] Refused goes in
+    let unfound = end-unfound c.args.cased es c.args.name.now size none is (omega arith) c.common_compared-equal.result [] Refused goes
+    refused-unended in
     record {
-      found = sym (end-unfound c.args.cased es c.args.name.now size none is (omega arith) c.common_compared-equal.result [] Refused goes refused-unended);
+      found = sym unfound;
       tests = omega (arith, made);
       least = omega arith;
       most = omega (arith, c.common_compared-equal.ensures.within, c.if-equal-ending.false);
