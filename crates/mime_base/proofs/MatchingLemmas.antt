@@ -9,3 +9,4 @@ pub mod Costs
 pub mod Ends
 pub mod Counts
 pub mod Lasts
+pub mod Endings

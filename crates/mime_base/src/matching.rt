@@ -14,14 +14,14 @@ pub mod folding;
 ghost use Rattle.std.specs.Prelude.{◌≡◌, true, false, Bool, ◌+◌, ◌-◌, ◌*◌, ◌<◌, ◌≤◌, ◌↔◌, ◌∷◌, length, drop, IsTrue, IfSome, IsNone};
 ghost use Rattle.mime_base.specs.Matching.Attempt.{decided, owed, tests_after};
 ghost use Rattle.mime_base.specs.Matching.Count.{has_star, rule_tests, tests_of};
-ghost use Rattle.mime_base.specs.Matching.Elements.{any_bytes, elements, HasNoEnd};
+ghost use Rattle.mime_base.specs.Matching.Elements.{any_bytes, elements, is_literal_text, HasNoEnd};
 ghost use Rattle.mime_base.specs.Matching.Folding.{compared};
 ghost use Rattle.mime_base.specs.Matching.Matches.{least_tests, matches, rule_matches, RuleMatches};
 ghost use Rattle.mime_base.specs.Meter.{raised};
 
 use crate::matching::attempt::{Halt, Reach, attempt};
-use crate::matching::elements::{after_element, count_endless};
-use crate::matching::folding::as_compared;
+use crate::matching::elements::{after_element, begins_otherwise, count_endless, is_literal_text};
+use crate::matching::folding::{as_compared, common_compared};
 use crate::meter::Meter;
 
 /// Whether a pattern matches a name: both as they are, or both folded.
@@ -57,8 +57,60 @@ struct Searched {
     tests: u64,
 }
 
-/// Goes from star to star.
+/// Chooses by the pattern's first bytes: most patterns are a plain ending, and most others begin with a
+/// byte that the name doesn't begin with.
 fn search(pattern: &[u8], cased: bool, name: &[u8]) -> Searched
+    ensures found { result.found ≡ rule_matches pattern.now cased name.now }
+    ensures tests { result.tests ≡ raised 0 (rule_tests pattern.now cased name.now) }
+    ensures least { least_tests result.found (elements (compared cased pattern.now)) ≤ result.tests }
+    ensures most { result.tests ≤ length pattern.now * (length name.now + 1) }
+{
+    if let Some((first, ending)) = pattern.split_first() {
+        if *first == b'*' && is_literal_text(ending) {
+            return try_ending(ending, cased, name);
+        }
+    }
+    if begins_otherwise(pattern, cased, name) {
+        return Searched {
+            found: false,
+            tests: 1,
+        };
+    }
+    search_by_stars(pattern, cased, name)
+}
+
+/// Tries a text that stands for itself, after a star, at the end of the name.
+fn try_ending(ending: &[u8], cased: bool, name: &[u8]) -> Searched
+    requires { is_literal_text ending.now ≡ true }
+    ensures found { result.found
+        ≡ matches (any_bytes ∷ elements (compared cased ending.now)) (compared cased name.now) }
+    ensures tests { result.tests
+        ≡ tests_of (any_bytes ∷ elements (compared cased ending.now)) (compared cased name.now) }
+    ensures least { least_tests result.found (elements (compared cased ending.now)) ≤ result.tests }
+    ensures most { result.tests ≤ length ending.now }
+{
+    if name.len() < ending.len() {
+        return Searched {
+            found: false,
+            tests: 1,
+        };
+    }
+    let equal = common_compared(cased, ending, &name[name.len() - ending.len()..]);
+    if equal == ending.len() {
+        Searched {
+            found: true,
+            tests: equal as u64,
+        }
+    } else {
+        Searched {
+            found: false,
+            tests: equal as u64 + 1,
+        }
+    }
+}
+
+/// Goes from star to star.
+fn search_by_stars(pattern: &[u8], cased: bool, name: &[u8]) -> Searched
     ensures found { result.found ≡ rule_matches pattern.now cased name.now }
     ensures tests { result.tests ≡ raised 0 (rule_tests pattern.now cased name.now) }
     ensures least { least_tests result.found (elements (compared cased pattern.now)) ≤ result.tests }

@@ -7,7 +7,8 @@ use Rattle.mime_base.specs.declared.magic.matchlet.Matchlet.{Matchlet}
 use Rattle.mime_base.specs.declared.magic.Section.{Section}
 
 -- the sections from one on
-pub sections_extent-from : (sections : List Section) (i : ℕ) (section : Section) → i < length sections → section ≡ get_or sections i section →
+pub sections_extent-from : (sections : List Section) (i : ℕ) (section : Section) → i < length sections →
+    section ≡ get_or sections i section →
     sections_extent (plain_sections (drop i sections))
     ≡ max (forest_extent (forest_of (plain_matchlets section.lines.items))) (sections_extent (plain_sections (drop (i + 1) sections)))
 sections_extent-from sections i section within is =

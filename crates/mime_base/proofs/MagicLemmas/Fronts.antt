@@ -63,8 +63,10 @@ module _ (front rest : List ℕ) where
   first_magic-front (section ∷ sections) host within =
       let here : forest_extent section.lines ≤ length front = omega arith in
       let later : sections_extent sections ≤ length front = omega arith in
-      ap (λ b. cond b (Some (section.kind, section.priority)) (first_magic sections (front ++ rest) host)) (some_holds-front section.lines host here)
-      ∙ ap (λ more. cond (some_holds section.lines front host) (Some (section.kind, section.priority)) more) (first_magic-front sections host later)
+      ap (λ b. cond b (Some (section.kind, section.priority)) (first_magic sections (front ++ rest) host))
+      (some_holds-front section.lines host here)
+      ∙ ap (λ more. cond (some_holds section.lines front host) (Some (section.kind, section.priority)) more)
+      (first_magic-front sections host later)
 
   -- the test of the first bytes
   pub looks_textual-front : 128 ≤ length front → looks_textual (front ++ rest) ≡ looks_textual front

@@ -74,7 +74,8 @@ equals_from-mask start range word value mask host content at (suc n) =
 
 -- a matchlet of the code, one level opened
 pub plain_matchlet-out : (m : Matchlet) → plain_matchlet m ≡ record {
-  own = line_from (out-Matchlet m).start (out-Matchlet m).range (out-Matchlet m).word (out-Matchlet m).value.items (mask_bytes (out-Matchlet m).mask);
+  own = line_from (out-Matchlet m).start (out-Matchlet m).range (out-Matchlet m).word (out-Matchlet m).value.items
+      (mask_bytes (out-Matchlet m).mask);
   children = forest_of (plain_matchlets (out-Matchlet m).children.items);
 }
 plain_matchlet-out = fold_out-Matchlet PlainMatchlet plain_matchlet_over

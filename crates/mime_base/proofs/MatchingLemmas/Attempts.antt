@@ -1,6 +1,6 @@
 -- What an attempt says of the whole: from how elements went and halted, whether they match, and how many tests they owe.
-use Rattle.std.proofs.Common.{◌≡◌, ℕ, zero, suc, ◌+◌, ◌-◌, ◌<◌, ◌≤◌, Bool, true, false, ◌&&◌, ◌||◌, List, [], ◌∷◌}
-use Rattle.std.proofs.Common.{length, drop, refl, sym, ap, ◌∙◌, arith, length-drop, inl, inr}
+use Rattle.std.proofs.Common.{◌≡◌, ℕ, zero, suc, ◌+◌, ◌<◌, ◌≤◌, Bool, true, false, ◌&&◌, ◌||◌, List, [], ◌∷◌}
+use Rattle.std.proofs.Common.{length, drop, refl, sym, ap, ◌∙◌, arith, length-drop}
 use Rattle.std.proofs.lemmas.Bool.{false_from_ne_true, not-true, true≢false}
 use Rattle.std.proofs.lemmas.List.{drop-drop}
 use Rattle.mime_base.specs.Matching.Attempt.{Goes, HaltsAt, decided, last_tests, owed}

@@ -23,3 +23,7 @@ star-paid p n start tests more passed after h k l =
     let name : start + passed + (n - (start + passed)) ≡ n = omega arith in
     rw (pattern, name) at
     (paid_on (p - (more + after + 1)) more after start passed (n - (start + passed)) tests (rw pattern h))
+
+-- tests of a pattern at one place are paid by any
+pub once-paid : (p n tests : ℕ) → tests ≤ p → tests ≤ p * (n + 1)
+once-paid p n tests h = grind arith

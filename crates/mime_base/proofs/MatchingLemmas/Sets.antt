@@ -7,7 +7,7 @@ use Rattle.std.specs.List.{prefix_len, position}
 use Rattle.std.proofs.lemmas.Bool.Decides.{nat_tests}
 use Rattle.std.proofs.lemmas.List.{drop-map, take-map, length-map}
 use Rattle.mime_base.specs.Matching.Elements.{IsSet, none_of, one_of, admits, body, end_of_set, in_ranges, is_negated}
-use Rattle.mime_base.specs.Matching.Elements.{is_literal_text, one_byte, ranges, width_after}
+use Rattle.mime_base.specs.Matching.Elements.{is_literal_text, is_special, one_byte, ranges, width_after}
 use Rattle.mime_base.specs.Matching.Folding.{compared, compared_byte}
 
 -- a byte that is no letter is one after folding exactly where it was one
@@ -86,16 +86,19 @@ pub width_after-no_set : (first : ℕ) (cased : Bool) (after : List ℕ) → fir
 width_after-no_set first cased after is end = rw (is, end_of_set-compared cased after, end)
 
 -- folding makes no special byte and takes none away
-pub is_literal_text-compared : (cased : Bool) (text : List ℕ) → is_literal_text (compared cased text) ≡ is_literal_text text
-is_literal_text-compared cased [] = refl
-is_literal_text-compared cased (b ∷ rest) =
+pub is_special-compared : (cased : Bool) (b : ℕ) → is_special (compared_byte cased b) ≡ is_special b
+is_special-compared cased b =
     rw (
       compared_byte-mark cased b 42 (inl (lit< tt)),
       compared_byte-mark cased b 63 (inl (lit< tt)),
       compared_byte-mark cased b 91 (inr (lit< tt, lit< tt)),
       compared_byte-mark cased b 92 (inr (lit< tt, lit< tt)),
-      is_literal_text-compared cased rest,
     )
+
+-- and leaves a text literal that is
+pub is_literal_text-compared : (cased : Bool) (text : List ℕ) → is_literal_text (compared cased text) ≡ is_literal_text text
+is_literal_text-compared cased [] = refl
+is_literal_text-compared cased (b ∷ rest) = rw (is_special-compared cased b, is_literal_text-compared cased rest)
 
 -- what stands after an element, given where it admits
 

@@ -1,6 +1,6 @@
 //! Comparisons of bytes that tell how far they looked.
 
-ghost use Rattle.std.specs.Prelude.{◌≡◌, ◌↔◌, ◌+◌, ◌≤◌, nat_eq, nat_lt, length, min, Some, None, if◌then◌else◌, IsTrue};
+ghost use Rattle.std.specs.Prelude.{◌≡◌, ◌↔◌, ◌+◌, ◌≤◌, nat_eq, nat_lt, length, take, drop, min, Some, None, if◌then◌else◌, IsTrue};
 ghost use Rattle.std.specs.List.{common_prefix_len};
 ghost use Rattle.std.specs.Ordering.{nat_cmp};
 ghost use Rattle.std.specs.Cmp.Lexicographic.{slice_cmp};
@@ -9,6 +9,7 @@ ghost use Rattle.mime_base.specs.Cache.Texts.{before_zero, shared};
 
 use crate::meter::Meter;
 use std::cmp::Ordering;
+use std::simd::prelude::*;
 
 /// Whether two names are equal. It adds the length of their common front and one, so at most 256
 /// for names that [`crate::Counted::text_at`] gave.
@@ -31,13 +32,50 @@ pub fn common_length(left: &[u8], right: &[u8]) -> usize
     ensures left { result ≤ length left.now }
     ensures right { result ≤ length right.now }
 {
+    let start = common_by_eight(left, right);
     let room = left.len().min(right.len());
-    for i in 0..room {
+    for i in start..room {
         if left[i] != right[i] {
             return i;
         }
     }
     room
+}
+
+/// The same, eight bytes at a time: fewer where the last bytes are no eight.
+fn common_by_eight(left: &[u8], right: &[u8]) -> usize
+    ensures common { result + common_prefix_len nat_eq (drop result left.now) (drop result right.now)
+        ≡ common_prefix_len nat_eq left.now right.now }
+    ensures left { result ≤ length left.now }
+    ensures right { result ≤ length right.now }
+{
+    let room = left.len().min(right.len());
+    let mut start = 0;
+    while 8 <= room - start {
+        let common = common_of_eight(&left[start..], &right[start..]);
+        start += common;
+        if common < 8 {
+            return start;
+        }
+    }
+    start
+}
+
+/// How many of the first eight bytes are equal, from the front.
+#[inline]
+fn common_of_eight(left: &[u8], right: &[u8]) -> usize
+    requires left { 8 ≤ length left.now }
+    requires right { 8 ≤ length right.now }
+    ensures common { result ≡ common_prefix_len nat_eq (take 8 left.now) (take 8 right.now) }
+    ensures most { result ≤ 8 }
+{
+    let differ = u8x8::from_slice(left).simd_ne(u8x8::from_slice(right));
+    let places = differ.to_bitmask();
+    if places == 0 {
+        8
+    } else {
+        places.trailing_zeros() as usize
+    }
 }
 
 /// How what stands in the front, up to its first zero, compares with a key, and how many bytes were
@@ -47,8 +85,9 @@ pub fn compare_front(front: &[u8], key: &[u8]) -> (Option<Ordering>, usize)
         then Some (slice_cmp nat_cmp (before_zero front.now) key.now) else None) }
     ensures count { result.1 ≡ min (shared front.now key.now + 1) (length front.now) }
 {
+    let start = shared_by_eight(front, key);
     let room = front.len().min(key.len());
-    for i in 0..room {
+    for i in start..room {
         let byte = front[i];
         if byte == 0 {
             return (Some(Ordering::Less), i + 1);
@@ -64,5 +103,43 @@ pub fn compare_front(front: &[u8], key: &[u8]) -> (Option<Ordering>, usize)
         (Some(Ordering::Equal), room + 1)
     } else {
         (Some(Ordering::Greater), room + 1)
+    }
+}
+
+/// How many bytes are equal and none of them zero, eight at a time: fewer where the last are no eight.
+fn shared_by_eight(front: &[u8], key: &[u8]) -> usize
+    ensures shared { result + shared (drop result front.now) (drop result key.now) ≡ shared front.now key.now }
+    ensures order { slice_cmp nat_cmp (before_zero (drop result front.now)) (drop result key.now)
+        ≡ slice_cmp nat_cmp (before_zero front.now) key.now }
+    ensures front { result ≤ length front.now }
+    ensures key { result ≤ length key.now }
+{
+    let room = front.len().min(key.len());
+    let mut start = 0;
+    while 8 <= room - start {
+        let equal = shared_of_eight(&front[start..], &key[start..]);
+        start += equal;
+        if equal < 8 {
+            return start;
+        }
+    }
+    start
+}
+
+/// How many of the first eight bytes are equal, from the front, and none of them zero.
+#[inline]
+fn shared_of_eight(front: &[u8], key: &[u8]) -> usize
+    requires front { 8 ≤ length front.now }
+    requires key { 8 ≤ length key.now }
+    ensures shared { result ≡ shared (take 8 front.now) (take 8 key.now) }
+    ensures most { result ≤ 8 }
+{
+    let bytes = u8x8::from_slice(front);
+    let stop = bytes.simd_ne(u8x8::from_slice(key)) | bytes.simd_eq(u8x8::splat(0));
+    let places = stop.to_bitmask();
+    if places == 0 {
+        8
+    } else {
+        places.trailing_zeros() as usize
     }
 }

@@ -5,9 +5,11 @@
 //! an element reads that element alone: how many of the pattern's last bytes have no `]` is known, and
 //! for a `[` among them no end of a set is sought.
 
-ghost use Rattle.std.specs.Prelude.{◌≡◌, Bool, ◌∷◌, [], ◌+◌, ◌<◌, ◌==◌, IsNone, IfSome, None, is_some, drop, length, position};
-ghost use Rattle.mime_base.specs.Matching.Elements.{HasNoEnd, IsSet, admits, end_of_set, in_ranges, is_literal_text};
-ghost use Rattle.mime_base.specs.Matching.Elements.{is_negated, one_byte, ranges, width_after};
+ghost use Rattle.std.specs.Prelude.{◌≡◌, true, Bool, ◌∷◌, [], ◌+◌, ◌<◌, ◌==◌, IsNone, IfSome, IsTrue, None, is_some, drop};
+ghost use Rattle.std.specs.Prelude.{length, position};
+ghost use Rattle.mime_base.specs.Matching.Attempt.{refuses};
+ghost use Rattle.mime_base.specs.Matching.Elements.{HasNoEnd, IsSet, admits, elements, end_of_set, in_ranges, is_literal_text};
+ghost use Rattle.mime_base.specs.Matching.Elements.{is_negated, is_special, one_byte, ranges, width_after};
 ghost use Rattle.mime_base.specs.Matching.Folding.{compared, compared_byte};
 
 use crate::matching::folding::as_compared;
@@ -173,5 +175,28 @@ fn first_range<'a>(members: &'a [u8]) -> Option<Range<'a>>
 pub fn is_literal_text(text: &[u8]) -> bool
     ensures { result ≡ is_literal_text text.now }
 {
-    text.iter().all(|byte| !(*byte == b'*' || *byte == b'?' || *byte == b'[' || *byte == b'\\'))
+    text.iter().all(|byte| !is_special(*byte))
+}
+
+/// Whether a byte may stand for more than itself.
+#[inline]
+fn is_special(byte: u8) -> bool
+    ensures { result ≡ is_special byte }
+{
+    byte == b'*' || byte == b'?' || byte == b'[' || byte == b'\\'
+}
+
+/// Whether a pattern begins with a byte that stands for itself, and a name with another.
+pub fn begins_otherwise(pattern: &[u8], cased: bool, name: &[u8]) -> bool
+    ensures refused { IsTrue result
+        → refuses (elements (compared cased pattern.now)) (compared cased name.now) ≡ true }
+    ensures some { IsTrue result → 0 < length pattern.now }
+{
+    let Some((first, _after)) = pattern.split_first() else {
+        return false;
+    };
+    let Some((byte, _rest)) = name.split_first() else {
+        return false;
+    };
+    !is_special(*first) && as_compared(cased, *first) != as_compared(cased, *byte)
 }

@@ -3,8 +3,9 @@
 //! That a pattern is tried without regard to case is the public specification's ("Recommended
 //! checking order"); that only A to Z are folded, byte by byte, is this project's own.
 
-ghost use Rattle.std.specs.Prelude.{◌≡◌, IfOk, map};
-ghost use Rattle.mime_base.specs.Matching.Folding.{compared_byte, folded};
+ghost use Rattle.std.specs.Prelude.{◌≡◌, ◌≤◌, IfOk, length, map};
+ghost use Rattle.std.specs.List.{common_prefix_len};
+ghost use Rattle.mime_base.specs.Matching.Folding.{agrees, compared_byte, folded};
 
 use crate::memory::OutOfMemory;
 use std::alloc::Global;
@@ -38,4 +39,19 @@ pub fn as_compared(cased: bool, byte: u8) -> u8
     ensures { result ≡ compared_byte cased byte }
 {
     if cased { byte } else { fold_byte(byte) }
+}
+
+/// How many bytes from the front of two texts are compared as equal.
+#[inline]
+pub fn common_compared(cased: bool, left: &[u8], right: &[u8]) -> usize
+    requires { length left.now ≡ length right.now }
+    ensures common { result ≡ common_prefix_len (λ x y. agrees cased (x, y)) left.now right.now }
+    ensures within { result ≤ length left.now }
+{
+    for i in 0..left.len() {
+        if as_compared(cased, left[i]) != as_compared(cased, right[i]) {
+            return i;
+        }
+    }
+    left.len()
 }

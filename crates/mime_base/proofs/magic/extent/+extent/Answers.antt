@@ -14,7 +14,8 @@ lines_extent-loop-line-preserved t c =
 
 pub lines_extent-returns : goal.lines_extent-returns
 lines_extent-returns t c =
-    let none = ap (λ ms. forest_extent (forest_of (plain_matchlets ms))) (drop_all c.loop-line.line-index c.args.lines.now c.loop-line-test.false) in
+    let none = ap (λ ms. forest_extent (forest_of (plain_matchlets ms)))
+    (drop_all c.loop-line.line-index c.args.lines.now c.loop-line-test.false) in
     omega (arith, none, c.loop-line.invariant)
 
 pub line_extent-returns : goal.line_extent-returns

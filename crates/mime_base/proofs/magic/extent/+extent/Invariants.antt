@@ -5,4 +5,5 @@ use Rattle.mime_base.proofs.magic.extent.+extent.Given as goal
 
 abbrev pub invariant-lines_extent-loop-line : goal.invariant-lines_extent-loop-line
 invariant-lines_extent-loop-line l =
-    max l.greatest (forest_extent (forest_of (plain_matchlets (drop l.line-index l.lines)))) ≡ forest_extent (forest_of (plain_matchlets l.lines))
+    max l.greatest (forest_extent (forest_of (plain_matchlets (drop l.line-index l.lines))))
+    ≡ forest_extent (forest_of (plain_matchlets l.lines))

@@ -7,7 +7,8 @@ use Rattle.mime_base.proofs.magic.extent.sections_extent.Goals as goal
 
 pub loop-section-preserved : goal.loop-section-preserved
 loop-section-preserved c =
-    let next = sections_extent-from c.args.sections.now c.loop-section.section-index c.section-item.result c.loop-section-test.true c.section-item.is in
+    let next = sections_extent-from c.args.sections.now c.loop-section.section-index c.section-item.result c.loop-section-test.true
+    c.section-item.is in
     omega (
       arith,
       next,
@@ -19,5 +20,6 @@ loop-section-preserved c =
 
 pub returns : goal.returns
 returns c =
-    let none = ap (λ ss. sections_extent (plain_sections ss)) (drop_all c.loop-section.section-index c.args.sections.now c.loop-section-test.false) in
+    let none = ap (λ ss. sections_extent (plain_sections ss))
+    (drop_all c.loop-section.section-index c.args.sections.now c.loop-section-test.false) in
     omega (arith, none, c.loop-section.invariant)

@@ -12,8 +12,11 @@ returns-clause-equal c =
     let range : ℕ = m.range in
     rw (plain_matchlet-out c.args.line.now)
     (c.value_in_range.ensures.equal
-    ∙ ap (λ (value : List ℕ). equals_from (line_from start range m.word value (Some c.bits_of.result.now)) c.args.host c.args.content.now start range)
+    ∙ ap
+    (λ (value : List ℕ).
+    equals_from (line_from start range m.word value (Some c.bits_of.result.now)) c.args.host c.args.content.now start range)
     c.deref.ensures.value
-    ∙ ap (λ (mask : List ℕ). equals_from (line_from start range m.word m.value.items (Some mask)) c.args.host c.args.content.now start range)
+    ∙ ap
+    (λ (mask : List ℕ). equals_from (line_from start range m.word m.value.items (Some mask)) c.args.host c.args.content.now start range)
     c.bits_of.ensures
     ∙ equals_from-mask start range m.word m.value.items (mask_bytes m.mask) c.args.host c.args.content.now start range)

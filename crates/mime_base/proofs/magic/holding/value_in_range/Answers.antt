@@ -18,7 +18,8 @@ returns-then-value_is-clause-equal c =
     let left = c.args.start + c.args.range - c.loop-at.at in
     let equal : window_equals c.args.value.now c.args.mask.now c.args.word c.args.host
     (take (length c.args.value.now) (drop c.loop-at.at c.args.content.now)) ≡ true =
-    ap (λ (n : ℕ). window_equals c.args.value.now c.args.mask.now c.args.word c.args.host (take n (drop c.loop-at.at c.args.content.now))) (sym size)
+    ap (λ (n : ℕ). window_equals c.args.value.now c.args.mask.now c.args.word c.args.host (take n (drop c.loop-at.at c.args.content.now)))
+    (sym size)
     ∙ sym c.value_is.ensures.equal ∙ c.if-value_is.true in
     sym (c.loop-at.invariant.left
     ∙ equals_from-found (line_from c.args.start c.args.range c.args.word c.args.value.now (Some c.args.mask.now))
@@ -30,7 +31,8 @@ loop-at-preserved c =
     let left = c.args.start + c.args.range - c.loop-at.at in
     let differs : window_equals c.args.value.now c.args.mask.now c.args.word c.args.host
     (take (length c.args.value.now) (drop c.loop-at.at c.args.content.now)) ≡ false =
-    ap (λ (n : ℕ). window_equals c.args.value.now c.args.mask.now c.args.word c.args.host (take n (drop c.loop-at.at c.args.content.now))) (sym size)
+    ap (λ (n : ℕ). window_equals c.args.value.now c.args.mask.now c.args.word c.args.host (take n (drop c.loop-at.at c.args.content.now)))
+    (sym size)
     ∙ sym c.value_is.ensures.equal ∙ c.if-value_is.false in
     record {
       left =

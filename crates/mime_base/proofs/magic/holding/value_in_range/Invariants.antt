@@ -7,7 +7,8 @@ abbrev pub invariant-loop-at : goal.invariant-loop-at
 invariant-loop-at l = record {
   left :
       equals_from (line_from l.fn.start l.fn.range l.fn.word l.value (Some l.mask)) l.fn.host l.content l.fn.start l.fn.range
-      ≡ equals_from (line_from l.fn.start l.fn.range l.fn.word l.value (Some l.mask)) l.fn.host l.content l.at (l.fn.start + l.fn.range - l.at);
+      ≡ equals_from (line_from l.fn.start l.fn.range l.fn.word l.value (Some l.mask)) l.fn.host l.content l.at
+      (l.fn.start + l.fn.range - l.at);
   nodes : l.meter.nodes ≡ l.initial.meter.nodes;
   rises : l.initial.meter.bytes ≤ l.meter.bytes;
 }

@@ -4,7 +4,7 @@ use Rattle.mime_base.specs.Matching.Elements.{any_bytes, elements, singles, HasN
 use Rattle.mime_base.specs.Matching.Folding.{compared}
 use Rattle.mime_base.specs.Matching.Matches.{matches, rule_matches}
 use Rattle.mime_base.specs.Meter.{raised}
-use Rattle.mime_base.proofs.matching.search.Given as goal
+use Rattle.mime_base.proofs.matching.search_by_stars.Given as goal
 
 abbrev pub invariant-loop-size : goal.invariant-loop-size
 invariant-loop-size l = record {
