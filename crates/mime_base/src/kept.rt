@@ -8,7 +8,8 @@
 
 pub mod class;
 
-ghost use Rattle.std.specs.Prelude.{◌≡◌, ℕ, List, [], ◌∷◌, ◌++◌, map, OnOk, OnErr, All};
+ghost use Rattle.std.specs.Prelude.{◌≡◌, ℕ, ◌+◌, ◌≤◌, nat_le, List, [], ◌∷◌, ◌++◌, length, map, OnOk, OnErr, All};
+ghost use Rattle.std.specs.List.{list_all};
 ghost use Rattle.mime_base.specs.Kept.{best, rank, rank_of_rule, FitsRank, GreatestRankIsPreferred};
 
 use crate::database::rule::GlobRule;
@@ -87,11 +88,20 @@ impl<T: Drop> Best<T> {
         }
     }
 
+    /// Whether an item of this rank would be kept: unless something kept has a greater rank. Where
+    /// nothing is kept, any would.
+    pub fn wants(&self, rank: u32) -> bool
+        ensures { result ≡ list_all (λ offer. nat_le offer.0 rank) self.now }
+    {
+        self.rank <= rank
+    }
+
     /// Keeps the item unless something kept has a greater rank, and drops what has a lesser one.
     pub fn offer(&mut self, rank: u32, item: T) -> Result<(), OutOfMemory>
         ensures kept { (offers : List (ℕ × T)) → self.old ≡ best offers →
             OnOk result (self.new ≡ best (offers ++ (rank, item) ∷ [])) }
         ensures unchanged { OnErr result (self.new ≡ self.old) }
+        ensures one_more { length self.new ≤ length self.old + 1 }
     {
         if rank < self.rank {
             return Ok(());

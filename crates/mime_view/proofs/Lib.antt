@@ -15,3 +15,5 @@ mod LineValues
 mod SectionRows
 mod MagicLists
 mod Spelled
+mod Charges
+mod OffersLemmas

@@ -2,7 +2,7 @@
 
 ghost use Rattle.mime_view.specs.Faults.{cache_fault};
 
-use mime_base::ByteFault;
+use mime_base::{ByteFault, OutOfMemory};
 use std::alloc::{AllocError, AllocFailed};
 use thiserror::Error;
 
@@ -47,6 +47,17 @@ impl From<ByteFault> for CacheFault {
             ByteFault::OutOfRange(at) => CacheFault::OutOfRange(at),
             ByteFault::LongText(at) => CacheFault::LongText(at),
         }
+    }
+}
+
+impl From<OutOfMemory> for CacheFault {
+    ghost use Rattle.std.specs.Prelude.{◌≡◌};
+    ghost use Rattle.mime_view.specs.declared.fault.CacheFault.TheVariants.{OutOfMemory};
+
+    ghost from_gives = { λ _ e. e ≡ OutOfMemory };
+
+    fn from(_error: OutOfMemory) -> CacheFault {
+        CacheFault::OutOfMemory
     }
 }
 

@@ -44,14 +44,27 @@ impl Case {
             × (budget.old.records + 1 ≤ visits self)) }
         ensures at_fault { OnErr result (Charged 0 0 budget.old budget.new meter.old meter.new) }
         ensures value_bytes { budget.new.value_bytes ≡ budget.old.value_bytes }
+        ensures rises { meter.old.nodes ≤ meter.new.nodes }
         ensures bytes { meter.new.bytes ≡ meter.old.bytes }
     {
         budget.take_record()?;
-        if let Case::Both = self {
-            meter.add_node();
+        let extra = self.extra_visits();
+        meter.nodes = meter.nodes.saturating_add(extra);
+        if extra == 1 {
             budget.take_record()?;
         }
         Ok(())
+    }
+
+    /// How many visits of the other search a visit stands for.
+    fn extra_visits(self) -> u64
+        ensures extra { result ≡ extra_visits self }
+        ensures limit { result ≤ 1 }
+    {
+        match self {
+            Case::Exact | Case::Folded => 0,
+            Case::Both => 1,
+        }
     }
 }
 

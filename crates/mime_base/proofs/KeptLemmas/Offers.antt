@@ -1,5 +1,8 @@
 -- What is kept of offers, each a rank and an item.
-use Rattle.std.proofs.Common.{◌≡◌, ℕ, ◌<◌, ◌==◌, true, List, [], ◌∷◌, ◌++◌, map, refl, sym, ap, ◌∙◌, arith, eqb-true}
+use Rattle.std.proofs.Common.{◌≡◌, ℕ, ◌<◌, ◌==◌, Bool, true, false, ◌&&◌, List, [], ◌∷◌, ◌++◌, map, refl, sym, ap, ◌∙◌, arith, eqb-true}
+use Rattle.std.specs.Prelude.{nat_le}
+use Rattle.std.specs.List.{list_all}
+use Rattle.std.proofs.Math.Dec.{leb-zero}
 use Rattle.std.proofs.lemmas.List.{map-append}
 use Rattle.std.proofs.lemmas.List.Elements.{filter_passes, All-head, All-same}
 use Rattle.mime_base.specs.Kept.{greatest, best}
@@ -42,6 +45,21 @@ module _ {X : Type 0} where
       offer-more more =
           let is = rank-top items refl in
           sym (push-more (λ offer. offer.0) offers (new, item) (omega arith))
+
+  -- items that share a rank are all wanted, or none is
+  wanted-all : (rank new : ℕ) (items : List X) → nat_le rank new ≡ true → list_all (λ offer. nat_le offer.0 new) (ranked rank items) ≡ true
+  wanted-all rank new [] is = refl
+  wanted-all rank new (item ∷ items) is = rw (is, wanted-all rank new items is) refl
+
+  pub wanted : (rank new : ℕ) (items : List X) → (items ≡ [] → rank ≡ 0)
+      → nat_le rank new ≡ list_all (λ offer. nat_le offer.0 new) (ranked rank items)
+  wanted rank new [] none = rw (none refl) (leb-zero new)
+  wanted rank new (item ∷ items) none = by_test (nat_le rank new) refl
+    where
+      by_test : (b : Bool) → nat_le rank new ≡ b
+          → nat_le rank new ≡ (nat_le rank new && list_all (λ offer. nat_le offer.0 new) (ranked rank items))
+      by_test true is = rw (is, wanted-all rank new items is) refl
+      by_test false is = rw is refl
 
   -- the items without their rank
   pub items-ranked : (rank : ℕ) (items : List X) → map (λ offer. offer.1) (ranked rank items) ≡ items
