@@ -17,3 +17,7 @@ mod MagicLists
 mod Spelled
 mod Charges
 mod OffersLemmas
+mod StoredRules
+mod GlobEntries
+mod GlobLists
+mod KindTexts
