@@ -21,3 +21,12 @@ mod StoredRules
 mod GlobEntries
 mod GlobLists
 mod KindTexts
+mod FilterSteps
+mod FilterCounts
+mod SameRanks
+mod PlainMatches
+mod PathFronts
+mod RulePlaces
+mod RankParts
+mod OnePlace
+mod WalkOrder
