@@ -30,3 +30,5 @@ mod RulePlaces
 mod RankParts
 mod OnePlace
 mod WalkOrder
+mod NearRules
+mod VisitCounts
