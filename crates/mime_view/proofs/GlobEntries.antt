@@ -1,7 +1,7 @@
 -- An entry of the glob list: what it states of its rule, what is kept of it, and what it costs.
-use Rattle.std.proofs.Common.{◌≡◌, ℕ, ◌+◌, ◌*◌, ◌<◌, ◌≤◌, ◌%◌, ◌/◌, ◌==◌, Bool, true, false, List, [], ◌∷◌, ◌++◌, length, get_or, Ok, refl, sym, ap, ◌∙◌, arith}
+use Rattle.std.proofs.Common.{◌≡◌, ℕ, ◌+◌, ◌*◌, ◌<◌, ◌≤◌, ◌%◌, ◌/◌, ◌==◌, Bool, true, false, List, [], ◌∷◌, length, get_or, Ok, refl, sym, ap, ◌∙◌, arith}
 use Rattle.std.proofs.Math.Nat.{mul-le-mul_left, mul-le-mul_right}
-use Rattle.mime_base.specs.Cache.Bytes.{field, fields}
+use Rattle.mime_base.specs.Cache.Bytes.{fields}
 use Rattle.mime_base.specs.Cache.Texts.{text_at}
 use Rattle.mime_base.specs.Format.Stored.{stored_text}
 use Rattle.mime_base.specs.Kept.{FitsRank, class_of, hits, rank, rank_of_rule}
@@ -12,7 +12,7 @@ use Rattle.mime_base.specs.declared.kept.class.Class.{Class}
 use Rattle.mime_base.specs.declared.meter.Meter.{Meter}
 use Rattle.mime_base.proofs.CacheLemmas.TextsStand.{text_at-read}
 use Rattle.mime_view.specs.Globs.{ReadsGlob}
-use Rattle.mime_view.specs.Hits.{AreKept, Charged, Offers}
+use Rattle.mime_view.specs.Hits.{Charged, Offers}
 use Rattle.mime_view.specs.declared.budget.Budget.{Budget}
 use Rattle.mime_view.proofs.OffersLemmas.{offers_none}
 use Rattle.mime_view.proofs.StoredRules.{rank-stored, cased-stored, rule_matches-stored}

@@ -1,6 +1,6 @@
-use Rattle.std.proofs.Common.{◌≡◌, ◌∙◌, ℕ, List, length, map, ap, arith, rules, subst, sym}
+use Rattle.std.proofs.Common.{◌≡◌, ◌∙◌, ℕ, List, length, map, ap, arith, rules}
 use Rattle.std.proofs.lemmas.List.{take_all}
-use Rattle.mime_view.proofs.KindTexts.{AreTexts, AreTexts-all, AreTexts-kinds, AreTexts-pushed, kind_stands}
+use Rattle.mime_view.proofs.KindTexts.{AreTexts-all, AreTexts-kinds, AreTexts-pushed, kind_stands}
 use Rattle.mime_view.proofs.kinds.read_kinds.Goals as goal
 
 pub loop-kind-preserved : goal.loop-kind-preserved
