@@ -32,3 +32,6 @@ mod OnePlace
 mod WalkOrder
 mod NearRules
 mod VisitCounts
+mod LiteralEntries
+mod LiteralRuns
+mod LiteralPlaces

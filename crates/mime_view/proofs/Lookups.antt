@@ -28,7 +28,7 @@ place_of-at (text ∷ keys) key (suc r) l others e =
     rw (others 0 (omega arith), place_of-at keys key r (omega arith) (λ i m. others (suc i) (omega arith)) e) refl
 
 -- a lesser text is another
-less_differs : (a b : List ℕ) → is_less a b ≡ true → bytes_eq a b ≡ false
+pub less_differs : (a b : List ℕ) → is_less a b ≡ true → bytes_eq a b ≡ false
 less_differs a b less = sym (is_eq-slice_cmp a b) ∙ by_order (slice_cmp nat_cmp a b) less
   where
     by_order : (o : Ordering) → is_lt o ≡ true → is_eq o ≡ false
@@ -37,7 +37,7 @@ less_differs a b less = sym (is_eq-slice_cmp a b) ∙ by_order (slice_cmp nat_cm
     by_order Greater less = refl
 
 -- of a text that is not less, a key that is not less is the same
-neither_less : (a b : List ℕ) → is_less a b ≡ false → is_less b a ≡ false → bytes_eq a b ≡ true
+pub neither_less : (a b : List ℕ) → is_less a b ≡ false → is_less b a ≡ false → bytes_eq a b ≡ true
 neither_less a b forth back =
     sym (is_eq-slice_cmp a b) ∙ by_order (slice_cmp nat_cmp a b) (slice_cmp nat_cmp b a) (nat_list_cmp_total.antisymm a b) forth back
   where
@@ -47,7 +47,7 @@ neither_less a b forth back =
     by_order o Greater reversed forth back = absurd (true≢false (sym (ap is_lt reversed) ∙ forth))
 
 -- a key that is a text is less than just what the text is less than
-same_less : (a b z : List ℕ) → bytes_eq a b ≡ true → is_less a z ≡ is_less b z
+pub same_less : (a b z : List ℕ) → bytes_eq a b ≡ true → is_less a z ≡ is_less b z
 same_less a b z same = ap is_lt (nat_list_cmp_total.congr a b z (equal (slice_cmp nat_cmp a b) (is_eq-slice_cmp a b ∙ same)))
   where
     equal : (o : Ordering) → is_eq o ≡ true → o ≡ Equal

@@ -6,3 +6,4 @@ pub mod Pairs
 pub mod Parents
 pub mod Magic
 pub mod Globs
+pub mod Literals

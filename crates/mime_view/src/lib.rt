@@ -24,6 +24,7 @@ mod globs;
 mod hits;
 mod kinds;
 mod list;
+mod literals;
 mod magic;
 mod marks;
 mod pairs;
