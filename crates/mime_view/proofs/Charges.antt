@@ -67,7 +67,8 @@ charged_wider each wide more later old new before after wider longer is =
 -- a visit: the records of a case, one node besides, and at most so many bytes
 pub charged_visit : (each : ℕ) (case : Case) (old new : Budget) (before after : Meter) → new.records + visits case ≡ old.records
     → new.value_bytes ≡ old.value_bytes → before.nodes ≤ after.nodes
-    → after.nodes ≡ raised (raised before.nodes (extra_visits case)) 1 → before.bytes ≤ after.bytes → after.bytes ≤ before.bytes + each → Charged each 0 old new before after
+    → after.nodes ≡ raised (raised before.nodes (extra_visits case)) 1 → before.bytes ≤ after.bytes
+    → after.bytes ≤ before.bytes + each → Charged each 0 old new before after
 charged_visit each case old new before after taken value_bytes rises nodes bytes_rise bytes =
     let m : each * (new.records + 1) ≤ each * old.records = mul-le-mul_left each (omega arith) in
     record {

@@ -1,17 +1,17 @@
 -- Entries of a literal list that stands in a cache, and those of them that a search for a text visits.
-use Rattle.std.proofs.Common.{◌≡◌, ℕ, zero, suc, ◌+◌, ◌*◌, ◌<◌, ◌≤◌, Bool, true, false, true≢false, List, [], ◌∷◌, length, get_or, map}
-use Rattle.std.proofs.Common.{drop, refl, sym, ap, ap₂, subst, ◌∙◌, arith}
+use Rattle.std.proofs.Common.{◌≡◌, ℕ, zero, suc, ◌+◌, ◌*◌, ◌<◌, ◌≤◌, true, false, true≢false, List, [], ◌∷◌, length, get_or, map}
+use Rattle.std.proofs.Common.{drop, refl, sym, ap, ap₂, ◌∙◌, arith}
 use Rattle.std.specs.Prelude.{IsPermutation, bytes_eq}
 use Rattle.std.specs.List.{All}
 use Rattle.std.proofs.lemmas.Bool.{false_from_ne_true}
 use Rattle.std.proofs.lemmas.List.{get_or-map, length-map}
-use Rattle.std.proofs.lemmas.List.Elements.{All-drop, All-filter, filter_passes}
+use Rattle.std.proofs.lemmas.List.Elements.{All-filter, filter_passes}
 use Rattle.std.proofs.lemmas.List.Sorted.{All-permutation, sorted_far}
 use Rattle.std.proofs.lemmas.Slice.Eq.{bytes_eq-Decides}
 use Rattle.mime_base.specs.Cache.Bytes.{Stands, field}
 use Rattle.mime_base.specs.Cache.Texts.{text_at}
 use Rattle.mime_base.specs.Format.Records.{RecordsAt}
-use Rattle.mime_base.specs.Format.Rules.{IsRule, LiteralsAt}
+use Rattle.mime_base.specs.Format.Rules.{IsRule}
 use Rattle.mime_base.specs.Format.Sorted.{text_lt}
 use Rattle.mime_base.specs.Format.Stored.{is_in_literals, is_literal_class, literal_rules, stored_text, weight_and_flags}
 use Rattle.mime_base.specs.Kept.{FitsRank, class_of}
@@ -21,7 +21,7 @@ use Rattle.mime_base.specs.declared.kept.class.Class.{Class}
 use Rattle.mime_base.specs.declared.kept.class.Class.TheVariants.{Full, Literal, Suffix}
 use Rattle.std.specs.List.Sorted.{IsSortedBy}
 use Rattle.mime_view.specs.Lists.{AreSorted, KeysAt, SplitsAt, is_less}
-use Rattle.mime_view.specs.Literals.{AreRun, IsLiteral, ReadsRule, ReadsRules, of_text}
+use Rattle.mime_view.specs.Literals.{AreRun, IsLiteral, ReadsRules, of_text}
 use Rattle.mime_view.proofs.Lookups.{less_differs, neither_less, same_less}
 use Rattle.mime_view.proofs.Places.{text_order}
 use Rattle.mime_view.proofs.Records.{first_read, numbers_read, second_read, text_read}
@@ -37,7 +37,8 @@ length-pattern rule key same =
     sym (length-map rule.pattern (compared_byte rule.cased)) ∙ ap length is
 
 -- rules in records are read by what their numbers name
-pub rules_read : (c : List ℕ) (at : ℕ) (rules : List GlobRule) → RecordsAt (Stands c) 12 (IsRule (Stands c)) at rules → ReadsRules c at rules
+pub rules_read : (c : List ℕ) (at : ℕ) (rules : List GlobRule) → RecordsAt (Stands c) 12 (IsRule (Stands c)) at rules
+    → ReadsRules c at rules
 rules_read c at [] stand = stand
 rules_read c at (rule ∷ rules) (numbers, here, (text, kind, are, stored, type), rest) =
     let here = rw are at here in
@@ -61,7 +62,8 @@ texts_read c at [] reads = reads
 texts_read c at (rule ∷ rules) reads = (reads.0.text, texts_read c (at + 12) rules reads.1)
 
 -- rules from a place on
-pub rules_from : (c : List ℕ) (at place : ℕ) (rules : List GlobRule) → ReadsRules c at rules → ReadsRules c (at + 12 * place) (drop place rules)
+pub rules_from : (c : List ℕ) (at place : ℕ) (rules : List GlobRule) → ReadsRules c at rules
+    → ReadsRules c (at + 12 * place) (drop place rules)
 rules_from c at zero rules reads = let e : at + 12 * 0 ≡ at = omega arith in rw e reads
 rules_from c at (suc place) [] reads = reads
 rules_from c at (suc place) (rule ∷ rules) reads =
@@ -85,7 +87,8 @@ literal_class Suffix is = absurd (true≢false (sym is))
 literal_class Full is = absurd (true≢false (sym is))
 
 -- the entries of the literal list are literal rules
-pub literal_each : (rules entries : List GlobRule) → IsPermutation (literal_rules rules) entries → All FitsRank rules → All IsLiteral entries
+pub literal_each : (rules entries : List GlobRule) → IsPermutation (literal_rules rules) entries → All FitsRank rules
+    → All IsLiteral entries
 literal_each rules entries permuted fits =
     let passes = filter_passes is_in_literals rules in
     let fit = All-filter is_in_literals FitsRank rules fits in

@@ -33,7 +33,8 @@ pub record Placed (c : List ℕ) (at : ℕ) (rules : List GlobRule) (key : List 
   pub visits : run_visits key rest ≤ literal_visits key rules
   pub literal : All FitsRank rules → All IsLiteral rest
 
-module _ (c : List ℕ) (at : ℕ) (rules : List GlobRule) (stand : LiteralsAt (Stands c) at rules) (count : ℕ) (is : count ≡ field c at 0) where
+module _ (c : List ℕ) (at : ℕ) (rules : List GlobRule) (stand : LiteralsAt (Stands c) at rules) (count : ℕ)
+    (is : count ≡ field c at 0) where
   pub searched : Searched c at count stand.entries
   searched =
       let n : count ≡ length stand.entries = is ∙ count_read c 12 (IsRule (Stands c)) at stand.entries stand.stand in

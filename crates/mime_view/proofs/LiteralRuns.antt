@@ -1,5 +1,5 @@
 -- A run of entries of the literal list, visited one after another.
-use Rattle.std.proofs.Common.{◌≡◌, ℕ, suc, ◌+◌, ◌*◌, ◌<◌, ◌≤◌, true, false, List, [], ◌∷◌, ◌++◌, length, length-append, min, filter}
+use Rattle.std.proofs.Common.{◌≡◌, ℕ, suc, ◌+◌, ◌*◌, ◌<◌, ◌≤◌, true, false, List, [], ◌∷◌, ◌++◌, length, length-append, filter}
 use Rattle.std.proofs.Common.{refl, sym, ap, subst, ◌∙◌, arith, append_assoc}
 use Rattle.std.specs.Prelude.{bytes_eq}
 use Rattle.std.specs.List.{All}
@@ -77,11 +77,12 @@ module _ (c : List ℕ) (first start count : ℕ) (case : Case) (key : List ℕ)
   next_of : i < count → (left : List GlobRule) → is.left ≡ left → Next c first start count case key rules old r0 i now r
   next_of within [] e = let n = is.size in let none = ap length e in absurd (omega arith)
   next_of within (rule ∷ rest) e =
-      let visit = visits case in
       let n = length is.done in
       let left : length is.left ≡ suc (length rest) = ap length e in
-      let some : length (of_text key rules) ≡ n + length (of_text key is.left) = ap length is.all ∙ length-append is.done (of_text key is.left) in
-      let m : visits case * (length is.done + 1) ≤ visits case * run_visits key rules = mul-le-mul_left (visits case) (omega (arith, is.room)) in
+      let some : length (of_text key rules) ≡ n + length (of_text key is.left) =
+      ap length is.all ∙ length-append is.done (of_text key is.left) in
+      let m : visits case * (length is.done + 1) ≤ visits case * run_visits key rules =
+      mul-le-mul_left (visits case) (omega (arith, is.room)) in
       let reads = subst (ReadsRules c (first + 12 * i)) e is.reads in
       let run = subst (AreRun key) e is.run in
       let all = is.all ∙ ap (λ more. is.done ++ of_text key more) e ∙ ap (λ more. is.done ++ more) (of_text-cons key rule rest)
@@ -93,7 +94,8 @@ module _ (c : List ℕ) (first start count : ℕ) (case : Case) (key : List ℕ)
         records = omega (arith, is.records);
         later = λ now' r' same offers spends.
             let one : length (of_text key (rule ∷ [])) ≡ 1 = rw same refl in
-            let more : length (is.done ++ of_text key (rule ∷ [])) ≡ length is.done + 1 = length-append is.done _ ∙ ap (λ k. length is.done + k) one in
+            let more : length (is.done ++ of_text key (rule ∷ [])) ≡ length is.done + 1 =
+            length-append is.done _ ∙ ap (λ k. length is.done + k) one in
             record {
               done = is.done ++ of_text key (rule ∷ []);
               left = rest;
@@ -120,14 +122,3 @@ module _ (c : List ℕ) (first start count : ℕ) (case : Case) (key : List ℕ)
 
   pub next : i < count → Next c first start count case key rules old r0 i now r
   next within = next_of within is.left refl
-
-  -- nothing is left of a run
-  pub none_left : count ≤ i → All IsLiteral rules → Offers c (taken case key rules) old now
-  none_left past ok =
-      let empty : is.left ≡ [] = no_more is.left (omega (arith, is.size)) in
-      let whole : of_text key rules ≡ is.done = is.all ∙ ap (λ more. is.done ++ of_text key more) empty ∙ append-nil is.done in
-      subst (λ (xs : List GlobRule). Offers c xs old now) (ap (admitted case) (sym whole)) (is.offers ok)
-    where
-      no_more : (xs : List GlobRule) → length xs ≤ 0 → xs ≡ []
-      no_more [] l = refl
-      no_more (x ∷ xs) l = absurd (omega arith)

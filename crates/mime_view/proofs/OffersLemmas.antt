@@ -60,7 +60,8 @@ abbrev top : List (ℕ × ℕ) → ℕ
 top offers = greatest (λ offer. offer.0) offers
 
 -- offers have the ranks of their rules
-top-offers : (c : List ℕ) (offers : List (ℕ × ℕ)) (rules : List GlobRule) → AreOffers c offers rules → top offers ≡ greatest rank_of_rule rules
+top-offers : (c : List ℕ) (offers : List (ℕ × ℕ)) (rules : List GlobRule) → AreOffers c offers rules
+    → top offers ≡ greatest rank_of_rule rules
 top-offers c [] [] are = refl
 top-offers c [] (rule ∷ rules) are = absurd are
 top-offers c (offer ∷ offers) [] are = absurd are

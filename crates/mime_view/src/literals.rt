@@ -1,7 +1,8 @@
 //! The literal list: the rules whose patterns have no special byte, sorted by their stored texts ("The
 //! mime.cache files").
 
-ghost use Rattle.std.specs.Prelude.{◌≡◌, ◌⊎◌, ℕ, ◌+◌, ◌*◌, ◌^◌, ◌<◌, ◌≤◌, List, [], ◌∷◌, length, filter, Ok, OnOk, IfOk, IfErr, All, bytes_eq};
+ghost use Rattle.std.specs.Prelude.{◌≡◌, ◌⊎◌, ℕ, ◌+◌, ◌*◌, ◌^◌, ◌<◌, ◌≤◌, List, [], ◌∷◌, length, filter};
+ghost use Rattle.std.specs.Prelude.{Ok, OnOk, IfOk, IfErr, All, bytes_eq};
 ghost use Rattle.mime_base.specs.Cache.Bytes.{Stands};
 ghost use Rattle.mime_base.specs.Cache.Texts.{text_at};
 ghost use Rattle.mime_base.specs.Format.Rules.{LiteralsAt};

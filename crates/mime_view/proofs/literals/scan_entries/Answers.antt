@@ -1,4 +1,4 @@
-use Rattle.std.proofs.Common.{◌+◌, sym, ◌∙◌, arith}
+use Rattle.std.proofs.Common.{sym, ◌∙◌, arith}
 use Rattle.std.proofs.lemmas.Result.{err_from_is_err_and}
 use Rattle.mime_view.proofs.Charges.{charged_none, charged_then}
 use Rattle.mime_view.proofs.LiteralRuns.{begun, next}
@@ -33,7 +33,8 @@ loop-i-preserved c = record {
       let n = next c.args.counted.now c.args.first c.args.start c.args.count c.args.case c.args.key.now rules _ _ c.loop-i.i _ _
       (c.loop-i.invariant.left rules size reads run) c.loop-i-test.true in
       let same = c.in_ok-visit_entry.ensures.same n.rule n.reads in
-      n.later _ _ (sym same ∙ c.if-not-branch.false) (λ ok. c.in_ok-visit_entry.ensures.answer n.rule n.reads (n.literal ok)) c.visit_entry.ensures.takes_at_most;
+      n.later _ _ (sym same ∙ c.if-not-branch.false) (λ ok. c.in_ok-visit_entry.ensures.answer n.rule n.reads (n.literal ok))
+      c.visit_entry.ensures.takes_at_most;
   few = omega (arith, c.in_ok-visit_entry.ensures.few);
   cost = charged_then 256 0 0 _ _ _ _ _ _ c.loop-i.invariant.cost c.visit_entry.ensures.cost;
 }
