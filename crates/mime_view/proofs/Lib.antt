@@ -35,3 +35,9 @@ mod VisitCounts
 mod LiteralEntries
 mod LiteralRuns
 mod LiteralPlaces
+mod TreeBlocks
+mod TreeScans
+mod TreeRules
+mod TreeStands
+mod TreeWalks
+mod TreePaths

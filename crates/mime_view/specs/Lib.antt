@@ -7,3 +7,4 @@ pub mod Parents
 pub mod Magic
 pub mod Globs
 pub mod Literals
+pub mod SuffixTree

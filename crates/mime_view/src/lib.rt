@@ -30,6 +30,7 @@ mod marks;
 mod pairs;
 mod parents;
 mod search;
+mod suffixes;
 mod texts;
 
 pub use budget::Budget;

@@ -1,0 +1,18 @@
+use Rattle.std.proofs.Common.{◌-◌, ◌≡◌, ℕ, ◌+◌, ◌*◌, ◌^◌, ◌<◌, ◌≤◌}
+use Rattle.mime_base.specs.Cache.Bytes.{field}
+use Rattle.mime_view.proofs.suffixes.first_not_below.Given as goal
+
+abbrev pub invariant-loop-low : goal.invariant-loop-low
+invariant-loop-low l = record {
+  order : l.low ≤ l.high;
+  within : l.high ≤ l.block.count;
+  before : (i : ℕ) → i + 1 ≡ l.low → field l.counted (l.block.first + 12 * i) 0 < l.byte;
+  after : l.high < l.block.count → l.byte ≤ field l.counted (l.block.first + 12 * l.high) 0;
+  rises : l.initial.meter.nodes ≤ l.meter.nodes;
+  bytes : l.meter.bytes ≡ l.initial.meter.bytes;
+  probes :
+      (p : ℕ) × (p ≤ 26) × (2 ^ p * (l.high - l.low) ≤ l.block.count) × (l.meter.nodes ≤ l.initial.meter.nodes + p);
+}
+
+abbrev pub decreases-loop-low : goal.decreases-loop-low
+decreases-loop-low l = l.high - l.low

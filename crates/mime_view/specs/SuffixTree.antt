@@ -1,0 +1,83 @@
+-- The reverse suffix tree as it is read along a name, and why a walk gives no answer.
+use Rattle.std.specs.Prelude.{◌≡◌, ◌⊎◌, ℕ, ◌+◌, ◌*◌, ◌<◌, ◌≤◌, ◌==◌, if◌then◌else◌, List, length, filter, Ok, Option, None, Some}
+use Rattle.std.specs.List.{flat_map}
+use Rattle.mime_base.specs.Cache.Bytes.{field}
+use Rattle.mime_base.specs.Cache.Texts.{text_at}
+use Rattle.mime_base.specs.Format.Stored.{weight_and_flags}
+use Rattle.mime_base.specs.Format.SuffixTree.{fronts}
+use Rattle.mime_base.specs.Format.Tree.{InOrder, Tree, bare, leaf, leaves_at, node, width}
+use Rattle.mime_base.specs.Kept.{class_of}
+use Rattle.mime_base.specs.declared.database.rule.GlobRule.{GlobRule}
+use Rattle.mime_base.specs.declared.kept.class.Class.TheVariants.{Suffix}
+use Rattle.mime_view.specs.Hits.{admits}
+use Rattle.mime_view.specs.Magic.{IsBlockFault, LiesBlock}
+use Rattle.mime_view.specs.declared.fault.CacheFault.{CacheFault}
+use Rattle.mime_view.specs.declared.fault.CacheFault.TheVariants.{OutOfRange}
+use Rattle.mime_view.specs.declared.hits.Case.{Case}
+use Rattle.mime_view.specs.declared.suffixes.Block.{Block}
+
+-- the record at `at` is that of a leaf of this rule
+pub record ReadsLeaf (c : List ℕ) (at : ℕ) (rule : GlobRule) : Type 0 where
+  pub no_character : field c at 0 ≡ 0
+  pub kind : text_at c (field c at 1) ≡ Ok rule.kind
+  pub flags : field c at 2 ≡ weight_and_flags rule
+
+-- siblings are read one after another, and what is below each
+abbrev pub ReadsTree : List ℕ → ℕ → Tree → Type 0
+ReadsTree c at bare = Unit {0}
+ReadsTree c at (leaf rule rest) = ReadsLeaf c at rule × ReadsTree c (at + 12) rest
+ReadsTree c at (node character below rest) =
+    (field c at 0 ≡ character) × (field c at 1 ≡ width below) × LiesBlock c (field c at 2) 12 (width below)
+    × ReadsTree c (field c at 2) below × ReadsTree c (at + 12) rest
+
+-- a block is of these siblings, in the order of the format
+pub record ReadsBlock (c : List ℕ) (block : Block) (tree : Tree) : Type 0 where
+  pub size : width tree ≡ block.count
+  pub siblings : ReadsTree c block.first tree
+  pub ordered : InOrder 0 tree
+
+-- the place of the first sibling of a block whose character is not less
+pub record IsCharacterPlace (c : List ℕ) (block : Block) (character place : ℕ) : Type 0 where
+  pub within : place ≤ block.count
+  pub before : (i : ℕ) → i + 1 ≡ place → field c (block.first + 12 * i) 0 < character
+  pub after : place < block.count → character ≤ field c (block.first + 12 * place) 0
+
+-- what is below the sibling of a character; `bare` where there is none
+abbrev pub below_character : ℕ → Tree → Tree
+below_character b bare = bare
+below_character b (leaf rule rest) = below_character b rest
+below_character b (node character below rest) = if character == b then below else below_character b rest
+
+-- the block below a character, or none where there is none
+abbrev pub IsBelow : List ℕ → Tree → Option Block → Type 0
+IsBelow c tree None = tree ≡ bare
+IsBelow c tree (Some block) = ReadsBlock c block tree
+
+-- how many siblings a scan of the leaves visits: the leaves, and the node after them
+abbrev pub scan_visits : Tree → ℕ
+scan_visits bare = 0
+scan_visits (leaf rule rest) = 1 + scan_visits rest
+scan_visits (node character below rest) = 1
+
+-- those of some rules that a search takes
+abbrev pub admitted : Case → List GlobRule → List GlobRule
+admitted case rules = filter (λ rule. admits case rule.cased) rules
+
+-- the rules of the leaves at the ends of the non-empty fronts of a path, the shortest first
+abbrev pub leaves_along : List ℕ → Tree → List GlobRule
+leaves_along path tree = flat_map (λ front. leaves_at front tree) (fronts path)
+
+-- a rule of the class Suffix with so long a pattern and a weight of 8 bits
+pub record IsSuffixRule (long : ℕ) (rule : GlobRule) : Type 0 where
+  pub suffix : class_of rule.pattern ≡ Suffix
+  pub pattern_length : length rule.pattern ≡ long
+  pub light : rule.weight < 256
+
+-- the block that a record names does not lie in the cache
+abbrev pub IsChildFault : List ℕ → CacheFault → Type 0
+IsChildFault c e = (r : ℕ) × IsBlockFault c (field c r 2) 12 (field c r 1) e
+
+-- the tree at `at` gives no answer: its head, its roots, or the siblings below a character
+abbrev pub IsTreeFault : List ℕ → ℕ → CacheFault → Type 0
+IsTreeFault c at e =
+    ((length c < at + 8) × (e ≡ OutOfRange at)) ⊎ IsBlockFault c (field c at 1) 12 (field c at 0) e ⊎ IsChildFault c e
