@@ -41,3 +41,5 @@ mod TreeRules
 mod TreeStands
 mod TreeWalks
 mod TreePaths
+mod NameOffers
+mod NameLists

@@ -8,3 +8,4 @@ pub mod Magic
 pub mod Globs
 pub mod Literals
 pub mod SuffixTree
+pub mod NameHits

@@ -27,6 +27,7 @@ mod list;
 mod literals;
 mod magic;
 mod marks;
+mod name;
 mod pairs;
 mod parents;
 mod search;
