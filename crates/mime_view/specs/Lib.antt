@@ -5,5 +5,7 @@ pub mod Lists
 pub mod Pairs
 pub mod Parents
 pub mod Magic
+pub mod Globs
 pub mod Literals
 pub mod SuffixTree
+pub mod NameHits

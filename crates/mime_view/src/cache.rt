@@ -1,7 +1,7 @@
 //! A cache whose header was read ("The mime.cache files").
 
 ghost use Rattle.std.specs.Prelude.{◌≡◌, ◌⊎◌, true, false, ℕ, ◌+◌, ◌*◌, ◌<◌, ◌≤◌, List};
-ghost use Rattle.std.specs.Prelude.{Ok, length, option_map, IfErr, IfOk, IfSome, IsOkAnd, MatchOption, MatchResult, OnErr};
+ghost use Rattle.std.specs.Prelude.{All, Ok, length, map, option_map, IfErr, IfOk, IfSome, IsOkAnd, MatchOption, MatchResult, OnErr};
 ghost use Rattle.mime_base.specs.Cache.Bytes.{Stands, field};
 ghost use Rattle.mime_base.specs.Cache.Texts.{text_at};
 ghost use Rattle.mime_base.specs.Database.Subclass.{resolved};
@@ -9,14 +9,21 @@ ghost use Rattle.mime_base.specs.Format.Header.{HeaderAt, Offsets};
 ghost use Rattle.mime_base.specs.Format.Magic.{MagicAt};
 ghost use Rattle.mime_base.specs.Format.Pairs.{PairsAt};
 ghost use Rattle.mime_base.specs.Format.Parents.{ParentsAt};
+ghost use Rattle.mime_base.specs.Format.Rules.{GlobsAt, LiteralsAt};
+ghost use Rattle.mime_base.specs.Format.Stored.{glob_rules, literal_rules};
+ghost use Rattle.mime_base.specs.Format.SuffixTree.{SuffixTreeAt, tree_size};
+ghost use Rattle.mime_base.specs.Kept.{FitsRank, kept_rules};
 ghost use Rattle.mime_base.specs.Meter.{raised};
 ghost use Rattle.mime_base.specs.Format.Packed.{matchlet_count, value_length};
 ghost use Rattle.mime_base.specs.Magic.{PlainSection, are_allowed_sections};
 ghost use Rattle.mime_base.specs.Magic.Holds.{first_magic};
+ghost use Rattle.mime_base.specs.declared.database.rule.GlobRule.{GlobRule};
+ghost use Rattle.mime_view.specs.Hits.{Charged, near};
 ghost use Rattle.mime_view.specs.Magic.{IsMagicFault, Paid, Takes, plain_found};
 ghost use Rattle.std.specs.Prelude.{IsOk};
 ghost use Rattle.mime_base.specs.Magic.Extent.{sections_extent};
 ghost use Rattle.mime_view.specs.Lists.{IsListFault, IsTextFault};
+ghost use Rattle.mime_view.specs.NameHits.{IsHitsFault};
 ghost use Rattle.mime_view.specs.Pairs.{looked_up};
 ghost use Rattle.mime_view.specs.Parents.{IsGiven, IsParentsFault, IsRead, has_place, is_marked, unmarked_parents, with_place};
 ghost use Rattle.mime_view.specs.Opening.{IsOpenFault, Opens};
@@ -25,8 +32,10 @@ use crate::budget::Budget;
 use crate::fault::CacheFault;
 use crate::magic::sniff;
 use crate::marks::Marks;
+use crate::name::{RuleLists, glob_hits};
 use crate::pairs::look_up_pair;
 use crate::parents::{Parents, parents_of};
+use crate::texts::Texts;
 use mime_base::{Counted, Host, Meter};
 use std::alloc::Global;
 use std::marker::Model;
@@ -103,6 +112,57 @@ impl<'a> Cache<'a> {
         ensures { result ≡ length self.now }
     {
         self.counted.length()
+    }
+
+    /// The types of the glob rules that are kept for a name, in merged order, each as the cache has it: an
+    /// alias is not resolved ("Recommended checking order").
+    ///
+    /// The name has at most 4,096 bytes. Each entry or leaf that is scanned takes a record of the budget, two
+    /// where one search serves both cases.
+    ///
+    /// # Errors
+    ///
+    /// [`CacheFault::OutOfRange`] with the offset of a list of rules, of the tree or of a block of siblings
+    /// where not all of it lies in the cache; the fault of a text that is compared, matched or given;
+    /// [`CacheFault::Spent`] where no record is left; [`CacheFault::OutOfMemory`].
+    pub fn glob_hits(
+        &self,
+        alloc: Global,
+        name: &[u8],
+        meter: &mut Meter,
+        budget: &mut Budget,
+    ) -> Result<Texts<'a>, CacheFault>
+        requires short { length name.now ≤ 4096 }
+        ensures answer { (offsets : Offsets) (rules : List GlobRule) → All FitsRank rules →
+            HeaderAt (Stands self.now) offsets → LiteralsAt (Stands self.now) offsets.literals rules →
+            SuffixTreeAt (Stands self.now) offsets.tree rules → GlobsAt (Stands self.now) offsets.globs rules →
+            IfOk result (λ kinds. kinds ≡ map (λ rule. rule.kind) (kept_rules rules name.now)) }
+        ensures text { IfOk result (λ kinds. All (λ kind. (at : ℕ) × (text_at self.now at ≡ Ok kind)) kinds) }
+        ensures need { (offsets : Offsets) (rules : List GlobRule) → All FitsRank rules →
+            HeaderAt (Stands self.now) offsets → LiteralsAt (Stands self.now) offsets.literals rules →
+            SuffixTreeAt (Stands self.now) offsets.tree rules → GlobsAt (Stands self.now) offsets.globs rules →
+            (2 * length (literal_rules rules) + 2 * tree_size rules + length (glob_rules rules) ≤ budget.old.records)
+            ⊎ (2 * near name.now rules + 2 * length name.now + 2 ≤ budget.old.records) →
+            IfErr result (λ e. e ≡ CacheFault.OutOfMemory) }
+        ensures fault { IfErr result
+            (IsHitsFault self.now (field self.now 0 3) (field self.now 0 4) (field self.now 0 5) budget.new) }
+        ensures takes_within { (offsets : Offsets) (rules : List GlobRule) → HeaderAt (Stands self.now) offsets →
+            LiteralsAt (Stands self.now) offsets.literals rules → SuffixTreeAt (Stands self.now) offsets.tree rules →
+            GlobsAt (Stands self.now) offsets.globs rules → budget.old.records ≤ budget.new.records
+            + (2 * length (literal_rules rules) + 2 * tree_size rules + length (glob_rules rules)) }
+        ensures takes_near { (offsets : Offsets) (rules : List GlobRule) → HeaderAt (Stands self.now) offsets →
+            LiteralsAt (Stands self.now) offsets.literals rules → SuffixTreeAt (Stands self.now) offsets.tree rules →
+            GlobsAt (Stands self.now) offsets.globs rules →
+            budget.old.records ≤ budget.new.records + (2 * near name.now rules + 2 * length name.now + 2) }
+        ensures cost { Charged (256 * (length name.now + 3)) (29 * (2 * length name.now + 2) + 1)
+            budget.old budget.new meter.old meter.new }
+    {
+        let lists = RuleLists {
+            literals: self.header[3],
+            tree: self.header[4],
+            globs: self.header[5],
+        };
+        glob_hits(alloc, &self.counted, lists, name, meter, budget)
     }
 
     /// The type that an alias stands for, or the name itself where it is no alias ("Directory layout").

@@ -1,6 +1,6 @@
 //! What is kept of the hits that the lists of a cache offer.
 
-ghost use Rattle.std.specs.Prelude.{◌≡◌, false, ℕ, ◌+◌, ◌≤◌, List, [], ◌∷◌, ◌++◌, length, Ok, OnOk, OnErr, IfErr};
+ghost use Rattle.std.specs.Prelude.{◌≡◌, false, ℕ, ◌+◌, ◌≤◌, List, [], ◌∷◌, ◌++◌, length, map, Ok, OnOk, OnErr, IfErr};
 ghost use Rattle.mime_base.specs.Cache.Texts.{text_at};
 ghost use Rattle.mime_base.specs.Kept.{rank_of_rule};
 ghost use Rattle.mime_base.specs.Meter.{raised};
@@ -109,5 +109,13 @@ impl Hits {
     {
         self.best.offer(rank, kind)?;
         Ok(())
+    }
+
+    /// The offsets of the types of the hits, in their order.
+    pub fn into_kinds(self) -> Vec<u32>
+        ensures { result.items ≡ map (λ hit. hit.1) self }
+    {
+        let Hits { best } = self;
+        best.into_items()
     }
 }

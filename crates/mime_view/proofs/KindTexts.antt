@@ -1,0 +1,66 @@
+-- The texts at offsets of types, and the types of the rules that were offered with them.
+use Rattle.std.proofs.Common.{◌≡◌, ℕ, zero, suc, ◌+◌, ◌<◌, List, [], ◌∷◌, ◌++◌, length, get_or, take, map, Ok, refl, sym, ap, ap₂, ◌∙◌, arith}
+use Rattle.std.specs.Borrow.{Bor}
+use Rattle.std.specs.List.{All}
+use Rattle.std.proofs.lemmas.List.{map-append}
+use Rattle.std.proofs.Math.Numerals.{suc-eq-add-one}
+use Rattle.std.proofs.Math.Seq.{take-suc}
+use Rattle.mime_base.specs.Cache.Texts.{text_at}
+use Rattle.mime_base.specs.declared.database.rule.GlobRule.{GlobRule}
+use Rattle.mime_view.specs.Hits.{AreOffers}
+
+-- these texts stand at these offsets
+abbrev pub AreTexts : List ℕ → List ℕ → List (List ℕ) → Type 0
+AreTexts c [] [] = Unit {0}
+AreTexts c [] (text ∷ texts) = ⊥
+AreTexts c (place ∷ places) [] = ⊥
+AreTexts c (place ∷ places) (text ∷ texts) = (text_at c place ≡ Ok text) × AreTexts c places texts
+
+AreTexts-more : (c places : List ℕ) (texts : List (List ℕ)) (place : ℕ) (text : List ℕ) → AreTexts c places texts
+    → text_at c place ≡ Ok text → AreTexts c (places ++ place ∷ []) (texts ++ text ∷ [])
+AreTexts-more c [] [] place text are here = (here, tt)
+AreTexts-more c [] (other ∷ texts) place text are here = absurd are
+AreTexts-more c (other ∷ places) [] place text are here = absurd are
+AreTexts-more c (first ∷ places) (other ∷ texts) place text are here = (are.0, AreTexts-more c places texts place text are.1 here)
+
+-- one offset more, and the text that was read there
+pub AreTexts-pushed : (c places : List ℕ) (i place : ℕ) (before after : List (Bor (List ℕ))) (text : Bor (List ℕ)) → i < length places
+    → place ≡ get_or places i 0 → after ≡ before ++ text ∷ [] → AreTexts c (take i places) (map (λ text. text.now) before)
+    → text_at c place ≡ Ok text.now → AreTexts c (take (i + 1) places) (map (λ text. text.now) after)
+AreTexts-pushed c places i place before after text l is pushed are here =
+    let view : Bor (List ℕ) → List ℕ = λ text. text.now in
+    let more : take (i + 1) places ≡ take i places ++ place ∷ [] =
+    ap (λ (n : ℕ). take n places) (sym (suc-eq-add-one i)) ∙ take-suc places i 0 l ∙ ap (λ (p : ℕ). take i places ++ p ∷ []) (sym is) in
+    let all : map view after ≡ map view before ++ text.now ∷ [] = ap (map view) pushed ∙ map-append view before (text ∷ []) in
+    rw (more, all) (AreTexts-more c (take i places) (map view before) place text.now are here)
+
+-- each is a text of the cache
+pub AreTexts-all : (c places : List ℕ) (texts : List (List ℕ)) → AreTexts c places texts
+    → All (λ text. (at : ℕ) × (text_at c at ≡ Ok text)) texts
+AreTexts-all c places [] are k d l = absurd (omega arith)
+AreTexts-all c [] (text ∷ texts) are k d l = absurd are
+AreTexts-all c (place ∷ places) (text ∷ texts) are zero d l = (place, are.0)
+AreTexts-all c (place ∷ places) (text ∷ texts) are (suc k) d l = AreTexts-all c places texts are.1 k d (omega arith)
+
+abbrev kinds_at : List (ℕ × ℕ) → List ℕ
+kinds_at hits = map (λ hit. hit.1) hits
+
+-- they are the types of the rules that were offered
+pub AreTexts-kinds : (c : List ℕ) (hits : List (ℕ × ℕ)) (rules : List GlobRule) (texts : List (List ℕ)) → AreOffers c hits rules
+    → AreTexts c (kinds_at hits) texts → texts ≡ map (λ rule. rule.kind) rules
+AreTexts-kinds c [] [] [] offers are = refl
+AreTexts-kinds c [] [] (text ∷ texts) offers are = absurd are
+AreTexts-kinds c [] (rule ∷ rules) texts offers are = absurd offers
+AreTexts-kinds c (hit ∷ hits) [] texts offers are = absurd offers
+AreTexts-kinds c (hit ∷ hits) (rule ∷ rules) [] offers are = absurd are
+AreTexts-kinds c (hit ∷ hits) (rule ∷ rules) (text ∷ texts) offers are =
+    let first : text ≡ rule.kind = let e = sym are.0 ∙ offers.1 in cc in
+    ap₂ (λ (x : List ℕ) (xs : List (List ℕ)). x ∷ xs) first (AreTexts-kinds c hits rules texts offers.2 are.1)
+
+-- a type that was offered is a text
+pub kind_stands : (c : List ℕ) (hits : List (ℕ × ℕ)) (rules : List GlobRule) (i : ℕ) → AreOffers c hits rules → i < length (kinds_at hits)
+    → (text : List ℕ) × (text_at c (get_or (kinds_at hits) i 0) ≡ Ok text)
+kind_stands c [] rules i offers l = absurd (omega arith)
+kind_stands c (hit ∷ hits) [] i offers l = absurd offers
+kind_stands c (hit ∷ hits) (rule ∷ rules) zero offers l = (rule.kind, offers.1)
+kind_stands c (hit ∷ hits) (rule ∷ rules) (suc i) offers l = kind_stands c hits rules i offers.2 (omega arith)

@@ -1,0 +1,12 @@
+-- The glob list as it is read.
+use Rattle.std.specs.Prelude.{◌≡◌, ℕ, List, Ok}
+use Rattle.mime_base.specs.Cache.Bytes.{field}
+use Rattle.mime_base.specs.Cache.Texts.{text_at}
+use Rattle.mime_base.specs.Format.Stored.{stored_text, weight_and_flags}
+use Rattle.mime_base.specs.declared.database.rule.GlobRule.{GlobRule}
+
+-- the entry at `at` is that of a rule
+pub record ReadsGlob (c : List ℕ) (at : ℕ) (rule : GlobRule) : Type 0 where
+  pub text : text_at c (field c at 0) ≡ Ok (stored_text rule)
+  pub kind : text_at c (field c at 1) ≡ Ok rule.kind
+  pub flags : field c at 2 ≡ weight_and_flags rule

@@ -1,0 +1,39 @@
+//! The types of the hits that were kept.
+
+ghost use Rattle.std.specs.Prelude.{◌≡◌, ◌⊎◌, ℕ, ◌+◌, ◌*◌, ◌≤◌, List, Ok, length, map, All, IfErr, IfOk};
+ghost use Rattle.mime_base.specs.Cache.Texts.{text_at};
+ghost use Rattle.mime_base.specs.declared.database.rule.GlobRule.{GlobRule};
+ghost use Rattle.mime_view.specs.Hits.{AreOffers};
+ghost use Rattle.mime_view.specs.Lists.{IsTextFault};
+
+use crate::fault::CacheFault;
+use crate::hits::Hits;
+use crate::texts::Texts;
+use mime_base::{Counted, Meter};
+use std::alloc::Global;
+
+/// The types of hits, in their order.
+pub fn read_kinds<'a>(
+    alloc: Global,
+    counted: &Counted<'a>,
+    hits: Hits,
+    meter: &mut Meter,
+) -> Result<Texts<'a>, CacheFault>
+    ensures answer { (rules : List GlobRule) → AreOffers counted.now hits rules →
+        IfOk result (λ kinds. kinds ≡ map (λ rule. rule.kind) rules) }
+    ensures text { IfOk result (λ kinds. All (λ kind. (at : ℕ) × (text_at counted.now at ≡ Ok kind)) kinds) }
+    ensures need { (rules : List GlobRule) → AreOffers counted.now hits rules →
+        IfErr result (λ e. e ≡ CacheFault.OutOfMemory) }
+    ensures fault { IfErr result (λ e. IsTextFault counted.now e ⊎ (e ≡ CacheFault.OutOfMemory)) }
+    ensures nodes { meter.new.nodes ≡ meter.old.nodes }
+    ensures bytes_rise { meter.old.bytes ≤ meter.new.bytes }
+    ensures bytes { meter.new.bytes ≤ meter.old.bytes + 256 * length hits }
+{
+    let kinds = hits.into_kinds();
+    let mut texts = Vec::with_capacity(alloc, kinds.len())?;
+    for kind in &kinds {
+        let text = counted.text_at(u64::from(*kind), meter)?;
+        texts.push(text)?;
+    }
+    Ok(Texts::of(texts))
+}
