@@ -6,6 +6,9 @@
 //! takes what is between. So of all stars the last alone counts, and no place is tried twice for the
 //! same elements. After the last star each element takes one byte, so they are tried at one place
 //! alone: as many bytes before the end of the name.
+//!
+//! Most patterns are a star and a text that stands for itself, as `*.tar.gz`: these are compared with
+//! the end of the name at once. Most others begin with a byte that the name doesn't begin with.
 
 pub mod attempt;
 pub mod elements;
@@ -57,8 +60,7 @@ struct Searched {
     tests: u64,
 }
 
-/// Chooses by the pattern's first bytes: most patterns are a plain ending, and most others begin with a
-/// byte that the name doesn't begin with.
+/// Chooses the way of trying by the pattern's first bytes.
 fn search(pattern: &[u8], cased: bool, name: &[u8]) -> Searched
     ensures found { result.found ≡ rule_matches pattern.now cased name.now }
     ensures tests { result.tests ≡ raised 0 (rule_tests pattern.now cased name.now) }
