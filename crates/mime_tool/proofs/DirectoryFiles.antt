@@ -5,7 +5,7 @@ use Rattle.mime_base.specs.Magic.{PlainSection}
 use Rattle.mime_base.specs.declared.database.rule.GlobRule.{GlobRule}
 use Rattle.mime_text.specs.Lines.Globs2.{is_malformed_rule, markers_of, rules_of}
 use Rattle.mime_text.specs.Lines.Icons.{icons_of, is_malformed_icon}
-use Rattle.mime_text.specs.Lines.Pairs.{is_malformed_pair, pairs_of}
+use Rattle.mime_text.specs.Lines.Pairs.{is_malformed_pair, pairs_in}
 use Rattle.mime_text.specs.Merging.{PlainDir}
 use Rattle.mime_tool.specs.Directories.{AreGlobs, AreIcons, AreLinesAt, ArePairs, IsDirectory, IsMagicAt, path_of}
 use Rattle.mime_tool.specs.Files.{Stored}
@@ -79,7 +79,7 @@ directory_is stored dir = refl
 
 can_be_pairs : (name : List ℕ) (stored : List ℕ → Stored) (dir : List ℕ) → CanBe (ArePairsIn name stored dir)
 can_be_pairs name stored dir =
-    can_be_lines_at Pairs ArePairs is_malformed_pair stored (path_of dir name) (λ text. (plain_pairs (pairs_of text), refl))
+    can_be_lines_at Pairs ArePairs is_malformed_pair stored (path_of dir name) (λ text. (plain_pairs (pairs_in text), refl))
 
 can_be_icons : (name : List ℕ) (stored : List ℕ → Stored) (dir : List ℕ) → CanBe (AreIconsIn name stored dir)
 can_be_icons name stored dir =

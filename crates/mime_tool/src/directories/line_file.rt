@@ -121,7 +121,7 @@ impl LineFile for GlobsFile {
 }
 
 impl LineFile for PairsFile {
-    ghost use Rattle.mime_text.specs.Lines.Pairs.{pairs_of};
+    ghost use Rattle.mime_text.specs.Lines.Pairs.{pairs_in};
 
     ghost Plain = { List (List ℕ × List ℕ) };
 
@@ -141,7 +141,7 @@ impl LineFile for PairsFile {
         self.skipped.as_slice()
     }
 
-    ghost total = { λ text. (plain_pairs (pairs_of text), refl) };
+    ghost total = { λ text. (plain_pairs (pairs_in text), refl) };
 }
 
 impl LineFile for IconsFile {
