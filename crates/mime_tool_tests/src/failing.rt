@@ -1,6 +1,6 @@
 //! Files and sinks that fail at a call of choice, and tell nothing.
 
-use crate::{Page, Shelf};
+use crate::Page;
 use mime_tool::{FileFault, Files, Sink, SinkFault};
 use std::alloc::Global;
 
@@ -30,15 +30,15 @@ impl Files for FailingFiles {
     }
 }
 
-/// Files of a shelf of which one call fails: so many are met before it.
-#[derive(Clone, Copy)]
-pub struct FailingShelf<'a> {
-    pub shelf: Shelf<'a>,
+/// Files of which one call fails: so many are met before it.
+#[derive(Drop)]
+pub struct Failing<F: Files + Drop> {
+    pub files: F,
     pub calls: usize,
     pub fault: FileFault,
 }
 
-impl FailingShelf<'_> {
+impl<F: Files + Drop> Failing<F> {
     fn step(&mut self) -> Result<(), FileFault> {
         if self.calls == 0 {
             self.calls = usize::MAX;
@@ -49,17 +49,17 @@ impl FailingShelf<'_> {
     }
 }
 
-impl<'a> Files for FailingShelf<'a> {
-    type Reader = Page<'a>;
+impl<F: Files + Drop> Files for Failing<F> {
+    type Reader = F::Reader;
 
     fn whole(&mut self, alloc: Global, path: &str) -> Result<Option<Vec<u8>>, FileFault> {
         self.step()?;
-        self.shelf.whole(alloc, path)
+        self.files.whole(alloc, path)
     }
 
-    fn open(&mut self, alloc: Global, path: &str) -> Result<Page<'a>, FileFault> {
+    fn open(&mut self, alloc: Global, path: &str) -> Result<F::Reader, FileFault> {
         self.step()?;
-        self.shelf.open(alloc, path)
+        self.files.open(alloc, path)
     }
 
     fn replace(
@@ -70,7 +70,7 @@ impl<'a> Files for FailingShelf<'a> {
         bytes: &[u8],
     ) -> Result<(), FileFault> {
         self.step()?;
-        self.shelf.replace(alloc, temp, path, bytes)
+        self.files.replace(alloc, temp, path, bytes)
     }
 }
 
