@@ -2,8 +2,8 @@
 //!
 //! [`Shelf`] and [`Drawer`] tell what they store and what can be replaced, nothing on the one and one
 //! file in the other, so a run over them is one of which every clause of the program speaks;
-//! [`FailingFiles`], [`Failing`], [`FailingSink`], [`Script`] and [`Disk`] fail at a call of choice.
-//! The tests hold what no clause says: the texts of help and of messages, and what is done with each
+//! [`FailingFiles`], [`FailingShelf`], [`FailingDrawer`], [`FailingSink`], [`Script`] and [`Disk`] fail
+//! at a call of choice. The tests hold what no clause says: the texts of help and of messages, and what is done with each
 //! failure of the system.
 #![tactic(auto)]
 
@@ -15,7 +15,7 @@ mod shelf;
 
 pub use disk::{Disk, Opened};
 pub use drawer::{Drawer, Sheet};
-pub use failing::{Failing, FailingFiles, FailingSink};
+pub use failing::{FailingDrawer, FailingFiles, FailingShelf, FailingSink};
 pub use reader::{Script, Step};
 pub use shelf::{Entry, Page, Shelf};
 

@@ -1,6 +1,6 @@
 //! What `build` stores, and what it says.
 
-use crate::{Drawer, Entry, Failing, Shelf};
+use crate::{Drawer, Entry, FailingDrawer, Shelf};
 use mime_base::{Database, GlobRule, Pattern, TypeName};
 use mime_store::write_cache;
 use mime_tool::{FileFault, Files, run};
@@ -113,8 +113,8 @@ fn leaves_the_file_where_a_call_fails(rt: HostRuntime) -> Result<(), Fail> {
         for (fault, want, message) in faults {
             let ignored = if calls == 0 { "" } else { IGNORED };
             let said = format!(in alloc; "{ignored}{message}")?;
-            let mut files = Failing {
-                files: drawer(),
+            let mut files = FailingDrawer {
+                drawer: drawer(),
                 calls,
                 fault,
             };
@@ -128,7 +128,7 @@ fn leaves_the_file_where_a_call_fails(rt: HostRuntime) -> Result<(), Fail> {
                 said.as_str(),
                 "at {calls}"
             );
-            let stored = files.files.whole(alloc, "/c")?.ok_or("the file is gone")?;
+            let stored = files.drawer.whole(alloc, "/c")?.ok_or("the file is gone")?;
             assert_eq!(rt; stored.as_slice(), b"old".as_slice(), "at {calls}");
         }
     }

@@ -1,6 +1,6 @@
 //! Files of which each call fails in turn.
 
-use crate::{Entry, Failing, Shelf};
+use crate::{Entry, FailingShelf, Shelf};
 use mime_tool::{FileFault, run};
 use std::test::Fail;
 
@@ -29,9 +29,9 @@ const ENTRIES: &[(&str, Entry<'static>)] = &[
 
 const NO_MEMORY: &str = "mimelook: out of memory\n";
 
-fn failing(calls: usize, fault: FileFault) -> Failing<Shelf<'static>> {
-    Failing {
-        files: Shelf { entries: ENTRIES },
+fn failing(calls: usize, fault: FileFault) -> FailingShelf<'static> {
+    FailingShelf {
+        shelf: Shelf { entries: ENTRIES },
         calls,
         fault,
     }
