@@ -3,8 +3,8 @@
 //! [`Shelf`] and [`Drawer`] tell what they store and what can be replaced, nothing on the one and one
 //! file in the other, so a run over them is one of which every clause of the program speaks;
 //! [`FailingFiles`], [`FailingShelf`], [`FailingDrawer`], [`FailingSink`], [`Script`] and [`Disk`] fail
-//! at a call of choice. The tests hold what no clause says: the texts of help and of messages, and what is done with each
-//! failure of the system.
+//! at a call of choice. The tests hold what no clause says: the texts of help and of messages, and
+//! what is done with each failure of the system.
 #![tactic(auto)]
 
 mod disk;
