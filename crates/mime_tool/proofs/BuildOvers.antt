@@ -1,17 +1,13 @@
 -- What `build` stores of a database.
-use Rattle.std.proofs.Common.{◌≡◌, ◌⊎◌, ◌<◌, ◌≤◌, ℕ, List, [], inl, inr, Ok, Err, Vec, ap}
+use Rattle.std.proofs.Common.{◌≡◌, ℕ, List, [], inl, inr, Ok, Err, Vec, ap}
 use Rattle.std.proofs.Common.{refl, string_bytes, subst, sym}
-use Rattle.std.proofs.lemmas.Bool.{cases_lt}
 use Rattle.std.specs.declared.alloc.Global.{Global}
 use Rattle.mime_base.specs.Database.{PlainDatabase}
-use Rattle.mime_base.specs.Format.Room.{room}
-use Rattle.mime_base.specs.Format.Spells.{cache_limit}
-use Rattle.mime_tool.specs.Build.{BuildsOver, GivesCache, IsBuildOver, IsBuilt, temp_of, too_large}
+use Rattle.mime_tool.specs.Build.{BuildsOver, GivesCache, IsBuildOver, IsBuilt, temp_of, writing_of}
 use Rattle.mime_tool.specs.Desk.{Ends, ReplacesFile, State}
-use Rattle.mime_tool.specs.Files.{Replaced, Stored, Untouched}
+use Rattle.mime_tool.specs.Files.{Replaced, Stored, Untouched, Writing}
 use Rattle.mime_tool.specs.Finish.{Sinks}
-use Rattle.mime_tool.specs.Run.{Run, cannot_write, silent, stopped}
-use Rattle.mime_tool.specs.Stop.{IsRefusal}
+use Rattle.mime_tool.specs.Run.{Run, cannot_write, cut_short, silent, stopped}
 use Rattle.mime_tool.specs.declared.stop.Stop.{Stop}
 use Rattle.mime_tool.specs.declared.stop.Stop.TheVariants as stop
 use Rattle.mime_tool.proofs.Ends.{writes_nothing, writes_same}
@@ -20,22 +16,18 @@ use Rattle.mime_tool.proofs.Ends.{writes_nothing, writes_same}
 pub untouched_same : (temp : List ℕ) (stored : List ℕ → Stored) → Untouched temp stored stored
 untouched_same temp stored p other = refl
 
--- where nothing is touched some run is that of a database
-pub can_be_over : (file : List ℕ) (stored : List ℕ → Stored) (database : PlainDatabase)
-    → (run : Run) × IsBuildOver file stored stored database run
-can_be_over file stored database = go (cases_lt cache_limit (room database))
-  where
-    go : (cache_limit < room database) ⊎ (room database ≤ cache_limit) → (run : Run) × IsBuildOver file stored stored database run
-    go (inl above) = (stopped too_large silent, inl (above, refl, refl))
-    go (inr fits) = (stopped (cannot_write file) silent, inr (inl (fits, untouched_same (temp_of file) stored, refl)))
+-- where the file is as it was some run is that of a database
+pub can_be_over : (file : List ℕ) (writing : Writing) (old new : List ℕ → Stored) (database : PlainDatabase)
+    → Untouched (temp_of file) old new → (run : Run) × IsBuildOver file writing old new database run
+can_be_over file writing old new database untouched = (cut_short, inr (inr (inr (untouched, refl))))
 
 -- ---- over a database
 
 -- memory ran out before it was stored
 pub builds_untold : (database : PlainDatabase) (file : List ℕ) (a : State) → BuildsOver database file a a (Err stop.OutOfMemory)
 builds_untold database file a = record {
-  same_places = refl;
-  can_be = can_be_over file a.stored database;
+  same_setting = refl;
+  can_be = can_be_over file (writing_of a.setting.writes file) a.stored a.stored database (untouched_same (temp_of file) a.stored);
   sinks = inl (writes_nothing a.sinks);
   leaves = untouched_same (temp_of file) a.stored;
 }
@@ -46,8 +38,8 @@ pub builds_uncached : (database : PlainDatabase) (file : List ℕ) (a : State) (
 builds_uncached database file a stop.OutOfMemory p = builds_untold database file a
 builds_uncached database file a stop.CannotWrite p = absurd p
 builds_uncached database file a (stop.Refused m) p = record {
-  same_places = refl;
-  can_be = can_be_over file a.stored database;
+  same_setting = refl;
+  can_be = can_be_over file (writing_of a.setting.writes file) a.stored a.stored database (untouched_same (temp_of file) a.stored);
   sinks = (silent, inl (p.1, refl, ap (λ (t : List ℕ). stopped t silent) p.0), writes_nothing a.sinks);
   leaves = untouched_same (temp_of file) a.stored;
 }
@@ -57,32 +49,40 @@ pub builds_unstored : (database : PlainDatabase) (file temp : List ℕ) (cache :
     → temp ≡ temp_of file → GivesCache database (Ok cache) → ReplacesFile temp file cache.items a b (Err s)
     → BuildsOver database file a b (Err s)
 builds_unstored database file temp cache a b s is c p =
-    let untouched = subst (λ (t : List ℕ). Untouched t a.stored b.stored) is p.files.0 in
-    record {
-      same_places = p.same_places;
-      can_be = (stopped (cannot_write file) silent, inr (inl (c.1, untouched, refl)));
-      sinks = ends_unstored database file a.stored b.stored a.sinks b.sinks s c.1 untouched p.same_sinks p.files.1;
-      leaves = untouched;
-    }
+    unstored database file cache a b s c (subst (λ (t : List ℕ). ReplacesFile t file cache.items a b (Err s)) is p)
   where
-    ends_unstored : (database : PlainDatabase) (file : List ℕ) (old new : List ℕ → Stored) (a b : Sinks) (s : Stop)
-        → room database ≤ cache_limit → Untouched (temp_of file) old new → b ≡ a → IsRefusal (cannot_write file) s
-        → Ends (λ _. IsBuildOver file old new database) [] a b (Err s)
-    ends_unstored database file old new a b stop.OutOfMemory fits untouched same p = inl (writes_same a b same)
-    ends_unstored database file old new a b stop.CannotWrite fits untouched same p = absurd p
-    ends_unstored database file old new a b (stop.Refused m) fits untouched same p =
-        (silent, inr (inl (fits, untouched, ap (λ (t : List ℕ). stopped t silent) p)), writes_same a b same)
+    unstored : (database : PlainDatabase) (file : List ℕ) (cache : Vec ℕ Global) (a b : State) (s : Stop)
+        → GivesCache database (Ok cache) → ReplacesFile (temp_of file) file cache.items a b (Err s) → BuildsOver database file a b (Err s)
+    unstored database file cache a b stop.OutOfMemory c p = record {
+      same_setting = p.same_setting;
+      can_be = can_be_over file (writing_of a.setting.writes file) a.stored b.stored database p.files;
+      sinks = inl (writes_same a.sinks b.sinks p.same_sinks);
+      leaves = p.files;
+    }
+    unstored database file cache a b stop.CannotWrite c p = absurd p.files
+    unstored database file cache a b (stop.Refused m) c p = record {
+      same_setting = p.same_setting;
+      can_be = can_be_over file (writing_of a.setting.writes file) a.stored b.stored database p.files.0;
+      sinks = (
+        silent,
+        inr (inl (c.1, p.files.1, p.files.0, ap (λ (t : List ℕ). stopped t silent) p.files.2)),
+        writes_same a.sinks b.sinks p.same_sinks,
+      );
+      leaves = p.files.0;
+    }
 
 -- it is
 pub builds_stored : (database : PlainDatabase) (file temp : List ℕ) (cache : Vec ℕ Global) (a b : State) (u : Unit {0})
     → temp ≡ temp_of file → GivesCache database (Ok cache) → ReplacesFile temp file cache.items a b (Ok u)
     → BuildsOver database file a b (Ok 0)
 builds_stored database file temp cache a b u is c p =
-    let built : IsBuilt file a.stored b.stored database =
-    (c.1, (cache.items, c.0, subst (λ (t : List ℕ). Replaced t file cache.items a.stored b.stored) is p.files)) in
+    let here = subst (λ (t : List ℕ). ReplacesFile t file cache.items a b (Ok u)) is p in
+    let built : IsBuilt file a.stored b.stored database = (c.1, (cache.items, c.0, here.files.0)) in
+    let over : IsBuildOver file (writing_of a.setting.writes file) a.stored b.stored database silent =
+    inr (inr (inl (built, here.files.1, refl))) in
     record {
-      same_places = p.same_places;
-      can_be = (silent, inr (inr (built, refl)));
-      sinks = (silent, inr (inr (built, refl)), refl, refl, writes_same a.sinks b.sinks p.same_sinks);
+      same_setting = here.same_setting;
+      can_be = (silent, over);
+      sinks = (silent, over, refl, refl, writes_same a.sinks b.sinks here.same_sinks);
       leaves = built;
     }

@@ -37,7 +37,7 @@ unfolding IsDatabase
 database_merged dirs a b files database is p =
     works_then (Vec DirFiles Global) (List PlainDir) Database PlainDatabase plain_of plain_database (AreDirectories a.stored dirs)
     (λ _ ds. Gives (merged ds)) a b b files (Ok database) p
-    (record { same_files = refl; same_places = refl; sinks = ([], (ap Some is, refl), writes_nothing b.sinks) })
+    (record { same_files = refl; same_setting = refl; sinks = ([], (ap Some is, refl), writes_nothing b.sinks) })
 
 -- there is no memory to merge them
 pub database_unmerged : (dirs : List (List ℕ)) (a b : State) (files : Vec DirFiles Global) → ReadsDirectories dirs a b (Ok files)

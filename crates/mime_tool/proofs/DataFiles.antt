@@ -45,7 +45,7 @@ pub works_text : (path : List ℕ) (a b : State) (r : Result (Vec ℕ Global) St
     → Works (Loads (λ (v : Vec ℕ Global). v.items) (IsTextAt a.stored path)) a b r
 works_text path a b r p = record {
   same_files = p.same_files;
-  same_places = p.same_places;
+  same_setting = p.same_setting;
   sinks = text_read a.stored path a.sinks b.sinks r p.sinks;
 }
 

@@ -33,7 +33,7 @@ pub reads_none : (a : State) (dirs : Vec DirFiles Global) → dirs.items ≡ [] 
 unfolding AreDirectories
 reads_none a dirs none = record {
   same_files = refl;
-  same_places = refl;
+  same_setting = refl;
   sinks = ([], (ap (λ (ds : List DirFiles). Some (plain_dirs ds)) none, refl), writes_nothing a.sinks);
 }
 
@@ -46,7 +46,7 @@ reads_more xs dir a b c dirs more d are p q =
     let all = ap plain_dirs are ∙ map-append plain_dir dirs.items (d ∷ []) in
     record {
       same_files = q.same_files ∙ p.same_files;
-      same_places = q.same_places ∙ p.same_places;
+      same_setting = q.same_setting ∙ p.same_setting;
       sinks = (
         p.sinks.0 ++ q.sinks.0,
         subst (λ (ds : List PlainDir). AreDirectories a.stored (xs ++ dir ∷ []) (Some ds) (p.sinks.0 ++ q.sinks.0)) (sym all)
@@ -81,7 +81,7 @@ works_after : (xs ys : List (List ℕ)) (a b c : State) (dirs : Vec DirFiles Glo
     → ReadsDirectories ys b c (Err s) → ReadsDirectories (xs ++ ys) a c (Err s)
 works_after xs ys a b c dirs s p q = record {
   same_files = q.same_files ∙ p.same_files;
-  same_places = q.same_places ∙ p.same_places;
+  same_setting = q.same_setting ∙ p.same_setting;
   sinks = stops_after a.stored xs ys a.sinks b.sinks c.sinks dirs s p.sinks
       (subst (λ (stored : List ℕ → Stored). Loads plain_of (AreDirectories stored ys) b.sinks c.sinks (Err s)) p.same_files q.sinks);
 }
@@ -102,7 +102,8 @@ first_unread dir ys b c s q =
 
 -- one is not read
 pub reads_stop : (xs : List (List ℕ)) (dir : List ℕ) (ys : List (List ℕ)) (a b c : State) (dirs : Vec DirFiles Global) (s : Stop)
-    → ReadsDirectories xs a b (Ok dirs) → Works (Loads plain_dir (IsDirectory b.stored dir)) b c (Err s) → ReadsDirectories (xs ++ (dir ∷ ys)) a c (Err s)
+    → ReadsDirectories xs a b (Ok dirs) → Works (Loads plain_dir (IsDirectory b.stored dir)) b c (Err s)
+    → ReadsDirectories (xs ++ (dir ∷ ys)) a c (Err s)
 reads_stop xs dir ys a b c dirs s p q = works_after xs (dir ∷ ys) a b c dirs s p (first_unread dir ys b c s q)
 
 -- the first is read, and then memory runs out
@@ -125,8 +126,10 @@ reads_full xs dir ys a b c dirs d p q = works_after xs (dir ∷ ys) a b c dirs s
 -- ---- by the index of a loop
 
 pub reads_more_at : (names : List (Bor (List ℕ))) (i : ℕ) (n : Bor (List ℕ)) → i < length names → (a b c : State)
-    (dirs more : Vec DirFiles Global) (d : DirFiles) → more.items ≡ dirs.items ++ d ∷ [] → ReadsDirectories (texts (take i names)) a b (Ok dirs)
-    → Works (Loads plain_dir (IsDirectory b.stored (get_or names i n).now)) b c (Ok d) → ReadsDirectories (texts (take (i + 1) names)) a c (Ok more)
+    (dirs more : Vec DirFiles Global) (d : DirFiles) → more.items ≡ dirs.items ++ d ∷ []
+    → ReadsDirectories (texts (take i names)) a b (Ok dirs)
+    → Works (Loads plain_dir (IsDirectory b.stored (get_or names i n).now)) b c (Ok d)
+    → ReadsDirectories (texts (take (i + 1) names)) a c (Ok more)
 reads_more_at names i n lt a b c dirs more d are p q =
     subst (λ (ds : List (List ℕ)). ReadsDirectories ds a c (Ok more)) (sym (texts-more names i n lt))
     (reads_more (texts (take i names)) (get_or names i n).now a b c dirs more d are p q)
@@ -140,7 +143,8 @@ reads_stop_at names i n lt a b c dirs s p q =
 
 pub reads_full_at : (names : List (Bor (List ℕ))) (i : ℕ) (n : Bor (List ℕ)) → i < length names → (a b c : State)
     (dirs : Vec DirFiles Global) (d : DirFiles) → ReadsDirectories (texts (take i names)) a b (Ok dirs)
-    → Works (Loads plain_dir (IsDirectory b.stored (get_or names i n).now)) b c (Ok d) → ReadsDirectories (texts names) a c (Err stop.OutOfMemory)
+    → Works (Loads plain_dir (IsDirectory b.stored (get_or names i n).now)) b c (Ok d)
+    → ReadsDirectories (texts names) a c (Err stop.OutOfMemory)
 reads_full_at names i n lt a b c dirs d p q =
     subst (λ (ds : List (List ℕ)). ReadsDirectories ds a c (Err stop.OutOfMemory)) (sym (texts-split names i n lt))
     (reads_full (texts (take i names)) (get_or names i n).now (texts (drop (i + 1) names)) a b c dirs d p q)

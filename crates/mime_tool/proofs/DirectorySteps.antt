@@ -78,7 +78,7 @@ pub generic_read : (dir : List ℕ) (globs : Globs) (magic : Magic) (aliases sub
 generic_read dir globs magic aliases subclasses icons a b generic files are p =
     works_then IconsFile Pairs DirFiles PlainDir icons_in plain_dir (AreIconsIn (codes "generic-icons") a.stored dir)
     (λ _ generic_icons. Gives (directory globs magic aliases subclasses icons generic_icons)) a b b generic (Ok files) p
-    (record { same_files = refl; same_places = refl; sinks = ([], (ap Some are, refl), writes_nothing b.sinks) })
+    (record { same_files = refl; same_setting = refl; sinks = ([], (ap Some are, refl), writes_nothing b.sinks) })
 
 -- ---- a file wasn't read
 

@@ -72,7 +72,7 @@ loads_stop V X W Y plain see First Next a b (stop.Refused m) p next =
 pub works_nothing : (X Y : Type 0) (plain : X → Y) (IsStep : Option Y → List ℕ → Type 0) (s : State) → CanBe IsStep
     → Works (Loads plain IsStep) s s (Err stop.OutOfMemory)
 works_nothing X Y plain IsStep s can =
-    record { same_files = refl; same_places = refl; sinks = loads_nothing X Y plain IsStep s.sinks can }
+    record { same_files = refl; same_setting = refl; sinks = loads_nothing X Y plain IsStep s.sinks can }
 
 -- a step after another that gave something
 pub works_then : (V X W Y : Type 0) (plain : V → X) (see : W → Y) (First : Option X → List ℕ → Type 0)
@@ -81,7 +81,7 @@ pub works_then : (V X W Y : Type 0) (plain : V → X) (see : W → Y) (First : O
     → Works (Loads see (First >>= Next a.stored)) a c r
 works_then V X W Y plain see First Next a b c v r p q = record {
   same_files = q.same_files ∙ p.same_files;
-  same_places = q.same_places ∙ p.same_places;
+  same_setting = q.same_setting ∙ p.same_setting;
   sinks = loads_then V X W Y plain see First (Next a.stored) a.sinks b.sinks c.sinks v r p.sinks
       (subst (λ (stored : List ℕ → Stored). Loads see (Next stored (plain v)) b.sinks c.sinks r) p.same_files q.sinks);
 }
@@ -92,6 +92,6 @@ pub works_stop : (V X W Y : Type 0) (plain : V → X) (see : W → Y) (First : O
     → ((x : X) → CanBe (Next x)) → Works (Loads see (First >>= Next)) a b (Err s)
 works_stop V X W Y plain see First Next a b s p next = record {
   same_files = p.same_files;
-  same_places = p.same_places;
+  same_setting = p.same_setting;
   sinks = loads_stop V X W Y plain see First Next a.sinks b.sinks s p.sinks next;
 }

@@ -11,7 +11,7 @@ use Rattle.mime_request.proofs.UsualWords.{meaning_of-usual}
 use Rattle.mime_request.proofs.BuildWords.{meaning_of-usual_build}
 use Rattle.mime_tool.specs.Build.{Builds, IsBuild}
 use Rattle.mime_tool.specs.Desk.{Ends, State, Works}
-use Rattle.mime_tool.specs.Files.{Stored}
+use Rattle.mime_tool.specs.Files.{Stored, Writing}
 use Rattle.mime_tool.specs.Finish.{Finishes, Sinks}
 use Rattle.mime_tool.specs.Plain.{IsPlain}
 use Rattle.mime_tool.specs.Program.{Answers, IsAnswer, IsShown, Leaves, files_of, is_help, shown}
@@ -39,20 +39,21 @@ answers_asked (asks x) q a b r means p = subst (λ (y : PlainRequest). Answers (
 answers_asked (refused kinds) q a b r means p = absurd means
 
 -- an error that the words mean is shown
-error_shown : (stored after : List ℕ → Stored) (m : Meaning) (e : Error) (a b : Sinks) (r : Result ℕ Stop) → Means m (Err e)
-    → Ends (λ _. IsShown (kind_of e)) [] a b r → Ends (IsAnswer stored after m) (files_of m) a b r
-error_shown stored after (asks x) e a b (Ok status) means p = absurd (p.1.0 means)
-error_shown stored after (asks x) e a b (Err stop.OutOfMemory) means (inl p) = inl p
-error_shown stored after (asks x) e a b (Err stop.OutOfMemory) means (inr p) = absurd (p.1.is_run.0 means)
-error_shown stored after (asks x) e a b (Err stop.CannotWrite) means p = p
-error_shown stored after (asks x) e a b (Err (stop.Refused m)) means p = absurd (p.1.0 means)
-error_shown stored after (refused kinds) e a b (Ok status) (inl memory) p = absurd (p.1.0 memory)
-error_shown stored after (refused kinds) e a b (Err stop.OutOfMemory) (inl memory) (inl p) = inl p
-error_shown stored after (refused kinds) e a b (Err stop.OutOfMemory) (inl memory) (inr p) = absurd (p.1.is_run.0 memory)
-error_shown stored after (refused kinds) e a b (Err stop.CannotWrite) (inl memory) p = p
-error_shown stored after (refused kinds) e a b (Err (stop.Refused m)) (inl memory) p = absurd (p.1.0 memory)
-error_shown stored after (refused kinds) e a b r (inr among) p =
-    ends_weaker (λ _. IsShown (kind_of e)) (IsAnswer stored after (refused kinds)) [] a b r (λ fs run q. (kind_of e, among, q)) p
+error_shown : (writes : List ℕ → List ℕ → Writing) (stored after : List ℕ → Stored) (m : Meaning) (e : Error) (a b : Sinks)
+    (r : Result ℕ Stop) → Means m (Err e)
+    → Ends (λ _. IsShown (kind_of e)) [] a b r → Ends (IsAnswer writes stored after m) (files_of m) a b r
+error_shown writes stored after (asks x) e a b (Ok status) means p = absurd (p.1.0 means)
+error_shown writes stored after (asks x) e a b (Err stop.OutOfMemory) means (inl p) = inl p
+error_shown writes stored after (asks x) e a b (Err stop.OutOfMemory) means (inr p) = absurd (p.1.is_run.0 means)
+error_shown writes stored after (asks x) e a b (Err stop.CannotWrite) means p = p
+error_shown writes stored after (asks x) e a b (Err (stop.Refused m)) means p = absurd (p.1.0 means)
+error_shown writes stored after (refused kinds) e a b (Ok status) (inl memory) p = absurd (p.1.0 memory)
+error_shown writes stored after (refused kinds) e a b (Err stop.OutOfMemory) (inl memory) (inl p) = inl p
+error_shown writes stored after (refused kinds) e a b (Err stop.OutOfMemory) (inl memory) (inr p) = absurd (p.1.is_run.0 memory)
+error_shown writes stored after (refused kinds) e a b (Err stop.CannotWrite) (inl memory) p = p
+error_shown writes stored after (refused kinds) e a b (Err (stop.Refused m)) (inl memory) p = absurd (p.1.0 memory)
+error_shown writes stored after (refused kinds) e a b r (inr among) p =
+    ends_weaker (λ _. IsShown (kind_of e)) (IsAnswer writes stored after (refused kinds)) [] a b r (λ fs run q. (kind_of e, among, q)) p
 
 -- what is stored stays
 leaves_same : (m : Meaning) (old new : List ℕ → Stored) → new ≡ old → Leaves m old new
@@ -63,8 +64,8 @@ leaves_same (refused kinds) old new same = same
 pub answers_error : (m : Meaning) (e : Error) (a b : State) (r : Result ℕ Stop) → Means m (Err e)
     → Works (Ends (λ _. IsShown (kind_of e)) []) a b r → Answers m a b r
 answers_error m e a b r means p = record {
-  same_places = p.same_places;
-  sinks = error_shown a.stored b.stored m e a.sinks b.sinks r means p.sinks;
+  same_setting = p.same_setting;
+  sinks = error_shown a.setting.writes a.stored b.stored m e a.sinks b.sinks r means p.sinks;
   leaves = leaves_same m a.stored b.stored p.same_files;
 }
 
@@ -72,12 +73,12 @@ answers_error m e a b r means p = record {
 pub answers_plain : (dirs : List (List ℕ)) (name_only magic_first : Bool) (files : List (List ℕ)) (a b : State) (r : Result ℕ Stop)
     → Works (Ends (IsPlain a.stored dirs name_only magic_first) files) a b r → Answers (asks (plain dirs name_only magic_first files)) a b r
 answers_plain dirs name_only magic_first files a b r p =
-    record { same_places = p.same_places; sinks = p.sinks; leaves = p.same_files }
+    record { same_setting = p.same_setting; sinks = p.sinks; leaves = p.same_files }
 
 -- and one that doesn't
 pub answers_build : (dirs : List (List ℕ)) (file : List ℕ) (a b : State) (r : Result ℕ Stop) → Builds dirs file a b r
     → Answers (asks (build dirs file)) a b r
-answers_build dirs file a b r p = record { same_places = p.same_places; sinks = p.sinks; leaves = p.leaves }
+answers_build dirs file a b r p = record { same_setting = p.same_setting; sinks = p.sinks; leaves = p.leaves }
 
 -- the text of an error is shown
 pub shown_text : (k : ErrorKind) (help : Bool) (text : List ℕ) (a b : Sinks) (r : Result ℕ Stop) → k ≢ kind.OutOfMemory → help ≡ is_help k
@@ -95,18 +96,18 @@ usual_meaning words dirs name_only magic_first names are usual =
     ap meaning_of are ∙ meaning_of-usual dirs name_only magic_first names usual
 
 -- the run of the usual words
-pub usual_finishes : (stored after : List ℕ → Stored) (words : List (List ℕ)) (a b : Sinks) (status : ℕ)
-    → Finishes (IsAnswer stored after (meaning_of words)) (files_of (meaning_of words)) a b status
+pub usual_finishes : (writes : List ℕ → List ℕ → Writing) (stored after : List ℕ → Stored) (words : List (List ℕ)) (a b : Sinks)
+    (status : ℕ) → Finishes (IsAnswer writes stored after (meaning_of words)) (files_of (meaning_of words)) a b status
     → (dirs : List ℕ) (name_only magic_first : Bool) (names : List (List ℕ)) → words ≡ plain_words dirs name_only magic_first names
     → AreUsual dirs names → Finishes (IsPlain stored (parts dirs) name_only magic_first) names a b status
-usual_finishes stored after words a b status p dirs name_only magic_first names are usual =
-    subst (λ (m : Meaning). Finishes (IsAnswer stored after m) (files_of m) a b status)
+usual_finishes writes stored after words a b status p dirs name_only magic_first names are usual =
+    subst (λ (m : Meaning). Finishes (IsAnswer writes stored after m) (files_of m) a b status)
     (usual_meaning words dirs name_only magic_first names are usual) p
 
-pub usual_builds : (stored after : List ℕ → Stored) (words : List (List ℕ)) (a b : Sinks) (status : ℕ)
-    → Finishes (IsAnswer stored after (meaning_of words)) (files_of (meaning_of words)) a b status
+pub usual_builds : (writes : List ℕ → List ℕ → Writing) (stored after : List ℕ → Stored) (words : List (List ℕ)) (a b : Sinks)
+    (status : ℕ) → Finishes (IsAnswer writes stored after (meaning_of words)) (files_of (meaning_of words)) a b status
     → (dirs file : List ℕ) → words ≡ build_words dirs file → is_option dirs ≡ false → is_option file ≡ false
-    → Finishes (IsBuild (parts dirs) file stored after) [] a b status
-usual_builds stored after words a b status p dirs file are plain_dirs plain_file =
-    subst (λ (m : Meaning). Finishes (IsAnswer stored after m) (files_of m) a b status)
+    → Finishes (IsBuild (parts dirs) file writes stored after) [] a b status
+usual_builds writes stored after words a b status p dirs file are plain_dirs plain_file =
+    subst (λ (m : Meaning). Finishes (IsAnswer writes stored after m) (files_of m) a b status)
     (ap meaning_of are ∙ meaning_of-usual_build dirs file plain_dirs plain_file) p

@@ -1,5 +1,5 @@
 -- What `build` stores, and what it says.
-use Rattle.std.specs.Prelude.{◌≡◌, ◌⊎◌, ◌<◌, ◌≤◌, ℕ, true, List, [], ◌++◌, Some, Result, Ok, Err, Vec, codes, length, string_bytes}
+use Rattle.std.specs.Prelude.{◌≡◌, ◌≢◌, ◌⊎◌, ◌<◌, ◌≤◌, ℕ, true, List, [], ◌++◌, Some, Result, Ok, Err, Vec, codes, length, string_bytes}
 use Rattle.std.specs.declared.alloc.Global.{Global}
 use Rattle.mime_base.specs.Database.{PlainDatabase}
 use Rattle.mime_base.specs.Format.Packed.{Packed}
@@ -7,14 +7,18 @@ use Rattle.mime_base.specs.Format.Room.{room}
 use Rattle.mime_base.specs.Format.Spells.{Spells, cache_limit}
 use Rattle.mime_tool.specs.Desk.{Ends, State}
 use Rattle.mime_tool.specs.Directories.{IsCommand, IsDatabase}
-use Rattle.mime_tool.specs.Files.{Replaced, Stored, Untouched}
-use Rattle.mime_tool.specs.Run.{Run, cannot_write, silent, stopped, stops}
+use Rattle.mime_tool.specs.Files.{Replaced, Stored, Untouched, Writing, fails, succeeds}
+use Rattle.mime_tool.specs.Run.{Run, cannot_write, cut_short, silent, stopped, stops}
 use Rattle.mime_tool.specs.declared.stop.Stop.{Stop}
 use Rattle.mime_tool.specs.declared.stop.Stop.TheVariants as stop
 
 -- the file by which the cache comes
 abbrev pub temp_of : List ℕ → List ℕ
 temp_of file = file ++ codes ".new"
+
+-- what is known of replacing the file by a cache
+abbrev pub writing_of : (List ℕ → List ℕ → Writing) → List ℕ → Writing
+writing_of writes file = writes (temp_of file) file
 
 -- the message on a database that no cache can hold
 abbrev pub too_large : List ℕ
@@ -32,18 +36,26 @@ IsBuilt file old new database =
     (room database ≤ cache_limit)
     × ((cache : List ℕ) × IsCacheOf database cache × Replaced (temp_of file) file cache old new)
 
--- the run over a database, which was stored so and is stored so then: there can be no cache; or the
--- cache can't be written; or it takes the place of the file, and nothing is said
-abbrev pub IsBuildOver : List ℕ → (List ℕ → Stored) → (List ℕ → Stored) → PlainDatabase → Run → Type 0
-IsBuildOver file old new database run =
+-- the cache can't be written, which isn't known to succeed: the file is as it was
+abbrev pub IsUnwritten : List ℕ → Writing → (List ℕ → Stored) → (List ℕ → Stored) → PlainDatabase → Run → Type 0
+IsUnwritten file writing old new database run =
+    (room database ≤ cache_limit) × (writing ≢ succeeds) × Untouched (temp_of file) old new × (run ≡ stopped (cannot_write file) silent)
+
+-- the run over a database, by what is known of replacing the file, and what was stored and is then: there can be no
+-- cache; or it can't be written; or it takes the place of the file, which isn't known to fail, and nothing is said; or
+-- memory ran out before that, and the file is as it was
+abbrev pub IsBuildOver : List ℕ → Writing → (List ℕ → Stored) → (List ℕ → Stored) → PlainDatabase → Run → Type 0
+IsBuildOver file writing old new database run =
     ((cache_limit < room database) × (new ≡ old) × (run ≡ stopped too_large silent))
-    ⊎ (((room database ≤ cache_limit) × Untouched (temp_of file) old new × (run ≡ stopped (cannot_write file) silent))
-    ⊎ (IsBuilt file old new database × (run ≡ silent)))
+    ⊎ (IsUnwritten file writing old new database run
+    ⊎ ((IsBuilt file old new database × (writing ≢ fails) × (run ≡ silent))
+    ⊎ (Untouched (temp_of file) old new × (run ≡ cut_short))))
 
 -- the run of `build` over these directories; where it stops, the file is as it was
-abbrev pub IsBuild : List (List ℕ) → List ℕ → (List ℕ → Stored) → (List ℕ → Stored) → List (List ℕ) → Run → Type 0
-IsBuild dirs file old new files run =
-    IsCommand old dirs (λ database _. IsBuildOver file old new database) files run
+abbrev pub IsBuild : List (List ℕ) → List ℕ → (List ℕ → List ℕ → Writing) → (List ℕ → Stored) → (List ℕ → Stored)
+    → List (List ℕ) → Run → Type 0
+IsBuild dirs file writes old new files run =
+    IsCommand old dirs (λ database _. IsBuildOver file (writing_of writes file) old new database) files run
     × (stops run ≡ true → Untouched (temp_of file) old new)
 
 -- what `build` may leave stored, however it ends: the file is as it was, or it is a cache of the database
@@ -70,14 +82,15 @@ LeavesOver file old new database (Err s) = Untouched (temp_of file) old new
 
 -- the run over a database, up to the message of a stop
 pub record BuildsOver (database : PlainDatabase) (file : List ℕ) (before after : State) (result : Result ℕ Stop) : Type 0 where
-  pub same_places : after.places ≡ before.places
-  pub can_be : (run : Run) × IsBuildOver file before.stored after.stored database run
+  pub same_setting : after.setting ≡ before.setting
+  pub can_be : (run : Run) × IsBuildOver file (writing_of before.setting.writes file) before.stored after.stored database run
   pub sinks :
-      Ends (λ _. IsBuildOver file before.stored after.stored database) [] before.sinks after.sinks result
+      Ends (λ _. IsBuildOver file (writing_of before.setting.writes file) before.stored after.stored database) [] before.sinks
+      after.sinks result
   pub leaves : LeavesOver file before.stored after.stored database result
 
 -- the run of `build`, up to the message of a stop
 pub record Builds (dirs : List (List ℕ)) (file : List ℕ) (before after : State) (result : Result ℕ Stop) : Type 0 where
-  pub same_places : after.places ≡ before.places
-  pub sinks : Ends (IsBuild dirs file before.stored after.stored) [] before.sinks after.sinks result
+  pub same_setting : after.setting ≡ before.setting
+  pub sinks : Ends (IsBuild dirs file before.setting.writes before.stored after.stored) [] before.sinks after.sinks result
   pub leaves : LeavesBuilt dirs file before.stored after.stored

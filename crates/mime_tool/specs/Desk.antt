@@ -1,24 +1,29 @@
 -- What becomes of a desk: before a part of the program, after it, and what that part gives.
-use Rattle.std.specs.Prelude.{◌≡◌, ℕ, false, List, Option, Some, None, Result, Ok, Err, Vec, string_bytes}
+use Rattle.std.specs.Prelude.{◌≡◌, ◌≢◌, ℕ, false, List, Option, Some, None, Result, Ok, Err, Vec, string_bytes}
 use Rattle.std.specs.declared.alloc.Global.{Global}
 use Rattle.mime_lookup.specs.Content.{Health}
-use Rattle.mime_tool.specs.Files.{IsReaderOf, IsShut, IsTextOf, Replaced, Stored, Untouched}
+use Rattle.mime_tool.specs.Files.{IsReaderOf, IsShut, IsTextOf, Replaced, Stored, Untouched, Writing, fails, succeeds}
 use Rattle.mime_tool.specs.Finish.{IsCut, Sinks, Writes, WritesFront}
 use Rattle.mime_tool.specs.Run.{Run, cannot_read, cannot_write, stopped, stops}
-use Rattle.mime_tool.specs.Stop.{IsRefusal, message}
+use Rattle.mime_tool.specs.Stop.{message}
 use Rattle.mime_tool.specs.declared.stop.Stop.{Stop}
 use Rattle.mime_tool.specs.declared.stop.Stop.TheVariants as stop
 
--- what is known of a desk: what is stored, what the sinks hold, and which references it has
+-- what no part of the program changes: which references a desk has, and what is known of replacing its files
+pub record Setting : Type 0 where
+  pub places : ℕ × ℕ × ℕ
+  pub writes : List ℕ → List ℕ → Writing
+
+-- what is known of a desk: what is stored, its setting, and what the sinks hold
 pub record State : Type 0 where
   pub stored : List ℕ → Stored
-  pub places : ℕ × ℕ × ℕ
+  pub setting : Setting
   pub sinks : Sinks
 
--- the files and the references stay, and the sinks go from one state to the other so that P holds
+-- the files and the setting stay, and the sinks go from one state to the other so that P holds
 pub record Works {R : Type 0} (P : Sinks → Sinks → R → Type 0) (before after : State) (result : R) : Type 0 where
   pub same_files : after.stored ≡ before.stored
-  pub same_places : after.places ≡ before.places
+  pub same_setting : after.setting ≡ before.setting
   pub sinks : P before.sinks after.sinks result
 
 -- what the run writes is written; or a front of it, where memory runs out; or standard output isn't
@@ -48,15 +53,19 @@ ReadsText stored path old new (Err stop.CannotWrite) = ⊥
 ReadsText stored path old new (Err stop.OutOfMemory) = new ≡ old
 
 -- a file is replaced; or it can't be, and that names its path; or memory ran out
-abbrev pub ReplacesOrStops : List ℕ → List ℕ → List ℕ → (List ℕ → Stored) → (List ℕ → Stored) → Result (Unit {0}) Stop → Type 0
-ReplacesOrStops temp path bs old new (Ok _) = Replaced temp path bs old new
-ReplacesOrStops temp path bs old new (Err s) = Untouched temp old new × IsRefusal (cannot_write path) s
+abbrev pub ReplacesOrStops : List ℕ → List ℕ → List ℕ → Writing → (List ℕ → Stored) → (List ℕ → Stored)
+    → Result (Unit {0}) Stop → Type 0
+ReplacesOrStops temp path bs writing old new (Ok _) = Replaced temp path bs old new × (writing ≢ fails)
+ReplacesOrStops temp path bs writing old new (Err (stop.Refused text)) =
+    Untouched temp old new × (writing ≢ succeeds) × (string_bytes text ≡ cannot_write path)
+ReplacesOrStops temp path bs writing old new (Err stop.CannotWrite) = ⊥
+ReplacesOrStops temp path bs writing old new (Err stop.OutOfMemory) = Untouched temp old new
 
--- the references and the sinks stay, and a file is replaced or not
+-- the setting and the sinks stay, and a file is replaced or not
 pub record ReplacesFile (temp path bs : List ℕ) (before after : State) (result : Result (Unit {0}) Stop) : Type 0 where
-  pub same_places : after.places ≡ before.places
+  pub same_setting : after.setting ≡ before.setting
   pub same_sinks : after.sinks ≡ before.sinks
-  pub files : ReplacesOrStops temp path bs before.stored after.stored result
+  pub files : ReplacesOrStops temp path bs (before.setting.writes temp path) before.stored after.stored result
 
 -- a file is opened; or it can't be, or memory ran out
 abbrev pub OpensFile : {R : Type 0} → (R → Option (List ℕ)) → (R → Health) → Stored → Sinks → Sinks → Result (Option R) Stop → Type 0

@@ -44,6 +44,12 @@ IsOpening remaining health stored (Ok reader) = IsReaderOf remaining health stor
 IsOpening remaining health stored (Err Failed) = IsShut stored
 IsOpening remaining health stored (Err OutOfMemory) = Unit {0}
 
+-- what is known of a replacement: that it succeeds, that it fails, or nothing; memory aside
+pub data Writing : Type 0 where
+  succeeds : Writing
+  fails : Writing
+  unforeseen : Writing
+
 -- what a path holds after it came to hold this, where it was known what it held
 abbrev pub Becomes : Stored → Stored → Stored → Type 0
 Becomes unknown this new = Unit {0}
@@ -60,10 +66,11 @@ pub record Replaced (temp path bs : List ℕ) (old new : List ℕ → Stored) : 
 abbrev pub Untouched : List ℕ → (List ℕ → Stored) → (List ℕ → Stored) → Type 0
 Untouched temp old new = (other : List ℕ) → other ≢ temp → new other ≡ old other
 
--- the file is replaced, or untouched where that failed
-abbrev pub Replaces : List ℕ → List ℕ → List ℕ → (List ℕ → Stored) → (List ℕ → Stored) → Result (Unit {0}) FileFault → Type 0
-Replaces temp path bs old new (Ok _) = Replaced temp path bs old new
-Replaces temp path bs old new (Err _) = Untouched temp old new
+-- the file is replaced; or it is untouched where that failed, or memory ran out
+abbrev pub Replaces : List ℕ → List ℕ → List ℕ → Writing → (List ℕ → Stored) → (List ℕ → Stored) → Result (Unit {0}) FileFault → Type 0
+Replaces temp path bs writing old new (Ok _) = Replaced temp path bs old new × (writing ≢ fails)
+Replaces temp path bs writing old new (Err Failed) = Untouched temp old new × (writing ≢ succeeds)
+Replaces temp path bs writing old new (Err OutOfMemory) = Untouched temp old new
 
 -- the text of a file: an empty one where there is no file, and none where it can't be read
 abbrev pub IsTextOf : Stored → Option (List ℕ) → Type 0

@@ -6,7 +6,7 @@ use Rattle.clap.specs.declared.error.kind.ErrorKind.TheVariants as kind
 use Rattle.mime_request.specs.Request.{PlainRequest, Meaning, asks, build, plain, refused}
 use Rattle.mime_tool.specs.Build.{IsBuild, LeavesBuilt}
 use Rattle.mime_tool.specs.Desk.{Ends, State}
-use Rattle.mime_tool.specs.Files.{Stored}
+use Rattle.mime_tool.specs.Files.{Stored, Writing}
 use Rattle.mime_tool.specs.Plain.{IsPlain}
 use Rattle.mime_tool.specs.Run.{Run, printed}
 use Rattle.mime_tool.specs.declared.stop.Stop.{Stop}
@@ -27,10 +27,11 @@ shown false text = record { status = 2; out = []; err = text }
 abbrev pub IsShown : ErrorKind → Run → Type 0
 IsShown k run = (k ≢ kind.OutOfMemory) × ((text : List ℕ) × (run ≡ shown (is_help k) text))
 
--- the run of a request, where this was stored and then that; a command has a line here
-abbrev pub IsAskedRun : (List ℕ → Stored) → (List ℕ → Stored) → PlainRequest → List (List ℕ) → Run → Type 0
-IsAskedRun old new (build dirs file) = IsBuild dirs file old new
-IsAskedRun old new (plain dirs name_only magic_first _) = IsPlain old dirs name_only magic_first
+-- the run of a request, where this is known of replacing files, and this was stored and then that; a command has a
+-- line here
+abbrev pub IsAskedRun : (List ℕ → List ℕ → Writing) → (List ℕ → Stored) → (List ℕ → Stored) → PlainRequest → List (List ℕ) → Run → Type 0
+IsAskedRun writes old new (build dirs file) = IsBuild dirs file writes old new
+IsAskedRun writes old new (plain dirs name_only magic_first _) = IsPlain old dirs name_only magic_first
 
 -- the files that a request names
 abbrev pub asked_files : PlainRequest → List (List ℕ)
@@ -38,9 +39,9 @@ asked_files (build _ _) = []
 asked_files (plain _ _ _ files) = files
 
 -- the run that the words ask for, or help, or what is wrong with them
-abbrev pub IsAnswer : (List ℕ → Stored) → (List ℕ → Stored) → Meaning → List (List ℕ) → Run → Type 0
-IsAnswer old new (asks a) = IsAskedRun old new a
-IsAnswer old new (refused kinds) = λ _ run. (k : ErrorKind) × IsAmong k kinds × IsShown k run
+abbrev pub IsAnswer : (List ℕ → List ℕ → Writing) → (List ℕ → Stored) → (List ℕ → Stored) → Meaning → List (List ℕ) → Run → Type 0
+IsAnswer writes old new (asks a) = IsAskedRun writes old new a
+IsAnswer writes old new (refused kinds) = λ _ run. (k : ErrorKind) × IsAmong k kinds × IsShown k run
 
 -- the files that the words name
 abbrev pub files_of : Meaning → List (List ℕ)
@@ -57,9 +58,9 @@ abbrev pub Leaves : Meaning → (List ℕ → Stored) → (List ℕ → Stored) 
 Leaves (asks a) old new = LeavesAsked a old new
 Leaves (refused kinds) old new = new ≡ old
 
--- the references stay, the run that the words ask for is done, up to the message of a stop, and this is
+-- the setting stays, the run that the words ask for is done, up to the message of a stop, and this is
 -- left stored
 pub record Answers (m : Meaning) (before after : State) (result : Result ℕ Stop) : Type 0 where
-  pub same_places : after.places ≡ before.places
-  pub sinks : Ends (IsAnswer before.stored after.stored m) (files_of m) before.sinks after.sinks result
+  pub same_setting : after.setting ≡ before.setting
+  pub sinks : Ends (IsAnswer before.setting.writes before.stored after.stored m) (files_of m) before.sinks after.sinks result
   pub leaves : Leaves m before.stored after.stored

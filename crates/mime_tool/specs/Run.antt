@@ -54,6 +54,10 @@ cannot_read path = codes "mimelook: " ++ (path ++ codes ": cannot read\n")
 abbrev pub cannot_write : List ℕ → List ℕ
 cannot_write path = codes "mimelook: " ++ (path ++ codes ": cannot write\n")
 
+-- memory ran out, and nothing is written
+abbrev pub cut_short : Run
+cut_short = record { status = 4; out = []; err = [] }
+
 -- the message on running out of memory
 abbrev pub out_of_memory : List ℕ
 out_of_memory = codes "mimelook: out of memory\n"

@@ -16,7 +16,7 @@ use std::alloc::Global;
 /// A command takes one and is generic over it. So the command's contract is one relation of the desk
 /// before it, the desk after it, and its result.
 pub(crate) trait Desk {
-    // What is stored, what the sinks hold, and which references the desk has.
+    // What is stored, the setting, and what the sinks hold.
     ghost state: { Self → State };
 
     /// A reader of a file's content.
@@ -61,7 +61,10 @@ pub(crate) struct Streams<'f, 'o, 'e, F: Files, O: Sink, E: Sink> {
 impl<F: Files, O: Sink, E: Sink> Desk for Streams<'_, '_, '_, F, O, E> {
     ghost state = { λ desk. record {
       stored = F.tells desk.files.now;
-      places = (desk.files.ghost_name, desk.out.ghost_name, desk.err.ghost_name);
+      setting = record {
+        places = (desk.files.ghost_name, desk.out.ghost_name, desk.err.ghost_name);
+        writes = F.writes desk.files.now;
+      };
       sinks = record { out = O.holds desk.out.now; err = E.holds desk.err.now };
     } };
 

@@ -1,7 +1,7 @@
 //! Where files come from. This project's own.
 
 ghost use Rattle.std.specs.Prelude.{◌≡◌, ℕ, List};
-ghost use Rattle.mime_tool.specs.Files.{IsOpening, Replaces, Stored, Tells, unknown};
+ghost use Rattle.mime_tool.specs.Files.{IsOpening, Replaces, Stored, Tells, Writing, unforeseen, unknown};
 ghost use Rattle.mime_tool.specs.declared.files.FileFault.TheVariants.{OutOfMemory};
 
 use mime_lookup::Content;
@@ -32,6 +32,9 @@ pub trait Files {
     // What is stored at each path.
     ghost tells: { Self → List ℕ → Stored } = { λ _ _. unknown };
 
+    // What is known of replacing a file, by the path that its bytes are written to and its own. It stays.
+    ghost writes: { Self → List ℕ → List ℕ → Writing } = { λ _ _ _. unforeseen };
+
     /// A reader of a file's content.
     type Reader: Content + Drop;
 
@@ -41,7 +44,8 @@ pub trait Files {
     /// [`FileFault::OutOfMemory`] where there is no memory for it.
     fn whole(&mut self, alloc: Global, path: &str) -> Result<Option<Vec<u8>>, FileFault>
         ensures told { Tells (tells self.old path.now) result }
-        ensures stays { tells self.new ≡ tells self.old };
+        ensures stays { tells self.new ≡ tells self.old }
+        ensures writes { writes self.new ≡ writes self.old };
 
     /// Opens a file, of which nothing is read yet.
     ///
@@ -52,7 +56,8 @@ pub trait Files {
     fn open(&mut self, alloc: Global, path: &str) -> Result<Self::Reader, FileFault>
         ensures opened { IsOpening Self.Reader.remaining Self.Reader.health
             (tells self.old path.now) result }
-        ensures stays { tells self.new ≡ tells self.old };
+        ensures stays { tells self.new ≡ tells self.old }
+        ensures writes { writes self.new ≡ writes self.old };
 
     /// Makes these bytes the file of `path`, whole: they are written to `temp`, which is then renamed.
     ///
@@ -68,5 +73,7 @@ pub trait Files {
         path: &str,
         bytes: &[u8],
     ) -> Result<(), FileFault>
-        ensures { Replaces temp.now path.now bytes.now (tells self.old) (tells self.new) result };
+        ensures replaced { Replaces temp.now path.now bytes.now (writes self.old temp.now path.now)
+            (tells self.old) (tells self.new) result }
+        ensures writes { writes self.new ≡ writes self.old };
 }

@@ -43,7 +43,8 @@ pub fn run<F: Files, O: Sink, E: Sink, S: AsStr>(
 ) -> u8
     // Whatever the words mean, where it is known what standard output holds.
     ensures answers { is_some (O.holds out.old) ≡ true
-        → Finishes (IsAnswer (F.tells files.old) (F.tells files.new) (meaning_of (map S.text words.now)))
+        → Finishes (IsAnswer (F.writes files.old) (F.tells files.old) (F.tells files.new)
+        (meaning_of (map S.text words.now)))
         (files_of (meaning_of (map S.text words.now)))
         (record { out = O.holds out.old; err = E.holds err.old })
         (record { out = O.holds out.new; err = E.holds err.new }) result }
@@ -60,7 +61,7 @@ pub fn run<F: Files, O: Sink, E: Sink, S: AsStr>(
     ensures build { is_some (O.holds out.old) ≡ true
         → (dirs file : List ℕ) → map S.text words.now ≡ build_words dirs file
         → is_option dirs ≡ false → is_option file ≡ false
-        → Finishes (IsBuild (parts dirs) file (F.tells files.old) (F.tells files.new)) []
+        → Finishes (IsBuild (parts dirs) file (F.writes files.old) (F.tells files.old) (F.tells files.new)) []
         (record { out = O.holds out.old; err = E.holds err.old })
         (record { out = O.holds out.new; err = E.holds err.new }) result }
 
@@ -86,7 +87,8 @@ fn perform<F: Files, O: Sink, E: Sink, S: AsStr>(
     err: &mut E,
 ) -> Result<u8, Stop>
     ensures ended { Ends
-        (IsAnswer (F.tells files.old) (F.tells files.new) (meaning_of (map S.text words.now)))
+        (IsAnswer (F.writes files.old) (F.tells files.old) (F.tells files.new)
+        (meaning_of (map S.text words.now)))
         (files_of (meaning_of (map S.text words.now)))
         (record { out = O.holds out.old; err = E.holds err.old })
         (record { out = O.holds out.new; err = E.holds err.new }) result }

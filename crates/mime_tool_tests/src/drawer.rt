@@ -1,56 +1,89 @@
-//! Files in memory of which one can be replaced. They tell nothing.
+//! Files in memory of which one can be replaced, and which tell that.
+
+ghost use Rattle.std.specs.Prelude.{◌≡◌};
+ghost use Rattle.mime_tool_tests.specs.Drawer.{stored_in, writes_of};
+ghost use Rattle.mime_tool_tests.specs.Shelf.{stored_at};
 
 use crate::{Page, Shelf};
+use mime_lookup::{Content, ReadFault};
 use mime_tool::{FileFault, Files};
 use std::alloc::Global;
+use std::io;
+use std::io::{Cursor, Read};
 
-/// Files of a shelf, of which one can be replaced, once. It can't be opened then.
+/// Files of a shelf, of which one can be replaced, by way of one path.
 #[derive(Drop)]
 pub struct Drawer<'a> {
     pub shelf: Shelf<'a>,
-    /// The file that was replaced.
-    pub laid: Option<Laid>,
-    /// How many calls are still met before one fails.
-    pub calls: usize,
-    pub fault: FileFault,
+    /// The path that its bytes are written to.
+    pub temp: &'a str,
+    /// The path of the file that can be replaced.
+    pub path: &'a str,
+    /// What it was last replaced by.
+    pub laid: Option<Vec<u8>>,
 }
 
-/// A file that took the place of what a shelf has, and the path by which it came.
+/// A file of a drawer that was opened: one of its shelf, or what took the place of one.
 #[derive(Drop)]
-pub struct Laid {
-    pub temp: String,
-    pub path: String,
-    pub bytes: Vec<u8>,
+pub enum Sheet<'a> {
+    Shelved(Page<'a>),
+    Laid(Cursor<Vec<u8>>),
 }
 
-impl Drawer<'_> {
-    fn step(&mut self) -> Result<(), FileFault> {
-        if self.calls == 0 {
-            self.calls = usize::MAX;
-            return Err(self.fault);
+impl Read for Sheet<'_> {
+    ghost use Rattle.std.specs.Prelude.{Some};
+    ghost use Rattle.mime_tool_tests.specs.Drawer.{left_in};
+
+    ghost remaining = { λ sheet. Some (left_in sheet) };
+
+    fn read(&mut self, buffer: &mut [u8]) -> io::Result<usize> {
+        match self {
+            Sheet::Shelved(page) => page.read(buffer),
+            Sheet::Laid(bytes) => bytes.read(buffer),
         }
-        self.calls -= 1;
-        Ok(())
+    }
+}
+
+impl Content for Sheet<'_> {
+    ghost use Rattle.mime_tool_tests.specs.Drawer.{health_in};
+
+    ghost health = { health_in };
+
+    fn read_piece(&mut self, buffer: &mut [u8]) -> Result<usize, ReadFault> {
+        match self {
+            Sheet::Shelved(page) => page.read_piece(buffer),
+            Sheet::Laid(bytes) => match bytes.read(buffer) {
+                Ok(count) => Ok(count),
+                Err(_) => Err(ReadFault::Failed),
+            },
+        }
     }
 }
 
 impl<'a> Files for Drawer<'a> {
-    type Reader = Page<'a>;
+    ghost tells = { λ drawer. stored_in drawer.temp.now drawer.path.now
+        (stored_at drawer.shelf.entries.now) drawer.laid };
+
+    ghost writes = { λ drawer. writes_of drawer.temp.now drawer.path.now };
+
+    type Reader = Sheet<'a>;
 
     fn whole(&mut self, alloc: Global, path: &str) -> Result<Option<Vec<u8>>, FileFault> {
-        self.step()?;
         match &self.laid {
-            Some(laid) if laid.path.as_str() == path => Ok(Some(
-                laid.bytes.as_slice().to_vec(alloc)?,
-            )),
-            Some(laid) if laid.temp.as_str() == path => Ok(None),
+            Some(bytes) if path == self.path => Ok(Some(bytes.as_slice().to_vec(alloc)?)),
+            Some(_) if path == self.temp => Ok(None),
             _ => self.shelf.whole(alloc, path),
         }
     }
 
-    fn open(&mut self, alloc: Global, path: &str) -> Result<Page<'a>, FileFault> {
-        self.step()?;
-        self.shelf.open(alloc, path)
+    fn open(&mut self, alloc: Global, path: &str) -> Result<Sheet<'a>, FileFault> {
+        match &self.laid {
+            Some(bytes) if path == self.path => {
+                Ok(Sheet::Laid(Cursor::new(bytes.as_slice().to_vec(alloc)?)))
+            }
+            Some(_) if path == self.temp => Err(FileFault::Failed),
+            _ => Ok(Sheet::Shelved(self.shelf.open(alloc, path)?)),
+        }
     }
 
     fn replace(
@@ -60,16 +93,10 @@ impl<'a> Files for Drawer<'a> {
         path: &str,
         bytes: &[u8],
     ) -> Result<(), FileFault> {
-        self.step()?;
-        self.laid = Some(lay(alloc, temp, path, bytes)?);
+        if temp != self.temp || path != self.path {
+            return Err(FileFault::Failed);
+        }
+        self.laid = Some(bytes.to_vec(alloc)?);
         Ok(())
     }
-}
-
-fn lay(alloc: Global, temp: &str, path: &str, bytes: &[u8]) -> Result<Laid, FileFault> {
-    Ok(Laid {
-        temp: format!(in alloc; "{temp}")?,
-        path: format!(in alloc; "{path}")?,
-        bytes: bytes.to_vec(alloc)?,
-    })
 }

@@ -1,6 +1,6 @@
 //! Files and sinks that fail at a call of choice, and tell nothing.
 
-use crate::{Page, Shelf};
+use crate::{Drawer, Page, Sheet, Shelf};
 use mime_tool::{FileFault, Files, Sink, SinkFault};
 use std::alloc::Global;
 
@@ -31,34 +31,23 @@ impl Files for FailingFiles {
 }
 
 /// Files of a shelf of which one call fails: so many are met before it.
-#[derive(Clone, Copy)]
+#[derive(Drop)]
 pub struct FailingShelf<'a> {
     pub shelf: Shelf<'a>,
     pub calls: usize,
     pub fault: FileFault,
 }
 
-impl FailingShelf<'_> {
-    fn step(&mut self) -> Result<(), FileFault> {
-        if self.calls == 0 {
-            self.calls = usize::MAX;
-            return Err(self.fault);
-        }
-        self.calls -= 1;
-        Ok(())
-    }
-}
-
 impl<'a> Files for FailingShelf<'a> {
     type Reader = Page<'a>;
 
     fn whole(&mut self, alloc: Global, path: &str) -> Result<Option<Vec<u8>>, FileFault> {
-        self.step()?;
+        step(&mut self.calls, self.fault)?;
         self.shelf.whole(alloc, path)
     }
 
     fn open(&mut self, alloc: Global, path: &str) -> Result<Page<'a>, FileFault> {
-        self.step()?;
+        step(&mut self.calls, self.fault)?;
         self.shelf.open(alloc, path)
     }
 
@@ -69,9 +58,51 @@ impl<'a> Files for FailingShelf<'a> {
         path: &str,
         bytes: &[u8],
     ) -> Result<(), FileFault> {
-        self.step()?;
+        step(&mut self.calls, self.fault)?;
         self.shelf.replace(alloc, temp, path, bytes)
     }
+}
+
+/// Files of a drawer of which one call fails: so many are met before it.
+#[derive(Drop)]
+pub struct FailingDrawer<'a> {
+    pub drawer: Drawer<'a>,
+    pub calls: usize,
+    pub fault: FileFault,
+}
+
+impl<'a> Files for FailingDrawer<'a> {
+    type Reader = Sheet<'a>;
+
+    fn whole(&mut self, alloc: Global, path: &str) -> Result<Option<Vec<u8>>, FileFault> {
+        step(&mut self.calls, self.fault)?;
+        self.drawer.whole(alloc, path)
+    }
+
+    fn open(&mut self, alloc: Global, path: &str) -> Result<Sheet<'a>, FileFault> {
+        step(&mut self.calls, self.fault)?;
+        self.drawer.open(alloc, path)
+    }
+
+    fn replace(
+        &mut self,
+        alloc: Global,
+        temp: &str,
+        path: &str,
+        bytes: &[u8],
+    ) -> Result<(), FileFault> {
+        step(&mut self.calls, self.fault)?;
+        self.drawer.replace(alloc, temp, path, bytes)
+    }
+}
+
+fn step(calls: &mut usize, fault: FileFault) -> Result<(), FileFault> {
+    if *calls == 0 {
+        *calls = usize::MAX;
+        return Err(fault);
+    }
+    *calls -= 1;
+    Ok(())
 }
 
 /// A sink of which some calls fail, flushes too: so many are met, then so many fail, and the rest

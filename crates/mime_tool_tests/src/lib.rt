@@ -1,9 +1,10 @@
 //! Files, sinks, readers and a disk in memory, over which the program is tested.
 //!
-//! [`Shelf`] tells what it stores, so a run over it is one of which every clause of the program
-//! speaks; a [`Drawer`] has one file that can be replaced; [`FailingFiles`], [`FailingShelf`],
-//! [`FailingSink`], [`Script`] and [`Disk`] fail at a call of choice. The tests hold what no clause
-//! says: the texts of help and of messages, and what is done with each failure of the system.
+//! [`Shelf`] and [`Drawer`] tell what they store and what can be replaced, nothing on the one and one
+//! file in the other, so a run over them is one of which every clause of the program speaks;
+//! [`FailingFiles`], [`FailingShelf`], [`FailingDrawer`], [`FailingSink`], [`Script`] and [`Disk`] fail
+//! at a call of choice. The tests hold what no clause says: the texts of help and of messages, and
+//! what is done with each failure of the system.
 #![tactic(auto)]
 
 mod disk;
@@ -13,8 +14,8 @@ mod reader;
 mod shelf;
 
 pub use disk::{Disk, Opened};
-pub use drawer::{Drawer, Laid};
-pub use failing::{FailingFiles, FailingShelf, FailingSink};
+pub use drawer::{Drawer, Sheet};
+pub use failing::{FailingDrawer, FailingFiles, FailingShelf, FailingSink};
 pub use reader::{Script, Step};
 pub use shelf::{Entry, Page, Shelf};
 

@@ -1,4 +1,4 @@
-//! Files in memory that tell what is stored.
+//! Files in memory that tell what is stored, and that none can be replaced.
 
 ghost use Rattle.std.specs.Prelude.{◌≡◌};
 ghost use Rattle.mime_tool_tests.specs.Shelf.{entry_in, stored_at};
@@ -60,7 +60,11 @@ pub struct Shelf<'a> {
 }
 
 impl<'a> Files for Shelf<'a> {
+    ghost use Rattle.mime_tool.specs.Files.{fails};
+
     ghost tells = { λ shelf. stored_at shelf.entries.now };
+
+    ghost writes = { λ _ _ _. fails };
 
     type Reader = Page<'a>;
 

@@ -4,14 +4,13 @@ use crate::{Entry, Shelf};
 use mime_tool::run;
 use std::test::Fail;
 
-#[derive(Clone, Copy)]
-struct Row<'a> {
-    name: &'a str,
-    words: &'a [&'a str],
-    entries: &'a [(&'a str, Entry<'a>)],
+struct Row {
+    name: &'static str,
+    words: &'static [&'static str],
+    entries: &'static [(&'static str, Entry<'static>)],
     status: u8,
-    out: &'a str,
-    err: &'a str,
+    out: &'static str,
+    err: &'static str,
 }
 
 // 127 bytes `a`, and a zero byte.
@@ -34,47 +33,48 @@ const SIGNED: &[u8] = b"SIG and more";
 
 const HELLO: &[u8] = b"hello";
 
+const BY_CONTENT: [Row; 3] = [
+    Row {
+        name: "no rules",
+        words: &["plain", "-d", "", "e", "t", "b", "l"],
+        entries: &[
+            ("e", Entry::Bytes(b"")),
+            ("t", Entry::Bytes(b"hi\n")),
+            ("b", Entry::Bytes(ZERO_AT_127)),
+            ("l", Entry::Bytes(ZERO_AT_128)),
+        ],
+        status: 0,
+        out: "e: application/x-zerosize\nt: text/plain\n\
+            b: application/octet-stream\nl: text/plain\n",
+        err: "",
+    },
+    Row {
+        name: "content decides among kept rules",
+        words: &["plain", "-d", "/s", "x/a.doc"],
+        entries: &[
+            ("/s/mime/globs2", Entry::Bytes(NOTES)),
+            ("x/a.doc", Entry::Bytes(HELLO)),
+        ],
+        status: 0,
+        out: "x/a.doc: text/x-notes\n",
+        err: "",
+    },
+    Row {
+        name: "the name alone decides among them",
+        words: &["plain", "-d", "/s", "--name-only", "x/a.doc"],
+        entries: &[
+            ("/s/mime/globs2", Entry::Bytes(NOTES)),
+            ("x/a.doc", Entry::Bytes(HELLO)),
+        ],
+        status: 0,
+        out: "x/a.doc: application/msword\n",
+        err: "",
+    },
+];
+
 #[test]
 fn answers_by_content(rt: HostRuntime) -> Result<(), Fail> {
-    let rows = [
-        Row {
-            name: "no rules",
-            words: &["plain", "-d", "", "e", "t", "b", "l"],
-            entries: &[
-                ("e", Entry::Bytes(b"")),
-                ("t", Entry::Bytes(b"hi\n")),
-                ("b", Entry::Bytes(ZERO_AT_127)),
-                ("l", Entry::Bytes(ZERO_AT_128)),
-            ],
-            status: 0,
-            out: "e: application/x-zerosize\nt: text/plain\n\
-                b: application/octet-stream\nl: text/plain\n",
-            err: "",
-        },
-        Row {
-            name: "content decides among kept rules",
-            words: &["plain", "-d", "/s", "x/a.doc"],
-            entries: &[
-                ("/s/mime/globs2", Entry::Bytes(NOTES)),
-                ("x/a.doc", Entry::Bytes(HELLO)),
-            ],
-            status: 0,
-            out: "x/a.doc: text/x-notes\n",
-            err: "",
-        },
-        Row {
-            name: "the name alone decides among them",
-            words: &["plain", "-d", "/s", "--name-only", "x/a.doc"],
-            entries: &[
-                ("/s/mime/globs2", Entry::Bytes(NOTES)),
-                ("x/a.doc", Entry::Bytes(HELLO)),
-            ],
-            status: 0,
-            out: "x/a.doc: application/msword\n",
-            err: "",
-        },
-    ];
-    for row in &rows {
+    for row in &BY_CONTENT {
         let mut files = Shelf {
             entries: row.entries,
         };
@@ -88,72 +88,73 @@ fn answers_by_content(rt: HostRuntime) -> Result<(), Fail> {
     }
     Ok(())
 }
+
+const IN_ORDER: [Row; 4] = [
+    Row {
+        name: "globs before magic",
+        words: &["plain", "-d", "/s", "x.a", "x"],
+        entries: &[
+            ("/s/mime/globs2", Entry::Bytes(GLOBS)),
+            ("/s/mime/magic", Entry::Bytes(HIGH)),
+            ("x.a", Entry::Bytes(SIGNED)),
+            ("x", Entry::Bytes(SIGNED)),
+        ],
+        status: 0,
+        out: "x.a: t/a\nx: image/x-sig\n",
+        err: "",
+    },
+    Row {
+        name: "magic of high priority before globs",
+        words: &["plain", "-d", "/s", "--magic-first", "x.a", "y.a"],
+        entries: &[
+            ("/s/mime/globs2", Entry::Bytes(GLOBS)),
+            ("/s/mime/magic", Entry::Bytes(HIGH)),
+            ("x.a", Entry::Bytes(SIGNED)),
+            ("y.a", Entry::Bytes(HELLO)),
+        ],
+        status: 0,
+        out: "x.a: image/x-sig\ny.a: t/a\n",
+        err: "",
+    },
+    Row {
+        name: "globs before magic of low priority",
+        words: &["plain", "-d", "/s", "--magic-first", "x.a"],
+        entries: &[
+            ("/s/mime/globs2", Entry::Bytes(GLOBS)),
+            ("/s/mime/magic", Entry::Bytes(LOW)),
+            ("x.a", Entry::Bytes(SIGNED)),
+        ],
+        status: 0,
+        out: "x.a: t/a\n",
+        err: "",
+    },
+    Row {
+        name: "nothing is opened for names alone",
+        words: &[
+            "plain",
+            "-d",
+            "/s",
+            "--name-only",
+            "--magic-first",
+            "x.a",
+            "y.a",
+            "z",
+        ],
+        entries: &[
+            ("/s/mime/globs2", Entry::Bytes(GLOBS)),
+            ("/s/mime/magic", Entry::Bytes(HIGH)),
+            ("x.a", Entry::Bytes(SIGNED)),
+            ("y.a", Entry::Closed),
+        ],
+        status: 0,
+        out: "x.a: t/a\ny.a: t/a\nz: application/octet-stream\n",
+        err: "",
+    },
+];
 
 #[test]
 fn asks_globs_or_magic_first(rt: HostRuntime) -> Result<(), Fail> {
-    let rows = [
-        Row {
-            name: "globs before magic",
-            words: &["plain", "-d", "/s", "x.a", "x"],
-            entries: &[
-                ("/s/mime/globs2", Entry::Bytes(GLOBS)),
-                ("/s/mime/magic", Entry::Bytes(HIGH)),
-                ("x.a", Entry::Bytes(SIGNED)),
-                ("x", Entry::Bytes(SIGNED)),
-            ],
-            status: 0,
-            out: "x.a: t/a\nx: image/x-sig\n",
-            err: "",
-        },
-        Row {
-            name: "magic of high priority before globs",
-            words: &["plain", "-d", "/s", "--magic-first", "x.a", "y.a"],
-            entries: &[
-                ("/s/mime/globs2", Entry::Bytes(GLOBS)),
-                ("/s/mime/magic", Entry::Bytes(HIGH)),
-                ("x.a", Entry::Bytes(SIGNED)),
-                ("y.a", Entry::Bytes(HELLO)),
-            ],
-            status: 0,
-            out: "x.a: image/x-sig\ny.a: t/a\n",
-            err: "",
-        },
-        Row {
-            name: "globs before magic of low priority",
-            words: &["plain", "-d", "/s", "--magic-first", "x.a"],
-            entries: &[
-                ("/s/mime/globs2", Entry::Bytes(GLOBS)),
-                ("/s/mime/magic", Entry::Bytes(LOW)),
-                ("x.a", Entry::Bytes(SIGNED)),
-            ],
-            status: 0,
-            out: "x.a: t/a\n",
-            err: "",
-        },
-        Row {
-            name: "nothing is opened for names alone",
-            words: &[
-                "plain",
-                "-d",
-                "/s",
-                "--name-only",
-                "--magic-first",
-                "x.a",
-                "y.a",
-                "z",
-            ],
-            entries: &[
-                ("/s/mime/globs2", Entry::Bytes(GLOBS)),
-                ("/s/mime/magic", Entry::Bytes(HIGH)),
-                ("x.a", Entry::Bytes(SIGNED)),
-                ("y.a", Entry::Closed),
-            ],
-            status: 0,
-            out: "x.a: t/a\ny.a: t/a\nz: application/octet-stream\n",
-            err: "",
-        },
-    ];
-    for row in &rows {
+    for row in &IN_ORDER {
         let mut files = Shelf {
             entries: row.entries,
         };
@@ -167,34 +168,35 @@ fn asks_globs_or_magic_first(rt: HostRuntime) -> Result<(), Fail> {
     }
     Ok(())
 }
+
+const OF_DIRECTORIES: [Row; 2] = [
+    Row {
+        name: "the first of several directories is preferred",
+        words: &["plain", "-d", "/s:/u", "--name-only", "x.a", "x.b"],
+        entries: &[
+            ("/s/mime/globs2", Entry::Bytes(GLOBS)),
+            ("/u/mime/globs2", Entry::Bytes(b"50:t/b:*.b\n50:t/c:*.a\n")),
+        ],
+        status: 0,
+        out: "x.a: t/a\nx.b: t/b\n",
+        err: "",
+    },
+    Row {
+        name: "a type that the first directory hides",
+        words: &["plain", "-d", "/s:/u", "--name-only", "x.b"],
+        entries: &[
+            ("/s/mime/globs2", Entry::Bytes(b"0:t/b:__NOGLOBS__\n")),
+            ("/u/mime/globs2", Entry::Bytes(b"50:t/b:*.b\n")),
+        ],
+        status: 0,
+        out: "x.b: application/octet-stream\n",
+        err: "",
+    },
+];
 
 #[test]
 fn prefers_the_first_directory(rt: HostRuntime) -> Result<(), Fail> {
-    let rows = [
-        Row {
-            name: "the first of several directories is preferred",
-            words: &["plain", "-d", "/s:/u", "--name-only", "x.a", "x.b"],
-            entries: &[
-                ("/s/mime/globs2", Entry::Bytes(GLOBS)),
-                ("/u/mime/globs2", Entry::Bytes(b"50:t/b:*.b\n50:t/c:*.a\n")),
-            ],
-            status: 0,
-            out: "x.a: t/a\nx.b: t/b\n",
-            err: "",
-        },
-        Row {
-            name: "a type that the first directory hides",
-            words: &["plain", "-d", "/s:/u", "--name-only", "x.b"],
-            entries: &[
-                ("/s/mime/globs2", Entry::Bytes(b"0:t/b:__NOGLOBS__\n")),
-                ("/u/mime/globs2", Entry::Bytes(b"50:t/b:*.b\n")),
-            ],
-            status: 0,
-            out: "x.b: application/octet-stream\n",
-            err: "",
-        },
-    ];
-    for row in &rows {
+    for row in &OF_DIRECTORIES {
         let mut files = Shelf {
             entries: row.entries,
         };
@@ -209,72 +211,73 @@ fn prefers_the_first_directory(rt: HostRuntime) -> Result<(), Fail> {
     Ok(())
 }
 
+const WITHOUT_A_LINE: [Row; 5] = [
+    Row {
+        name: "a FILE that can't be opened",
+        words: &["plain", "-d", "/s", "x.a", "y.a", "z"],
+        entries: &[
+            ("/s/mime/globs2", Entry::Bytes(GLOBS)),
+            ("x.a", Entry::Bytes(HELLO)),
+            ("y.a", Entry::Closed),
+            ("z", Entry::Bytes(HELLO)),
+        ],
+        status: 1,
+        out: "x.a: t/a\nz: text/plain\n",
+        err: "mimelook: y.a: cannot open\n",
+    },
+    Row {
+        name: "a FILE that isn't there",
+        words: &["plain", "-d", "/s", "x.a", "y.a", "z"],
+        entries: &[
+            ("/s/mime/globs2", Entry::Bytes(GLOBS)),
+            ("x.a", Entry::Bytes(HELLO)),
+            ("z", Entry::Bytes(HELLO)),
+        ],
+        status: 1,
+        out: "x.a: t/a\nz: text/plain\n",
+        err: "mimelook: y.a: cannot open\n",
+    },
+    Row {
+        name: "a directory, by globs alone",
+        words: &["plain", "-d", "/s", "d.a"],
+        entries: &[
+            ("/s/mime/globs2", Entry::Bytes(GLOBS)),
+            ("d.a", Entry::Unreadable),
+        ],
+        status: 0,
+        out: "d.a: t/a\n",
+        err: "",
+    },
+    Row {
+        name: "a directory of which content is wanted",
+        words: &["plain", "-d", "/s", "d", "x.a", "a.doc"],
+        entries: &[
+            ("/s/mime/globs2", Entry::Bytes(NOTES)),
+            ("d", Entry::Unreadable),
+            ("x.a", Entry::Bytes(HELLO)),
+            ("a.doc", Entry::Unreadable),
+        ],
+        status: 1,
+        out: "x.a: text/plain\n",
+        err: "mimelook: d: cannot read\nmimelook: a.doc: cannot read\n",
+    },
+    Row {
+        name: "a directory of which magic is wanted first",
+        words: &["plain", "-d", "/s", "--magic-first", "d.a", "x.a"],
+        entries: &[
+            ("/s/mime/globs2", Entry::Bytes(GLOBS)),
+            ("d.a", Entry::Unreadable),
+            ("x.a", Entry::Bytes(HELLO)),
+        ],
+        status: 1,
+        out: "x.a: t/a\n",
+        err: "mimelook: d.a: cannot read\n",
+    },
+];
+
 #[test]
 fn says_why_a_file_has_no_line(rt: HostRuntime) -> Result<(), Fail> {
-    let rows = [
-        Row {
-            name: "a FILE that can't be opened",
-            words: &["plain", "-d", "/s", "x.a", "y.a", "z"],
-            entries: &[
-                ("/s/mime/globs2", Entry::Bytes(GLOBS)),
-                ("x.a", Entry::Bytes(HELLO)),
-                ("y.a", Entry::Closed),
-                ("z", Entry::Bytes(HELLO)),
-            ],
-            status: 1,
-            out: "x.a: t/a\nz: text/plain\n",
-            err: "mimelook: y.a: cannot open\n",
-        },
-        Row {
-            name: "a FILE that isn't there",
-            words: &["plain", "-d", "/s", "x.a", "y.a", "z"],
-            entries: &[
-                ("/s/mime/globs2", Entry::Bytes(GLOBS)),
-                ("x.a", Entry::Bytes(HELLO)),
-                ("z", Entry::Bytes(HELLO)),
-            ],
-            status: 1,
-            out: "x.a: t/a\nz: text/plain\n",
-            err: "mimelook: y.a: cannot open\n",
-        },
-        Row {
-            name: "a directory, by globs alone",
-            words: &["plain", "-d", "/s", "d.a"],
-            entries: &[
-                ("/s/mime/globs2", Entry::Bytes(GLOBS)),
-                ("d.a", Entry::Unreadable),
-            ],
-            status: 0,
-            out: "d.a: t/a\n",
-            err: "",
-        },
-        Row {
-            name: "a directory of which content is wanted",
-            words: &["plain", "-d", "/s", "d", "x.a", "a.doc"],
-            entries: &[
-                ("/s/mime/globs2", Entry::Bytes(NOTES)),
-                ("d", Entry::Unreadable),
-                ("x.a", Entry::Bytes(HELLO)),
-                ("a.doc", Entry::Unreadable),
-            ],
-            status: 1,
-            out: "x.a: text/plain\n",
-            err: "mimelook: d: cannot read\nmimelook: a.doc: cannot read\n",
-        },
-        Row {
-            name: "a directory of which magic is wanted first",
-            words: &["plain", "-d", "/s", "--magic-first", "d.a", "x.a"],
-            entries: &[
-                ("/s/mime/globs2", Entry::Bytes(GLOBS)),
-                ("d.a", Entry::Unreadable),
-                ("x.a", Entry::Bytes(HELLO)),
-            ],
-            status: 1,
-            out: "x.a: t/a\n",
-            err: "mimelook: d.a: cannot read\n",
-        },
-    ];
-    for row in &rows {
+    for row in &WITHOUT_A_LINE {
         let mut files = Shelf {
             entries: row.entries,
         };

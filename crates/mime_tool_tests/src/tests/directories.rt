@@ -4,13 +4,12 @@ use crate::{Entry, Shelf};
 use mime_tool::run;
 use std::test::Fail;
 
-#[derive(Clone, Copy)]
-struct Row<'a> {
-    name: &'a str,
-    entries: &'a [(&'a str, Entry<'a>)],
+struct Row {
+    name: &'static str,
+    entries: &'static [(&'static str, Entry<'static>)],
     status: u8,
-    out: &'a str,
-    err: &'a str,
+    out: &'static str,
+    err: &'static str,
 }
 
 // Each file of lines has a malformed line.
@@ -39,45 +38,46 @@ mimelook: /b/mime/icons: line 2 ignored
 mimelook: /b/mime/generic-icons: line 2 ignored
 ";
 
+const WRONG: [Row; 4] = [
+    Row {
+        name: "each file's lines, in the order of the files",
+        entries: &MALFORMED,
+        status: 0,
+        out: "x.a: t/a\n",
+        err: IN_ORDER,
+    },
+    Row {
+        name: "no header",
+        entries: &[("/b/mime/magic", Entry::Bytes(b"MIME"))],
+        status: 3,
+        out: "",
+        err: "mimelook: /b/mime/magic: magic no header at 0\n",
+    },
+    Row {
+        name: "a stop after messages, and before later files",
+        entries: &[
+            ("/b/mime/globs2", Entry::Bytes(b"nothing\n")),
+            ("/b/mime/magic", Entry::Bytes(b"MIME-Magic\0\n")),
+            ("/b/mime/aliases", Entry::Unreadable),
+            ("/b/mime/subclasses", Entry::Bytes(b"nothing")),
+        ],
+        status: 3,
+        out: "",
+        err: "mimelook: /b/mime/globs2: line 1 ignored\n\
+            mimelook: /b/mime/aliases: cannot read\n",
+    },
+    Row {
+        name: "the last file can't be read",
+        entries: &[("/b/mime/generic-icons", Entry::Unreadable)],
+        status: 3,
+        out: "",
+        err: "mimelook: /b/mime/generic-icons: cannot read\n",
+    },
+];
+
 #[test]
 fn says_what_is_wrong_with_a_directory(rt: HostRuntime) -> Result<(), Fail> {
-    let rows = [
-        Row {
-            name: "each file's lines, in the order of the files",
-            entries: &MALFORMED,
-            status: 0,
-            out: "x.a: t/a\n",
-            err: IN_ORDER,
-        },
-        Row {
-            name: "no header",
-            entries: &[("/b/mime/magic", Entry::Bytes(b"MIME"))],
-            status: 3,
-            out: "",
-            err: "mimelook: /b/mime/magic: magic no header at 0\n",
-        },
-        Row {
-            name: "a stop after messages, and before later files",
-            entries: &[
-                ("/b/mime/globs2", Entry::Bytes(b"nothing\n")),
-                ("/b/mime/magic", Entry::Bytes(b"MIME-Magic\0\n")),
-                ("/b/mime/aliases", Entry::Unreadable),
-                ("/b/mime/subclasses", Entry::Bytes(b"nothing")),
-            ],
-            status: 3,
-            out: "",
-            err: "mimelook: /b/mime/globs2: line 1 ignored\n\
-                mimelook: /b/mime/aliases: cannot read\n",
-        },
-        Row {
-            name: "the last file can't be read",
-            entries: &[("/b/mime/generic-icons", Entry::Unreadable)],
-            status: 3,
-            out: "",
-            err: "mimelook: /b/mime/generic-icons: cannot read\n",
-        },
-    ];
-    for row in &rows {
+    for row in &WRONG {
         let mut files = Shelf {
             entries: row.entries,
         };

@@ -52,51 +52,70 @@ fn names_what_files_fail_with(rt: HostRuntime) -> Result<(), Fail> {
     Ok(())
 }
 
+/// Faults of standard output, how many calls meet one, and how the run stops then.
+struct Row {
+    name: &'static str,
+    times: usize,
+    fault: SinkFault,
+    status: u8,
+    message: &'static str,
+}
+
+const FAULTS: [Row; 4] = [
+    Row {
+        name: "one fault",
+        times: 1,
+        fault: SinkFault::Failed,
+        status: 3,
+        message: CANNOT_WRITE,
+    },
+    Row {
+        name: "faults",
+        times: usize::MAX,
+        fault: SinkFault::Failed,
+        status: 3,
+        message: CANNOT_WRITE,
+    },
+    Row {
+        name: "no memory once",
+        times: 1,
+        fault: SinkFault::OutOfMemory,
+        status: 4,
+        message: NO_MEMORY,
+    },
+    Row {
+        name: "no memory",
+        times: usize::MAX,
+        fault: SinkFault::OutOfMemory,
+        status: 4,
+        message: NO_MEMORY,
+    },
+];
+
 // The first calls are met, then one fails, or all of them from there on. What was put before it
 // stays, whole, and is flushed where the sink lets it.
 #[test]
 fn stops_at_each_failing_write(rt: HostRuntime) -> Result<(), Fail> {
     let alloc = rt.alloc();
-    let faults = [
-        ("one fault", 1, SinkFault::Failed, 3, CANNOT_WRITE),
-        ("faults", usize::MAX, SinkFault::Failed, 3, CANNOT_WRITE),
-        ("no memory once", 1, SinkFault::OutOfMemory, 4, NO_MEMORY),
-        (
-            "no memory",
-            usize::MAX,
-            SinkFault::OutOfMemory,
-            4,
-            NO_MEMORY,
-        ),
-    ];
     let entries = [("/s/mime/globs2", Entry::Bytes(GLOBS))];
-    for (name, times, fault, stopped, message) in faults {
-        let said = format!(in alloc; "{IGNORED}{message}")?;
+    for row in &FAULTS {
+        let said = format!(in alloc; "{IGNORED}{}", row.message)?;
         let mut put = String::new(alloc);
         for calls in 0..=PIECES.len() {
+            let at = format!(in alloc; "{} at {calls}", row.name)?;
             let mut files = Shelf { entries: &entries };
-            let mut out = FailingSink::new(alloc, calls, times, fault);
+            let mut out = FailingSink::new(alloc, calls, row.times, row.fault);
             let mut err = Vec::new(alloc);
             let status = run(alloc, &WORDS, &mut files, &mut out, &mut err);
-            let is_flushed = times == 1 && calls < PIECES.len();
-            assert_eq!(rt; status, stopped, "{name} at {calls}");
-            assert_eq!(rt;
-                str::from_utf8(out.taken.as_slice())?,
-                put.as_str(),
-                "{name} at {calls}"
-            );
-            assert_eq!(rt;
-                str::from_utf8(err.as_slice())?,
-                said.as_str(),
-                "{name} at {calls}"
-            );
+            let is_flushed = row.times == 1 && calls < PIECES.len();
             let flushed = if is_flushed { put.len() } else { 0 };
-            assert_eq!(rt; out.flushed, flushed, "{name} at {calls}");
-            if calls < PIECES.len() {
-                put.push_str(PIECES[calls])?;
-            }
+            assert_eq!(rt; status, row.status, "{at}");
+            assert_eq!(rt; str::from_utf8(out.taken.as_slice())?, put.as_str(), "{at}");
+            assert_eq!(rt; str::from_utf8(err.as_slice())?, said.as_str(), "{at}");
+            assert_eq!(rt; out.flushed, flushed, "{at}");
+            put.push_str(PIECES.get(calls).unwrap_or(&""))?;
         }
-        assert_eq!(rt; put.as_str(), OUTPUT);
+        assert_eq!(rt; put.as_str(), OUTPUT, "{}", row.name);
     }
     Ok(())
 }

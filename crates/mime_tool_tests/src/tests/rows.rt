@@ -4,66 +4,66 @@ use crate::{Entry, Shelf};
 use mime_tool::run;
 use std::test::Fail;
 
-#[derive(Clone, Copy)]
-struct Row<'a> {
-    name: &'a str,
-    words: &'a [&'a str],
-    globs: Option<Entry<'a>>,
+struct Row {
+    name: &'static str,
+    words: &'static [&'static str],
+    globs: Option<Entry<'static>>,
     status: u8,
-    out: &'a str,
-    err: &'a str,
+    out: &'static str,
+    err: &'static str,
 }
 
 const GLOBS: &[u8] = b"50:text/x-readme:readme*\n50:t/a:*.a\n";
 
 const TYPED: &str = "x/README: text/x-readme\ny.a: t/a\nz: application/octet-stream\n";
 
+const PRINTED: [Row; 5] = [
+    Row {
+        name: "the stored run",
+        words: &["plain", "--name-only", "-d", "", "a"],
+        globs: None,
+        status: 0,
+        out: "a: application/octet-stream\n",
+        err: "",
+    },
+    Row {
+        name: "each file has a line",
+        words: &["plain", "-d", ":/s:", "--name-only", "x/README", "y.a", "z"],
+        globs: Some(Entry::Bytes(GLOBS)),
+        status: 0,
+        out: TYPED,
+        err: "",
+    },
+    Row {
+        name: "a missing file counts as empty",
+        words: &["plain", "-d", "/s", "--name-only", "y.a"],
+        globs: None,
+        status: 0,
+        out: "y.a: application/octet-stream\n",
+        err: "",
+    },
+    Row {
+        name: "malformed lines are reported",
+        words: &["plain", "-d", "/s", "--name-only", "y.a"],
+        globs: Some(Entry::Bytes(b"nothing\n50:t/a:*.a\n\n# a comment\n300:t/b:*.a")),
+        status: 0,
+        out: "y.a: t/a\n",
+        err: "mimelook: /s/mime/globs2: line 1 ignored\n\
+            mimelook: /s/mime/globs2: line 5 ignored\n",
+    },
+    Row {
+        name: "unreadable rules stop",
+        words: &["plain", "-d", "/s", "--name-only", "y.a", "z"],
+        globs: Some(Entry::Unreadable),
+        status: 3,
+        out: "",
+        err: "mimelook: /s/mime/globs2: cannot read\n",
+    },
+];
+
 #[test]
 fn prints_each_row(rt: HostRuntime) -> Result<(), Fail> {
-    let rows = [
-        Row {
-            name: "the stored run",
-            words: &["plain", "--name-only", "-d", "", "a"],
-            globs: None,
-            status: 0,
-            out: "a: application/octet-stream\n",
-            err: "",
-        },
-        Row {
-            name: "each file has a line",
-            words: &["plain", "-d", ":/s:", "--name-only", "x/README", "y.a", "z"],
-            globs: Some(Entry::Bytes(GLOBS)),
-            status: 0,
-            out: TYPED,
-            err: "",
-        },
-        Row {
-            name: "a missing file counts as empty",
-            words: &["plain", "-d", "/s", "--name-only", "y.a"],
-            globs: None,
-            status: 0,
-            out: "y.a: application/octet-stream\n",
-            err: "",
-        },
-        Row {
-            name: "malformed lines are reported",
-            words: &["plain", "-d", "/s", "--name-only", "y.a"],
-            globs: Some(Entry::Bytes(b"nothing\n50:t/a:*.a\n\n# a comment\n300:t/b:*.a")),
-            status: 0,
-            out: "y.a: t/a\n",
-            err: "mimelook: /s/mime/globs2: line 1 ignored\n\
-                mimelook: /s/mime/globs2: line 5 ignored\n",
-        },
-        Row {
-            name: "unreadable rules stop",
-            words: &["plain", "-d", "/s", "--name-only", "y.a", "z"],
-            globs: Some(Entry::Unreadable),
-            status: 3,
-            out: "",
-            err: "mimelook: /s/mime/globs2: cannot read\n",
-        },
-    ];
-    for row in &rows {
+    for row in &PRINTED {
         let entries = [("/s/mime/globs2", row.globs.unwrap_or(Entry::Unreadable))];
         let mut files = Shelf {
             entries: if row.globs.is_some() { &entries } else { &[] },

@@ -75,51 +75,144 @@ fn gives(size: Result<u64, ErrorKind>, read: Option<ErrorKind>) -> Disk {
 // The longest file that is read whole, in bytes.
 const LONGEST: u64 = 4_294_967_296;
 
-// Whether there is a file, or its fault. What is read of one is nothing.
+const FAILED: Result<bool, FileFault> = Err(FileFault::Failed);
+
+const NO_MEMORY: Result<bool, FileFault> = Err(FileFault::OutOfMemory);
+
+/// Files that fail or give so, and whether there is a file then, or its fault. What is read of one is
+/// nothing.
+struct Whole {
+    name: &'static str,
+    disk: Disk,
+    want: Result<bool, FileFault>,
+}
+
+const WHOLE: [Whole; 17] = [
+    Whole {
+        name: "missing",
+        disk: Disk::Fails(ErrorKind::NotFound),
+        want: Ok(false),
+    },
+    Whole {
+        name: "denied",
+        disk: Disk::Fails(ErrorKind::PermissionDenied),
+        want: FAILED,
+    },
+    Whole {
+        name: "no folder",
+        disk: Disk::Fails(ErrorKind::NotADirectory),
+        want: FAILED,
+    },
+    Whole {
+        name: "interrupted",
+        disk: Disk::Fails(ErrorKind::Interrupted),
+        want: FAILED,
+    },
+    Whole {
+        name: "other",
+        disk: Disk::Fails(ErrorKind::Other),
+        want: FAILED,
+    },
+    Whole {
+        name: "no memory to open",
+        disk: Disk::Fails(ErrorKind::OutOfMemory),
+        want: NO_MEMORY,
+    },
+    Whole {
+        name: "empty",
+        disk: Disk::Gives(Opened {
+            size: Ok(0),
+            read: None,
+        }),
+        want: Ok(true),
+    },
+    Whole {
+        name: "longest",
+        disk: Disk::Gives(Opened {
+            size: Ok(LONGEST),
+            read: None,
+        }),
+        want: Ok(true),
+    },
+    Whole {
+        name: "one longer",
+        disk: Disk::Gives(Opened {
+            size: Ok(LONGEST + 1),
+            read: None,
+        }),
+        want: FAILED,
+    },
+    Whole {
+        name: "one longer isn't read",
+        disk: Disk::Gives(Opened {
+            size: Ok(LONGEST + 1),
+            read: Some(ErrorKind::OutOfMemory),
+        }),
+        want: FAILED,
+    },
+    Whole {
+        name: "far longer",
+        disk: Disk::Gives(Opened {
+            size: Ok(u64::MAX),
+            read: Some(ErrorKind::OutOfMemory),
+        }),
+        want: FAILED,
+    },
+    Whole {
+        name: "longest is read",
+        disk: Disk::Gives(Opened {
+            size: Ok(LONGEST),
+            read: Some(ErrorKind::OutOfMemory),
+        }),
+        want: NO_MEMORY,
+    },
+    Whole {
+        name: "no size",
+        disk: Disk::Gives(Opened {
+            size: Err(ErrorKind::PermissionDenied),
+            read: None,
+        }),
+        want: FAILED,
+    },
+    Whole {
+        name: "no memory for the size",
+        disk: Disk::Gives(Opened {
+            size: Err(ErrorKind::OutOfMemory),
+            read: None,
+        }),
+        want: NO_MEMORY,
+    },
+    Whole {
+        name: "denied read",
+        disk: Disk::Gives(Opened {
+            size: Ok(1),
+            read: Some(ErrorKind::PermissionDenied),
+        }),
+        want: FAILED,
+    },
+    Whole {
+        name: "missing read",
+        disk: Disk::Gives(Opened {
+            size: Ok(1),
+            read: Some(ErrorKind::NotFound),
+        }),
+        want: FAILED,
+    },
+    Whole {
+        name: "no memory to read",
+        disk: Disk::Gives(Opened {
+            size: Ok(1),
+            read: Some(ErrorKind::OutOfMemory),
+        }),
+        want: NO_MEMORY,
+    },
+];
+
 #[test]
 fn names_what_the_system_fails_with(rt: HostRuntime) -> Result<(), Fail> {
-    let failed = Err(FileFault::Failed);
-    let no_memory = Err(FileFault::OutOfMemory);
-    let denied = ErrorKind::PermissionDenied;
-    let memory = ErrorKind::OutOfMemory;
-    let rows = [
-        ("missing", Disk::Fails(ErrorKind::NotFound), Ok(false)),
-        ("denied", Disk::Fails(denied), failed),
-        ("no folder", Disk::Fails(ErrorKind::NotADirectory), failed),
-        ("interrupted", Disk::Fails(ErrorKind::Interrupted), failed),
-        ("other", Disk::Fails(ErrorKind::Other), failed),
-        ("no memory to open", Disk::Fails(memory), no_memory),
-        ("empty", gives(Ok(0), None), Ok(true)),
-        ("longest", gives(Ok(LONGEST), None), Ok(true)),
-        ("one longer", gives(Ok(LONGEST + 1), None), failed),
-        (
-            "one longer isn't read",
-            gives(Ok(LONGEST + 1), Some(memory)),
-            failed,
-        ),
-        ("far longer", gives(Ok(u64::MAX), Some(memory)), failed),
-        (
-            "longest is read",
-            gives(Ok(LONGEST), Some(memory)),
-            no_memory,
-        ),
-        ("no size", gives(Err(denied), None), failed),
-        (
-            "no memory for the size",
-            gives(Err(memory), None),
-            no_memory,
-        ),
-        ("denied read", gives(Ok(1), Some(denied)), failed),
-        (
-            "missing read",
-            gives(Ok(1), Some(ErrorKind::NotFound)),
-            failed,
-        ),
-        ("no memory to read", gives(Ok(1), Some(memory)), no_memory),
-    ];
-    for (name, disk, want) in rows {
-        let whole = SystemFiles::new(&disk).whole(rt.alloc(), "a");
-        assert_eq!(rt; whole.map(|file| file.is_some()), want, "{name}");
+    for row in &WHOLE {
+        let whole = SystemFiles::new(&row.disk).whole(rt.alloc(), "a");
+        assert_eq!(rt; whole.map(|file| file.is_some()), row.want, "{}", row.name);
     }
     Ok(())
 }

@@ -11,7 +11,7 @@ returns-in_err-outcome g c =
     let stored = (g.D.Desk.state c.args.desk.now).stored in
     rw (e.1, e.2) (record {
       same_files = found.same_files;
-      same_places = found.same_places;
+      same_setting = found.same_setting;
       sinks = comes_undone (plain_lookup c.args.lookup) stored c.args.file.now _ _ _ found.sinks;
     })
 
@@ -22,6 +22,6 @@ returns g c =
     let stored = (g.D.Desk.state c.args.desk.now).stored in
     record {
       same_files = written.same_files ∙ found.same_files;
-      same_places = written.same_places ∙ found.same_places;
+      same_setting = written.same_setting ∙ found.same_setting;
       sinks = comes_written (plain_lookup c.args.lookup) stored c.args.file.now c.in_ok-outcome.outcome _ _ _ _ found.sinks written.sinks;
     }

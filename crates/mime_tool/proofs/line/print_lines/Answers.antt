@@ -18,7 +18,7 @@ returns-in_err-print_line g c =
     let stored = (g.D.Desk.state c.args.desk.now).stored in
     rw (e.1, e.2) (record {
       same_files = line.same_files ∙ before.same_files;
-      same_places = line.same_places ∙ before.same_places;
+      same_setting = line.same_setting ∙ before.same_setting;
       sinks = ends_stop_at (IsTypeLine (plain_lookup c.args.lookup) stored) c.args.files.now c.loop-file.file-index no_text lt _ _ _ _ _
           before.sinks here.sinks;
     })
@@ -32,7 +32,7 @@ loop-file-preserved g c =
     let stored = (g.D.Desk.state c.args.desk.now).stored in
     rw c.max-status.ensures (record {
       same_files = line.same_files ∙ before.same_files;
-      same_places = line.same_places ∙ before.same_places;
+      same_setting = line.same_setting ∙ before.same_setting;
       sinks = ends_more_at (IsTypeLine (plain_lookup c.args.lookup) stored) c.args.files.now c.loop-file.file-index no_text lt _ _ _ _ _
           before.sinks here.sinks;
     })

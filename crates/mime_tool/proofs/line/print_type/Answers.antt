@@ -12,7 +12,7 @@ returns-in_err-print_pieces g c =
     let line = printed (type_line c.args.file.now c.args.kind.now) in
     rw (e.1, e.2) (record {
       same_files = put.same_files;
-      same_places = put.same_places;
+      same_setting = put.same_setting;
       sinks = ends_undone (Unit {0}) (λ (run : Run). run ≡ line) line _ _ _ refl put.sinks;
     })
 
@@ -21,6 +21,6 @@ returns g c =
     let put = c.in_ok-print_pieces.ensures in
     record {
       same_files = put.same_files;
-      same_places = put.same_places;
+      same_setting = put.same_setting;
       sinks = (printed (type_line c.args.file.now c.args.kind.now), refl, refl, refl, put.sinks);
     }

@@ -12,7 +12,7 @@ returns-in_err-report g c =
     let text = refusal c.args.file.now c.args.why.now in
     rw (e.1, e.2) (record {
       same_files = told.same_files;
-      same_places = told.same_places;
+      same_setting = told.same_setting;
       sinks = other_unsaid (Unit {0}) (λ (run : Run). run ≡ unanswered text) 1 text _ _ _ refl told.sinks;
     })
 
@@ -21,6 +21,6 @@ returns g c =
     let told = c.in_ok-report.ensures in
     record {
       same_files = told.same_files;
-      same_places = told.same_places;
+      same_setting = told.same_setting;
       sinks = (unanswered (refusal c.args.file.now c.args.why.now), refl, refl, refl, told.sinks);
     }

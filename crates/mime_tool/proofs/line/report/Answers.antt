@@ -10,7 +10,7 @@ returns-in_err-text g c =
     let e = err_from_is_err_and c.from_residual.result c.from_residual.ensures.1 in
     rw (e.1, e.2) (record {
       same_files = refl;
-      same_places = refl;
+      same_setting = refl;
       sinks = does_nothing (Unit {0}) (said (refusal c.args.file.now c.args.why.now))
           (g.D.Desk.state c.args.desk.now).sinks;
     })

@@ -17,7 +17,7 @@ returns-in_err-database g c =
     let magic_first = c.args.magic_first in
     rw (e.1, e.2) (record {
       same_files = load.same_files;
-      same_places = load.same_places;
+      same_setting = load.same_setting;
       sinks = command_unloaded Database plain_database stored (texts c.args.directories.now) (AreTypeLines stored name_only magic_first)
           (texts c.args.files.now) _ _ _ (no_lines stored name_only magic_first) load.sinks;
     })
@@ -32,7 +32,7 @@ returns g c =
     let magic_first = c.args.magic_first in
     record {
       same_files = lines.same_files ∙ load.same_files;
-      same_places = lines.same_places ∙ load.same_places;
+      same_setting = lines.same_setting ∙ load.same_setting;
       sinks = command_over Database plain_database stored (texts c.args.directories.now) (AreTypeLines stored name_only magic_first)
           (texts c.args.files.now) c.in_ok-database.database _ _ _ _
           (no_lines stored name_only magic_first (plain_database c.in_ok-database.database)) load.sinks here.sinks;

@@ -8,6 +8,7 @@ use Rattle.mime_tool.proofs.program.run.Goals as goal
 
 pub returns-in-Ok-clause-answers : goal.returns-in-Ok-clause-answers
 returns-in-Ok-clause-answers g c = λ known.
+    let writes = g.F.Files.writes c.args.files.now in
     let stored = g.F.Files.tells c.args.files.now in
     let after = g.F.Files.tells c.perform-ended.new.files in
     let m = meaning_of (map g.S.AsStr.text c.args.words.now) in
@@ -15,12 +16,13 @@ returns-in-Ok-clause-answers g c = λ known.
     let b : Sinks = record { out = g.O.Sink.holds c.perform-ended.new.out; err = g.E.Sink.holds c.perform-ended.new.err } in
     let ended = c.perform-ended.result in
     let flushed = c.in-Ok.ensures.flushed
-    (ends_known (IsAnswer stored after m) (files_of m) a b ended c.perform-ended.ensures.ended known) in
-    finishes_done (IsAnswer stored after m) (files_of m) a b (g.O.Sink.holds c.flush_after.new.out) (g.O.Sink.flushed c.flush_after.new.out)
-    ended c.in-Ok.status c.perform-ended.ensures.ended c.in-Ok.ensures.kept flushed
+    (ends_known (IsAnswer writes stored after m) (files_of m) a b ended c.perform-ended.ensures.ended known) in
+    finishes_done (IsAnswer writes stored after m) (files_of m) a b (g.O.Sink.holds c.flush_after.new.out)
+    (g.O.Sink.flushed c.flush_after.new.out) ended c.in-Ok.status c.perform-ended.ensures.ended c.in-Ok.ensures.kept flushed
 
 pub returns-in-Ok-clause-plain : goal.returns-in-Ok-clause-plain
 returns-in-Ok-clause-plain g c = λ known.
+    let writes = g.F.Files.writes c.args.files.now in
     let stored = g.F.Files.tells c.args.files.now in
     let after = g.F.Files.tells c.perform-ended.new.files in
     let words = map g.S.AsStr.text c.args.words.now in
@@ -30,13 +32,14 @@ returns-in-Ok-clause-plain g c = λ known.
     let o = g.O.Sink.holds c.flush_after.new.out in
     let ended = c.perform-ended.result in
     let flushed = c.in-Ok.ensures.flushed
-    (ends_known (IsAnswer stored after m) (files_of m) a b ended c.perform-ended.ensures.ended known) in
-    usual_finishes stored after words a (record { out = o; err = b.err }) c.in-Ok.status
-    (finishes_done (IsAnswer stored after m) (files_of m) a b o (g.O.Sink.flushed c.flush_after.new.out) ended c.in-Ok.status
+    (ends_known (IsAnswer writes stored after m) (files_of m) a b ended c.perform-ended.ensures.ended known) in
+    usual_finishes writes stored after words a (record { out = o; err = b.err }) c.in-Ok.status
+    (finishes_done (IsAnswer writes stored after m) (files_of m) a b o (g.O.Sink.flushed c.flush_after.new.out) ended c.in-Ok.status
     c.perform-ended.ensures.ended c.in-Ok.ensures.kept flushed)
 
 pub returns-in-Ok-clause-build : goal.returns-in-Ok-clause-build
 returns-in-Ok-clause-build g c = λ known.
+    let writes = g.F.Files.writes c.args.files.now in
     let stored = g.F.Files.tells c.args.files.now in
     let after = g.F.Files.tells c.perform-ended.new.files in
     let words = map g.S.AsStr.text c.args.words.now in
@@ -46,13 +49,14 @@ returns-in-Ok-clause-build g c = λ known.
     let o = g.O.Sink.holds c.flush_after.new.out in
     let ended = c.perform-ended.result in
     let flushed = c.in-Ok.ensures.flushed
-    (ends_known (IsAnswer stored after m) (files_of m) a b ended c.perform-ended.ensures.ended known) in
-    usual_builds stored after words a (record { out = o; err = b.err }) c.in-Ok.status
-    (finishes_done (IsAnswer stored after m) (files_of m) a b o (g.O.Sink.flushed c.flush_after.new.out) ended c.in-Ok.status
+    (ends_known (IsAnswer writes stored after m) (files_of m) a b ended c.perform-ended.ensures.ended known) in
+    usual_builds writes stored after words a (record { out = o; err = b.err }) c.in-Ok.status
+    (finishes_done (IsAnswer writes stored after m) (files_of m) a b o (g.O.Sink.flushed c.flush_after.new.out) ended c.in-Ok.status
     c.perform-ended.ensures.ended c.in-Ok.ensures.kept flushed)
 
 pub returns-in-Ok-clause-flushed : goal.returns-in-Ok-clause-flushed
 returns-in-Ok-clause-flushed g c = λ known.
+    let writes = g.F.Files.writes c.args.files.now in
     let stored = g.F.Files.tells c.args.files.now in
     let after = g.F.Files.tells c.perform-ended.new.files in
     let m = meaning_of (map g.S.AsStr.text c.args.words.now) in
@@ -60,11 +64,12 @@ returns-in-Ok-clause-flushed g c = λ known.
     let b : Sinks = record { out = g.O.Sink.holds c.perform-ended.new.out; err = g.E.Sink.holds c.perform-ended.new.err } in
     let ended = c.perform-ended.result in
     let flushed = c.in-Ok.ensures.flushed
-    (ends_known (IsAnswer stored after m) (files_of m) a b ended c.perform-ended.ensures.ended known) in
+    (ends_known (IsAnswer writes stored after m) (files_of m) a b ended c.perform-ended.ensures.ended known) in
     handed_on (g.O.Sink.flushed c.flush_after.new.out) ended c.in-Ok.status c.in-Ok.status flushed
 
 pub returns-in-Err-clause-answers : goal.returns-in-Err-clause-answers
 returns-in-Err-clause-answers g c = λ known.
+    let writes = g.F.Files.writes c.args.files.now in
     let stored = g.F.Files.tells c.args.files.now in
     let after = g.F.Files.tells c.perform-ended.new.files in
     let m = meaning_of (map g.S.AsStr.text c.args.words.now) in
@@ -73,12 +78,14 @@ returns-in-Err-clause-answers g c = λ known.
     let o = g.O.Sink.holds c.flush_after.new.out in
     let ended = c.perform-ended.result in
     let flushed = c.in-Err.ensures.flushed
-    (ends_known (IsAnswer stored after m) (files_of m) a b ended c.perform-ended.ensures.ended known) in
-    finishes_told (IsAnswer stored after m) (files_of m) a b o (g.E.Sink.holds c.tell.new.err) (g.O.Sink.flushed c.flush_after.new.out)
-    ended c.in-Err.stop c.tell.result c.perform-ended.ensures.ended known c.in-Err.ensures.kept flushed c.tell.ensures
+    (ends_known (IsAnswer writes stored after m) (files_of m) a b ended c.perform-ended.ensures.ended known) in
+    finishes_told (IsAnswer writes stored after m) (files_of m) a b o (g.E.Sink.holds c.tell.new.err)
+    (g.O.Sink.flushed c.flush_after.new.out) ended c.in-Err.stop c.tell.result c.perform-ended.ensures.ended known
+    c.in-Err.ensures.kept flushed c.tell.ensures
 
 pub returns-in-Err-clause-plain : goal.returns-in-Err-clause-plain
 returns-in-Err-clause-plain g c = λ known.
+    let writes = g.F.Files.writes c.args.files.now in
     let stored = g.F.Files.tells c.args.files.now in
     let after = g.F.Files.tells c.perform-ended.new.files in
     let words = map g.S.AsStr.text c.args.words.now in
@@ -89,13 +96,14 @@ returns-in-Err-clause-plain g c = λ known.
     let e = g.E.Sink.holds c.tell.new.err in
     let ended = c.perform-ended.result in
     let flushed = c.in-Err.ensures.flushed
-    (ends_known (IsAnswer stored after m) (files_of m) a b ended c.perform-ended.ensures.ended known) in
-    usual_finishes stored after words a (record { out = o; err = e }) c.tell.result
-    (finishes_told (IsAnswer stored after m) (files_of m) a b o e (g.O.Sink.flushed c.flush_after.new.out) ended c.in-Err.stop c.tell.result
-    c.perform-ended.ensures.ended known c.in-Err.ensures.kept flushed c.tell.ensures)
+    (ends_known (IsAnswer writes stored after m) (files_of m) a b ended c.perform-ended.ensures.ended known) in
+    usual_finishes writes stored after words a (record { out = o; err = e }) c.tell.result
+    (finishes_told (IsAnswer writes stored after m) (files_of m) a b o e (g.O.Sink.flushed c.flush_after.new.out) ended
+    c.in-Err.stop c.tell.result c.perform-ended.ensures.ended known c.in-Err.ensures.kept flushed c.tell.ensures)
 
 pub returns-in-Err-clause-build : goal.returns-in-Err-clause-build
 returns-in-Err-clause-build g c = λ known.
+    let writes = g.F.Files.writes c.args.files.now in
     let stored = g.F.Files.tells c.args.files.now in
     let after = g.F.Files.tells c.perform-ended.new.files in
     let words = map g.S.AsStr.text c.args.words.now in
@@ -106,13 +114,14 @@ returns-in-Err-clause-build g c = λ known.
     let e = g.E.Sink.holds c.tell.new.err in
     let ended = c.perform-ended.result in
     let flushed = c.in-Err.ensures.flushed
-    (ends_known (IsAnswer stored after m) (files_of m) a b ended c.perform-ended.ensures.ended known) in
-    usual_builds stored after words a (record { out = o; err = e }) c.tell.result
-    (finishes_told (IsAnswer stored after m) (files_of m) a b o e (g.O.Sink.flushed c.flush_after.new.out) ended c.in-Err.stop c.tell.result
-    c.perform-ended.ensures.ended known c.in-Err.ensures.kept flushed c.tell.ensures)
+    (ends_known (IsAnswer writes stored after m) (files_of m) a b ended c.perform-ended.ensures.ended known) in
+    usual_builds writes stored after words a (record { out = o; err = e }) c.tell.result
+    (finishes_told (IsAnswer writes stored after m) (files_of m) a b o e (g.O.Sink.flushed c.flush_after.new.out) ended
+    c.in-Err.stop c.tell.result c.perform-ended.ensures.ended known c.in-Err.ensures.kept flushed c.tell.ensures)
 
 pub returns-in-Err-clause-flushed : goal.returns-in-Err-clause-flushed
 returns-in-Err-clause-flushed g c = λ known.
+    let writes = g.F.Files.writes c.args.files.now in
     let stored = g.F.Files.tells c.args.files.now in
     let after = g.F.Files.tells c.perform-ended.new.files in
     let m = meaning_of (map g.S.AsStr.text c.args.words.now) in
@@ -120,6 +129,6 @@ returns-in-Err-clause-flushed g c = λ known.
     let b : Sinks = record { out = g.O.Sink.holds c.perform-ended.new.out; err = g.E.Sink.holds c.perform-ended.new.err } in
     let ended = c.perform-ended.result in
     let flushed = c.in-Err.ensures.flushed
-    (ends_known (IsAnswer stored after m) (files_of m) a b ended c.perform-ended.ensures.ended known) in
+    (ends_known (IsAnswer writes stored after m) (files_of m) a b ended c.perform-ended.ensures.ended known) in
     handed_on_told (g.O.Sink.flushed c.flush_after.new.out) ended c.in-Err.stop b.err (g.E.Sink.holds c.tell.new.err) c.tell.result flushed
     c.tell.ensures

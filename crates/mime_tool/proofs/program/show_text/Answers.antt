@@ -12,7 +12,7 @@ returns-in_err-print_text g c =
     let told = c.in_err-print_text.ensures in
     rw (e.1, e.2, c.if-is_help.true) (record {
       same_files = told.same_files;
-      same_places = told.same_places;
+      same_setting = told.same_setting;
       sinks = ends_undone (Unit {0}) (λ (run : Run). run ≡ shown true text) (printed text) _ _ _ refl told.sinks;
     })
 
@@ -23,7 +23,7 @@ returns-in_err-complain g c =
     let told = c.in_err-complain.ensures in
     rw (e.1, e.2, c.if-is_help.false) (record {
       same_files = told.same_files;
-      same_places = told.same_places;
+      same_setting = told.same_setting;
       sinks = other_unsaid (Unit {0}) (λ (run : Run). run ≡ shown false text) 2 text _ _ _ refl told.sinks;
     })
 
@@ -33,7 +33,7 @@ returns-in_ok-print_text g c =
     let told = c.in_ok-print_text.ensures in
     rw c.if-is_help.true (record {
       same_files = told.same_files;
-      same_places = told.same_places;
+      same_setting = told.same_setting;
       sinks =
           (shown true text, refl, refl, refl, told.sinks);
     })
@@ -44,7 +44,7 @@ returns-in_ok-complain g c =
     let told = c.in_ok-complain.ensures in
     rw c.if-is_help.false (record {
       same_files = told.same_files;
-      same_places = told.same_places;
+      same_setting = told.same_setting;
       sinks =
           (shown false text, refl, refl, refl, told.sinks);
     })

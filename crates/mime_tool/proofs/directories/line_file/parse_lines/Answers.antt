@@ -20,7 +20,7 @@ returns-in_err-report_ignored g c =
     let told = c.in_err-report_ignored.ensures in
     rw (e.1, e.2) (record {
       same_files = told.same_files;
-      same_places = told.same_places;
+      same_setting = told.same_setting;
       sinks = lines_unsaid _ g.T.LineFile.Plain (Unit {0}) g.T.LineFile.plain g.T.LineFile.Spells g.T.LineFile.is_malformed
           c.args.path.now c.args.text.now _ _ _ c.in_ok-file.file _ (c.skipped.ensures ∙ c.in_ok-file.ensures.skipped)
           c.in_ok-file.ensures.spells told.sinks;
@@ -31,7 +31,7 @@ returns g c =
     let told = c.in_ok-report_ignored.ensures in
     record {
       same_files = told.same_files;
-      same_places = told.same_places;
+      same_setting = told.same_setting;
       sinks = lines_said _ g.T.LineFile.Plain (Unit {0}) g.T.LineFile.plain g.T.LineFile.Spells g.T.LineFile.is_malformed
           c.args.path.now c.args.text.now _ _ _ tt c.in_ok-file.file (c.skipped.ensures ∙ c.in_ok-file.ensures.skipped)
           c.in_ok-file.ensures.spells told.sinks;

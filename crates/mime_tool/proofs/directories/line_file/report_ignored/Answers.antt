@@ -12,7 +12,7 @@ returns-in_err-report_line g c =
     let line = c.in_err-report_line.ensures in
     rw (e.1, e.2) (record {
       same_files = line.same_files ∙ before.same_files;
-      same_places = line.same_places ∙ before.same_places;
+      same_setting = line.same_setting ∙ before.same_setting;
       sinks = says_cut_at (Unit {0}) (ignored c.args.path.now) c.args.numbers.now c.loop-number.number-index 0 _ _ _ _ _ lt before.sinks
           line.sinks;
     })

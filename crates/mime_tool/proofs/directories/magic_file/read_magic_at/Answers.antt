@@ -25,6 +25,6 @@ returns g c =
     (works_text path _ _ _ c.in_ok-text.ensures)
     (record {
       same_files = refl;
-      same_places = refl;
+      same_setting = refl;
       sinks = (rw c.as_slice.ensures.value at c.parse_magic.ensures) (g.D.Desk.state c.read_text.new.self).sinks;
     })
