@@ -7,25 +7,19 @@ use Rattle.std.proofs.Math.ListN.{drop_of_length-le}
 use Rattle.std.proofs.lemmas.List.{get_or-reverse, length-reverse}
 use Rattle.std.proofs.lemmas.List.Elements.{filter-append}
 use Rattle.mime_base.specs.Cache.Bytes.{Stands, field}
-use Rattle.mime_base.specs.Format.Sorted.{with_key}
-use Rattle.mime_base.specs.Format.Stored.{reversed_ending, tree_rules}
-use Rattle.mime_base.specs.Format.SuffixTree.{SuffixTreeAt, fronts}
-use Rattle.mime_base.specs.Format.Tree.{Tree, bare, leaves_at, width}
+use Rattle.mime_base.specs.Format.SuffixTree.{SuffixTreeAt}
+use Rattle.mime_base.specs.Format.Tree.{Tree, bare, leaves_at}
 use Rattle.mime_base.specs.Kept.{FitsRank}
 use Rattle.mime_base.specs.declared.database.rule.GlobRule.{GlobRule}
-use Rattle.mime_view.specs.Hits.{Offers, admits, ending_rules, tree_hits, tree_visits, visits}
-use Rattle.mime_view.specs.Magic.{LiesBlock}
+use Rattle.mime_view.specs.Hits.{Offers, admits, tree_hits, tree_visits, visits}
 use Rattle.mime_view.specs.SuffixTree.{IsSuffixRule, ReadsBlock, admitted, below_character, leaves_along, scan_visits}
 use Rattle.mime_view.specs.declared.hits.Case.{Case}
 use Rattle.mime_view.specs.declared.suffixes.Block.{Block}
 use Rattle.mime_view.proofs.OffersLemmas.{offers_append, offers_none}
-use Rattle.mime_view.proofs.Records.{first_read, record_inside, second_read}
 use Rattle.mime_view.proofs.TreeRules.{suffix_rules}
-use Rattle.mime_view.proofs.TreeStands.{siblings_inside, tree_read}
-use Rattle.mime_view.proofs.TreeWalks.{flat_map-same, leaves_along-bare, leaves_along-below, leaves_at-path, walk_few, walk_visits, walk_within}
-
-abbrev Kept : Type 0
-Kept = List (ℕ × ℕ)
+use Rattle.mime_view.proofs.TreeScans.{Kept}
+use Rattle.mime_view.proofs.TreeStands.{along_name, roots_read, whole_walk}
+use Rattle.mime_view.proofs.TreeWalks.{leaves_along-bare, leaves_along-below, leaves_at-below, walk_visits}
 
 -- what is left of the name
 abbrev pub path_left : List ℕ → ℕ → List ℕ
@@ -41,39 +35,19 @@ pub record WalkLeft (c : List ℕ) (case : Case) (rules : List GlobRule) (name :
       → Offers c (tree_hits case name rules) h0 h'
   pub records : r0 + visits case * walk_visits (path_left name depth) tree ≤ r + visits case * tree_visits name rules
 
--- the leaves along the name are the rules with an ending of it
-along_name : (c : List ℕ) (at : ℕ) (rules : List GlobRule) (name : List ℕ) → (stand : SuffixTreeAt (Stands c) at rules)
-    → leaves_along (reverse name) stand.tree ≡ ending_rules name rules
-along_name c at rules name stand =
-    flat_map-same (λ path. leaves_at path stand.tree) (λ path. with_key reversed_ending path (tree_rules rules)) stand.leaves
-    (fronts (reverse name))
-
--- a whole walk visits no more than is allowed
-whole_walk : (c : List ℕ) (at : ℕ) (rules : List GlobRule) (name : List ℕ) → (stand : SuffixTreeAt (Stands c) at rules)
-    → walk_visits (reverse name) stand.tree ≤ tree_visits name rules
-whole_walk c at rules name stand =
-    let met = ap (λ (met : List GlobRule). length met) (along_name c at rules name stand) in
-    let few = walk_few (reverse name) stand.tree stand.ordered in
-    let within = walk_within (reverse name) stand.tree in
-    omega (arith, few, within, met, stand.size, length-reverse name)
-
 -- at first all is left
 pub all_left : (c : List ℕ) (at : ℕ) (case : Case) (rules : List GlobRule) (name : List ℕ) (block : Block) (h : Kept) (r : ℕ)
     → block.first ≡ field c at 1 → block.count ≡ field c at 0 → SuffixTreeAt (Stands c) at rules
     → WalkLeft c case rules name h r block 0 h r
 all_left c at case rules name block h r first count stand =
-    let at_first : block.first ≡ stand.first = first ∙ second_read c at (width stand.tree) stand.first [] stand.head in
     record {
       tree = stand.tree;
-      reads = record {
-        size = sym (count ∙ first_read c at (width stand.tree) (stand.first ∷ []) stand.head);
-        siblings = rw at_first (tree_read c stand.first stand.tree stand.stand);
-        ordered = stand.ordered;
-      };
+      reads = roots_read c at rules block first count stand;
       suffixes = λ fits path.
           let e : length path + 1 ≡ 0 + length path + 1 = omega arith in
           subst (λ (n : ℕ). All (IsSuffixRule n) (leaves_at path stand.tree)) e
-          (subst (λ (leaves : List GlobRule). All (IsSuffixRule (length path + 1)) leaves) (sym (stand.leaves path)) (suffix_rules rules path fits));
+          (subst (λ (leaves : List GlobRule). All (IsSuffixRule (length path + 1)) leaves) (sym (stand.leaves path))
+          (suffix_rules rules path fits));
       offers = λ fits h' offers.
           subst (λ (met : List GlobRule). Offers c (admitted case met) h h') (along_name c at rules name stand) offers;
       records =
@@ -105,6 +79,16 @@ path_next name depth l =
     drop-cons (reverse name) depth 0 (omega arith)
     ∙ ap₂ (λ (b : ℕ) (path : List ℕ). b ∷ path) (get_or-reverse name depth 0 l) (ap (λ (n : ℕ). drop n (reverse name)) e)
 
+-- the leaves below a character are offered, and then those further down
+offers_both : (c : List ℕ) (case : Case) (below : Tree) (rest : List ℕ) (old mid new : Kept)
+    → Offers c (admitted case (leaves_at [] below)) old mid → Offers c (admitted case (leaves_along rest below)) mid new
+    → Offers c (admitted case (leaves_at [] below ++ leaves_along rest below)) old new
+offers_both c case below rest old mid new first then =
+    subst (λ (met : List GlobRule). Offers c met old new)
+    (sym (filter-append (λ (rule : GlobRule). admits case rule.cased) (leaves_at [] below) (leaves_along rest below)))
+    (offers_append c _ _ old mid new first then)
+
+-- the next character of what is left
 pub next : (c : List ℕ) (case : Case) (rules : List GlobRule) (name : List ℕ) (h0 : Kept) (r0 : ℕ) (block : Block) (depth : ℕ)
     (h : Kept) (r b : ℕ) → depth < length name → b ≡ get_or name (length name - 1 - depth) 0
     → WalkLeft c case rules name h0 r0 block depth h r → WalkNext c case rules name h0 r0 block depth h r b
@@ -120,18 +104,12 @@ next c case rules name h0 r0 block depth h r b l is left =
     λ fits h' then. left.offers fits h'
     (subst (λ (met : List GlobRule). Offers c (admitted case met) h h')
     (sym (ap (λ (p : List ℕ). leaves_along p tree) path ∙ leaves_along-below b rest tree left.reads.ordered)) then) in
-    let both : (h' h'' : Kept) → Offers c (admitted case (leaves_at [] below)) h h' → Offers c (admitted case (leaves_along rest below)) h' h''
-    → Offers c (admitted case (leaves_at [] below ++ leaves_along rest below)) h h'' =
-    λ h' h'' first then.
-    subst (λ (met : List GlobRule). Offers c met h h'')
-    (sym (filter-append (λ (rule : GlobRule). admits case rule.cased) (leaves_at [] below) (leaves_along rest below)))
-    (offers_append c _ _ h h' h'' first then) in
     let suffixes : All FitsRank rules → (p : List ℕ) → All (IsSuffixRule (depth + 1 + length p + 1)) (leaves_at p below) =
     λ fits p.
     let e : depth + length (b ∷ p) + 1 ≡ depth + 1 + length p + 1 = omega arith in
     subst (λ (n : ℕ). All (IsSuffixRule n) (leaves_at p below)) e
-    (subst (λ (leaves : List GlobRule). All (IsSuffixRule (depth + length (b ∷ p) + 1)) leaves) (leaves_at-path b p tree left.reads.ordered)
-    (left.suffixes fits (b ∷ p))) in
+    (subst (λ (leaves : List GlobRule). All (IsSuffixRule (depth + length (b ∷ p) + 1)) leaves)
+    (leaves_at-below b 0 p tree left.reads.ordered) (left.suffixes fits (b ∷ p))) in
     record {
       tree = tree;
       reads = left.reads;
@@ -143,12 +121,13 @@ next c case rules name h0 r0 block depth h r b l is left =
         tree = below;
         reads = reads;
         suffixes = suffixes;
-        offers = λ fits h'' then. offers fits h'' (both h' h'' (offered fits) then);
+        offers = λ fits h'' then. offers fits h'' (offers_both c case below rest h h' h'' (offered fits) then);
         records = omega (arith, records, takes);
       };
       done = λ h' none fits offered.
           let empty : leaves_along rest below ≡ [] = ap (leaves_along rest) none ∙ leaves_along-bare rest in
-          offers fits h' (both h' h' offered (subst (λ (met : List GlobRule). Offers c (admitted case met) h' h') (sym empty) (offers_none c h')));
+          offers fits h' (offers_both c case below rest h h' h' offered
+          (subst (λ (met : List GlobRule). Offers c (admitted case met) h' h') (sym empty) (offers_none c h')));
     }
 
 -- the name is at its end
@@ -159,21 +138,3 @@ none_left c case rules name h0 r0 block depth h r l left fits =
     let long = length-reverse name in
     let end : path_left name depth ≡ [] = drop_of_length-le (reverse name) (omega arith) in
     left.offers fits h (subst (λ (p : List ℕ). Offers c (admitted case (leaves_along p left.tree)) h h) (sym end) (offers_none c h))
-
--- the head of a tree lies in the cache
-pub head_inside : (c : List ℕ) (at : ℕ) (rules : List GlobRule) → SuffixTreeAt (Stands c) at rules → at + 8 ≤ length c
-head_inside c at rules stand =
-    let inside : at + 4 * 2 ≤ length c = record_inside c at (width stand.tree ∷ stand.first ∷ []) stand.head in
-    omega arith
-
--- so do its roots
-pub roots_inside : (c : List ℕ) (at : ℕ) (rules : List GlobRule) → SuffixTreeAt (Stands c) at rules
-    → LiesBlock c (field c at 1) 12 (field c at 0)
-roots_inside c at rules stand =
-    let count = first_read c at (width stand.tree) (stand.first ∷ []) stand.head in
-    let first = second_read c at (width stand.tree) stand.first [] stand.head in
-    record {
-      inside = λ some.
-          let inside = siblings_inside c stand.first stand.tree stand.stand (omega (arith, count)) in
-          omega (arith, inside, count, first);
-    }

@@ -7,12 +7,13 @@ use Rattle.mime_base.specs.Cache.Bytes.{field}
 use Rattle.mime_base.specs.Format.Tree.{InOrder, Tree, bare, leaf, leaves_at, node, width}
 use Rattle.mime_base.specs.declared.database.rule.GlobRule.{GlobRule}
 use Rattle.mime_view.specs.Hits.{Offers, admits, visits}
-use Rattle.mime_view.specs.SuffixTree.{IsSuffixRule, ReadsBlock, ReadsLeaf, ReadsTree, admitted, scan_visits}
+use Rattle.mime_view.specs.SuffixTree.{IsSuffixRule, ReadsLeaf, ReadsTree, admitted, scan_visits}
 use Rattle.mime_view.specs.declared.hits.Case.{Case}
 use Rattle.mime_view.specs.declared.suffixes.Block.{Block}
 use Rattle.mime_view.proofs.OffersLemmas.{offers_append, offers_none}
 
-abbrev Kept : Type 0
+-- what is kept, each a rank and the offset of a type
+abbrev pub Kept : Type 0
 Kept = List (ℕ × ℕ)
 
 -- siblings after a node have no leaf
@@ -20,6 +21,17 @@ pub leaves_at-past : (before : ℕ) (tree : Tree) → 0 < before → InOrder bef
 leaves_at-past before bare some order = refl
 leaves_at-past before (leaf rule rest) some order = absurd (omega (arith, order.0))
 leaves_at-past before (node character below rest) some order = leaves_at-past character rest (omega (arith, order.0)) order.3
+
+-- the leaves of siblings are offered, where their rules are of the class and the length
+abbrev pub OffersLeaves : List ℕ → Case → ℕ → Tree → Kept → Kept → Type 0
+OffersLeaves c case long tree h0 h =
+    All (IsSuffixRule long) (leaves_at [] tree) → Offers c (admitted case (leaves_at [] tree)) h0 h
+
+-- they are, once those of the siblings that are left are
+abbrev pub OffersWithRest : List ℕ → Case → ℕ → Tree → Kept → Tree → Kept → Type 0
+OffersWithRest c case long tree h0 rest h =
+    All (IsSuffixRule long) (leaves_at [] tree) → (h' : Kept) → Offers c (admitted case (leaves_at [] rest)) h h'
+    → Offers c (admitted case (leaves_at [] tree)) h0 h'
 
 -- what is left of the siblings from the i-th on; h0 was kept and r0 records were left before them, h and r now
 pub record ScanLeft (c : List ℕ) (block : Block) (case : Case) (long : ℕ) (tree : Tree) (h0 : Kept) (r0 i : ℕ) (h : Kept) (r : ℕ)
@@ -29,26 +41,12 @@ pub record ScanLeft (c : List ℕ) (block : Block) (case : Case) (long : ℕ) (t
   pub siblings : ReadsTree c (block.first + 12 * i) rest
   pub ordered : InOrder 0 rest
   pub suffixes : All (IsSuffixRule long) (leaves_at [] tree) → All (IsSuffixRule long) (leaves_at [] rest)
-  pub offers : All (IsSuffixRule long) (leaves_at [] tree) → (h' : Kept) → Offers c (admitted case (leaves_at [] rest)) h h'
-      → Offers c (admitted case (leaves_at [] tree)) h0 h'
+  pub offers : OffersWithRest c case long tree h0 rest h
   pub records : r0 + visits case * scan_visits rest ≤ r + visits case * scan_visits tree
 
--- at first all is left
-pub all_left : (c : List ℕ) (block : Block) (case : Case) (long : ℕ) (tree : Tree) (h : Kept) (r : ℕ) → ReadsBlock c block tree
-    → ScanLeft c block case long tree h r 0 h r
-all_left c block case long tree h r reads = record {
-  rest = tree;
-  size = omega (arith, reads.size);
-  siblings = let e : block.first + 12 * 0 ≡ block.first = omega arith in rw e reads.siblings;
-  ordered = reads.ordered;
-  suffixes = λ all. all;
-  offers = λ all h' offers. offers;
-  records = omega arith;
-}
-
 -- a visit takes no more than is allowed
-pub visit_left : (c : List ℕ) (block : Block) (case : Case) (long : ℕ) (tree : Tree) (h0 : Kept) (r0 i : ℕ) (h : Kept) (r : ℕ) → i < block.count
-    → ScanLeft c block case long tree h0 r0 i h r → r0 + visits case ≤ r + visits case * scan_visits tree
+pub visit_left : (c : List ℕ) (block : Block) (case : Case) (long : ℕ) (tree : Tree) (h0 : Kept) (r0 i : ℕ) (h : Kept) (r : ℕ)
+    → i < block.count → ScanLeft c block case long tree h0 r0 i h r → r0 + visits case ≤ r + visits case * scan_visits tree
 visit_left c block case long tree h0 r0 i h r l left = by_rest left.rest left.size left.records
   where
     by_rest : (rest : Tree) → width rest + i ≡ block.count → r0 + visits case * scan_visits rest ≤ r + visits case * scan_visits tree
@@ -67,16 +65,16 @@ pub record NextLeaf (c : List ℕ) (block : Block) (case : Case) (long : ℕ) (t
       → (All (IsSuffixRule long) (leaves_at [] tree) → Offers c (admitted case (rule ∷ [])) h h')
       → ScanLeft c block case long tree h0 r0 (i + 1) h' r'
 
-pub next_leaf : (c : List ℕ) (block : Block) (case : Case) (long : ℕ) (tree : Tree) (h0 : Kept) (r0 i : ℕ) (h : Kept) (r : ℕ) → i < block.count
-    → (field c (block.first + 12 * i) 0 == 0) ≡ true → ScanLeft c block case long tree h0 r0 i h r
+-- the next sibling, where its character is 0
+pub next_leaf : (c : List ℕ) (block : Block) (case : Case) (long : ℕ) (tree : Tree) (h0 : Kept) (r0 i : ℕ) (h : Kept) (r : ℕ)
+    → i < block.count → (field c (block.first + 12 * i) 0 == 0) ≡ true → ScanLeft c block case long tree h0 r0 i h r
     → NextLeaf c block case long tree h0 r0 i h r
 next_leaf c block case long tree h0 r0 i h r l zero left =
     by_rest left.rest left.size left.siblings left.ordered left.suffixes left.offers left.records
   where
     by_rest : (rest : Tree) → width rest + i ≡ block.count → ReadsTree c (block.first + 12 * i) rest → InOrder 0 rest
         → (All (IsSuffixRule long) (leaves_at [] tree) → All (IsSuffixRule long) (leaves_at [] rest))
-        → (All (IsSuffixRule long) (leaves_at [] tree) → (h' : Kept) → Offers c (admitted case (leaves_at [] rest)) h h'
-        → Offers c (admitted case (leaves_at [] tree)) h0 h')
+        → OffersWithRest c case long tree h0 rest h
         → r0 + visits case * scan_visits rest ≤ r + visits case * scan_visits tree → NextLeaf c block case long tree h0 r0 i h r
     by_rest bare size siblings ordered suffixes offers records = absurd (omega arith)
     by_rest (leaf rule rest) size siblings ordered suffixes offers records = record {
@@ -100,35 +98,27 @@ next_leaf c block case long tree h0 r0 i h r l zero left =
         let is : field c (block.first + 12 * i) 0 ≡ 0 = eqb-true _ _ zero in
         absurd (omega (arith, siblings.0, ordered.0))
 
--- the siblings before a place were all the leaves
-pub record ScanDone (c : List ℕ) (case : Case) (long : ℕ) (tree : Tree) (h0 h : Kept) : Type 0 where
-  pub offers : All (IsSuffixRule long) (leaves_at [] tree) → Offers c (admitted case (leaves_at [] tree)) h0 h
-
 -- after a node there is no leaf
 pub node_left : (c : List ℕ) (block : Block) (case : Case) (long : ℕ) (tree : Tree) (h0 : Kept) (r0 i : ℕ) (h : Kept) (r : ℕ)
-    → (field c (block.first + 12 * i) 0 == 0) ≡ false → ScanLeft c block case long tree h0 r0 i h r → ScanDone c case long tree h0 h
+    → (field c (block.first + 12 * i) 0 == 0) ≡ false → ScanLeft c block case long tree h0 r0 i h r → OffersLeaves c case long tree h0 h
 node_left c block case long tree h0 r0 i h r some left = by_rest left.rest left.siblings left.ordered left.offers
   where
     by_rest : (rest : Tree) → ReadsTree c (block.first + 12 * i) rest → InOrder 0 rest
-        → (All (IsSuffixRule long) (leaves_at [] tree) → (h' : Kept) → Offers c (admitted case (leaves_at [] rest)) h h'
-        → Offers c (admitted case (leaves_at [] tree)) h0 h') → ScanDone c case long tree h0 h
-    by_rest bare siblings ordered offers = record { offers = λ all. offers all h (offers_none c h) }
+        → OffersWithRest c case long tree h0 rest h → OffersLeaves c case long tree h0 h
+    by_rest bare siblings ordered offers = λ all. offers all h (offers_none c h)
     by_rest (leaf rule rest) siblings ordered offers =
         absurd (true≢false (sym (eq-eqb _ _ siblings.0.no_character) ∙ some))
     by_rest (node character below rest) siblings ordered offers =
         let none = leaves_at-past character rest ordered.0 ordered.3 in
-        record {
-          offers = λ all. offers all h (subst (λ (rules : List GlobRule). Offers c (admitted case rules) h h) (sym none) (offers_none c h));
-        }
+        λ all. offers all h (subst (λ (rules : List GlobRule). Offers c (admitted case rules) h h) (sym none) (offers_none c h))
 
 -- nor after the last sibling
 pub none_left : (c : List ℕ) (block : Block) (case : Case) (long : ℕ) (tree : Tree) (h0 : Kept) (r0 i : ℕ) (h : Kept) (r : ℕ)
-    → block.count ≤ i → ScanLeft c block case long tree h0 r0 i h r → ScanDone c case long tree h0 h
+    → block.count ≤ i → ScanLeft c block case long tree h0 r0 i h r → OffersLeaves c case long tree h0 h
 none_left c block case long tree h0 r0 i h r l left = by_rest left.rest left.size left.offers
   where
     by_rest : (rest : Tree) → width rest + i ≡ block.count
-        → (All (IsSuffixRule long) (leaves_at [] tree) → (h' : Kept) → Offers c (admitted case (leaves_at [] rest)) h h'
-        → Offers c (admitted case (leaves_at [] tree)) h0 h') → ScanDone c case long tree h0 h
-    by_rest bare size offers = record { offers = λ all. offers all h (offers_none c h) }
+        → OffersWithRest c case long tree h0 rest h → OffersLeaves c case long tree h0 h
+    by_rest bare size offers = λ all. offers all h (offers_none c h)
     by_rest (leaf rule rest) size offers = absurd (omega arith)
     by_rest (node character below rest) size offers = absurd (omega arith)

@@ -17,7 +17,7 @@ leaves_at-bare [] = refl
 leaves_at-bare (b ∷ path) = refl
 
 -- the leaves at a path are those at the rest of the path, below its first character
-leaves_at-below : (b before : ℕ) (path : List ℕ) (tree : Tree) → InOrder before tree
+pub leaves_at-below : (b before : ℕ) (path : List ℕ) (tree : Tree) → InOrder before tree
     → leaves_at (b ∷ path) tree ≡ leaves_at path (below_character b tree)
 leaves_at-below b before path bare order = sym (leaves_at-bare path)
 leaves_at-below b before path (leaf rule rest) order = leaves_at-below b before path rest order.1
@@ -29,7 +29,8 @@ leaves_at-below b before path (node character below rest) order =
     by_first true is later =
         let e : character ≡ b = eqb-true character b is in
         let none = below_character-past b character rest (omega arith) order.3 in
-        ap (λ more. leaves_at path below ++ more) (later ∙ ap (leaves_at path) none ∙ leaves_at-bare path) ∙ append-nil (leaves_at path below)
+        ap (λ more. leaves_at path below ++ more) (later ∙ ap (leaves_at path) none ∙ leaves_at-bare path)
+        ∙ append-nil (leaves_at path below)
     by_first false is later = later
 
 -- what is below a character is in order
@@ -47,7 +48,8 @@ pub flat_map-same : (f g : List ℕ → List GlobRule) → ((path : List ℕ) �
     → flat_map f paths ≡ flat_map g paths
 flat_map-same f g same [] = refl
 flat_map-same f g same (path ∷ paths) =
-    flat_map-cons f path paths ∙ ap₂ (λ (a b : List GlobRule). a ++ b) (same path) (flat_map-same f g same paths) ∙ sym (flat_map-cons g path paths)
+    flat_map-cons f path paths ∙ ap₂ (λ (a b : List GlobRule). a ++ b) (same path) (flat_map-same f g same paths)
+    ∙ sym (flat_map-cons g path paths)
 
 -- no leaves where there are no siblings
 pub leaves_along-bare : (path : List ℕ) → leaves_along path bare ≡ []
@@ -56,7 +58,8 @@ leaves_along-bare path = none (fronts path)
     none : (paths : List (List ℕ)) → flat_map (λ front. leaves_at front bare) paths ≡ []
     none [] = refl
     none (front ∷ paths) =
-        flat_map-cons (λ front. leaves_at front bare) front paths ∙ ap₂ (λ (a b : List GlobRule). a ++ b) (leaves_at-bare front) (none paths)
+        flat_map-cons (λ front. leaves_at front bare) front paths
+        ∙ ap₂ (λ (a b : List GlobRule). a ++ b) (leaves_at-bare front) (none paths)
 
 -- the leaves below the first character, and those further down
 pub leaves_along-below : (b : ℕ) (path : List ℕ) (tree : Tree) → InOrder 0 tree
@@ -66,11 +69,6 @@ leaves_along-below b path tree order =
     ∙ ap₂ (λ (a b : List GlobRule). a ++ b) (leaves_at-below b 0 [] tree order)
     (flat_map-map (λ front. leaves_at front tree) (λ front. b ∷ front) (fronts path)
     ∙ flat_map-same _ _ (λ front. leaves_at-below b 0 front tree order) (fronts path))
-
--- the same of one path
-pub leaves_at-path : (b : ℕ) (path : List ℕ) (tree : Tree) → InOrder 0 tree
-    → leaves_at (b ∷ path) tree ≡ leaves_at path (below_character b tree)
-leaves_at-path b path tree order = leaves_at-below b 0 path tree order
 
 -- how many records a walk visits
 abbrev pub walk_visits : List ℕ → Tree → ℕ

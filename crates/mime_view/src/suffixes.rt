@@ -5,7 +5,8 @@
 //! one after another in 12 bytes each, the leaves first: a leaf is 0, the offset of its type, weight
 //! and flags; a node is its character, how many siblings are below it, and the offset of the first.
 
-ghost use Rattle.std.specs.Prelude.{◌≡◌, ◌⊎◌, ◌==◌, ℕ, true, false, ◌+◌, ◌*◌, ◌^◌, ◌≤◌, ◌<◌, List, All, [], ◌∷◌, length, OnOk, IfOk, IfErr, IfSome, IsOk};
+ghost use Rattle.std.specs.Prelude.{◌≡◌, ◌⊎◌, ◌==◌, ℕ, false, ◌+◌, ◌*◌, ◌^◌, ◌≤◌, ◌<◌, List, [], ◌∷◌, length};
+ghost use Rattle.std.specs.Prelude.{All, OnOk, IfOk, IfErr, IfSome, IsOk};
 ghost use Rattle.mime_base.specs.Cache.Bytes.{field, Stands};
 ghost use Rattle.mime_base.specs.Format.SuffixTree.{SuffixTreeAt};
 ghost use Rattle.mime_base.specs.Format.Tree.{Tree, leaves_at};
@@ -23,7 +24,7 @@ use mime_base::{Class, Counted, Meter, rank_of};
 
 /// Siblings that lie in the cache.
 #[derive(Clone, Copy)]
-pub struct Block {
+struct Block {
     first: u64,
     count: u64,
 }
@@ -73,6 +74,20 @@ pub fn tree_hits(
         block = below;
     }
     Ok(())
+}
+
+/// So many siblings from an offset on, if they lie in the cache. None lie anywhere.
+fn block_of(counted: &Counted<'_>, first: u32, count: u32) -> Result<Block, CacheFault>
+    ensures block { IfOk result (λ block. (block.first ≡ first) × (block.count ≡ count)) }
+    ensures lies { IfOk result (λ block. LiesBlock counted.now block.first 12 block.count) }
+    ensures fault { IfErr result (IsBlockFault counted.now first 12 count) }
+{
+    let first = u64::from(first);
+    let count = u64::from(count);
+    if count > 0 && counted.length() < first + 12 * count {
+        return Err(CacheFault::OutOfRange(first));
+    }
+    Ok(Block { first, count })
 }
 
 /// Offers the leaves below the character, as rules with patterns of this length, and gives the block
@@ -239,18 +254,4 @@ fn offer_leaf(
         hits.offer(rank_of(Class::Suffix, weight, pattern_length, cased), kind)?;
     }
     Ok(true)
-}
-
-/// So many siblings from an offset on, if they lie in the cache. None lie anywhere.
-fn block_of(counted: &Counted<'_>, first: u32, count: u32) -> Result<Block, CacheFault>
-    ensures block { IfOk result (λ block. (block.first ≡ first) × (block.count ≡ count)) }
-    ensures lies { IfOk result (λ block. LiesBlock counted.now block.first 12 block.count) }
-    ensures fault { IfErr result (IsBlockFault counted.now first 12 count) }
-{
-    let first = u64::from(first);
-    let count = u64::from(count);
-    if count > 0 && counted.length() < first + 12 * count {
-        return Err(CacheFault::OutOfRange(first));
-    }
-    Ok(Block { first, count })
 }

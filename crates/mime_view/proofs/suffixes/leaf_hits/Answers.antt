@@ -25,7 +25,7 @@ returns-then-not-branch-clause-answer c = λ tree reads all.
     let done = node_left c.args.counted.now c.args.block c.args.case c.args.pattern_length tree _ _ c.loop-i.i _ _ some
     (c.loop-i.invariant.left tree reads) in
     subst (λ (h : List (ℕ × ℕ)). Offers c.args.counted.now (admitted c.args.case (leaves_at [] tree)) c.args.hits.now h)
-    (sym (c.in_ok-offer_leaf.ensures.other c.if-not-branch.true)) (done.offers all)
+    (sym (c.in_ok-offer_leaf.ensures.other c.if-not-branch.true)) (done all)
 
 pub returns-then-not-branch-clause-takes_at_most : goal.returns-then-not-branch-clause-takes_at_most
 returns-then-not-branch-clause-takes_at_most c = λ tree reads.
@@ -49,4 +49,4 @@ pub returns-clause-answer : goal.returns-clause-answer
 returns-clause-answer c = λ tree reads all.
     let done = none_left c.args.counted.now c.args.block c.args.case c.args.pattern_length tree _ _ c.loop-i.i _ _ c.loop-i-test.false
     (c.loop-i.invariant.left tree reads) in
-    done.offers all
+    done all

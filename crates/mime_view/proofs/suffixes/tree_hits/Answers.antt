@@ -3,7 +3,8 @@ use Rattle.mime_view.specs.Hits.{Charged}
 use Rattle.mime_view.specs.declared.fault.CacheFault.TheVariants.{OutOfMemory}
 use Rattle.std.proofs.lemmas.Result.{err_from_is_err_and}
 use Rattle.mime_view.proofs.Charges.{charged_nodes, charged_then}
-use Rattle.mime_view.proofs.TreePaths.{all_left, head_inside, next, none_left, roots_inside}
+use Rattle.mime_view.proofs.TreePaths.{all_left, next, none_left}
+use Rattle.mime_view.proofs.TreeStands.{head_inside, roots_inside}
 use Rattle.mime_view.proofs.suffixes.tree_hits.Goals as goal
 
 pub returns-in_err-count-clause-need : goal.returns-in_err-count-clause-need
