@@ -12,14 +12,14 @@ use Rattle.mime_base.specs.Format.Tree.{Tree, bare, leaves_at}
 use Rattle.mime_base.specs.Kept.{FitsRank}
 use Rattle.mime_base.specs.declared.database.rule.GlobRule.{GlobRule}
 use Rattle.mime_view.specs.Hits.{Offers, admits, tree_hits, tree_visits, visits}
-use Rattle.mime_view.specs.SuffixTree.{IsSuffixRule, ReadsBlock, admitted, below_character, leaves_along, scan_visits}
+use Rattle.mime_view.specs.SuffixTree.{IsSuffixRule, ReadsBlock, admitted, below_character, scan_visits}
 use Rattle.mime_view.specs.declared.hits.Case.{Case}
 use Rattle.mime_view.specs.declared.suffixes.Block.{Block}
 use Rattle.mime_view.proofs.OffersLemmas.{offers_append, offers_none}
 use Rattle.mime_view.proofs.TreeRules.{suffix_rules}
 use Rattle.mime_view.proofs.TreeScans.{Kept}
 use Rattle.mime_view.proofs.TreeStands.{along_name, roots_read, whole_walk}
-use Rattle.mime_view.proofs.TreeWalks.{leaves_along-bare, leaves_along-below, leaves_at-below, walk_visits}
+use Rattle.mime_view.proofs.TreeWalks.{leaves_along, leaves_along-bare, leaves_along-below, leaves_at-below, walk_visits}
 
 -- what is left of the name
 abbrev pub path_left : List ℕ → ℕ → List ℕ

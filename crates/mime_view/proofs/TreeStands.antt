@@ -10,10 +10,10 @@ use Rattle.mime_base.specs.Format.Tree.{Tree, TreeAt, bare, leaf, leaves_at, nod
 use Rattle.mime_base.specs.declared.database.rule.GlobRule.{GlobRule}
 use Rattle.mime_view.specs.Hits.{ending_rules, tree_visits}
 use Rattle.mime_view.specs.Magic.{LiesBlock}
-use Rattle.mime_view.specs.SuffixTree.{ReadsBlock, ReadsTree, leaves_along}
+use Rattle.mime_view.specs.SuffixTree.{ReadsBlock, ReadsTree}
 use Rattle.mime_view.specs.declared.suffixes.Block.{Block}
 use Rattle.mime_view.proofs.Records.{first_read, numbers_read, record_inside, second_read, text_read}
-use Rattle.mime_view.proofs.TreeWalks.{flat_map-same, walk_few, walk_visits, walk_within}
+use Rattle.mime_view.proofs.TreeWalks.{flat_map-same, leaves_along, walk_few, walk_visits, walk_within}
 
 -- siblings lie in the cache
 pub siblings_inside : (c : List ℕ) (at : ℕ) (tree : Tree) → TreeAt (Stands c) at tree → 0 < width tree → at + 12 * width tree ≤ length c

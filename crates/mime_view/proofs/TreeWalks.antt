@@ -9,9 +9,14 @@ use Rattle.std.proofs.lemmas.List.Folds.{flat_map-map}
 use Rattle.mime_base.specs.Format.SuffixTree.{fronts}
 use Rattle.mime_base.specs.Format.Tree.{InOrder, Tree, bare, leaf, leaves_at, node, node_count}
 use Rattle.mime_base.specs.declared.database.rule.GlobRule.{GlobRule}
-use Rattle.mime_view.specs.SuffixTree.{below_character, leaves_along, scan_visits}
+use Rattle.mime_view.specs.SuffixTree.{below_character, scan_visits}
 use Rattle.mime_view.proofs.TreeBlocks.{below_character-past}
 
+-- the rules of the leaves at the ends of the non-empty fronts of a path, the shortest first
+abbrev pub leaves_along : List ℕ → Tree → List GlobRule
+leaves_along path tree = flat_map (λ front. leaves_at front tree) (fronts path)
+
+-- no leaves where there are no siblings
 leaves_at-bare : (path : List ℕ) → leaves_at path bare ≡ []
 leaves_at-bare [] = refl
 leaves_at-bare (b ∷ path) = refl
@@ -51,7 +56,7 @@ flat_map-same f g same (path ∷ paths) =
     flat_map-cons f path paths ∙ ap₂ (λ (a b : List GlobRule). a ++ b) (same path) (flat_map-same f g same paths)
     ∙ sym (flat_map-cons g path paths)
 
--- no leaves where there are no siblings
+-- the same along a path
 pub leaves_along-bare : (path : List ℕ) → leaves_along path bare ≡ []
 leaves_along-bare path = none (fronts path)
   where

@@ -1,11 +1,9 @@
 -- The reverse suffix tree as it is read along a name, and why a walk gives no answer.
 use Rattle.std.specs.Prelude.{◌≡◌, ◌⊎◌, ℕ, ◌+◌, ◌*◌, ◌<◌, ◌≤◌, ◌==◌, if◌then◌else◌, List, length, filter, Ok, Option, None, Some}
-use Rattle.std.specs.List.{flat_map}
 use Rattle.mime_base.specs.Cache.Bytes.{field}
 use Rattle.mime_base.specs.Cache.Texts.{text_at}
 use Rattle.mime_base.specs.Format.Stored.{weight_and_flags}
-use Rattle.mime_base.specs.Format.SuffixTree.{fronts}
-use Rattle.mime_base.specs.Format.Tree.{InOrder, Tree, bare, leaf, leaves_at, node, width}
+use Rattle.mime_base.specs.Format.Tree.{InOrder, Tree, bare, leaf, node, width}
 use Rattle.mime_base.specs.Kept.{class_of}
 use Rattle.mime_base.specs.declared.database.rule.GlobRule.{GlobRule}
 use Rattle.mime_base.specs.declared.kept.class.Class.TheVariants.{Suffix}
@@ -62,10 +60,6 @@ scan_visits (node character below rest) = 1
 -- those of some rules that a search takes
 abbrev pub admitted : Case → List GlobRule → List GlobRule
 admitted case rules = filter (λ rule. admits case rule.cased) rules
-
--- the rules of the leaves at the ends of the non-empty fronts of a path, the shortest first
-abbrev pub leaves_along : List ℕ → Tree → List GlobRule
-leaves_along path tree = flat_map (λ front. leaves_at front tree) (fronts path)
 
 -- a rule of the class Suffix with so long a pattern and a weight of 8 bits
 pub record IsSuffixRule (long : ℕ) (rule : GlobRule) : Type 0 where
