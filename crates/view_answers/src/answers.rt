@@ -1,0 +1,142 @@
+//! One question to one cache, and its answer as a line.
+
+use crate::shown::Shown;
+use mime_base::{Counted, Host, Meter};
+use mime_view::{Budget, Cache, CacheFault, Marks};
+use std::alloc::Global;
+use std::io;
+
+/// The answer of a cache, given as bytes, to a question, or its fault, with what was counted and what is left.
+pub fn answer(alloc: Global, bytes: &[u8], question: &[u8]) -> io::Result<String> {
+    let mut meter = Meter::new();
+    match Cache::open(Counted::new(bytes), &mut meter) {
+        Ok(cache) => of_open_cache(alloc, &cache, meter, question),
+        Err(fault) => Ok(format!(in alloc; "{fault} nodes={} bytes={} records=0 values=0", meter.nodes, meter.bytes)?),
+    }
+}
+
+/// The same of a cache that is open, with what was counted by then.
+fn of_open_cache(alloc: Global, cache: &Cache<'_>, opened: Meter, question: &[u8]) -> io::Result<String> {
+    let (call, word) = match question.iter().position(|&byte| byte == b' ') {
+        Some(at) => (&question[..at], &question[at + 1..]),
+        None => (question, &question[question.len()..]),
+    };
+    let mut meter = if call == b"open".as_slice() { opened } else { Meter::new() };
+    let mut budget = Budget::of(cache);
+    let said = ask(alloc, cache, call, word, &mut meter, &mut budget)?;
+    let (nodes, bytes) = (meter.nodes, meter.bytes);
+    let (records, values) = (budget.records, budget.value_bytes);
+    Ok(format!(in alloc; "{said} nodes={nodes} bytes={bytes} records={records} values={values}")?)
+}
+
+/// What a call answers to a word.
+fn ask(
+    alloc: Global,
+    cache: &Cache<'_>,
+    call: &[u8],
+    word: &[u8],
+    meter: &mut Meter,
+    budget: &mut Budget,
+) -> io::Result<String> {
+    match call {
+        b"open" => Ok(format!(in alloc; "opens")?),
+        b"extent" => number(alloc, cache.extent(meter, budget)),
+        b"unalias" => text(alloc, cache.unalias(word, meter, budget).map(Some)),
+        b"icon" => text(alloc, cache.icon(word, meter, budget)),
+        b"generic" => text(alloc, cache.generic_icon(word, meter, budget)),
+        b"parents" => twice_parents(alloc, cache, word, meter, budget),
+        b"sniff" => sniffed(alloc, cache, word, Host::Little, meter, budget),
+        b"sniff-big" => sniffed(alloc, cache, word, Host::Big, meter, budget),
+        _ => Ok(format!(in alloc; "no question")?),
+    }
+}
+
+fn number(alloc: Global, found: Result<u32, CacheFault>) -> io::Result<String> {
+    Ok(match found {
+        Ok(number) => format!(in alloc; "{number}")?,
+        Err(fault) => format!(in alloc; "{fault}")?,
+    })
+}
+
+fn text(alloc: Global, found: Result<Option<&[u8]>, CacheFault>) -> io::Result<String> {
+    Ok(match found {
+        Ok(Some(text)) => format!(in alloc; "{}", Shown(text))?,
+        Ok(None) => format!(in alloc; "none")?,
+        Err(fault) => format!(in alloc; "{fault}")?,
+    })
+}
+
+/// The parents of a type, asked twice with the same marks.
+fn twice_parents(
+    alloc: Global,
+    cache: &Cache<'_>,
+    kind: &[u8],
+    meter: &mut Meter,
+    budget: &mut Budget,
+) -> io::Result<String> {
+    let mut marks = Marks::new(alloc);
+    let first = parents(alloc, cache, kind, &mut marks, meter, budget)?;
+    let second = parents(alloc, cache, kind, &mut marks, meter, budget)?;
+    Ok(format!(in alloc; "{first} and {second}")?)
+}
+
+fn parents(
+    alloc: Global,
+    cache: &Cache<'_>,
+    kind: &[u8],
+    marks: &mut Marks,
+    meter: &mut Meter,
+    budget: &mut Budget,
+) -> io::Result<String> {
+    Ok(match cache.parents_of(alloc, kind, marks, meter, budget) {
+        Ok(Some(found)) => {
+            let mut said = format!(in alloc; "entry {}:", found.entry)?;
+            add_texts(alloc, &mut said, found.types.as_slice())?;
+            said
+        }
+        Ok(None) => format!(in alloc; "none")?,
+        Err(fault) => format!(in alloc; "{fault}")?,
+    })
+}
+
+/// Adds texts, each after a space.
+fn add_texts(alloc: Global, said: &mut String, texts: &[&[u8]]) -> io::Result<()> {
+    for text in texts {
+        let shown = format!(in alloc; " {}", Shown(text))?;
+        said.push_str(&shown)?;
+    }
+    Ok(())
+}
+
+fn sniffed(
+    alloc: Global,
+    cache: &Cache<'_>,
+    digits: &[u8],
+    host: Host,
+    meter: &mut Meter,
+    budget: &mut Budget,
+) -> io::Result<String> {
+    let content = content_of(alloc, digits)?;
+    Ok(match cache.sniff(&content, host, meter, budget) {
+        Ok(Some((kind, priority))) => format!(in alloc; "{} {priority}", Shown(kind))?,
+        Ok(None) => format!(in alloc; "none")?,
+        Err(fault) => format!(in alloc; "{fault}")?,
+    })
+}
+
+/// The bytes that hexadecimal digits spell, two for each.
+fn content_of(alloc: Global, digits: &[u8]) -> io::Result<Vec<u8>> {
+    let mut content = Vec::new(alloc);
+    for pair in digits.chunks_exact(2) {
+        content.push(digit_of(pair[0]).wrapping_mul(16).wrapping_add(digit_of(pair[1])))?;
+    }
+    Ok(content)
+}
+
+fn digit_of(byte: u8) -> u8 {
+    match byte {
+        b'0'..=b'9' => byte - b'0',
+        b'a'..=b'f' => byte - b'a' + 10,
+        _ => 0,
+    }
+}
