@@ -15,3 +15,6 @@ mod LineValues
 mod SectionRows
 mod MagicLists
 mod Spelled
+mod ListedTexts
+mod EntryRows
+mod SiblingRows

@@ -5,3 +5,4 @@ pub mod Lists
 pub mod Pairs
 pub mod Parents
 pub mod Magic
+pub mod Listing

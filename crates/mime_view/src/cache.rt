@@ -20,6 +20,12 @@ ghost use Rattle.mime_view.specs.Lists.{IsListFault, IsTextFault};
 ghost use Rattle.mime_view.specs.Pairs.{looked_up};
 ghost use Rattle.mime_view.specs.Parents.{IsGiven, IsParentsFault, IsRead, has_place, is_marked, unmarked_parents, with_place};
 ghost use Rattle.mime_view.specs.Opening.{IsOpenFault, Opens};
+ghost use Rattle.std.specs.Prelude.{All, map};
+ghost use Rattle.mime_base.specs.Format.Rules.{GlobsAt, LiteralsAt};
+ghost use Rattle.mime_base.specs.Format.Stored.{glob_rules, literal_rules};
+ghost use Rattle.mime_base.specs.Format.SuffixTree.{SuffixTreeAt, tree_size};
+ghost use Rattle.mime_base.specs.declared.database.rule.GlobRule.{GlobRule};
+ghost use Rattle.mime_view.specs.Listing.{FitsListing, IsListed, IsListing, IsListingFault, Lists, plain_listed};
 
 use crate::budget::Budget;
 use crate::fault::CacheFault;
@@ -27,6 +33,7 @@ use crate::magic::sniff;
 use crate::marks::Marks;
 use crate::pairs::look_up_pair;
 use crate::parents::{Parents, parents_of};
+use crate::rules::{Listed, list_rules};
 use mime_base::{Counted, Host, Meter};
 use std::alloc::Global;
 use std::marker::Model;
@@ -288,5 +295,48 @@ impl<'a> Cache<'a> {
         let _ = budget;
         let [_, extent, _] = self.counted.cards::<3>(u64::from(self.header[6]), meter)?;
         Ok(extent)
+    }
+
+    /// All glob rules: those of the literal list, then those of the suffix tree, then those of the glob
+    /// list ("The mime.cache files").
+    ///
+    /// The tree is walked depth first. Leaves among its roots, and what is below a character above 255, are
+    /// passed over: no name leads there. Each entry of a list and each node of the tree, a leaf or not, takes
+    /// a record of the budget before it is read. The memory is for the list and the patterns.
+    ///
+    /// # Errors
+    ///
+    /// [`CacheFault::OutOfRange`] with the offset of a list or of the tree, or with that of the nodes below a
+    /// character, where not all of it lies in the cache; the fault of a rule's text or type;
+    /// [`CacheFault::Spent`]; [`CacheFault::TooDeep`] where more than 254 characters follow one another;
+    /// [`CacheFault::OutOfMemory`].
+    pub fn rules(
+        &self,
+        alloc: Global,
+        meter: &mut Meter,
+        budget: &mut Budget,
+    ) -> Result<Vec<Listed<'a>>, CacheFault>
+        ensures answer { (offsets : Offsets) (rules : List GlobRule) → HeaderAt (Stands self.now) offsets →
+            All FitsListing rules → LiteralsAt (Stands self.now) offsets.literals rules →
+            SuffixTreeAt (Stands self.now) offsets.tree rules → GlobsAt (Stands self.now) offsets.globs rules →
+            IfOk result (λ listed. IsListing rules (map plain_listed listed.items)) }
+        ensures text { IfOk result (λ listed. All (IsListed self.now) (map plain_listed listed.items)) }
+        ensures need { (offsets : Offsets) (rules : List GlobRule) → HeaderAt (Stands self.now) offsets →
+            All FitsListing rules → LiteralsAt (Stands self.now) offsets.literals rules →
+            SuffixTreeAt (Stands self.now) offsets.tree rules → GlobsAt (Stands self.now) offsets.globs rules →
+            length (literal_rules rules) + tree_size rules + length (glob_rules rules) ≤ budget.old.records →
+            IfErr result (λ e. e ≡ CacheFault.OutOfMemory) }
+        ensures fault { IfErr result (IsListingFault self.now budget.new.records) }
+        ensures takes_at_most { (offsets : Offsets) (rules : List GlobRule) → HeaderAt (Stands self.now) offsets →
+            All FitsListing rules → LiteralsAt (Stands self.now) offsets.literals rules →
+            SuffixTreeAt (Stands self.now) offsets.tree rules → GlobsAt (Stands self.now) offsets.globs rules →
+            budget.old.records ≤ budget.new.records
+            + (length (literal_rules rules) + tree_size rules + length (glob_rules rules)) }
+        ensures cost { Lists 4 budget.old budget.new meter.old meter.new }
+    {
+        let literals = u64::from(self.header[3]);
+        let tree = u64::from(self.header[4]);
+        let globs = u64::from(self.header[5]);
+        list_rules(alloc, &self.counted, literals, tree, globs, meter, budget)
     }
 }

@@ -26,6 +26,7 @@ mod magic;
 mod marks;
 mod pairs;
 mod parents;
+mod rules;
 mod search;
 mod texts;
 
@@ -34,4 +35,5 @@ pub use cache::Cache;
 pub use fault::CacheFault;
 pub use marks::Marks;
 pub use parents::Parents;
+pub use rules::Listed;
 pub use texts::Texts;
