@@ -18,3 +18,9 @@ mod Spelled
 mod ListedTexts
 mod EntryRows
 mod SiblingRows
+mod SameKeys
+mod TreeLeaves
+mod TreeOrder
+mod TreeRules
+mod TreesRead
+mod RuleLists

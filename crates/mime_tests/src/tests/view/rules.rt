@@ -35,6 +35,7 @@ fn rules_of<'a>(alloc: Global, bytes: &'a [u8]) -> (Result<Vec<Listed<'a>>, Cach
 type Row = (u8, &'static [u8], &'static [u8], bool);
 
 /// What a cache lists.
+#[derive(Drop)]
 struct Lists {
     name: &'static str,
     bytes: [u8; 240],

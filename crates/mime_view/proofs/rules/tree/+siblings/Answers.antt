@@ -1,9 +1,7 @@
-use Rattle.std.proofs.Common.{◌≡◌, ◌+◌, ◌*◌, ◌<◌, ℕ, List, ◌∷◌, ◌++◌, map, length, arith, rules, sym, ap, subst, ◌∙◌}
+use Rattle.std.proofs.Common.{◌+◌, ◌*◌, ℕ, List, ◌++◌, map, arith, rules, sym, ap, subst, ◌∙◌}
 use Rattle.std.proofs.lemmas.Result.{err_from_is_err_and}
-use Rattle.mime_base.specs.Cache.Bytes.{field}
-use Rattle.mime_base.specs.Format.Tree.{Tree}
 use Rattle.mime_base.specs.declared.database.rule.GlobRule.{GlobRule}
-use Rattle.mime_view.specs.Listing.{ReadsTree, listed_rule, rules_of}
+use Rattle.mime_view.specs.Listing.{ReadsTree, listed_rule}
 use Rattle.mime_view.proofs.SiblingRows.{below_read, leaf_read, next, node_read, none_left, some_node}
 use Rattle.mime_view.proofs.rules.tree.+siblings.Goals as goal
 

@@ -1,4 +1,4 @@
-use Rattle.std.proofs.Common.{◌≡◌, ◌+◌, ◌-◌, ◌*◌, List, length}
+use Rattle.std.proofs.Common.{◌≡◌, ◌+◌, ◌-◌, ◌*◌, length}
 use Rattle.std.specs.Prelude.{All}
 use Rattle.mime_base.specs.Format.Tree.{Tree, width}
 use Rattle.mime_view.specs.Listing.{IsListed, Lists, ReadsTree}

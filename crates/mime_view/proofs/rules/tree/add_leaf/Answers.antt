@@ -1,4 +1,4 @@
-use Rattle.std.proofs.Common.{◌<◌, length, arith, ap}
+use Rattle.std.proofs.Common.{◌<◌, length, arith}
 use Rattle.mime_view.proofs.ListedTexts.{listed_more}
 use Rattle.mime_view.proofs.rules.tree.add_leaf.Goals as goal
 
