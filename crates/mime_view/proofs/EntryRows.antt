@@ -3,7 +3,8 @@ use Rattle.std.proofs.Common.{◌≡◌, ℕ, ◌+◌, ◌*◌, ◌<◌, ◌≤�
 use Rattle.std.specs.Prelude.{map}
 use Rattle.std.proofs.lemmas.List.{append-nil}
 use Rattle.mime_base.specs.declared.database.rule.GlobRule.{GlobRule}
-use Rattle.mime_view.specs.Listing.{PlainListed, ReadsEntries, ReadsEntry, ReadsRules, listed_rule}
+use Rattle.mime_view.specs.Listing.{PlainListed, listed_rule}
+use Rattle.mime_view.specs.Listing.Reads.{ReadsEntries, ReadsEntry, ReadsRules}
 
 -- what is left of the entries from the i-th on; `old` was listed before all of them, `now` before these
 pub record Left (c : List ℕ) (first count : ℕ) (rules : List GlobRule) (old : List PlainListed) (i : ℕ) (now : List PlainListed) : Type 0 where

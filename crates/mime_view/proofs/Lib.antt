@@ -18,9 +18,12 @@ mod Spelled
 mod ListedTexts
 mod EntryRows
 mod SiblingRows
+mod SiblingNodes
+mod SiblingFaults
 mod SameKeys
 mod TreeLeaves
 mod TreeOrder
+mod EndedRules
 mod TreeRules
 mod TreesRead
 mod RuleLists

@@ -16,8 +16,8 @@ use Rattle.mime_base.specs.Format.Stored.{tree_rules, weight_and_flags}
 use Rattle.mime_base.specs.Format.SuffixTree.{SuffixTreeAt, tree_size}
 use Rattle.mime_base.specs.Format.Tree.{Tree, node_count}
 use Rattle.mime_base.specs.declared.database.rule.GlobRule.{GlobRule}
-use Rattle.mime_view.specs.Listing.{FitsListing, IsListing, PlainListed, ReadsEntries, ReadsEntry, ReadsRules}
-use Rattle.mime_view.specs.Listing.{ReadsSuffixTree, listed_rule, rules_of}
+use Rattle.mime_view.specs.Listing.{FitsListing, IsListing, PlainListed, listed_rule}
+use Rattle.mime_view.specs.Listing.Reads.{ReadsEntries, ReadsEntry, ReadsRules, ReadsSuffixTree, rules_of}
 use Rattle.mime_view.proofs.Headers.{header_read}
 use Rattle.mime_view.proofs.Records.{count_read, list_inside, numbers_read, record_inside, text_read}
 use Rattle.mime_view.proofs.TreeRules.{ended_leaves, listed_by_ending}

@@ -7,7 +7,7 @@ use Rattle.std.proofs.lemmas.Simd.{map-map}
 use Rattle.mime_base.specs.Format.Sorted.{with_key}
 use Rattle.mime_base.specs.Format.Tree.{Tree, bare, leaf, leaf_count, leaves_at, node}
 use Rattle.mime_base.specs.declared.database.rule.GlobRule.{GlobRule}
-use Rattle.mime_view.specs.Listing.{rules_of}
+use Rattle.mime_view.specs.Listing.Reads.{rules_of}
 
 -- a path of characters, and the rule to which it leads
 abbrev pub Leaf : Type 0

@@ -9,10 +9,10 @@ use Rattle.mime_base.specs.Cache.Bytes.{Stands, field, fields}
 use Rattle.mime_base.specs.Cache.Texts.{text_at}
 use Rattle.mime_base.specs.Format.Stored.{weight_and_flags}
 use Rattle.mime_base.specs.Format.Tree.{InOrder, Tree, TreeAt, bare, leaf, node, width}
-use Rattle.mime_view.specs.Listing.{ReadsTree}
+use Rattle.mime_view.specs.Listing.Reads.{ReadsTree}
 use Rattle.mime_view.proofs.Records.{numbers_read, record_inside, text_read}
 use Rattle.mime_view.proofs.TreeLeaves.{Leaf, leaves, length-leaves, path_of, rule_of, under}
-use Rattle.mime_view.proofs.TreeRules.{IsEnded}
+use Rattle.mime_view.proofs.EndedRules.{IsEnded}
 
 -- siblings lie in the cache
 tree_inside : (c : List ℕ) (at : ℕ) (tree : Tree) → at ≤ length c → TreeAt (Stands c) at tree → at + 12 * width tree ≤ length c

@@ -25,7 +25,8 @@ ghost use Rattle.mime_base.specs.Format.Rules.{GlobsAt, LiteralsAt};
 ghost use Rattle.mime_base.specs.Format.Stored.{glob_rules, literal_rules};
 ghost use Rattle.mime_base.specs.Format.SuffixTree.{SuffixTreeAt, tree_size};
 ghost use Rattle.mime_base.specs.declared.database.rule.GlobRule.{GlobRule};
-ghost use Rattle.mime_view.specs.Listing.{FitsListing, IsListed, IsListing, IsListingFault, Lists, plain_listed};
+ghost use Rattle.mime_view.specs.Listing.{FitsListing, IsListed, IsListing, Lists, plain_listed};
+ghost use Rattle.mime_view.specs.Listing.Faults.{IsListingFault};
 
 use crate::budget::Budget;
 use crate::fault::CacheFault;

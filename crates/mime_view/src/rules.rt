@@ -13,8 +13,9 @@ mod tree;
 ghost use Rattle.std.specs.Prelude.{◌≡◌, ℕ, ◌+◌, ◌*◌, ◌^◌, ◌<◌, ◌≤◌, List, [], ◌∷◌, ◌++◌, All, length, map, IfOk, IfErr};
 ghost use Rattle.mime_base.specs.Format.Tree.{Tree, node_count};
 ghost use Rattle.mime_base.specs.declared.database.rule.GlobRule.{GlobRule};
-ghost use Rattle.mime_view.specs.Listing.{IsListed, IsRulesFault, IsTreeFault, Lists, ReadsRules};
-ghost use Rattle.mime_view.specs.Listing.{ReadsSuffixTree, listed_rule, plain_listed, rules_of};
+ghost use Rattle.mime_view.specs.Listing.{IsListed, Lists, listed_rule, plain_listed};
+ghost use Rattle.mime_view.specs.Listing.Faults.{IsRulesFault, IsTreeFault};
+ghost use Rattle.mime_view.specs.Listing.Reads.{ReadsRules, ReadsSuffixTree, rules_of};
 ghost use Rattle.std.specs.Prelude.{◌⊎◌};
 
 use crate::budget::Budget;

@@ -2,7 +2,9 @@
 
 ghost use Rattle.std.specs.Prelude.{◌≡◌, ℕ, ◌+◌, ◌*◌, ◌^◌, ◌<◌, ◌≤◌, List, [], ◌∷◌, ◌++◌, All, length, map, OnOk, IfErr};
 ghost use Rattle.mime_base.specs.declared.database.rule.GlobRule.{GlobRule};
-ghost use Rattle.mime_view.specs.Listing.{IsListed, IsRuleFault, IsRulesFault, Lists, ReadsEntry, ReadsRules, listed_rule};
+ghost use Rattle.mime_view.specs.Listing.{IsListed, Lists, listed_rule};
+ghost use Rattle.mime_view.specs.Listing.Faults.{IsRuleFault, IsRulesFault};
+ghost use Rattle.mime_view.specs.Listing.Reads.{ReadsEntry, ReadsRules};
 
 use crate::budget::Budget;
 use crate::fault::CacheFault;

@@ -7,8 +7,9 @@ ghost use Rattle.std.specs.Prelude.{◌≡◌, ◌⊎◌, ℕ, ◌+◌, ◌*◌,
 ghost use Rattle.mime_base.specs.Cache.Bytes.{field};
 ghost use Rattle.mime_base.specs.Format.Tree.{Tree, node_count, width};
 ghost use Rattle.mime_base.specs.declared.database.rule.GlobRule.{GlobRule};
-ghost use Rattle.mime_view.specs.Listing.{IsListed, IsRuleFault, IsSiblingsFault, IsTreeFault, Lists, ReadsLeaf};
-ghost use Rattle.mime_view.specs.Listing.{ReadsSuffixTree, ReadsTree, listed_rule, rules_of};
+ghost use Rattle.mime_view.specs.Listing.{IsListed, Lists, listed_rule};
+ghost use Rattle.mime_view.specs.Listing.Faults.{IsRuleFault, IsSiblingsFault, IsTreeFault};
+ghost use Rattle.mime_view.specs.Listing.Reads.{ReadsLeaf, ReadsSuffixTree, ReadsTree, rules_of};
 ghost use Rattle.mime_view.specs.Lists.{IsTextFault};
 ghost use Rattle.mime_view.specs.Magic.{LiesBlock};
 
@@ -86,7 +87,7 @@ fn add_siblings<'a>(
         node_count tree ≤ budget.old.records → IfErr result (λ e. e ≡ CacheFault.OutOfMemory) }
     ensures takes_at_most { (tree : Tree) → width tree ≡ count → ReadsTree counted.now first ending.old tree →
         budget.old.records ≤ budget.new.records + node_count tree }
-    ensures fault { IfErr result (IsSiblingsFault counted.now budget.new.records) }
+    ensures fault { IfErr result (IsSiblingsFault counted.now first count (length ending.old) budget.new.records) }
     ensures cost { Lists 0 budget.old budget.new meter.old meter.new }
 {
     for i in 0..count {
@@ -118,7 +119,7 @@ fn add_sibling<'a>(
         node_count tree ≤ budget.old.records → IfErr result (λ e. e ≡ CacheFault.OutOfMemory) }
     ensures takes_at_most { (tree : Tree) → width tree ≡ 1 → ReadsTree counted.now at ending.old tree →
         budget.old.records ≤ budget.new.records + node_count tree }
-    ensures fault { IfErr result (IsSiblingsFault counted.now budget.new.records) }
+    ensures fault { IfErr result (IsSiblingsFault counted.now at 1 (length ending.old) budget.new.records) }
     ensures cost { Lists 0 budget.old budget.new meter.old meter.new }
 {
     let row = take_row(counted, at, meter, budget)?;

@@ -1,7 +1,8 @@
 use Rattle.std.proofs.Common.{◌+◌, ◌≤◌, List}
 use Rattle.std.specs.Prelude.{All}
 use Rattle.mime_base.specs.declared.database.rule.GlobRule.{GlobRule}
-use Rattle.mime_view.specs.Listing.{IsListed, Lists, ReadsRules}
+use Rattle.mime_view.specs.Listing.{IsListed, Lists}
+use Rattle.mime_view.specs.Listing.Reads.{ReadsRules}
 use Rattle.mime_view.proofs.EntryRows.{Left}
 use Rattle.mime_view.proofs.rules.entries.add_entries.Given as goal
 

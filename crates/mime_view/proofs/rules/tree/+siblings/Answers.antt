@@ -1,8 +1,11 @@
-use Rattle.std.proofs.Common.{◌+◌, ◌*◌, ℕ, List, ◌++◌, map, arith, rules, sym, ap, subst, ◌∙◌}
+use Rattle.std.proofs.Common.{◌+◌, ◌*◌, ℕ, List, length, ◌++◌, map, arith, rules, sym, ap, subst, ◌∙◌}
 use Rattle.std.proofs.lemmas.Result.{err_from_is_err_and}
 use Rattle.mime_base.specs.declared.database.rule.GlobRule.{GlobRule}
-use Rattle.mime_view.specs.Listing.{ReadsTree, listed_rule}
-use Rattle.mime_view.proofs.SiblingRows.{below_read, leaf_read, next, node_read, none_left, some_node}
+use Rattle.mime_view.specs.Listing.{listed_rule}
+use Rattle.mime_view.specs.Listing.Reads.{ReadsTree}
+use Rattle.mime_view.proofs.SiblingFaults.{among, below, here}
+use Rattle.mime_view.proofs.SiblingNodes.{below_read, leaf_read, node_read, some_node}
+use Rattle.mime_view.proofs.SiblingRows.{next, none_left}
 use Rattle.mime_view.proofs.rules.tree.+siblings.Goals as goal
 
 pub add_sibling-returns-in_err-row-clause-need : goal.add_sibling-returns-in_err-row-clause-need
@@ -149,3 +152,27 @@ pub add_siblings-returns-clause-answer : goal.add_siblings-returns-clause-answer
 add_siblings-returns-clause-answer t c = λ tree width reads.
     none_left c.args.counted.now c.args.first c.args.count c.args.ending.now tree _ _ c.loop-i.i _ _ c.loop-i-test.false
     (c.loop-i.invariant.left tree width reads)
+
+pub add_sibling-returns-then-length-eq-DEEPEST-clause-fault :
+    goal.add_sibling-returns-then-length-eq-DEEPEST-clause-fault
+add_sibling-returns-then-length-eq-DEEPEST-clause-fault t c =
+    here c.args.counted.now c.args.at (length c.args.ending.now) c.take_row.new.budget.records
+    (omega (arith, c.in_ok-row.ensures.numbers.0)) (omega (arith, c.in_ok-row.ensures.numbers.0)) (omega arith)
+
+pub add_sibling-returns-in_err-add_siblings-clause-fault :
+    goal.add_sibling-returns-in_err-add_siblings-clause-fault
+add_sibling-returns-in_err-add_siblings-clause-fault t c =
+    let p = err_from_is_err_and c.from_residual-in_err-add_siblings.result c.from_residual-in_err-add_siblings.ensures.1 in
+    rw (p.1, p.2) (below c.args.counted.now c.args.at (length c.args.ending.now) c.from-first.result c.from-count.result
+    (length c.grow.new.self) c.add_siblings.new.budget.records _ (c.from-first.ensures ∙ c.in_ok-row.ensures.numbers.2)
+    (c.from-count.ensures ∙ c.in_ok-row.ensures.numbers.1)
+    (ap (λ (e : List ℕ). length e) c.in_ok-grow.ensures.grown)
+    (omega (arith, c.in_ok-row.ensures.numbers.0)) (omega (arith, c.in_ok-row.ensures.numbers.0)) c.in_err-add_siblings.ensures.fault)
+
+pub add_siblings-returns-in_err-add_sibling-clause-fault :
+    goal.add_siblings-returns-in_err-add_sibling-clause-fault
+add_siblings-returns-in_err-add_sibling-clause-fault t c =
+    let p = err_from_is_err_and c.from_residual.result c.from_residual.ensures.1 in
+    rw (p.1, p.2) (among c.args.counted.now c.args.first c.args.count c.loop-i.i (length c.args.ending.now) (length c.loop-i.ending)
+    c.add_sibling.new.budget.records _ c.loop-i-test.true (ap (λ (e : List ℕ). length e) c.loop-i.invariant.ending)
+    c.in_err-add_sibling.ensures.fault)

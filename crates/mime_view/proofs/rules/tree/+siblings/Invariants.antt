@@ -1,7 +1,8 @@
 use Rattle.std.proofs.Common.{◌≡◌, ◌+◌, ◌-◌, ◌*◌, length}
 use Rattle.std.specs.Prelude.{All}
 use Rattle.mime_base.specs.Format.Tree.{Tree, width}
-use Rattle.mime_view.specs.Listing.{IsListed, Lists, ReadsTree}
+use Rattle.mime_view.specs.Listing.{IsListed, Lists}
+use Rattle.mime_view.specs.Listing.Reads.{ReadsTree}
 use Rattle.mime_view.proofs.SiblingRows.{Left}
 use Rattle.mime_view.proofs.rules.tree.+siblings.Given as goal
 
