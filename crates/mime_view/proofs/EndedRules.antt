@@ -82,7 +82,8 @@ ended rule inside fits =
     (λ k d l. compared_small rule.cased (get_or p.rest k d) (below k d l)) in
     record {
       key = refl;
-      text = stored ∙ ap (λ (xs : List ℕ). 42 ∷ xs) (sym (reverse-reverse (compared rule.cased p.rest)) ∙ ap (λ (xs : List ℕ). reverse xs) (sym key));
+      text = stored ∙ ap (λ (xs : List ℕ). 42 ∷ xs)
+          (sym (reverse-reverse (compared rule.cased p.rest)) ∙ ap (λ (xs : List ℕ). reverse xs) (sym key));
       some = omega (arith, size, p.some);
       short = omega (arith, size, long, fits.1);
       bytes = All-same (λ b. b < 256) (reversed_ending rule) (reverse (compared rule.cased p.rest)) key

@@ -7,14 +7,16 @@ use Rattle.mime_view.specs.Listing.{PlainListed, listed_rule}
 use Rattle.mime_view.specs.Listing.Reads.{ReadsEntries, ReadsEntry, ReadsRules}
 
 -- what is left of the entries from the i-th on; `old` was listed before all of them, `now` before these
-pub record Left (c : List ℕ) (first count : ℕ) (rules : List GlobRule) (old : List PlainListed) (i : ℕ) (now : List PlainListed) : Type 0 where
+pub record Left (c : List ℕ) (first count : ℕ) (rules : List GlobRule) (old : List PlainListed) (i : ℕ)
+    (now : List PlainListed) : Type 0 where
   pub rest : List GlobRule
   pub size : length rest + i ≡ count
   pub reads : ReadsEntries c (first + 12 * i) rest
   pub listed : now ++ map listed_rule rest ≡ old ++ map listed_rule rules
 
 -- the next entry, and what is left after it
-pub record Next (c : List ℕ) (first count : ℕ) (rules : List GlobRule) (old : List PlainListed) (i : ℕ) (now : List PlainListed) : Type 0 where
+pub record Next (c : List ℕ) (first count : ℕ) (rules : List GlobRule) (old : List PlainListed) (i : ℕ)
+    (now : List PlainListed) : Type 0 where
   pub rule : GlobRule
   pub reads : ReadsEntry c (first + 12 * i) rule
   pub later : (new : List PlainListed) → new ≡ now ++ listed_rule rule ∷ [] → Left c first count rules old (i + 1) new
@@ -34,6 +36,7 @@ next_of c first count rules old i now (rule ∷ rest) l size reads listed = reco
   };
 }
 
+-- while some are left there is a next one
 pub next : (c : List ℕ) (first count : ℕ) (rules : List GlobRule) (old : List PlainListed) (i : ℕ) (now : List PlainListed) → i < count
     → Left c first count rules old i now → Next c first count rules old i now
 next c first count rules old i now l left = next_of c first count rules old i now left.rest l left.size left.reads left.listed

@@ -18,7 +18,8 @@ pub short_text : (c text : List ℕ) (place : ℕ) → text_at c place ≡ Ok te
 short_text c text place read = let r = text_at-read c place text read in r.0.short
 
 -- what is listed from no rules on in three steps
-pub all_listed : (c : List ℕ) (none first second third all : List PlainListed) → none ≡ [] → (All (IsListed c) none → All (IsListed c) first)
+pub all_listed : (c : List ℕ) (none first second third all : List PlainListed) → none ≡ []
+    → (All (IsListed c) none → All (IsListed c) first)
     → (All (IsListed c) first → All (IsListed c) second) → (All (IsListed c) second → All (IsListed c) third) → all ≡ third
     → All (IsListed c) all
 all_listed c none first second third all empty to_first to_second to_third is =

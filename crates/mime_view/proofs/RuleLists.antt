@@ -130,7 +130,8 @@ are_listed c literals tree globs rules listed read is = record {
   leaves = rules_of read.roots;
   sorted_literals = read.by_text;
   sorted_leaves = read.by_ending;
-  is = is ∙ ap (λ (xs : List PlainListed). map listed_rule read.first ++ xs) (sym (map-append listed_rule (rules_of read.roots) (glob_rules rules)))
+  is = is ∙ ap (λ (xs : List PlainListed). map listed_rule read.first ++ xs)
+      (sym (map-append listed_rule (rules_of read.roots) (glob_rules rules)))
       ∙ sym (map-append listed_rule read.first (rules_of read.roots ++ glob_rules rules));
 }
 

@@ -1,7 +1,8 @@
 -- Two lists in which the members of each key are the same have the same members.
 use Rattle.std.proofs.Common.{◌≡◌, Bool, true, false, cond, List, [], ◌∷◌, ◌++◌, refl, sym, ap, subst, ◌∙◌, bytes_eq, IsPermutation}
 use Rattle.std.proofs.lemmas.List.Elements.{filter-append}
-use Rattle.std.proofs.lemmas.List.Sorted.{IsPermutation-cons, IsPermutation-middle, IsPermutation-refl, IsPermutation-sym, IsPermutation-trans}
+use Rattle.std.proofs.lemmas.List.Sorted.{IsPermutation-cons, IsPermutation-middle, IsPermutation-refl}
+use Rattle.std.proofs.lemmas.List.Sorted.{IsPermutation-sym, IsPermutation-trans}
 use Rattle.std.proofs.lemmas.Slice.Eq.{bytes_eq-Decides}
 use Rattle.std.specs.Prelude.{ℕ}
 use Rattle.mime_base.specs.Format.Sorted.{with_key}
@@ -53,15 +54,17 @@ without key text x front back is =
     filter-append (λ y. bytes_eq (key y) text) front (x ∷ back)
     ∙ rw is (sym (filter-append (λ y. bytes_eq (key y) text) front back))
 
--- with a first of the key, and with one of another
+-- with a first of the key
 pub first_of : {X : Type 0} (key : X → List ℕ) (text : List ℕ) (x : X) (xs : List X) → bytes_eq (key x) text ≡ true
     → with_key key text (x ∷ xs) ≡ x ∷ with_key key text xs
 first_of key text x xs is = rw is refl
 
+-- with a first of another key
 pub others : {X : Type 0} (key : X → List ℕ) (text : List ℕ) (x : X) (xs : List X) → bytes_eq (key x) text ≡ false
     → with_key key text (x ∷ xs) ≡ with_key key text xs
 others key text x xs is = rw is refl
 
+-- so one list is the other in another order
 pub permuted : {X : Type 0} (key : X → List ℕ) (xs ys : List X) → ((text : List ℕ) → with_key key text xs ≡ with_key key text ys)
     → IsPermutation xs ys
 permuted key [] [] same = IsPermutation-refl []

@@ -6,7 +6,8 @@ use Rattle.mime_view.specs.declared.fault.CacheFault.{CacheFault}
 use Rattle.mime_view.specs.declared.fault.CacheFault.TheVariants.{TooDeep}
 
 -- a node below the last character
-pub here : (c : List ℕ) (at above left : ℕ) → 0 < field c at 0 → field c at 0 < 256 → above ≡ 254 → IsSiblingsFault c at 1 above left TooDeep
+pub here : (c : List ℕ) (at above left : ℕ) → 0 < field c at 0 → field c at 0 < 256 → above ≡ 254
+    → IsSiblingsFault c at 1 above left TooDeep
 here c at above left some byte last = inr (inl (record {
   i = 0;
   within = omega arith;

@@ -19,6 +19,7 @@ none_after bare none = (refl, refl)
 none_after (leaf rule rest) none = absurd (omega arith)
 none_after (node character below rest) none = absurd (omega arith)
 
+-- such a sibling is read as a leaf
 pub leaf_read : (c : List ℕ) (at : ℕ) (ending : List ℕ) (one : Tree) → width one ≡ 1 → ReadsTree c at ending one → field c at 0 ≡ 0
     → IsLeaf c at ending one
 leaf_read c at ending bare alone reads zero = absurd (omega arith)
@@ -42,6 +43,7 @@ pub record IsParent (c : List ℕ) (at : ℕ) (ending : List ℕ) (one : Tree) :
   pub alone : rules_of one ≡ rules_of below
   pub size : node_count one ≡ 1 + node_count below
 
+-- and any other as a node
 pub node_read : (c : List ℕ) (at : ℕ) (ending : List ℕ) (one : Tree) → width one ≡ 1 → ReadsTree c at ending one → 0 < field c at 0
     → IsParent c at ending one
 node_read c at ending bare alone reads some = absurd (omega arith)
@@ -72,6 +74,7 @@ pub record IsBelow (c : List ℕ) (first count : ℕ) (grown : List ℕ) (one : 
   pub alone : rules_of one ≡ rules_of below
   pub size : node_count one ≡ 1 + node_count below
 
+-- by these numbers what is below it is read
 pub below_read : (c : List ℕ) (at : ℕ) (ending : List ℕ) (one : Tree) (character count first : ℕ) (grown : List ℕ) → width one ≡ 1
     → ReadsTree c at ending one → 0 < character → character ≡ field c at 0 → count ≡ field c at 1 → first ≡ field c at 2
     → grown ≡ character ∷ ending → IsBelow c first count grown one

@@ -53,7 +53,8 @@ next_of c first count ending tree old r0 i now r (node character below rest) l s
     size = omega arith;
     reads = let e : first + 12 * (i + 1) ≡ first + 12 * i + 12 = omega arith in rw e reads.7;
     listed =
-        let here : map listed_rule (rules_of below ++ []) ≡ map listed_rule (rules_of below) = ap (map listed_rule) (append-nil (rules_of below)) in
+        let here : map listed_rule (rules_of below ++ []) ≡ map listed_rule (rules_of below) =
+        ap (map listed_rule) (append-nil (rules_of below)) in
         let both = map-append listed_rule (rules_of below) (rules_of rest) in
         ap (λ (xs : List PlainListed). xs ++ map listed_rule (rules_of rest)) (is ∙ ap (λ (xs : List PlainListed). now ++ xs) here)
         ∙ append_assoc now (map listed_rule (rules_of below)) (map listed_rule (rules_of rest))
@@ -62,6 +63,7 @@ next_of c first count ending tree old r0 i now r (node character below rest) l s
   };
 }
 
+-- while some are left there is a next one
 pub next : (c : List ℕ) (first count : ℕ) (ending : List ℕ) (tree : Tree) (old : List PlainListed) (r0 i : ℕ) (now : List PlainListed)
     (r : ℕ) → i < count → Left c first count ending tree old r0 i now r → Next c first count ending tree old r0 i now r
 next c first count ending tree old r0 i now r l left =

@@ -13,9 +13,11 @@ use Rattle.mime_view.specs.Listing.Reads.{rules_of}
 abbrev pub Leaf : Type 0
 Leaf = List ℕ × GlobRule
 
+-- its path
 abbrev pub path_of : Leaf → List ℕ
 path_of x = x.0
 
+-- its rule
 abbrev pub rule_of : Leaf → GlobRule
 rule_of x = x.1
 
@@ -29,6 +31,7 @@ leaves bare = []
 leaves (leaf rule rest) = ([], rule) ∷ leaves rest
 leaves (node character below rest) = map (under character) (leaves below) ++ leaves rest
 
+-- their rules are those of the tree
 pub rules-leaves : (tree : Tree) → map rule_of (leaves tree) ≡ rules_of tree
 rules-leaves bare = refl
 rules-leaves (leaf rule rest) = ap (λ (xs : List GlobRule). rule ∷ xs) (rules-leaves rest)
@@ -36,6 +39,7 @@ rules-leaves (node character below rest) =
     map-append rule_of (map (under character) (leaves below)) (leaves rest)
     ∙ ap₂ (λ (xs ys : List GlobRule). xs ++ ys) (map-map rule_of (under character) (leaves below) ∙ rules-leaves below) (rules-leaves rest)
 
+-- there are as many as are counted
 pub length-leaves : (tree : Tree) → length (map rule_of (leaves tree)) ≡ leaf_count tree
 length-leaves bare = refl
 length-leaves (leaf rule rest) = omega (arith, length-leaves rest)
@@ -55,8 +59,10 @@ with_same : (character b : ℕ) (path : List ℕ) (xs : List Leaf) → (characte
     → map rule_of (with_key path_of (b ∷ path) (map (under character) xs)) ≡ map rule_of (with_key path_of path xs)
 with_same character b path [] is = refl
 with_same character b path (x ∷ xs) is =
-    rw is (elim (bytes_eq x.0 path) as (λ t. map rule_of (cond t (under character x ∷ with_key path_of (b ∷ path) (map (under character) xs))
-    (with_key path_of (b ∷ path) (map (under character) xs))) ≡ map rule_of (cond t (x ∷ with_key path_of path xs) (with_key path_of path xs))) [
+    rw is (elim (bytes_eq x.0 path) as (λ t.
+    map rule_of (cond t (under character x ∷ with_key path_of (b ∷ path) (map (under character) xs))
+    (with_key path_of (b ∷ path) (map (under character) xs)))
+    ≡ map rule_of (cond t (x ∷ with_key path_of path xs) (with_key path_of path xs))) [
       | true ↦ ap (λ (rules : List GlobRule). x.1 ∷ rules) (with_same character b path xs is)
       | false ↦ with_same character b path xs is
     ])

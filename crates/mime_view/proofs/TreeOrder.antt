@@ -100,5 +100,6 @@ sorted_rules (x ∷ xs) r keyed =
     sorted_first ends_before (rule_of x) (map rule_of xs) (first_rising x xs r keyed)
     (sorted_rules xs r.1 (All-tail Keyed x xs keyed))
 
+-- the rules of a tree in order are sorted by their endings
 pub leaves_sorted : (tree : Tree) → InOrder 0 tree → All Keyed (leaves tree) → IsSortedBy ends_before (map rule_of (leaves tree))
 leaves_sorted tree order keyed = sorted_rules (leaves tree) (rising 0 tree order) keyed

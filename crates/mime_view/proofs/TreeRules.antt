@@ -48,7 +48,8 @@ keys_of text (x ∷ xs) keyed =
     let rest = keys_of text xs (All-tail Keyed x xs keyed) in
     let here : bytes_eq (reversed_ending (rule_of x)) text ≡ bytes_eq (path_of x) text =
     ap (λ (key : List ℕ). bytes_eq key text) (All-head Keyed x xs keyed) in
-    ap (λ (t : Bool). cond t (rule_of x ∷ with_key reversed_ending text (map rule_of xs)) (with_key reversed_ending text (map rule_of xs))) here
+    ap (λ (t : Bool). cond t (rule_of x ∷ with_key reversed_ending text (map rule_of xs))
+    (with_key reversed_ending text (map rule_of xs))) here
     ∙ elim (bytes_eq (path_of x) text) as (λ t. cond t (rule_of x ∷ with_key reversed_ending text (map rule_of xs))
     (with_key reversed_ending text (map rule_of xs)) ≡ map rule_of (cond t (x ∷ with_key path_of text xs) (with_key path_of text xs))) [
       | true ↦ ap (λ (rules : List GlobRule). rule_of x ∷ rules) rest
@@ -63,7 +64,8 @@ listed_by_ending rules tree order same fit =
     let keyed : All Keyed (leaves tree) =
     All-weaker (λ x. IsEnded (path_of x) (rule_of x)) Keyed (λ x end. end.key) (leaves tree) (ended_leaves rules tree same fit) in
     let ties : (text : List ℕ) → with_key reversed_ending text (rules_of tree) ≡ with_key reversed_ending text (tree_rules rules) =
-    λ text. ap (with_key reversed_ending text) (sym (rules-leaves tree)) ∙ keys_of text (leaves tree) keyed ∙ leaves-at text tree ∙ same text in
+    λ text. ap (with_key reversed_ending text) (sym (rules-leaves tree)) ∙ keys_of text (leaves tree) keyed
+    ∙ leaves-at text tree ∙ same text in
     record {
       permuted = permuted reversed_ending (tree_rules rules) (rules_of tree) (λ text. sym (ties text));
       in_order = subst (IsSortedBy ends_before) (rules-leaves tree) (leaves_sorted tree order keyed);

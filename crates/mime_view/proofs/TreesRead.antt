@@ -24,6 +24,7 @@ tree_inside c at (node character below rest) low (first, here, inner, later) =
     let inside : at + 4 * 3 ≤ length c = record_inside c at (character ∷ width below ∷ first ∷ []) here in
     omega (arith, tree_inside c (at + 12) rest (omega arith) later)
 
+-- also where their offset is not known to lie there
 pub siblings_inside : (c : List ℕ) (at : ℕ) (tree : Tree) → TreeAt (Stands c) at tree → 0 < width tree → at + 12 * width tree ≤ length c
 siblings_inside c at bare stand some = absurd (omega arith)
 siblings_inside c at (leaf rule rest) stand some =
@@ -80,6 +81,7 @@ leads character ending (x ∷ xs) some all =
     back [] rest all = all
     back (b ∷ front) rest all = back front rest (All-tail (λ b. b < 256) b (front ++ rest) all)
 
+-- siblings that stand are read, with what is below them
 pub tree_read : (c : List ℕ) (at : ℕ) (ending : List ℕ) (before : ℕ) (tree : Tree) → TreeAt (Stands c) at tree → InOrder before tree
     → All (GoesOn ending) (leaves tree) → ReadsTree c at ending tree
 tree_read c at ending before bare stand order all = tt

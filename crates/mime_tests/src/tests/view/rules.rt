@@ -63,7 +63,7 @@ fn rules_of_the_sample(rt: HostRuntime) -> Result<(), CacheFault> {
             left: 54,
             rows: &[MK, GZ, MK],
         },
-        // at 84 and at 140 the number 0xff01_32
+        // the weight is the lowest byte, the flag the lowest bit of the next; the others say nothing
         Lists {
             name: "flags of a literal entry",
             bytes: with(84, [0xff, 0xfe, 1, 7]),
