@@ -43,3 +43,15 @@ mod TreeWalks
 mod TreePaths
 mod NameOffers
 mod NameLists
+mod ListedTexts
+mod EntryRows
+mod SiblingRows
+mod SiblingNodes
+mod SiblingFaults
+mod SameKeys
+mod TreeLeaves
+mod TreeOrder
+mod EndedRules
+mod ListedTree
+mod TreesRead
+mod RuleLists

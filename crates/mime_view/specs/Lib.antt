@@ -9,3 +9,4 @@ pub mod Globs
 pub mod Literals
 pub mod SuffixTree
 pub mod NameHits
+pub mod Listing

@@ -276,7 +276,12 @@ pub fn sniff<'a>(
 }
 
 /// Refuses records that don't lie in the cache. No records lie anywhere.
-fn check_block(counted: &Counted<'_>, first: u64, size: u64, count: u64) -> Result<(), CacheFault>
+pub fn check_block(
+    counted: &Counted<'_>,
+    first: u64,
+    size: u64,
+    count: u64,
+) -> Result<(), CacheFault>
     requires first { first < 2 ^ 32 }
     requires count { count < 2 ^ 32 }
     requires size { size ≤ 32 }

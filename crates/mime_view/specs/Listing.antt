@@ -1,0 +1,72 @@
+-- All glob rules of a cache as a program lists them, and what listing them costs.
+pub mod Reads
+pub mod Faults
+use Rattle.std.specs.Prelude.{◌≡◌, ℕ, ◌+◌, ◌*◌, ◌/◌, ◌%◌, ◌<◌, ◌≤◌, ◌==◌, Bool, List, ◌++◌, All, length, map, Ok}
+use Rattle.mime_base.specs.Cache.Texts.{text_at}
+use Rattle.mime_base.specs.Format.Sorted.{IsSortedByText}
+use Rattle.mime_base.specs.Format.Stored.{glob_rules, literal_rules, reversed_ending, stored_text, tree_rules}
+use Rattle.mime_base.specs.Meter.{raised}
+use Rattle.mime_base.specs.declared.database.rule.GlobRule.{GlobRule}
+use Rattle.mime_base.specs.declared.meter.Meter.{Meter}
+use Rattle.mime_view.specs.declared.budget.Budget.{Budget}
+use Rattle.mime_view.specs.declared.rules.listing.Listed.{Listed}
+
+-- a rule as it is listed, with its pattern as it is stored
+pub record PlainListed : Type 0 where
+  pub weight : ℕ
+  pub kind : List ℕ
+  pub pattern : List ℕ
+  pub cased : Bool
+
+-- the plain value of a listed rule
+abbrev pub plain_listed : Listed → PlainListed
+plain_listed listed = record {
+  weight = listed.weight;
+  kind = listed.kind.now;
+  pattern = listed.pattern.items;
+  cased = listed.cased;
+}
+
+-- the weight, and the case-sensitive flag 0x100, of a number that has both
+abbrev pub listed_by : ℕ → List ℕ → List ℕ → PlainListed
+listed_by flags kind pattern = record {
+  weight = flags % 256;
+  kind = kind;
+  pattern = pattern;
+  cased = flags / 256 % 2 == 1;
+}
+
+-- what is listed of a rule
+abbrev pub listed_rule : GlobRule → PlainListed
+listed_rule rule = record {
+  weight = rule.weight;
+  kind = rule.kind;
+  pattern = stored_text rule;
+  cased = rule.cased;
+}
+
+-- the literal rules and those of the tree, each by their texts, and then those of the glob list, in merged order
+pub record IsListing (rules : List GlobRule) (listed : List PlainListed) : Type 0 where
+  pub literals : List GlobRule
+  pub leaves : List GlobRule
+  pub sorted_literals : IsSortedByText stored_text (literal_rules rules) literals
+  pub sorted_leaves : IsSortedByText reversed_ending (tree_rules rules) leaves
+  pub is : listed ≡ map listed_rule (literals ++ (leaves ++ glob_rules rules))
+
+-- the weight, the length of the pattern and each of its bytes fit a byte
+abbrev pub FitsListing : GlobRule → Type 0
+FitsListing rule = (rule.weight < 256) × (length rule.pattern < 256) × All (λ b. b < 256) rule.pattern
+
+-- a type that is a text of the cache, and a pattern of at most 255 bytes
+abbrev pub IsListed : List ℕ → PlainListed → Type 0
+IsListed c listed = ((place : ℕ) × (text_at c place ≡ Ok listed.kind)) × (length listed.pattern < 256)
+
+-- What a listing costs: each record adds one node and at most 512 bytes, and so many nodes come besides.
+pub record Lists (more : ℕ) (old new : Budget) (before after : Meter) : Type 0 where
+  pub records : new.records ≤ old.records
+  pub value_bytes : new.value_bytes ≡ old.value_bytes
+  pub rises : before.nodes ≤ after.nodes
+  pub nodes : after.nodes + new.records ≤ before.nodes + old.records + more
+  pub fair : raised before.nodes old.records ≤ after.nodes + new.records
+  pub bytes_rise : before.bytes ≤ after.bytes
+  pub bytes : after.bytes + 512 * new.records ≤ before.bytes + 512 * old.records

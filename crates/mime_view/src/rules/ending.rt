@@ -1,0 +1,67 @@
+//! An ending of names, which grows to the front on the way down the suffix tree. This project's own.
+
+ghost use Rattle.std.specs.Prelude.{◌≡◌, ◌≤◌, ◌<◌, ◌+◌, [], ◌∷◌, length, drop, OnOk, IfOk, IfErr};
+
+use crate::fault::CacheFault;
+use std::alloc::Global;
+use std::marker::Model;
+
+/// An ending of names.
+#[derive(Drop)]
+pub struct Ending {
+    /// Its bytes, from the last to the first.
+    path: Vec<u8>,
+}
+
+impl Model for Ending {
+    ghost use Rattle.std.specs.Prelude.{ℕ, List, reverse};
+
+    ghost Value = { List ℕ };
+
+    ghost view = { λ ending. reverse ending.path.items };
+}
+
+impl Ending {
+    /// The ending of no bytes. It takes no memory.
+    pub fn none(alloc: Global) -> Ending
+        ensures { result ≡ [] }
+    {
+        Ending {
+            path: Vec::new(alloc),
+        }
+    }
+
+    /// How many bytes it has.
+    pub fn length(&self) -> usize
+        ensures { result ≡ length self.now }
+    {
+        self.path.len()
+    }
+
+    /// Puts a byte before it.
+    pub fn grow(&mut self, byte: u8) -> Result<(), CacheFault>
+        ensures grown { OnOk result (self.new ≡ byte ∷ self.old) }
+        ensures fault { IfErr result (λ e. e ≡ CacheFault.OutOfMemory) }
+    {
+        self.path.push(byte)?;
+        Ok(())
+    }
+
+    /// Takes its first byte away.
+    pub fn shrink(&mut self)
+        ensures { self.new ≡ drop 1 self.old }
+    {
+        let _ = self.path.pop();
+    }
+
+    /// The pattern of the names that end so: a `*`, and the ending.
+    pub fn pattern(&self, alloc: Global) -> Result<Vec<u8>, CacheFault>
+        ensures pattern { IfOk result (λ pattern. pattern.items ≡ 42 ∷ self.now) }
+        ensures fault { IfErr result (λ e. e ≡ CacheFault.OutOfMemory) }
+    {
+        let mut pattern = Vec::from_slice(alloc, &self.path)?;
+        pattern.push(b'*')?;
+        pattern.reverse();
+        Ok(pattern)
+    }
+}
