@@ -27,7 +27,10 @@ ghost use Rattle.mime_view.specs.NameHits.{IsHitsFault};
 ghost use Rattle.mime_view.specs.Pairs.{looked_up};
 ghost use Rattle.mime_view.specs.Parents.{IsGiven, IsParentsFault, IsRead, has_place, is_marked, unmarked_parents, with_place};
 ghost use Rattle.mime_view.specs.Opening.{IsOpenFault, Opens};
-ghost use Rattle.std.specs.Prelude.{All, map};
+ghost use Rattle.mime_base.specs.Format.Rules.{GlobsAt, LiteralsAt};
+ghost use Rattle.mime_base.specs.Format.Stored.{glob_rules, literal_rules};
+ghost use Rattle.mime_base.specs.Format.SuffixTree.{SuffixTreeAt, tree_size};
+ghost use Rattle.mime_base.specs.declared.database.rule.GlobRule.{GlobRule};
 ghost use Rattle.mime_view.specs.Listing.{FitsListing, IsListed, IsListing, Lists, plain_listed};
 ghost use Rattle.mime_view.specs.Listing.Faults.{IsListingFault};
 
@@ -38,8 +41,8 @@ use crate::marks::Marks;
 use crate::name::{RuleLists, glob_hits};
 use crate::pairs::look_up_pair;
 use crate::parents::{Parents, parents_of};
-use crate::texts::Texts;
 use crate::rules::{Listed, list_rules};
+use crate::texts::Texts;
 use mime_base::{Counted, Host, Meter};
 use std::alloc::Global;
 use std::marker::Model;
@@ -57,6 +60,8 @@ const LARGEST: u64 = 268_435_456;
 /// let cache = Cache::open(Counted::new(bytes), &mut meter)?;
 /// let mut budget = Budget::of(&cache);
 /// assert_eq!(rt; cache.unalias(b"t/h", &mut meter, &mut budget), Ok(b"t/g" as &[u8]));
+/// ```
+///
 /// Nothing behind the header is trusted. Names that its calls give borrow from the cache's bytes.
 #[derive(Drop)]
 pub struct Cache<'a> {
@@ -74,12 +79,15 @@ impl<'a> Model for Cache<'a> {
     ghost view = { λ cache. cache.counted };
 
     ghost invariant = { λ cache. (cache.header ≡ fields cache.counted 0 10) × Opens cache.counted };
+}
 
 impl<'a> Cache<'a> {
     /// Reads the header of a cache.
     ///
     /// It adds one node where there are 40 bytes. It takes no memory.
+    ///
     /// # Errors
+    ///
     /// [`CacheFault::Truncated`] below 40 bytes, else [`CacheFault::Version`] unless it is 1.2, else
     /// [`CacheFault::TooLarge`] above 268,435,456 bytes.
     pub fn open(counted: Counted<'a>, meter: &mut Meter) -> Result<Cache<'a>, CacheFault>
@@ -99,20 +107,28 @@ impl<'a> Cache<'a> {
         let minor = (version % 65_536) as u16;
         if (major, minor) != (1, 2) {
             return Err(CacheFault::Version(major, minor));
+        }
         if length > LARGEST {
             return Err(CacheFault::TooLarge);
+        }
         Ok(Cache { counted, header })
     }
 
     /// How many bytes the cache has. It adds nothing.
     pub fn length(&self) -> u64
         ensures { result ≡ length self.now }
+    {
         self.counted.length()
+    }
 
     /// The types of the glob rules that are kept for a name, in merged order, each as the cache has it: an
     /// alias is not resolved ("Recommended checking order").
+    ///
     /// The name has at most 4,096 bytes. Each entry or leaf that is scanned takes a record of the budget, two
     /// where one search serves both cases.
+    ///
+    /// # Errors
+    ///
     /// [`CacheFault::OutOfRange`] with the offset of a list of rules, of the tree or of a block of siblings
     /// where not all of it lies in the cache; the fault of a text that is compared, matched or given;
     /// [`CacheFault::Spent`] where no record is left; [`CacheFault::OutOfMemory`].
@@ -130,6 +146,8 @@ impl<'a> Cache<'a> {
             IfOk result (λ kinds. kinds ≡ map (λ rule. rule.kind) (kept_rules rules name.now)) }
         ensures text { IfOk result (λ kinds. All (λ kind. (at : ℕ) × (text_at self.now at ≡ Ok kind)) kinds) }
         ensures need { (offsets : Offsets) (rules : List GlobRule) → All FitsRank rules →
+            HeaderAt (Stands self.now) offsets → LiteralsAt (Stands self.now) offsets.literals rules →
+            SuffixTreeAt (Stands self.now) offsets.tree rules → GlobsAt (Stands self.now) offsets.globs rules →
             (2 * length (literal_rules rules) + 2 * tree_size rules + length (glob_rules rules) ≤ budget.old.records)
             ⊎ (2 * near name.now rules + 2 * length name.now + 2 ≤ budget.old.records) →
             IfErr result (λ e. e ≡ CacheFault.OutOfMemory) }
@@ -140,64 +158,117 @@ impl<'a> Cache<'a> {
             GlobsAt (Stands self.now) offsets.globs rules → budget.old.records ≤ budget.new.records
             + (2 * length (literal_rules rules) + 2 * tree_size rules + length (glob_rules rules)) }
         ensures takes_near { (offsets : Offsets) (rules : List GlobRule) → HeaderAt (Stands self.now) offsets →
+            LiteralsAt (Stands self.now) offsets.literals rules → SuffixTreeAt (Stands self.now) offsets.tree rules →
             GlobsAt (Stands self.now) offsets.globs rules →
             budget.old.records ≤ budget.new.records + (2 * near name.now rules + 2 * length name.now + 2) }
         ensures cost { Charged (256 * (length name.now + 3)) (29 * (2 * length name.now + 2) + 1)
             budget.old budget.new meter.old meter.new }
+    {
         let lists = RuleLists {
             literals: self.header[3],
             tree: self.header[4],
             globs: self.header[5],
         };
         glob_hits(alloc, &self.counted, lists, name, meter, budget)
+    }
 
     /// The type that an alias stands for, or the name itself where it is no alias ("Directory layout").
+    ///
     /// It takes no memory and nothing of the budget.
     pub fn unalias(
+        &self,
         kind: &'a [u8],
+        meter: &mut Meter,
+        budget: &mut Budget,
     ) -> Result<&'a [u8], CacheFault>
         ensures answer { (offsets : Offsets) (pairs : List (List ℕ × List ℕ)) → HeaderAt (Stands self.now) offsets →
             PairsAt (Stands self.now) offsets.aliases pairs → IsOkAnd result (λ name. name.now ≡ resolved pairs kind.now) }
         ensures text { IfOk result (λ name. (name.now ≡ kind.now) ⊎ ((at : ℕ) × (text_at self.now at ≡ Ok name.now))) }
         ensures fault { IfErr result (λ e. IsListFault self.now (field self.now 0 1) 8 e ⊎ IsTextFault self.now e) }
         ensures budget { budget.new ≡ budget.old }
+        ensures rises { meter.old.nodes ≤ meter.new.nodes }
         ensures nodes { meter.new.nodes ≤ meter.old.nodes + 29 }
         ensures bytes_rise { meter.old.bytes ≤ meter.new.bytes }
         ensures bytes { meter.new.bytes ≤ meter.old.bytes + 256 * 29 }
+    {
         let _ = budget;
         let name = look_up_pair(&self.counted, u64::from(self.header[1]), kind, meter)?;
         match name {
             Some(name) => Ok(name),
             None => Ok(kind),
+        }
+    }
 
     /// The name of a type's icon, where the cache has one ("The mime.cache files").
+    ///
+    /// It takes no memory and nothing of the budget.
     pub fn icon(
+        &self,
         kind: &[u8],
+        meter: &mut Meter,
+        budget: &mut Budget,
     ) -> Result<Option<&'a [u8]>, CacheFault>
         ensures answer { (offsets : Offsets) (icons : List (List ℕ × List ℕ)) → HeaderAt (Stands self.now) offsets →
             PairsAt (Stands self.now) offsets.icons icons →
             IsOkAnd result (λ name. option_map (λ text. text.now) name ≡ looked_up icons kind.now) }
         ensures text { IfOk result (λ name. IfSome name (λ text. (at : ℕ) × (text_at self.now at ≡ Ok text.now))) }
         ensures fault { IfErr result (λ e. IsListFault self.now (field self.now 0 8) 8 e ⊎ IsTextFault self.now e) }
+        ensures budget { budget.new ≡ budget.old }
+        ensures rises { meter.old.nodes ≤ meter.new.nodes }
+        ensures nodes { meter.new.nodes ≤ meter.old.nodes + 29 }
+        ensures bytes_rise { meter.old.bytes ≤ meter.new.bytes }
+        ensures bytes { meter.new.bytes ≤ meter.old.bytes + 256 * 29 }
+    {
+        let _ = budget;
         let name = look_up_pair(&self.counted, u64::from(self.header[8]), kind, meter)?;
         Ok(name)
+    }
 
     /// The name of the icon that stands for a type and those like it, where the cache has one ("The
     /// mime.cache files").
+    ///
+    /// It takes no memory and nothing of the budget.
     pub fn generic_icon(
+        &self,
+        kind: &[u8],
+        meter: &mut Meter,
+        budget: &mut Budget,
+    ) -> Result<Option<&'a [u8]>, CacheFault>
+        ensures answer { (offsets : Offsets) (icons : List (List ℕ × List ℕ)) → HeaderAt (Stands self.now) offsets →
             PairsAt (Stands self.now) offsets.generic_icons icons →
+            IsOkAnd result (λ name. option_map (λ text. text.now) name ≡ looked_up icons kind.now) }
+        ensures text { IfOk result (λ name. IfSome name (λ text. (at : ℕ) × (text_at self.now at ≡ Ok text.now))) }
         ensures fault { IfErr result (λ e. IsListFault self.now (field self.now 0 9) 8 e ⊎ IsTextFault self.now e) }
+        ensures budget { budget.new ≡ budget.old }
+        ensures rises { meter.old.nodes ≤ meter.new.nodes }
+        ensures nodes { meter.new.nodes ≤ meter.old.nodes + 29 }
+        ensures bytes_rise { meter.old.bytes ≤ meter.new.bytes }
+        ensures bytes { meter.new.bytes ≤ meter.old.bytes + 256 * 29 }
+    {
+        let _ = budget;
         let name = look_up_pair(&self.counted, u64::from(self.header[9]), kind, meter)?;
+        Ok(name)
+    }
 
     /// The parents of a type, with the place of its entry, where the type has a parent ("The mime.cache files").
+    ///
     /// An entry that is marked gives no types and takes no record. Any other is marked by the answer. Each
     /// of its parents takes a record of the budget before its number and its text are read.
+    ///
+    /// # Errors
+    ///
     /// [`CacheFault::OutOfRange`] with the offset of the parent list, or of the entry's parents, where not all
     /// of it lies in the cache; the fault of a text that is compared or given; [`CacheFault::Spent`] where a
     /// parent has no record left; [`CacheFault::OutOfMemory`]. The marks are as they were.
     pub fn parents_of(
+        &self,
+        alloc: Global,
+        kind: &[u8],
         marks: &mut Marks,
+        meter: &mut Meter,
+        budget: &mut Budget,
     ) -> Result<Option<Parents<'a>>, CacheFault>
+        ensures answer { (offsets : Offsets) (pairs : List (List ℕ × List ℕ)) → HeaderAt (Stands self.now) offsets →
             (stand : ParentsAt (Stands self.now) offsets.parents pairs) → IfOk result
             (IsGiven pairs stand.kinds (is_marked self.now (field self.now 0 2) marks.old kind.now) kind.now) }
         ensures read { IfOk result (λ found. IfSome found (IsRead self.now (field self.now 0 2) marks.old kind.now)) }
@@ -207,6 +278,8 @@ impl<'a> Cache<'a> {
         ensures need { (offsets : Offsets) (pairs : List (List ℕ × List ℕ)) → HeaderAt (Stands self.now) offsets →
             ParentsAt (Stands self.now) offsets.parents pairs → length (unmarked_parents pairs
             (is_marked self.now (field self.now 0 2) marks.old kind.now) kind.now) ≤ budget.old.records →
+            IfErr result (λ e. e ≡ CacheFault.OutOfMemory) }
+        ensures fault { IfErr result
             (IsParentsFault self.now (field self.now 0 2) marks.old kind.now budget.old.records budget.new.records) }
         ensures marks_stay { OnErr result (marks.new ≡ marks.old) }
         ensures takes { IfOk result (λ found. MatchOption found (budget.new.records ≡ budget.old.records)
@@ -216,71 +289,114 @@ impl<'a> Cache<'a> {
             + length (unmarked_parents pairs (is_marked self.now (field self.now 0 2) marks.old kind.now) kind.now) }
         ensures records { budget.new.records ≤ budget.old.records }
         ensures value_bytes { budget.new.value_bytes ≡ budget.old.value_bytes }
+        ensures rises { meter.old.nodes ≤ meter.new.nodes }
         ensures nodes { meter.new.nodes + budget.new.records ≤ meter.old.nodes + budget.old.records + 29 }
         ensures fair { raised meter.old.nodes budget.old.records ≤ meter.new.nodes + budget.new.records }
+        ensures bytes_rise { meter.old.bytes ≤ meter.new.bytes }
         ensures bytes { meter.new.bytes + 256 * budget.new.records
             ≤ meter.old.bytes + 256 * budget.old.records + 256 * 27 }
+    {
         let at = u64::from(self.header[2]);
         parents_of(alloc, &self.counted, at, kind, marks, meter, budget)
+    }
 
     /// The type and the priority of the first section of magic with a line of indent 0 that holds for a
     /// content, where there is one ("The magic files").
+    ///
     /// Each section and each line takes a record of the budget, and each line then as many value bytes as its
     /// value has. It takes no memory.
+    ///
+    /// # Errors
+    ///
     /// [`CacheFault::OutOfRange`] with the offset of the magic list, of sections, of lines, or of a value or a
     /// mask that is compared, where not all of it lies in the cache; the fault of the section's type;
     /// [`CacheFault::Spent`]; [`CacheFault::TooDeep`] where a line of the 64th level holds by itself and has
     /// children.
     pub fn sniff(
+        &self,
         content: &[u8],
         host: Host,
+        meter: &mut Meter,
+        budget: &mut Budget,
     ) -> Result<Option<(&'a [u8], u32)>, CacheFault>
         ensures answer { (offsets : Offsets) (sections : List PlainSection) → HeaderAt (Stands self.now) offsets →
             are_allowed_sections sections ≡ true → MagicAt (Stands self.now) offsets.magic sections →
             IfOk result (λ found. plain_found found ≡ first_magic sections content.now host) }
         ensures text { IfOk result (λ found. IfSome found (λ pair. (at : ℕ) × (text_at self.now at ≡ Ok pair.0.now))) }
         ensures need { (offsets : Offsets) (sections : List PlainSection) → HeaderAt (Stands self.now) offsets →
+            are_allowed_sections sections ≡ true → MagicAt (Stands self.now) offsets.magic sections →
             length sections + matchlet_count sections ≤ budget.old.records →
             value_length sections ≤ budget.old.value_bytes → IsOk result }
         ensures fault { IfErr result (IsMagicFault self.now (field self.now 0 6) budget.new) }
         ensures takes_at_most { (offsets : Offsets) (sections : List PlainSection) → HeaderAt (Stands self.now) offsets →
+            are_allowed_sections sections ≡ true → MagicAt (Stands self.now) offsets.magic sections →
             Takes (length sections + matchlet_count sections) (value_length sections) budget.old budget.new }
         ensures cost { Paid (length content.now) 256 1 budget.old budget.new meter.old meter.new }
+    {
         let at = u64::from(self.header[6]);
         sniff(&self.counted, at, content, host, meter, budget)
+    }
 
     /// How much of a content the lines of magic can look at, as the cache states it, in bytes ("The
+    /// mime.cache files").
+    ///
+    /// It takes no memory and nothing of the budget.
     pub fn extent(&self, meter: &mut Meter, budget: &mut Budget) -> Result<u32, CacheFault>
+        ensures answer { (offsets : Offsets) (sections : List PlainSection) → HeaderAt (Stands self.now) offsets →
             MagicAt (Stands self.now) offsets.magic sections → IsOkAnd result (λ extent. extent ≡ sections_extent sections) }
         ensures stated { IfOk result (λ extent. extent ≡ field self.now (field self.now 0 6) 1) }
         ensures fault { IfErr result (λ e. (length self.now < field self.now 0 6 + 12)
             × (e ≡ CacheFault.OutOfRange (field self.now 0 6))) }
+        ensures budget { budget.new ≡ budget.old }
+        ensures rises { meter.old.nodes ≤ meter.new.nodes }
+        ensures nodes { meter.new.nodes ≤ meter.old.nodes + 1 }
+        ensures bytes { meter.new.bytes ≡ meter.old.bytes }
+    {
+        let _ = budget;
         let [_, extent, _] = self.counted.cards::<3>(u64::from(self.header[6]), meter)?;
         Ok(extent)
+    }
 
     /// All glob rules: those of the literal list, then those of the suffix tree, then those of the glob
     /// list ("The mime.cache files").
+    ///
     /// The tree is walked depth first. Leaves among its roots, and what is below a character above 255, are
     /// passed over: no name leads there. Each entry of a list and each node of the tree, a leaf or not, takes
     /// a record of the budget before it is read. The memory is for the list and the patterns.
+    ///
+    /// # Errors
+    ///
     /// [`CacheFault::OutOfRange`] with the offset of a list or of the tree, or with that of the nodes below a
     /// character, where not all of it lies in the cache; the fault of a rule's text or type;
     /// [`CacheFault::Spent`]; [`CacheFault::TooDeep`] where more than 254 characters follow one another;
     /// [`CacheFault::OutOfMemory`].
     pub fn rules(
+        &self,
+        alloc: Global,
+        meter: &mut Meter,
+        budget: &mut Budget,
     ) -> Result<Vec<Listed<'a>>, CacheFault>
         ensures answer { (offsets : Offsets) (rules : List GlobRule) → HeaderAt (Stands self.now) offsets →
             All FitsListing rules → LiteralsAt (Stands self.now) offsets.literals rules →
+            SuffixTreeAt (Stands self.now) offsets.tree rules → GlobsAt (Stands self.now) offsets.globs rules →
             IfOk result (λ listed. IsListing rules (map plain_listed listed.items)) }
         ensures text { IfOk result (λ listed. All (IsListed self.now) (map plain_listed listed.items)) }
         ensures need { (offsets : Offsets) (rules : List GlobRule) → HeaderAt (Stands self.now) offsets →
+            All FitsListing rules → LiteralsAt (Stands self.now) offsets.literals rules →
+            SuffixTreeAt (Stands self.now) offsets.tree rules → GlobsAt (Stands self.now) offsets.globs rules →
             length (literal_rules rules) + tree_size rules + length (glob_rules rules) ≤ budget.old.records →
+            IfErr result (λ e. e ≡ CacheFault.OutOfMemory) }
         ensures fault { IfErr result (IsListingFault self.now budget.new.records) }
         ensures takes_at_most { (offsets : Offsets) (rules : List GlobRule) → HeaderAt (Stands self.now) offsets →
+            All FitsListing rules → LiteralsAt (Stands self.now) offsets.literals rules →
+            SuffixTreeAt (Stands self.now) offsets.tree rules → GlobsAt (Stands self.now) offsets.globs rules →
             budget.old.records ≤ budget.new.records
             + (length (literal_rules rules) + tree_size rules + length (glob_rules rules)) }
         ensures cost { Lists 4 budget.old budget.new meter.old meter.new }
+    {
         let literals = u64::from(self.header[3]);
         let tree = u64::from(self.header[4]);
         let globs = u64::from(self.header[5]);
         list_rules(alloc, &self.counted, literals, tree, globs, meter, budget)
+    }
+}
