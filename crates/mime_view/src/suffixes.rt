@@ -30,6 +30,15 @@ struct Block {
 }
 
 /// Offers the rules of the suffix tree at `at` with an ending of the name, the shortest ending first.
+///
+/// The name is walked from its last byte, as long as the tree has the character; a zero byte ends the
+/// walk. Each leaf that is scanned, and the record that ends a scan, takes the records of a visit.
+///
+/// # Errors
+///
+/// [`CacheFault::OutOfRange`] with the offset of the tree, or of the first of its roots or of the
+/// siblings below a character, where not all of them lie in the cache; [`CacheFault::Spent`] where a
+/// visit has too few records left; [`CacheFault::OutOfMemory`].
 pub fn tree_hits(
     counted: &Counted<'_>,
     at: u64,
