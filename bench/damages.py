@@ -6,7 +6,7 @@ import subprocess
 import sys
 import tempfile
 
-from reader import ALIASES, GENERIC_ICONS, ICONS, PARENTS, MAGIC, Expected, Reader
+from reader import ALIASES, GENERIC_ICONS, ICONS, MAGIC, PARENTS, Expected, Reader, elements
 
 TOP = os.path.dirname(os.path.dirname(os.path.abspath(__file__)))
 ANSWERS = os.path.join(TOP, "crates/view_answers/out/view_answers")
@@ -49,6 +49,11 @@ def names_in(reader, which):
     return spread(reader.text(*reader.numbers(at + 4 + 8 * place, 1)) for place in range(reader.list_at(at, 8)))
 
 
+def name_for(pattern):
+    """A name that a pattern matches, as it is or folded."""
+    return b"".join(b"A" if admitted is None else bytes([max(byte for byte in admitted if byte < 127)]) for admitted in elements(pattern))
+
+
 def contents_for(reader):
     """Contents in which the first line of a section holds, with its first child and so on."""
     count, _, first = reader.numbers(reader.lists[MAGIC], 3)
@@ -67,15 +72,15 @@ def questions_of(cache):
     """Questions that lead to each list of an undamaged cache, to entries that are there and to others."""
     reader = Reader(cache)
     kinds = [*names_in(reader, PARENTS), *names_in(reader, ICONS), *names_in(reader, GENERIC_ICONS), b"t/g", b"x/none"]
-    patterns = spread(pattern for _, _, pattern in reader.rules())
-    names = [pattern.replace(b"*", b"A") for pattern in patterns]
+    patterns = [pattern for _, _, pattern in reader.rules()]
+    names = [name_for(pattern) for pattern in (*spread(patterns), *patterns[-1:])]
     contents = [*contents_for(reader), b"", bytes(300)]
     return [
         b"open", b"extent", b"rules",
         *(b"unalias " + kind for kind in dict.fromkeys([*names_in(reader, ALIASES), b"t/g", b"x/none", b"a" * 300])),
         *(call + kind for kind in dict.fromkeys(kinds) for call in (b"parents ", b"icon ", b"generic ")),
         *(call + content.hex().encode() for content in dict.fromkeys(contents) for call in (b"sniff ", b"sniff-big ")),
-        *(b"hits " + name for name in dict.fromkeys([*names, *map(bytes.upper, names), b"", b"\0z", b"a\0.gz", b"z" * 300])),
+        *(b"hits " + name for name in dict.fromkeys([*names, *map(bytes.upper, names), b"", b"\0z", b"a\0.gz", b"a\0", b"z" * 300])),
     ]
 
 

@@ -6,22 +6,37 @@ use mime_view::{Budget, Cache, CacheFault, Marks};
 use std::alloc::Global;
 use std::io;
 
+/// How many bytes of a name are asked for.
+const LONGEST_NAME: usize = 4096;
+
 /// The answer of a cache, given as bytes, to a question, or its fault, with what was counted and what is left.
 pub fn answer(alloc: Global, bytes: &[u8], question: &[u8]) -> io::Result<String> {
     let mut meter = Meter::new();
     match Cache::open(Counted::new(bytes), &mut meter) {
         Ok(cache) => of_open_cache(alloc, &cache, meter, question),
-        Err(fault) => Ok(format!(in alloc; "{fault} nodes={} bytes={} records=0 values=0", meter.nodes, meter.bytes)?),
+        Err(fault) => Ok(format!(in alloc;
+            "{fault} nodes={} bytes={} records=0 values=0",
+            meter.nodes, meter.bytes
+        )?),
     }
 }
 
 /// The same of a cache that is open, with what was counted by then.
-fn of_open_cache(alloc: Global, cache: &Cache<'_>, opened: Meter, question: &[u8]) -> io::Result<String> {
+fn of_open_cache(
+    alloc: Global,
+    cache: &Cache<'_>,
+    opened: Meter,
+    question: &[u8],
+) -> io::Result<String> {
     let (call, word) = match question.iter().position(|&byte| byte == b' ') {
         Some(at) => (&question[..at], &question[at + 1..]),
         None => (question, &question[question.len()..]),
     };
-    let mut meter = if call == b"open".as_slice() { opened } else { Meter::new() };
+    let mut meter = if call == b"open".as_slice() {
+        opened
+    } else {
+        Meter::new()
+    };
     let mut budget = Budget::of(cache);
     let said = ask(alloc, cache, call, word, &mut meter, &mut budget)?;
     let (nodes, bytes) = (meter.nodes, meter.bytes);
@@ -47,6 +62,8 @@ fn ask(
         b"parents" => twice_parents(alloc, cache, word, meter, budget),
         b"sniff" => sniffed(alloc, cache, word, Host::Little, meter, budget),
         b"sniff-big" => sniffed(alloc, cache, word, Host::Big, meter, budget),
+        b"hits" => hits(alloc, cache, word, meter, budget),
+        b"rules" => rules(alloc, cache, meter, budget),
         _ => Ok(format!(in alloc; "no question")?),
     }
 }
@@ -124,11 +141,54 @@ fn sniffed(
     })
 }
 
+/// The types of the kept hits of a name, of which no more than 4,096 bytes are asked for.
+fn hits(
+    alloc: Global,
+    cache: &Cache<'_>,
+    name: &[u8],
+    meter: &mut Meter,
+    budget: &mut Budget,
+) -> io::Result<String> {
+    let asked = &name[..name.len().min(LONGEST_NAME)];
+    Ok(match cache.glob_hits(alloc, asked, meter, budget) {
+        Ok(kinds) => {
+            let mut said = format!(in alloc; "hits:")?;
+            add_texts(alloc, &mut said, kinds.as_slice())?;
+            said
+        }
+        Err(fault) => format!(in alloc; "{fault}")?,
+    })
+}
+
+fn rules(
+    alloc: Global,
+    cache: &Cache<'_>,
+    meter: &mut Meter,
+    budget: &mut Budget,
+) -> io::Result<String> {
+    Ok(match cache.rules(alloc, meter, budget) {
+        Ok(listed) => {
+            let mut said = format!(in alloc; "rules:")?;
+            for rule in &listed {
+                let (kind, pattern) = (Shown(rule.kind), Shown(&rule.pattern));
+                let flag = if rule.cased { ":cs" } else { "" };
+                said.push_str(&format!(in alloc; " {}:{kind}:{pattern}{flag}", rule.weight)?)?;
+            }
+            said
+        }
+        Err(fault) => format!(in alloc; "{fault}")?,
+    })
+}
+
 /// The bytes that hexadecimal digits spell, two for each.
 fn content_of(alloc: Global, digits: &[u8]) -> io::Result<Vec<u8>> {
     let mut content = Vec::new(alloc);
     for pair in digits.chunks_exact(2) {
-        content.push(digit_of(pair[0]).wrapping_mul(16).wrapping_add(digit_of(pair[1])))?;
+        content.push(
+            digit_of(pair[0])
+                .wrapping_mul(16)
+                .wrapping_add(digit_of(pair[1])),
+        )?;
     }
     Ok(content)
 }

@@ -22,7 +22,12 @@ use std::{env, fs, io};
 const BUFFER: usize = 65_536;
 
 /// Writes the answers of one cache, a line each.
-fn write_answers<W: Write>(alloc: Global, cache: &[u8], questions: &[u8], out: &mut W) -> io::Result<()> {
+fn write_answers<W: Write>(
+    alloc: Global,
+    cache: &[u8],
+    questions: &[u8],
+    out: &mut W,
+) -> io::Result<()> {
     for question in questions.lines() {
         let line = answer(alloc, cache, question)?;
         out.write_all(line.as_bytes())?;
@@ -32,9 +37,17 @@ fn write_answers<W: Write>(alloc: Global, cache: &[u8], questions: &[u8], out: &
 }
 
 /// Writes the answers of each cache of a file.
-fn write_all_answers<W: Write>(alloc: Global, caches: &[u8], questions: &[u8], out: &mut W) -> io::Result<()> {
+fn write_all_answers<W: Write>(
+    alloc: Global,
+    caches: &[u8],
+    questions: &[u8],
+    out: &mut W,
+) -> io::Result<()> {
     let mut rest = caches;
-    while 4 <= rest.len() {
+    for _ in 0..caches.len() {
+        if rest.len() < 4 {
+            break;
+        }
         let (length, after) = rest.split_at(4);
         let size = (BigEndian::read_u32(length) as usize).min(after.len());
         let (cache, others) = after.split_at(size);
