@@ -1,5 +1,6 @@
 //! Caches that are opened and asked for names, as they were made and damaged.
 
+mod hits;
 mod parents;
 mod rules;
 mod sniffing;

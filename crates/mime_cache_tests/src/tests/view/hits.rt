@@ -1,0 +1,91 @@
+//! The types that the glob rules of a cache give to a name.
+//!
+//! The sample's literal list stands at 72; its one entry names `mk` at 232. Its tree stands at 88, with the
+//! nodes `z`, `g` and `.` at 96, 108 and 120 and the leaf of `*.gz` at 132. Its glob list is empty.
+
+use crate::tests::sample::SAMPLE;
+use mime_base::{Counted, Meter};
+use mime_view::{Budget, Cache, CacheFault, Texts};
+use std::alloc::Global;
+
+/// The types of a name by these bytes, and how many records are left.
+fn hits<'a>(
+    alloc: Global,
+    bytes: &'a [u8],
+    name: &[u8],
+    records_left: &mut u64,
+) -> Result<Texts<'a>, CacheFault> {
+    if name.len() > 4096 {
+        return Err(CacheFault::TooLarge);
+    }
+    let mut meter = Meter::new();
+    let cache = Cache::open(Counted::new(bytes), &mut meter)?;
+    let mut budget = Budget::of(&cache);
+    let hits = cache.glob_hits(alloc, name, &mut meter, &mut budget);
+    *records_left = budget.records;
+    hits
+}
+
+#[test]
+fn names_of_the_sample(rt: HostRuntime) -> Result<(), CacheFault> {
+    let alloc = rt.alloc();
+    let rows: [(&[u8], &[&[u8]]); 8] = [
+        (b"b.gz", &[b"t/g"]),
+        (b"A.GZ", &[b"t/g"]),
+        (b".gz", &[b"t/g"]),
+        (b"mk", &[b"t/m"]),
+        (b"Mk", &[b"t/m"]),
+        (b"gz", &[]),
+        (b"mk.g", &[]),
+        (b"", &[]),
+    ];
+    for (name, kinds) in rows {
+        let mut records_left = 0;
+        let given = hits(alloc, &SAMPLE, name, &mut records_left)?;
+        assert_eq!(rt; given.as_slice(), kinds, "{name:?}");
+    }
+    Ok(())
+}
+
+/// The node `z` is its own child, so each `z` of a name takes two records.
+#[test]
+fn a_tree_that_loops(rt: HostRuntime) -> Result<(), CacheFault> {
+    let alloc = rt.alloc();
+    let mut bytes = SAMPLE;
+    bytes[107] = 0x60;
+    let name = [b'z'; 31];
+    let mut records_left = 60;
+    let given = hits(alloc, &bytes, &name[..30], &mut records_left)?;
+    assert_eq!(rt; (given.as_slice().len(), records_left), (0, 0));
+    let refused = hits(alloc, &bytes, &name, &mut records_left);
+    assert_eq!(rt; refused.err(), Some(CacheFault::Spent));
+    assert_eq!(rt; records_left, 0);
+    Ok(())
+}
+
+/// The type of `*.gz` stands after the sample, as 255 bytes with a zero or as 256 bytes without one.
+#[test]
+fn a_type_of_many_bytes(rt: HostRuntime) -> Result<(), CacheFault> {
+    let alloc = rt.alloc();
+    let mut bytes = [b'a'; 496];
+    bytes[..240].copy_from_slice(&SAMPLE);
+    bytes[136..140].copy_from_slice(&[0, 0, 0, 240]);
+    let mut records_left = 0;
+    let long = hits(alloc, &bytes, b"A.GZ", &mut records_left);
+    assert_eq!(rt; long.err(), Some(CacheFault::LongText(240)));
+    bytes[495] = 0;
+    let given = hits(alloc, &bytes, b"A.GZ", &mut records_left)?;
+    assert_eq!(rt; given.as_slice(), [[b'a'; 255].as_slice()].as_slice());
+    Ok(())
+}
+
+/// Below 88 bytes the literal list lies outside, up to 232 its one text.
+#[test]
+fn a_sample_that_is_cut(rt: HostRuntime) {
+    for size in 40..233 {
+        let mut records_left = 0;
+        let cut = hits(rt.alloc(), &SAMPLE[..size], b"b.gz", &mut records_left);
+        let at = if size < 88 { 72 } else { 232 };
+        assert_eq!(rt; cut.err(), Some(CacheFault::OutOfRange(at)), "{size}");
+    }
+}
