@@ -66,6 +66,7 @@ pub offers_next : (c name : List ℕ) (rules : List GlobRule) (i : ℕ) (old mid
 offers_next c name rules i old mid new l before here =
     let more : take (i + 1) (glob_rules rules) ≡ take i (glob_rules rules) ++ glob rules i ∷ [] =
     ap (λ (n : ℕ). take n (glob_rules rules)) (sym (suc-eq-add-one i)) ∙ take-suc (glob_rules rules) i no_rule l in
-    let parts = filter-append (λ (rule : GlobRule). rule_matches rule.pattern rule.cased name) (take i (glob_rules rules)) (glob rules i ∷ []) in
+    let parts = filter-append (λ (rule : GlobRule). rule_matches rule.pattern rule.cased name) (take i (glob_rules rules))
+    (glob rules i ∷ []) in
     subst (λ (xs : List GlobRule). Offers c xs old new) (sym (ap (λ (xs : List GlobRule). hits xs name) more ∙ parts))
     (offers_append c (hits (take i (glob_rules rules)) name) (hits (glob rules i ∷ []) name) old mid new before here)

@@ -1,5 +1,6 @@
 -- The stored text of a rule has the class, the length and the matches of its pattern; its weight and flags read back.
-use Rattle.std.proofs.Common.{◌≡◌, ℕ, ◌+◌, ◌<◌, ◌%◌, ◌/◌, ◌==◌, Bool, true, false, cond, inl, lit<, List, [], ◌∷◌, length, refl, ap, ap₂, arith}
+use Rattle.std.proofs.Common.{◌≡◌, ℕ, ◌+◌, ◌<◌, ◌%◌, ◌/◌, ◌==◌, Bool, true, false}
+use Rattle.std.proofs.Common.{cond, inl, lit<, List, [], ◌∷◌, length, refl, ap, ap₂, arith}
 use Rattle.std.proofs.lemmas.Bool.Decides.{nat_tests}
 use Rattle.std.proofs.lemmas.List.{length-map}
 use Rattle.mime_base.specs.Format.Stored.{stored_text, weight_and_flags}

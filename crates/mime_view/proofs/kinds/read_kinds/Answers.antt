@@ -15,7 +15,8 @@ loop-kind-preserved c = record {
 
 pub returns-in_err-text-clause-need : goal.returns-in_err-text-clause-need
 returns-in_err-text-clause-need c = λ rules offers.
-    let are : c.deref-kind-items.result.now ≡ map (λ hit. hit.1) c.args.hits = c.deref-kind-items.ensures.value ∙ c.into_kinds-kinds.ensures in
+    let are : c.deref-kind-items.result.now ≡ map (λ hit. hit.1) c.args.hits =
+    c.deref-kind-items.ensures.value ∙ c.into_kinds-kinds.ensures in
     let stands = kind_stands c.args.counted.now c.args.hits rules c.loop-kind.kind-index offers
     (omega (arith, ap (λ (ns : List ℕ). length ns) are, c.loop-kind-test.true)) in
     let at = c.from.ensures in
@@ -24,7 +25,8 @@ returns-in_err-text-clause-need c = λ rules offers.
 
 pub returns-clause-answer : goal.returns-clause-answer
 returns-clause-answer c = λ rules offers.
-    let are : c.deref-kind-items.result.now ≡ map (λ hit. hit.1) c.args.hits = c.deref-kind-items.ensures.value ∙ c.into_kinds-kinds.ensures in
+    let are : c.deref-kind-items.result.now ≡ map (λ hit. hit.1) c.args.hits =
+    c.deref-kind-items.ensures.value ∙ c.into_kinds-kinds.ensures in
     let all = take_all c.loop-kind.kind-index c.deref-kind-items.result.now c.loop-kind-test.false in
     rw c.of.ensures (AreTexts-kinds c.args.counted.now c.args.hits rules _ offers (rw (all, are) at c.loop-kind.invariant.are))
 
