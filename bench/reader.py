@@ -1,4 +1,4 @@
-"""A second reader of caches, written from the rules of the format mime.cache 1.2 and of the order in which a cache is walked
+"""A second reader of caches, written from the rules of the format mime.cache 1.2 and from those of the order in which a cache is walked
 and a budget is taken; the program's code was not looked at. `.ci/damaged` and `bench/damage` hold the program to it.
 
 A `Reader` has a cache's bytes, the budget that is left, and a method for each call of the program's reader. What stops a
