@@ -1,4 +1,5 @@
 """Caches to be damaged, questions about them, and the comparison of the program's lines with those of the second reader."""
+import itertools
 import os
 import random
 import struct
@@ -6,7 +7,7 @@ import subprocess
 import sys
 import tempfile
 
-from reader import ALIASES, GENERIC_ICONS, ICONS, MAGIC, PARENTS, Expected, Reader, elements
+from reader import ALIASES, GENERIC_ICONS, ICONS, MAGIC, PARENTS, Expected, Reader, elements, in_groups_reversed
 
 TOP = os.path.dirname(os.path.dirname(os.path.abspath(__file__)))
 ANSWERS = os.path.join(TOP, "crates/view_answers/out/view_answers")
@@ -26,13 +27,35 @@ SAMPLE = bytes.fromhex("""
 ASKED, BATCH = 4, 1 << 26
 
 
-def cache_of_examples(mimelook):
-    """The cache that the program builds of the directory of the examples."""
+# lines of magic with masks, words and children, and names of the greatest length
+ODD = {
+    "magic": b"MIME-Magic\0\n[60:t/words]\n>0=\0\x04\1\2\3\4&\xff\xff\xf0\xff~2+3\n1>4=\0\x04wxyz~4\n"
+    b"[50:t/masked]\n>2=\0\x03abc&\xdf\xdf\xff+5\n1>8=\0\x02ok\n2>1=\0\0\n1>9=\0\x08MaskMask&\xff\0\xff\0\xff\0\xff\0~4\n",
+    "aliases": b"t/%s t/%s\nt/short t/long\n" % (b"a" * 253, b"b" * 253),
+    "globs2": b"60:t/%s:*.%s\n50:t/g:[a-z]*.%s\n" % (b"b" * 253, b"c" * 253, b"c" * 240),
+}
+
+
+def cache_of(mimelook, directory):
+    """The cache that the program builds of a directory."""
     with tempfile.TemporaryDirectory() as folder:
         path = os.path.join(folder, "mime.cache")
-        subprocess.run([mimelook, "build", "-d", f"{TOP}/examples/share", "-o", path], check=True)
+        subprocess.run([mimelook, "build", "-d", directory, "-o", path], check=True)
         with open(path, "rb") as file:
             return file.read()
+
+
+def cache_of_examples(mimelook):
+    return cache_of(mimelook, f"{TOP}/examples/share")
+
+
+def cache_of_odd(mimelook):
+    with tempfile.TemporaryDirectory() as folder:
+        os.mkdir(f"{folder}/mime")
+        for name, text in ODD.items():
+            with open(f"{folder}/mime/{name}", "wb") as file:
+                file.write(text)
+        return cache_of(mimelook, folder)
 
 
 # questions
@@ -55,15 +78,16 @@ def name_for(pattern):
 
 
 def contents_for(reader):
-    """Contents in which the first line of a section holds, with its first child and so on."""
+    """Contents in which the first line of a section holds, with its first child and so on, words as they stand and reversed."""
     count, _, first = reader.numbers(reader.lists[MAGIC], 3)
-    for number in spread(range(count)):
+    for number, is_little in itertools.product(spread(range(count)), (False, True)):
         _, _, children, line = reader.numbers(first + 16 * number, 4)
         content = bytearray()
         while children:
-            start, _, _, size, value, _, children, child = reader.numbers(line, 8)
+            start, _, word, size, value, _, children, child = reader.numbers(line, 8)
             content.extend(bytes(max(0, start + size - len(content))))
-            content[start:start + size] = reader.cache[value:value + size]
+            wanted = reader.cache[value:value + size]
+            content[start:start + size] = in_groups_reversed(wanted, word) if is_little and word in (2, 4) else wanted
             line = child
         yield bytes(content)
 

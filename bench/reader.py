@@ -1,4 +1,4 @@
-"""A second reader of caches, written from the rules of the format mime.cache 1.2 and of the order in which a cache is walked
+"""A second reader of caches, written from the rules of the format mime.cache 1.2 and from those of the order in which a cache is walked
 and a budget is taken; the program's code was not looked at. `.ci/damaged` and `bench/damage` hold the program to it.
 
 A `Reader` has a cache's bytes, the budget that is left, and a method for each call of the program's reader. What stops a
@@ -13,6 +13,12 @@ CASED = 0x100
 LEVELS = 64
 CHARACTERS = 254
 ALIASES, PARENTS, LITERALS, TREE, GLOBS, MAGIC, NAMESPACES, ICONS, GENERIC_ICONS = range(9)
+
+# The rules have a search for the name and then one for the folded name, and need the roots of the tree only where a character
+# is searched among them. These two are for a program that makes one search where folding leaves the name alone, and takes
+# the records of both at each entry; and for one that needs the roots for every name.
+ONE_SEARCH_FOR_BOTH = False
+ROOTS_FOR_EVERY_NAME = False
 
 
 class Refused(Exception):
@@ -162,6 +168,10 @@ class Reader:
             raise Refused("budget spent")
         self.records -= 1
 
+    def take_record_for_each(self, flags):
+        for _ in flags:
+            self.take_record()
+
     def take_value_bytes(self, count):
         if count > self.value_bytes:
             raise Refused("budget spent")
@@ -267,31 +277,38 @@ class Reader:
 
     def glob_hits(self, name):
         """The types of the kept hits, in the order in which they were met."""
-        folded = fold(name)
-        hits = [*self.literal_hits(name, CASED), *self.literal_hits(folded, 0)]
+        folded, hits = fold(name), []
+        searches = [(name, [CASED]), (folded, [0])]
+        if ONE_SEARCH_FOR_BOTH and folded == name:
+            searches = [(name, [CASED, 0])]
+        for key, flags in searches:
+            hits += self.literal_hits(key, flags)
         roots = self.numbers(self.lists[TREE], 2)
-        hits += [*self.tree_hits(roots, name, CASED), *self.tree_hits(roots, folded, 0)]
+        for key, flags in searches:
+            hits += self.tree_hits(roots, key, flags)
         hits += self.list_hits(name)
         for preferred in (lambda hit: -hit[0], lambda hit: hit[1] & 0xFF, lambda hit: hit[2], lambda hit: hit[1] & CASED):
             most = max(map(preferred, hits), default=0)
             hits = [hit for hit in hits if preferred(hit) == most]
         return [self.text(kind) for *_, kind in hits]
 
-    def literal_hits(self, key, flag):
-        """Entries of the literal list that equal the key, with the flag or without: class, weight and flags, length, type."""
+    def literal_hits(self, key, taken):
+        """Entries of the literal list that equal the key, with one of these flags: class, weight and flags, length, type."""
         at = self.lists[LITERALS]
         count = self.list_at(at, 12)
         for place in range(self.place_of(at, 12, count, key), count):
-            self.take_record()
+            self.take_record_for_each(taken)
             text, kind, flags = self.numbers(at + 4 + 12 * place, 3)
             if self.order(text, key) != 0:
                 return
-            if flags & CASED == flag:
+            if flags & CASED in taken:
                 yield LITERAL, flags, len(key), kind
 
-    def tree_hits(self, roots, key, flag):
-        """Leaves below the characters of the key, from its last, with the flag or without; as literal_hits."""
+    def tree_hits(self, roots, key, taken):
+        """Leaves below the characters of the key, from its last, with one of these flags; as literal_hits."""
         count, first = roots
+        if ROOTS_FOR_EVERY_NAME:
+            self.need(first, 12 * count, first)
         for length, character in enumerate(reversed(key), 1):
             if character == 0:
                 return
@@ -304,16 +321,16 @@ class Reader:
             if found != character:
                 return
             self.need(first, 12 * count, first)
-            yield from self.leaves(count, first, length + 1, flag)
+            yield from self.leaves(count, first, length + 1, taken)
 
-    def leaves(self, count, first, length, flag):
+    def leaves(self, count, first, length, taken):
         """The leaves at the front of a block."""
         for number in range(count):
-            self.take_record()
+            self.take_record_for_each(taken)
             character, kind, flags = self.numbers(first + 12 * number, 3)
             if character:
                 return
-            if flags & CASED == flag:
+            if flags & CASED in taken:
                 yield SUFFIX, flags, length, kind
 
     def list_hits(self, name):
