@@ -17,8 +17,8 @@ ALIASES, PARENTS, LITERALS, TREE, GLOBS, MAGIC, NAMESPACES, ICONS, GENERIC_ICONS
 # The rules have a search for the name and then one for the folded name, and need the roots of the tree only where a character
 # is searched among them. These two are for a program that makes one search where folding leaves the name alone, and takes
 # the records of both at each entry; and for one that needs the roots for every name.
-ONE_SEARCH_FOR_BOTH = False
-ROOTS_FOR_EVERY_NAME = False
+ONE_SEARCH_FOR_BOTH = True
+ROOTS_FOR_EVERY_NAME = True
 
 
 class Refused(Exception):
