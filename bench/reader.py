@@ -14,11 +14,9 @@ LEVELS = 64
 CHARACTERS = 254
 ALIASES, PARENTS, LITERALS, TREE, GLOBS, MAGIC, NAMESPACES, ICONS, GENERIC_ICONS = range(9)
 
-# The rules have a search for the name and then one for the folded name, and need the roots of the tree only where a character
-# is searched among them. These two are for a program that makes one search where folding leaves the name alone, and takes
-# the records of both at each entry; and for one that needs the roots for every name.
+# The rules have a search for the name and then one for the folded name. The program makes one search where folding leaves the
+# name alone, and takes the records of both at each entry: a decision of this project, which this reader follows.
 ONE_SEARCH_FOR_BOTH = True
-ROOTS_FOR_EVERY_NAME = True
 
 
 class Refused(Exception):
@@ -307,8 +305,6 @@ class Reader:
     def tree_hits(self, roots, key, taken):
         """Leaves below the characters of the key, from its last, with one of these flags; as literal_hits."""
         count, first = roots
-        if ROOTS_FOR_EVERY_NAME:
-            self.need(first, 12 * count, first)
         for length, character in enumerate(reversed(key), 1):
             if character == 0:
                 return

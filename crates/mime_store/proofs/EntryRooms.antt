@@ -40,13 +40,13 @@ pub entries_more : (endings : List Ending) (i : ℕ) (x : Ending) → i < length
     + ending_room (last_path [] (map (ending_entry 0) (take i endings))) (ending_entry 0 x)
 entries_more endings i x lt e =
     ap entries_room (views_more (ending_entry 0) endings i x lt e)
-        ∙ entries_room-push (map (ending_entry 0) (take i endings)) (ending_entry 0 x)
+    ∙ entries_room-push (map (ending_entry 0) (take i endings)) (ending_entry 0 x)
 
 pub last_more : (endings : List Ending) (i : ℕ) (x : Ending) → i < length endings → x ≡ get_or endings i x
     → last_path [] (map (ending_entry 0) (take (i + 1) endings)) ≡ x.path.items
 last_more endings i x lt e =
     ap (last_path []) (views_more (ending_entry 0) endings i x lt e)
-        ∙ last_path-push [] (map (ending_entry 0) (take i endings)) (ending_entry 0 x)
+    ∙ last_path-push [] (map (ending_entry 0) (take i endings)) (ending_entry 0 x)
 
 -- the first of them take at most what all take
 pub entries_within : (endings : List Ending) (n : ℕ)

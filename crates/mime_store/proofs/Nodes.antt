@@ -46,7 +46,7 @@ up_tails x k ((y ∷ r) ∷ rs) h =
 
 next_tails : (x : ℕ) (k : List ℕ) (rs : List (List ℕ)) → Up (x ∷ k) rs
     → ((next_common (x ∷ k) rs ≡ next_common k (tails x rs) + 1) × (has [] (tails x rs) ≡ true))
-        ⊎ ((next_common (x ∷ k) rs ≡ 0) × (tails x rs ≡ []))
+    ⊎ ((next_common (x ∷ k) rs ≡ 0) × (tails x rs ≡ []))
 next_tails x k [] h = inr (refl, refl)
 next_tails x k ([] ∷ rs) h = absurd h.0
 next_tails x k ((y ∷ r) ∷ rs) h =

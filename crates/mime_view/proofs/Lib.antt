@@ -41,6 +41,7 @@ mod TreeRules
 mod TreeStands
 mod TreeWalks
 mod TreePaths
+mod TreeBegins
 mod NameOffers
 mod NameLists
 mod ListedTexts

@@ -71,7 +71,7 @@ pub record WalkNext (c : List ℕ) (case : Case) (rules : List GlobRule) (name :
       → Offers c (admitted case (leaves_at [] (below_character b tree))) h h' → Offers c (tree_hits case name rules) h0 h'
 
 -- the character at a depth
-path_next : (name : List ℕ) (depth : ℕ) → depth < length name
+pub path_next : (name : List ℕ) (depth : ℕ) → depth < length name
     → path_left name depth ≡ get_or name (length name - 1 - depth) 0 ∷ path_left name (depth + 1)
 path_next name depth l =
     let long = length-reverse name in

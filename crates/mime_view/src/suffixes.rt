@@ -5,7 +5,7 @@
 //! one after another in 12 bytes each, the leaves first: a leaf is 0, the offset of its type, weight
 //! and flags; a node is its character, how many siblings are below it, and the offset of the first.
 
-ghost use Rattle.std.specs.Prelude.{◌≡◌, ◌⊎◌, ◌==◌, ℕ, false, ◌+◌, ◌*◌, ◌^◌, ◌≤◌, ◌<◌, List, [], ◌∷◌, length};
+ghost use Rattle.std.specs.Prelude.{◌≡◌, ◌⊎◌, ◌==◌, ℕ, true, false, get_or, ◌+◌, ◌-◌, ◌*◌, ◌^◌, ◌≤◌, ◌<◌, List, [], ◌∷◌, length};
 ghost use Rattle.std.specs.Prelude.{All, OnOk, IfOk, IfErr, IfSome, IsOk};
 ghost use Rattle.mime_base.specs.Cache.Bytes.{field, Stands};
 ghost use Rattle.mime_base.specs.Format.SuffixTree.{SuffixTreeAt};
@@ -63,6 +63,9 @@ pub fn tree_hits(
     ensures cost { Charged 256 (29 * length name.now + 1) budget.old budget.new meter.old meter.new }
 {
     let [count, first] = counted.cards::<2>(at, meter)?;
+    if !seeks_character(name) {
+        return Ok(());
+    }
     let mut block = block_of(counted, first, count)?;
     for depth in 0..name.len() {
         let byte = name[name.len() - 1 - depth];
@@ -97,6 +100,14 @@ fn block_of(counted: &Counted<'_>, first: u32, count: u32) -> Result<Block, Cach
         return Err(CacheFault::OutOfRange(first));
     }
     Ok(Block { first, count })
+}
+
+/// Whether a walk along the name seeks a character: it has a last byte, and that is not zero.
+fn seeks_character(name: &[u8]) -> bool
+    ensures some { result ≡ true → 0 < get_or name.now (length name.now - 1) 0 }
+    ensures none { result ≡ false → get_or name.now (length name.now - 1) 0 ≡ 0 }
+{
+    0 < name.len() && name[name.len() - 1] != 0
 }
 
 /// Offers the leaves below the character, as rules with patterns of this length, and gives the block

@@ -33,7 +33,7 @@ pub append_list-requires-clause-room : goal.append_list-requires-clause-room
 append_list-requires-clause-room c =
     let xs = c.args.pairs.now in
     let g = grew_all texts pair_texts_room xs c.loop-pair.pair-index c.args.out.now.items _ c.loop-pair-test.false
-        c.loop-pair.invariant.grew in
+    c.loop-pair.invariant.grew in
     omega (
       arith,
       c.requires.room,
@@ -51,7 +51,7 @@ pub returns-clause-grew : goal.returns-clause-grew
 returns-clause-grew c =
     let xs = c.args.pairs.now in
     let g = grew_all texts pair_texts_room xs c.loop-pair.pair-index c.args.out.now.items _ c.loop-pair-test.false
-        c.loop-pair.invariant.grew in
+    c.loop-pair.invariant.grew in
     grew_to _ _ _ _ (omega (
       arith,
       length-map xs texts,

@@ -32,7 +32,7 @@ pub append_list-requires-clause-room : goal.append_list-requires-clause-room
 append_list-requires-clause-room c =
     let xs = c.args.runs.now in
     let g = grew_all plain_run run_parts_room xs c.loop-run.run-index c.args.out.now.items _ c.loop-run-test.false
-        c.loop-run.invariant.grew in
+    c.loop-run.invariant.grew in
     omega (
       arith,
       c.requires.room,
@@ -50,7 +50,7 @@ pub returns-clause-grew : goal.returns-clause-grew
 returns-clause-grew c =
     let xs = c.args.runs.now in
     let g = grew_all plain_run run_parts_room xs c.loop-run.run-index c.args.out.now.items _ c.loop-run-test.false
-        c.loop-run.invariant.grew in
+    c.loop-run.invariant.grew in
     grew_to _ _ _ _ (omega (
       arith,
       length-map xs plain_run,

@@ -36,7 +36,7 @@ pub append_list-requires-clause-room : goal.append_list-requires-clause-room
 append_list-requires-clause-room c =
     let xs = c.args.pairs.now in
     let g = grew_all second_view text_room xs c.loop-pair.pair-index c.args.out.now.items _ c.loop-pair-test.false
-        c.loop-pair.invariant.grew in
+    c.loop-pair.invariant.grew in
     omega (arith, c.requires.room, grew_length _ _ _ g, seconds_room-is xs, c.deref.ensures.len, c.loop-pair.invariant.count)
 
 pub append_list-requires-clause-begun : goal.append_list-requires-clause-begun
@@ -46,7 +46,7 @@ pub returns-clause-grew : goal.returns-clause-grew
 returns-clause-grew c =
     let xs = c.args.pairs.now in
     let g = grew_all second_view text_room xs c.loop-pair.pair-index c.args.out.now.items _ c.loop-pair-test.false
-        c.loop-pair.invariant.grew in
+    c.loop-pair.invariant.grew in
     grew_to _ _ _ _ (omega (arith, seconds_room-is xs, c.deref.ensures.len, c.loop-pair.invariant.count))
     (grew_on _ _ _ _ _ g c.in_ok-at.ensures.grew)
 

@@ -3,6 +3,7 @@ use Rattle.mime_view.specs.Hits.{Charged}
 use Rattle.mime_view.specs.declared.fault.CacheFault.TheVariants.{OutOfMemory}
 use Rattle.std.proofs.lemmas.Result.{err_from_is_err_and}
 use Rattle.mime_view.proofs.Charges.{charged_nodes, charged_then}
+use Rattle.mime_view.proofs.TreeBegins.{nothing_sought}
 use Rattle.mime_view.proofs.TreePaths.{all_left, next, none_left}
 use Rattle.mime_view.proofs.TreeStands.{head_inside, roots_inside}
 use Rattle.mime_view.proofs.suffixes.tree_hits.Goals as goal
@@ -11,6 +12,11 @@ pub returns-in_err-count-clause-need : goal.returns-in_err-count-clause-need
 returns-in_err-count-clause-need c = λ rules stand enough.
     let inside = head_inside c.args.counted.now c.args.at rules stand in
     absurd (omega (arith, inside, c.in_err-count.ensures.fault.0))
+
+pub returns-then-not-seeks_character-clause-answer : goal.returns-then-not-seeks_character-clause-answer
+returns-then-not-seeks_character-clause-answer c = λ rules fits stand.
+    nothing_sought c.args.counted.now c.args.at c.args.case rules c.args.name.now _
+    (c.seeks_character.ensures.none c.if-not-seeks_character.true) stand
 
 pub returns-in_err-block-clause-need : goal.returns-in_err-block-clause-need
 returns-in_err-block-clause-need c = λ rules stand enough.
