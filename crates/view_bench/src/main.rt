@@ -86,7 +86,7 @@ fn parents(
 ) -> Result<u64, CacheFault> {
     let mut marks = Marks::new(alloc);
     let found = cache.parents_of(alloc, kind, &mut marks, meter, budget)?;
-    Ok(found.map_or(0, |parents| u64::from(parents.entry) + 1))
+    Ok(u64::from(found.is_some()))
 }
 
 fn icon(
