@@ -26,27 +26,6 @@ fn hits<'a>(
     hits
 }
 
-#[test]
-fn names_of_the_sample(rt: HostRuntime) -> Result<(), CacheFault> {
-    let alloc = rt.alloc();
-    let rows: [(&[u8], &[&[u8]]); 8] = [
-        (b"b.gz", &[b"t/g"]),
-        (b"A.GZ", &[b"t/g"]),
-        (b".gz", &[b"t/g"]),
-        (b"mk", &[b"t/m"]),
-        (b"Mk", &[b"t/m"]),
-        (b"gz", &[]),
-        (b"mk.g", &[]),
-        (b"", &[]),
-    ];
-    for (name, kinds) in rows {
-        let mut records_left = 0;
-        let given = hits(alloc, &SAMPLE, name, &mut records_left)?;
-        assert_eq!(rt; given.as_slice(), kinds, "{name:?}");
-    }
-    Ok(())
-}
-
 /// The node `z` is its own child, so each `z` of a name takes two records.
 #[test]
 fn a_tree_that_loops(rt: HostRuntime) -> Result<(), CacheFault> {
