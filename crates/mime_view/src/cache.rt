@@ -122,7 +122,7 @@ impl<'a> Cache<'a> {
     /// alias is not resolved ("Recommended checking order").
     ///
     /// The name has at most 4,096 bytes. Each entry or leaf that is scanned takes a record of the budget, two
-    /// where one search serves both cases.
+    /// where one search serves both cases. No more types are given than records were taken.
     ///
     /// # Errors
     ///
@@ -142,6 +142,7 @@ impl<'a> Cache<'a> {
             SuffixTreeAt (Stands self.now) offsets.tree rules → GlobsAt (Stands self.now) offsets.globs rules →
             IfOk result (λ kinds. kinds ≡ map (λ rule. rule.kind) (kept_rules rules name.now)) }
         ensures text { IfOk result (λ kinds. All (λ kind. (at : ℕ) × (text_at self.now at ≡ Ok kind)) kinds) }
+        ensures count { IfOk result (λ kinds. length kinds + budget.new.records ≤ budget.old.records) }
         ensures need { (offsets : Offsets) (rules : List GlobRule) → All FitsRank rules →
             HeaderAt (Stands self.now) offsets → LiteralsAt (Stands self.now) offsets.literals rules →
             SuffixTreeAt (Stands self.now) offsets.tree rules → GlobsAt (Stands self.now) offsets.globs rules →
