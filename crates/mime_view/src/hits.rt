@@ -5,7 +5,7 @@ ghost use Rattle.mime_base.specs.Cache.Texts.{text_at};
 ghost use Rattle.mime_base.specs.Kept.{rank_of_rule};
 ghost use Rattle.mime_base.specs.Meter.{raised};
 ghost use Rattle.mime_base.specs.declared.database.rule.GlobRule.{GlobRule};
-ghost use Rattle.mime_view.specs.Hits.{admits, AreKept, Charged, Offers, extra_visits, visits};
+ghost use Rattle.mime_view.specs.Hits.{admits, AreKept, Charged, KeptAreNear, Offers, extra_visits, visits};
 
 use crate::budget::Budget;
 use crate::fault::CacheFault;
@@ -119,3 +119,8 @@ impl Hits {
         best.into_items()
     }
 }
+
+/// The law of kept rules: no more are kept for a name than are near it.
+pub fn kept_are_near()
+    ensures { KeptAreNear }
+{}
