@@ -32,6 +32,7 @@ mod OnePlace
 mod WalkOrder
 mod NearRules
 mod VisitCounts
+mod KeptNear
 mod LiteralEntries
 mod LiteralRuns
 mod LiteralPlaces

@@ -1,6 +1,6 @@
 -- Pairs that stand in a cache are read as their list says, whatever the order in which they stand.
 use Rattle.std.proofs.Common.{◌≡◌, ℕ, ◌+◌, ◌*◌, ◌<◌, Bool, true, false, List, [], ◌∷◌, length, get_or, refl, sym, ap, ap₂, ◌∙◌, arith}
-use Rattle.std.specs.Prelude.{IsOkAnd, Result, Ok, Err, bytes_eq}
+use Rattle.std.specs.Prelude.{IsOkAnd, Option, Result, Ok, Err, bytes_eq}
 use Rattle.std.specs.Option.{option_map_or}
 use Rattle.std.specs.List.Sorted.{IsSortedBy}
 use Rattle.std.proofs.lemmas.List.{get_or-map, length-map}
@@ -63,14 +63,18 @@ pairs_reads c at pairs stand = record {
   sorted = names_sorted stand.entries stand.sorted.in_order;
 }
 
+-- what was found for a type, or the type itself where nothing was
+abbrev pub found_or : Option (List ℕ) → List ℕ → List ℕ
+found_or found kind = option_map_or (λ name. name) found kind
+
 -- a type is resolved by what its pair gives
-pub resolved-looked_up : (pairs : List Pair) (kind : List ℕ) → resolved pairs kind ≡ option_map_or (λ name. name) (looked_up pairs kind) kind
+pub resolved-looked_up : (pairs : List Pair) (kind : List ℕ) → resolved pairs kind ≡ found_or (looked_up pairs kind) kind
 unfolding resolved
 resolved-looked_up [] kind = refl
 resolved-looked_up (pair ∷ pairs) kind = by_first (bytes_eq pair.0 kind) refl (resolved-looked_up pairs kind)
   where
-    by_first : (same : Bool) → bytes_eq pair.0 kind ≡ same → resolved pairs kind ≡ option_map_or (λ name. name) (looked_up pairs kind) kind
-        → resolved (pair ∷ pairs) kind ≡ option_map_or (λ name. name) (looked_up (pair ∷ pairs) kind) kind
+    by_first : (same : Bool) → bytes_eq pair.0 kind ≡ same → resolved pairs kind ≡ found_or (looked_up pairs kind) kind
+        → resolved (pair ∷ pairs) kind ≡ found_or (looked_up (pair ∷ pairs) kind) kind
     by_first true is more = rw is refl
     by_first false is more = rw is more
 

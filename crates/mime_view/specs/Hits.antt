@@ -1,11 +1,12 @@
 -- What a cache offers for a name, what is kept of it, and what it costs.
-use Rattle.std.specs.Prelude.{◌≡◌, ℕ, ◌+◌, ◌*◌, ◌≤◌, Bool, true, false, not, ◌||◌, List, [], ◌∷◌, ◌++◌, length, min, filter, reverse, Ok}
+use Rattle.std.specs.Prelude.{◌≡◌, ℕ, ◌+◌, ◌*◌, ◌≤◌, Bool, true, false, not, ◌||◌, List, [], ◌∷◌, ◌++◌}
+use Rattle.std.specs.Prelude.{length, min, filter, reverse, Ok}
 use Rattle.std.specs.List.{flat_map}
 use Rattle.mime_base.specs.Cache.Texts.{text_at}
 use Rattle.mime_base.specs.Format.Sorted.{with_key}
 use Rattle.mime_base.specs.Format.Stored.{glob_rules, is_in_globs, literal_rules, reversed_ending, stored_text, tree_rules}
 use Rattle.mime_base.specs.Format.SuffixTree.{fronts, tree_size}
-use Rattle.mime_base.specs.Kept.{of_greatest, rank_of_rule}
+use Rattle.mime_base.specs.Kept.{kept_rules, of_greatest, rank_of_rule}
 use Rattle.mime_base.specs.Matching.Folding.{compared}
 use Rattle.mime_base.specs.Matching.Matches.{rule_matches}
 use Rattle.mime_base.specs.Meter.{raised}
@@ -92,6 +93,10 @@ hit_visits name rules =
 -- how many rules are general patterns, or match the name once both texts are folded
 abbrev pub near : List ℕ → List GlobRule → ℕ
 near name rules = length (filter (λ rule. is_in_globs rule || rule_matches rule.pattern false name) rules)
+
+-- no more rules are kept for a name than are near it
+abbrev pub KeptAreNear : Type 0
+KeptAreNear = (name : List ℕ) (rules : List GlobRule) → length (kept_rules rules name) ≤ near name rules
 
 -- What a search for hits costs: each record adds one node and at most `each` bytes, and `more` nodes come besides, each
 -- with at most 256 bytes.

@@ -1,6 +1,6 @@
 //! How much of a cache a lookup may visit. This project's own.
 
-ghost use Rattle.std.specs.Prelude.{◌≡◌, ◌+◌, ◌<◌, ◌≤◌, ◌/◌, length, OnOk, OnErr, IfErr};
+ghost use Rattle.std.specs.Prelude.{◌≡◌, ◌+◌, ◌<◌, ◌/◌, length, OnOk, IfErr};
 
 use crate::cache::Cache;
 use crate::fault::CacheFault;

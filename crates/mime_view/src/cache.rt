@@ -1,7 +1,8 @@
 //! A cache whose header was read ("The mime.cache files").
 
 ghost use Rattle.std.specs.Prelude.{◌≡◌, ◌⊎◌, true, false, ℕ, ◌+◌, ◌*◌, ◌<◌, ◌≤◌, List};
-ghost use Rattle.std.specs.Prelude.{All, Ok, length, map, option_map, IfErr, IfOk, IfSome, IsOkAnd, MatchOption, MatchResult, OnErr};
+ghost use Rattle.std.specs.Prelude.{All, Ok, length, map, option_map, IfErr, IfOk, IfSome, IsOkAnd};
+ghost use Rattle.std.specs.Prelude.{MatchOption, MatchResult, OnErr};
 ghost use Rattle.mime_base.specs.Cache.Bytes.{Stands, field};
 ghost use Rattle.mime_base.specs.Cache.Texts.{text_at};
 ghost use Rattle.mime_base.specs.Database.Limits.{KeepsLimits};
@@ -26,7 +27,8 @@ ghost use Rattle.mime_base.specs.Magic.Extent.{sections_extent};
 ghost use Rattle.mime_view.specs.Lists.{IsListFault, IsTextFault};
 ghost use Rattle.mime_view.specs.NameHits.{IsHitsFault};
 ghost use Rattle.mime_view.specs.Pairs.{looked_up};
-ghost use Rattle.mime_view.specs.Parents.{IsGiven, IsParentsFault, IsRead, has_place, is_marked, unmarked_parents, with_place};
+ghost use Rattle.mime_view.specs.Parents.{IsGiven, IsParentsFault, IsRead, has_place, is_marked};
+ghost use Rattle.mime_view.specs.Parents.{unmarked_parents, with_place};
 ghost use Rattle.mime_view.specs.Opening.{IsOpenFault, Opens};
 ghost use Rattle.mime_view.specs.Listing.{IsListed, IsListing, Lists, plain_listed};
 ghost use Rattle.mime_view.specs.Listing.Faults.{IsListingFault};

@@ -1,7 +1,7 @@
 //! The glob list: the rules that stand in neither the literal list nor the suffix tree ("The mime.cache
 //! files").
 
-ghost use Rattle.std.specs.Prelude.{◌≡◌, ◌⊎◌, ℕ, ◌+◌, ◌*◌, ◌^◌, ◌<◌, ◌≤◌, List, [], ◌∷◌, length, All, IfErr, OnOk};
+ghost use Rattle.std.specs.Prelude.{◌≡◌, ◌⊎◌, ◌+◌, ◌*◌, ◌^◌, ◌<◌, ◌≤◌, List, [], ◌∷◌, length, All, IfErr, OnOk};
 ghost use Rattle.mime_base.specs.Cache.Bytes.{Stands};
 ghost use Rattle.mime_base.specs.Format.Rules.{GlobsAt};
 ghost use Rattle.mime_base.specs.Format.Stored.{glob_rules};

@@ -1,11 +1,12 @@
 //! What is kept of the hits that the lists of a cache offer.
 
-ghost use Rattle.std.specs.Prelude.{◌≡◌, false, ℕ, ◌+◌, ◌≤◌, List, [], ◌∷◌, ◌++◌, length, map, Ok, OnOk, OnErr, IfErr};
+ghost use Rattle.std.specs.Prelude.{◌≡◌, ℕ, ◌+◌, ◌≤◌, nat_le, List, [], ◌∷◌, length, map, Ok, OnOk, OnErr, IfErr};
+ghost use Rattle.std.specs.List.{list_all};
 ghost use Rattle.mime_base.specs.Cache.Texts.{text_at};
 ghost use Rattle.mime_base.specs.Kept.{rank_of_rule};
 ghost use Rattle.mime_base.specs.Meter.{raised};
 ghost use Rattle.mime_base.specs.declared.database.rule.GlobRule.{GlobRule};
-ghost use Rattle.mime_view.specs.Hits.{admits, AreKept, Charged, Offers, extra_visits, visits};
+ghost use Rattle.mime_view.specs.Hits.{admits, Charged, KeptAreNear, Offers, extra_visits, visits};
 
 use crate::budget::Budget;
 use crate::fault::CacheFault;
@@ -92,10 +93,9 @@ impl Hits {
         }
     }
 
-    /// Whether a hit of this rank would be kept.
+    /// Whether a hit of this rank would be kept: unless one that is kept has a greater rank.
     pub fn wants(&self, rank: u32) -> bool
-        ensures { (result ≡ false) → (c : List ℕ) → (rule : GlobRule) → rank ≡ rank_of_rule rule →
-            (before : List GlobRule) → AreKept c self.now before → AreKept c self.now (before ++ rule ∷ []) }
+        ensures { result ≡ list_all (λ hit. nat_le hit.0 rank) self.now }
     {
         self.best.wants(rank)
     }
@@ -119,3 +119,8 @@ impl Hits {
         best.into_items()
     }
 }
+
+/// The law of kept rules: no more are kept for a name than are near it.
+pub fn kept_are_near()
+    ensures { KeptAreNear }
+{}

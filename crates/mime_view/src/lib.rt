@@ -38,6 +38,7 @@ mod texts;
 pub use budget::Budget;
 pub use cache::Cache;
 pub use fault::CacheFault;
+pub use hits::kept_are_near;
 pub use marks::Marks;
 pub use parents::Parents;
 pub use rules::Listed;

@@ -6,9 +6,11 @@ ghost use Rattle.mime_base.specs.Cache.Bytes.{both_lie, field, lies, optional_ma
 ghost use Rattle.mime_base.specs.Cache.Texts.{text_at};
 ghost use Rattle.mime_base.specs.Format.Magic.{line_count, width};
 ghost use Rattle.mime_base.specs.Format.Packed.{forest_value_length, matchlet_count, value_length};
-ghost use Rattle.mime_base.specs.Magic.{Forest, PlainLine, PlainSection, are_allowed, are_allowed_sections, bare, line, line_from};
+ghost use Rattle.mime_base.specs.Magic.{Forest, PlainLine, PlainSection, are_allowed, are_allowed_sections};
+ghost use Rattle.mime_base.specs.Magic.{bare, line, line_from};
 ghost use Rattle.mime_base.specs.Magic.Holds.{equals_from, first_magic, some_holds};
-ghost use Rattle.mime_view.specs.Magic.{IsBlockFault, IsLineFault, IsLinesFault, IsMagicFault, IsSectionFault, LiesBlock, plain_found};
+ghost use Rattle.mime_view.specs.Magic.{IsBlockFault, IsLineFault, IsLinesFault, IsMagicFault};
+ghost use Rattle.mime_view.specs.Magic.{IsSectionFault, LiesBlock, plain_found};
 ghost use Rattle.mime_view.specs.Magic.{Paid, ReadsLine, ReadsLines, ReadsMagic, ReadsParent, ReadsSection, Takes};
 
 use crate::budget::Budget;

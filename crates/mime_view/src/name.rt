@@ -3,16 +3,16 @@
 //! The literal list and the suffix tree are searched twice: by the name for case-sensitive rules, and by
 //! the folded name for the others. Where folding leaves the name alone, one search serves both.
 
-ghost use Rattle.std.specs.Prelude.{◌≡◌, ◌⊎◌, false, ℕ, ◌+◌, ◌*◌, ◌^◌, ◌<◌, ◌≤◌, List, ◌++◌, Ok, length, map, All, IfErr, IfOk, OnOk};
+ghost use Rattle.std.specs.Prelude.{◌≡◌, ◌⊎◌, false, ℕ, ◌+◌, ◌*◌, ◌^◌, ◌<◌, ◌≤◌, List, ◌++◌, Ok, length, map};
+ghost use Rattle.std.specs.Prelude.{All, IfErr, IfOk, OnOk};
 ghost use Rattle.mime_base.specs.Cache.Bytes.{Stands};
 ghost use Rattle.mime_base.specs.Cache.Texts.{text_at};
-ghost use Rattle.mime_base.specs.Format.Rules.{GlobsAt, LiteralsAt};
-ghost use Rattle.mime_base.specs.Format.Stored.{glob_rules, literal_rules};
-ghost use Rattle.mime_base.specs.Format.SuffixTree.{SuffixTreeAt, tree_size};
+ghost use Rattle.mime_base.specs.Format.Rules.{LiteralsAt};
+ghost use Rattle.mime_base.specs.Format.SuffixTree.{SuffixTreeAt};
 ghost use Rattle.mime_base.specs.Kept.{FitsRank, kept_rules};
 ghost use Rattle.mime_base.specs.Matching.Folding.{compared};
 ghost use Rattle.mime_base.specs.declared.database.rule.GlobRule.{GlobRule};
-ghost use Rattle.mime_view.specs.Hits.{AreOffers, Charged, Offers, hit_visits, near, offered_once, offered_twice};
+ghost use Rattle.mime_view.specs.Hits.{AreOffers, Charged, Offers, hit_visits, offered_once, offered_twice};
 ghost use Rattle.mime_view.specs.Hits.{literal_hits, literal_visits, tree_hits, tree_visits};
 ghost use Rattle.mime_view.specs.Lists.{IsListFault, IsTextFault};
 ghost use Rattle.mime_view.specs.NameHits.{IsHitsFault, RulesAt, has_capitals};

@@ -1,7 +1,7 @@
 //! The parent list: each type that has a parent, with all its parents ("The mime.cache files").
 
 ghost use Rattle.std.specs.Prelude.{◌≡◌, ◌⊎◌, true, false, ℕ, ◌+◌, ◌*◌, ◌^◌, ◌≤◌, ◌<◌, List};
-ghost use Rattle.std.specs.Prelude.{Ok, Err, length, map, IfOk, IfErr, IfSome, OnErr, OnOk, MatchOption};
+ghost use Rattle.std.specs.Prelude.{Ok, Err, length, IfOk, IfErr, IfSome, OnErr, OnOk, MatchOption};
 ghost use Rattle.mime_base.specs.Cache.Bytes.{field};
 ghost use Rattle.mime_base.specs.Cache.Texts.{text_at};
 ghost use Rattle.mime_base.specs.Meter.{raised};

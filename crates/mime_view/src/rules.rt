@@ -10,7 +10,7 @@ mod listing;
 mod row;
 mod tree;
 
-ghost use Rattle.std.specs.Prelude.{◌≡◌, ℕ, ◌+◌, ◌*◌, ◌^◌, ◌<◌, ◌≤◌, List, [], ◌∷◌, ◌++◌, All, length, map, IfOk, IfErr};
+ghost use Rattle.std.specs.Prelude.{◌≡◌, ◌+◌, ◌^◌, ◌<◌, ◌≤◌, List, ◌++◌, All, length, map, IfOk, IfErr};
 ghost use Rattle.mime_base.specs.Format.Tree.{Tree, node_count};
 ghost use Rattle.mime_base.specs.declared.database.rule.GlobRule.{GlobRule};
 ghost use Rattle.mime_view.specs.Listing.{IsListed, Lists, listed_rule, plain_listed};

@@ -5,7 +5,7 @@
 //! one after another in 12 bytes each, the leaves first: a leaf is 0, the offset of its type, weight
 //! and flags; a node is its character, how many siblings are below it, and the offset of the first.
 
-ghost use Rattle.std.specs.Prelude.{◌≡◌, ◌⊎◌, ◌==◌, ℕ, true, false, get_or, ◌+◌, ◌-◌, ◌*◌, ◌^◌, ◌≤◌, ◌<◌, List, [], ◌∷◌, length};
+ghost use Rattle.std.specs.Prelude.{◌≡◌, ◌⊎◌, ◌==◌, true, false, get_or, ◌+◌, ◌-◌, ◌*◌, ◌^◌, ◌≤◌, ◌<◌, List, [], ◌∷◌, length};
 ghost use Rattle.std.specs.Prelude.{All, OnOk, IfOk, IfErr, IfSome, IsOk};
 ghost use Rattle.mime_base.specs.Cache.Bytes.{field, Stands};
 ghost use Rattle.mime_base.specs.Format.SuffixTree.{SuffixTreeAt};

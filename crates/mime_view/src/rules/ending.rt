@@ -1,6 +1,6 @@
 //! An ending of names, which grows to the front on the way down the suffix tree. This project's own.
 
-ghost use Rattle.std.specs.Prelude.{◌≡◌, ◌≤◌, ◌<◌, ◌+◌, [], ◌∷◌, length, drop, OnOk, IfOk, IfErr};
+ghost use Rattle.std.specs.Prelude.{◌≡◌, ◌<◌, [], ◌∷◌, length, drop, OnOk, IfOk, IfErr};
 
 use crate::fault::CacheFault;
 use std::alloc::Global;

@@ -3,12 +3,12 @@
 //! The tree is walked depth first, with the ending that leads to the siblings in hand. Bytes may form
 //! cycles: the walk ends by the depth, and the budget bounds its work.
 
-ghost use Rattle.std.specs.Prelude.{◌≡◌, ◌⊎◌, ℕ, ◌+◌, ◌*◌, ◌^◌, ◌<◌, ◌≤◌, List, [], ◌∷◌, ◌++◌, All, length, map, OnOk, IfErr};
+ghost use Rattle.std.specs.Prelude.{◌≡◌, ◌⊎◌, ℕ, ◌+◌, ◌*◌, ◌^◌, ◌<◌, ◌≤◌, [], ◌∷◌, ◌++◌, All, length, map, OnOk, IfErr};
 ghost use Rattle.mime_base.specs.Cache.Bytes.{field};
 ghost use Rattle.mime_base.specs.Format.Tree.{Tree, node_count, width};
 ghost use Rattle.mime_base.specs.declared.database.rule.GlobRule.{GlobRule};
 ghost use Rattle.mime_view.specs.Listing.{IsListed, Lists, listed_rule};
-ghost use Rattle.mime_view.specs.Listing.Faults.{IsRuleFault, IsSiblingsFault, IsListedTreeFault};
+ghost use Rattle.mime_view.specs.Listing.Faults.{IsSiblingsFault, IsListedTreeFault};
 ghost use Rattle.mime_view.specs.Listing.Reads.{ReadsLeaf, ReadsSuffixTree, ReadsListedTree, rules_of};
 ghost use Rattle.mime_view.specs.Lists.{IsTextFault};
 ghost use Rattle.mime_view.specs.Magic.{LiesBlock};
@@ -99,6 +99,7 @@ fn add_siblings<'a>(
 
 /// Adds the rule of the leaf at `at`, or the rules below the node there.
 #[cycle(siblings)]
+#[tactic(auto, using(crate::proofs::SiblingNodes::some_node))]
 fn add_sibling<'a>(
     alloc: Global,
     counted: &Counted<'a>,

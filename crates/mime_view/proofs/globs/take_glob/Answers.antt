@@ -1,5 +1,6 @@
 use Rattle.std.proofs.Common.{arith, length, sym, ◌∙◌}
 use Rattle.mime_view.proofs.GlobEntries.{entry_charged, entry_states, offers_match, offers_other, offers_unwanted, text_short}
+use Rattle.mime_view.proofs.OffersLemmas.{kept_unwanted}
 use Rattle.mime_view.proofs.globs.take_glob.Goals as goal
 use Rattle.mime_view.proofs.globs.take_glob.Goals.{else-wants-via-then-wants+else-glob_matches, else-wants-via-else-wants}
 
@@ -25,7 +26,8 @@ returns-else-wants-clause-answer c = λ rule fits reads.
       | else-wants-via-then-wants+else-glob_matches w ↦ offers_other c.args.counted.now c.args.name.now rule c.args.hits.now
           (sym states.its_matches ∙ sym w.glob_matches.ensures.answer ∙ w.if-glob_matches.false)
       | else-wants-via-else-wants w ↦ offers_unwanted c.args.counted.now c.args.name.now rule c.args.hits.now
-          (c.wants.ensures w.if-wants.false c.args.counted.now rule (c.rank_of-rank.ensures ∙ states.its_rank))
+          (kept_unwanted c.args.counted.now c.args.hits.now rule c.rank_of-rank.result (c.rank_of-rank.ensures ∙ states.its_rank)
+          (sym c.wants.ensures ∙ w.if-wants.false))
     ]
 
 pub returns-in_err-offer-clause-cost : goal.returns-in_err-offer-clause-cost

@@ -1,7 +1,6 @@
-use Rattle.std.proofs.Common.{◌≡◌, ℕ, List, Option, get_or, ◌∙◌, sym, ap}
-use Rattle.std.specs.Option.{option_map_or}
+use Rattle.std.proofs.Common.{◌≡◌, ℕ, List, get_or, ◌∙◌, sym, ap}
 use Rattle.mime_view.proofs.Headers.{aliases_read}
-use Rattle.mime_view.proofs.Spelled.{looked_up-sorted, pairs_reads, resolved-looked_up}
+use Rattle.mime_view.proofs.Spelled.{found_or, looked_up-sorted, pairs_reads, resolved-looked_up}
 use Rattle.mime_view.proofs.cache.Cache.unalias.Goals as goal
 
 pub returns-in_err-name-clause-answer : goal.returns-in_err-name-clause-answer
@@ -22,7 +21,7 @@ returns-in-Some-clause-answer c = λ offsets pairs header stand.
     let reads = rw (sym at) at (pairs_reads c.self.inside.counted offsets.aliases pairs list) in
     let read = c.in_ok-name.ensures.answer list.entries reads ∙ looked_up-sorted pairs list.entries c.args.kind.now list.sorted in
     let found = rw c.in-Some.is at read in
-    sym (resolved-looked_up pairs c.args.kind.now ∙ ap (λ (o : Option (List ℕ)). option_map_or (λ name. name) o c.args.kind.now) (sym found))
+    sym (resolved-looked_up pairs c.args.kind.now ∙ ap (λ given. found_or given c.args.kind.now) (sym found))
 
 pub returns-in-None-clause-answer : goal.returns-in-None-clause-answer
 returns-in-None-clause-answer c = λ offsets pairs header stand.
@@ -33,4 +32,4 @@ returns-in-None-clause-answer c = λ offsets pairs header stand.
     let reads = rw (sym at) at (pairs_reads c.self.inside.counted offsets.aliases pairs list) in
     let read = c.in_ok-name.ensures.answer list.entries reads ∙ looked_up-sorted pairs list.entries c.args.kind.now list.sorted in
     let missed = rw c.in-None.is at read in
-    sym (resolved-looked_up pairs c.args.kind.now ∙ ap (λ (o : Option (List ℕ)). option_map_or (λ name. name) o c.args.kind.now) (sym missed))
+    sym (resolved-looked_up pairs c.args.kind.now ∙ ap (λ given. found_or given c.args.kind.now) (sym missed))

@@ -4,13 +4,9 @@ use Rattle.mime_base.specs.declared.database.rule.GlobRule.{GlobRule}
 use Rattle.mime_view.specs.Listing.{listed_rule}
 use Rattle.mime_view.specs.Listing.Reads.{ReadsListedTree}
 use Rattle.mime_view.proofs.SiblingFaults.{among, below, here}
-use Rattle.mime_view.proofs.SiblingNodes.{below_read, leaf_read, node_read, some_node}
+use Rattle.mime_view.proofs.SiblingNodes.{below_read, leaf_read, node_read}
 use Rattle.mime_view.proofs.SiblingRows.{next, none_left}
 use Rattle.mime_view.proofs.rules.tree.+siblings.Goals as goal
-
-pub add_sibling-returns-in_err-row-clause-need : goal.add_sibling-returns-in_err-row-clause-need
-add_sibling-returns-in_err-row-clause-need t c = λ tree alone reads enough.
-    absurd (omega (arith, c.in_err-row.ensures.fault.1, some_node tree alone))
 
 pub add_sibling-returns-in_err-add_leaf-clause-need :
     goal.add_sibling-returns-in_err-add_leaf-clause-need
@@ -20,11 +16,6 @@ add_sibling-returns-in_err-add_leaf-clause-need t c = λ tree alone reads enough
     let p = err_from_is_err_and c.from_residual-in_err-add_leaf.result c.from_residual-in_err-add_leaf.ensures.1 in
     rw (p.1, p.2) (c.in_err-add_leaf.ensures.need c.args.at leaf.rule c.in_ok-row.ensures.numbers.1 leaf.reads)
 
-pub add_sibling-returns-in_err-add_leaf-clause-takes_at_most :
-    goal.add_sibling-returns-in_err-add_leaf-clause-takes_at_most
-add_sibling-returns-in_err-add_leaf-clause-takes_at_most t c = λ tree alone reads.
-    omega (arith, c.in_ok-row.ensures.taken, some_node tree alone)
-
 pub add_sibling-returns-then-row-eq0-clause-answer :
     goal.add_sibling-returns-then-row-eq0-clause-answer
 add_sibling-returns-then-row-eq0-clause-answer t c = λ tree alone reads.
@@ -33,22 +24,12 @@ add_sibling-returns-then-row-eq0-clause-answer t c = λ tree alone reads.
     c.in_ok-add_leaf.ensures.answer c.args.at leaf.rule c.in_ok-row.ensures.numbers.1 c.in_ok-row.ensures.numbers.2 leaf.reads
     ∙ ap (λ (xs : List GlobRule). c.args.listing.now ++ map listed_rule xs) (sym leaf.alone)
 
-pub add_sibling-returns-then-row-eq0-clause-takes_at_most :
-    goal.add_sibling-returns-then-row-eq0-clause-takes_at_most
-add_sibling-returns-then-row-eq0-clause-takes_at_most t c = λ tree alone reads.
-    omega (arith, c.in_ok-row.ensures.taken, some_node tree alone)
-
 pub add_sibling-returns-then-row-gt255-clause-answer :
     goal.add_sibling-returns-then-row-gt255-clause-answer
 add_sibling-returns-then-row-gt255-clause-answer t c = λ tree alone reads.
     let node = node_read c.args.counted.now c.args.at c.args.ending.now tree alone reads
     (omega (arith, c.in_ok-row.ensures.numbers.0)) in
     absurd (omega (arith, c.in_ok-row.ensures.numbers.0, node.byte))
-
-pub add_sibling-returns-then-row-gt255-clause-takes_at_most :
-    goal.add_sibling-returns-then-row-gt255-clause-takes_at_most
-add_sibling-returns-then-row-gt255-clause-takes_at_most t c = λ tree alone reads.
-    omega (arith, c.in_ok-row.ensures.taken, some_node tree alone)
 
 pub add_sibling-returns-then-length-eq-DEEPEST-clause-need :
     goal.add_sibling-returns-then-length-eq-DEEPEST-clause-need
@@ -57,11 +38,6 @@ add_sibling-returns-then-length-eq-DEEPEST-clause-need t c = λ tree alone reads
     (omega (arith, c.in_ok-row.ensures.numbers.0)) in
     absurd (omega (arith, node.depth))
 
-pub add_sibling-returns-then-length-eq-DEEPEST-clause-takes_at_most :
-    goal.add_sibling-returns-then-length-eq-DEEPEST-clause-takes_at_most
-add_sibling-returns-then-length-eq-DEEPEST-clause-takes_at_most t c = λ tree alone reads.
-    omega (arith, c.in_ok-row.ensures.taken, some_node tree alone)
-
 pub add_sibling-returns-in_err-check_block-clause-need :
     goal.add_sibling-returns-in_err-check_block-clause-need
 add_sibling-returns-in_err-check_block-clause-need t c = λ tree alone reads enough.
@@ -69,16 +45,6 @@ add_sibling-returns-in_err-check_block-clause-need t c = λ tree alone reads eno
     (omega (arith, c.in_ok-row.ensures.numbers.0)) in
     let outside = c.in_err-check_block.ensures.fault in
     absurd (omega (arith, node.block.inside, outside.some, outside.outside, c.in_ok-row.ensures.numbers.1, c.in_ok-row.ensures.numbers.2))
-
-pub add_sibling-returns-in_err-check_block-clause-takes_at_most :
-    goal.add_sibling-returns-in_err-check_block-clause-takes_at_most
-add_sibling-returns-in_err-check_block-clause-takes_at_most t c = λ tree alone reads.
-    omega (arith, c.in_ok-row.ensures.taken, some_node tree alone)
-
-pub add_sibling-returns-in_err-grow-clause-takes_at_most :
-    goal.add_sibling-returns-in_err-grow-clause-takes_at_most
-add_sibling-returns-in_err-grow-clause-takes_at_most t c = λ tree alone reads.
-    omega (arith, c.in_ok-row.ensures.taken, some_node tree alone)
 
 pub add_sibling-returns-in_err-add_siblings-clause-need :
     goal.add_sibling-returns-in_err-add_siblings-clause-need
