@@ -1,18 +1,23 @@
 //! From words to a request, or to an error that is shown to the user. This project's own.
 
-ghost use Rattle.std.specs.Prelude.{◌≡◌, IfOk, codes, map, option_map, [], ◌∷◌};
+ghost use Rattle.std.specs.Prelude.{◌≡◌, IfErr, IfOk, Some, codes, map, option_map, [], ◌∷◌};
 ghost use Rattle.clap.specs.Words.{all_of, first_of, found_of, rows_of, subcommand_rows_of};
 ghost use Rattle.clap.specs.Walk.{texts};
 ghost use Rattle.clap.specs.Kinds.{HasKind};
 ghost use Rattle.clap.specs.Values.{kind_of};
-ghost use Rattle.mime_request.specs.Request.{Finds, Means, build_meaning, is_on, meaning_of, parts, parts_of, plain_meaning};
-ghost use Rattle.mime_request.specs.Request.{subcommand_meaning};
+ghost use Rattle.mime_request.specs.Request.{Finds, Means, build_meaning, icon_meaning, is_a_meaning, is_on};
+ghost use Rattle.mime_request.specs.Request.{list_meaning, meaning_of, missing, parts, parts_of, plain_meaning};
+ghost use Rattle.mime_request.specs.Request.{subcommand_meaning, type_meaning};
 
 use crate::command::mimelook_command;
 use clap::error::ErrorKind;
 use clap::{ArgMatches, Error};
 use std::alloc::{AllocError, Global};
 use std::convert::AsStr;
+
+const GIVE_CACHE: &str = "give -c CACHE";
+
+const GIVE_TYPE: &str = "give a TYPE";
 
 /// What the words of a command line ask for.
 #[derive(Debug, Drop)]
@@ -30,6 +35,40 @@ pub enum Request<'a> {
         directories: Vec<&'a str>,
         /// The names alone decide: no file is opened.
         name_only: bool,
+        /// Content is asked before the globs, where its priority is high (80 or more).
+        magic_first: bool,
+        /// The files, as they were written. There is at least one.
+        files: Vec<&'a str>,
+    },
+    /// The glob rules of a cache.
+    List {
+        /// The file of the cache.
+        cache: &'a str,
+    },
+    /// Whether one type is another, by a cache.
+    IsA {
+        /// The file of the cache.
+        cache: &'a str,
+        /// The type that is asked about, as it was written.
+        kind: &'a str,
+        /// The type that it may be, as it was written.
+        base: &'a str,
+    },
+    /// The icons of a type, from a cache.
+    Icon {
+        /// The file of the cache.
+        cache: &'a str,
+        /// The type, as it was written.
+        kind: &'a str,
+    },
+    /// The types of files, from a cache.
+    Type {
+        /// The file of the cache.
+        cache: &'a str,
+        /// The names alone decide: no file is opened.
+        name_only: bool,
+        /// What each answer cost is told.
+        cost: bool,
         /// Content is asked before the globs, where its priority is high (80 or more).
         magic_first: bool,
         /// The files, as they were written. There is at least one.
@@ -64,22 +103,24 @@ fn asked_by<'a>(alloc: Global, matches: &ArgMatches<'a>) -> Result<Request<'a>, 
     let Some((name, inner)) = subcommand_of(matches) else {
         return Err(refusal(alloc, ErrorKind::MissingSubcommand, "give a command"));
     };
-    if name == "build" {
-        request_of_build(alloc, inner)
-    } else if name == "plain" {
-        request_of_plain(alloc, inner)
-    } else {
-        let message = "give a command that --help names";
-        Err(refusal(alloc, ErrorKind::InvalidSubcommand, message))
+    match name {
+        "build" => request_of_build(alloc, inner),
+        "plain" => request_of_plain(alloc, inner),
+        "list" => request_of_list(alloc, inner),
+        "isa" => request_of_is_a(alloc, inner),
+        "icon" => request_of_icon(alloc, inner),
+        "type" => request_of_type(alloc, inner),
+        _ => {
+            let message = "give a command that --help names";
+            Err(refusal(alloc, ErrorKind::InvalidSubcommand, message))
+        }
     }
 }
 
 fn request_of_build<'a>(alloc: Global, matches: &ArgMatches<'a>) -> Result<Request<'a>, Error>
     ensures { Means (build_meaning (rows_of (found_of matches.now))) result }
 {
-    let Some(file) = value_of(matches, "output") else {
-        return Err(refusal(alloc, ErrorKind::MissingRequiredArgument, "give -o FILE"));
-    };
+    let file = given(alloc, matches, "output", "give -o FILE")?;
     let directories = directories_of(alloc, matches)?;
     Ok(Request::Build { directories, file })
 }
@@ -87,15 +128,80 @@ fn request_of_build<'a>(alloc: Global, matches: &ArgMatches<'a>) -> Result<Reque
 fn request_of_plain<'a>(alloc: Global, matches: &ArgMatches<'a>) -> Result<Request<'a>, Error>
     ensures { Means (plain_meaning (rows_of (found_of matches.now))) result }
 {
-    let Some(files) = values_of(matches, "file") else {
-        return Err(refusal(alloc, ErrorKind::MissingRequiredArgument, "give a FILE"));
-    };
+    let files = files_of(alloc, matches)?;
     Ok(Request::Plain {
         directories: directories_of(alloc, matches)?,
         name_only: is_on(value_of(matches, "name-only")),
         magic_first: is_on(value_of(matches, "magic-first")),
-        files: files.to_vec(alloc)?,
+        files,
     })
+}
+
+fn request_of_list<'a>(alloc: Global, matches: &ArgMatches<'a>) -> Result<Request<'a>, Error>
+    ensures { Means (list_meaning (rows_of (found_of matches.now))) result }
+{
+    let cache = given(alloc, matches, "cache", GIVE_CACHE)?;
+    Ok(Request::List { cache })
+}
+
+fn request_of_is_a<'a>(alloc: Global, matches: &ArgMatches<'a>) -> Result<Request<'a>, Error>
+    ensures { Means (is_a_meaning (rows_of (found_of matches.now))) result }
+{
+    let cache = given(alloc, matches, "cache", GIVE_CACHE)?;
+    let kind = given(alloc, matches, "type", GIVE_TYPE)?;
+    let base = given(alloc, matches, "base", "give a BASE")?;
+    Ok(Request::IsA { cache, kind, base })
+}
+
+fn request_of_icon<'a>(alloc: Global, matches: &ArgMatches<'a>) -> Result<Request<'a>, Error>
+    ensures { Means (icon_meaning (rows_of (found_of matches.now))) result }
+{
+    let cache = given(alloc, matches, "cache", GIVE_CACHE)?;
+    let kind = given(alloc, matches, "type", GIVE_TYPE)?;
+    Ok(Request::Icon { cache, kind })
+}
+
+fn request_of_type<'a>(alloc: Global, matches: &ArgMatches<'a>) -> Result<Request<'a>, Error>
+    ensures { Means (type_meaning (rows_of (found_of matches.now))) result }
+{
+    let cache = given(alloc, matches, "cache", GIVE_CACHE)?;
+    let files = files_of(alloc, matches)?;
+    Ok(Request::Type {
+        cache,
+        name_only: is_on(value_of(matches, "name-only")),
+        cost: is_on(value_of(matches, "cost")),
+        magic_first: is_on(value_of(matches, "magic-first")),
+        files,
+    })
+}
+
+// The value of an argument that must be given, or an error with this message.
+fn given<'a>(
+    alloc: Global,
+    matches: &ArgMatches<'a>,
+    id: &str,
+    message: &str,
+) -> Result<&'a str, Error>
+    ensures found { IfOk result (λ s. first_of id.now (rows_of (found_of matches.now)) ≡ Some s.now) }
+    ensures missing { IfErr result (HasKind (missing (first_of id.now (rows_of (found_of matches.now))))) }
+{
+    let Some(value) = value_of(matches, id) else {
+        return Err(refusal(alloc, ErrorKind::MissingRequiredArgument, message));
+    };
+    Ok(value)
+}
+
+// The FILEs, of which there must be one.
+fn files_of<'a>(alloc: Global, matches: &ArgMatches<'a>) -> Result<Vec<&'a str>, Error>
+    ensures found { IfOk result (λ v. all_of (codes "file") (rows_of (found_of matches.now))
+        ≡ Some (texts v.items)) }
+    ensures missing { IfErr result (HasKind (missing (all_of (codes "file") (rows_of (found_of matches.now))))) }
+{
+    let Some(files) = values_of(matches, "file") else {
+        return Err(refusal(alloc, ErrorKind::MissingRequiredArgument, "give a FILE"));
+    };
+    let files = files.to_vec(alloc)?;
+    Ok(files)
 }
 
 // The parts of DIRS, none where it is missing.
