@@ -1,6 +1,6 @@
 -- The walk of `plain` over its options, in each order.
-use Rattle.std.proofs.Common.{Bool, true, false, List, [], ◌∷◌, ◌++◌, Option, Some, None, refl, codes}
-use Rattle.clap.specs.Walk.{Row, Rule, Text, Waiting, Walk, idle, nothing_held, option, used, walk_from}
+use Rattle.std.proofs.Common.{Bool, true, false, List, [], ◌∷◌, ◌++◌, Some, None, refl, codes}
+use Rattle.clap.specs.Walk.{Row, Text, Walk, idle, nothing_held, option, used, walk_from}
 use Rattle.clap.specs.Simple.{filled, with_index}
 use Rattle.clap.proofs.OnLiterals.{clap_on_literals}
 use Rattle.mime_request.specs.CommandLine.{directories_rule, magic_first_rule, name_only_rule}
@@ -8,7 +8,7 @@ use Rattle.mime_request.specs.Spelling.{plain_flags}
 use Rattle.mime_request.proofs.FileWords.{in_files}
 use Rattle.mime_request.proofs.PlainWords.{IsPlainWord}
 use Rattle.mime_request.proofs.Shapes.{plain_shape}
-use Rattle.mime_request.proofs.Walks.{Steps, Leads, goes}
+use Rattle.mime_request.proofs.Walks.{Steps, Leads, between, flag_used, goes}
 
 -- whether the flags stand after `-d DIRS` or before it
 pub data Order : Type 0 where
@@ -20,10 +20,6 @@ abbrev pub option_words : Order → Bool → Bool → Text → List Text → Lis
 option_words directories_first n m dirs files = codes "-d" ∷ dirs ∷ (plain_flags n m ++ files)
 option_words flags_first n m dirs files = plain_flags n m ++ codes "-d" ∷ dirs ∷ files
 
-abbrev flag_used : Bool → Rule → List Row → List Row
-flag_used true rule rows = used (with_index 1 (filled rule)) [] rows
-flag_used false rule rows = rows
-
 abbrev flags_used : Bool → Bool → List Row → List Row
 flags_used n m rows = flag_used m magic_first_rule (flag_used n name_only_rule rows)
 
@@ -33,16 +29,6 @@ directories_used dirs = used (with_index 1 (filled directories_rule)) (dirs ∷ 
 abbrev pub option_rows : Order → Bool → Bool → Text → List Row
 option_rows directories_first n m dirs = flags_used n m (directories_used dirs [])
 option_rows flags_first n m dirs = directories_used dirs (flags_used n m [])
-
--- between two options, or before the first file
-abbrev pub between : List Row → Option (Text × List Text) → Waiting → Walk
-between rows pending waiting = record {
-  held = record { rows = rows; pending = pending; skip = 0 };
-  waiting = waiting;
-  position = 1;
-  is_trailing = false;
-  stopped = None;
-}
 
 -- before DIRS, and after it
 abbrev before_dirs : List Row → Walk

@@ -25,9 +25,9 @@ pub data PlainRequest : Type 0 where
   plain : List Text → Bool → Bool → List Text → PlainRequest
   -- the glob rules of this cache
   list : Text → PlainRequest
-  -- from this cache, whether the first word is a type that is a kind of the second
+  -- by this cache, whether the first type is the second
   is_a : Text → Text → Text → PlainRequest
-  -- from this cache, the icons of the type
+  -- by this cache, the icons of the type
   icon : Text → Text → PlainRequest
   -- from this cache, whether by names alone, whether with the cost, whether content of high priority
   -- comes before the globs, and the files whose types are asked for
@@ -80,13 +80,13 @@ list_meaning rows = given (first_of (codes "cache") rows) (λ cache. asks (list 
 -- what `isa` means by what clap found after it
 abbrev pub is_a_meaning : List Row → Meaning
 is_a_meaning rows = given (first_of (codes "cache") rows) (λ cache.
-    given (first_of (codes "type") rows) (λ word.
-    given (first_of (codes "base") rows) (λ base. asks (is_a cache word base))))
+    given (first_of (codes "type") rows) (λ kind.
+    given (first_of (codes "base") rows) (λ base. asks (is_a cache kind base))))
 
 -- what `icon` means by what clap found after it
 abbrev pub icon_meaning : List Row → Meaning
 icon_meaning rows = given (first_of (codes "cache") rows) (λ cache.
-    given (first_of (codes "type") rows) (λ word. asks (icon cache word)))
+    given (first_of (codes "type") rows) (λ kind. asks (icon cache kind)))
 
 -- what `type` means by what clap found after it
 abbrev pub type_meaning : List Row → Meaning
@@ -132,8 +132,8 @@ plain_request (request.Build directories file) = build (texts directories.items)
 plain_request (request.Plain directories name_only magic_first files) =
     plain (texts directories.items) name_only magic_first (texts files.items)
 plain_request (request.List cache) = list cache.now
-plain_request (request.IsA cache word base) = is_a cache.now word.now base.now
-plain_request (request.Icon cache word) = icon cache.now word.now
+plain_request (request.IsA cache kind base) = is_a cache.now kind.now base.now
+plain_request (request.Icon cache kind) = icon cache.now kind.now
 plain_request (request.Type cache name_only cost magic_first files) =
     type_of cache.now name_only cost magic_first (texts files.items)
 
