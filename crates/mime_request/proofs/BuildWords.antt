@@ -47,7 +47,8 @@ unfolding clap_on_literals
 option_o = record { no_fault = refl; moves = refl }
 
 option_o-after : (dirs : Text)
-    → Steps build_shape [] (after_value (codes "dirs") [] dirs) (codes "-o") (before_value (codes "output") (directories_used dirs []))
+    → Steps build_shape [] (after_value (codes "dirs") [] dirs) (codes "-o")
+    (before_value (codes "output") (directories_used dirs []))
 unfolding clap_on_literals
 option_o-after dirs = record { no_fault = refl; moves = refl }
 

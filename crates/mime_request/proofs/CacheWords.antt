@@ -8,7 +8,8 @@ use Rattle.mime_request.specs.Request.{asks, icon, is_a, list, meaning_of}
 use Rattle.mime_request.specs.Spelling.{icon_words, is_a_words, is_option, list_words}
 use Rattle.mime_request.proofs.CommandWords.{meaning_of-met}
 use Rattle.mime_request.proofs.PlainWords.{IsPlainWord, plain_word}
-use Rattle.mime_request.proofs.Shapes.{OverCache, cache_met, icon_over, icon_shape, is_a_over, is_a_shape, list_over, shape_of, type_over}
+use Rattle.mime_request.proofs.Shapes.{OverCache, cache_met, icon_over, icon_shape, is_a_over, is_a_shape, list_over, shape_of}
+use Rattle.mime_request.proofs.Shapes.{type_over}
 use Rattle.mime_request.proofs.Walks.{Steps, Leads, at_position, between, ends, goes}
 
 -- before CACHE, and after it
@@ -18,9 +19,11 @@ before_cache = between [] (Some (codes "cache", [])) (option (codes "cache"))
 abbrev pub after_cache : Text → Walk
 after_cache cache = between [] (Some (codes "cache", cache ∷ [])) idle
 
+-- the rows after `-c CACHE`
 abbrev pub cache_used : Text → List Row
 cache_used cache = used (with_index 1 (filled cache_rule)) (cache ∷ []) []
 
+-- `-c` waits for CACHE
 option_c : (m : OverCache) → Steps (shape_of (cache_met m)) [] (walk_from nothing_held) (codes "-c") before_cache
 unfolding clap_on_literals
 option_c list_over = record { no_fault = refl; moves = refl }
@@ -28,6 +31,7 @@ option_c is_a_over = record { no_fault = refl; moves = refl }
 option_c icon_over = record { no_fault = refl; moves = refl }
 option_c type_over = record { no_fault = refl; moves = refl }
 
+-- the word after it is CACHE
 cache_value : (m : OverCache) (cache : Text) → IsPlainWord cache
     → Steps (shape_of (cache_met m)) [] before_cache cache (after_cache cache)
 unfolding clap_on_literals
@@ -63,6 +67,7 @@ abbrev after_base : Text → Text → Text → Walk
 after_base cache kind base =
     at_position 3 (used (with_index 1 (filled kind_rule)) (kind ∷ []) (cache_used cache)) (Some (codes "base", base ∷ [])) idle
 
+-- the first word after the options of `icon` is TYPE
 kind_of_icon : (cache kind : Text) → IsPlainWord kind → Steps icon_shape [] (after_cache cache) kind (after_kind cache kind)
 unfolding clap_on_literals
 kind_of_icon cache kind h = record {
@@ -70,6 +75,7 @@ kind_of_icon cache kind h = record {
   moves = rw (h.no_dashes, h.no_long, h.no_short) refl;
 }
 
+-- so is that of `isa`
 kind_of_is_a : (cache kind : Text) → IsPlainWord kind → Steps is_a_shape [] (after_cache cache) kind (after_kind cache kind)
 unfolding clap_on_literals
 kind_of_is_a cache kind h = record {
@@ -77,6 +83,7 @@ kind_of_is_a cache kind h = record {
   moves = rw (h.no_dashes, h.no_long, h.no_short) refl;
 }
 
+-- the second is BASE
 base_of_is_a : (cache kind base : Text) → IsPlainWord base
     → Steps is_a_shape [] (after_kind cache kind) base (after_base cache kind base)
 unfolding clap_on_literals
@@ -96,8 +103,8 @@ pub meaning_of-usual_icon : (cache kind : Text) → is_option cache ≡ false �
     → meaning_of (icon_words cache kind) ≡ asks (icon cache kind)
 unfolding clap_on_literals
 meaning_of-usual_icon cache kind h k = meaning_of-met (cache_met icon_over) _ (after_kind cache kind) _
-    (over_cache icon_over cache (kind ∷ []) _ h (goes _ _ _ _ _ (kind_of_icon cache kind (plain_word kind k)) (ends (after_kind cache kind))))
-    refl refl
+    (over_cache icon_over cache (kind ∷ []) _ h (goes _ _ _ _ _ (kind_of_icon cache kind (plain_word kind k))
+    (ends (after_kind cache kind)))) refl refl
 
 -- what `isa -c CACHE TYPE BASE` means
 pub meaning_of-usual_is_a : (cache kind base : Text) → is_option cache ≡ false → is_option kind ≡ false → is_option base ≡ false
@@ -105,5 +112,4 @@ pub meaning_of-usual_is_a : (cache kind base : Text) → is_option cache ≡ fal
 unfolding clap_on_literals
 meaning_of-usual_is_a cache kind base h k b = meaning_of-met (cache_met is_a_over) _ (after_base cache kind base) _
     (over_cache is_a_over cache (kind ∷ base ∷ []) _ h (goes _ _ _ _ _ (kind_of_is_a cache kind (plain_word kind k))
-    (goes _ _ _ _ _ (base_of_is_a cache kind base (plain_word base b)) (ends (after_base cache kind base)))))
-    refl refl
+    (goes _ _ _ _ _ (base_of_is_a cache kind base (plain_word base b)) (ends (after_base cache kind base))))) refl refl

@@ -19,6 +19,7 @@ use Rattle.mime_request.proofs.Walks.{Steps, Leads, between, ends, goes, neither
 abbrev pub in_files : List Row → List Text → Walk
 in_files rows files = between rows (Some (codes "file", files)) positional
 
+-- one more FILE
 next_file : (s : Shape) → TakesFiles s → (rows : List Row) (file : Text) (files : List Text) → IsPlainWord file
     → Steps s [] (in_files rows files) file (in_files rows (files ++ file ∷ []))
 unfolding clap_on_literals
@@ -47,6 +48,7 @@ values_fit : (files : List Text) → values_kinds false vp.String files ≡ []
 values_fit [] = refl
 values_fit (v ∷ vs) = values_fit vs
 
+-- so is a count that is below 2^64
 range_fits : (n : ℕ) → 0 < n → n < 2 ^ 64 → range_kinds 1 usize_max n ≡ []
 range_fits n some few = grind (arith, nat_tests)
 

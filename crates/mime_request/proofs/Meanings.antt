@@ -16,6 +16,7 @@ use Rattle.mime_request.specs.declared.request.Request.{Request}
 simple : is_simple mimelook ≡ true
 simple = refl
 
+-- and whose refusals it tells
 simple_and_free : is_simple_and_free mimelook ≡ true
 simple_and_free = refl
 

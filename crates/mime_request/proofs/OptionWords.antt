@@ -49,7 +49,8 @@ option_d : (rows : List Row) → Steps plain_shape [] (between rows None idle) (
 unfolding clap_on_literals
 option_d rows = record { no_fault = refl; moves = refl }
 
-directories : (rows : List Row) (dirs : Text) → IsPlainWord dirs → Steps plain_shape [] (before_dirs rows) dirs (after_dirs rows dirs)
+directories : (rows : List Row) (dirs : Text) → IsPlainWord dirs
+    → Steps plain_shape [] (before_dirs rows) dirs (after_dirs rows dirs)
 unfolding clap_on_literals
 directories rows dirs h = record {
   no_fault = rw (h.no_dashes, h.no_long, h.no_short) refl;
@@ -117,7 +118,8 @@ over_first_flags true false words end rest = goes _ _ _ _ _ name_only_first rest
 over_first_flags false true words end rest = goes _ _ _ _ _ (magic_first_first false) rest
 over_first_flags false false words end rest = rest
 
-over_last_flags : (n m : Bool) (dirs : Text) (words : List Text) (end : Walk) → Leads plain_shape [] (after_both n m dirs) words end
+over_last_flags : (n m : Bool) (dirs : Text) (words : List Text) (end : Walk)
+    → Leads plain_shape [] (after_both n m dirs) words end
     → Leads plain_shape [] (after_dirs [] dirs) (plain_flags n m ++ words) end
 over_last_flags true true dirs words end rest =
     goes _ _ _ _ _ (name_only_last dirs) (goes _ _ _ _ _ (magic_first_last true dirs) rest)
@@ -126,7 +128,8 @@ over_last_flags false true dirs words end rest = goes _ _ _ _ _ (magic_first_las
 over_last_flags false false dirs words end rest = rest
 
 -- over the options and the first file
-pub over_options : (o : Order) (n m : Bool) (dirs file : Text) (files : List Text) (end : Walk) → IsPlainWord dirs → IsPlainWord file
+pub over_options : (o : Order) (n m : Bool) (dirs file : Text) (files : List Text) (end : Walk)
+    → IsPlainWord dirs → IsPlainWord file
     → Leads plain_shape [] (in_files (option_rows o n m dirs) (file ∷ [])) files end
     → Leads plain_shape [] (walk_from nothing_held) (option_words o n m dirs (file ∷ files)) end
 over_options directories_first n m dirs file files end d f rest =

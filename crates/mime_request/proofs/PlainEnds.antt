@@ -10,7 +10,8 @@ use Rattle.mime_request.proofs.Shapes.{plain_shape, plain_takes}
 use Rattle.mime_request.proofs.Walks.{end_fault, neither_fault}
 
 defaults_fit : (o : Order) (n m : Bool) (dirs file : Text) (files : List Text)
-    → defaults_fault (settled plain_shape.rules (in_files (option_rows o n m dirs) (file ∷ files)).held).rows plain_shape.rules ≡ []
+    → defaults_fault (settled plain_shape.rules (in_files (option_rows o n m dirs) (file ∷ files)).held).rows
+    plain_shape.rules ≡ []
 unfolding clap_on_literals
 defaults_fit directories_first true true dirs file files = refl
 defaults_fit directories_first true false dirs file files = refl

@@ -24,7 +24,9 @@ abbrev after_flags : Bool → Bool → Bool → Text → Walk
 after_flags false false false cache = after_cache cache
 after_flags n k m cache = between (flag_rows n k m cache) None idle
 
-name_only_word : (cache : Text) → Steps type_shape [] (after_cache cache) (codes "--name-only") (after_flags true false false cache)
+-- each flag, after those before it
+name_only_word : (cache : Text)
+    → Steps type_shape [] (after_cache cache) (codes "--name-only") (after_flags true false false cache)
 unfolding clap_on_literals
 name_only_word cache = record { no_fault = refl; moves = refl }
 
@@ -42,6 +44,7 @@ magic_first_word true false cache = record { no_fault = refl; moves = refl }
 magic_first_word false true cache = record { no_fault = refl; moves = refl }
 magic_first_word false false cache = record { no_fault = refl; moves = refl }
 
+-- over each flag that may be given
 over_name_only : (n : Bool) (cache : Text) (words : List Text) (end : Walk)
     → Leads type_shape [] (after_flags n false false cache) words end
     → Leads type_shape [] (after_cache cache) (flag_words n (codes "--name-only") ++ words) end
@@ -60,6 +63,7 @@ over_magic_first : (n k m : Bool) (cache : Text) (words : List Text) (end : Walk
 over_magic_first n k true cache words end rest = goes _ _ _ _ _ (magic_first_word n k cache) rest
 over_magic_first n k false cache words end rest = rest
 
+-- the first FILE, after a flag
 file_after_flags : (rows : List Row) (file : Text) → IsPlainWord file
     → Steps type_shape [] (between rows None idle) file (in_files rows (file ∷ []))
 unfolding clap_on_literals
@@ -68,6 +72,7 @@ file_after_flags rows file h = record {
   moves = rw (h.no_dashes, h.no_long, h.no_short) refl;
 }
 
+-- and right after CACHE, which it settles
 file_after_cache : (cache file : Text) → IsPlainWord file
     → Steps type_shape [] (after_cache cache) file (in_files (cache_used cache) (file ∷ []))
 unfolding clap_on_literals
@@ -76,6 +81,7 @@ file_after_cache cache file h = record {
   moves = rw (h.no_dashes, h.no_long, h.no_short) refl;
 }
 
+-- the first FILE, after any flags
 first_file : (n k m : Bool) (cache file : Text) → IsPlainWord file
     → Steps type_shape [] (after_flags n k m cache) file (in_files (flag_rows n k m cache) (file ∷ []))
 first_file true k m cache file h = file_after_flags _ file h
@@ -83,6 +89,7 @@ first_file false true m cache file h = file_after_flags _ file h
 first_file false false true cache file h = file_after_flags _ file h
 first_file false false false cache file h = file_after_cache cache file h
 
+-- over all the words of `type`
 type_walk : (n k m : Bool) (cache file : Text) (files : List Text) → AreUsual cache (file ∷ files)
     → Leads type_shape [] (walk_from nothing_held) (codes "-c" ∷ cache ∷ (flag_words n (codes "--name-only")
     ++ (flag_words k (codes "--cost") ++ (flag_words m (codes "--magic-first") ++ file ∷ files))))
@@ -94,13 +101,14 @@ type_walk n k m cache file files usual =
     (over_magic_first n k m cache _ _ (goes _ _ _ _ _ (first_file n k m cache file (plain_word file both.0))
     (over_files type_shape type_takes rows (file ∷ []) files both.1)))))
 
+-- the rows after the last FILE
 abbrev rows_at_end : Bool → Bool → Bool → Text → List Text → List Row
 rows_at_end n k m cache files = finished type_shape.rules (in_files (flag_rows n k m cache) files).held
 
 -- the defaults and the last checks after the last FILE have no fault
 ends_well : (n k m : Bool) (cache file : Text) (files : List Text)
-    → or_else (defaults_fault (settled type_shape.rules (in_files (flag_rows n k m cache) (file ∷ files)).held).rows type_shape.rules)
-    (check_fault type_shape (rows_at_end n k m cache (file ∷ files)) false) ≡ []
+    → or_else (defaults_fault (settled type_shape.rules (in_files (flag_rows n k m cache) (file ∷ files)).held).rows
+    type_shape.rules) (check_fault type_shape (rows_at_end n k m cache (file ∷ files)) false) ≡ []
 unfolding clap_on_literals
 ends_well true true true cache file files = refl
 ends_well true true false cache file files = refl
@@ -111,6 +119,7 @@ ends_well false true false cache file files = refl
 ends_well false false true cache file files = refl
 ends_well false false false cache file files = refl
 
+-- what these rows mean
 rows_mean : (n k m : Bool) (cache file : Text) (files : List Text)
     → type_meaning (rows_at_end n k m cache (file ∷ files)) ≡ asks (type_of cache n k m (file ∷ files))
 unfolding clap_on_literals
@@ -128,6 +137,7 @@ pub meaning_of-usual_type : (cache : Text) (name_only cost magic_first : Bool) (
     → meaning_of (type_words cache name_only cost magic_first files) ≡ asks (type_of cache name_only cost magic_first files)
 meaning_of-usual_type cache n k m [] usual = let never : false ≡ true = usual.plain_files in absurd (cc)
 meaning_of-usual_type cache n k m (file ∷ files) usual =
-    meaning_of-met (cache_met type_over) _ (in_files (flag_rows n k m cache) (file ∷ files)) _ (type_walk n k m cache file files usual)
-    (neither_fault _ _ (files_fit type_shape type_takes (flag_rows n k m cache) file files usual.few) (ends_well n k m cache file files))
+    let rows = flag_rows n k m cache in
+    meaning_of-met (cache_met type_over) _ (in_files rows (file ∷ files)) _ (type_walk n k m cache file files usual)
+    (neither_fault _ _ (files_fit type_shape type_takes rows file files usual.few) (ends_well n k m cache file files))
     (rows_mean n k m cache file files)

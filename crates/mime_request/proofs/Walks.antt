@@ -1,6 +1,7 @@
 -- Walks of clap over the words of one command, step by step.
 use Rattle.std.proofs.Common.{◌≡◌, ◌∙◌, ℕ, Bool, true, false, List, [], ◌∷◌, Option, None, ap, fold, refl}
-use Rattle.clap.specs.Walk.{Held, Names, Row, Rule, Text, Waiting, Walk, finished, nothing_held, settled, used, walk, walk_from, walked}
+use Rattle.clap.specs.Walk.{Held, Names, Row, Rule, Text, Waiting, Walk, finished, nothing_held, settled, used, walk, walk_from}
+use Rattle.clap.specs.Walk.{walked}
 use Rattle.clap.specs.Simple.{Shape, filled, with_index}
 use Rattle.clap.specs.Faults.{check_fault, defaults_fault, level_fault, settle_fault, turn_fault, walk_fault}
 use Rattle.clap.specs.Kinds.{Kinds, or_else}

@@ -1,8 +1,8 @@
 //! What usual command lines ask for, with no word of clap.
 
 ghost use Rattle.std.specs.Prelude.{◌≡◌, [], ◌∷◌, codes};
-ghost use Rattle.clap.specs.declared.error.kind.ErrorKind.TheVariants.{DisplayHelp, DisplayVersion, MissingRequiredArgument};
-ghost use Rattle.clap.specs.declared.error.kind.ErrorKind.TheVariants.{MissingSubcommand};
+ghost use Rattle.clap.specs.declared.error.kind.ErrorKind.TheVariants.{ArgumentConflict, DisplayHelp, DisplayVersion};
+ghost use Rattle.clap.specs.declared.error.kind.ErrorKind.TheVariants.{MissingRequiredArgument, MissingSubcommand};
 ghost use Rattle.mime_request.specs.Request.{meaning_of, refused};
 
 mod build;
@@ -18,7 +18,7 @@ pub use directories::parts_of_directories;
 pub use plain::{flags_first_spelling_of_plain, usual_spelling_of_plain};
 
 /// `--help`, alone or after a command, asks for help, and `--version` for the version; no words at
-/// all are a mistake, and so are words without what a command needs.
+/// all are a mistake, and so are words without what a command needs, or with an option twice.
 pub fn words_without_files()
     ensures help { meaning_of (codes "--help" ∷ []) ≡ refused (DisplayHelp ∷ []) }
     ensures help_of_build { meaning_of (codes "build" ∷ codes "--help" ∷ [])
@@ -40,4 +40,12 @@ pub fn words_without_files()
     ensures no_file { meaning_of (codes "plain" ∷ codes "--name-only" ∷ codes "-d" ∷ [] ∷ [])
         ≡ refused (MissingRequiredArgument ∷ []) }
     ensures no_cache { meaning_of (codes "list" ∷ []) ≡ refused (MissingRequiredArgument ∷ []) }
+    ensures no_type { meaning_of (codes "icon" ∷ codes "-c" ∷ [] ∷ [])
+        ≡ refused (MissingRequiredArgument ∷ []) }
+    ensures no_base { meaning_of (codes "isa" ∷ codes "-c" ∷ [] ∷ [] ∷ [])
+        ≡ refused (MissingRequiredArgument ∷ []) }
+    ensures no_file_of_type { meaning_of (codes "type" ∷ codes "--cost" ∷ codes "-c" ∷ [] ∷ [])
+        ≡ refused (MissingRequiredArgument ∷ []) }
+    ensures cache_twice { meaning_of (codes "list" ∷ codes "-c" ∷ [] ∷ codes "-c" ∷ [] ∷ [])
+        ≡ refused (ArgumentConflict ∷ []) }
 {}

@@ -6,7 +6,8 @@ use Rattle.mime_request.proofs.command.mimelook_command.Goals as goal
 pub returns : goal.returns
 returns c =
     let one = with_one_command _ _ _ (app_of c.in_ok-list_command.field-0) list
-    (c.in_ok-command-2.ensures.shape c.in_ok-list_command.ensures.local) c.in_ok-command.ensures.app c.in_ok-list_command.ensures.app in
+    (c.in_ok-command-2.ensures.shape c.in_ok-list_command.ensures.local) c.in_ok-command.ensures.app
+    c.in_ok-list_command.ensures.app in
     let two = with_one_command _ _ _ (app_of c.in_ok-is_a_command.field-0) is_a
     (c.in_ok-command-3.ensures.shape c.in_ok-is_a_command.ensures.local) one c.in_ok-is_a_command.ensures.app in
     let three = with_one_command _ _ _ (app_of c.in_ok-icon_command.field-0) icon

@@ -18,4 +18,8 @@ returns c = record {
   no_output = refl;
   no_file = refl;
   no_cache = refl;
+  no_type = refl;
+  no_base = refl;
+  no_file_of_type = refl;
+  cache_twice = refl;
 }
