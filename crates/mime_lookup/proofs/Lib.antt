@@ -14,3 +14,6 @@ pub mod Answering
 pub mod FirstSections
 pub mod Scripts
 pub mod Findings
+pub mod FoundFronts
+pub mod SniffCosts
+pub mod Stops

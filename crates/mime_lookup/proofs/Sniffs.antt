@@ -16,7 +16,7 @@ use Rattle.mime_lookup.specs.Sniffing.{FrontIsEnough, sniffed, sniffed_by_bytes,
 use Rattle.mime_lookup.specs.declared.order.Order.TheVariants.{MagicFirst}
 
 -- the type by the bytes alone
-by_bytes-front : (front rest : List ℕ) → 128 ≤ length front → sniffed_by_bytes (front ++ rest) ≡ sniffed_by_bytes front
+pub by_bytes-front : (front rest : List ℕ) → 128 ≤ length front → sniffed_by_bytes (front ++ rest) ≡ sniffed_by_bytes front
 by_bytes-front [] rest long = absurd (omega arith)
 by_bytes-front (byte ∷ front) rest long =
     ap (λ b. cond b (codes "text/plain") (codes "application/octet-stream")) (looks_textual-front (byte ∷ front) rest long)
@@ -53,7 +53,7 @@ pub record IsRead (b : PlainDatabase) (whole front : List ℕ) : Type 0 where
   pub long : (rest ≡ []) ⊎ ((128 ≤ length front) × (extent b ≤ length front))
   pub size : length front ≡ min (length whole) (read_limit b)
 
-is_read : (b : PlainDatabase) (whole front : List ℕ) (after : Option (List ℕ)) → Consumes (Some whole) after front →
+pub is_read : (b : PlainDatabase) (whole front : List ℕ) (after : Option (List ℕ)) → Consumes (Some whole) after front →
     length front ≤ read_limit b → (length front < read_limit b → IsAtEnd after) → IsRead b whole front
 unfolding read_limit
 is_read b whole front None consumed limited ends = absurd consumed
