@@ -1,10 +1,11 @@
 -- What is found in a content, against what the content is sniffed as.
-use Rattle.std.proofs.Common.{◌≡◌, ℕ, cond, List, Option, None, Some, refl}
+use Rattle.std.proofs.Common.{◌≡◌, ◌∙◌, ℕ, cond, List, Option, None, Some, refl, ap, sym}
+use Rattle.std.specs.Prelude.{IfSome}
 use Rattle.mime_base.specs.Database.{PlainDatabase}
 use Rattle.mime_base.specs.Magic.Holds.{first_magic}
 use Rattle.mime_base.specs.declared.magic.host.Host.{Host}
 use Rattle.mime_lookup.specs.CheckingOrder.{before_globs, of_high_priority}
-use Rattle.mime_lookup.specs.Finding.{found_by, found_in, is_high, resolved_finding}
+use Rattle.mime_lookup.specs.Finding.{PlainFinding, found_by, found_in, is_high, resolved_finding}
 use Rattle.mime_lookup.specs.Sniffing.{sniffed, sniffed_by_magic}
 use Rattle.mime_lookup.specs.declared.order.Order.TheVariants.{MagicFirst}
 
@@ -35,3 +36,20 @@ pub before_globs-found : (b : PlainDatabase) (known : Option (List ℕ)) (host :
 unfolding before_globs
 before_globs-found b None host = refl
 before_globs-found b (Some content) host = of_high_priority-found b (first_magic b.sections content host) content
+
+-- Where a finding is what is found in the content, if that is known, the content is sniffed as it.
+module _ (b : PlainDatabase) (host : Host) (found : PlainFinding) where
+  -- the type
+  pub sniffed-where : (known : Option (Option (List ℕ))) → IfSome known (λ content. found ≡ found_in b content host) →
+      IfSome known (λ content. resolved_finding b.aliases found ≡ sniffed b content host)
+  sniffed-where None is = tt
+  sniffed-where (Some content) is = ap (resolved_finding b.aliases) is ∙ sym (sniffed-found b content host)
+
+  -- the type before the globs
+  pub before_globs-where : (known : Option (Option (List ℕ))) → IfSome known (λ content. found ≡ found_in b content host) →
+      IfSome known (λ content. cond (is_high found) (Some (resolved_finding b.aliases found)) None
+      ≡ before_globs b content host MagicFirst)
+  before_globs-where None is = tt
+  before_globs-where (Some content) is =
+      ap (λ finding. cond (is_high finding) (Some (resolved_finding b.aliases finding)) None) is
+      ∙ sym (before_globs-found b content host)

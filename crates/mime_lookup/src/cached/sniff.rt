@@ -1,13 +1,15 @@
 //! What a content is sniffed as over a cache ("Recommended checking order").
 
-ghost use Rattle.std.specs.Prelude.{◌≡◌, ◌≢◌, ◌⊎◌, ℕ, ◌+◌, ◌*◌, ◌≤◌, List, Ok, max, length, IfErr, IfOk, IfSome, IsOk, IsOkAnd, None, OnOk, Some};
-ghost use Rattle.std.specs.Prelude.{codes, false};
-ghost use Rattle.mime_base.specs.Cache.Texts.{text_at};
+ghost use Rattle.std.specs.Prelude.{◌≡◌, ◌⊎◌, ℕ, ◌+◌, ◌*◌, ◌≤◌, List, max, length, IfErr, IfOk, IfSome, IsOk, IsOkAnd, OnOk};
+ghost use Rattle.std.specs.Prelude.{None, Some, false};
+ghost use Rattle.mime_base.specs.Cache.Bytes.{Stands};
 ghost use Rattle.mime_base.specs.Database.{PlainDatabase};
+ghost use Rattle.mime_base.specs.Format.Header.{HeaderAt, Offsets};
 ghost use Rattle.mime_base.specs.Format.Packed.{matchlet_count, value_length};
+ghost use Rattle.mime_base.specs.Format.Pairs.{PairsAt};
 ghost use Rattle.mime_lookup.specs.Bounds.{stated_extent};
 ghost use Rattle.mime_lookup.specs.CheckingOrder.{front_size};
-ghost use Rattle.mime_lookup.specs.Content.{known_content, broken, OfReader};
+ghost use Rattle.mime_lookup.specs.Content.{known_content};
 ghost use Rattle.mime_lookup.specs.Costs.{Costs};
 ghost use Rattle.mime_lookup.specs.Finding.{found_by, found_in, is_high, resolved_finding};
 ghost use Rattle.mime_lookup.specs.Cached.{IsFinding, IsKind, IsStop, IsTextOf, plain_finding};
@@ -55,7 +57,8 @@ pub fn resolve<'a>(
     budget: &mut Budget,
 ) -> Result<&'a [u8], CacheFault>
     requires finding { IsFinding cache.now finding }
-    ensures answer { (b : PlainDatabase) → SpellsMagic cache.now b → IsOkAnd result
+    ensures answer { (b : PlainDatabase) (offsets : Offsets) → HeaderAt (Stands cache.now) offsets →
+        PairsAt (Stands cache.now) offsets.aliases b.aliases → IsOkAnd result
         (λ kind. kind.now ≡ resolved_finding b.aliases (plain_finding finding.entry)) }
     ensures kind { IfOk result (λ kind. IsKind cache.now kind.now) }
     ensures fault { IfErr result (IsAliasFault cache.now) }

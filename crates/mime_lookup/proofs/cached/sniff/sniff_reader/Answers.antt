@@ -1,14 +1,28 @@
-use Rattle.std.proofs.Common.{◌≡◌, ◌≤◌, ap, sym, ◌∙◌, inr, length, Some, arith}
+use Rattle.std.proofs.Common.{◌≡◌, ℕ, ◌+◌, ◌≤◌, ap, sym, ◌∙◌, inr, length, Some, arith}
 use Rattle.std.proofs.lemmas.Bool.{true≢false}
 use Rattle.mime_lookup.specs.CheckingOrder.{read_limit}
 use Rattle.mime_lookup.specs.Finding.{found_by, found_in}
+use Rattle.mime_base.specs.declared.meter.Meter.{Meter}
 use Rattle.mime_lookup.specs.Cached.{plain_finding}
+use Rattle.mime_lookup.specs.Costs.{Costs}
 use Rattle.mime_lookup.specs.StepFaults.{IsSniffFault}
+use Rattle.mime_view.specs.Magic.{Paid}
+use Rattle.mime_view.specs.declared.budget.Budget.{Budget}
+use Rattle.mime_lookup.proofs.CostLemmas.{costs_nodes, costs_paid, costs_then, costs_wider}
 use Rattle.mime_lookup.proofs.FoundFronts.{found-known, limit-stated}
-use Rattle.mime_lookup.proofs.SniffCosts.{costs_of_sniff}
 use Rattle.mime_lookup.proofs.Sniffs.{front_size-known}
 use Rattle.mime_lookup.proofs.Stops.{stops_by}
 use Rattle.mime_lookup.proofs.cached.sniff.sniff_reader.Goals as goal
+
+-- a node for the head of magic, and a search of its sections
+costs_of_sniff : (each read : ℕ) (old new : Budget) (before between after : Meter) → 256 ≤ each →
+    before.nodes ≤ between.nodes → between.nodes ≤ before.nodes + 1 → between.bytes ≡ before.bytes →
+    Paid read 256 1 old new between after → Costs each (read + 1) 2 old new before after
+costs_of_sniff each read old new before between after wide rises nodes bytes paid =
+    costs_wider 256 each (read + 1) (read + 1) 2 2 old new before after wide (omega arith) (omega arith)
+    (costs_then 256 (read + 1) 1 1 old old new before between after
+    (costs_nodes 256 (read + 1) 1 old before between rises nodes (omega arith) (omega arith))
+    (costs_paid read 256 1 old new between after paid))
 
 pub returns-in_err-extent-clause-need : goal.returns-in_err-extent-clause-need
 returns-in_err-extent-clause-need g c b spells records value_bytes =
