@@ -35,9 +35,9 @@ found_in-front b front rest host (inr long) =
     ∙ found_by-front (first_magic b.sections front host) front rest long.0)
 
 -- what a reader gave has what its whole content has, where that is known
-pub found-known : (b : PlainDatabase) (host : Host) (known after : Option (List ℕ)) (front : List ℕ) → Consumes known after front →
-    length front ≤ read_limit b → (length front < read_limit b → IsAtEnd after) → (found : PlainFinding) →
-    found ≡ found_in b (Some front) host →
+pub found-known : (b : PlainDatabase) (host : Host) (known after : Option (List ℕ)) (front : List ℕ) →
+    Consumes known after front → length front ≤ read_limit b → (length front < read_limit b → IsAtEnd after) →
+    (found : PlainFinding) → found ≡ found_in b (Some front) host →
     IfSome (option_map (λ bytes. Some bytes) known) (λ content. found ≡ found_in b content host)
 found-known b host None after front consumed limited ends found is = tt
 found-known b host (Some whole) after front consumed limited ends found is =

@@ -42,7 +42,8 @@ before_globs-front : (b : PlainDatabase) (front rest : List ℕ) (host : Host) �
     before_globs b (Some front) host MagicFirst ≡ before_globs b (Some (front ++ rest)) host MagicFirst
 unfolding before_globs
 before_globs-front b front rest host (inl none) =
-    ap (λ content. of_high_priority b (first_magic b.sections content host)) (sym (append-nil front) ∙ ap (λ end. front ++ end) (sym none))
+    ap (λ content. of_high_priority b (first_magic b.sections content host))
+    (sym (append-nil front) ∙ ap (λ end. front ++ end) (sym none))
 before_globs-front b front rest host (inr long) =
     sym (ap (of_high_priority b) (first_magic-front front rest b.sections host long.1))
 
@@ -67,8 +68,9 @@ is_read b whole front (Some rest) consumed limited ends =
     (cases_lt (length front) (max 128 (extent b)))
 
 -- what a reader gave is sniffed as its whole content, where that is known
-module _ (b : PlainDatabase) (host : Host) (known after : Option (List ℕ)) (front : List ℕ) (consumed : Consumes known after front)
-    (limited : length front ≤ read_limit b) (ends : length front < read_limit b → IsAtEnd after) where
+module _ (b : PlainDatabase) (host : Host) (known after : Option (List ℕ)) (front : List ℕ)
+    (consumed : Consumes known after front) (limited : length front ≤ read_limit b)
+    (ends : length front < read_limit b → IsAtEnd after) where
   pub sniffed-known : (kind : List ℕ) → kind ≡ sniffed b (Some front) host →
       IfSome (option_map (λ bytes. Some bytes) known) (λ content. kind ≡ sniffed b content host)
   sniffed-known kind is = by_cases known consumed
