@@ -13,3 +13,7 @@ pub mod Sniffs
 pub mod Answering
 pub mod FirstSections
 pub mod Scripts
+pub mod CostLemmas
+pub mod Findings
+pub mod FoundFronts
+pub mod Stops
