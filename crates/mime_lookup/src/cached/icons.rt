@@ -41,7 +41,11 @@ pub fn icon_of<'a>(alloc: Global, cache: Counted<'a>, kind: &'a TypeName) -> Res
 {
     let mut meter = Meter::new();
     match find_icons(alloc, cache, kind.bytes(), &mut meter) {
-        Ok((icon, generic)) => Ok(Icons { icon, generic, meter }),
+        Ok((icon, generic)) => Ok(Icons {
+            icon,
+            generic,
+            meter,
+        }),
         Err(fault) => Err(Stopped {
             cause: Cause::from(fault),
             read: 0,
@@ -56,8 +60,7 @@ fn find_icons<'a>(
     cache: Counted<'a>,
     kind: &'a [u8],
     meter: &mut Meter,
-) -> Result<(Vec<u8>, Vec<u8>), CacheFault>
-{
+) -> Result<(Vec<u8>, Vec<u8>), CacheFault> {
     let cache = Cache::open(cache, meter)?;
     let mut budget = Budget::of(&cache);
     let kind = cache.unalias(kind, meter, &mut budget)?;
@@ -70,7 +73,11 @@ fn find_icons<'a>(
 }
 
 // The icon's name, else the type with a hyphen for each slash.
-fn icon_or_hyphens(alloc: Global, icon: Option<&[u8]>, kind: &[u8]) -> Result<Vec<u8>, OutOfMemory> {
+fn icon_or_hyphens(
+    alloc: Global,
+    icon: Option<&[u8]>,
+    kind: &[u8],
+) -> Result<Vec<u8>, OutOfMemory> {
     if let Some(name) = icon {
         return Ok(Vec::from_slice(alloc, name)?);
     }
@@ -84,11 +91,18 @@ fn icon_or_hyphens(alloc: Global, icon: Option<&[u8]>, kind: &[u8]) -> Result<Ve
 }
 
 // The generic icon's name, else what stands before the type's first slash, and `-x-generic`.
-fn generic_or_media(alloc: Global, icon: Option<&[u8]>, kind: &[u8]) -> Result<Vec<u8>, OutOfMemory> {
+fn generic_or_media(
+    alloc: Global,
+    icon: Option<&[u8]>,
+    kind: &[u8],
+) -> Result<Vec<u8>, OutOfMemory> {
     if let Some(name) = icon {
         return Ok(Vec::from_slice(alloc, name)?);
     }
-    let slash = kind.iter().position(|byte| *byte == b'/').unwrap_or(kind.len());
+    let slash = kind
+        .iter()
+        .position(|byte| *byte == b'/')
+        .unwrap_or(kind.len());
     let mut name = Vec::from_slice(alloc, &kind[..slash])?;
     name.extend_from_slice(b"-x-generic")?;
     Ok(name)

@@ -40,14 +40,14 @@ pub fn kept_kinds<'a>(
     ensures value_bytes { budget.new.value_bytes ≡ budget.old.value_bytes }
     ensures nodes { MatchResult result
         (λ kinds. meter.new.nodes + budget.new.records
-            ≤ meter.old.nodes + budget.old.records + glob_cost (length name.now) + 29 * length kinds.items)
+        ≤ meter.old.nodes + budget.old.records + glob_cost (length name.now) + 29 * length kinds.items)
         (λ _. meter.new.nodes + budget.new.records
-            ≤ meter.old.nodes + budget.old.records + glob_cost (length name.now) + 29 * budget.old.records) }
+        ≤ meter.old.nodes + budget.old.records + glob_cost (length name.now) + 29 * budget.old.records) }
     ensures cost { (value : ℕ) → MatchResult result
         (λ kinds. Costs (record_cost (length name.now)) value (glob_cost (length name.now))
-            budget.old budget.new meter.old (ahead (length kinds.items) meter.new))
+        budget.old budget.new meter.old (ahead (length kinds.items) meter.new))
         (λ _. Costs (record_cost (length name.now)) value (glob_cost (length name.now))
-            budget.old budget.new meter.old meter.new) }
+        budget.old budget.new meter.old meter.new) }
     ensures rises { meter.old.nodes ≤ meter.new.nodes }
 {
     let hits = cache.glob_hits(alloc, name, meter, budget)?;
