@@ -14,3 +14,4 @@ pub mod Answering
 pub mod FirstSections
 pub mod Scripts
 pub mod KeptTypes
+pub mod CostLemmas
