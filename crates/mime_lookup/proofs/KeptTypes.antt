@@ -1,15 +1,10 @@
--- The types of the kept rules, each after one alias step: their texts, and what they cost.
+-- The texts of the kept types, each after one alias step.
 use Rattle.std.proofs.Common.{◌≡◌, ◌⊎◌, ℕ, ◌+◌, ◌*◌, ◌<◌, ◌≤◌, List, [], ◌∷◌, ◌++◌, length, take, get_or, map, arith, sym, ap, ◌∙◌}
 use Rattle.std.specs.List.{All}
-use Rattle.std.proofs.Math.Nat.{mul-le-mul_left}
 use Rattle.std.proofs.lemmas.List.{get_or-map, length-map, map-append, take_more}
 use Rattle.std.proofs.lemmas.List.Elements.{All-push}
 use denote.Bor.{Bor}
-use Rattle.mime_base.specs.declared.meter.Meter.{Meter}
-use Rattle.mime_view.specs.Hits.{Charged}
-use Rattle.mime_view.specs.declared.budget.Budget.{Budget}
 use Rattle.mime_lookup.specs.Ancestry.{texts}
-use Rattle.mime_lookup.specs.Costs.{Costs, ahead, glob_cost, record_cost}
 
 -- the texts of a list that has one more
 pub texts-pushed : (kinds new : List (Bor (List ℕ))) (name : Bor (List ℕ)) → new ≡ kinds ++ name ∷ [] →
@@ -40,21 +35,3 @@ all_item Is items i item within are =
 pub all_more : (Is : List ℕ → Type 0) (kinds new : List (Bor (List ℕ))) (name : Bor (List ℕ)) → new ≡ kinds ++ name ∷ [] →
     Is name.now → All Is (texts kinds) → All Is (texts new)
 all_more Is kinds new name pushed is so_far = rw (texts-pushed kinds new name pushed) (All-push Is (texts kinds) name.now so_far is)
-
--- hits, an alias step for each, and what is kept back for a search among them
-pub kept_cost : (name value kinds : ℕ) (old new : Budget) (before between after : Meter) →
-    Charged (256 * (name + 3)) (29 * (2 * name + 2) + 1) old new before between →
-    kinds + new.records ≤ old.records → between.nodes ≤ after.nodes → after.nodes ≤ between.nodes + 29 * kinds →
-    between.bytes ≤ after.bytes → after.bytes ≤ between.bytes + 256 * 29 * kinds →
-    Costs (record_cost name) value (glob_cost name) old new before (ahead kinds after)
-kept_cost name value kinds old new before between after hits count rises nodes bytes_rise bytes =
-    let same : value * new.value_bytes ≡ value * old.value_bytes = ap (λ n. value * n) hits.value_bytes in
-    record {
-      records = hits.records;
-      value_bytes = omega (arith, hits.value_bytes);
-      rises = omega arith;
-      nodes = omega (arith, hits.nodes);
-      fair = omega (arith, hits.fair);
-      bytes_rise = omega (arith, hits.bytes_rise);
-      bytes = omega (arith, hits.bytes, same);
-    }

@@ -9,7 +9,9 @@ use Rattle.mime_base.specs.declared.database.rule.GlobRule.{GlobRule}
 use Rattle.mime_lookup.specs.Ancestry.{texts}
 use Rattle.mime_lookup.specs.Cached.{IsTextOf}
 use Rattle.mime_lookup.specs.Choice.{kept}
-use Rattle.mime_lookup.proofs.KeptTypes.{all_item, all_more, given_more, kept_cost}
+use Rattle.mime_lookup.specs.Costs.{glob_cost}
+use Rattle.mime_lookup.proofs.CostLemmas.{costs_kept}
+use Rattle.mime_lookup.proofs.KeptTypes.{all_item, all_more, given_more}
 use Rattle.mime_lookup.proofs.cached.kept.kept_kinds.Goals as goal
 
 pub returns-in_err-unalias-clause-need : goal.returns-in_err-unalias-clause-need
@@ -53,6 +55,6 @@ returns-clause-cost c = λ value.
     let items = c.as_slice-kind-items.result.now in
     let hits : length items ≡ length c.in_ok-hits.hits =
     sym (length-map items (λ (text : Bor (List ℕ)). text.now)) ∙ ap length c.as_slice-kind-items.ensures in
-    rw i.budget (kept_cost (length c.args.name.now) value (length c.loop-kind.kinds.items) c.args.budget.now c.glob_hits.new.budget
-    c.args.meter.now c.glob_hits.new.meter c.loop-kind.meter c.in_ok-hits.ensures.cost (omega (arith, c.in_ok-hits.ensures.count))
-    i.rises (omega arith) i.bytes_rise (omega arith))
+    rw i.budget (costs_kept (length c.args.name.now) value (glob_cost (length c.args.name.now)) (length c.loop-kind.kinds.items)
+    c.args.budget.now c.glob_hits.new.budget c.args.meter.now c.glob_hits.new.meter c.loop-kind.meter c.in_ok-hits.ensures.cost
+    (omega (arith, c.in_ok-hits.ensures.count)) i.rises (omega arith) i.bytes_rise (omega arith))
