@@ -15,3 +15,5 @@ pub mod FirstSections
 pub mod Scripts
 pub mod KeptTypes
 pub mod CostLemmas
+pub mod Openings
+pub mod MediaTypes

@@ -1,9 +1,10 @@
 //! The icons of a type, by a cache ("The mime.cache files").
 
-ghost use Rattle.std.specs.Prelude.{◌≡◌, ◌≢◌, ◌⊎◌, ℕ, ◌+◌, ◌*◌, ◌≤◌, ◌++◌, codes, length, map, option_map, take, IfErr, IfOk, MatchResult};
+ghost use Rattle.std.specs.Prelude.{◌≡◌, ◌≢◌, ◌⊎◌, ℕ, ◌+◌, ◌*◌, ◌<◌, ◌≤◌, ◌==◌, length, map, option_map, position};
+ghost use Rattle.std.specs.Prelude.{IfErr, IfOk, IfSome, MatchResult};
 ghost use Rattle.mime_base.specs.Database.{PlainDatabase};
 ghost use Rattle.mime_lookup.specs.Bounds.{KeepsBounds};
-ghost use Rattle.mime_lookup.specs.Icons.{PlainIcons, before_slash, generic_of_media, hyphen_for_slash, icons_of, or_else, plain_icons_of, with_hyphens};
+ghost use Rattle.mime_lookup.specs.Icons.{before_slash, generic_of_media, hyphen_for_slash, icons_of, or_else, plain_icons_of, with_hyphens};
 ghost use Rattle.mime_lookup.specs.Spelling.{SpellsIcons};
 ghost use Rattle.mime_lookup.specs.StepFaults.{IsIconFault};
 
@@ -130,8 +131,16 @@ fn generic_of_media(alloc: Global, kind: &[u8]) -> Result<Vec<u8>, OutOfMemory>
 fn before_slash(kind: &[u8]) -> &[u8]
     ensures { result.now ≡ before_slash kind.now }
 {
-    match kind.iter().position(|byte| *byte == b'/') {
+    match first_slash(kind) {
         Some(slash) => &kind[..slash],
         None => kind,
     }
+}
+
+// The place of the first slash.
+fn first_slash(kind: &[u8]) -> Option<usize>
+    ensures place { result ≡ position (λ b. b == 47) kind.now }
+    ensures within { IfSome result (λ slash. slash < length kind.now) }
+{
+    kind.iter().position(|byte| *byte == b'/')
 }
