@@ -17,3 +17,6 @@ pub mod CostLemmas
 pub mod Findings
 pub mod FoundFronts
 pub mod Stops
+pub mod KeptTypes
+pub mod Openings
+pub mod MediaTypes
