@@ -13,3 +13,4 @@ pub mod Sniffs
 pub mod Answering
 pub mod FirstSections
 pub mod Scripts
+pub mod CostLemmas
