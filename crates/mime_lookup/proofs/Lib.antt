@@ -14,3 +14,5 @@ pub mod Answering
 pub mod FirstSections
 pub mod Scripts
 pub mod CostLemmas
+pub mod SpelledParts
+pub mod Stops
