@@ -15,4 +15,8 @@ pub mod FirstSections
 pub mod Scripts
 pub mod CostLemmas
 pub mod SpelledParts
+pub mod Findings
+pub mod FoundFronts
 pub mod Stops
+pub mod KindTexts
+pub mod StepStops

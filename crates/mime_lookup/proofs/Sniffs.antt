@@ -16,7 +16,7 @@ use Rattle.mime_lookup.specs.Sniffing.{FrontIsEnough, sniffed, sniffed_by_bytes,
 use Rattle.mime_lookup.specs.declared.order.Order.TheVariants.{MagicFirst}
 
 -- the type by the bytes alone
-by_bytes-front : (front rest : List ℕ) → 128 ≤ length front → sniffed_by_bytes (front ++ rest) ≡ sniffed_by_bytes front
+pub by_bytes-front : (front rest : List ℕ) → 128 ≤ length front → sniffed_by_bytes (front ++ rest) ≡ sniffed_by_bytes front
 by_bytes-front [] rest long = absurd (omega arith)
 by_bytes-front (byte ∷ front) rest long =
     ap (λ b. cond b (codes "text/plain") (codes "application/octet-stream")) (looks_textual-front (byte ∷ front) rest long)
@@ -42,7 +42,8 @@ before_globs-front : (b : PlainDatabase) (front rest : List ℕ) (host : Host) �
     before_globs b (Some front) host MagicFirst ≡ before_globs b (Some (front ++ rest)) host MagicFirst
 unfolding before_globs
 before_globs-front b front rest host (inl none) =
-    ap (λ content. of_high_priority b (first_magic b.sections content host)) (sym (append-nil front) ∙ ap (λ end. front ++ end) (sym none))
+    ap (λ content. of_high_priority b (first_magic b.sections content host))
+    (sym (append-nil front) ∙ ap (λ end. front ++ end) (sym none))
 before_globs-front b front rest host (inr long) =
     sym (ap (of_high_priority b) (first_magic-front front rest b.sections host long.1))
 
@@ -53,7 +54,7 @@ pub record IsRead (b : PlainDatabase) (whole front : List ℕ) : Type 0 where
   pub long : (rest ≡ []) ⊎ ((128 ≤ length front) × (extent b ≤ length front))
   pub size : length front ≡ min (length whole) (read_limit b)
 
-is_read : (b : PlainDatabase) (whole front : List ℕ) (after : Option (List ℕ)) → Consumes (Some whole) after front →
+pub is_read : (b : PlainDatabase) (whole front : List ℕ) (after : Option (List ℕ)) → Consumes (Some whole) after front →
     length front ≤ read_limit b → (length front < read_limit b → IsAtEnd after) → IsRead b whole front
 unfolding read_limit
 is_read b whole front None consumed limited ends = absurd consumed
@@ -67,8 +68,9 @@ is_read b whole front (Some rest) consumed limited ends =
     (cases_lt (length front) (max 128 (extent b)))
 
 -- what a reader gave is sniffed as its whole content, where that is known
-module _ (b : PlainDatabase) (host : Host) (known after : Option (List ℕ)) (front : List ℕ) (consumed : Consumes known after front)
-    (limited : length front ≤ read_limit b) (ends : length front < read_limit b → IsAtEnd after) where
+module _ (b : PlainDatabase) (host : Host) (known after : Option (List ℕ)) (front : List ℕ)
+    (consumed : Consumes known after front) (limited : length front ≤ read_limit b)
+    (ends : length front < read_limit b → IsAtEnd after) where
   pub sniffed-known : (kind : List ℕ) → kind ≡ sniffed b (Some front) host →
       IfSome (option_map (λ bytes. Some bytes) known) (λ content. kind ≡ sniffed b content host)
   sniffed-known kind is = by_cases known consumed

@@ -1,5 +1,5 @@
 -- What is found in a content, before its alias step.
-use Rattle.std.specs.Prelude.{ℕ, nat_le, if◌then◌else◌, Bool, false, List, Option, None, Some, codes}
+use Rattle.std.specs.Prelude.{ℕ, nat_le, Bool, false, List, Option, None, Some, codes}
 use Rattle.mime_base.specs.Database.{PlainDatabase}
 use Rattle.mime_base.specs.Database.Subclass.{resolved}
 use Rattle.mime_base.specs.Magic.Holds.{first_magic}

@@ -1,19 +1,22 @@
 //! What a content is sniffed as over a cache ("Recommended checking order").
 
-ghost use Rattle.std.specs.Prelude.{◌≡◌, ◌≢◌, ◌⊎◌, ℕ, ◌+◌, ◌*◌, ◌≤◌, List, Ok, max, length, IfErr, IfOk, IfSome, IsOk, IsOkAnd, None, OnOk};
-ghost use Rattle.std.specs.Prelude.{codes, false};
-ghost use Rattle.mime_base.specs.Cache.Texts.{text_at};
+ghost use Rattle.std.specs.Prelude.{◌≡◌, ◌⊎◌, ℕ, ◌+◌, ◌*◌, ◌≤◌, List, max, length, IfErr, IfOk, IfSome, IsOk, IsOkAnd, OnOk};
+ghost use Rattle.std.specs.Prelude.{None, Some, false};
+ghost use Rattle.mime_base.specs.Cache.Bytes.{Stands};
 ghost use Rattle.mime_base.specs.Database.{PlainDatabase};
+ghost use Rattle.mime_base.specs.Format.Header.{HeaderAt, Offsets};
 ghost use Rattle.mime_base.specs.Format.Packed.{matchlet_count, value_length};
+ghost use Rattle.mime_base.specs.Format.Pairs.{PairsAt};
 ghost use Rattle.mime_lookup.specs.Bounds.{stated_extent};
 ghost use Rattle.mime_lookup.specs.CheckingOrder.{front_size};
-ghost use Rattle.mime_lookup.specs.Content.{known_content, broken, OfReader};
+ghost use Rattle.mime_lookup.specs.Content.{known_content};
 ghost use Rattle.mime_lookup.specs.Costs.{Costs};
-ghost use Rattle.mime_lookup.specs.Finding.{found_in, is_high, resolved_finding};
-ghost use Rattle.mime_lookup.specs.Cached.{IsFinding, IsKind, IsStop, plain_finding};
+ghost use Rattle.mime_lookup.specs.Finding.{found_by, found_in, is_high, resolved_finding};
+ghost use Rattle.mime_lookup.specs.Cached.{IsFinding, IsKind, IsStop, IsTextOf, plain_finding};
 ghost use Rattle.mime_lookup.specs.Reads.{AsksUnless, Reads};
 ghost use Rattle.mime_lookup.specs.Spelling.{SpellsMagic};
 ghost use Rattle.mime_lookup.specs.StepFaults.{IsAliasFault, IsSniffFault};
+ghost use Rattle.mime_view.specs.Magic.{plain_found};
 
 use crate::content::Content;
 use crate::fixed::OCTET_STREAM;
@@ -54,7 +57,8 @@ pub fn resolve<'a>(
     budget: &mut Budget,
 ) -> Result<&'a [u8], CacheFault>
     requires finding { IsFinding cache.now finding }
-    ensures answer { (b : PlainDatabase) → SpellsMagic cache.now b → IsOkAnd result
+    ensures answer { (b : PlainDatabase) (offsets : Offsets) → HeaderAt (Stands cache.now) offsets →
+        PairsAt (Stands cache.now) offsets.aliases b.aliases → IsOkAnd result
         (λ kind. kind.now ≡ resolved_finding b.aliases (plain_finding finding.entry)) }
     ensures kind { IfOk result (λ kind. IsKind cache.now kind.now) }
     ensures fault { IfErr result (IsAliasFault cache.now) }
@@ -118,17 +122,37 @@ fn sniff_reader<'a, R: Content>(
     budget: &mut Budget,
 ) -> Result<Finding<'a>, Cause>
     requires none { read.old ≡ 0 }
+    ensures found { (b : PlainDatabase) → SpellsMagic cache.now b → IfOk result
+        (λ finding. IfSome (known_content R.remaining (Some reader.old))
+        (λ known. plain_finding finding ≡ found_in b known host)) }
+    ensures finding { IfOk result (IsFinding cache.now) }
+    ensures read { (b : PlainDatabase) → SpellsMagic cache.now b → OnOk result
+        (IfSome (known_content R.remaining (Some reader.old)) (λ known. read.new ≡ front_size b known)) }
+    ensures need { (b : PlainDatabase) → SpellsMagic cache.now b →
+        length b.sections + matchlet_count b.sections ≤ budget.old.records →
+        value_length b.sections ≤ budget.old.value_bytes →
+        IfErr result (λ cause. (cause ≡ Cause.Read) ⊎ (cause ≡ Cause.OutOfMemory)) }
+    ensures fault { IfErr result (IsStop (IsSniffFault cache.now budget.new)) }
+    ensures reader { Reads R.remaining R.tally R.health (max 128 (stated_extent cache.now))
+        (Some reader.old) (Some reader.new) read.new result }
+    ensures asks { AsksUnless R.health false (Some reader.old) (Some reader.new) result }
+    ensures takes_at_most { (b : PlainDatabase) → SpellsMagic cache.now b → budget.old.records
+        ≤ budget.new.records + (length b.sections + matchlet_count b.sections) }
+    ensures cost { (each : ℕ) → 256 ≤ each → Costs each (read.new + 1) 2 budget.old budget.new meter.old meter.new }
 {
     let extent = cache.extent(meter, budget)?;
     let limit = SHORTEST_FRONT.max(extent) as usize;
     let front = read_front(alloc, reader, limit, read)?;
-    let found = cache.sniff(&front, host, meter, budget)?;
-    Ok(finding_of(found, &front))
+    let section = cache.sniff(&front, host, meter, budget)?;
+    Ok(finding_of(section, &front))
 }
 
 // What the first section that holds makes of a content, or its bytes alone.
-fn finding_of<'a>(found: Option<(&'a [u8], u32)>, content: &[u8]) -> Finding<'a> {
-    match found {
+fn finding_of<'a>(section: Option<(&'a [u8], u32)>, content: &[u8]) -> Finding<'a>
+    ensures found { plain_finding result ≡ found_by (plain_found section.entry) content.now }
+    ensures finding { (c : List ℕ) → IfSome section.entry (λ pair. IsTextOf c pair.0.now) → IsFinding c result }
+{
+    match section {
         Some((kind, priority)) => Finding::Magic(kind, priority),
         None => Finding::Fixed(by_bytes(content)),
     }

@@ -1,0 +1,5 @@
+use Rattle.mime_lookup.proofs.cached.sniff.resolve.Goals as goal
+
+pub returns-in-Magic-clause-answer : goal.returns-in-Magic-clause-answer
+returns-in-Magic-clause-answer c b offsets header aliases =
+    rw c.in-Magic.is (c.unalias.ensures.answer offsets b.aliases header aliases)
