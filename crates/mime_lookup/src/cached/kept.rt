@@ -5,7 +5,6 @@ ghost use Rattle.mime_base.specs.Cache.Texts.{text_at};
 ghost use Rattle.mime_base.specs.Database.{PlainDatabase, pairs_of};
 ghost use Rattle.mime_base.specs.Format.Stored.{glob_rules, literal_rules};
 ghost use Rattle.mime_base.specs.Format.SuffixTree.{tree_size};
-ghost use Rattle.mime_base.specs.Meter.{raised};
 ghost use Rattle.mime_view.specs.Hits.{near};
 ghost use Rattle.mime_lookup.specs.Ancestry.{texts};
 ghost use Rattle.mime_lookup.specs.Choice.{kept};
@@ -50,8 +49,6 @@ pub fn kept_kinds<'a>(
         (λ _. Costs (record_cost (length name.now)) value (glob_cost (length name.now))
             budget.old budget.new meter.old meter.new) }
     ensures rises { meter.old.nodes ≤ meter.new.nodes }
-    ensures fair { raised meter.old.nodes budget.old.records ≤ meter.new.nodes + budget.new.records }
-    ensures bytes_rise { meter.old.bytes ≤ meter.new.bytes }
 {
     let hits = cache.glob_hits(alloc, name, meter, budget)?;
     let mut kinds = Vec::new(alloc);
