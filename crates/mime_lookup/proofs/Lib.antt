@@ -20,3 +20,6 @@ pub mod FoundFronts
 pub mod Stops
 pub mod KindTexts
 pub mod StepStops
+pub mod KeptTypes
+pub mod Openings
+pub mod MediaTypes

@@ -15,20 +15,28 @@ abbrev pub or_else : Option (List ℕ) → List ℕ → List ℕ
 or_else None other = other
 or_else (Some name) other = name
 
--- a type with a hyphen (45) for each slash (47)
-abbrev pub with_hyphens : List ℕ → List ℕ
-with_hyphens kind = map (λ b. if b == 47 then 45 else b) kind
+-- a hyphen (45) for a slash (47), and any other byte for itself
+abbrev pub hyphen_for_slash : ℕ → ℕ
+hyphen_for_slash b = if b == 47 then 45 else b
 
--- the bytes before the first slash (47), all without one
+-- a type with a hyphen for each slash
+abbrev pub with_hyphens : List ℕ → List ℕ
+with_hyphens kind = map hyphen_for_slash kind
+
+-- the bytes before the first slash, all without one
 abbrev pub before_slash : List ℕ → List ℕ
 before_slash [] = []
 before_slash (b ∷ bytes) = if b == 47 then [] else b ∷ before_slash bytes
+
+-- the generic icon of a type by what stands before its first slash
+abbrev pub generic_of_media : List ℕ → List ℕ
+generic_of_media kind = before_slash kind ++ codes "-x-generic"
 
 -- the icons of a type that was resolved
 abbrev pub icons_by : PlainDatabase → List ℕ → PlainIcons
 icons_by b kind = record {
   icon = or_else (looked_up b.icons kind) (with_hyphens kind);
-  generic = or_else (looked_up b.generic_icons kind) (before_slash kind ++ codes "-x-generic");
+  generic = or_else (looked_up b.generic_icons kind) (generic_of_media kind);
 }
 
 -- the icons of a type, after one alias step

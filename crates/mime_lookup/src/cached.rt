@@ -29,9 +29,6 @@ mod kept;
 mod sniff;
 mod subclass;
 
-pub use icons::{Icons, icon_of};
-pub use subclass::is_a;
-
 use crate::answer::Answer;
 use crate::cached::ancestry::first_of;
 use crate::cached::kept::kept_kinds;
@@ -40,9 +37,11 @@ use crate::content::Content;
 use crate::limits::LONGEST_NAME;
 use crate::order::Order;
 use crate::stopped::{Cause, Stopped};
+pub use icons::{Icons, icon_of};
 use mime_base::{Counted, Host, Meter, same_name};
 use mime_view::{Budget, Cache, CacheFault};
 use std::alloc::Global;
+pub use subclass::is_a;
 
 /// The type that the checking order gives to a name and a content, by a cache ("Recommended checking order").
 ///
@@ -108,8 +107,8 @@ pub fn look_up<'a, R: Content>(
     ensures near { (b : PlainDatabase) → SpellsGlobs cache.entry b → length cache.entry ≤ 268435456
         → GlobsDecide b name.now order (content.old ≡ None) → MatchResult result
         (λ answer. IfSome (known_content R.remaining content.old)
-            (λ known. Chooses b name.now known host order answer.kind.now)
-            × (answer.meter.nodes ≤ near_max (length name.now) (near name.now b.rules)))
+        (λ known. Chooses b name.now known host order answer.kind.now)
+        × (answer.meter.nodes ≤ near_max (length name.now) (near name.now b.rules)))
         (λ stopped. Packed cache.entry b → length name.now ≤ 4096 → stopped.cause ≡ Cause.OutOfMemory) }
 {
     let mut read = 0;
@@ -143,10 +142,24 @@ fn open_and_find<'a, R: Content>(
     let mut budget = Budget::of(&cache);
     match order {
         Order::GlobsFirst => globs_first(
-            alloc, &cache, name, content, host, read, meter, &mut budget,
+            alloc,
+            &cache,
+            name,
+            content,
+            host,
+            read,
+            meter,
+            &mut budget,
         ),
         Order::MagicFirst => magic_first(
-            alloc, &cache, name, content, host, read, meter, &mut budget,
+            alloc,
+            &cache,
+            name,
+            content,
+            host,
+            read,
+            meter,
+            &mut budget,
         ),
     }
 }

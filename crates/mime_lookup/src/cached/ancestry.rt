@@ -127,8 +127,7 @@ fn push_resolved<'a>(
     queue: &mut VecDeque<&'a [u8]>,
     meter: &mut Meter,
     budget: &mut Budget,
-) -> Result<(), CacheFault>
-{
+) -> Result<(), CacheFault> {
     for kind in kinds {
         queue.push_back(cache.unalias(*kind, meter, budget)?)?;
     }

@@ -1,9 +1,10 @@
 //! The icons of a type, by a cache ("The mime.cache files").
 
-ghost use Rattle.std.specs.Prelude.{◌≡◌, ◌≢◌, ◌⊎◌, ℕ, ◌≤◌, length, IfErr, IfOk, MatchResult};
+ghost use Rattle.std.specs.Prelude.{◌≡◌, ◌≢◌, ◌⊎◌, ℕ, ◌+◌, ◌*◌, ◌<◌, ◌≤◌, ◌==◌, length, map, option_map, position};
+ghost use Rattle.std.specs.Prelude.{IfErr, IfOk, IfSome, MatchResult};
 ghost use Rattle.mime_base.specs.Database.{PlainDatabase};
 ghost use Rattle.mime_lookup.specs.Bounds.{KeepsBounds};
-ghost use Rattle.mime_lookup.specs.Icons.{icons_of, plain_icons_of};
+ghost use Rattle.mime_lookup.specs.Icons.{before_slash, generic_of_media, hyphen_for_slash, icons_of, or_else, plain_icons_of, with_hyphens};
 ghost use Rattle.mime_lookup.specs.Spelling.{SpellsIcons};
 ghost use Rattle.mime_lookup.specs.StepFaults.{IsIconFault};
 
@@ -41,7 +42,11 @@ pub fn icon_of<'a>(alloc: Global, cache: Counted<'a>, kind: &'a TypeName) -> Res
 {
     let mut meter = Meter::new();
     match find_icons(alloc, cache, kind.bytes(), &mut meter) {
-        Ok((icon, generic)) => Ok(Icons { icon, generic, meter }),
+        Ok((icon, generic)) => Ok(Icons {
+            icon,
+            generic,
+            meter,
+        }),
         Err(fault) => Err(Stopped {
             cause: Cause::from(fault),
             read: 0,
@@ -57,39 +62,85 @@ fn find_icons<'a>(
     kind: &'a [u8],
     meter: &mut Meter,
 ) -> Result<(Vec<u8>, Vec<u8>), CacheFault>
+    ensures answer { (b : PlainDatabase) → SpellsIcons cache.entry b → IfOk result
+        (λ icons. record { icon = icons.0.items; generic = icons.1.items } ≡ icons_of b kind.entry.now) }
+    ensures need { (b : PlainDatabase) → SpellsIcons cache.entry b → length cache.entry ≤ 268435456 →
+        IfErr result (λ e. e ≡ CacheFault.OutOfMemory) }
+    ensures fault { IfErr result (λ e. (e ≡ CacheFault.OutOfMemory) ⊎ IsIconFault cache.entry e) }
+    ensures nodes { meter.new.nodes ≤ meter.old.nodes + 88 }
+    ensures bytes { meter.new.bytes ≤ meter.old.bytes + 256 * 87 }
 {
     let cache = Cache::open(cache, meter)?;
     let mut budget = Budget::of(&cache);
     let kind = cache.unalias(kind, meter, &mut budget)?;
     let icon = cache.icon(kind, meter, &mut budget)?;
     let generic = cache.generic_icon(kind, meter, &mut budget)?;
-    Ok((
-        icon_or_hyphens(alloc, icon, kind)?,
-        generic_or_media(alloc, generic, kind)?,
-    ))
+    let icon = icon_or_hyphens(alloc, icon, kind)?;
+    let generic = generic_or_media(alloc, generic, kind)?;
+    Ok((icon, generic))
 }
 
 // The icon's name, else the type with a hyphen for each slash.
-fn icon_or_hyphens(alloc: Global, icon: Option<&[u8]>, kind: &[u8]) -> Result<Vec<u8>, OutOfMemory> {
-    if let Some(name) = icon {
-        return Ok(Vec::from_slice(alloc, name)?);
+fn icon_or_hyphens(alloc: Global, icon: Option<&[u8]>, kind: &[u8]) -> Result<Vec<u8>, OutOfMemory>
+    ensures { IfOk result (λ name. name.items ≡ or_else (option_map (λ text. text.now) icon.entry) (with_hyphens kind.now)) }
+{
+    match icon {
+        Some(name) => Ok(Vec::from_slice(alloc, name)?),
+        None => with_hyphens(alloc, kind),
     }
-    let mut name = Vec::from_slice(alloc, kind)?;
-    for byte in &mut name {
-        if *byte == b'/' {
-            *byte = b'-';
-        }
+}
+
+// The type with a hyphen for each slash.
+fn with_hyphens(alloc: Global, kind: &[u8]) -> Result<Vec<u8>, OutOfMemory>
+    ensures { IfOk result (λ name. name.items ≡ with_hyphens kind.now) }
+{
+    let mut name = Vec::with_capacity(alloc, kind.len())?;
+    for byte in kind {
+        name.push(hyphen_for_slash(*byte))?;
     }
     Ok(name)
 }
 
+// A hyphen for a slash, and any other byte for itself.
+fn hyphen_for_slash(byte: u8) -> u8
+    ensures { result ≡ hyphen_for_slash byte }
+{
+    if byte == b'/' { b'-' } else { byte }
+}
+
 // The generic icon's name, else what stands before the type's first slash, and `-x-generic`.
-fn generic_or_media(alloc: Global, icon: Option<&[u8]>, kind: &[u8]) -> Result<Vec<u8>, OutOfMemory> {
-    if let Some(name) = icon {
-        return Ok(Vec::from_slice(alloc, name)?);
+fn generic_or_media(alloc: Global, icon: Option<&[u8]>, kind: &[u8]) -> Result<Vec<u8>, OutOfMemory>
+    ensures { IfOk result (λ name. name.items ≡ or_else (option_map (λ text. text.now) icon.entry) (generic_of_media kind.now)) }
+{
+    match icon {
+        Some(name) => Ok(Vec::from_slice(alloc, name)?),
+        None => generic_of_media(alloc, kind),
     }
-    let slash = kind.iter().position(|byte| *byte == b'/').unwrap_or(kind.len());
-    let mut name = Vec::from_slice(alloc, &kind[..slash])?;
+}
+
+// What stands before the type's first slash, and `-x-generic`.
+fn generic_of_media(alloc: Global, kind: &[u8]) -> Result<Vec<u8>, OutOfMemory>
+    ensures { IfOk result (λ name. name.items ≡ generic_of_media kind.now) }
+{
+    let mut name = Vec::from_slice(alloc, before_slash(kind))?;
     name.extend_from_slice(b"-x-generic")?;
     Ok(name)
+}
+
+// What stands before the first slash, all without one.
+fn before_slash(kind: &[u8]) -> &[u8]
+    ensures { result.now ≡ before_slash kind.now }
+{
+    match first_slash(kind) {
+        Some(slash) => &kind[..slash],
+        None => kind,
+    }
+}
+
+// The place of the first slash.
+fn first_slash(kind: &[u8]) -> Option<usize>
+    ensures place { result ≡ position (λ b. b == 47) kind.now }
+    ensures within { IfSome result (λ slash. slash < length kind.now) }
+{
+    kind.iter().position(|byte| *byte == b'/')
 }

@@ -5,6 +5,7 @@ ghost use Rattle.mime_base.specs.Cache.Texts.{text_at};
 ghost use Rattle.mime_base.specs.Database.{PlainDatabase, pairs_of};
 ghost use Rattle.mime_base.specs.Format.Stored.{glob_rules, literal_rules};
 ghost use Rattle.mime_base.specs.Format.SuffixTree.{tree_size};
+ghost use Rattle.mime_base.specs.Meter.{raised};
 ghost use Rattle.mime_view.specs.Hits.{near};
 ghost use Rattle.mime_lookup.specs.Ancestry.{texts};
 ghost use Rattle.mime_lookup.specs.Choice.{kept};
@@ -40,15 +41,17 @@ pub fn kept_kinds<'a>(
     ensures value_bytes { budget.new.value_bytes ≡ budget.old.value_bytes }
     ensures nodes { MatchResult result
         (λ kinds. meter.new.nodes + budget.new.records
-            ≤ meter.old.nodes + budget.old.records + glob_cost (length name.now) + 29 * length kinds.items)
+        ≤ meter.old.nodes + budget.old.records + glob_cost (length name.now) + 29 * length kinds.items)
         (λ _. meter.new.nodes + budget.new.records
-            ≤ meter.old.nodes + budget.old.records + glob_cost (length name.now) + 29 * budget.old.records) }
+        ≤ meter.old.nodes + budget.old.records + glob_cost (length name.now) + 29 * budget.old.records) }
     ensures cost { (value : ℕ) → MatchResult result
         (λ kinds. Costs (record_cost (length name.now)) value (glob_cost (length name.now))
-            budget.old budget.new meter.old (ahead (length kinds.items) meter.new))
+        budget.old budget.new meter.old (ahead (length kinds.items) meter.new))
         (λ _. Costs (record_cost (length name.now)) value (glob_cost (length name.now))
-            budget.old budget.new meter.old meter.new) }
+        budget.old budget.new meter.old meter.new) }
     ensures rises { meter.old.nodes ≤ meter.new.nodes }
+    ensures fair { raised meter.old.nodes budget.old.records ≤ meter.new.nodes + budget.new.records }
+    ensures bytes_rise { meter.old.bytes ≤ meter.new.bytes }
 {
     let hits = cache.glob_hits(alloc, name, meter, budget)?;
     let mut kinds = Vec::new(alloc);
