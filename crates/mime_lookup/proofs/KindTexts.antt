@@ -1,5 +1,5 @@
 -- The types that a lookup over a cache answers: texts of the cache, or fixed ones.
-use Rattle.std.proofs.Common.{◌≡◌, ◌×◌, ◌⊎◌, ℕ, ◌<◌, true, inl, inr, List, [], ◌∷◌, Ok, length, get_or, arith, refl}
+use Rattle.std.proofs.Common.{◌≡◌, ◌⊎◌, ℕ, zero, suc, ◌<◌, true, inl, inr, List, [], ◌∷◌, length, get_or, arith}
 use Rattle.std.specs.Prelude.{All, Contains}
 use Rattle.std.proofs.lemmas.List.Elements.{All-contains}
 use Rattle.mime_base.proofs.CacheLemmas.TextsStand.{text_at-read}
