@@ -1,8 +1,8 @@
-use Rattle.std.proofs.Common.{◌≡◌, ◌∙◌, ◌+◌, ◌*◌, ◌<◌, ◌≤◌, ℕ, true, false, List, All, length, ap, sym, subst, arith, refl}
+use Rattle.std.proofs.Common.{◌≡◌, ◌∙◌, ◌+◌, ◌*◌, ◌<◌, ◌≤◌, ℕ, true, false, List, length, inr, ap, sym, subst, arith, refl}
 use denote.Bor.{Bor}
 use Rattle.mime_base.specs.Database.{PlainDatabase, pairs_of}
 use Rattle.mime_lookup.specs.Ancestry.{texts}
-use Rattle.mime_lookup.specs.Cached.{IsTextOf, plain_finding}
+use Rattle.mime_lookup.specs.Cached.{cause_of, plain_finding}
 use Rattle.mime_lookup.specs.CheckingOrder.{are_one_type}
 use Rattle.mime_lookup.specs.Choice.{ChoosesAmong}
 use Rattle.mime_lookup.specs.Costs.{glob_cost, record_cost}
@@ -92,3 +92,92 @@ returns-in_err-finding-clause-asks g c b within spells =
     (suffice b c.args.name.now c.args.host GlobsFirst refl kinds
     (c.in_ok-kept.ensures.answer b (spelled_globs c.args.cache.now b within spells)) false conflict)
     c.from_residual-in_err-finding.ensures.1 c.in_err-finding.ensures.asks
+
+pub returns-in_err-finding-clause-cost : goal.returns-in_err-finding-clause-cost
+returns-in_err-finding-clause-cost g c =
+    let cost = glob_cost (length c.args.name.now) in
+    let each = record_cost (length c.args.name.now) in
+    let value = c.sniff_content.new.read + 1 in
+    let kinds = length c.in_ok-kept.kept.items in
+    let kept = c.in_ok-kept.ensures in
+    let short = texts_short c.args.cache.now (texts c.in_ok-kept.kept.items) kept.text in
+    let tested = c.are_one_type.ensures in
+    costs_wider each each value value (cost + 2) (cost + 31) c.args.budget.now c.sniff_content.new.budget c.args.meter.now
+    c.sniff_content.new.meter (omega arith) (omega arith) (omega arith)
+    (costs_then each value cost 2 c.args.budget.now c.kept_kinds.new.budget c.sniff_content.new.budget c.args.meter.now
+    c.are_one_type.new.meter c.sniff_content.new.meter
+    (costs_tested each value cost 0 kinds c.args.budget.now c.kept_kinds.new.budget c.kept_kinds.new.budget c.kept_kinds.new.budget
+    c.args.meter.now c.kept_kinds.new.meter c.are_one_type.new.meter c.are_one_type.new.meter c.are_one_type.new.meter
+    (kept.cost value) kept.rises kept.fair kept.bytes_rise tested.nodes tested.rises
+    ((rw c.deref.ensures.value at tested.bytes) short))
+    (c.in_err-finding.ensures.cost each (omega arith)))
+
+pub returns-in_err-kind-clause-fault : goal.returns-in_err-kind-clause-fault
+returns-in_err-kind-clause-fault g c =
+    stops_by (IsLookUpFault c.args.cache.now) c.in_err-kind.field-0.0 c.from_residual-in_err-kind.result
+    c.from_residual-in_err-kind.ensures.1
+    (choice_fault c.args.cache.now c.choose.new.budget c.in_err-kind.field-0.0 c.in_err-kind.ensures.fault)
+
+pub returns-in_err-kind-clause-answers : goal.returns-in_err-kind-clause-answers
+returns-in_err-kind-clause-answers g c b within spells affords =
+    let magic = spelled_magic c.args.cache.now b within spells in
+    let enough : length b.parents ≤ c.sniff_content.new.budget.records =
+    omega (arith, affords.records, c.in_ok-kept.ensures.takes_within b (spelled_globs c.args.cache.now b within spells),
+    c.in_ok-finding.ensures.takes_at_most b magic) in
+    passed_on _ (cause_of c.in_err-kind.field-0.0) c.from_residual-in_err-kind.result c.from_residual-in_err-kind.ensures.1
+    (inr (ap cause_of (c.in_err-kind.ensures.need b magic (spelled_pairs c.args.cache.now b spells) enough)))
+
+pub returns-in_err-kind-clause-cost : goal.returns-in_err-kind-clause-cost
+returns-in_err-kind-clause-cost g c =
+    let cost = glob_cost (length c.args.name.now) in
+    let each = record_cost (length c.args.name.now) in
+    let value = c.sniff_content.new.read + 1 in
+    let kinds = length c.in_ok-kept.kept.items in
+    let kept = c.in_ok-kept.ensures in
+    let short = texts_short c.args.cache.now (texts c.in_ok-kept.kept.items) kept.text in
+    let tested = c.are_one_type.ensures in
+    costs_chosen each value cost 2 kinds c.args.budget.now c.kept_kinds.new.budget c.sniff_content.new.budget c.choose.new.budget
+    c.args.meter.now c.kept_kinds.new.meter c.are_one_type.new.meter c.sniff_content.new.meter c.choose.new.meter
+    (kept.cost value) kept.rises kept.fair kept.bytes_rise tested.nodes tested.rises
+    ((rw c.deref.ensures.value at tested.bytes) short) (c.in_ok-finding.ensures.cost each (omega arith))
+    (rw c.deref-2.ensures.value at (c.in_err-kind.ensures.cost each value (omega arith)))
+
+pub returns-clause-chosen : goal.returns-clause-chosen
+returns-clause-chosen g c b within spells =
+    let kinds = texts c.in_ok-kept.kept.items in
+    let kind = c.in_ok-kind.kind.now in
+    let magic = spelled_magic c.args.cache.now b within spells in
+    let found = plain_finding c.in_ok-finding.finding in
+    let chosen : ChoosesAmong (pairs_of b) kinds (resolved_finding b.aliases found) kind =
+    rw c.deref-2.ensures.value at (c.in_ok-kind.ensures.answer b magic (spelled_pairs c.args.cache.now b spells)) in
+    by_globs_and_content b c.args.name.now c.args.host GlobsFirst refl kinds
+    (c.in_ok-kept.ensures.answer b (spelled_globs c.args.cache.now b within spells)) _ (resolved_finding b.aliases found) kind
+    (sniffed-where b c.args.host found _ (c.in_ok-finding.ensures.found b magic)) chosen
+
+pub returns-clause-read : goal.returns-clause-read
+returns-clause-read g c b within spells =
+    let kinds = texts c.in_ok-kept.kept.items in
+    let conflict : are_one_type kinds ≡ false = rw c.deref.ensures.value at (sym c.are_one_type.ensures.answer ∙ c.if-are_one_type.false) in
+    read_front b c.args.name.now c.args.host GlobsFirst refl kinds
+    (c.in_ok-kept.ensures.answer b (spelled_globs c.args.cache.now b within spells)) _ _ conflict
+    (c.in_ok-finding.ensures.read b (spelled_magic c.args.cache.now b within spells))
+
+pub returns-clause-kind : goal.returns-clause-kind
+returns-clause-kind g c =
+    chosen_kind c.args.cache.now c.in_ok-kind.kind.now (texts c.in_ok-kept.kept.items) c.in_ok-kept.ensures.text
+    (rw c.deref-2.ensures.value at c.in_ok-kind.ensures.one)
+
+pub returns-clause-cost : goal.returns-clause-cost
+returns-clause-cost g c =
+    let cost = glob_cost (length c.args.name.now) in
+    let each = record_cost (length c.args.name.now) in
+    let value = c.sniff_content.new.read + 1 in
+    let kinds = length c.in_ok-kept.kept.items in
+    let kept = c.in_ok-kept.ensures in
+    let short = texts_short c.args.cache.now (texts c.in_ok-kept.kept.items) kept.text in
+    let tested = c.are_one_type.ensures in
+    costs_chosen each value cost 2 kinds c.args.budget.now c.kept_kinds.new.budget c.sniff_content.new.budget c.choose.new.budget
+    c.args.meter.now c.kept_kinds.new.meter c.are_one_type.new.meter c.sniff_content.new.meter c.choose.new.meter
+    (kept.cost value) kept.rises kept.fair kept.bytes_rise tested.nodes tested.rises
+    ((rw c.deref.ensures.value at tested.bytes) short) (c.in_ok-finding.ensures.cost each (omega arith))
+    (rw c.deref-2.ensures.value at (c.in_ok-kind.ensures.cost each value (omega arith)))
