@@ -13,3 +13,7 @@ pub mod Sniffs
 pub mod Answering
 pub mod FirstSections
 pub mod Scripts
+pub mod PlaceMarks
+pub mod ParentSteps
+pub mod PairsLeft
+pub mod Queues

@@ -13,3 +13,4 @@ pub mod StepFaults
 pub mod Finding
 pub mod Cached
 pub mod Icons
+pub mod Searching

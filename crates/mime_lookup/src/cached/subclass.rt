@@ -56,8 +56,7 @@ fn search<'a>(
     kind: &'a [u8],
     base: &'a [u8],
     meter: &mut Meter,
-) -> Result<bool, CacheFault>
-{
+) -> Result<bool, CacheFault> {
     let cache = Cache::open(cache, meter)?;
     let mut budget = Budget::of(&cache);
     let kind = cache.unalias(kind, meter, &mut budget)?;
