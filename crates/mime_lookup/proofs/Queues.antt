@@ -1,6 +1,6 @@
 -- A queue of types that grows, and candidates that are passed over.
 use Rattle.std.proofs.Common.{◌≡◌, ℕ, ◌+◌, ◌<◌, List, [], ◌∷◌, ◌++◌, length, map, get_or, take, drop, drop-cons, add-one}
-use Rattle.std.proofs.Common.{sym, ap, subst, inr, ◌∙◌, append_assoc}
+use Rattle.std.proofs.Common.{refl, sym, ap, subst, inr, arith, ◌∙◌, append_assoc}
 use Rattle.std.proofs.lemmas.List.{map-append, take_more}
 use Rattle.std.specs.Borrow.{Bor}
 use Rattle.mime_base.specs.Database.Subclass.{Pairs, IsA}
@@ -24,6 +24,11 @@ queued-more step kinds before queue after i one d within is grown so_far =
     ∙ ap (λ q. q ++ one.now ∷ []) so_far
     ∙ append_assoc (texts before) done (one.now ∷ [])
     ∙ ap (λ more. texts before ++ more) (sym last)
+
+-- a queue that stays the same without its first type has none
+pub none_queued : (queue after : List (Bor (List ℕ))) → queue ≡ after → after ≡ drop 1 queue → queue ≡ []
+none_queued [] after same rest = refl
+none_queued (first ∷ queue) after same rest = absurd (omega (arith, ap length (same ∙ rest)))
 
 -- a type that is no subclass of the base is passed over
 pub passed_over : (pairs : Pairs) (base default : List ℕ) (kinds : List (Bor (List ℕ))) (i : ℕ) (d : Bor (List ℕ)) → i < length kinds

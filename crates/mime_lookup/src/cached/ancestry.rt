@@ -10,6 +10,7 @@ ghost use Rattle.std.specs.VecDeque.{deque_len};
 ghost use Rattle.mime_base.specs.Cache.Bytes.{field};
 ghost use Rattle.mime_base.specs.Database.{PlainDatabase, pairs_of};
 ghost use Rattle.mime_base.specs.Database.Subclass.{IsA, resolved};
+ghost use Rattle.mime_base.specs.Meter.{raised};
 ghost use Rattle.mime_view.specs.Parents.{is_marked};
 ghost use Rattle.mime_lookup.specs.Ancestry.{Expanded, NoneLeadsTo, texts, unmarked};
 ghost use Rattle.mime_lookup.specs.Choice.{IsFirst};
@@ -115,7 +116,13 @@ fn expand<'a>(
     ensures fault { IfErr result (IsSearchFault cache.now budget.new) }
     ensures falls { OnOk result (deque_len queue.new + budget.new.records ≡ deque_len queue.old + budget.old.records) }
     ensures value_bytes { budget.new.value_bytes ≡ budget.old.value_bytes }
-    ensures cost { Costs search_cost 0 29 budget.old budget.new meter.old meter.new }
+    ensures records { budget.new.records ≤ budget.old.records }
+    ensures rises { meter.old.nodes ≤ meter.new.nodes }
+    ensures fair { raised meter.old.nodes budget.old.records ≤ meter.new.nodes + budget.new.records }
+    ensures bytes_rise { meter.old.bytes ≤ meter.new.bytes }
+    ensures nodes { meter.new.nodes + 59 * budget.new.records ≤ meter.old.nodes + 59 * budget.old.records + 29 }
+    ensures bytes { meter.new.bytes + search_cost * budget.new.records
+        ≤ meter.old.bytes + search_cost * budget.old.records + 6912 }
     ensures nodes_ahead { OnOk result (meter.new.nodes + 59 * budget.new.records + 29 * deque_len queue.new
         ≤ meter.old.nodes + 59 * budget.old.records + 29 * deque_len queue.old + 29) }
     ensures bytes_ahead { OnOk result (meter.new.bytes + search_cost * budget.new.records + 7424 * deque_len queue.new

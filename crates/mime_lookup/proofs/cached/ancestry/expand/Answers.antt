@@ -1,12 +1,10 @@
-use Rattle.std.proofs.Common.{◌≡◌, ◌+◌, ◌≤◌, List, ℕ, length, map, sym, ap, ◌∙◌, append-nil, [], arith}
-use Rattle.std.proofs.lemmas.List.{length-map}
+use Rattle.std.proofs.Common.{sym, ap, append-nil, [], arith}
 use Rattle.std.proofs.lemmas.Result.{err_from_is_err_and, on_ok_weaker}
-use Rattle.std.specs.Borrow.{Bor}
 use Rattle.mime_base.specs.Cache.Bytes.{field}
 use Rattle.mime_base.specs.Database.{pairs_of}
 use Rattle.mime_view.specs.Parents.{is_marked}
 use Rattle.mime_view.specs.declared.budget.Budget.{Budget}
-use Rattle.mime_lookup.specs.Ancestry.{texts, unmarked}
+use Rattle.mime_lookup.specs.Ancestry.{texts}
 use Rattle.mime_lookup.proofs.PairsLeft.{asked_falls, due_left}
 use Rattle.mime_lookup.proofs.ParentSteps.{asked, came, expanded_by}
 use Rattle.mime_lookup.proofs.cached.ancestry.expand.Goals as goal
