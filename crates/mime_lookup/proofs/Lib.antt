@@ -17,3 +17,5 @@ pub mod PlaceMarks
 pub mod ParentSteps
 pub mod PairsLeft
 pub mod Queues
+pub mod CostLemmas
+pub mod SearchCosts

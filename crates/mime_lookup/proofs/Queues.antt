@@ -1,7 +1,9 @@
 -- A queue of types that grows, and candidates that are passed over.
 use Rattle.std.proofs.Common.{◌≡◌, ℕ, ◌+◌, ◌<◌, List, [], ◌∷◌, ◌++◌, length, map, get_or, take, drop, drop-cons, add-one}
 use Rattle.std.proofs.Common.{refl, sym, ap, subst, inr, arith, ◌∙◌, append_assoc}
-use Rattle.std.proofs.lemmas.List.{map-append, take_more}
+use Rattle.std.proofs.lemmas.List.{get_or-map, length-map, map-append, take_more}
+use Rattle.std.proofs.lemmas.List.Elements.{Contains-append_right, Contains-get_or}
+use Rattle.std.specs.Prelude.{Contains}
 use Rattle.std.specs.Borrow.{Bor}
 use Rattle.mime_base.specs.Database.Subclass.{Pairs, IsA}
 use Rattle.mime_lookup.specs.Ancestry.{texts}
@@ -37,3 +39,12 @@ pub passed_over : (pairs : Pairs) (base default : List ℕ) (kinds : List (Bor (
 passed_over pairs base default kinds i d within never answer rest =
     subst (λ (ks : List (Bor (List ℕ))). IsFirst pairs base default (texts ks) answer) (sym (drop-cons kinds i d within))
     (inr (never, rw add-one at rest))
+
+-- a candidate is one of the default and the candidates
+pub candidate : (default : List ℕ) (kinds : List (Bor (List ℕ))) (i : ℕ) (d : Bor (List ℕ)) → i < length kinds
+    → Contains (default ∷ texts kinds) (get_or kinds i d).now
+candidate default kinds i d within =
+    let now : Bor (List ℕ) → List ℕ = λ kind. kind.now in
+    Contains-append_right (default ∷ []) (texts kinds) (get_or kinds i d).now
+    (subst (λ (kind : List ℕ). Contains (texts kinds) kind) (get_or-map now kinds i d [] within)
+    (Contains-get_or (texts kinds) i [] (omega (arith, within, length-map kinds now))))

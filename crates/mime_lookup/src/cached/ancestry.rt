@@ -79,7 +79,6 @@ pub fn leads_to<'a>(
         (unmarked b.parents (is_marked cache.now (field cache.now 0 2) marks.new) + budget.old.records
         ≤ unmarked b.parents (is_marked cache.now (field cache.now 0 2) marks.old) + budget.new.records) }
     ensures fault { IfErr result (IsSearchFault cache.now budget.new) }
-    ensures value_bytes { budget.new.value_bytes ≡ budget.old.value_bytes }
     ensures cost { Costs search_cost 0 29 budget.old budget.new meter.old meter.new }
 {
     let mut queue = VecDeque::new(alloc);

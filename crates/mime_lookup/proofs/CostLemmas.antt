@@ -1,0 +1,138 @@
+-- What a step of a lookup over a cache costs, put together from what its parts cost.
+use Rattle.std.proofs.Common.{◌≡◌, ℕ, ◌+◌, ◌-◌, ◌*◌, ◌≤◌, refl, arith, ap}
+use Rattle.std.proofs.Math.Nat.{mul-le-mul_left}
+use Rattle.mime_base.specs.Meter.{raised}
+use Rattle.mime_base.specs.declared.meter.Meter.{Meter}
+use Rattle.mime_view.specs.Hits.{Charged}
+use Rattle.mime_view.specs.Magic.{Paid}
+use Rattle.mime_view.specs.declared.budget.Budget.{Budget}
+use Rattle.mime_lookup.specs.Costs.{Costs, ahead}
+
+-- so many nodes, each with at most 256 bytes, and nothing of the budget
+pub costs_nodes : (each value more : ℕ) (budget : Budget) (before after : Meter) → before.nodes ≤ after.nodes
+    → after.nodes ≤ before.nodes + more → before.bytes ≤ after.bytes → after.bytes ≤ before.bytes + 256 * more
+    → Costs each value more budget budget before after
+costs_nodes each value more budget before after rises nodes bytes_rise bytes = record {
+  records = omega arith;
+  value_bytes = omega arith;
+  rises = rises;
+  nodes = omega arith;
+  fair = omega arith;
+  bytes_rise = bytes_rise;
+  bytes = omega arith;
+}
+
+-- nothing costs nothing
+pub costs_none : (each value : ℕ) (budget : Budget) (meter : Meter) → Costs each value 0 budget budget meter meter
+costs_none each value budget meter =
+    costs_nodes each value 0 budget meter meter (omega arith) (omega arith) (omega arith) (omega arith)
+
+-- one part after another
+pub costs_then : (each value more later : ℕ) (old mid new : Budget) (before between after : Meter)
+    → Costs each value more old mid before between → Costs each value later mid new between after
+    → Costs each value (more + later) old new before after
+costs_then each value more later old mid new before between after first second = record {
+  records = omega arith;
+  value_bytes = omega arith;
+  rises = omega arith;
+  nodes = omega arith;
+  fair = omega arith;
+  bytes_rise = omega arith;
+  bytes = omega arith;
+}
+
+-- at most more bytes a record and a value byte, and at most more nodes besides
+pub costs_wider : (each wide value broad more later : ℕ) (old new : Budget) (before after : Meter) → each ≤ wide → value ≤ broad
+    → more ≤ later → Costs each value more old new before after → Costs wide broad later old new before after
+costs_wider each wide value broad more later old new before after wider broader longer is =
+    let extra : ℕ = wide - each in
+    let over : ℕ = broad - value in
+    let r : extra * new.records ≤ extra * old.records = mul-le-mul_left extra is.records in
+    let v : over * new.value_bytes ≤ over * old.value_bytes = mul-le-mul_left over is.value_bytes in
+    let w : wide ≡ each + extra = omega arith in
+    let o : broad ≡ value + over = omega arith in
+    record {
+      records = is.records;
+      value_bytes = is.value_bytes;
+      rises = is.rises;
+      nodes = omega arith;
+      fair = is.fair;
+      bytes_rise = is.bytes_rise;
+      bytes = rw (w, o) (omega arith);
+    }
+
+-- a search for hits
+pub costs_charged : (each value more : ℕ) (old new : Budget) (before after : Meter) → Charged each more old new before after
+    → Costs each value more old new before after
+costs_charged each value more old new before after is =
+    let v : value * new.value_bytes ≡ value * old.value_bytes = ap (λ (n : ℕ). value * n) is.value_bytes in
+    record {
+      records = is.records;
+      value_bytes = omega (arith, is.value_bytes);
+      rises = is.rises;
+      nodes = omega arith;
+      fair = is.fair;
+      bytes_rise = is.bytes_rise;
+      bytes = omega arith;
+    }
+
+-- a search of magic
+pub costs_paid : (content texts more : ℕ) (old new : Budget) (before after : Meter) → Paid content texts more old new before after
+    → Costs texts (content + 1) more old new before after
+costs_paid content texts more old new before after is = record {
+  records = is.records;
+  value_bytes = is.value_bytes;
+  rises = is.rises;
+  nodes = omega arith;
+  fair = is.fair;
+  bytes_rise = is.bytes_rise;
+  bytes = omega arith;
+}
+
+-- a search for hits, and then an alias step for each type; the same number of steps is kept back for what is to come
+pub costs_kept : (name value more kinds : ℕ) (old new : Budget) (before hits after : Meter)
+    → Charged (256 * (name + 3)) more old new before hits → kinds + new.records ≤ old.records → hits.nodes ≤ after.nodes
+    → after.nodes ≤ hits.nodes + 29 * kinds → hits.bytes ≤ after.bytes → after.bytes ≤ hits.bytes + 7424 * kinds
+    → Costs (256 * (name + 64)) value more old new before (ahead kinds after)
+costs_kept name value more kinds old new before hits after is count rises nodes bytes_rise bytes =
+    let v : value * new.value_bytes ≡ value * old.value_bytes = ap (λ (n : ℕ). value * n) is.value_bytes in
+    record {
+      records = is.records;
+      value_bytes = omega (arith, is.value_bytes);
+      rises = omega arith;
+      nodes = omega arith;
+      fair = omega arith;
+      bytes_rise = omega arith;
+      bytes = omega arith;
+    }
+
+-- What was kept back pays for the test whether the types are one type, and for the choice among them.
+module _ (each value more later kinds : ℕ) (old mid late new : Budget) (before hits tested sniffed after : Meter)
+    (first : Costs each value more old mid before (ahead kinds hits)) (starts : before.nodes ≤ hits.nodes)
+    (fair : raised before.nodes old.records ≤ hits.nodes + mid.records) (starts_bytes : before.bytes ≤ hits.bytes)
+    (same : tested.nodes ≡ hits.nodes) (rises : hits.bytes ≤ tested.bytes) (within : tested.bytes ≤ hits.bytes + 256 * kinds)
+  where
+    -- the test alone
+    pub costs_tested : Costs each value more old mid before tested
+    costs_tested = record {
+      records = first.records;
+      value_bytes = first.value_bytes;
+      rises = omega arith;
+      nodes = omega (arith, first.nodes);
+      fair = omega arith;
+      bytes_rise = omega arith;
+      bytes = omega (arith, first.bytes);
+    }
+
+    -- the test, another step, and the choice
+    pub costs_chosen : Costs each value later mid late tested sniffed → Costs each value (29 + 29 * kinds) late new sniffed after
+        → Costs each value (more + (later + 29)) old new before after
+    costs_chosen second third = record {
+      records = omega (arith, first.records, second.records, third.records);
+      value_bytes = omega (arith, first.value_bytes, second.value_bytes, third.value_bytes);
+      rises = omega arith;
+      nodes = omega (arith, first.nodes, second.nodes, third.nodes);
+      fair = omega arith;
+      bytes_rise = omega arith;
+      bytes = omega (arith, first.bytes, second.bytes, third.bytes);
+    }
