@@ -23,3 +23,8 @@ pub mod StepStops
 pub mod KeptTypes
 pub mod Openings
 pub mod MediaTypes
+pub mod PlaceMarks
+pub mod ParentSteps
+pub mod PairsLeft
+pub mod Queues
+pub mod SearchCosts

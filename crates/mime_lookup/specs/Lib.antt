@@ -14,3 +14,4 @@ pub mod Finding
 pub mod Cached
 pub mod Icons
 pub mod Affords
+pub mod Searching
