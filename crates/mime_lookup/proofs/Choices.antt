@@ -4,6 +4,8 @@ use Rattle.std.proofs.Common.{refl, sym, ◌∙◌, arith, MatchBool, bytes_eq}
 use Rattle.std.specs.List.{list_all}
 use Rattle.std.proofs.lemmas.Bool.{and_from, and_parts}
 use Rattle.std.proofs.lemmas.Slice.Eq.{bytes_eq-Decides}
+use denote.Bor.{Bor}
+use Rattle.mime_lookup.specs.Ancestry.{texts}
 use Rattle.mime_lookup.specs.Choice.{ChoosesAmong, IsFirst}
 use Rattle.mime_base.specs.Database.Subclass.{Pairs}
 
@@ -29,3 +31,16 @@ chooses-from_first pairs kind_of base (x ∷ xs) answer d some is = by_cases (li
         one_type pairs base (kind_of x) (kind_of x ∷ map kind_of xs) answer
         (and_from (bytes_eq (kind_of x) (kind_of x)) (list_all (bytes_eq (kind_of x)) (map kind_of xs)) same all) is
     by_cases false all = is
+
+-- the same over references, where the base is what was found
+pub chooses-from_found : (pairs : Pairs) (base found : List ℕ) (kept : List (Bor (List ℕ))) (d : Bor (List ℕ)) (answer : List ℕ) →
+    base ≡ found → 0 < length kept → IsFirst pairs base (get_or kept 0 d).now (texts kept) answer →
+    ChoosesAmong pairs (texts kept) found answer
+chooses-from_found pairs base found kept d answer same some is =
+    rw (← same) (chooses-from_first pairs (λ text. text.now) base kept answer d some is)
+
+-- no type is kept
+pub chooses-found : (pairs : Pairs) (base found : List ℕ) (kept : List (Bor (List ℕ))) → base ≡ found → length kept ≡ 0 →
+    ChoosesAmong pairs (texts kept) found base
+chooses-found pairs base found [] same none = same
+chooses-found pairs base found (kind ∷ kept) same none = absurd (omega arith)

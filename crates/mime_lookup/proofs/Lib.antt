@@ -14,9 +14,17 @@ pub mod Answering
 pub mod FirstSections
 pub mod Scripts
 pub mod CostLemmas
+pub mod SpelledParts
 pub mod Findings
 pub mod FoundFronts
 pub mod Stops
 pub mod KeptTypes
 pub mod Openings
 pub mod MediaTypes
+pub mod KindTexts
+pub mod StepStops
+pub mod PlaceMarks
+pub mod ParentSteps
+pub mod PairsLeft
+pub mod Queues
+pub mod SearchCosts

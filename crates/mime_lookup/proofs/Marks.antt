@@ -68,12 +68,13 @@ expanded_new pairs kind marks queue after grown = record {
   marks = λ x h. ⊎_elim (λ old. inl old) (λ new. inr (new, refl)) (marked_others marks kind x h);
 }
 
-unmarked-marked : (pair : List ℕ × List ℕ) (pairs : List (List ℕ × List ℕ)) (marked : List ℕ → Bool) → marked pair.0 ≡ true →
+-- a pair whose type is marked, and one whose type is not
+pub unmarked-marked : (pair : List ℕ × List ℕ) (pairs : List (List ℕ × List ℕ)) (marked : List ℕ → Bool) → marked pair.0 ≡ true →
     unmarked (pair ∷ pairs) marked ≡ unmarked pairs marked
 unfolding unmarked
 unmarked-marked pair pairs marked hit = rw hit refl
 
-unmarked-new : (pair : List ℕ × List ℕ) (pairs : List (List ℕ × List ℕ)) (marked : List ℕ → Bool) → marked pair.0 ≡ false →
+pub unmarked-new : (pair : List ℕ × List ℕ) (pairs : List (List ℕ × List ℕ)) (marked : List ℕ → Bool) → marked pair.0 ≡ false →
     unmarked (pair ∷ pairs) marked ≡ suc (unmarked pairs marked)
 unfolding unmarked
 unmarked-new pair pairs marked miss = rw miss refl

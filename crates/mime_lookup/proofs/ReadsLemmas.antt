@@ -2,9 +2,8 @@
 use Rattle.std.proofs.Common.{◌≡◌, ℕ, ◌+◌, Bool, true, false, List, [], Option, None, Some, Result, Ok, Err}
 use Rattle.std.proofs.Common.{refl, sym, subst, ap, arith}
 use Rattle.std.specs.Prelude.{IsErrAnd}
-use Rattle.mime_base.specs.Database.{PlainDatabase}
 use Rattle.mime_lookup.specs.Content.{Advances, Health, Interrupts, Tally}
-use Rattle.mime_lookup.specs.Reads.{Reads}
+use Rattle.mime_lookup.specs.Reads.{AsksUnless, Reads}
 use Rattle.mime_lookup.specs.declared.stopped.Cause.{Cause}
 
 -- no read was interrupted
@@ -19,43 +18,49 @@ advances-none : (known : Option (List ℕ)) (read : ℕ) → read ≡ 0 → Adva
 advances-none None read none = ([], tt, sym none)
 advances-none (Some bytes) read none = ([], refl, sym none)
 
-module _ {R : Type 0} (remaining : R → Option (List ℕ)) (tally : R → Option Tally) (health : R → Health) (b : PlainDatabase) where
+module _ {R : Type 0} (remaining : R → Option (List ℕ)) (tally : R → Option Tally) (health : R → Health) (limit : ℕ) where
   -- an answer by the globs alone
-  pub reads_nothing : {X : Type 0} (suffice : Bool) (content : Option R) (read : ℕ) (x : X) → read ≡ 0 → suffice ≡ true →
-      Reads remaining tally health b suffice content content read (Ok x)
-  reads_nothing suffice None read x none enough = record {
-    causes = tt;
+  pub reads_nothing : {X : Type 0} (content : Option R) (read : ℕ) (x : X) → read ≡ 0 →
+      Reads remaining tally health limit content content read (Ok x)
+  reads_nothing None read x none = record {
     gives_up = tt;
     goes = tt;
-    answers = tt;
     fails = tt;
     advances = none;
-    limit = omega (arith, none);
+    within = omega (arith, none);
   }
-  reads_nothing suffice (Some reader) read x none enough = record {
-    causes = tt;
+  reads_nothing (Some reader) read x none = record {
     gives_up = tt;
     goes = (0, omega arith, interrupts-none (tally reader));
-    answers = λ _. enough;
     fails = tt;
     advances = advances-none (remaining reader) read none;
-    limit = omega (arith, none);
+    within = omega (arith, none);
   }
 
-  -- a step that did not ask the globs stopped, and its error is passed on
-  pub reads_stopped : {X Y : Type 0} (suffice : Bool) (before after : Option R) (read : ℕ) (cause : Cause) (result : Result Y Cause) →
-      suffice ≡ false → IsErrAnd result (λ passed. passed ≡ cause) →
-      Reads {X = X} remaining tally health b false before after read (Err cause) →
-      Reads remaining tally health b suffice before after read result
-  reads_stopped suffice before after read cause (Ok y) is same step = absurd same
-  reads_stopped {X} {Y} suffice before after read cause (Err passed) is same step =
-      subst (λ s. Reads {X = Y} remaining tally health b s before after read (Err passed)) (sym is)
-      (subst (λ e. Reads {X = Y} remaining tally health b false before after read (Err e)) (sym same) (record {
-        causes = step.causes;
+  -- a step stopped, and its error is passed on
+  pub reads_stopped : {X Y : Type 0} (before after : Option R) (read : ℕ) (cause : Cause) (result : Result Y Cause) →
+      IsErrAnd result (λ passed. passed ≡ cause) → Reads {X = X} remaining tally health limit before after read (Err cause) →
+      Reads remaining tally health limit before after read result
+  reads_stopped before after read cause (Ok y) same step = absurd same
+  reads_stopped {X} {Y} before after read cause (Err passed) same step =
+      subst (λ e. Reads {X = Y} remaining tally health limit before after read (Err e)) (sym same) (record {
         gives_up = step.gives_up;
         goes = tt;
-        answers = tt;
         fails = step.fails;
         advances = step.advances;
-        limit = step.limit;
-      }))
+        within = step.within;
+      })
+
+-- The same of what was asked.
+module _ {R : Type 0} (health : R → Health) (suffice : Bool) where
+  -- an answer by the globs alone
+  pub asks_nothing : {X : Type 0} (content : Option R) (x : X) → suffice ≡ true → AsksUnless health suffice content content (Ok x)
+  asks_nothing None x enough = record { answers = tt; asked = tt; }
+  asks_nothing (Some reader) x enough = record { answers = λ _. enough; asked = tt; }
+
+  -- a step that did not ask the globs stopped, and its error is passed on
+  pub asks_stopped : {X Y : Type 0} (before after : Option R) (cause : Cause) (result : Result Y Cause) → suffice ≡ false →
+      IsErrAnd result (λ passed. passed ≡ cause) → AsksUnless {X = X} health false before after (Err cause) →
+      AsksUnless health suffice before after result
+  asks_stopped before after cause (Ok y) is same step = absurd same
+  asks_stopped before after cause (Err passed) is same step = record { answers = tt; asked = λ _. is; }

@@ -13,3 +13,5 @@ pub mod StepFaults
 pub mod Finding
 pub mod Cached
 pub mod Icons
+pub mod Affords
+pub mod Searching

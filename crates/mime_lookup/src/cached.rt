@@ -10,6 +10,7 @@ ghost use Rattle.mime_base.specs.Format.Packed.{Packed, matchlet_count, value_le
 ghost use Rattle.mime_base.specs.Format.Stored.{glob_rules, literal_rules};
 ghost use Rattle.mime_base.specs.Format.SuffixTree.{tree_size};
 ghost use Rattle.mime_view.specs.Hits.{near};
+ghost use Rattle.mime_lookup.specs.Affords.{Affords};
 ghost use Rattle.mime_lookup.specs.Ancestry.{texts};
 ghost use Rattle.mime_lookup.specs.Bounds.{KeepsBounds, near_max, stated_extent};
 ghost use Rattle.mime_lookup.specs.Cached.{IsFinding, IsKind, IsStop, plain_finding};
@@ -176,6 +177,23 @@ fn globs_first<'a, R: Content>(
 ) -> Result<&'a [u8], Cause>
     requires none { read.old ≡ 0 }
     requires short { length name.now ≤ 4096 }
+    ensures chosen { (b : PlainDatabase) → IsWithinLimits b → Spells cache.now b → IfOk result
+        (λ kind. IfSome (known_content R.remaining content.old)
+        (λ known. Chooses b name.now known host Order.GlobsFirst kind.now)) }
+    ensures read { (b : PlainDatabase) → IsWithinLimits b → Spells cache.now b → OnOk result
+        (IfSome (known_content R.remaining content.old) (λ known. read.new ≡ read_of b name.now known Order.GlobsFirst)) }
+    ensures kind { IfOk result (λ kind. IsKind cache.now kind.now) }
+    ensures fault { IfErr result (IsStop (IsLookUpFault cache.now)) }
+    ensures answers { (b : PlainDatabase) → IsWithinLimits b → Spells cache.now b → Affords b budget.old →
+        IfErr result (λ cause. (cause ≡ Cause.Read) ⊎ (cause ≡ Cause.OutOfMemory)) }
+    ensures reader { Reads R.remaining R.tally R.health (max 128 (stated_extent cache.now))
+        content.old content.new read.new result }
+    ensures asks { (b : PlainDatabase) → IsWithinLimits b → Spells cache.now b →
+        AsksUnless R.health (globs_suffice b name.now Order.GlobsFirst) content.old content.new result }
+    ensures spent { content.old ≡ None → IfErr result
+        (λ cause. cause ≡ Cause.Cache CacheFault.Spent → budget.new.records ≡ 0) }
+    ensures cost { Costs (record_cost (length name.now)) (read.new + 1) (glob_cost (length name.now) + (2 + 29))
+        budget.old budget.new meter.old meter.new }
 {
     let kept = kept_kinds(alloc, cache, name, meter, budget)?;
     if are_one_type(&kept, meter) {
@@ -199,6 +217,23 @@ fn magic_first<'a, R: Content>(
 ) -> Result<&'a [u8], Cause>
     requires none { read.old ≡ 0 }
     requires short { length name.now ≤ 4096 }
+    ensures chosen { (b : PlainDatabase) → IsWithinLimits b → Spells cache.now b → IfOk result
+        (λ kind. IfSome (known_content R.remaining content.old)
+        (λ known. Chooses b name.now known host Order.MagicFirst kind.now)) }
+    ensures read { (b : PlainDatabase) → IsWithinLimits b → Spells cache.now b → OnOk result
+        (IfSome (known_content R.remaining content.old) (λ known. read.new ≡ read_of b name.now known Order.MagicFirst)) }
+    ensures kind { IfOk result (λ kind. IsKind cache.now kind.now) }
+    ensures fault { IfErr result (IsStop (IsLookUpFault cache.now)) }
+    ensures answers { (b : PlainDatabase) → IsWithinLimits b → Spells cache.now b → Affords b budget.old →
+        IfErr result (λ cause. (cause ≡ Cause.Read) ⊎ (cause ≡ Cause.OutOfMemory)) }
+    ensures reader { Reads R.remaining R.tally R.health (max 128 (stated_extent cache.now))
+        content.old content.new read.new result }
+    ensures asks { (b : PlainDatabase) → IsWithinLimits b → Spells cache.now b →
+        AsksUnless R.health (globs_suffice b name.now Order.MagicFirst) content.old content.new result }
+    ensures spent { content.old ≡ None → IfErr result
+        (λ cause. cause ≡ Cause.Cache CacheFault.Spent → budget.new.records ≡ 0) }
+    ensures cost { Costs (record_cost (length name.now)) (read.new + 1) (glob_cost (length name.now) + (2 + 29))
+        budget.old budget.new meter.old meter.new }
 {
     let finding = sniff_content(alloc, cache, content, host, read, meter, budget)?;
     if is_high(finding) {

@@ -5,17 +5,19 @@
 //! marked type leads to the base, so no entry is expanded twice. Over damaged bytes it ends since each type
 //! that enters the queue takes a record of the budget.
 
-ghost use Rattle.std.specs.Prelude.{◌≡◌, ◌↔◌, ℕ, ◌+◌, ◌*◌, ◌≤◌, ◌∷◌, false, Contains, List, length, IfErr, IfOk, IsTrue, OnOk};
+ghost use Rattle.std.specs.Prelude.{◌≡◌, ◌↔◌, ◌⊎◌, ℕ, ◌+◌, ◌*◌, ◌≤◌, ◌∷◌, ◌++◌, false, Contains, List, length, map, IfErr, IfOk, IsTrue, OnOk};
 ghost use Rattle.std.specs.VecDeque.{deque_len};
 ghost use Rattle.mime_base.specs.Cache.Bytes.{field};
 ghost use Rattle.mime_base.specs.Database.{PlainDatabase, pairs_of};
-ghost use Rattle.mime_base.specs.Database.Subclass.{IsA};
+ghost use Rattle.mime_base.specs.Database.Subclass.{IsA, resolved};
+ghost use Rattle.mime_base.specs.Meter.{raised};
 ghost use Rattle.mime_view.specs.Parents.{is_marked};
 ghost use Rattle.mime_lookup.specs.Ancestry.{Expanded, NoneLeadsTo, texts, unmarked};
 ghost use Rattle.mime_lookup.specs.Choice.{IsFirst};
 ghost use Rattle.mime_lookup.specs.Costs.{Costs};
 ghost use Rattle.mime_lookup.specs.Spelling.{SpellsPairs};
-ghost use Rattle.mime_lookup.specs.StepFaults.{IsSearchFault};
+ghost use Rattle.mime_lookup.specs.Searching.{search_cost};
+ghost use Rattle.mime_lookup.specs.StepFaults.{IsAliasFault, IsSearchFault};
 
 use crate::subclass::is_by_itself;
 use mime_base::Meter;
@@ -77,7 +79,7 @@ pub fn leads_to<'a>(
         (unmarked b.parents (is_marked cache.now (field cache.now 0 2) marks.new) + budget.old.records
         ≤ unmarked b.parents (is_marked cache.now (field cache.now 0 2) marks.old) + budget.new.records) }
     ensures fault { IfErr result (IsSearchFault cache.now budget.new) }
-    ensures cost { (each value : ℕ) → 256 * 59 ≤ each → Costs each value 29 budget.old budget.new meter.old meter.new }
+    ensures cost { Costs search_cost 0 29 budget.old budget.new meter.old meter.new }
 {
     let mut queue = VecDeque::new(alloc);
     queue.push_back(kind)?;
@@ -112,6 +114,18 @@ fn expand<'a>(
         ≤ unmarked b.parents (is_marked cache.now (field cache.now 0 2) marks.old) + budget.new.records) }
     ensures fault { IfErr result (IsSearchFault cache.now budget.new) }
     ensures falls { OnOk result (deque_len queue.new + budget.new.records ≡ deque_len queue.old + budget.old.records) }
+    ensures value_bytes { budget.new.value_bytes ≡ budget.old.value_bytes }
+    ensures records { budget.new.records ≤ budget.old.records }
+    ensures rises { meter.old.nodes ≤ meter.new.nodes }
+    ensures fair { raised meter.old.nodes budget.old.records ≤ meter.new.nodes + budget.new.records }
+    ensures bytes_rise { meter.old.bytes ≤ meter.new.bytes }
+    ensures nodes { meter.new.nodes + 59 * budget.new.records ≤ meter.old.nodes + 59 * budget.old.records + 29 }
+    ensures bytes { meter.new.bytes + search_cost * budget.new.records
+        ≤ meter.old.bytes + search_cost * budget.old.records + 6912 }
+    ensures nodes_ahead { OnOk result (meter.new.nodes + 59 * budget.new.records + 29 * deque_len queue.new
+        ≤ meter.old.nodes + 59 * budget.old.records + 29 * deque_len queue.old + 29) }
+    ensures bytes_ahead { OnOk result (meter.new.bytes + search_cost * budget.new.records + 7424 * deque_len queue.new
+        ≤ meter.old.bytes + search_cost * budget.old.records + 7424 * deque_len queue.old + 6912) }
 {
     let found = cache.parents_of(alloc, kind, marks, meter, budget)?;
     let Some(parents) = found else {
@@ -127,7 +141,18 @@ fn push_resolved<'a>(
     queue: &mut VecDeque<&'a [u8]>,
     meter: &mut Meter,
     budget: &mut Budget,
-) -> Result<(), CacheFault> {
+) -> Result<(), CacheFault>
+    ensures queue { (b : PlainDatabase) → SpellsPairs cache.now b → OnOk result
+        (texts queue.new.items ≡ texts queue.old.items ++ map (resolved b.aliases) (texts kinds.now)) }
+    ensures need { (b : PlainDatabase) → SpellsPairs cache.now b → IfErr result (λ e. e ≡ CacheFault.OutOfMemory) }
+    ensures fault { IfErr result (λ e. IsAliasFault cache.now e ⊎ (e ≡ CacheFault.OutOfMemory)) }
+    ensures longer { OnOk result (deque_len queue.new ≡ deque_len queue.old + length kinds.now) }
+    ensures budget { budget.new ≡ budget.old }
+    ensures rises { meter.old.nodes ≤ meter.new.nodes }
+    ensures nodes { meter.new.nodes ≤ meter.old.nodes + 29 * length kinds.now }
+    ensures bytes_rise { meter.old.bytes ≤ meter.new.bytes }
+    ensures bytes { meter.new.bytes ≤ meter.old.bytes + 7424 * length kinds.now }
+{
     for kind in kinds {
         queue.push_back(cache.unalias(*kind, meter, budget)?)?;
     }

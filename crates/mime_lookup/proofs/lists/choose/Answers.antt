@@ -6,10 +6,10 @@ use Rattle.mime_base.specs.Database.{pairs_of, plain_database}
 use Rattle.mime_lookup.proofs.Choices.{chooses-from_first}
 use Rattle.mime_lookup.proofs.lists.choose.Goals as goal
 
-pub returns : goal.returns
-returns c =
+pub returns-clause-chosen : goal.returns-clause-chosen
+returns-clause-chosen c =
     let some : 0 < length c.args.kept.now = grind (arith, eqb-false) in
     IfOk-weaker c.first_of.result _ _
     (λ kind first. chooses-from_first (pairs_of (plain_database c.args.database.now)) (λ (text : Bor (List ℕ)). text.now)
     c.args.sniffed.now c.args.kept.now kind.now _ some first)
-    c.first_of.ensures
+    c.first_of.ensures.first

@@ -2,11 +2,11 @@ use Rattle.std.proofs.Common.{◌≡◌, ◌∙◌, ℕ, true, false, List, [], 
 use denote.Bor.{Bor}
 use Rattle.mime_base.specs.Database.{pairs_of, plain_database}
 use Rattle.mime_lookup.specs.Ancestry.{texts}
-use Rattle.mime_lookup.specs.CheckingOrder.{are_one_type}
+use Rattle.mime_lookup.specs.CheckingOrder.{are_one_type, read_limit}
 use Rattle.mime_lookup.specs.Choice.{ChoosesAmong}
 use Rattle.mime_lookup.proofs.Answering.{by_globs, by_globs_and_content, by_magic, by_magic_and_globs, first_text}
 use Rattle.mime_lookup.proofs.Answering.{read_first, read_front, read_none, suffice, suffice_not}
-use Rattle.mime_lookup.proofs.ReadsLemmas.{reads_nothing, reads_stopped}
+use Rattle.mime_lookup.proofs.ReadsLemmas.{asks_nothing, asks_stopped, reads_nothing, reads_stopped}
 use Rattle.mime_lookup.proofs.lists.kind_of.Goals as goal
 
 pub returns-then-are_one_type-clause-chosen : goal.returns-then-are_one_type-clause-chosen
@@ -26,33 +26,51 @@ returns-then-are_one_type-clause-read g c =
 
 pub returns-then-are_one_type-clause-reader : goal.returns-then-are_one_type-clause-reader
 returns-then-are_one_type-clause-reader g c =
+    reads_nothing g.R.Read.remaining g.R.Content.tally g.R.Content.health (read_limit (plain_database c.args.database.now))
+    c.args.content.now c.args.read.now _ c.requires.none
+
+pub returns-then-are_one_type-clause-asks : goal.returns-then-are_one_type-clause-asks
+returns-then-are_one_type-clause-asks g c =
     let kinds = texts c.in_ok-kept-in-GlobsFirst.kept.items in
     let one : are_one_type kinds ≡ true = rw c.deref.ensures.value at (sym c.are_one_type.ensures ∙ c.if-are_one_type.true) in
-    reads_nothing g.R.Read.remaining g.R.Content.tally g.R.Content.health (plain_database c.args.database.now) _ c.args.content.now
-    c.args.read.now _ c.requires.none
+    asks_nothing g.R.Content.health _ c.args.content.now _
     (suffice (plain_database c.args.database.now) c.args.name.now c.args.host c.args.order c.in-GlobsFirst.is kinds
     c.in_ok-kept-in-GlobsFirst.ensures.kept true one)
 
 pub returns-in_err-sniffed-in-GlobsFirst-clause-reader :
     goal.returns-in_err-sniffed-in-GlobsFirst-clause-reader
 returns-in_err-sniffed-in-GlobsFirst-clause-reader g c =
+    reads_stopped g.R.Read.remaining g.R.Content.tally g.R.Content.health (read_limit (plain_database c.args.database.now))
+    c.args.content.now c.sniff_content.new.content c.sniff_content.new.read c.in_err-sniffed-in-GlobsFirst.field-0.0
+    c.from_residual-in_err-sniffed-in-GlobsFirst.result c.from_residual-in_err-sniffed-in-GlobsFirst.ensures.1
+    c.in_err-sniffed-in-GlobsFirst.ensures.reader
+
+pub returns-in_err-sniffed-in-GlobsFirst-clause-asks :
+    goal.returns-in_err-sniffed-in-GlobsFirst-clause-asks
+returns-in_err-sniffed-in-GlobsFirst-clause-asks g c =
     let kinds = texts c.in_ok-kept-in-GlobsFirst.kept.items in
     let conflict : are_one_type kinds ≡ false = rw c.deref.ensures.value at (sym c.are_one_type.ensures ∙ c.if-are_one_type.false) in
-    reads_stopped g.R.Read.remaining g.R.Content.tally g.R.Content.health (plain_database c.args.database.now) _ c.args.content.now
-    c.sniff_content.new.content c.sniff_content.new.read c.in_err-sniffed-in-GlobsFirst.field-0.0
+    asks_stopped g.R.Content.health _ c.args.content.now c.sniff_content.new.content c.in_err-sniffed-in-GlobsFirst.field-0.0
     c.from_residual-in_err-sniffed-in-GlobsFirst.result
     (suffice (plain_database c.args.database.now) c.args.name.now c.args.host c.args.order c.in-GlobsFirst.is kinds
     c.in_ok-kept-in-GlobsFirst.ensures.kept false conflict)
-    c.from_residual-in_err-sniffed-in-GlobsFirst.ensures.1 c.in_err-sniffed-in-GlobsFirst.ensures.reader
+    c.from_residual-in_err-sniffed-in-GlobsFirst.ensures.1 c.in_err-sniffed-in-GlobsFirst.ensures.asks
 
 pub returns-in_err-sniffed-in-MagicFirst-clause-reader :
     goal.returns-in_err-sniffed-in-MagicFirst-clause-reader
 returns-in_err-sniffed-in-MagicFirst-clause-reader g c =
-    reads_stopped g.R.Read.remaining g.R.Content.tally g.R.Content.health (plain_database c.args.database.now) _ c.args.content.now
-    c.sniff_content-in-MagicFirst.new.content c.sniff_content-in-MagicFirst.new.read c.in_err-sniffed-in-MagicFirst.field-0.0
-    c.from_residual-in_err-sniffed-in-MagicFirst.result
-    (suffice_not (plain_database c.args.database.now) c.args.name.now c.args.host c.args.order c.in-MagicFirst.is [] true)
+    reads_stopped g.R.Read.remaining g.R.Content.tally g.R.Content.health (read_limit (plain_database c.args.database.now))
+    c.args.content.now c.sniff_content-in-MagicFirst.new.content c.sniff_content-in-MagicFirst.new.read
+    c.in_err-sniffed-in-MagicFirst.field-0.0 c.from_residual-in_err-sniffed-in-MagicFirst.result
     c.from_residual-in_err-sniffed-in-MagicFirst.ensures.1 c.in_err-sniffed-in-MagicFirst.ensures.reader
+
+pub returns-in_err-sniffed-in-MagicFirst-clause-asks :
+    goal.returns-in_err-sniffed-in-MagicFirst-clause-asks
+returns-in_err-sniffed-in-MagicFirst-clause-asks g c =
+    asks_stopped g.R.Content.health _ c.args.content.now c.sniff_content-in-MagicFirst.new.content
+    c.in_err-sniffed-in-MagicFirst.field-0.0 c.from_residual-in_err-sniffed-in-MagicFirst.result
+    (suffice_not (plain_database c.args.database.now) c.args.name.now c.args.host c.args.order c.in-MagicFirst.is [] true)
+    c.from_residual-in_err-sniffed-in-MagicFirst.ensures.1 c.in_err-sniffed-in-MagicFirst.ensures.asks
 
 pub returns-then-sniffed-clause-chosen : goal.returns-then-sniffed-clause-chosen
 returns-then-sniffed-clause-chosen g c =
@@ -73,7 +91,7 @@ returns-in_ok-kind-in-GlobsFirst-clause-chosen g c =
     let found = c.in_ok-sniffed-in-GlobsFirst.sniffed.kind.now in
     let kind = c.in_ok-kind-in-GlobsFirst.kind.now in
     let chosen : ChoosesAmong (pairs_of b) kinds found kind =
-    rw c.deref-in-GlobsFirst.ensures.value at c.in_ok-kind-in-GlobsFirst.ensures in
+    rw c.deref-in-GlobsFirst.ensures.value at c.in_ok-kind-in-GlobsFirst.ensures.chosen in
     by_globs_and_content b c.args.name.now c.args.host c.args.order c.in-GlobsFirst.is kinds
     c.in_ok-kept-in-GlobsFirst.ensures.kept _ found kind c.in_ok-sniffed-in-GlobsFirst.ensures.kind chosen
 
@@ -93,7 +111,7 @@ returns-in_ok-kind-in-MagicFirst-clause-chosen g c =
     let sniffed = c.in_ok-sniffed-in-MagicFirst.sniffed in
     let kind = c.in_ok-kind-in-MagicFirst.kind.now in
     let chosen : ChoosesAmong (pairs_of b) kinds sniffed.kind.now kind =
-    rw c.deref-in-MagicFirst.ensures.value at c.in_ok-kind-in-MagicFirst.ensures in
+    rw c.deref-in-MagicFirst.ensures.value at c.in_ok-kind-in-MagicFirst.ensures.chosen in
     by_magic_and_globs b c.args.name.now c.args.host c.args.order c.in-MagicFirst.is sniffed.kind.now sniffed.is_high _ kinds kind
     c.in_ok-kept-in-MagicFirst.ensures.kept c.if-sniffed.false c.in_ok-sniffed-in-MagicFirst.ensures.is_high
     c.in_ok-sniffed-in-MagicFirst.ensures.kind chosen

@@ -1,0 +1,50 @@
+-- A queue of types that grows, and candidates that are passed over.
+use Rattle.std.proofs.Common.{◌≡◌, ℕ, ◌+◌, ◌<◌, List, [], ◌∷◌, ◌++◌, length, map, get_or, take, drop, drop-cons, add-one}
+use Rattle.std.proofs.Common.{refl, sym, ap, subst, inr, arith, ◌∙◌, append_assoc}
+use Rattle.std.proofs.lemmas.List.{get_or-map, length-map, map-append, take_more}
+use Rattle.std.proofs.lemmas.List.Elements.{Contains-append_right, Contains-get_or}
+use Rattle.std.specs.Prelude.{Contains}
+use Rattle.std.specs.Borrow.{Bor}
+use Rattle.mime_base.specs.Database.Subclass.{Pairs, IsA}
+use Rattle.mime_lookup.specs.Ancestry.{texts}
+use Rattle.mime_lookup.specs.Choice.{IsFirst}
+
+-- one type more is put at the end, after a step
+pub queued-more : (step : List ℕ → List ℕ) (kinds before queue after : List (Bor (List ℕ))) (i : ℕ) (one d : Bor (List ℕ))
+    → i < length kinds → one.now ≡ step (get_or kinds i d).now → after ≡ queue ++ one ∷ []
+    → texts queue ≡ texts before ++ map step (texts (take i kinds))
+    → texts after ≡ texts before ++ map step (texts (take (i + 1) kinds))
+queued-more step kinds before queue after i one d within is grown so_far =
+    let done = map step (texts (take i kinds)) in
+    let next = get_or kinds i d in
+    let last : map step (texts (take (i + 1) kinds)) ≡ done ++ one.now ∷ [] =
+    ap (λ ks. map step (texts ks)) (take_more kinds i d within)
+    ∙ ap (map step) (map-append (λ (k : Bor (List ℕ)). k.now) (take i kinds) (next ∷ []))
+    ∙ map-append step (texts (take i kinds)) (next.now ∷ [])
+    ∙ ap (λ k. done ++ k ∷ []) (sym is) in
+    ap texts grown ∙ map-append (λ (k : Bor (List ℕ)). k.now) queue (one ∷ [])
+    ∙ ap (λ q. q ++ one.now ∷ []) so_far
+    ∙ append_assoc (texts before) done (one.now ∷ [])
+    ∙ ap (λ more. texts before ++ more) (sym last)
+
+-- a queue that stays the same without its first type has none
+pub none_queued : (queue after : List (Bor (List ℕ))) → queue ≡ after → after ≡ drop 1 queue → queue ≡ []
+none_queued [] after same rest = refl
+none_queued (first ∷ queue) after same rest = absurd (omega (arith, ap length (same ∙ rest)))
+
+-- a type that is no subclass of the base is passed over
+pub passed_over : (pairs : Pairs) (base default : List ℕ) (kinds : List (Bor (List ℕ))) (i : ℕ) (d : Bor (List ℕ)) → i < length kinds
+    → (IsA pairs (get_or kinds i d).now base → ⊥) → (answer : List ℕ) → IsFirst pairs base default (texts (drop (i + 1) kinds)) answer
+    → IsFirst pairs base default (texts (drop i kinds)) answer
+passed_over pairs base default kinds i d within never answer rest =
+    subst (λ (ks : List (Bor (List ℕ))). IsFirst pairs base default (texts ks) answer) (sym (drop-cons kinds i d within))
+    (inr (never, rw add-one at rest))
+
+-- a candidate is one of the default and the candidates
+pub candidate : (default : List ℕ) (kinds : List (Bor (List ℕ))) (i : ℕ) (d : Bor (List ℕ)) → i < length kinds
+    → Contains (default ∷ texts kinds) (get_or kinds i d).now
+candidate default kinds i d within =
+    let now : Bor (List ℕ) → List ℕ = λ kind. kind.now in
+    Contains-append_right (default ∷ []) (texts kinds) (get_or kinds i d).now
+    (subst (λ (kind : List ℕ). Contains (texts kinds) kind) (get_or-map now kinds i d [] within)
+    (Contains-get_or (texts kinds) i [] (omega (arith, within, length-map kinds now))))

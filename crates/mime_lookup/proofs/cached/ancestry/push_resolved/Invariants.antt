@@ -1,0 +1,19 @@
+use Rattle.std.proofs.Common.{◌≡◌, ◌+◌, ◌*◌, ◌≤◌, ◌++◌, map, take}
+use Rattle.std.specs.VecDeque.{deque_len}
+use Rattle.mime_base.specs.Database.{PlainDatabase}
+use Rattle.mime_base.specs.Database.Subclass.{resolved}
+use Rattle.mime_lookup.specs.Ancestry.{texts}
+use Rattle.mime_lookup.specs.Spelling.{SpellsPairs}
+use Rattle.mime_lookup.proofs.cached.ancestry.push_resolved.Given as goal
+
+abbrev pub invariant-loop-kind : goal.invariant-loop-kind
+invariant-loop-kind l = record {
+  queue : (b : PlainDatabase) → SpellsPairs l.cache b →
+      texts l.queue.items ≡ texts l.fn.queue.items ++ map (resolved b.aliases) (texts (take l.kind-index l.kinds));
+  longer : deque_len l.queue ≡ deque_len l.fn.queue + l.kind-index;
+  budget : l.budget ≡ l.fn.budget;
+  rises : l.fn.meter.nodes ≤ l.meter.nodes;
+  nodes : l.meter.nodes ≤ l.fn.meter.nodes + 29 * l.kind-index;
+  bytes_rise : l.fn.meter.bytes ≤ l.meter.bytes;
+  bytes : l.meter.bytes ≤ l.fn.meter.bytes + 7424 * l.kind-index;
+}
