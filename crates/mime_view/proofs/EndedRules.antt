@@ -27,6 +27,7 @@ pub record IsEnded (path : List ℕ) (rule : GlobRule) : Type 0 where
   pub bytes : All (λ b. b < 256) path
   pub weight : rule.weight < 256
 
+-- what is compared of a byte is a byte
 compared_small : (cased : Bool) (b : ℕ) → b < 256 → compared_byte cased b < 256
 compared_small true b l = l
 compared_small false b l = by_test (nat_le 65 b && nat_le b 90) refl
@@ -35,10 +36,12 @@ compared_small false b l = by_test (nat_le 65 b && nat_le b 90) refl
     by_test true e = let parts = and_parts (nat_le 65 b) (nat_le b 90) e in omega (arith, leb-true b 90 parts.1)
     by_test false e = l
 
+-- a star is compared as it is
 star : (cased : Bool) → compared_byte cased 42 ≡ 42
 star true = refl
 star false = refl
 
+-- a pattern that is longer than its star has an ending
 some_rest : (rest : List ℕ) → not (suc (length rest) == 1) ≡ true → 0 < length rest
 some_rest [] e = absurd cc
 some_rest (x ∷ xs) e = omega arith
@@ -49,6 +52,7 @@ record IsSuffix (pattern : List ℕ) : Type 0 where
   is : pattern ≡ 42 ∷ rest
   some : 0 < length rest
 
+-- a pattern of the tree is a star and its ending
 tree_pattern : (pattern : List ℕ) → (is_suffix_class (class_of pattern) && not (length pattern == 1)) ≡ true → IsSuffix pattern
 unfolding class_of
 tree_pattern [] e = absurd cc
@@ -66,6 +70,7 @@ tree_pattern (b ∷ rest) e = by_literal (is_literal_text (b ∷ rest)) e
     by_literal true e = absurd cc
     by_literal false e = by_star (b == 42) refl (is_literal_text rest) e
 
+-- a rule of the tree stands at the end of its own path
 ended : (rule : GlobRule) → is_in_tree rule ≡ true → KeepsLimits rule → IsEnded (reversed_ending rule) rule
 ended rule inside fits =
     let p = tree_pattern rule.pattern inside in

@@ -21,6 +21,7 @@ pub record Next (c : List ℕ) (first count : ℕ) (rules : List GlobRule) (old 
   pub reads : ReadsEntry c (first + 12 * i) rule
   pub later : (new : List PlainListed) → new ≡ now ++ listed_rule rule ∷ [] → Left c first count rules old (i + 1) new
 
+-- of some entries that are left, the first is the next one
 next_of : (c : List ℕ) (first count : ℕ) (rules : List GlobRule) (old : List PlainListed) (i : ℕ) (now : List PlainListed)
     (rest : List GlobRule) → i < count → length rest + i ≡ count → ReadsEntries c (first + 12 * i) rest
     → now ++ map listed_rule rest ≡ old ++ map listed_rule rules → Next c first count rules old i now
@@ -41,6 +42,7 @@ pub next : (c : List ℕ) (first count : ℕ) (rules : List GlobRule) (old : Lis
     → Left c first count rules old i now → Next c first count rules old i now
 next c first count rules old i now l left = next_of c first count rules old i now left.rest l left.size left.reads left.listed
 
+-- where no entry is left, no rule is added
 nothing : (rest : List GlobRule) (now : List PlainListed) → length rest ≡ 0 → now ++ map listed_rule rest ≡ now
 nothing [] now none = append-nil now
 nothing (rule ∷ rest) now none = absurd (omega arith)

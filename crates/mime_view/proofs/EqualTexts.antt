@@ -21,6 +21,7 @@ text_in-equal room at bytes key e = by_reach (nat_lt (shared bytes key) (length 
         let short : nat_lt (length key) (length bytes) ≡ true = ap (λ n. nat_lt n (length bytes)) (sym whole) ∙ is in
         rw same (rw short refl)
 
+-- a text whose order is Equal is the key
 pub equal_text : (c : List ℕ) (at : ℕ) (key : List ℕ) → order_at c at key ≡ Ok Equal → text_at c at ≡ Ok key
 unfolding order_at text_at
 equal_text c at key e = text_in-equal 256 at (front 256 c at) key e

@@ -28,6 +28,7 @@ pub record States (c name : List ℕ) (rule : GlobRule) (pattern : List ℕ) (cl
   pub its_kind : text_at c kind ≡ Ok rule.kind
   pub its_matches : rule_matches pattern (flags / 256 % 2 == 1) name ≡ rule_matches rule.pattern rule.cased name
 
+-- what an entry states is so of its rule
 pub entry_states : (c : List ℕ) (at : ℕ) (name : List ℕ) (rule : GlobRule) (pattern : List ℕ) (class : Class) (numbers : List ℕ)
     (place : ℕ) → numbers ≡ fields c at 3 → place ≡ get_or numbers 0 0 → text_at c place ≡ Ok pattern → class ≡ class_of pattern
     → FitsRank rule → ReadsGlob c at rule → States c name rule pattern class (get_or numbers 1 0) (get_or numbers 2 0)

@@ -25,9 +25,11 @@ no_rule = record { weight = 0; kind = []; pattern = []; cased = false }
 abbrev pub glob : List GlobRule → ℕ → GlobRule
 glob rules i = get_or (glob_rules rules) i no_rule
 
+-- the numbers of a rule take 12 bytes
 rule_size : (c : List ℕ) (rule : GlobRule) (numbers : List ℕ) → IsRule (Stands c) rule numbers → 4 * length numbers ≡ 12
 rule_size c rule numbers (text, kind, are, stored, its) = ap (λ (ns : List ℕ). 4 * length ns) are
 
+-- a rule that stands is read as an entry
 entry_read : (c : List ℕ) (at : ℕ) (rule : GlobRule) → (numbers : List ℕ) × CardsAt (Stands c) at numbers × IsRule (Stands c) rule numbers
     → ReadsGlob c at rule
 entry_read c at rule (numbers, here, (text, kind, are, stored, its)) =

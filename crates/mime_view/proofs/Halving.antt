@@ -4,12 +4,6 @@ use Rattle.std.proofs.lemmas.Bool.{cases_lt}
 use Rattle.std.proofs.Math.Pow.{pow_mono}
 use Rattle.std.proofs.Math.Nat.{mul-le-mul_left, mul-le-mul_right, pow-suc, mul_assoc}
 
--- the record i of a list lies before the list's end
-pub slot_below : (first size count i n : ℕ) → i < count → first + size * count ≤ n → first + size * i + size ≤ n
-slot_below first size count i n h fits =
-    let m : size * (i + 1) ≤ size * count = mul-le-mul_left size (omega arith) in
-    omega arith
-
 -- how many records fit
 pub count_small : (first size count n : ℕ) → 8 ≤ size → first + size * count ≤ n → n ≤ 268435456 → count ≤ 33554432
 count_small first size count n large fits limit =
@@ -23,6 +17,7 @@ halved p d e n h half =
     let s : 2 ^ (p + 1) * e ≡ 2 ^ p * (2 * e) = rw (add-one, pow-suc, mul_assoc) refl in
     omega arith
 
+-- while one is left, there were at most 25 halvings
 pub few : (p d n : ℕ) → 2 ^ p * d ≤ n → 0 < d → n ≤ 33554432 → p ≤ 25
 few p d n h some small =
     elim (cases_lt p 26) [

@@ -13,17 +13,22 @@ number : (c : List ℕ) (offsets : Offsets) (i : ℕ) → HeaderAt (Stands c) of
     → get_or (fields c 0 10) i 0 ≡ get_or (header_numbers offsets) i 0
 number c offsets i stand = ap (λ (ns : List ℕ). get_or ns i 0) (header_read c offsets stand)
 
+-- the offset of the alias list
 pub aliases_read : (c : List ℕ) (offsets : Offsets) → HeaderAt (Stands c) offsets → field c 0 1 ≡ offsets.aliases
 aliases_read c offsets stand = number c offsets 1 stand
 
+-- the offset of the parent list
 pub parents_read : (c : List ℕ) (offsets : Offsets) → HeaderAt (Stands c) offsets → field c 0 2 ≡ offsets.parents
 parents_read c offsets stand = number c offsets 2 stand
 
+-- the offset of the magic list
 pub magic_read : (c : List ℕ) (offsets : Offsets) → HeaderAt (Stands c) offsets → field c 0 6 ≡ offsets.magic
 magic_read c offsets stand = number c offsets 6 stand
 
+-- the offset of the icon list
 pub icons_read : (c : List ℕ) (offsets : Offsets) → HeaderAt (Stands c) offsets → field c 0 8 ≡ offsets.icons
 icons_read c offsets stand = number c offsets 8 stand
 
+-- the offset of the list of generic icons
 pub generic_icons_read : (c : List ℕ) (offsets : Offsets) → HeaderAt (Stands c) offsets → field c 0 9 ≡ offsets.generic_icons
 generic_icons_read c offsets stand = number c offsets 9 stand

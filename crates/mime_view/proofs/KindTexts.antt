@@ -17,6 +17,7 @@ AreTexts c [] (text ∷ texts) = ⊥
 AreTexts c (place ∷ places) [] = ⊥
 AreTexts c (place ∷ places) (text ∷ texts) = (text_at c place ≡ Ok text) × AreTexts c places texts
 
+-- one text more
 AreTexts-more : (c places : List ℕ) (texts : List (List ℕ)) (place : ℕ) (text : List ℕ) → AreTexts c places texts
     → text_at c place ≡ Ok text → AreTexts c (places ++ place ∷ []) (texts ++ text ∷ [])
 AreTexts-more c [] [] place text are here = (here, tt)
@@ -50,6 +51,7 @@ AreTexts-length c [] (text ∷ texts) are = absurd are
 AreTexts-length c (place ∷ places) [] are = absurd are
 AreTexts-length c (place ∷ places) (text ∷ texts) are = ap suc (AreTexts-length c places texts are.1)
 
+-- the offsets of the types of hits
 abbrev kinds_at : List (ℕ × ℕ) → List ℕ
 kinds_at hits = map (λ hit. hit.1) hits
 

@@ -13,6 +13,7 @@ mod AllOf
 mod LineRows
 mod LineValues
 mod SectionRows
+mod StandingValues
 mod MagicLists
 mod Spelled
 mod Charges

@@ -41,6 +41,7 @@ pub record Next (c : List ℕ) (first count : ℕ) (content : List ℕ) (host : 
   pub later : (r' v' : ℕ) → some_holds (line own children bare) content host ≡ false → r ≤ r' + (1 + line_count children)
       → v ≤ v' + (length own.value + forest_value_length children) → Left c first count content host lines r0 v0 (i + 1) r' v'
 
+-- of some lines that are left, the first is the next one
 next_of : (c : List ℕ) (first count : ℕ) (content : List ℕ) (host : Host) (lines : Forest) (r0 v0 i r v : ℕ) (rest : Forest)
     → i < count → width rest + i ≡ count → ReadsLines c (first + 32 * i) rest → some_holds lines content host ≡ some_holds rest content host
     → ((n : ℕ) → are_allowed (suc n) lines ≡ true → are_allowed (suc n) rest ≡ true)
@@ -66,6 +67,7 @@ next_of c first count content host lines r0 v0 i r v (line own children rest) l 
   };
 }
 
+-- while some are left there is a next one
 pub next : (c : List ℕ) (first count : ℕ) (content : List ℕ) (host : Host) (lines : Forest) (r0 v0 i r v : ℕ) → i < count
     → Left c first count content host lines r0 v0 i r v → Next c first count content host lines r0 v0 i r v
 next c first count content host lines r0 v0 i r v l left =
@@ -77,6 +79,7 @@ unfolding some_holds
 nothing bare content host w = refl
 nothing (line own children rest) content host w = absurd (omega arith)
 
+-- where none is left, none holds
 pub none_left : (c : List ℕ) (first count : ℕ) (content : List ℕ) (host : Host) (lines : Forest) (r0 v0 i r v : ℕ) → count ≤ i
     → Left c first count content host lines r0 v0 i r v → some_holds lines content host ≡ false
 none_left c first count content host lines r0 v0 i r v l left =

@@ -22,6 +22,7 @@ length-lying c at size lie = by_size (size == 0) refl lie
         let inside : at + size ≤ length c = leb-true (at + size) (length c) lie in
         length-take-le size (drop at c) (omega (arith, length-drop at c))
 
+-- a value that lies in the cache with its mask has its length
 pub length-value : (c : List ℕ) (at mask size : ℕ) → both_lie c at mask size ≡ true → length (value_at c at size) ≡ size
 length-value c at mask size lie = length-lying c at size (both_left (lies c at size) (mask == 0 || lies c mask size) lie)
 

@@ -130,6 +130,7 @@ module _ (key : List ℕ) where
     run_of rules (λ i j l w. far (suc i) (suc j) (omega arith) (omega arith)) (λ i l. low (suc i) (omega arith)),
   )
 
+  -- from a place on where none is less, the rules are a run
   run_from : (place : ℕ) (rules : List GlobRule)
       → ((i j : ℕ) → i ≤ j → j < length rules → is_less (get_or (texts_of rules) j []) (get_or (texts_of rules) i []) ≡ false)
       → ((i : ℕ) → place ≤ i → i < length rules → is_less (get_or (texts_of rules) i []) key ≡ false) → AreRun key (drop place rules)

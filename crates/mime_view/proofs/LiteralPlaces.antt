@@ -35,6 +35,7 @@ pub record Placed (c : List ℕ) (at : ℕ) (rules : List GlobRule) (key : List 
 
 module _ (c : List ℕ) (at : ℕ) (rules : List GlobRule) (stand : LiteralsAt (Stands c) at rules) (count : ℕ)
     (is : count ≡ field c at 0) where
+  -- a list that stands can be searched
   pub searched : Searched c at count stand.entries
   searched =
       let n : count ≡ length stand.entries = is ∙ count_read c 12 (IsRule (Stands c)) at stand.entries stand.stand in
@@ -46,6 +47,7 @@ module _ (c : List ℕ) (at : ℕ) (rules : List GlobRule) (stand : LiteralsAt (
         sorted = texts_sorted stand.entries stand.sorted.in_order;
       }
 
+  -- from the place of a text on, its rules come first
   pub placed : (key : List ℕ) (start : ℕ) → SplitsAt (texts_of stand.entries) key start → Placed c at rules key count start
   placed key start splits =
       let n : count ≡ length stand.entries = is ∙ count_read c 12 (IsRule (Stands c)) at stand.entries stand.stand in

@@ -74,6 +74,7 @@ of_text-cons key rule rules = filter-append (λ other. bytes_eq (stored_text oth
 
 module _ (c : List ℕ) (first start count : ℕ) (case : Case) (key : List ℕ) (rules : List GlobRule) (old : Kept) (r0 i : ℕ) (now : Kept)
     (r : ℕ) (is : Left c first start count case key rules old r0 i now r) where
+  -- of some entries that are left, the first is the next one
   next_of : i < count → (left : List GlobRule) → is.left ≡ left → Next c first start count case key rules old r0 i now r
   next_of within [] e = let n = is.size in let none = ap length e in absurd (omega arith)
   next_of within (rule ∷ rest) e =
@@ -120,5 +121,6 @@ module _ (c : List ℕ) (first start count : ℕ) (case : Case) (key : List ℕ)
             (offers_append c (admitted case is.done) (taken case key (rule ∷ [])) old now now' (is.offers ok) offers);
       }
 
+  -- while some are left there is a next one
   pub next : i < count → Next c first start count case key rules old r0 i now r
   next within = next_of within is.left refl

@@ -56,6 +56,7 @@ same_less a b z same = ap is_lt (nat_list_cmp_total.congr a b z (equal (slice_cm
     equal Greater e = absurd (true≢false (sym e))
 
 module _ (keys : List (List ℕ)) (key : List ℕ) (place : ℕ) (is : SplitsAt keys key place) where
+  -- the text at a place
   abbrev text : ℕ → List ℕ
   text i = get_or keys i []
 

@@ -1,48 +1,20 @@
 -- A magic list that stands in a cache, of lines that are allowed, is read as its sections.
-use Rattle.std.proofs.Common.{◌≡◌, ℕ, zero, suc, ◌+◌, ◌*◌, ◌<◌, ◌≤◌, ◌==◌, true, false, true≢false, List, [], ◌∷◌}
-use Rattle.std.proofs.Common.{length, get_or, Option, None, Some, refl, sym, ap, subst, ◌∙◌, arith, inl, inr}
-use Rattle.std.proofs.lemmas.Bool.{cases_lt, eqb-true, false_from_ne_true, le-leb}
+use Rattle.std.proofs.Common.{◌≡◌, ℕ, zero, suc, ◌+◌, ◌*◌, ◌<◌, ◌≤◌, true, true≢false, List, [], ◌∷◌}
+use Rattle.std.proofs.Common.{length, get_or, sym, ap, subst, ◌∙◌, arith, inl, inr}
+use Rattle.std.proofs.lemmas.Bool.{cases_lt}
 use Rattle.std.specs.Prelude.{nat_lt}
-use Rattle.std.proofs.Math.Bool.{or-true}
-use Rattle.mime_base.specs.Cache.Bytes.{Stands, both_lie, field, fields, lies, optional_mask, value_at}
+use Rattle.mime_base.specs.Cache.Bytes.{Stands, field, fields}
 use Rattle.mime_base.specs.Format.Header.{HeaderAt, Offsets}
-use Rattle.mime_base.specs.Format.Magic.{IsSection, LinesAt, MagicAt, MaskAt, line_numbers, width}
+use Rattle.mime_base.specs.Format.Magic.{IsSection, LinesAt, MagicAt, line_numbers, width}
 use Rattle.mime_base.specs.Format.Records.{CardsAt, RecordsAt}
 use Rattle.mime_base.specs.Magic.{Forest, PlainLine, PlainSection, are_allowed, are_allowed_sections}
 use Rattle.mime_base.specs.Magic.{bare, fits_mask, fits_word, is_allowed, line}
-use Rattle.mime_base.specs.Magic.Holds.{bytes_of_mask}
-use Rattle.mime_base.proofs.CacheLemmas.Standing.{Stands-inside, value_at-standing}
+use Rattle.mime_base.proofs.CacheLemmas.Standing.{value_at-standing}
 use Rattle.mime_view.specs.Magic.{ReadsLines, ReadsMagic, ReadsSection, ReadsSections}
 use Rattle.mime_view.proofs.Headers.{magic_read}
 use Rattle.mime_view.proofs.AllOf.{both_left, both_right, first_of, last, second, third}
+use Rattle.mime_view.proofs.StandingValues.{both_standing, mask_standing}
 use Rattle.mime_view.proofs.Records.{numbers_read, record_inside, records_inside, text_read}
-
--- bytes that stand lie in the cache
-lies_standing : (c : List ℕ) (at : ℕ) (bytes : List ℕ) → Stands c at bytes → lies c at (length bytes) ≡ true
-lies_standing c at bytes stand =
-    rw (le-leb (at + length bytes) (length c) (Stands-inside c at bytes stand)) (or-true (length bytes == 0))
-
--- a value and its mask lie in the cache
-both_standing : (c : List ℕ) (value mask : ℕ) (bytes : List ℕ) (bits : Option (List ℕ)) → Stands c value bytes → MaskAt (Stands c) mask bits
-    → fits_mask bits (length bytes) ≡ true → both_lie c value mask (length bytes) ≡ true
-both_standing c value mask bytes None stand none fits =
-    rw (lies_standing c value bytes stand) (rw none refl)
-both_standing c value mask bytes (Some bits) stand some fits =
-    let size : length bits ≡ length bytes = eqb-true (length bits) (length bytes) fits in
-    let here : lies c mask (length bytes) ≡ true = ap (lies c mask) (sym size) ∙ lies_standing c mask bits some.1 in
-    rw (lies_standing c value bytes stand) (rw here (or-true (mask == 0)))
-
--- a number above 0 is not 0
-not_zero : (n : ℕ) → 0 < n → (n == 0) ≡ false
-not_zero n l = false_from_ne_true (n == 0) (λ is. let zero : n ≡ 0 = eqb-true n 0 is in absurd (omega arith))
-
--- a mask reads back
-mask_standing : (c : List ℕ) (mask : ℕ) (bits : Option (List ℕ)) (size : ℕ) → MaskAt (Stands c) mask bits → fits_mask bits size ≡ true
-    → optional_mask c mask size ≡ bytes_of_mask bits
-mask_standing c mask None size none fits = rw none refl
-mask_standing c mask (Some bits) size some fits =
-    let same : size ≡ length bits = sym (eqb-true (length bits) size fits) in
-    rw (not_zero mask some.0) (ap (value_at c mask) same ∙ value_at-standing c mask bits some.1)
 
 -- lines lie in the cache
 lines_inside : (c : List ℕ) (at : ℕ) (lines : Forest) → LinesAt (Stands c) at lines → 0 < width lines → at + 32 * width lines ≤ length c
@@ -60,6 +32,7 @@ mask_fits own allowed =
     last (nat_lt (own.start + own.range + length own.value) 4294967296) (nat_lt (length own.value) 65536)
     (fits_word own.word (length own.value)) (fits_mask own.mask (length own.value)) allowed
 
+-- lines that stand are read
 lines_read : (c : List ℕ) (at levels : ℕ) (lines : Forest) → are_allowed levels lines ≡ true
     → LinesAt (Stands c) at lines → ReadsLines c at lines
 lines_read c at levels bare allowed stand = stand
@@ -90,6 +63,7 @@ lines_read c at (suc levels) (line own children rest) allowed (value, mask, firs
       lines_read c (at + 32) (suc levels) rest outer later,
     )
 
+-- a section that stands is read with its lines
 section_read : (c : List ℕ) (at levels : ℕ) (section : PlainSection) (numbers : List ℕ) → are_allowed levels section.lines ≡ true
     → CardsAt (Stands c) at numbers → IsSection (Stands c) section numbers → ReadsSection c at section
 section_read c at levels section numbers allowed here (kind, first, are, text, lines) =
@@ -106,6 +80,7 @@ section_read c at levels section numbers allowed here (kind, first, are, text, l
       lines = rw at_first (lines_read c first levels section.lines allowed lines);
     }
 
+-- and so are sections that stand side by side
 sections_read : (c : List ℕ) (at : ℕ) (sections : List PlainSection) → are_allowed_sections sections ≡ true
     → RecordsAt (Stands c) 16 (IsSection (Stands c)) at sections → ReadsSections c at sections
 sections_read c at [] allowed stand = stand
@@ -114,6 +89,7 @@ sections_read c at (section ∷ sections) allowed (numbers, here, is, rest) = (
   sections_read c (at + 16) sections (both_right (are_allowed 64 section.lines) (are_allowed_sections sections) allowed) rest,
 )
 
+-- the numbers of a section take 16 bytes
 section_size : (c : List ℕ) (section : PlainSection) (numbers : List ℕ) → IsSection (Stands c) section numbers → 4 * length numbers ≡ 16
 section_size c section numbers (kind, first, are, text, lines) = ap (λ (ns : List ℕ). 4 * length ns) are
 
@@ -122,10 +98,10 @@ sections_inside : (c : List ℕ) (at : ℕ) (sections : List PlainSection) → R
     → 0 < length sections → at + 16 * length sections ≤ length c
 sections_inside c at [] stand some = absurd (omega arith)
 sections_inside c at (section ∷ sections) (numbers, here, is, rest) some =
-    let wide = section_size c section numbers is in
     let inside = record_inside c at numbers here in
     records_inside c 16 (IsSection (Stands c)) at (section ∷ sections) (section_size c) (omega arith) (numbers, here, is, rest)
 
+-- a list that stands is read as its sections
 magic_reads : (c : List ℕ) (at : ℕ) (sections : List PlainSection) → are_allowed_sections sections ≡ true → MagicAt (Stands c) at sections
     → ReadsMagic c at sections
 magic_reads c at sections allowed stand =

@@ -15,6 +15,7 @@ use Rattle.mime_view.proofs.PathFronts.{among_fronts, is_among}
 use Rattle.mime_view.proofs.PlainMatches.{ending-matches, literal-matches, starts_with-is}
 use Rattle.mime_view.proofs.RulePlaces.{literal_class, tree_pattern}
 
+-- what was folded stays as it is
 folded-folded : (b : ℕ) → folded (folded b) ≡ folded b
 folded-folded b = grind (arith, nat_tests)
 
@@ -24,6 +25,7 @@ compared-compared cased [] = refl
 compared-compared true (b ∷ text) = ap (λ rest. folded b ∷ rest) (compared-compared true text)
 compared-compared false (b ∷ text) = ap₂ ◌∷◌ (folded-folded b) (compared-compared false text)
 
+-- a map from the back is the map's reverse
 map-reverse : (f : ℕ → ℕ) (text : List ℕ) → map f (reverse text) ≡ reverse (map f text)
 map-reverse f [] = refl
 map-reverse f (b ∷ text) =

@@ -24,6 +24,7 @@ offers_append c xs ys old mid new first second = λ before are.
 
 -- keeping by a number, of what was kept by it
 module _ {X : Type 0} (f : X → ℕ) where
+  -- the greatest number is that of what was kept
   greatest-kept : (xs : List X) → greatest f (of_greatest f xs) ≡ greatest f xs
   greatest-kept [] = refl
   greatest-kept (x ∷ xs) =
@@ -34,6 +35,7 @@ module _ {X : Type 0} (f : X → ℕ) where
         | inr (inr more) ↦ (rw (cons-more f x xs more) (omega arith))
       ]
 
+  -- all that was kept is kept again
   kept-again : (xs : List X) → of_greatest f (of_greatest f xs) ≡ of_greatest f xs
   kept-again [] = refl
   kept-again (x ∷ xs) =
@@ -56,12 +58,9 @@ module _ {X : Type 0} (f : X → ℕ) where
         | inr (inr more) ↦ (push-more f kept x (omega arith) ∙ sym (push-more f xs x more))
       ]
 
-abbrev top : List (ℕ × ℕ) → ℕ
-top offers = greatest (λ offer. offer.0) offers
-
 -- offers have the ranks of their rules
 top-offers : (c : List ℕ) (offers : List (ℕ × ℕ)) (rules : List GlobRule) → AreOffers c offers rules
-    → top offers ≡ greatest rank_of_rule rules
+    → greatest (λ offer. offer.0) offers ≡ greatest rank_of_rule rules
 top-offers c [] [] are = refl
 top-offers c [] (rule ∷ rules) are = absurd are
 top-offers c (offer ∷ offers) [] are = absurd are

@@ -35,14 +35,17 @@ ranked-alike n first rest ranked test =
 abbrev pub in_literals : Case → Class → ℕ → Bool → Bool
 in_literals case class size cased = is_literal_class class && admits case cased
 
+-- that of the tree
 abbrev pub in_tree : Case → Class → ℕ → Bool → Bool
 in_tree case class size cased = is_suffix_class class && not (size == 1) && admits case cased
 
+-- that of the glob list
 abbrev pub in_globs : Class → ℕ → Bool → Bool
 in_globs class size cased = not (is_literal_class class) && not (is_suffix_class class && not (size == 1))
 
 -- whatever the class, the length and the case, one place takes them all
 
+-- with one search and one walk for both cases
 one_place-once : (class : Class) (alone cased : Bool) (xs : List GlobRule) →
     cond (is_literal_class class && true) xs []
     ++ (cond (is_suffix_class class && not alone && true) xs []
@@ -53,6 +56,7 @@ one_place-once Suffix true cased xs = refl
 one_place-once Suffix false cased xs = append-nil xs
 one_place-once Full alone cased xs = refl
 
+-- with one each for either case
 one_place-twice : (class : Class) (alone cased : Bool) (xs : List GlobRule) →
     cond (is_literal_class class && cased) xs []
     ++ (cond (is_literal_class class && not cased) xs []

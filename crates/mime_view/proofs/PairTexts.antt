@@ -8,12 +8,15 @@ use Rattle.mime_base.specs.Cache.Texts.{text_at}
 use Rattle.mime_view.specs.Lists.{KeysAt, ReadsKeys, place_of}
 use Rattle.mime_view.specs.Pairs.{PairsAt, ReadsPairs, looked_up}
 
+-- a text and what it gives
 abbrev pub Pair : Type 0
 Pair = List ℕ × List ℕ
 
+-- the pair beyond the last
 abbrev pub none : Pair
 none = ([], [])
 
+-- the first texts of pairs
 abbrev pub names : List Pair → List (List ℕ)
 names pairs = map (λ pair. pair.0) pairs
 

@@ -12,6 +12,7 @@ use Rattle.mime_view.proofs.Headers.{parents_read}
 use Rattle.mime_view.proofs.Records.{count_read, first_read, list_inside, record_at, second_read, text_read}
 use Rattle.mime_view.proofs.Subclasses.{kinds_have_parents, kinds_once, others_have_none}
 
+-- types, each with one of its parents
 abbrev Pairs : Type 0
 Pairs = List (List ℕ × List ℕ)
 
@@ -22,6 +23,7 @@ names_read c at (name ∷ names) (numbers, here, (text, are, is), rest) =
     let first = first_read c at text [] (rw are at here) in
     (ap (text_at c) first ∙ text_read c text name is, names_read c (at + 4) names rest)
 
+-- the number of a name takes 4 bytes
 name_size : (c name numbers : List ℕ) → IsName (Stands c) name numbers → 4 * length numbers ≡ 4
 name_size c name numbers (text, are, is) = ap (λ (ns : List ℕ). 4 * length ns) are
 
@@ -41,6 +43,7 @@ kinds_read c pairs at (kind ∷ kinds) (numbers, here, (text, list, are, is, abo
     let first = first_read c at text (list ∷ []) (rw are at here) in
     (ap (text_at c) first ∙ text_read c text kind is, kinds_read c pairs (at + 8) kinds rest)
 
+-- the numbers of an entry take 8 bytes
 entry_size : (c : List ℕ) (pairs : Pairs) (kind numbers : List ℕ) → IsSubclass (Stands c) pairs kind numbers → 4 * length numbers ≡ 8
 entry_size c pairs kind numbers (text, list, are, is, above) = ap (λ (ns : List ℕ). 4 * length ns) are
 
@@ -57,6 +60,7 @@ above_read c at pairs kinds stand i l =
         subst (λ (n : ℕ). ReadsTexts c n (parents pairs (get_or kinds i []))) (sym second)
         (texts_read c list (parents pairs (get_or kinds i [])) above)
 
+-- a list that stands is read as its types with their parents
 parents_reads : (c : List ℕ) (at : ℕ) (pairs : Pairs) → (stand : ParentsAt (Stands c) at pairs) → ReadsParents c at pairs stand.kinds
 parents_reads c at pairs stand = record {
   types = record {

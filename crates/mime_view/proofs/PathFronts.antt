@@ -14,6 +14,7 @@ use Rattle.mime_view.proofs.FilterSteps.{filter-alike, filter-back, filter-front
 abbrev pub is_among : List (List ℕ) → List ℕ → Bool
 is_among texts text = list_any (bytes_eq text) texts
 
+-- a text is among texts with a byte before each where it begins with the byte and its rest is among them
 among_longer : (b x : ℕ) (text : List ℕ) (texts : List (List ℕ)) →
     is_among (map (λ front. b ∷ front) texts) (x ∷ text) ≡ (eqb x b && is_among texts text)
 among_longer b x text [] = by_cases (eqb x b)
@@ -49,6 +50,7 @@ abbrev pub Lengthens : ℕ → List (List ℕ) → Type 0
 Lengthens n [] = Unit {0}
 Lengthens n (text ∷ texts) = (length text ≡ n) × Lengthens (suc n) texts
 
+-- and so do they with a byte before each
 Lengthens-map : (b n : ℕ) (texts : List (List ℕ)) → Lengthens n texts → Lengthens (suc n) (map (λ front. b ∷ front) texts)
 Lengthens-map b n [] longer = tt
 Lengthens-map b n (text ∷ texts) longer = (ap suc longer.0, Lengthens-map b (suc n) texts longer.1)
@@ -58,6 +60,7 @@ pub Lengthens-fronts : (path : List ℕ) → Lengthens 1 (fronts path)
 Lengthens-fronts [] = tt
 Lengthens-fronts (b ∷ path) = (refl, Lengthens-map b 1 (fronts path) (Lengthens-fronts path))
 
+-- a text shorter than the first is none of them
 shorter-not_among : (n : ℕ) (text : List ℕ) (texts : List (List ℕ)) → Lengthens n texts → length text < n →
     is_among texts text ≡ false
 shorter-not_among n text [] longer short = refl

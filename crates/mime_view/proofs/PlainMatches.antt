@@ -18,6 +18,7 @@ use Rattle.mime_base.proofs.MatchingLemmas.Sets.{is_literal_text-compared}
 abbrev literals : List ℕ → List Element
 literals text = map (λ b. one (this_byte b)) text
 
+-- they are the elements of a plain text
 elements-literals : (text : List ℕ) → is_literal_text text ≡ true → elements text ≡ literals text
 elements-literals [] plain = elements-nil
 elements-literals (b ∷ rest) plain =
@@ -28,6 +29,7 @@ elements-literals (b ∷ rest) plain =
     elements-cons b rest
     ∙ (rw (one_each.0, one_each.1, two.1, three.1) (ap (λ es. one (this_byte b) ∷ es) (elements-literals rest both.1)))
 
+-- they match the text alone
 matches-literals : (text name : List ℕ) → matches (literals text) name ≡ bytes_eq text name
 matches-literals [] [] = matches-nil []
 matches-literals [] (b ∷ name) = matches-nil (b ∷ name)
@@ -35,6 +37,7 @@ matches-literals (x ∷ text) [] = matches-one (this_byte x) (literals text) []
 matches-literals (x ∷ text) (b ∷ name) =
     matches-one (this_byte x) (literals text) (b ∷ name) ∙ ap (λ t. (x == b) && t) (matches-literals text name)
 
+-- and those of what is compared of one
 elements-compared : (text : List ℕ) (cased : Bool) → is_literal_text text ≡ true →
     elements (compared cased text) ≡ literals (compared cased text)
 elements-compared text cased plain = elements-literals (compared cased text) (is_literal_text-compared cased text ∙ plain)
@@ -52,6 +55,7 @@ pub starts_with-is : (path front : List ℕ) → (starts_with eqb path front ≡
     × ((rest : List ℕ) → path ≡ front ++ rest → starts_with eqb path front ≡ true)
 starts_with-is path front = starts_is Decides-eqb path front (starts_with eqb path front) refl
 
+-- after a star they match the names that end so
 ends-so : (ending name : List ℕ) → matches (any_bytes ∷ literals ending) name ≡ starts_with eqb (reverse name) (reverse ending)
 ends-so ending name =
     same_truth _ _

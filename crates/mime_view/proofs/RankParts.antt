@@ -48,6 +48,7 @@ Serves case name key = (cased : Bool) → admits case cased ≡ true → compare
 
 -- a rule that is taken from its place is found where it matches: by its key first, or last
 
+-- by its key first
 found_first : (place found taken ranked hit : Bool) → (place ≡ true → taken ≡ true → found ≡ hit)
     → (place && found && taken && ranked) ≡ (hit && ranked && (place && taken))
 found_first false found taken ranked hit same = sym (and_right (hit && ranked) false refl)
@@ -60,6 +61,7 @@ found_first true found true ranked hit same = ap (λ b. b && true && ranked) (sa
     by_cases true false = refl
     by_cases false b = refl
 
+-- by its key last
 found_last : (place found taken ranked hit : Bool) → (place ≡ true → taken ≡ true → found ≡ hit)
     → (place && taken && ranked && found) ≡ (hit && ranked && (place && taken))
 found_last false found taken ranked hit same = sym (and_right (hit && ranked) false refl)
@@ -73,9 +75,11 @@ found_last true found true ranked hit same = ap (λ b. ranked && b) (same refl r
     by_cases false false = refl
 
 module _ (n : ℕ) (rules : List GlobRule) (name : List ℕ) where
+  -- whether a rule has the rank
   abbrev is_ranked : GlobRule → Bool
   is_ranked rule = rank_of_rule rule == n
 
+  -- whether a rule matches the name
   abbrev is_hit : GlobRule → Bool
   is_hit rule = rule_matches rule.pattern rule.cased name
 

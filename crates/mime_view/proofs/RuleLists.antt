@@ -24,6 +24,7 @@ use Rattle.mime_view.proofs.Records.{count_read, list_inside, numbers_read, reco
 use Rattle.mime_view.proofs.ListedTree.{ended_leaves, listed_by_ending}
 use Rattle.mime_view.proofs.TreesRead.{siblings_inside, tree_read}
 
+-- a rule that stands is read as an entry
 entry_read : (c : List ℕ) (at : ℕ) (rule : GlobRule) (numbers : List ℕ) → rule.weight < 256 → CardsAt (Stands c) at numbers
     → IsRule (Stands c) rule numbers → ReadsEntry c at rule
 entry_read c at rule numbers weight here (text, kind, are, stored, named) =
@@ -39,6 +40,7 @@ entry_read c at rule numbers weight here (text, kind, are, stored, named) =
       weight = weight;
     }
 
+-- and so are rules that stand side by side
 entries_read : (c : List ℕ) (at : ℕ) (rules : List GlobRule) → All KeepsLimits rules
     → RecordsAt (Stands c) 12 (IsRule (Stands c)) at rules → ReadsEntries c at rules
 entries_read c at [] fit stand = tt
@@ -46,9 +48,11 @@ entries_read c at (rule ∷ rules) fit (numbers, here, is, rest) =
     let fits = All-head KeepsLimits rule rules fit in
     (entry_read c at rule numbers fits.0 here is, entries_read c (at + 12) rules (All-tail KeepsLimits rule rules fit) rest)
 
+-- the numbers of a rule take 12 bytes
 entry_size : (c : List ℕ) (rule : GlobRule) (numbers : List ℕ) → IsRule (Stands c) rule numbers → 4 * length numbers ≡ 12
 entry_size c rule numbers (text, kind, are, stored, named) = ap (λ (ns : List ℕ). 4 * length ns) are
 
+-- a list of rules that stands is read
 rules_read : (c : List ℕ) (at : ℕ) (rules : List GlobRule) → All KeepsLimits rules → ListAt (Stands c) 12 (IsRule (Stands c)) at rules
     → ReadsListedRules c at rules
 rules_read c at rules fit stand = record {
@@ -57,6 +61,7 @@ rules_read c at rules fit stand = record {
   entries = entries_read c (at + 4) rules fit stand.records;
 }
 
+-- a suffix tree that stands is read
 suffix_tree_read : (c : List ℕ) (at : ℕ) (rules : List GlobRule) → All KeepsLimits rules → (stand : SuffixTreeAt (Stands c) at rules)
     → ReadsSuffixTree c at stand.tree
 suffix_tree_read c at rules fit stand =
@@ -83,6 +88,7 @@ pub record AllRead (c : List ℕ) (literals tree globs : ℕ) (rules : List Glob
   pub count : length first ≡ length (literal_rules rules)
   pub size : node_count roots ≡ tree_size rules
 
+-- all three lists that stand are read
 all_stand : (c : List ℕ) (literals tree globs : ℕ) (offsets : Offsets) (rules : List GlobRule) → literals ≡ field c 0 3
     → tree ≡ field c 0 4 → globs ≡ field c 0 5 → HeaderAt (Stands c) offsets → All KeepsLimits rules
     → LiteralsAt (Stands c) offsets.literals rules → SuffixTreeAt (Stands c) offsets.tree rules → GlobsAt (Stands c) offsets.globs rules

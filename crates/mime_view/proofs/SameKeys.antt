@@ -23,6 +23,7 @@ record Found {X : Type 0} (key : X → List ℕ) (text : List ℕ) (ys : List X)
   none : with_key key text front ≡ []
   rest : with_key key text back ≡ more
 
+-- the first member of a key is found
 find : {X : Type 0} (key : X → List ℕ) (text : List ℕ) (ys : List X) (x : X) (more : List X) → with_key key text ys ≡ x ∷ more
     → Found key text ys x more
 find key text [] x more e = absurd cc

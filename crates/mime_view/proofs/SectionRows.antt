@@ -11,6 +11,7 @@ use Rattle.mime_base.specs.declared.magic.host.Host.{Host}
 use Rattle.mime_view.specs.Magic.{ReadsSection, ReadsSections}
 use Rattle.mime_view.proofs.AllOf.{both_left, both_right}
 
+-- sections as plain values
 abbrev Sections : Type 0
 Sections = List PlainSection
 
@@ -61,6 +62,7 @@ first-passed section rest content host is = by_lines (some_holds section.lines c
     by_lines true own is = absurd (cc)
     by_lines false own is = refl
 
+-- of some sections that are left, the first is the next one
 next_of : (c : List ℕ) (first count : ℕ) (content : List ℕ) (host : Host) (sections : Sections) (r0 v0 i r v : ℕ) (rest : Sections)
     → i < count → length rest + i ≡ count → ReadsSections c (first + 16 * i) rest
     → first_magic sections content host ≡ first_magic rest content host
@@ -89,16 +91,19 @@ next_of c first count content host sections r0 v0 i r v (section ∷ rest) l w r
       };
     }
 
+-- while some are left there is a next one
 pub next : (c : List ℕ) (first count : ℕ) (content : List ℕ) (host : Host) (sections : Sections) (r0 v0 i r v : ℕ) → i < count
     → Left c first count content host sections r0 v0 i r v → Next c first count content host sections r0 v0 i r v
 next c first count content host sections r0 v0 i r v l left =
     next_of c first count content host sections r0 v0 i r v left.rest l left.size left.reads left.alike left.depth left.records left.bytes
 
+-- no section gives no type
 nothing : (rest : Sections) (content : List ℕ) (host : Host) → length rest ≡ 0 → first_magic rest content host ≡ None
 unfolding first_magic
 nothing [] content host w = refl
 nothing (section ∷ rest) content host w = absurd (omega arith)
 
+-- where none is left, none gives a type
 pub none_left : (c : List ℕ) (first count : ℕ) (content : List ℕ) (host : Host) (sections : Sections) (r0 v0 i r v : ℕ) → count ≤ i
     → Left c first count content host sections r0 v0 i r v → first_magic sections content host ≡ None
 none_left c first count content host sections r0 v0 i r v l left =

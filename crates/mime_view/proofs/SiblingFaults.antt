@@ -19,6 +19,7 @@ here c at above left some byte last = inr (inl (record {
   is = refl;
 }))
 
+-- what is too deep below a node is so from the node
 deep_below : (c : List ℕ) (at above : ℕ) (e : CacheFault) → 0 < field c at 0 → field c at 0 < 256
     → IsDeep c (field c at 2) (field c at 1) (suc above) e → IsDeep c at 1 above e
 deep_below c at above e some byte deep =
@@ -45,6 +46,7 @@ below c at above first count deeper left e is2 is1 more some byte (inr (inr rule
 below c at above first count deeper left e is2 is1 more some byte (inr (inl deep)) =
     inr (inl (deep_below c at above e some byte (rw (sym is2, sym is1, sym more) deep)))
 
+-- what is too deep from one sibling is so from all
 deep_among : (c : List ℕ) (first count i above : ℕ) (e : CacheFault) → i < count → IsDeep c (first + 12 * i) 1 above e
     → IsDeep c first count above e
 deep_among c first count i above e l deep =

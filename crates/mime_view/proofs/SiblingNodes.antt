@@ -14,6 +14,7 @@ pub record IsLeaf (c : List ℕ) (at : ℕ) (ending : List ℕ) (one : Tree) : T
   pub alone : rules_of one ≡ rule ∷ []
   pub size : node_count one ≡ 1
 
+-- without a sibling there is no rule and no node
 none_after : (rest : Tree) → width rest ≡ 0 → (rules_of rest ≡ []) × (node_count rest ≡ 0)
 none_after bare none = (refl, refl)
 none_after (leaf rule rest) none = absurd (omega arith)

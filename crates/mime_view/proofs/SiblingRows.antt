@@ -25,6 +25,7 @@ pub record Next (c : List ℕ) (first count : ℕ) (ending : List ℕ) (tree : T
   pub later : (new : List PlainListed) (r' : ℕ) → new ≡ now ++ map listed_rule (rules_of one) → r ≤ r' + node_count one
       → Left c first count ending tree old r0 (i + 1) new r'
 
+-- of some siblings that are left, the first is the next one
 next_of : (c : List ℕ) (first count : ℕ) (ending : List ℕ) (tree : Tree) (old : List PlainListed) (r0 i : ℕ) (now : List PlainListed)
     (r : ℕ) (rest : Tree) → i < count → width rest + i ≡ count → ReadsListedTree c (first + 12 * i) ending rest
     → now ++ map listed_rule (rules_of rest) ≡ old ++ map listed_rule (rules_of tree) → r0 + node_count rest ≤ r + node_count tree
@@ -69,6 +70,7 @@ pub next : (c : List ℕ) (first count : ℕ) (ending : List ℕ) (tree : Tree) 
 next c first count ending tree old r0 i now r l left =
     next_of c first count ending tree old r0 i now r left.rest l left.size left.reads left.listed left.records
 
+-- where no sibling is left, no rule is added
 nothing : (rest : Tree) (now : List PlainListed) → width rest ≡ 0 → now ++ map listed_rule (rules_of rest) ≡ now
 nothing bare now none = append-nil now
 nothing (leaf rule rest) now none = absurd (omega arith)

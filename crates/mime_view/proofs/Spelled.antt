@@ -1,6 +1,6 @@
 -- Pairs that stand in a cache are read as their list says, whatever the order in which they stand.
 use Rattle.std.proofs.Common.{◌≡◌, ℕ, ◌+◌, ◌*◌, ◌<◌, Bool, true, false, List, [], ◌∷◌, length, get_or, refl, sym, ap, ap₂, ◌∙◌, arith}
-use Rattle.std.specs.Prelude.{IsOkAnd, Option, Result, Ok, Err, bytes_eq}
+use Rattle.std.specs.Prelude.{Option, bytes_eq}
 use Rattle.std.specs.Option.{option_map_or}
 use Rattle.std.specs.List.Sorted.{IsSortedBy}
 use Rattle.std.proofs.lemmas.List.{get_or-map, length-map}
@@ -77,8 +77,3 @@ resolved-looked_up (pair ∷ pairs) kind = by_first (bytes_eq pair.0 kind) refl 
         → resolved (pair ∷ pairs) kind ≡ found_or (looked_up (pair ∷ pairs) kind) kind
     by_first true is more = rw is refl
     by_first false is more = rw is more
-
--- an answer that is refused is no answer
-pub no_answer : {T E : Type 0} (P : T → Type 0) (r : Result T E) (e : E) → r ≡ Err e → IsOkAnd r P → ⊥
-no_answer P (Ok x) e is holds = absurd (cc is)
-no_answer P (Err x) e is holds = holds

@@ -11,6 +11,7 @@ use Rattle.mime_base.specs.declared.database.rule.GlobRule.{GlobRule}
 use Rattle.mime_base.specs.Matching.Elements.{elements}
 use Rattle.mime_base.proofs.MatchingLemmas.Sets.{compared_byte-mark, is_literal_text-compared}
 
+-- a byte that was compared is compared as it is
 compared_byte-again : (cased : Bool) (b : ℕ) → compared_byte cased (compared_byte cased b) ≡ compared_byte cased b
 compared_byte-again true b = refl
 compared_byte-again false b = grind (arith, nat_tests)
@@ -20,6 +21,7 @@ compared-again : (cased : Bool) (text : List ℕ) → compared cased (compared c
 compared-again cased [] = refl
 compared-again cased (b ∷ text) = ap₂ (λ (x : ℕ) (xs : List ℕ). x ∷ xs) (compared_byte-again cased b) (compared-again cased text)
 
+-- what is compared of a text has its class
 class_of-compared : (cased : Bool) (text : List ℕ) → class_of (compared cased text) ≡ class_of text
 unfolding class_of
 class_of-compared cased [] = refl
@@ -37,7 +39,7 @@ unfolding rule_matches
 rule_matches-stored rule name =
     ap (λ text. matches (elements text) (compared rule.cased name)) (compared-again rule.cased rule.pattern)
 
--- the flag and the weight
+-- the flag reads back
 pub cased-stored : (rule : GlobRule) → rule.weight < 256 → (weight_and_flags rule / 256 % 2 == 1) ≡ rule.cased
 cased-stored rule light = by_flag rule.cased
   where
@@ -45,6 +47,7 @@ cased-stored rule light = by_flag rule.cased
     by_flag true = grind (arith, nat_tests)
     by_flag false = grind (arith, nat_tests)
 
+-- the weight reads back
 pub weight-stored : (rule : GlobRule) → rule.weight < 256 → weight_and_flags rule % 256 ≡ rule.weight
 weight-stored rule light = by_flag rule.cased
   where

@@ -69,6 +69,7 @@ parents-some (pair ∷ pairs) kind is = by_first (bytes_eq kind pair.0) refl is 
     by_first true same is more = let e = nat_list_eq_equiv.symm pair.0 kind ∙ same in rw e (omega arith)
     by_first false same is more = let e = nat_list_eq_equiv.symm pair.0 kind ∙ same in rw e (more is)
 
+-- any other has none
 parents-none : (pairs : List (List ℕ × List ℕ)) (kind : List ℕ) → has (firsts pairs) kind ≡ false → parents pairs kind ≡ []
 unfolding parents
 parents-none [] kind none = refl
@@ -95,6 +96,7 @@ place_of-lacks (first ∷ texts) text none = by_first (bytes_eq first text) refl
         let e = nat_list_eq_equiv.symm text first ∙ same in rw e (more (stays (place_of texts text) none))
 
 module _ (pairs : List (List ℕ × List ℕ)) (kinds : List (List ℕ)) (permuted : IsPermutation (subclasses pairs) kinds) where
+  -- the types are just the first texts of pairs
   kinds-has : (kind : List ℕ) → has kinds kind ≡ has (firsts pairs) kind
   kinds-has kind = sym (list_any-IsPermutation (bytes_eq kind) (subclasses pairs) kinds permuted) ∙ unique-has (firsts pairs) kind
 

@@ -67,6 +67,7 @@ with_same character b path (x ∷ xs) is =
       | false ↦ with_same character b path xs is
     ])
 
+-- below another character there are none
 with_other : (character b : ℕ) (path : List ℕ) (xs : List Leaf) → (character == b) ≡ false
     → with_key path_of (b ∷ path) (map (under character) xs) ≡ []
 with_other character b path [] is = refl

@@ -11,14 +11,16 @@ use Rattle.mime_base.specs.Format.Tree.{InOrder, Tree, bare, leaf, node}
 use Rattle.mime_base.specs.declared.database.rule.GlobRule.{GlobRule}
 use Rattle.mime_view.proofs.TreeLeaves.{Leaf, leaves, path_of, rule_of, under}
 
--- no text is before the empty one, and a first character that both have decides nothing
+-- no text is before the empty one
 not_before_none : (text : List ℕ) → text_lt text [] ≡ false
 not_before_none [] = refl
 not_before_none (b ∷ text) = refl
 
+-- a first character that both have decides nothing
 same_first : (character : ℕ) (a b : List ℕ) → text_lt (character ∷ a) (character ∷ b) ≡ text_lt a b
 same_first character a b = rw (le-ltb character character (omega arith), eq-eqb character character refl) refl
 
+-- a text is not before one with a lesser first character
 greater_first : (x y : ℕ) (a b : List ℕ) → y < x → text_lt (x ∷ a) (y ∷ b) ≡ false
 greater_first x y a b l =
     let other : x ≡ y → ⊥ = λ e. omega (arith, e) in
@@ -33,6 +35,7 @@ abbrev Rising : List Leaf → Type 0
 Rising [] = Unit {0}
 Rising (x ∷ xs) = All (NotBefore x) xs × Rising xs
 
+-- leaves that rise, and others that rise after them
 Rising-append : (xs ys : List Leaf) → Rising xs → Rising ys → All (λ x. All (NotBefore x) ys) xs → Rising (xs ++ ys)
 Rising-append [] ys r s across = s
 Rising-append (x ∷ xs) ys r s across = (
@@ -40,6 +43,7 @@ Rising-append (x ∷ xs) ys r s across = (
   Rising-append xs ys r.1 s (All-tail (λ x. All (NotBefore x) ys) x xs across),
 )
 
+-- leaves that rise, all under one character
 Rising-under : (character : ℕ) (xs : List Leaf) → Rising xs → Rising (map (under character) xs)
 Rising-under character [] r = tt
 Rising-under character (x ∷ xs) r = (
@@ -59,6 +63,7 @@ after_node least before x path (node character below rest) is some l order =
     (λ k d w. rw is (greater_first character least (get_or (leaves below) k d).0 path (omega (arith, order.0)))))
     (after_node least character x path rest is some (omega (arith, order.0)) order.3)
 
+-- the leaves of a tree in order rise
 rising : (before : ℕ) (tree : Tree) → InOrder before tree → Rising (leaves tree)
 rising before bare order = tt
 rising before (leaf rule rest) order = (λ k d l. not_before_none (get_or (leaves rest) k d).0, rising before rest order.1)
@@ -86,6 +91,7 @@ ends_before left right = text_lt (reversed_ending left) (reversed_ending right)
 abbrev pub Keyed : Leaf → Type 0
 Keyed x = reversed_ending (rule_of x) ≡ path_of x
 
+-- the second rule of leaves that rise is not before the first
 first_rising : (x : Leaf) (xs : List Leaf) → Rising (x ∷ xs) → All Keyed (x ∷ xs) → (d : GlobRule) → 0 < length (map rule_of xs)
     → ends_before (get_or (map rule_of xs) 0 d) (rule_of x) ≡ false
 first_rising x [] r keyed d some = absurd (omega arith)
@@ -94,6 +100,7 @@ first_rising x (y ∷ ys) r keyed d some =
     let next : reversed_ending (rule_of y) ≡ path_of y = All-head Keyed y ys (All-tail Keyed x (y ∷ ys) keyed) in
     rw (here, next) (All-head (NotBefore x) y ys r.0)
 
+-- the rules of leaves that rise are sorted by their endings
 sorted_rules : (xs : List Leaf) → Rising xs → All Keyed xs → IsSortedBy ends_before (map rule_of xs)
 sorted_rules [] r keyed = λ k d low within. absurd (omega arith)
 sorted_rules (x ∷ xs) r keyed =

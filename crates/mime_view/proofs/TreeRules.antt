@@ -14,6 +14,7 @@ use Rattle.mime_base.specs.declared.kept.class.Class.{Class}
 use Rattle.mime_base.specs.declared.kept.class.Class.TheVariants.{Literal, Suffix, Full}
 use Rattle.mime_view.specs.SuffixTree.{IsSuffixRule}
 
+-- the test passes the class Suffix alone
 suffix_class : (class : Class) → is_suffix_class class ≡ true → class ≡ Suffix
 suffix_class Literal is = absurd (true≢false (sym is))
 suffix_class Suffix is = refl

@@ -80,17 +80,19 @@ abbrev pub walk_visits : List ℕ → Tree → ℕ
 walk_visits [] tree = 0
 walk_visits (b ∷ path) tree = scan_visits (below_character b tree) + walk_visits path (below_character b tree)
 
--- a scan visits one more than there are leaves, and no more than there are nodes
+-- a scan visits at most one more than there are leaves
 scan_few : (tree : Tree) → scan_visits tree ≤ length (leaves_at [] tree) + 1
 scan_few bare = omega arith
 scan_few (leaf rule rest) = omega (arith, scan_few rest)
 scan_few (node character below rest) = omega arith
 
+-- and no more than there are nodes
 scan_within : (tree : Tree) → scan_visits tree ≤ node_count tree
 scan_within bare = omega arith
 scan_within (leaf rule rest) = omega (arith, scan_within rest)
 scan_within (node character below rest) = omega arith
 
+-- the leaves here are among the nodes
 leaves_within : (tree : Tree) → length (leaves_at [] tree) ≤ node_count tree
 leaves_within bare = omega arith
 leaves_within (leaf rule rest) = omega (arith, leaves_within rest)
@@ -119,6 +121,7 @@ below_within b (node character below rest) some = by_first (character == b) (bel
     by_first true later some = omega (arith, leaves_within rest)
     by_first false later some = omega (arith, later some)
 
+-- a scan and a walk visit no more than there are nodes
 scan_and_walk : (path : List ℕ) (tree : Tree) → scan_visits tree + walk_visits path tree ≤ node_count tree
 scan_and_walk [] tree = omega (arith, scan_within tree)
 scan_and_walk (b ∷ path) tree =

@@ -39,10 +39,12 @@ All-front : (P : Leaf → Type 0) (xs ys : List Leaf) → All P (xs ++ ys) → A
 All-front P [] ys all = All-nil P
 All-front P (x ∷ xs) ys all = All-cons P x xs (All-head P x (xs ++ ys) all) (All-front P xs ys (All-tail P x (xs ++ ys) all))
 
+-- and of those of the other part
 All-back : (P : Leaf → Type 0) (xs ys : List Leaf) → All P (xs ++ ys) → All P ys
 All-back P [] ys all = all
 All-back P (x ∷ xs) ys all = All-back P xs ys (All-tail P x (xs ++ ys) all)
 
+-- what holds of leaves under a character holds of each under it
 All-under : (P : Leaf → Type 0) (character : ℕ) (xs : List Leaf) → All P (map (under character) xs) → All (λ x. P (under character x)) xs
 All-under P character [] all = All-nil (λ x. P (under character x))
 All-under P character (x ∷ xs) all =
@@ -53,6 +55,7 @@ All-under P character (x ∷ xs) all =
 abbrev pub GoesOn : List ℕ → Leaf → Type 0
 GoesOn ending x = IsEnded (reverse ending ++ path_of x) (rule_of x)
 
+-- a leaf under a character goes on from the ending with it
 one_on : (character : ℕ) (ending : List ℕ) (x : Leaf) → GoesOn ending (under character x) → GoesOn (character ∷ ending) x
 one_on character ending x end =
     let e : reverse ending ++ (character ∷ path_of x) ≡ reverse (character ∷ ending) ++ path_of x =
@@ -65,6 +68,7 @@ record IsCharacter (character : ℕ) (ending : List ℕ) : Type 0 where
   byte : character < 256
   depth : length ending < 254
 
+-- the character above leaves that go on is such a one
 leads : (character : ℕ) (ending : List ℕ) (xs : List Leaf) → 0 < length xs → All (λ x. GoesOn ending (under character x)) xs
     → IsCharacter character ending
 leads character ending [] some all = absurd (omega arith)

@@ -28,16 +28,19 @@ literal_or_tree Full longer is = absurd (true≢false (sym is))
 
 -- a rule that stands in the literal list, in the suffix tree or in neither, and matches or not, is near in one way
 
+-- a hit of the literal list is none of the tree
 not_both : (literal suffix hit : Bool) → (literal ≡ true → suffix ≡ false) → (literal && hit) ≡ true → (suffix && hit) ≡ false
 not_both true true hit one is = absurd (true≢false (one refl))
 not_both true false hit one is = refl
 not_both false suffix hit one is = absurd (true≢false (sym is))
 
+-- a hit of either is no rule of the glob list
 not_general : (literal suffix hit : Bool) → (literal && hit || suffix && hit) ≡ true → (not literal && not suffix) ≡ false
 not_general true suffix hit is = refl
 not_general false true hit is = refl
 not_general false false hit is = absurd (true≢false (sym is))
 
+-- a hit of either, and each rule of the glob list, is near
 any_near : (literal suffix hit : Bool) → (literal && hit || suffix && hit || not literal && not suffix) ≡ true
     → (not literal && not suffix || hit) ≡ true
 any_near literal suffix true is = or_right _ _ refl
@@ -47,12 +50,15 @@ any_near false true false is = absurd (true≢false (sym is))
 any_near false false false is = refl
 
 module _ (rules : List GlobRule) (name : List ℕ) where
+  -- whether it is a literal rule near the name
   abbrev near_literal : GlobRule → Bool
   near_literal rule = is_in_literals rule && rule_matches rule.pattern false name
 
+  -- whether it is a rule of the tree near the name
   abbrev near_ending : GlobRule → Bool
   near_ending rule = is_in_tree rule && rule_matches rule.pattern false name
 
+  -- the literal rules of a key are near the name
   literals-near : (key : List ℕ) → compared false key ≡ compared false name
       → length (with_key stored_text key (literal_rules rules)) ≤ length (filter near_literal rules)
   literals-near key alike =
@@ -61,6 +67,7 @@ module _ (rules : List GlobRule) (name : List ℕ) where
       (λ rule. literal-near rule key name alike) rules in
       omega arith
 
+  -- the rules that end a key are near the name
   endings-near : (key : List ℕ) → compared false key ≡ compared false name
       → length (ending_rules key rules) ≤ length (filter near_ending rules)
   endings-near key alike =

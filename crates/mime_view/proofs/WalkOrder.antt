@@ -14,20 +14,24 @@ use Rattle.mime_view.proofs.OnePlace.{places-once, places-twice}
 use Rattle.mime_view.proofs.RankParts.{Serves, glob_part, literal_part, of_rank, of_rank-ranked, tree_part}
 use Rattle.mime_view.proofs.SameRanks.{of_greatest-each}
 
+-- with case a text is compared as it is
 compared-cased : (name : List ℕ) → compared true name ≡ name
 compared-cased [] = refl
 compared-cased (b ∷ name) = ap (λ rest. b ∷ rest) (compared-cased name)
 
 -- which key serves which search
 
+-- the name itself serves the case-sensitive rules
 serves-exact : (name : List ℕ) → Serves Exact name name
 serves-exact name true takes = compared-cased name
 serves-exact name false takes = absurd (true≢false (sym takes))
 
+-- the folded name serves the others
 serves-folded : (name : List ℕ) → Serves Folded name (compared false name)
 serves-folded name true takes = absurd (true≢false (sym takes))
 serves-folded name false takes = refl
 
+-- a name that folding leaves alone serves both
 serves-both : (name : List ℕ) → compared false name ≡ name → Serves Both name name
 serves-both name alone true takes = compared-cased name
 serves-both name alone false takes = alone
@@ -38,9 +42,11 @@ of_rank-append : (n : ℕ) (xs ys : List GlobRule) {some others : List GlobRule}
 of_rank-append n xs ys first second = filter-append (λ rule. rank_of_rule rule == n) xs ys ∙ ap₂ ◌++◌ first second
 
 module _ (rules : List GlobRule) (name : List ℕ) (fits : All FitsRank rules) where
+  -- the rules that match fit a rank
   hits-fit : All FitsRank (hits rules name)
   hits-fit = All-filter (λ rule. rule_matches rule.pattern rule.cased name) FitsRank rules fits
 
+  -- those of the greatest rank are the kept ones
   kept-by_rank : of_greatest rank_of_rule (hits rules name) ≡ kept_rules rules name
   unfolding kept_rules
   kept-by_rank = of_greatest-rank_of_rule (hits rules name) hits-fit
