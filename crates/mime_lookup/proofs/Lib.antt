@@ -29,3 +29,4 @@ pub mod PairsLeft
 pub mod Queues
 pub mod SearchCosts
 pub mod MagicFirst
+pub mod BoundLemmas
