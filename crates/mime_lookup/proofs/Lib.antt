@@ -19,3 +19,4 @@ pub mod PairsLeft
 pub mod Queues
 pub mod CostLemmas
 pub mod SearchCosts
+pub mod OpenCaches
