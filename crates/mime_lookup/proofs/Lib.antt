@@ -20,3 +20,4 @@ pub mod Queues
 pub mod CostLemmas
 pub mod SearchCosts
 pub mod OpenCaches
+pub mod CauseLemmas

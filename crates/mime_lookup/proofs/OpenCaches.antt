@@ -1,5 +1,9 @@
 -- Caches whose header stands are opened, and texts of a cache are short.
 use Rattle.std.proofs.Common.{◌≡◌, ℕ, ◌+◌, ◌*◌, ◌<◌, ◌≤◌, List, [], ◌∷◌, length, length-append, get_or, Ok, refl, ap, arith}
+use Rattle.std.proofs.lemmas.Bool.{and_parts, leb-true}
+use Rattle.std.specs.List.{list_all}
+use Rattle.std.specs.Prelude.{nat_le, true}
+use Rattle.mime_base.specs.Names.{has_inner_slash, is_name_byte, is_type_name}
 use Rattle.mime_base.specs.Cache.Bytes.{Stands, card_bytes, cards, field}
 use Rattle.mime_base.specs.Cache.Texts.{text_at}
 use Rattle.mime_base.specs.Format.Header.{HeaderAt, Offsets, header_numbers}
@@ -36,6 +40,14 @@ never_refused c offsets stand small (LongText at) is = is
 never_refused c offsets stand small Spent is = is
 never_refused c offsets stand small TooDeep is = is
 never_refused c offsets stand small OutOfMemory is = is
+
+-- a type name has at most 255 bytes
+pub is_type_name-short : (text : List ℕ) → is_type_name text ≡ true → length text ≤ 255
+unfolding is_type_name
+is_type_name-short text is =
+    leb-true (length text) 255
+    (and_parts (nat_le 3 (length text)) (nat_le (length text) 255)
+    (and_parts _ (list_all is_name_byte text) (and_parts _ (has_inner_slash text) is).0).0).1
 
 -- a text of a cache has at most 255 bytes
 pub text_short : (c : List ℕ) (at : ℕ) (text : List ℕ) → text_at c at ≡ Ok text → length text ≤ 255
