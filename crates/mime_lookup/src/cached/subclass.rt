@@ -5,7 +5,6 @@ ghost use Rattle.mime_base.specs.Database.{PlainDatabase, pairs_of};
 ghost use Rattle.mime_base.specs.Database.Subclass.{IsA, resolved};
 ghost use Rattle.mime_base.specs.Format.Packed.{Packed};
 ghost use Rattle.mime_lookup.specs.Bounds.{KeepsBounds};
-ghost use Rattle.mime_lookup.specs.Cached.{IsStop};
 ghost use Rattle.mime_lookup.specs.Searching.{search_cost};
 ghost use Rattle.mime_lookup.specs.Spelling.{SpellsPairs};
 ghost use Rattle.mime_lookup.specs.StepFaults.{IsLookUpFault};
