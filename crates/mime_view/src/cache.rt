@@ -1,7 +1,8 @@
 //! A cache whose header was read ("The mime.cache files").
 
 ghost use Rattle.std.specs.Prelude.{◌≡◌, ◌⊎◌, true, false, ℕ, ◌+◌, ◌*◌, ◌<◌, ◌≤◌, List};
-ghost use Rattle.std.specs.Prelude.{All, Ok, length, map, option_map, IfErr, IfOk, IfSome, IsOkAnd, MatchOption, MatchResult, OnErr, OnOk};
+ghost use Rattle.std.specs.Prelude.{All, Ok, length, map, option_map};
+ghost use Rattle.std.specs.Prelude.{IfErr, IfOk, IfSome, IsOkAnd, MatchOption, MatchResult, OnErr, OnOk};
 ghost use Rattle.mime_base.specs.Cache.Bytes.{Stands, field};
 ghost use Rattle.mime_base.specs.Cache.Texts.{text_at};
 ghost use Rattle.mime_base.specs.Database.Limits.{KeepsLimits};

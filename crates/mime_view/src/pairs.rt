@@ -1,6 +1,7 @@
 //! Sorted lists of two names an entry: aliases, icons and generic icons.
 
-ghost use Rattle.std.specs.Prelude.{◌≡◌, ℕ, ◌+◌, ◌*◌, ◌^◌, ◌≤◌, ◌<◌, ◌⊎◌, List, Ok, length, option_map, IfOk, IfErr, IfSome, IsOkAnd, OnOk};
+ghost use Rattle.std.specs.Prelude.{◌≡◌, ℕ, ◌+◌, ◌*◌, ◌^◌, ◌≤◌, ◌<◌, ◌⊎◌, List, Ok, length, option_map};
+ghost use Rattle.std.specs.Prelude.{IfOk, IfErr, IfSome, IsOkAnd, OnOk};
 ghost use Rattle.mime_base.specs.Cache.Texts.{text_at};
 ghost use Rattle.mime_view.specs.Lists.{IsListFault, IsTextFault, LiesList};
 ghost use Rattle.mime_view.specs.Pairs.{ReadsPairs, looked_up};

@@ -4,7 +4,8 @@ ghost use Rattle.std.specs.Prelude.{◌≡◌, ◌≢◌, ◌⊎◌, ℕ, ◌+�
 ghost use Rattle.std.specs.Prelude.{IfErr, IfOk, IfSome, MatchResult, OnOk};
 ghost use Rattle.mime_base.specs.Database.{PlainDatabase};
 ghost use Rattle.mime_lookup.specs.Bounds.{KeepsBounds};
-ghost use Rattle.mime_lookup.specs.Icons.{HasIconLists, before_slash, generic_of_media, hyphen_for_slash, icons_of, or_else, plain_icons_of, with_hyphens};
+ghost use Rattle.mime_lookup.specs.Icons.{HasIconLists, icons_of, plain_icons_of};
+ghost use Rattle.mime_lookup.specs.Icons.{before_slash, generic_of_media, hyphen_for_slash, or_else, with_hyphens};
 ghost use Rattle.mime_lookup.specs.Spelling.{SpellsIcons};
 ghost use Rattle.mime_lookup.specs.StepFaults.{IsIconFault};
 
