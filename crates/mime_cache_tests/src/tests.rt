@@ -4,4 +4,5 @@ mod sample;
 mod store;
 mod text;
 mod texts;
+mod types;
 mod view;

@@ -1,5 +1,5 @@
 -- The texts of the kept types, each after one alias step.
-use Rattle.std.proofs.Common.{◌≡◌, ◌⊎◌, ℕ, ◌+◌, ◌*◌, ◌<◌, ◌≤◌, List, [], ◌∷◌, ◌++◌, length, take, get_or, map, arith, sym, ap, ◌∙◌}
+use Rattle.std.proofs.Common.{◌≡◌, ℕ, ◌+◌, ◌<◌, List, [], ◌∷◌, ◌++◌, length, take, get_or, map, sym, ap, ◌∙◌}
 use Rattle.std.specs.List.{All}
 use Rattle.std.proofs.lemmas.List.{get_or-map, length-map, map-append, take_more}
 use Rattle.std.proofs.lemmas.List.Elements.{All-push}
@@ -34,4 +34,5 @@ all_item Is items i item within are =
 -- one more that is as all are
 pub all_more : (Is : List ℕ → Type 0) (kinds new : List (Bor (List ℕ))) (name : Bor (List ℕ)) → new ≡ kinds ++ name ∷ [] →
     Is name.now → All Is (texts kinds) → All Is (texts new)
-all_more Is kinds new name pushed is so_far = rw (texts-pushed kinds new name pushed) (All-push Is (texts kinds) name.now so_far is)
+all_more Is kinds new name pushed is so_far =
+    rw (texts-pushed kinds new name pushed) (All-push Is (texts kinds) name.now so_far is)

@@ -6,12 +6,14 @@ use Rattle.mime_base.proofs.CacheLemmas.Numbers.{fields-standing, length-card_by
 use Rattle.mime_base.proofs.CacheLemmas.Standing.{Stands-inside}
 use Rattle.mime_view.specs.Opening.{IsOpenFault, Opens}
 use Rattle.mime_view.specs.declared.fault.CacheFault.{CacheFault}
-use Rattle.mime_view.specs.declared.fault.CacheFault.TheVariants.{LongText, OutOfMemory, OutOfRange, Spent, TooDeep, TooLarge, Truncated, Version}
+use Rattle.mime_view.specs.declared.fault.CacheFault.TheVariants.{LongText, OutOfMemory, OutOfRange, Spent}
+use Rattle.mime_view.specs.declared.fault.CacheFault.TheVariants.{TooDeep, TooLarge, Truncated, Version}
 
 -- so many numbers have four times as many bytes
 length-cards : (numbers : List ℕ) → length (cards numbers) ≡ 4 * length numbers
 length-cards [] = refl
-length-cards (n ∷ numbers) = omega (arith, length-append (card_bytes n) (cards numbers), length-card_bytes n, length-cards numbers)
+length-cards (n ∷ numbers) =
+    omega (arith, length-append (card_bytes n) (cards numbers), length-card_bytes n, length-cards numbers)
 
 -- by its version, and 40 bytes
 pub header_opens : (c : List ℕ) (offsets : Offsets) → HeaderAt (Stands c) offsets → length c ≤ 268435456 → Opens c
@@ -35,6 +37,6 @@ opens_without_fault c TooDeep opens fault = fault
 opens_without_fault c OutOfMemory opens fault = fault
 
 -- a header that stands in a cache of so few bytes gives none
-pub header_without_fault : (c : List ℕ) (offsets : Offsets) (e : CacheFault) → HeaderAt (Stands c) offsets → length c ≤ 268435456 →
-    IsOpenFault c e → ⊥
+pub header_without_fault : (c : List ℕ) (offsets : Offsets) (e : CacheFault) → HeaderAt (Stands c) offsets →
+    length c ≤ 268435456 → IsOpenFault c e → ⊥
 header_without_fault c offsets e stand limit fault = opens_without_fault c e (header_opens c offsets stand limit) fault

@@ -1,8 +1,10 @@
 -- The icons of a type ("The mime.cache files"). Those that stand in for a missing one are this project's own.
 use Rattle.std.specs.Prelude.{ℕ, ◌==◌, if◌then◌else◌, List, [], ◌∷◌, ◌++◌, map, Option, None, Some, codes}
+use Rattle.mime_base.specs.Cache.Bytes.{field}
 use Rattle.mime_base.specs.Database.{PlainDatabase}
 use Rattle.mime_base.specs.Database.Subclass.{resolved}
 use Rattle.mime_lookup.specs.declared.cached.icons.Icons.{Icons}
+use Rattle.mime_view.specs.Lists.{LiesList}
 use Rattle.mime_view.specs.Pairs.{looked_up}
 
 -- the names of a type's icon and of its generic icon
@@ -42,6 +44,12 @@ icons_by b kind = record {
 -- the icons of a type, after one alias step
 abbrev pub icons_of : PlainDatabase → List ℕ → PlainIcons
 icons_of b kind = icons_by b (resolved b.aliases kind)
+
+-- the lists of aliases, of icons and of generic icons lie in the cache
+pub record HasIconLists (c : List ℕ) : Type 0 where
+  pub aliases : LiesList c (field c 0 1) 8
+  pub icons : LiesList c (field c 0 8) 8
+  pub generic_icons : LiesList c (field c 0 9) 8
 
 -- the plain value of what is answered
 abbrev pub plain_icons_of : Icons → PlainIcons

@@ -60,6 +60,10 @@ pub record IsTextFault (c : List ℕ) (e : CacheFault) : Type 0 where
   pub no_text : text_at c at ≡ Err fault
   pub is : e ≡ cache_fault fault
 
+-- the list at `at`, of records of this size, lies in the cache
+abbrev pub LiesList : List ℕ → ℕ → ℕ → Type 0
+LiesList c at size = at + 4 + size * field c at 0 ≤ length c
+
 -- the list at `at`, of records of this size, does not lie in the cache
 pub record IsListFault (c : List ℕ) (at size : ℕ) (e : CacheFault) : Type 0 where
   pub outside : length c < at + 4 + size * field c at 0

@@ -1,8 +1,8 @@
 //! A cache whose header was read ("The mime.cache files").
 
 ghost use Rattle.std.specs.Prelude.{◌≡◌, ◌⊎◌, true, false, ℕ, ◌+◌, ◌*◌, ◌<◌, ◌≤◌, List};
-ghost use Rattle.std.specs.Prelude.{All, Ok, length, map, option_map, IfErr, IfOk, IfSome, IsOkAnd};
-ghost use Rattle.std.specs.Prelude.{MatchOption, MatchResult, OnErr};
+ghost use Rattle.std.specs.Prelude.{All, Ok, length, map, option_map};
+ghost use Rattle.std.specs.Prelude.{IfErr, IfOk, IfSome, IsOkAnd, MatchOption, MatchResult, OnErr, OnOk};
 ghost use Rattle.mime_base.specs.Cache.Bytes.{Stands, field};
 ghost use Rattle.mime_base.specs.Cache.Texts.{text_at};
 ghost use Rattle.mime_base.specs.Database.Limits.{KeepsLimits};
@@ -24,7 +24,7 @@ ghost use Rattle.mime_view.specs.Hits.{Charged, near};
 ghost use Rattle.mime_view.specs.Magic.{IsMagicFault, Paid, Takes, plain_found};
 ghost use Rattle.std.specs.Prelude.{IsOk};
 ghost use Rattle.mime_base.specs.Magic.Extent.{sections_extent};
-ghost use Rattle.mime_view.specs.Lists.{IsListFault, IsTextFault};
+ghost use Rattle.mime_view.specs.Lists.{IsListFault, IsTextFault, LiesList};
 ghost use Rattle.mime_view.specs.NameHits.{IsHitsFault};
 ghost use Rattle.mime_view.specs.Pairs.{looked_up};
 ghost use Rattle.mime_view.specs.Parents.{IsGiven, IsParentsFault, IsRead, has_place, is_marked};
@@ -184,6 +184,7 @@ impl<'a> Cache<'a> {
         ensures answer { (offsets : Offsets) (pairs : List (List ℕ × List ℕ)) → HeaderAt (Stands self.now) offsets →
             PairsAt (Stands self.now) offsets.aliases pairs → IsOkAnd result (λ name. name.now ≡ resolved pairs kind.now) }
         ensures text { IfOk result (λ name. (name.now ≡ kind.now) ⊎ ((at : ℕ) × (text_at self.now at ≡ Ok name.now))) }
+        ensures inside { OnOk result (LiesList self.now (field self.now 0 1) 8) }
         ensures fault { IfErr result (λ e. IsListFault self.now (field self.now 0 1) 8 e ⊎ IsTextFault self.now e) }
         ensures budget { budget.new ≡ budget.old }
         ensures rises { meter.old.nodes ≤ meter.new.nodes }
@@ -212,6 +213,7 @@ impl<'a> Cache<'a> {
             PairsAt (Stands self.now) offsets.icons icons →
             IsOkAnd result (λ name. option_map (λ text. text.now) name ≡ looked_up icons kind.now) }
         ensures text { IfOk result (λ name. IfSome name (λ text. (at : ℕ) × (text_at self.now at ≡ Ok text.now))) }
+        ensures inside { OnOk result (LiesList self.now (field self.now 0 8) 8) }
         ensures fault { IfErr result (λ e. IsListFault self.now (field self.now 0 8) 8 e ⊎ IsTextFault self.now e) }
         ensures budget { budget.new ≡ budget.old }
         ensures rises { meter.old.nodes ≤ meter.new.nodes }
@@ -238,6 +240,7 @@ impl<'a> Cache<'a> {
             PairsAt (Stands self.now) offsets.generic_icons icons →
             IsOkAnd result (λ name. option_map (λ text. text.now) name ≡ looked_up icons kind.now) }
         ensures text { IfOk result (λ name. IfSome name (λ text. (at : ℕ) × (text_at self.now at ≡ Ok text.now))) }
+        ensures inside { OnOk result (LiesList self.now (field self.now 0 9) 8) }
         ensures fault { IfErr result (λ e. IsListFault self.now (field self.now 0 9) 8 e ⊎ IsTextFault self.now e) }
         ensures budget { budget.new ≡ budget.old }
         ensures rises { meter.old.nodes ≤ meter.new.nodes }

@@ -1,8 +1,9 @@
 //! The entry of a key in a sorted list of two offsets an entry.
 
-ghost use Rattle.std.specs.Prelude.{◌≡◌, ℕ, ◌+◌, ◌*◌, ◌^◌, ◌≤◌, ◌<◌, ◌⊎◌, List, length, option_map, IfOk, IfErr, IfSome, IsOkAnd};
+ghost use Rattle.std.specs.Prelude.{◌≡◌, ℕ, ◌+◌, ◌*◌, ◌^◌, ◌≤◌, ◌<◌, ◌⊎◌, List, length, option_map};
+ghost use Rattle.std.specs.Prelude.{IfOk, IfErr, IfSome, IsOkAnd, OnOk};
 ghost use Rattle.mime_base.specs.Cache.Bytes.{field};
-ghost use Rattle.mime_view.specs.Lists.{HasText, IsListFault, IsTextFault, ReadsKeys, place_of};
+ghost use Rattle.mime_view.specs.Lists.{HasText, IsListFault, IsTextFault, LiesList, ReadsKeys, place_of};
 
 use crate::fault::CacheFault;
 use crate::list::count_at;
@@ -33,6 +34,7 @@ pub fn find_entry(
         × (entry.target ≡ field counted.now (at + 4 + 8 * entry.place) 1))) }
     ensures answer { (keys : List (List ℕ)) → ReadsKeys counted.now at keys →
         IsOkAnd result (λ found. option_map (λ entry. entry.place) found ≡ place_of keys key.now) }
+    ensures inside { OnOk result (LiesList counted.now at 8) }
     ensures fault { IfErr result (λ e. IsListFault counted.now at 8 e ⊎ IsTextFault counted.now e) }
     ensures rises { meter.old.nodes ≤ meter.new.nodes }
     ensures nodes { meter.new.nodes ≤ meter.old.nodes + 28 }

@@ -1,9 +1,9 @@
 //! Sorted lists of two names an entry: aliases, icons and generic icons.
 
-ghost use Rattle.std.specs.Prelude.{◌≡◌, ℕ, ◌+◌, ◌*◌, ◌^◌, ◌≤◌, ◌<◌, ◌⊎◌, List, Ok, length, option_map, IfOk};
-ghost use Rattle.std.specs.Prelude.{IfErr, IfSome, IsOkAnd};
+ghost use Rattle.std.specs.Prelude.{◌≡◌, ℕ, ◌+◌, ◌*◌, ◌^◌, ◌≤◌, ◌<◌, ◌⊎◌, List, Ok, length, option_map};
+ghost use Rattle.std.specs.Prelude.{IfOk, IfErr, IfSome, IsOkAnd, OnOk};
 ghost use Rattle.mime_base.specs.Cache.Texts.{text_at};
-ghost use Rattle.mime_view.specs.Lists.{IsListFault, IsTextFault};
+ghost use Rattle.mime_view.specs.Lists.{IsListFault, IsTextFault, LiesList};
 ghost use Rattle.mime_view.specs.Pairs.{ReadsPairs, looked_up};
 
 use crate::entry::find_entry;
@@ -23,6 +23,7 @@ pub fn look_up_pair<'a>(
         IsOkAnd result (λ name. option_map (λ text. text.now) name ≡ looked_up pairs key.now) }
     ensures text { IfOk result (λ name. IfSome name (λ text.
         (place : ℕ) × (text_at counted.now place ≡ Ok text.now))) }
+    ensures inside { OnOk result (LiesList counted.now at 8) }
     ensures fault { IfErr result (λ e. IsListFault counted.now at 8 e ⊎ IsTextFault counted.now e) }
     ensures rises { meter.old.nodes ≤ meter.new.nodes }
     ensures nodes { meter.new.nodes ≤ meter.old.nodes + 29 }

@@ -1,10 +1,11 @@
 //! The icons of a type, by a cache ("The mime.cache files").
 
 ghost use Rattle.std.specs.Prelude.{◌≡◌, ◌≢◌, ◌⊎◌, ℕ, ◌+◌, ◌*◌, ◌<◌, ◌≤◌, ◌==◌, length, map, option_map, position};
-ghost use Rattle.std.specs.Prelude.{IfErr, IfOk, IfSome, MatchResult};
+ghost use Rattle.std.specs.Prelude.{IfErr, IfOk, IfSome, MatchResult, OnOk};
 ghost use Rattle.mime_base.specs.Database.{PlainDatabase};
 ghost use Rattle.mime_lookup.specs.Bounds.{KeepsBounds};
-ghost use Rattle.mime_lookup.specs.Icons.{before_slash, generic_of_media, hyphen_for_slash, icons_of, or_else, plain_icons_of, with_hyphens};
+ghost use Rattle.mime_lookup.specs.Icons.{HasIconLists, icons_of, plain_icons_of};
+ghost use Rattle.mime_lookup.specs.Icons.{before_slash, generic_of_media, hyphen_for_slash, or_else, with_hyphens};
 ghost use Rattle.mime_lookup.specs.Spelling.{SpellsIcons};
 ghost use Rattle.mime_lookup.specs.StepFaults.{IsIconFault};
 
@@ -28,10 +29,12 @@ pub struct Icons {
 ///
 /// The type is resolved by one alias step first. Where the cache names no icon, it is the type with `-` for
 /// each `/`; where it names no generic icon, it is what stands before the type's first `/` and `-x-generic`.
-/// That is this project's own. [`Cause::Cache`] says what is wrong with the cache; no content is read.
+/// That is this project's own. [`Cause::Cache`] says what is wrong with the cache, where one of the three lists
+/// does not lie in it or a text does not stand; no content is read.
 pub fn icon_of<'a>(alloc: Global, cache: Counted<'a>, kind: &'a TypeName) -> Result<Icons, Stopped>
     ensures answer { (b : PlainDatabase) → SpellsIcons cache.entry b → IfOk result
         (λ icons. plain_icons_of icons ≡ icons_of b kind.entry.now) }
+    ensures lists { OnOk result (HasIconLists cache.entry) }
     ensures need { (b : PlainDatabase) → SpellsIcons cache.entry b → length cache.entry ≤ 268435456 →
         IfErr result (λ stopped. stopped.cause ≡ Cause.OutOfMemory) }
     ensures fault { IfErr result (λ stopped. (stopped.cause ≡ Cause.OutOfMemory)
@@ -64,6 +67,7 @@ fn find_icons<'a>(
 ) -> Result<(Vec<u8>, Vec<u8>), CacheFault>
     ensures answer { (b : PlainDatabase) → SpellsIcons cache.entry b → IfOk result
         (λ icons. record { icon = icons.0.items; generic = icons.1.items } ≡ icons_of b kind.entry.now) }
+    ensures lists { OnOk result (HasIconLists cache.entry) }
     ensures need { (b : PlainDatabase) → SpellsIcons cache.entry b → length cache.entry ≤ 268435456 →
         IfErr result (λ e. e ≡ CacheFault.OutOfMemory) }
     ensures fault { IfErr result (λ e. (e ≡ CacheFault.OutOfMemory) ⊎ IsIconFault cache.entry e) }

@@ -2,7 +2,6 @@ use Rattle.std.proofs.Common.{rules, ◌≡◌, ℕ, List, take_all, length, ari
 use denote.Bor.{Bor}
 use Rattle.std.proofs.lemmas.List.{length-map}
 use Rattle.std.proofs.lemmas.Simd.{map-map}
-use Rattle.mime_base.specs.Cache.Texts.{text_at}
 use Rattle.mime_base.specs.Database.Subclass.{resolved}
 use Rattle.mime_base.specs.Kept.{kept_rules}
 use Rattle.mime_base.specs.declared.database.rule.GlobRule.{GlobRule}
@@ -21,16 +20,18 @@ returns-in_err-unalias-clause-need c = λ b spelled enough.
 pub loop-kind-preserved : goal.loop-kind-preserved
 loop-kind-preserved c = record {
   size = search rules;
-  answer = λ b spelled. given_more (resolved b.aliases) c.as_slice-kind-items.result.now c.loop-kind.kinds.items c.push.new.self.items
-      c.loop-kind.kind-index _ c.in_ok-unalias.field-0 c.loop-kind-test.true c.in_ok-push.ensures.items
+  answer = λ b spelled. given_more (resolved b.aliases) c.as_slice-kind-items.result.now c.loop-kind.kinds.items
+      c.push.new.self.items c.loop-kind.kind-index _ c.in_ok-unalias.field-0 c.loop-kind-test.true c.in_ok-push.ensures.items
       (c.in_ok-unalias.ensures.answer spelled.offsets b.aliases spelled.header spelled.aliases)
       (c.loop-kind.invariant.answer b spelled);
   text =
       let items = c.as_slice-kind-items.result.now in
       let is = all_item (IsTextOf c.args.cache.now) items c.loop-kind.kind-index _ c.loop-kind-test.true
       (rw (sym c.as_slice-kind-items.ensures) at c.in_ok-hits.ensures.text) in
-      all_more (IsTextOf c.args.cache.now) c.loop-kind.kinds.items c.push.new.self.items c.in_ok-unalias.field-0 c.in_ok-push.ensures.items
-      (⊎_elim (λ same. subst (IsTextOf c.args.cache.now) (sym same) is) (λ text. text) c.in_ok-unalias.ensures.text) c.loop-kind.invariant.text;
+      all_more (IsTextOf c.args.cache.now) c.loop-kind.kinds.items c.push.new.self.items c.in_ok-unalias.field-0
+      c.in_ok-push.ensures.items
+      (⊎_elim (λ same. subst (IsTextOf c.args.cache.now) (sym same) is) (λ text. text) c.in_ok-unalias.ensures.text)
+      c.loop-kind.invariant.text;
   budget = search rules;
   rises = search rules;
   nodes = search rules;
@@ -43,7 +44,8 @@ unfolding kept
 returns-clause-answer c = λ b spelled.
     let step = resolved b.aliases in
     let items = c.as_slice-kind-items.result.now in
-    let hits = c.in_ok-hits.ensures.answer spelled.offsets b.rules spelled.ranks spelled.header spelled.literals spelled.tree spelled.globs in
+    let hits = c.in_ok-hits.ensures.answer spelled.offsets b.rules spelled.ranks spelled.header spelled.literals spelled.tree
+    spelled.globs in
     c.loop-kind.invariant.answer b spelled
     ∙ ap (λ all. map step (texts all)) (take_all c.loop-kind.kind-index items c.loop-kind-test.false)
     ∙ ap (map step) (c.as_slice-kind-items.ensures ∙ hits)

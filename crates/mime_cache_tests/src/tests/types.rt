@@ -1,0 +1,175 @@
+//! Icons and subclasses of types by caches, as they were made, written and damaged.
+//!
+//! The sample's header has the offset of the icons at 32 and that of the generic icons at 36. The parents
+//! of `t/g`, its one type that has any, stand at 64.
+
+use crate::tests::sample::{SAMPLE, SAMPLE_TEXTS};
+use crate::tests::texts::{Texts, merged};
+use mime_base::{Counted, TypeName};
+use mime_lookup::{Cause, Stopped, icon_of, is_a};
+use mime_store::write_cache;
+use mime_view::CacheFault;
+use std::alloc::Global;
+use std::test::Fail;
+
+/// The sample with an icon and a generic icon of one type.
+const WITH_ICONS: Texts<'static> = Texts {
+    icons: b"t/g:pkg\n",
+    generic_icons: b"t/g:package-x-generic\n",
+    ..SAMPLE_TEXTS
+};
+
+/// The fault of four bytes that are all ones and are taken for an offset.
+const FAR: CacheFault = CacheFault::OutOfRange(4_294_967_295);
+
+/// The sample with the four bytes at an offset all ones.
+fn damaged(at: usize) -> [u8; 240] {
+    let mut bytes = SAMPLE;
+    for byte in bytes.iter_mut().skip(at).take(4) {
+        *byte = 0xff;
+    }
+    bytes
+}
+
+/// A type, and its icons.
+struct IconRow {
+    kind: &'static [u8],
+    icon: &'static [u8],
+    generic: &'static [u8],
+}
+
+/// Whether the icons of a type are those of a row.
+fn has_icons(alloc: Global, cache: &[u8], row: &IconRow) -> Result<bool, Fail> {
+    let kind = TypeName::new(alloc, row.kind)?;
+    let icons = icon_of(alloc, Counted::new(cache), &kind)?;
+    Ok(icons.icon.as_slice() == row.icon && icons.generic.as_slice() == row.generic)
+}
+
+const OF_THE_SAMPLE: [IconRow; 3] = [
+    IconRow {
+        kind: b"t/h",
+        icon: b"t-g",
+        generic: b"t-x-generic",
+    },
+    IconRow {
+        kind: b"te/x/y",
+        icon: b"te-x-y",
+        generic: b"te-x-generic",
+    },
+    IconRow {
+        kind: b"t/z-",
+        icon: b"t-z-",
+        generic: b"t-x-generic",
+    },
+];
+
+#[test]
+fn icons_that_stand_in(rt: HostRuntime) -> Result<(), Fail> {
+    for row in &OF_THE_SAMPLE {
+        assert!(rt; has_icons(rt.alloc(), &SAMPLE, row)?, "{:?}", row.kind);
+    }
+    Ok(())
+}
+
+const WRITTEN: [IconRow; 3] = [
+    IconRow {
+        kind: b"t/g",
+        icon: b"pkg",
+        generic: b"package-x-generic",
+    },
+    IconRow {
+        kind: b"t/h",
+        icon: b"pkg",
+        generic: b"package-x-generic",
+    },
+    IconRow {
+        kind: b"t/m",
+        icon: b"t-m",
+        generic: b"t-x-generic",
+    },
+];
+
+#[test]
+fn icons_that_are_named(rt: HostRuntime) -> Result<(), Fail> {
+    let database = merged(rt.alloc(), &[WITH_ICONS])?;
+    let bytes = write_cache(rt.alloc(), &database, 1024)?;
+    for row in &WRITTEN {
+        assert!(rt; has_icons(rt.alloc(), &bytes, row)?, "{:?}", row.kind);
+    }
+    Ok(())
+}
+
+#[test]
+fn icons_of_damaged_caches(rt: HostRuntime) -> Result<(), Fail> {
+    let kind = TypeName::new(rt.alloc(), b"t/g")?;
+    let rows: [(&str, usize, CacheFault); 5] = [
+        ("the version", 0, CacheFault::Version(0xffff, 0xffff)),
+        ("the offset of the aliases", 4, FAR),
+        ("the offset of the icons", 32, FAR),
+        ("the offset of the generic icons", 36, FAR),
+        ("the count of the aliases", 40, CacheFault::OutOfRange(40)),
+    ];
+    for (name, at, fault) in rows {
+        let bytes = damaged(at);
+        let icons = icon_of(rt.alloc(), Counted::new(&bytes), &kind);
+        let stop = icons.err().map(|stopped| (stopped.cause, stopped.read));
+        assert_eq!(rt; stop, Some((Cause::Cache(fault), 0)), "{name}");
+    }
+    Ok(())
+}
+
+/// Whether a type is another or a subclass of it, by a cache.
+fn leads(
+    alloc: Global,
+    cache: &[u8],
+    kind: &[u8],
+    base: &[u8],
+) -> Result<Result<bool, Cause>, Fail> {
+    let kind = TypeName::new(alloc, kind)?;
+    let base = TypeName::new(alloc, base)?;
+    match is_a(alloc, Counted::new(cache), &kind, &base) {
+        Ok((found, _meter)) => Ok(Ok(found)),
+        Err(Stopped { cause, .. }) => Ok(Err(cause)),
+    }
+}
+
+#[test]
+fn subclasses_of_the_sample(rt: HostRuntime) -> Result<(), Fail> {
+    let rows: [(&[u8], &[u8], bool); 7] = [
+        (b"t/h", b"t/m", true),
+        (b"t/g", b"t/m", true),
+        (b"t/g", b"t/h", true),
+        (b"t/z", b"t/z", true),
+        (b"t/m", b"application/octet-stream", true),
+        (b"t/m", b"t/g", false),
+        (b"inode/directory", b"application/octet-stream", false),
+    ];
+    for (kind, base, is) in rows {
+        assert_eq!(rt;
+            leads(rt.alloc(), &SAMPLE, kind, base)?,
+            Ok(is),
+            "{kind:?} {base:?}"
+        );
+    }
+    Ok(())
+}
+
+#[test]
+fn subclasses_by_damaged_caches(rt: HostRuntime) -> Result<(), Fail> {
+    let rows: [(&str, usize, CacheFault); 5] = [
+        ("the offset of the aliases", 4, FAR),
+        ("the offset of the parent list", 8, FAR),
+        (
+            "the count of the parent list",
+            52,
+            CacheFault::OutOfRange(52),
+        ),
+        ("the count of the parents", 64, CacheFault::OutOfRange(64)),
+        ("the offset of the parent", 68, FAR),
+    ];
+    for (name, at, fault) in rows {
+        let found = leads(rt.alloc(), &damaged(at), b"t/g", b"t/z")?;
+        assert_eq!(rt; found, Err(Cause::Cache(fault)), "{name}");
+    }
+    Ok(())
+}
