@@ -1,4 +1,5 @@
 mod base;
+mod cached;
 mod lookup;
 mod sample;
 mod store;
