@@ -4,6 +4,7 @@
 mod by_name;
 mod globs;
 mod health;
+mod limits;
 mod magic;
 mod reads;
 mod sample;
@@ -54,10 +55,10 @@ fn are_answered_alike<R: Content + Drop>(
     } = *asked;
     let (mut of_lists, mut of_cache) = contents;
     let found = look_up_plain(alloc, database, file, &mut of_lists, host, order);
-    assert_eq!(rt; outcome_of(found), outcome, "{name}");
+    assert_eq!(rt; outcome_of(found), outcome, "{name}, {order:?}");
     let cache = write_cache(alloc, database, usize::MAX)?;
     let found = look_up_in(rt, alloc, &cache, file, &mut of_cache, host, order);
-    assert_eq!(rt; found, outcome, "{name}, by the cache");
+    assert_eq!(rt; found, outcome, "{name}, {order:?}, by the cache");
     Ok(())
 }
 

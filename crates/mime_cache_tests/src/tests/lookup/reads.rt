@@ -127,58 +127,24 @@ const ROWS: [Row; 12] = [
     },
 ];
 
-/// A name whose content's type is asked.
-fn asked(
-    name: &'static str,
-    file: &'static [u8],
-    order: Order,
-    outcome: Outcome<'static>,
-) -> Asked<'static> {
-    Asked {
-        name,
-        file,
-        host: Host::Little,
-        order,
-        outcome,
-    }
-}
-
 #[test]
 fn rows(rt: HostRuntime) -> Result<(), Fail> {
     let alloc = rt.alloc();
     for row in &ROWS {
         let database = of_rules(alloc, row.globs2)?;
-        let asked = asked(row.name, row.file, row.order, row.outcome);
+        let asked = Asked {
+            name: row.name,
+            file: row.file,
+            host: Host::Little,
+            order: row.order,
+            outcome: row.outcome,
+        };
         let told = row.content.map(Script::new);
         are_answered_alike(&rt, alloc, &database, &asked, (told, told))?;
         let untold = (told.map(Untold), told.map(Untold));
         are_answered_alike(&rt, alloc, &database, &asked, untold)?;
     }
     Ok(())
-}
-
-#[test]
-fn interrupted_reads(rt: HostRuntime) -> Result<(), Fail> {
-    let alloc = rt.alloc();
-    let database = of_rules(alloc, b"")?;
-    let mut steps = [Step::Interruption; 1002];
-    steps[1001] = Step::Piece(b"hi");
-    let script = Some(Script::new(&steps[1..]));
-    let line = asked(
-        "1,000 interruptions",
-        b"a",
-        Order::GlobsFirst,
-        Ok((b"text/plain", 2)),
-    );
-    are_answered_alike(&rt, alloc, &database, &line, (script, script))?;
-    let script = Some(Script::new(&steps));
-    let fault = asked(
-        "1,001 interruptions",
-        b"a",
-        Order::GlobsFirst,
-        Err((Cause::Read, 0)),
-    );
-    are_answered_alike(&rt, alloc, &database, &fault, (script, script))
 }
 
 #[test]
@@ -195,25 +161,5 @@ fn a_slice(rt: HostRuntime) -> Result<(), Fail> {
     let found = look_up_in(&rt, alloc, &cache, b"a", &mut content, host, order);
     assert_eq!(rt; found, Ok((&b"text/plain"[..], 3)));
     assert_eq!(rt; content.map(|rest| rest.len()), Some(0));
-    Ok(())
-}
-
-#[test]
-fn name_too_long(rt: HostRuntime) -> Result<(), Fail> {
-    let alloc = rt.alloc();
-    let database = of_rules(alloc, MAKEFILE)?;
-    for order in [Order::GlobsFirst, Order::MagicFirst] {
-        let fault = Some(Script::new(&[Step::Fault]));
-        let too_long = asked(
-            "4,097 bytes",
-            &[b'a'; 4097],
-            order,
-            Err((Cause::NameTooLong, 0)),
-        );
-        are_answered_alike(&rt, alloc, &database, &too_long, (fault, fault))?;
-        let line = Some(&b"hi\n"[..]);
-        let longest = asked("4,096 bytes", &[b'a'; 4096], order, Ok((b"text/plain", 3)));
-        are_answered_alike(&rt, alloc, &database, &longest, (line, line))?;
-    }
     Ok(())
 }
