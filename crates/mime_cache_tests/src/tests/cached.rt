@@ -22,7 +22,7 @@ struct Row<'a> {
     file: &'a [u8],
     content: Option<&'a [u8]>,
     order: Order,
-    outcome: Outcome<'a>,
+    outcome: Outcome<'static>,
 }
 
 /// Each row is answered by its outcome.

@@ -35,7 +35,7 @@ struct Asked<'a> {
     file: &'a [u8],
     host: Host,
     order: Order,
-    outcome: Outcome<'a>,
+    outcome: Outcome<'static>,
 }
 
 /// The lists of a database and the bytes of its cache have the same outcome, each with one of two equal contents.

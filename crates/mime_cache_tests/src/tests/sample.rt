@@ -65,6 +65,7 @@ pub const SELF_CHILD: [u8; 112] = [
 pub fn changed<const SIZE: usize>(mut cache: [u8; SIZE], at: usize, number: u32) -> [u8; SIZE]
     requires { at + 4 ≤ SIZE }
 {
-    cache[at..at + 4].copy_from_slice(&number.to_be_bytes());
+    let bytes = &mut cache[..];
+    bytes[at..at + 4].copy_from_slice(&number.to_be_bytes());
     cache
 }
