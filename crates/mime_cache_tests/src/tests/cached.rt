@@ -54,7 +54,11 @@ pub fn look_up_in<'a, R: Content>(
 ) -> Outcome<'a> {
     let found = look_up(alloc, Counted::new(cache), file, content, host, order);
     let (read, meter) = spent(&found);
-    let (nodes, bytes) = bounds(file.len() as u32, cache.len() as u32, read as u32);
+    let (nodes, bytes) = bounds(
+        short(file.len() as u64),
+        short(cache.len() as u64),
+        short(read),
+    );
     assert!(rt; u128::from(meter.nodes) <= nodes, "{} nodes", meter.nodes);
     assert!(rt; u128::from(meter.bytes) <= bytes, "{} bytes", meter.bytes);
     outcome_of(found)
@@ -66,6 +70,11 @@ fn spent(found: &Result<Answer<'_>, Stopped>) -> (u64, Meter) {
         Ok(answer) => (answer.read, answer.meter),
         Err(stopped) => (stopped.read, stopped.meter),
     }
+}
+
+/// A length in 32 bits; a longer one is taken for the longest of these.
+fn short(length: u64) -> u32 {
+    u32::try_from(length).unwrap_or(u32::MAX)
 }
 
 /// The most records that are visited and bytes that are compared, for the lengths of a name and of a cache and
