@@ -1,5 +1,4 @@
 mod base;
-mod cached;
 mod lookup;
 mod sample;
 mod store;

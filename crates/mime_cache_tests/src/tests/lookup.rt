@@ -2,6 +2,7 @@
 //! over the merged texts of directories.
 
 mod by_name;
+mod cached;
 mod globs;
 mod health;
 mod limits;
@@ -9,7 +10,7 @@ mod magic;
 mod reads;
 mod sample;
 
-use crate::tests::cached::look_up_in;
+use crate::tests::lookup::cached::look_up_in;
 use crate::tests::texts::{Texts, merged};
 use mime_base::{Database, Host};
 use mime_lookup::{Answer, Cause, Content, Order, Stopped, look_up_plain};

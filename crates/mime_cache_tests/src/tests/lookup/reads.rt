@@ -1,8 +1,8 @@
 //! What is read of contents, through readers that follow a script and tell their failures, and
 //! through the same readers where they tell nothing.
 
+use super::cached::look_up_in;
 use super::{Asked, Outcome, are_answered_alike, outcome_of};
-use crate::tests::cached::look_up_in;
 use crate::tests::texts::of_rules;
 use mime_base::Host;
 use mime_lookup::{Cause, Order, Script, Step, Untold, look_up_plain};

@@ -123,19 +123,33 @@ fn with(step: Step<'static>, at: usize) -> [Step<'static>; 4] {
     steps
 }
 
+/// The reads of the three pieces, and how many bytes came before.
+const READS: [(&str, u64); 4] = [
+    ("the first read", 0),
+    ("the second read", 1),
+    ("the third read", 2),
+    ("the read at the end", 3),
+];
+
 #[test]
 fn each_read_fails(rt: HostRuntime) {
-    for at in 0..4 {
+    for (at, (name, read)) in READS.iter().enumerate() {
         let row = Row {
-            name: "a fault",
+            name: *name,
             file: b"x",
             steps: &with(Step::Fault, at),
             order: Order::GlobsFirst,
-            outcome: Err((Cause::Read, at as u64)),
+            outcome: Err((Cause::Read, *read)),
         };
         is_answered(&rt, rt.alloc(), &SAMPLE, &row);
+    }
+}
+
+#[test]
+fn each_read_is_interrupted(rt: HostRuntime) {
+    for (at, (name, _)) in READS.iter().enumerate() {
         let row = Row {
-            name: "an interruption",
+            name: *name,
             file: b"x",
             steps: &with(Step::Interruption, at),
             order: Order::GlobsFirst,

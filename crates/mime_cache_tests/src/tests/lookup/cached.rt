@@ -8,7 +8,7 @@ mod names;
 mod orders;
 mod readers;
 
-use crate::tests::lookup::{Outcome, outcome_of};
+use super::{Outcome, outcome_of};
 use mime_base::{Counted, Host, Meter};
 use mime_lookup::{Answer, Content, Order, Stopped, look_up};
 use std::alloc::Global;
@@ -20,7 +20,7 @@ struct Row<'a> {
     name: &'static str,
     cache: &'a [u8],
     file: &'a [u8],
-    content: Option<&'a [u8]>,
+    content: Option<&'static [u8]>,
     order: Order,
     outcome: Outcome<'static>,
 }
@@ -38,7 +38,7 @@ fn are_answered(rt: &impl Abort, alloc: Global, rows: &[Row<'_>]) {
             Host::Little,
             row.order,
         );
-        assert_eq!(rt; found, row.outcome, "{}", row.name);
+        assert_eq!(rt; found, row.outcome, "{}, {:?}", row.name, row.order);
     }
 }
 
