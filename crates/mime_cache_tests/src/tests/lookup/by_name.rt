@@ -1,5 +1,6 @@
 //! Types of names without content, over glob rules alone.
 
+use super::{Asked, are_answered_alike};
 use crate::tests::texts::of_rules;
 use mime_base::{Database, Host, Meter, glob_matches};
 use mime_lookup::{Answer, Cause, Order, Stopped, look_up_plain};
@@ -107,8 +108,15 @@ fn look_up_name<'a>(
 fn rows(rt: HostRuntime) -> Result<(), Fail> {
     for row in &ROWS {
         let database = of_rules(rt.alloc(), row.globs2)?;
-        let answer = look_up_name(rt.alloc(), &database, row.file)?;
-        assert_eq!(rt; answer.kind, row.kind, "{}", row.name);
+        let asked = Asked {
+            name: row.name,
+            file: row.file,
+            host: Host::Little,
+            order: Order::GlobsFirst,
+            outcome: Ok((row.kind, 0)),
+        };
+        let contents: (Option<&[u8]>, Option<&[u8]>) = (None, None);
+        are_answered_alike(&rt, rt.alloc(), &database, &asked, contents)?;
     }
     Ok(())
 }

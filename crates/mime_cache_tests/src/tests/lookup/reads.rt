@@ -1,11 +1,12 @@
 //! What is read of contents, through readers that follow a script and tell their failures, and
 //! through the same readers where they tell nothing.
 
-use super::{Outcome, outcome_of};
+use super::cached::look_up_in;
+use super::{Asked, Outcome, are_answered_alike, outcome_of};
 use crate::tests::texts::of_rules;
-use mime_base::{Database, Host};
-use mime_lookup::{Cause, Content, Order, Script, Step, Untold, look_up_plain};
-use std::alloc::Global;
+use mime_base::Host;
+use mime_lookup::{Cause, Order, Script, Step, Untold, look_up_plain};
+use mime_store::write_cache;
 use std::test::Fail;
 
 struct Row {
@@ -126,77 +127,39 @@ const ROWS: [Row; 12] = [
     },
 ];
 
-fn outcome<'a, R: Content>(
-    alloc: Global,
-    database: &'a Database,
-    file: &[u8],
-    content: &mut Option<R>,
-    order: Order,
-) -> Outcome<'a> {
-    outcome_of(look_up_plain(alloc, database, file, content, Host::Little, order))
-}
-
 #[test]
 fn rows(rt: HostRuntime) -> Result<(), Fail> {
     let alloc = rt.alloc();
     for row in &ROWS {
         let database = of_rules(alloc, row.globs2)?;
-        let mut told = row.content.map(Script::new);
-        let found = outcome(alloc, &database, row.file, &mut told, row.order);
-        assert_eq!(rt; found, row.outcome, "{}", row.name);
-        let mut untold = row.content.map(|steps| Untold(Script::new(steps)));
-        let found = outcome(alloc, &database, row.file, &mut untold, row.order);
-        assert_eq!(rt; found, row.outcome, "{}, untold", row.name);
+        let asked = Asked {
+            name: row.name,
+            file: row.file,
+            host: Host::Little,
+            order: row.order,
+            outcome: row.outcome,
+        };
+        let told = row.content.map(Script::new);
+        are_answered_alike(&rt, alloc, &database, &asked, (told, told))?;
+        let untold = (told.map(Untold), told.map(Untold));
+        are_answered_alike(&rt, alloc, &database, &asked, untold)?;
     }
-    Ok(())
-}
-
-#[test]
-fn interrupted_reads(rt: HostRuntime) -> Result<(), Fail> {
-    let alloc = rt.alloc();
-    let database = of_rules(alloc, b"")?;
-    let mut steps = [Step::Interruption; 1002];
-    steps[1001] = Step::Piece(b"hi");
-    let mut content = Some(Script::new(&steps[1..]));
-    let found = outcome(alloc, &database, b"a", &mut content, Order::GlobsFirst);
-    assert_eq!(rt; found, Ok((&b"text/plain"[..], 2)), "1,000 interruptions");
-    let mut content = Some(Script::new(&steps));
-    let found = outcome(alloc, &database, b"a", &mut content, Order::GlobsFirst);
-    assert_eq!(rt; found, Err((Cause::Read, 0)), "1,001 interruptions");
     Ok(())
 }
 
 #[test]
 fn a_slice(rt: HostRuntime) -> Result<(), Fail> {
     let alloc = rt.alloc();
+    let (host, order) = (Host::Little, Order::GlobsFirst);
     let database = of_rules(alloc, b"")?;
     let mut content = Some(&b"hi\n"[..]);
-    let found = outcome(alloc, &database, b"a", &mut content, Order::GlobsFirst);
+    let found = look_up_plain(alloc, &database, b"a", &mut content, host, order);
+    assert_eq!(rt; outcome_of(found), Ok((&b"text/plain"[..], 3)));
+    assert_eq!(rt; content.map(|rest| rest.len()), Some(0));
+    let cache = write_cache(alloc, &database, usize::MAX)?;
+    let mut content = Some(&b"hi\n"[..]);
+    let found = look_up_in(&rt, alloc, &cache, b"a", &mut content, host, order);
     assert_eq!(rt; found, Ok((&b"text/plain"[..], 3)));
     assert_eq!(rt; content.map(|rest| rest.len()), Some(0));
-    Ok(())
-}
-
-#[test]
-fn name_too_long(rt: HostRuntime) -> Result<(), Fail> {
-    let alloc = rt.alloc();
-    let database = of_rules(alloc, MAKEFILE)?;
-    let name = [b'a'; 4097];
-    for order in [Order::GlobsFirst, Order::MagicFirst] {
-        let mut fault = Some(Script::new(&[Step::Fault]));
-        let found = outcome(alloc, &database, &name, &mut fault, order);
-        assert_eq!(rt;
-            found,
-            Err((Cause::NameTooLong, 0)),
-            "4,097 bytes, {order:?}"
-        );
-        let mut line = Some(&b"hi\n"[..]);
-        let found = outcome(alloc, &database, &name[1..], &mut line, order);
-        assert_eq!(rt;
-            found,
-            Ok((&b"text/plain"[..], 3)),
-            "4,096 bytes, {order:?}"
-        );
-    }
     Ok(())
 }

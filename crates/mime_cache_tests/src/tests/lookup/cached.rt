@@ -1,0 +1,87 @@
+//! Lookups over the bytes of caches, also of damaged and hostile ones. Each keeps to the bounds on what it visits
+//! and compares.
+
+mod cut;
+mod hostile;
+mod many;
+mod names;
+mod orders;
+mod readers;
+
+use super::{Outcome, outcome_of};
+use mime_base::{Counted, Host, Meter};
+use mime_lookup::{Answer, Content, Order, Stopped, look_up};
+use std::alloc::Global;
+use std::process::Abort;
+
+/// A cache, a name and a content, and what is answered.
+#[derive(Drop)]
+struct Row<'a> {
+    name: &'static str,
+    cache: &'a [u8],
+    file: &'a [u8],
+    content: Option<&'static [u8]>,
+    order: Order,
+    outcome: Outcome<'static>,
+}
+
+/// Each row is answered by its outcome.
+fn are_answered(rt: &impl Abort, alloc: Global, rows: &[Row<'_>]) {
+    for row in rows {
+        let mut content = row.content;
+        let found = look_up_in(
+            rt,
+            alloc,
+            row.cache,
+            row.file,
+            &mut content,
+            Host::Little,
+            row.order,
+        );
+        assert_eq!(rt; found, row.outcome, "{}, {:?}", row.name, row.order);
+    }
+}
+
+/// The outcome of a lookup over the bytes of a cache.
+pub fn look_up_in<'a, R: Content>(
+    rt: &impl Abort,
+    alloc: Global,
+    cache: &'a [u8],
+    file: &[u8],
+    content: &mut Option<R>,
+    host: Host,
+    order: Order,
+) -> Outcome<'a> {
+    let found = look_up(alloc, Counted::new(cache), file, content, host, order);
+    let (read, meter) = spent(&found);
+    let (nodes, bytes) = bounds(
+        short(file.len() as u64),
+        short(cache.len() as u64),
+        short(read),
+    );
+    assert!(rt; u128::from(meter.nodes) <= nodes, "{} nodes", meter.nodes);
+    assert!(rt; u128::from(meter.bytes) <= bytes, "{} bytes", meter.bytes);
+    outcome_of(found)
+}
+
+/// How much was read of the content and visited of the cache.
+fn spent(found: &Result<Answer<'_>, Stopped>) -> (u64, Meter) {
+    match found {
+        Ok(answer) => (answer.read, answer.meter),
+        Err(stopped) => (stopped.read, stopped.meter),
+    }
+}
+
+/// A length in 32 bits; a longer one is taken for the longest of these.
+fn short(length: u64) -> u32 {
+    u32::try_from(length).unwrap_or(u32::MAX)
+}
+
+/// The most records that are visited and bytes that are compared, for the lengths of a name and of a cache and
+/// for what was read of the content.
+fn bounds(name: u32, cache: u32, read: u32) -> (u128, u128) {
+    let (name, cache, read) = (u128::from(name), u128::from(cache), u128::from(read));
+    let nodes = 64 * (name + 2) + 16 * cache;
+    let bytes = 256 * nodes + 64 * (cache + 1) * (name + 1) + (read + 1) * cache;
+    (nodes, bytes)
+}

@@ -1,0 +1,113 @@
+//! Lookups over the sample's bytes, over its rules in the plain layout, and over bytes that are no cache.
+
+use super::{Row, are_answered};
+use crate::tests::sample::{PLAIN_LAYOUT, SAMPLE};
+use mime_base::{Counted, Host, Meter};
+use mime_lookup::{Cause, Order, Stopped, look_up};
+use mime_view::CacheFault;
+use std::test::Fail;
+
+const GZIP: Option<&[u8]> = Some(&[0x1f, 0x8b, 8]);
+
+const ROWS: [Row<'static>; 9] = [
+    Row {
+        name: "sample-lookups, an ending",
+        cache: &SAMPLE,
+        file: b"A.GZ",
+        content: None,
+        order: Order::GlobsFirst,
+        outcome: Ok((b"t/g", 0)),
+    },
+    Row {
+        name: "sample-lookups, a literal",
+        cache: &SAMPLE,
+        file: b"mk",
+        content: None,
+        order: Order::GlobsFirst,
+        outcome: Ok((b"t/m", 0)),
+    },
+    Row {
+        name: "sample-lookups, by its content",
+        cache: &SAMPLE,
+        file: b"x",
+        content: GZIP,
+        order: Order::GlobsFirst,
+        outcome: Ok((b"t/g", 3)),
+    },
+    Row {
+        name: "name-too-long, 4,096 bytes",
+        cache: &SAMPLE,
+        file: &[b'a'; 4096],
+        content: None,
+        order: Order::GlobsFirst,
+        outcome: Ok((b"application/octet-stream", 0)),
+    },
+    Row {
+        name: "plain layout, an ending",
+        cache: &PLAIN_LAYOUT,
+        file: b"A.GZ",
+        content: None,
+        order: Order::GlobsFirst,
+        outcome: Ok((b"t/g", 0)),
+    },
+    Row {
+        name: "plain layout, a literal",
+        cache: &PLAIN_LAYOUT,
+        file: b"mk",
+        content: None,
+        order: Order::GlobsFirst,
+        outcome: Ok((b"t/m", 0)),
+    },
+    Row {
+        name: "plain layout, by its content",
+        cache: &PLAIN_LAYOUT,
+        file: b"x",
+        content: GZIP,
+        order: Order::GlobsFirst,
+        outcome: Ok((b"t/g", 3)),
+    },
+    Row {
+        name: "39 bytes",
+        cache: &[0; 39],
+        file: b"a",
+        content: None,
+        order: Order::GlobsFirst,
+        outcome: Err((Cause::Cache(CacheFault::Truncated), 0)),
+    },
+    Row {
+        name: "version 0.0",
+        cache: &[0; 40],
+        file: b"a",
+        content: None,
+        order: Order::GlobsFirst,
+        outcome: Err((Cause::Cache(CacheFault::Version(0, 0)), 0)),
+    },
+];
+
+#[test]
+fn rows(rt: HostRuntime) {
+    are_answered(&rt, rt.alloc(), &ROWS);
+}
+
+#[test]
+fn name_too_long(rt: HostRuntime) -> Result<(), Fail> {
+    let too_long = Stopped {
+        cause: Cause::NameTooLong,
+        read: 0,
+        meter: Meter::new(),
+    };
+    for order in [Order::GlobsFirst, Order::MagicFirst] {
+        let mut content = Some(&b"hi\n"[..]);
+        let refused = look_up(
+            rt.alloc(),
+            Counted::new(&[]),
+            &[b'a'; 4097],
+            &mut content,
+            Host::Little,
+            order,
+        );
+        assert_eq!(rt; refused.err(), Some(too_long), "{order:?}");
+        assert_eq!(rt; content, Some(&b"hi\n"[..]), "{order:?}");
+    }
+    Ok(())
+}
