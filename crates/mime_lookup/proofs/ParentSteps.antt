@@ -14,7 +14,8 @@ use Rattle.mime_view.specs.declared.parents.Parents.{Parents}
 use Rattle.mime_lookup.proofs.PlaceMarks.{marked_here, marked_now, marked_others, marked_still}
 
 -- a type was asked for its parents: what was due came, and it alone is marked besides
-pub record Asked (pairs : List (List ℕ × List ℕ)) (kind : List ℕ) (before after : List ℕ → Bool) (came : List (List ℕ)) : Type 0 where
+pub record Asked (pairs : List (List ℕ × List ℕ)) (kind : List ℕ) (before after : List ℕ → Bool) (came : List (List ℕ)) :
+    Type 0 where
   pub due : came ≡ unmarked_parents pairs (before kind) kind
   pub kept : (x : List ℕ) → IsTrue (before x) → IsTrue (after x)
   pub others : (x : List ℕ) → IsTrue (after x) → IsTrue (before x) ⊎ (x ≡ kind)
@@ -35,7 +36,7 @@ pub asked : (c : List ℕ) (at : ℕ) (pairs : List (List ℕ × List ℕ)) (kin
     (found : Option Parents) → IsGiven pairs kinds (is_marked c at marks kind) kind found
     → IfSome found (IsRead c at marks kind)
     → MatchOption found (after ≡ marks) (λ parents. (has_place marks parents.entry ≡ true) × (after ≡ marks)
-        ⊎ (has_place marks parents.entry ≡ false) × (after ≡ with_place marks parents.entry))
+    ⊎ (has_place marks parents.entry ≡ false) × (after ≡ with_place marks parents.entry))
     → Asked pairs kind (is_marked c at marks) (is_marked c at after) (came found)
 asked c at pairs kinds kind marks after None given read same = record {
   due = no_parents pairs kind (is_marked c at marks kind) given.1;
