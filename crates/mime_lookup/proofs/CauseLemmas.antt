@@ -1,5 +1,5 @@
 -- Why a call over a cache stops, by the fault of the cache.
-use Rattle.std.proofs.Common.{◌≡◌, ◌⊎◌, refl, inl, inr, sym, ◌∙◌}
+use Rattle.std.proofs.Common.{◌≡◌, ◌⊎◌, refl, inl, inr}
 use Rattle.std.specs.Prelude.{◌≢◌}
 use Rattle.mime_lookup.specs.Cached.{cause_of}
 use Rattle.mime_lookup.specs.declared.stopped.Cause.{Cause}
