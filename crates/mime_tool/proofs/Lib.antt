@@ -1,5 +1,6 @@
 pub mod BuildOvers
 pub mod Builds
+pub mod Caches
 pub mod Commands
 pub mod DataFiles
 pub mod Desks
@@ -9,7 +10,9 @@ pub mod DirectoryLoops
 pub mod DirectorySteps
 pub mod Endings
 pub mod Ends
+pub mod Headers
 pub mod Lines
+pub mod ListedRules
 pub mod Loads
 pub mod MagicFiles
 pub mod Programs

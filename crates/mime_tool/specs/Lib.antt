@@ -1,10 +1,12 @@
 pub mod Build
+pub mod Cache
 pub mod Desk
 pub mod Directories
 pub mod Files
 pub mod Finish
 pub mod Line
 pub mod LineSteps
+pub mod List
 pub mod Loading
 pub mod Plain
 pub mod Program

@@ -6,7 +6,7 @@ use Rattle.mime_base.specs.declared.magic.host.Host.TheVariants.{Little}
 use Rattle.mime_lookup.specs.CheckingOrder.{Chooses, globs_suffice}
 use Rattle.mime_lookup.specs.declared.order.Order.{Order}
 use Rattle.mime_tool.specs.Files.{Stored, bytes, closed, nothing, unknown, unreadable}
-use Rattle.mime_tool.specs.Run.{Run, cannot_read, printed, unanswered}
+use Rattle.mime_tool.specs.Run.{Run, cannot_read, printed, refusal, unanswered}
 
 -- the name of a file: what stands after its last slash (47)
 abbrev pub base_name : List ℕ → List ℕ
@@ -19,10 +19,6 @@ fits file = nat_le (length (base_name file)) 4096
 -- the line of a file and its type
 abbrev pub type_line : List ℕ → List ℕ → List ℕ
 type_line file kind = file ++ (codes ": " ++ (kind ++ codes "\n"))
-
--- the message on a FILE, which says why it has no line
-abbrev pub refusal : List ℕ → List ℕ → List ℕ
-refusal file why = codes "mimelook: " ++ (file ++ (codes ": " ++ (why ++ codes "\n")))
 
 -- the message on a FILE whose name is too long
 abbrev pub too_long : List ℕ → List ℕ

@@ -46,6 +46,10 @@ IsEach IsOne [] run = run ≡ silent
 IsEach IsOne (file ∷ files) run =
     (first : Run) × IsOne file first × IsFollowed (stops first) first (IsEach IsOne files) run
 
+-- the message on a file, which says why it gives no answer
+abbrev pub refusal : List ℕ → List ℕ → List ℕ
+refusal file why = codes "mimelook: " ++ (file ++ (codes ": " ++ (why ++ codes "\n")))
+
 -- the message on a file that can't be read
 abbrev pub cannot_read : List ℕ → List ℕ
 cannot_read path = codes "mimelook: " ++ (path ++ codes ": cannot read\n")

@@ -2,7 +2,8 @@
 
 ghost use Rattle.std.specs.Prelude.{◌≡◌, IfOk};
 ghost use Rattle.std.specs.List.{flat_map};
-ghost use Rattle.mime_tool.specs.Desk.{Does, OpensFile, ReadsText, ReplacesFile, State, Works};
+ghost use Rattle.mime_tool.specs.Desk.{Does, OpensFile, ReadsWhole, ReplacesFile, State, Works};
+ghost use Rattle.mime_tool.specs.Files.{IsBytesOf, IsTextOf};
 ghost use Rattle.mime_tool.specs.Run.{cannot_read, printed, said};
 
 use crate::files::{FileFault, Files};
@@ -27,7 +28,12 @@ pub(crate) trait Desk {
 
     /// All the bytes of a text file; a missing one counts as empty.
     fn read_text(&mut self, path: &str) -> Result<Vec<u8>, Stop>
-        ensures { Works (ReadsText ((state self.old).stored path.now) path.now)
+        ensures { Works (ReadsWhole (IsTextOf ((state self.old).stored path.now)) path.now)
+            (state self.old) (state self.new) result };
+
+    /// All the bytes of a file, which has to be there.
+    fn read_bytes(&mut self, path: &str) -> Result<Vec<u8>, Stop>
+        ensures { Works (ReadsWhole (IsBytesOf ((state self.old).stored path.now)) path.now)
             (state self.old) (state self.new) result };
 
     /// Opens a file, or gives `None` where it can't be opened.
@@ -79,6 +85,14 @@ impl<F: Files, O: Sink, E: Sink> Desk for Streams<'_, '_, '_, F, O, E> {
             Ok(Some(text)) => Ok(text),
             Ok(None) => Ok(Vec::new(self.alloc)),
             Err(FileFault::Failed) => Err(unreadable(self.alloc, path)),
+            Err(FileFault::OutOfMemory) => Err(Stop::OutOfMemory),
+        }
+    }
+
+    fn read_bytes(&mut self, path: &str) -> Result<Vec<u8>, Stop> {
+        match self.files.whole(self.alloc, path) {
+            Ok(Some(bytes)) => Ok(bytes),
+            Ok(None) | Err(FileFault::Failed) => Err(unreadable(self.alloc, path)),
             Err(FileFault::OutOfMemory) => Err(Stop::OutOfMemory),
         }
     }

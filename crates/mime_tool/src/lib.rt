@@ -19,10 +19,12 @@
 #![tactic(auto)]
 
 mod build;
+mod cache;
 mod desk;
 mod directories;
 mod files;
 mod line;
+mod list;
 mod plain;
 mod program;
 mod sink;

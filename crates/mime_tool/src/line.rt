@@ -4,9 +4,9 @@ ghost use Rattle.std.specs.Prelude.{◌≡◌, IfOk, []};
 ghost use Rattle.clap.specs.Walk.{texts};
 ghost use Rattle.mime_tool.specs.Desk.{Does, Ends, Works};
 ghost use Rattle.mime_tool.specs.Files.{Stored};
-ghost use Rattle.mime_tool.specs.Line.{IsTypeLine, IsTypeLineBy, base_name, refusal, type_line};
+ghost use Rattle.mime_tool.specs.Line.{IsTypeLine, IsTypeLineBy, base_name, type_line};
 ghost use Rattle.mime_tool.specs.LineSteps.{ComesTo, IsContent, plain_lookup, run_of};
-ghost use Rattle.mime_tool.specs.Run.{IsEach, printed, said, unanswered};
+ghost use Rattle.mime_tool.specs.Run.{IsEach, printed, refusal, said, unanswered};
 
 use crate::desk::Desk;
 use crate::status::{ANSWERED, NOT_ANSWERED};

@@ -1,7 +1,6 @@
 use Rattle.std.proofs.Common.{◌∙◌, refl}
 use Rattle.std.proofs.lemmas.Result.{err_from_is_err_and}
-use Rattle.mime_tool.specs.Line.{refusal}
-use Rattle.mime_tool.specs.Run.{said}
+use Rattle.mime_tool.specs.Run.{refusal, said}
 use Rattle.mime_tool.proofs.Desks.{does_nothing}
 use Rattle.mime_tool.proofs.line.report.Goals as goal
 
