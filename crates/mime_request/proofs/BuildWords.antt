@@ -7,10 +7,10 @@ use Rattle.mime_request.specs.CommandLine.{output_rule}
 use Rattle.mime_request.specs.Request.{asks, build, build_meaning, meaning_of, parts}
 use Rattle.mime_request.specs.Spelling.{build_words, build_words_output_first, is_option}
 use Rattle.mime_request.proofs.CommandWords.{meaning_of-met}
-use Rattle.mime_request.proofs.OptionWords.{between, directories_used}
+use Rattle.mime_request.proofs.OptionWords.{directories_used}
 use Rattle.mime_request.proofs.PlainWords.{IsPlainWord, plain_word}
 use Rattle.mime_request.proofs.Shapes.{build_met, build_shape}
-use Rattle.mime_request.proofs.Walks.{Steps, Leads, end_fault, ends, goes}
+use Rattle.mime_request.proofs.Walks.{Steps, Leads, between, end_fault, ends, goes}
 
 abbrev output_used : Text → List Row → List Row
 output_used file = used (with_index 1 (filled output_rule)) (file ∷ [])
@@ -47,7 +47,8 @@ unfolding clap_on_literals
 option_o = record { no_fault = refl; moves = refl }
 
 option_o-after : (dirs : Text)
-    → Steps build_shape [] (after_value (codes "dirs") [] dirs) (codes "-o") (before_value (codes "output") (directories_used dirs []))
+    → Steps build_shape [] (after_value (codes "dirs") [] dirs) (codes "-o")
+    (before_value (codes "output") (directories_used dirs []))
 unfolding clap_on_literals
 option_o-after dirs = record { no_fault = refl; moves = refl }
 

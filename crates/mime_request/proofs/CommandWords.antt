@@ -7,7 +7,8 @@ use Rattle.clap.specs.Kinds.{Kinds}
 use Rattle.clap.proofs.OnLiterals.{clap_on_literals}
 use Rattle.mime_request.specs.CommandLine.{mimelook}
 use Rattle.mime_request.specs.Request.{Meaning, meaning_by, meaning_of, subcommand_meaning}
-use Rattle.mime_request.proofs.Shapes.{Met, build_met, name_of, plain_met, shape_of}
+use Rattle.mime_request.proofs.Shapes.{Met, build_met, cache_met, icon_over, is_a_over, list_over, name_of, plain_met}
+use Rattle.mime_request.proofs.Shapes.{shape_of, type_over}
 use Rattle.mime_request.proofs.Walks.{Steps, Leads, end_fault, ends, goes, no_level_fault, walk_leads}
 
 abbrev top : Shape
@@ -30,6 +31,10 @@ meets : (m : Met) → Steps top commands (walk_from nothing_held) (name_of m) (a
 unfolding clap_on_literals
 meets build_met = record { no_fault = refl; moves = refl }
 meets plain_met = record { no_fault = refl; moves = refl }
+meets (cache_met list_over) = record { no_fault = refl; moves = refl }
+meets (cache_met is_a_over) = record { no_fault = refl; moves = refl }
+meets (cache_met icon_over) = record { no_fault = refl; moves = refl }
+meets (cache_met type_over) = record { no_fault = refl; moves = refl }
 
 passes_on : (name : Text) (before : List Text) (word : Text)
     → Steps top commands (at_command name before) word (at_command name (before ++ word ∷ []))
@@ -48,7 +53,8 @@ over_command : (m : Met) (words : List Text)
     → Leads top commands (walk_from nothing_held) (name_of m ∷ words) (at_command (name_of m) words)
 over_command m words = goes _ _ _ _ words (meets m) (passes_all (name_of m) [] words)
 
-command_walk : (m : Met) (words : List Text) → walk top.rules commands nothing_held (name_of m ∷ words) ≡ at_command (name_of m) words
+command_walk : (m : Met) (words : List Text)
+    → walk top.rules commands nothing_held (name_of m ∷ words) ≡ at_command (name_of m) words
 command_walk m words = walk_leads top commands (at_command (name_of m) words) (name_of m ∷ words) (over_command m words)
 
 enters : (m : Met) (words : List Text)
@@ -56,12 +62,20 @@ enters : (m : Met) (words : List Text)
 unfolding clap_on_literals
 enters build_met words = refl
 enters plain_met words = refl
+enters (cache_met list_over) words = refl
+enters (cache_met is_a_over) words = refl
+enters (cache_met icon_over) words = refl
+enters (cache_met type_over) words = refl
 
 command_fault : (m : Met) (words : List Text)
     → entered_fault (built mimelook) (Some (name_of m, words)) ≡ level_fault (shape_of m) [] nothing_held words false []
 unfolding clap_on_literals
 command_fault build_met words = refl
 command_fault plain_met words = refl
+command_fault (cache_met list_over) words = refl
+command_fault (cache_met is_a_over) words = refl
+command_fault (cache_met icon_over) words = refl
+command_fault (cache_met type_over) words = refl
 
 is_entered : (m : Met) (words : List Text) → is_some (entered (built mimelook) (Some (name_of m, words))) ≡ true
 is_entered m words = ap is_some (enters m words)
@@ -73,7 +87,8 @@ ends_well name words = refl
 -- the fault of a walk that ends so
 abbrev fault_at : List Text → Walk → Kinds
 fault_at words w =
-    level_fault top commands nothing_held words (is_some (entered (built mimelook) w.stopped)) (entered_fault (built mimelook) w.stopped)
+    level_fault top commands nothing_held words (is_some (entered (built mimelook) w.stopped))
+    (entered_fault (built mimelook) w.stopped)
 
 -- words that the command takes are no fault
 fault_of-met : (m : Met) (words : List Text) → level_fault (shape_of m) [] nothing_held words false [] ≡ []

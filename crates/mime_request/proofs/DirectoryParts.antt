@@ -1,6 +1,6 @@
 -- The parts of a list with colons.
-use Rattle.std.proofs.Common.{◌≡◌, ◌∙◌, ◌<◌, ◌==◌, ℕ, Bool, true, false, List, [], ◌∷◌, ◌++◌, not, ap, arith, length, filter, refl}
-use Rattle.std.proofs.Common.{if◌then◌else◌}
+use Rattle.std.proofs.Common.{◌≡◌, ◌∙◌, ◌<◌, ◌==◌, ℕ, Bool, true, false, List, [], ◌∷◌, ◌++◌, not, ap, arith}
+use Rattle.std.proofs.Common.{filter, if◌then◌else◌, length, refl}
 use Rattle.std.specs.List.{list_all, onto_first, slice_split}
 use Rattle.std.proofs.lemmas.Bool.Decides.{nat_tests}
 use Rattle.std.proofs.lemmas.List.Elements.{filter-append}
@@ -24,7 +24,8 @@ parts-path (x ∷ xs) h = rw (split_none (x ∷ xs) h, nonzero (length (x ∷ xs
 
 -- what goes before the first of a split list leaves alone what is appended to it
 onto_first-append : (v : Bool) (x y : ℕ) (xs more : List (List ℕ))
-    → onto_first x ((if v then [] ∷ xs else onto_first y xs) ++ more) ≡ onto_first x (if v then [] ∷ xs else onto_first y xs) ++ more
+    → onto_first x ((if v then [] ∷ xs else onto_first y xs) ++ more)
+    ≡ onto_first x (if v then [] ∷ xs else onto_first y xs) ++ more
 onto_first-append true x y xs more = refl
 onto_first-append false x y [] more = refl
 onto_first-append false x y (part ∷ parts) more = refl

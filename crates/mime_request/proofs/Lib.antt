@@ -1,5 +1,6 @@
 pub mod AddedRules
 pub mod BuildWords
+pub mod CacheWords
 pub mod CommandWords
 pub mod DirectoryParts
 pub mod FileWords
@@ -8,5 +9,6 @@ pub mod OptionWords
 pub mod PlainEnds
 pub mod PlainWords
 pub mod Shapes
+pub mod TypeWords
 pub mod UsualWords
 pub mod Walks

@@ -1,15 +1,35 @@
 -- What a parse by clap says of the meaning of the words.
-use Rattle.std.proofs.Common.{◌≡◌, List, [], ◌∷◌, Option, Err, inl, inr, Result}
+use Rattle.std.proofs.Common.{◌≡◌, true, List, [], ◌∷◌, Option, Ok, Err, IfOk, inl, inr, refl, Result}
 use Rattle.clap.specs.Walk.{Row, Text}
-use Rattle.clap.specs.Simple.{subcommand_of}
-use Rattle.clap.specs.Faults.{fault_of}
-use Rattle.clap.specs.Kinds.{HasKind, Kinds}
+use Rattle.clap.specs.Simple.{App, HasMatchesOf, is_simple, subcommand_of}
+use Rattle.clap.specs.Faults.{fault_of, is_simple_and_free}
+use Rattle.clap.specs.Kinds.{FailsBy, HasKind, Kinds}
 use Rattle.clap.specs.Values.{kind_of}
 use Rattle.clap.specs.declared.error.Error.{Error}
 use Rattle.clap.specs.declared.error.kind.ErrorKind.TheVariants as kind
+use Rattle.clap.specs.declared.parser.matches.ArgMatches.{ArgMatches}
 use Rattle.mime_request.specs.CommandLine.{mimelook}
-use Rattle.mime_request.specs.Request.{Meaning, Means, asks, meaning_by, meaning_of, refused, subcommand_meaning}
+use Rattle.mime_request.specs.Request.{Finds, Meaning, Means, asks, meaning_by, meaning_of, refused, subcommand_meaning}
 use Rattle.mime_request.specs.declared.request.Request.{Request}
+
+-- `mimelook` is a command whose matches clap tells
+simple : is_simple mimelook ≡ true
+simple = refl
+
+-- and whose refusals it tells
+simple_and_free : is_simple_and_free mimelook ≡ true
+simple_and_free = refl
+
+-- what clap ensures of a parse by a command that is `mimelook`
+pub clap_finds : (a : App) (words : List Text) (r : Result ArgMatches Error) → a ≡ mimelook → IfOk r (HasMatchesOf a words)
+    → (is_simple_and_free a ≡ true → FailsBy (fault_of a words) r) → Finds words r
+clap_finds a words (Ok m) is matches kinds =
+    let found : HasMatchesOf mimelook words m = rw is at matches in
+    let fails : is_simple_and_free mimelook ≡ true → fault_of mimelook words ≡ [] = rw is at kinds in
+    (fails simple_and_free, (found simple).1)
+clap_finds a words (Err e) is matches kinds =
+    let fails : is_simple_and_free mimelook ≡ true → HasKind (fault_of mimelook words) e = rw is at kinds in
+    fails simple_and_free
 
 -- out of memory answers any words
 pub memory_means : (m : Meaning) (e : Error) → kind_of e ≡ kind.OutOfMemory → Means m (Err e)

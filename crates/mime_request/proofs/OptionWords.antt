@@ -1,6 +1,6 @@
 -- The walk of `plain` over its options, in each order.
-use Rattle.std.proofs.Common.{Bool, true, false, List, [], ◌∷◌, ◌++◌, Option, Some, None, refl, codes}
-use Rattle.clap.specs.Walk.{Row, Rule, Text, Waiting, Walk, idle, nothing_held, option, used, walk_from}
+use Rattle.std.proofs.Common.{Bool, true, false, List, [], ◌∷◌, ◌++◌, Some, None, refl, codes}
+use Rattle.clap.specs.Walk.{Row, Text, Walk, idle, nothing_held, option, used, walk_from}
 use Rattle.clap.specs.Simple.{filled, with_index}
 use Rattle.clap.proofs.OnLiterals.{clap_on_literals}
 use Rattle.mime_request.specs.CommandLine.{directories_rule, magic_first_rule, name_only_rule}
@@ -8,7 +8,7 @@ use Rattle.mime_request.specs.Spelling.{plain_flags}
 use Rattle.mime_request.proofs.FileWords.{in_files}
 use Rattle.mime_request.proofs.PlainWords.{IsPlainWord}
 use Rattle.mime_request.proofs.Shapes.{plain_shape}
-use Rattle.mime_request.proofs.Walks.{Steps, Leads, goes}
+use Rattle.mime_request.proofs.Walks.{Steps, Leads, between, flag_used, goes}
 
 -- whether the flags stand after `-d DIRS` or before it
 pub data Order : Type 0 where
@@ -20,10 +20,6 @@ abbrev pub option_words : Order → Bool → Bool → Text → List Text → Lis
 option_words directories_first n m dirs files = codes "-d" ∷ dirs ∷ (plain_flags n m ++ files)
 option_words flags_first n m dirs files = plain_flags n m ++ codes "-d" ∷ dirs ∷ files
 
-abbrev flag_used : Bool → Rule → List Row → List Row
-flag_used true rule rows = used (with_index 1 (filled rule)) [] rows
-flag_used false rule rows = rows
-
 abbrev flags_used : Bool → Bool → List Row → List Row
 flags_used n m rows = flag_used m magic_first_rule (flag_used n name_only_rule rows)
 
@@ -33,16 +29,6 @@ directories_used dirs = used (with_index 1 (filled directories_rule)) (dirs ∷ 
 abbrev pub option_rows : Order → Bool → Bool → Text → List Row
 option_rows directories_first n m dirs = flags_used n m (directories_used dirs [])
 option_rows flags_first n m dirs = directories_used dirs (flags_used n m [])
-
--- between two options, or before the first file
-abbrev pub between : List Row → Option (Text × List Text) → Waiting → Walk
-between rows pending waiting = record {
-  held = record { rows = rows; pending = pending; skip = 0 };
-  waiting = waiting;
-  position = 1;
-  is_trailing = false;
-  stopped = None;
-}
 
 -- before DIRS, and after it
 abbrev before_dirs : List Row → Walk
@@ -63,7 +49,8 @@ option_d : (rows : List Row) → Steps plain_shape [] (between rows None idle) (
 unfolding clap_on_literals
 option_d rows = record { no_fault = refl; moves = refl }
 
-directories : (rows : List Row) (dirs : Text) → IsPlainWord dirs → Steps plain_shape [] (before_dirs rows) dirs (after_dirs rows dirs)
+directories : (rows : List Row) (dirs : Text) → IsPlainWord dirs
+    → Steps plain_shape [] (before_dirs rows) dirs (after_dirs rows dirs)
 unfolding clap_on_literals
 directories rows dirs h = record {
   no_fault = rw (h.no_dashes, h.no_long, h.no_short) refl;
@@ -131,7 +118,8 @@ over_first_flags true false words end rest = goes _ _ _ _ _ name_only_first rest
 over_first_flags false true words end rest = goes _ _ _ _ _ (magic_first_first false) rest
 over_first_flags false false words end rest = rest
 
-over_last_flags : (n m : Bool) (dirs : Text) (words : List Text) (end : Walk) → Leads plain_shape [] (after_both n m dirs) words end
+over_last_flags : (n m : Bool) (dirs : Text) (words : List Text) (end : Walk)
+    → Leads plain_shape [] (after_both n m dirs) words end
     → Leads plain_shape [] (after_dirs [] dirs) (plain_flags n m ++ words) end
 over_last_flags true true dirs words end rest =
     goes _ _ _ _ _ (name_only_last dirs) (goes _ _ _ _ _ (magic_first_last true dirs) rest)
@@ -140,7 +128,8 @@ over_last_flags false true dirs words end rest = goes _ _ _ _ _ (magic_first_las
 over_last_flags false false dirs words end rest = rest
 
 -- over the options and the first file
-pub over_options : (o : Order) (n m : Bool) (dirs file : Text) (files : List Text) (end : Walk) → IsPlainWord dirs → IsPlainWord file
+pub over_options : (o : Order) (n m : Bool) (dirs file : Text) (files : List Text) (end : Walk)
+    → IsPlainWord dirs → IsPlainWord file
     → Leads plain_shape [] (in_files (option_rows o n m dirs) (file ∷ [])) files end
     → Leads plain_shape [] (walk_from nothing_held) (option_words o n m dirs (file ∷ files)) end
 over_options directories_first n m dirs file files end d f rest =

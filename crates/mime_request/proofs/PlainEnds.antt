@@ -6,11 +6,12 @@ use Rattle.clap.proofs.OnLiterals.{clap_on_literals}
 use Rattle.mime_request.specs.Request.{asks, parts, plain, plain_meaning}
 use Rattle.mime_request.proofs.FileWords.{files_fit, in_files}
 use Rattle.mime_request.proofs.OptionWords.{Order, directories_first, flags_first, option_rows}
-use Rattle.mime_request.proofs.Shapes.{plain_shape}
+use Rattle.mime_request.proofs.Shapes.{plain_shape, plain_takes}
 use Rattle.mime_request.proofs.Walks.{end_fault, neither_fault}
 
 defaults_fit : (o : Order) (n m : Bool) (dirs file : Text) (files : List Text)
-    → defaults_fault (settled plain_shape.rules (in_files (option_rows o n m dirs) (file ∷ files)).held).rows plain_shape.rules ≡ []
+    → defaults_fault (settled plain_shape.rules (in_files (option_rows o n m dirs) (file ∷ files)).held).rows
+    plain_shape.rules ≡ []
 unfolding clap_on_literals
 defaults_fit directories_first true true dirs file files = refl
 defaults_fit directories_first true false dirs file files = refl
@@ -39,7 +40,7 @@ nothing_missing flags_first false false dirs file files = refl
 pub ends_well : (o : Order) (n m : Bool) (dirs file : Text) (files : List Text) → length (file ∷ files) < 2 ^ 64
     → end_fault plain_shape false (in_files (option_rows o n m dirs) (file ∷ files)).held ≡ []
 ends_well o n m dirs file files few =
-    neither_fault _ _ (files_fit (option_rows o n m dirs) file files few)
+    neither_fault _ _ (files_fit plain_shape plain_takes (option_rows o n m dirs) file files few)
     (neither_fault _ _ (defaults_fit o n m dirs file files) (nothing_missing o n m dirs file files))
 
 pub rows_mean : (o : Order) (n m : Bool) (dirs file : Text) (files : List Text)

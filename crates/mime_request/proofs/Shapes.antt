@@ -2,7 +2,7 @@
 use Rattle.std.proofs.Common.{codes}
 use Rattle.clap.specs.Walk.{Text}
 use Rattle.clap.specs.Simple.{App, Shape, built_leaf, inherited, marked_built, with_leaf_noted}
-use Rattle.mime_request.specs.CommandLine.{build, mimelook, plain}
+use Rattle.mime_request.specs.CommandLine.{build, icon, is_a, list, mimelook, plain, type_of}
 
 abbrev below : App → Shape
 below command = built_leaf (inherited (with_leaf_noted (marked_built mimelook.top)) command.top)
@@ -13,15 +13,48 @@ build_shape = below build
 abbrev pub plain_shape : Shape
 plain_shape = below plain
 
+abbrev pub list_shape : Shape
+list_shape = below list
+
+abbrev pub is_a_shape : Shape
+is_a_shape = below is_a
+
+abbrev pub icon_shape : Shape
+icon_shape = below icon
+
+abbrev pub type_shape : Shape
+type_shape = below type_of
+
+-- a command over a cache
+pub data OverCache : Type 0 where
+  list_over : OverCache
+  is_a_over : OverCache
+  icon_over : OverCache
+  type_over : OverCache
+
 -- a command that was met, by name and shape
 pub data Met : Type 0 where
   build_met : Met
   plain_met : Met
+  cache_met : OverCache → Met
 
 abbrev pub name_of : Met → Text
 name_of build_met = codes "build"
 name_of plain_met = codes "plain"
+name_of (cache_met list_over) = codes "list"
+name_of (cache_met is_a_over) = codes "isa"
+name_of (cache_met icon_over) = codes "icon"
+name_of (cache_met type_over) = codes "type"
 
 abbrev pub shape_of : Met → Shape
 shape_of build_met = build_shape
 shape_of plain_met = plain_shape
+shape_of (cache_met list_over) = list_shape
+shape_of (cache_met is_a_over) = is_a_shape
+shape_of (cache_met icon_over) = icon_shape
+shape_of (cache_met type_over) = type_shape
+
+-- a command that takes FILEs
+pub data TakesFiles : Shape → Type 0 where
+  plain_takes : TakesFiles plain_shape
+  type_takes : TakesFiles type_shape

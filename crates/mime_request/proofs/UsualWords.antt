@@ -9,7 +9,7 @@ use Rattle.mime_request.proofs.FileWords.{in_files, over_files}
 use Rattle.mime_request.proofs.OptionWords.{Order, directories_first, option_rows, option_words, over_options}
 use Rattle.mime_request.proofs.PlainEnds.{ends_well, rows_mean}
 use Rattle.mime_request.proofs.PlainWords.{neither, plain_word}
-use Rattle.mime_request.proofs.Shapes.{plain_met, plain_shape}
+use Rattle.mime_request.proofs.Shapes.{plain_met, plain_shape, plain_takes}
 use Rattle.mime_request.proofs.Walks.{Leads}
 
 usual_walk : (o : Order) (n m : Bool) (dirs file : Text) (files : List Text) → AreUsual dirs (file ∷ files)
@@ -18,8 +18,8 @@ usual_walk : (o : Order) (n m : Bool) (dirs file : Text) (files : List Text) →
 usual_walk o n m dirs file files usual =
     let both = neither (is_option file) (list_all (λ word. not (is_option word)) files) usual.plain_files in
     over_options o n m dirs file files (in_files (option_rows o n m dirs) (file ∷ files))
-    (plain_word dirs usual.plain_dirs) (plain_word file both.0)
-    (over_files (option_rows o n m dirs) (file ∷ []) files both.1)
+    (plain_word dirs usual.plain_source) (plain_word file both.0)
+    (over_files plain_shape plain_takes (option_rows o n m dirs) (file ∷ []) files both.1)
 
 pub meaning_of-ordered : (o : Order) (n m : Bool) (dirs : Text) (files : List Text) → AreUsual dirs files
     → meaning_of (codes "plain" ∷ option_words o n m dirs files) ≡ asks (plain (parts dirs) n m files)

@@ -1,9 +1,29 @@
 -- Walks of clap over the words of one command, step by step.
-use Rattle.std.proofs.Common.{◌≡◌, ◌∙◌, Bool, List, [], ◌∷◌, ap, fold, refl}
-use Rattle.clap.specs.Walk.{Held, Names, Text, Walk, finished, nothing_held, settled, walk, walk_from, walked}
-use Rattle.clap.specs.Simple.{Shape}
+use Rattle.std.proofs.Common.{◌≡◌, ◌∙◌, ℕ, Bool, true, false, List, [], ◌∷◌, Option, None, ap, fold, refl}
+use Rattle.clap.specs.Walk.{Held, Names, Row, Rule, Text, Waiting, Walk, finished, nothing_held, settled, used, walk, walk_from}
+use Rattle.clap.specs.Walk.{walked}
+use Rattle.clap.specs.Simple.{Shape, filled, with_index}
 use Rattle.clap.specs.Faults.{check_fault, defaults_fault, level_fault, settle_fault, turn_fault, walk_fault}
 use Rattle.clap.specs.Kinds.{Kinds, or_else}
+
+-- before the positional of this number, where this is pending and waits
+abbrev pub at_position : ℕ → List Row → Option (Text × List Text) → Waiting → Walk
+at_position position rows pending waiting = record {
+  held = record { rows = rows; pending = pending; skip = 0 };
+  waiting = waiting;
+  position = position;
+  is_trailing = false;
+  stopped = None;
+}
+
+-- between two options, or before the first positional
+abbrev pub between : List Row → Option (Text × List Text) → Waiting → Walk
+between = at_position 1
+
+-- the rows after a flag, if it is given
+abbrev pub flag_used : Bool → Rule → List Row → List Row
+flag_used true rule rows = used (with_index 1 (filled rule)) [] rows
+flag_used false rule rows = rows
 
 -- the word leads a command's walk on without a fault
 pub record Steps (s : Shape) (names : Names) (here : Walk) (word : Text) (next : Walk) : Type 0 where

@@ -13,6 +13,14 @@ directories_rule = record (new_rule (codes "dirs")) {
   required = true;
 }
 
+-- `-c CACHE`
+abbrev pub cache_rule : Rule
+cache_rule = record (new_rule (codes "cache")) {
+  short = Some 99;
+  value_names = 1;
+  required = true;
+}
+
 -- `--name-only`
 abbrev pub name_only_rule : Rule
 name_only_rule = record (new_rule (codes "name-only")) {
@@ -24,6 +32,13 @@ name_only_rule = record (new_rule (codes "name-only")) {
 abbrev pub magic_first_rule : Rule
 magic_first_rule = record (new_rule (codes "magic-first")) {
   long = Some (codes "magic-first");
+  action = Some SetTrue;
+}
+
+-- `--cost`
+abbrev pub cost_rule : Rule
+cost_rule = record (new_rule (codes "cost")) {
+  long = Some (codes "cost");
   action = Some SetTrue;
 }
 
@@ -43,6 +58,14 @@ output_rule = record (new_rule (codes "output")) {
   required = true;
 }
 
+-- `TYPE`
+abbrev pub kind_rule : Rule
+kind_rule = record (new_rule (codes "type")) { value_names = 1; required = true }
+
+-- `BASE`
+abbrev pub base_rule : Rule
+base_rule = record (new_rule (codes "base")) { value_names = 1; required = true }
+
 -- `build -d DIRS -o FILE`
 abbrev pub build : App
 build = with_rule (with_rule (new_app (codes "build")) directories_rule) output_rule
@@ -51,6 +74,23 @@ build = with_rule (with_rule (new_app (codes "build")) directories_rule) output_
 abbrev pub plain : App
 plain = with_rule (with_rule (with_rule (with_rule (new_app (codes "plain")) directories_rule)
     name_only_rule) magic_first_rule) files_rule
+
+-- `list -c CACHE`
+abbrev pub list : App
+list = with_rule (new_app (codes "list")) cache_rule
+
+-- `isa -c CACHE TYPE BASE`
+abbrev pub is_a : App
+is_a = with_rule (with_rule (with_rule (new_app (codes "isa")) cache_rule) kind_rule) base_rule
+
+-- `icon -c CACHE TYPE`
+abbrev pub icon : App
+icon = with_rule (with_rule (new_app (codes "icon")) cache_rule) kind_rule
+
+-- `type -c CACHE [--name-only] [--cost] [--magic-first] FILE...`
+abbrev pub type_of : App
+type_of = with_rule (with_rule (with_rule (with_rule (with_rule (new_app (codes "type")) cache_rule)
+    name_only_rule) cost_rule) magic_first_rule) files_rule
 
 -- `mimelook`, without its own name among the words: it has a version and wants a command
 abbrev pub mimelook_alone : App
@@ -61,6 +101,11 @@ mimelook_alone = on_top (λ s. record s {
   disable_help_subcommand = true;
 }) (new_app (codes "mimelook"))
 
--- `mimelook` with its commands
+-- `mimelook` with the commands over data directories
+abbrev pub mimelook_of_directories : App
+mimelook_of_directories = with_subcommand (with_subcommand mimelook_alone build.top) plain.top
+
+-- `mimelook` with all its commands
 abbrev pub mimelook : App
-mimelook = with_subcommand (with_subcommand mimelook_alone build.top) plain.top
+mimelook = with_subcommand (with_subcommand (with_subcommand (with_subcommand
+    mimelook_of_directories list.top) is_a.top) icon.top) type_of.top

@@ -23,6 +23,15 @@ pub data PlainRequest : Type 0 where
   -- from these directories, most preferred first, whether by names alone, whether content of high
   -- priority comes before the globs, and the files whose types are asked for
   plain : List Text → Bool → Bool → List Text → PlainRequest
+  -- the glob rules of this cache
+  list : Text → PlainRequest
+  -- by this cache, whether the first type is the second
+  is_a : Text → Text → Text → PlainRequest
+  -- by this cache, the icons of the type
+  icon : Text → Text → PlainRequest
+  -- from this cache, whether by names alone, whether with the cost, whether content of high priority
+  -- comes before the globs, and the files whose types are asked for
+  type_of : Text → Bool → Bool → Bool → List Text → PlainRequest
 
 -- what words mean: they ask for something, or are answered by an error of one of these kinds, among
 -- them help and the version
@@ -43,33 +52,65 @@ parts_of (Some dirs) = parts dirs
 abbrev pub is_on : Option Text → Bool
 is_on flag = option_map_or (λ text. bytes_eq text (codes "true")) flag false
 
--- what `build` means by its directories and its output; without an output it is refused
-abbrev pub build_of : List Text → Option Text → Meaning
-build_of dirs None = refused (kind.MissingRequiredArgument ∷ [])
-build_of dirs (Some file) = asks (build dirs file)
+-- what is asked for by an argument that must be given; without it the words are refused
+abbrev pub given : {A : Type 0} → Option A → (A → Meaning) → Meaning
+given None means = refused (kind.MissingRequiredArgument ∷ [])
+given (Some x) means = means x
+
+-- the kinds of error by such an argument, none where it is given
+abbrev pub missing : {A : Type 0} → Option A → Kinds
+missing None = kind.MissingRequiredArgument ∷ []
+missing (Some x) = []
 
 -- what `build` means by what clap found after it
 abbrev pub build_meaning : List Row → Meaning
-build_meaning rows =
-    build_of (parts_of (first_of (codes "dirs") rows)) (first_of (codes "output") rows)
-
--- what `plain` means by its directories, its two flags and its files; without files it is refused
-abbrev pub plain_of : List Text → Bool → Bool → Option (List Text) → Meaning
-plain_of dirs name_only magic_first None = refused (kind.MissingRequiredArgument ∷ [])
-plain_of dirs name_only magic_first (Some files) = asks (plain dirs name_only magic_first files)
+build_meaning rows = given (first_of (codes "output") rows) (λ file.
+    asks (build (parts_of (first_of (codes "dirs") rows)) file))
 
 -- what `plain` means by what clap found after it
 abbrev pub plain_meaning : List Row → Meaning
-plain_meaning rows = plain_of (parts_of (first_of (codes "dirs") rows))
-    (is_on (first_of (codes "name-only") rows)) (is_on (first_of (codes "magic-first") rows))
-    (all_of (codes "file") rows)
+plain_meaning rows = given (all_of (codes "file") rows) (λ files.
+    asks (plain (parts_of (first_of (codes "dirs") rows)) (is_on (first_of (codes "name-only") rows))
+    (is_on (first_of (codes "magic-first") rows)) files))
+
+-- what `list` means by what clap found after it
+abbrev pub list_meaning : List Row → Meaning
+list_meaning rows = given (first_of (codes "cache") rows) (λ cache. asks (list cache))
+
+-- what `isa` means by what clap found after it
+abbrev pub is_a_meaning : List Row → Meaning
+is_a_meaning rows = given (first_of (codes "cache") rows) (λ cache.
+    given (first_of (codes "type") rows) (λ kind.
+    given (first_of (codes "base") rows) (λ base. asks (is_a cache kind base))))
+
+-- what `icon` means by what clap found after it
+abbrev pub icon_meaning : List Row → Meaning
+icon_meaning rows = given (first_of (codes "cache") rows) (λ cache.
+    given (first_of (codes "type") rows) (λ kind. asks (icon cache kind)))
+
+-- what `type` means by what clap found after it
+abbrev pub type_meaning : List Row → Meaning
+type_meaning rows = given (first_of (codes "cache") rows) (λ cache.
+    given (all_of (codes "file") rows) (λ files.
+    asks (type_of cache (is_on (first_of (codes "name-only") rows))
+    (is_on (first_of (codes "cost") rows)) (is_on (first_of (codes "magic-first") rows)) files)))
+
+-- the commands: the name of each, and what it means
+abbrev pub commands : List (Text × (List Row → Meaning))
+commands = (codes "build", build_meaning) ∷ (codes "plain", plain_meaning)
+    ∷ (codes "list", list_meaning) ∷ (codes "isa", is_a_meaning) ∷ (codes "icon", icon_meaning)
+    ∷ (codes "type", type_meaning) ∷ []
+
+-- what the command of this name means, if it is among these
+abbrev pub meaning_among : List (Text × (List Row → Meaning)) → Text → List Row → Meaning
+meaning_among [] name rows = refused (kind.InvalidSubcommand ∷ [])
+meaning_among (c ∷ cs) name rows =
+    if bytes_eq name c.0 then c.1 rows else meaning_among cs name rows
 
 -- what the command that clap met means, if it met one
 abbrev pub subcommand_meaning : Option (Text × List Row) → Meaning
 subcommand_meaning None = refused (kind.MissingSubcommand ∷ [])
-subcommand_meaning (Some p) = if bytes_eq p.0 (codes "build") then build_meaning p.1
-    else (if bytes_eq p.0 (codes "plain") then plain_meaning p.1
-    else refused (kind.InvalidSubcommand ∷ []))
+subcommand_meaning (Some p) = meaning_among commands p.0 p.1
 
 -- the kinds of error come first; where there are none, the command decides
 abbrev pub meaning_by : Kinds → Option (Text × List Row) → Meaning
@@ -90,6 +131,11 @@ abbrev pub plain_request : Request → PlainRequest
 plain_request (request.Build directories file) = build (texts directories.items) file.now
 plain_request (request.Plain directories name_only magic_first files) =
     plain (texts directories.items) name_only magic_first (texts files.items)
+plain_request (request.List cache) = list cache.now
+plain_request (request.IsA cache kind base) = is_a cache.now kind.now base.now
+plain_request (request.Icon cache kind) = icon cache.now kind.now
+plain_request (request.Type cache name_only cost magic_first files) =
+    type_of cache.now name_only cost magic_first (texts files.items)
 
 -- the request is what the words mean, unless memory ran out
 abbrev pub Means : Meaning → Result Request Error → Type 0

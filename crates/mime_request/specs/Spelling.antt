@@ -47,8 +47,28 @@ abbrev pub plain_words_flags_first : Text → Bool → Bool → List Text → Li
 plain_words_flags_first dirs name_only magic_first files =
     codes "plain" ∷ (plain_flags name_only magic_first ++ codes "-d" ∷ dirs ∷ files)
 
--- none of the words could be taken for an option, and there are fewer than memory can hold
-pub record AreUsual (dirs : Text) (files : List Text) : Type 0 where
-  pub plain_dirs : is_option dirs ≡ false
+-- `list -c CACHE`
+abbrev pub list_words : Text → List Text
+list_words cache = codes "list" ∷ codes "-c" ∷ cache ∷ []
+
+-- `isa -c CACHE TYPE BASE`
+abbrev pub is_a_words : Text → Text → Text → List Text
+is_a_words cache kind base = codes "isa" ∷ codes "-c" ∷ cache ∷ kind ∷ base ∷ []
+
+-- `icon -c CACHE TYPE`
+abbrev pub icon_words : Text → Text → List Text
+icon_words cache kind = codes "icon" ∷ codes "-c" ∷ cache ∷ kind ∷ []
+
+-- `type -c CACHE [--name-only] [--cost] [--magic-first] FILE...`
+abbrev pub type_words : Text → Bool → Bool → Bool → List Text → List Text
+type_words cache name_only cost magic_first files =
+    codes "type" ∷ codes "-c" ∷ cache ∷ (flag_words name_only (codes "--name-only")
+    ++ (flag_words cost (codes "--cost")
+    ++ (flag_words magic_first (codes "--magic-first") ++ files)))
+
+-- neither DIRS or CACHE nor a FILE could be taken for an option, and there are fewer FILEs than
+-- memory can hold
+pub record AreUsual (source : Text) (files : List Text) : Type 0 where
+  pub plain_source : is_option source ≡ false
   pub plain_files : are_files files ≡ true
   pub few : length files < 2 ^ 64

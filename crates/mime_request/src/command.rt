@@ -3,14 +3,15 @@
 ghost use Rattle.std.specs.Prelude.{◌≡◌, IfOk, false};
 ghost use Rattle.clap.specs.Words.{app_of, rule_of};
 ghost use Rattle.clap.specs.declared.builder.command.Command.TheViews.{out-Command};
-ghost use Rattle.mime_request.specs.CommandLine.{build, directories_rule, files_rule, magic_first_rule, mimelook};
-ghost use Rattle.mime_request.specs.CommandLine.{name_only_rule, output_rule, plain};
+ghost use Rattle.mime_request.specs.CommandLine.{base_rule, build, cache_rule, cost_rule, directories_rule, files_rule, icon};
+ghost use Rattle.mime_request.specs.CommandLine.{is_a, kind_rule, list, magic_first_rule, mimelook, mimelook_alone};
+ghost use Rattle.mime_request.specs.CommandLine.{mimelook_of_directories, name_only_rule, output_rule, plain, type_of};
 
 mod texts;
 
 use clap::{Arg, ArgAction, Command};
 use std::alloc::{AllocError, Global};
-use texts::{BUILD, DIRS, HelpTexts, MIMELOOK, OUTPUT, PLAIN};
+use texts::{BUILD, COST, DIRS, HelpTexts, ICON, IS_A, LIST, MIMELOOK, OUTPUT, PLAIN, TYPE};
 
 /// What `mimelook --version` prints after the program's name.
 const VERSION: &str = "0.1.0";
@@ -36,6 +37,17 @@ fn directories<'a>(alloc: Global) -> Arg<'a>
         .help(DIRS)
 }
 
+fn cache<'a>(alloc: Global) -> Arg<'a>
+    ensures rule { rule_of result ≡ cache_rule }
+    ensures local { result.global ≡ false }
+{
+    Arg::new(alloc, "cache")
+        .short('c')
+        .value_name("CACHE")
+        .required(true)
+        .help("The cache to read, such as /usr/share/mime/mime.cache")
+}
+
 fn name_only<'a>(alloc: Global) -> Arg<'a>
     ensures rule { rule_of result ≡ name_only_rule }
     ensures local { result.global ≡ false }
@@ -54,6 +66,16 @@ fn magic_first<'a>(alloc: Global) -> Arg<'a>
         .long("magic-first")
         .action(ArgAction::SetTrue)
         .help("Let content of high priority (80 or more) decide before names")
+}
+
+fn cost<'a>(alloc: Global) -> Arg<'a>
+    ensures rule { rule_of result ≡ cost_rule }
+    ensures local { result.global ≡ false }
+{
+    Arg::new(alloc, "cost")
+        .long("cost")
+        .action(ArgAction::SetTrue)
+        .help(COST)
 }
 
 fn files<'a>(alloc: Global) -> Arg<'a>
@@ -76,6 +98,26 @@ fn output<'a>(alloc: Global) -> Arg<'a>
         .value_name("FILE")
         .required(true)
         .help(OUTPUT)
+}
+
+fn kind<'a>(alloc: Global) -> Arg<'a>
+    ensures rule { rule_of result ≡ kind_rule }
+    ensures local { result.global ≡ false }
+{
+    Arg::new(alloc, "type")
+        .value_name("TYPE")
+        .required(true)
+        .help("The type that is asked about, such as text/html")
+}
+
+fn base<'a>(alloc: Global) -> Arg<'a>
+    ensures rule { rule_of result ≡ base_rule }
+    ensures local { result.global ≡ false }
+{
+    Arg::new(alloc, "base")
+        .value_name("BASE")
+        .required(true)
+        .help("The type that it may be, such as text/plain")
 }
 
 // The command `build`, as it stands below `mimelook`.
@@ -102,9 +144,57 @@ fn plain_command<'a>(alloc: Global) -> Result<Command<'a>, AllocError>
     Ok(command)
 }
 
-/// The command line after the program's name.
-pub(crate) fn mimelook_command<'a>(alloc: Global) -> Result<Command<'a>, AllocError>
-    ensures { IfOk result (λ c. app_of c ≡ mimelook) }
+// The command `list`, likewise.
+fn list_command<'a>(alloc: Global) -> Result<Command<'a>, AllocError>
+    ensures app { IfOk result (λ c. app_of c ≡ list) }
+    ensures local { IfOk result (λ c. (out-Command c).has_globals ≡ false) }
+{
+    let command = with_help(Command::new(alloc, "list"), LIST);
+    let command = command.arg(cache(alloc))?;
+    Ok(command)
+}
+
+// The command `isa`, likewise.
+fn is_a_command<'a>(alloc: Global) -> Result<Command<'a>, AllocError>
+    ensures app { IfOk result (λ c. app_of c ≡ is_a) }
+    ensures local { IfOk result (λ c. (out-Command c).has_globals ≡ false) }
+{
+    let command = with_help(Command::new(alloc, "isa"), IS_A);
+    let command = command.arg(cache(alloc))?;
+    let command = command.arg(kind(alloc))?;
+    let command = command.arg(base(alloc))?;
+    Ok(command)
+}
+
+// The command `icon`, likewise.
+fn icon_command<'a>(alloc: Global) -> Result<Command<'a>, AllocError>
+    ensures app { IfOk result (λ c. app_of c ≡ icon) }
+    ensures local { IfOk result (λ c. (out-Command c).has_globals ≡ false) }
+{
+    let command = with_help(Command::new(alloc, "icon"), ICON);
+    let command = command.arg(cache(alloc))?;
+    let command = command.arg(kind(alloc))?;
+    Ok(command)
+}
+
+// The command `type`, likewise.
+fn type_command<'a>(alloc: Global) -> Result<Command<'a>, AllocError>
+    ensures app { IfOk result (λ c. app_of c ≡ type_of) }
+    ensures local { IfOk result (λ c. (out-Command c).has_globals ≡ false) }
+{
+    let command = with_help(Command::new(alloc, "type"), TYPE);
+    let command = command.arg(cache(alloc))?;
+    let command = command.arg(name_only(alloc))?;
+    let command = command.arg(cost(alloc))?;
+    let command = command.arg(magic_first(alloc))?;
+    let command = command.arg(files(alloc))?;
+    Ok(command)
+}
+
+// The program's name, its help and its version, with no command yet.
+fn alone<'a>(alloc: Global) -> Result<Command<'a>, AllocError>
+    ensures app { IfOk result (λ c. app_of c ≡ mimelook_alone) }
+    ensures local { IfOk result (λ c. (out-Command c).has_globals ≡ false) }
 {
     let command = with_help(Command::new(alloc, "mimelook"), MIMELOOK)
         .version(VERSION)
@@ -112,9 +202,28 @@ pub(crate) fn mimelook_command<'a>(alloc: Global) -> Result<Command<'a>, AllocEr
         .subcommand_required(true)
         .disable_help_subcommand(true);
     let command = command.bin_name("mimelook")?;
-    let build = build_command(alloc)?;
-    let command = command.subcommand(build)?;
-    let plain = plain_command(alloc)?;
-    let command = command.subcommand(plain)?;
+    Ok(command)
+}
+
+// With the commands over data directories.
+fn over_directories<'a>(alloc: Global) -> Result<Command<'a>, AllocError>
+    ensures app { IfOk result (λ c. app_of c ≡ mimelook_of_directories) }
+    ensures local { IfOk result (λ c. (out-Command c).has_globals ≡ false) }
+{
+    let command = alone(alloc)?;
+    let command = command.subcommand(build_command(alloc)?)?;
+    let command = command.subcommand(plain_command(alloc)?)?;
+    Ok(command)
+}
+
+/// The command line after the program's name.
+pub(crate) fn mimelook_command<'a>(alloc: Global) -> Result<Command<'a>, AllocError>
+    ensures { IfOk result (λ c. app_of c ≡ mimelook) }
+{
+    let command = over_directories(alloc)?;
+    let command = command.subcommand(list_command(alloc)?)?;
+    let command = command.subcommand(is_a_command(alloc)?)?;
+    let command = command.subcommand(icon_command(alloc)?)?;
+    let command = command.subcommand(type_command(alloc)?)?;
     Ok(command)
 }

@@ -12,7 +12,9 @@
 //! ```
 //!
 //! Here `directories` is `["/usr/local/share", "/usr/share"]`, `name_only` is on, `magic_first` is
-//! off, and `files` is `["notes.txt"]`. `build -d DIRS -o FILE` gives a [`Request::Build`].
+//! off, and `files` is `["notes.txt"]`. `build -d DIRS -o FILE` gives a [`Request::Build`]. Over a
+//! cache, `list -c CACHE` gives a [`Request::List`], `isa -c CACHE TYPE BASE` a [`Request::IsA`],
+//! `icon -c CACHE TYPE` a [`Request::Icon`], and `type -c CACHE FILE...` a [`Request::Type`].
 //!
 //! Read `specs/Request.antt` first for what words mean, then [`request_of`]; `command` describes the
 //! options to clap, and `spelling` has the laws that say what usual words mean with no word of clap.
@@ -25,5 +27,6 @@ mod spelling;
 pub use request::{Request, request_of};
 pub use spelling::{
     flags_first_spelling_of_plain, output_first_spelling_of_build, parts_of_directories,
-    usual_spelling_of_build, usual_spelling_of_plain, words_without_files,
+    usual_spelling_of_build, usual_spelling_of_icon, usual_spelling_of_is_a,
+    usual_spelling_of_list, usual_spelling_of_plain, usual_spelling_of_type, words_without_files,
 };

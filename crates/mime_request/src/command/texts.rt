@@ -12,10 +12,19 @@ pub(crate) const MIMELOOK: HelpTexts<'static> = HelpTexts {
     about: "Tells the MIME types of files",
     usage: "mimelook <COMMAND>",
     after_help: "\
-Messages go to standard error. The --help of a command says what its exit statuses are;
-help and the version have 0, and a wrong command line has 2.
+Messages go to standard error.
+
+Exit status:
+  0  every FILE was answered, or what was asked for was done; or help or the version
+     was printed
+  1  some file not answered, or isa says no
+  2  the command line is wrong
+  3  database, cache or output refused
+  4  out of memory
 
 Examples:
+  $ mimelook type -c /usr/share/mime/mime.cache notes.txt
+  notes.txt: text/plain
   $ mimelook plain -d /usr/local/share:/usr/share notes.txt
   notes.txt: text/plain
   $ mimelook build -d /usr/local/share:/usr/share -o /usr/share/mime/mime.cache",
@@ -60,6 +69,79 @@ Example:
   notes.txt: text/plain",
 };
 
+pub(crate) const LIST: HelpTexts<'static> = HelpTexts {
+    about: "Prints a line WEIGHT:TYPE:PATTERN for each glob rule of a cache",
+    usage: "mimelook list -c CACHE",
+    after_help: "\
+Messages go to standard error. :cs stands behind a PATTERN that is case-sensitive.
+
+Exit status:
+  0  every rule was printed; or help was printed
+  2  the command line is wrong, or a word of it is not UTF-8
+  3  CACHE can't be read or is refused, or the output can't be written
+  4  out of memory
+
+Example:
+  $ mimelook list -c /usr/share/mime/mime.cache
+  50:text/plain:*.txt",
+};
+
+pub(crate) const IS_A: HelpTexts<'static> = HelpTexts {
+    about: "Prints yes where TYPE is a BASE by a cache, and no where it is not",
+    usage: "mimelook isa -c CACHE TYPE BASE",
+    after_help: "\
+Messages go to standard error. A type is itself, what its parents are, and what the
+type is that it is an alias of.
+
+Exit status:
+  0  yes was printed; or help was printed
+  1  no was printed
+  2  the command line is wrong, a word of it is not UTF-8, or TYPE or BASE is no type
+  3  CACHE can't be read or is refused, or the output can't be written
+  4  out of memory
+
+Example:
+  $ mimelook isa -c /usr/share/mime/mime.cache text/html text/plain
+  yes",
+};
+
+pub(crate) const ICON: HelpTexts<'static> = HelpTexts {
+    about: "Prints the icon and the generic icon of a type, from a cache",
+    usage: "mimelook icon -c CACHE TYPE",
+    after_help: "\
+Messages go to standard error.
+
+Exit status:
+  0  both were printed; or help was printed
+  2  the command line is wrong, a word of it is not UTF-8, or TYPE is no type
+  3  CACHE can't be read or is refused, or the output can't be written
+  4  out of memory
+
+Example:
+  $ mimelook icon -c /usr/share/mime/mime.cache text/html
+  icon: text-html
+  generic: text-x-generic",
+};
+
+pub(crate) const TYPE: HelpTexts<'static> = HelpTexts {
+    about: "Prints a line FILE: TYPE for each FILE, from a cache",
+    usage: "mimelook type -c CACHE [--name-only] [--cost] [--magic-first] FILE...",
+    after_help: "\
+Messages go to standard error. A FILE that is not UTF-8 refuses the whole call.
+
+Exit status:
+  0  every FILE was answered; or help was printed
+  1  some FILE can't be opened or read, or its name is too long (above 4096 bytes);
+     the others were answered
+  2  the command line is wrong, or a word of it is not UTF-8
+  3  CACHE can't be read or is refused, or the output can't be written
+  4  out of memory
+
+Example:
+  $ mimelook type -c /usr/share/mime/mime.cache notes.txt
+  notes.txt: text/plain",
+};
+
 pub(crate) const DIRS: &str = "\
 Data directories, most preferred first, with colons between them, such as
 /usr/local/share:/usr/share; an empty part is passed over";
@@ -67,3 +149,7 @@ Data directories, most preferred first, with colons between them, such as
 pub(crate) const OUTPUT: &str = "\
 The cache to write, such as /usr/share/mime/mime.cache;
 it is written as FILE.new and then renamed";
+
+pub(crate) const COST: &str = "\
+Print behind each TYPE what it cost: nodes=N records of the cache that were visited,
+bytes=B bytes that were read or compared of it, and read=R bytes that were read of FILE";

@@ -9,4 +9,5 @@ returns-in_err-matches g c =
     error_means (map g.S.AsStr.text c.args.words.now) p.0 _ (rw p.2 c.in_err-matches.ensures) p.1
 
 pub returns : goal.returns
-returns g c = matches_mean (map g.S.AsStr.text c.args.words.now) _ _ c.in_ok-matches.ensures.0 c.in_ok-matches.ensures.1 c.asked_by.ensures
+returns g c = matches_mean (map g.S.AsStr.text c.args.words.now) _ _ c.in_ok-matches.ensures.0
+    c.in_ok-matches.ensures.1 c.asked_by.ensures

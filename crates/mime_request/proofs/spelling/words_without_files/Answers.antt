@@ -9,8 +9,17 @@ returns c = record {
   help = refl;
   help_of_build = refl;
   help_of_plain = refl;
+  help_of_list = refl;
+  help_of_is_a = refl;
+  help_of_icon = refl;
+  help_of_type = refl;
   version = refl;
   nothing = refl;
   no_output = refl;
   no_file = refl;
+  no_cache = refl;
+  no_type = refl;
+  no_base = refl;
+  no_file_of_type = refl;
+  cache_twice = refl;
 }

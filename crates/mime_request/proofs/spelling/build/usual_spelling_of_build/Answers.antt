@@ -1,5 +1,5 @@
 use Rattle.mime_request.proofs.BuildWords.{meaning_of-usual_build}
-use Rattle.mime_request.proofs.spelling.usual_spelling_of_build.Goals as goal
+use Rattle.mime_request.proofs.spelling.build.usual_spelling_of_build.Goals as goal
 
 pub returns : goal.returns
 returns c = meaning_of-usual_build

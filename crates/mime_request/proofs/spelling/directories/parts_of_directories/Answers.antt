@@ -1,6 +1,6 @@
 use Rattle.std.proofs.Common.{refl}
 use Rattle.mime_request.proofs.DirectoryParts.{parts-append, parts-path}
-use Rattle.mime_request.proofs.spelling.parts_of_directories.Goals as goal
+use Rattle.mime_request.proofs.spelling.directories.parts_of_directories.Goals as goal
 
 pub returns : goal.returns
 returns c = record { none = refl; one = parts-path; more = parts-append }

@@ -1,0 +1,63 @@
+//! The commands over a cache.
+
+ghost use Rattle.clap.specs.Words.{found_of, rows_of};
+ghost use Rattle.mime_request.specs.Request.{Means, icon_meaning, is_a_meaning, list_meaning, type_meaning};
+
+use super::Request;
+use super::found::{files_of, given, is_on, value_of};
+use clap::{ArgMatches, Error};
+use std::alloc::Global;
+
+const GIVE_CACHE: &str = "give -c CACHE";
+
+const GIVE_TYPE: &str = "give a TYPE";
+
+pub(super) fn request_of_list<'a>(
+    alloc: Global,
+    matches: &ArgMatches<'a>,
+) -> Result<Request<'a>, Error>
+    ensures { Means (list_meaning (rows_of (found_of matches.now))) result }
+{
+    let cache = given(alloc, matches, "cache", GIVE_CACHE)?;
+    Ok(Request::List { cache })
+}
+
+pub(super) fn request_of_is_a<'a>(
+    alloc: Global,
+    matches: &ArgMatches<'a>,
+) -> Result<Request<'a>, Error>
+    ensures { Means (is_a_meaning (rows_of (found_of matches.now))) result }
+{
+    let cache = given(alloc, matches, "cache", GIVE_CACHE)?;
+    let kind = given(alloc, matches, "type", GIVE_TYPE)?;
+    let base = given(alloc, matches, "base", "give a BASE")?;
+    Ok(Request::IsA { cache, kind, base })
+}
+
+pub(super) fn request_of_icon<'a>(
+    alloc: Global,
+    matches: &ArgMatches<'a>,
+) -> Result<Request<'a>, Error>
+    ensures { Means (icon_meaning (rows_of (found_of matches.now))) result }
+{
+    let cache = given(alloc, matches, "cache", GIVE_CACHE)?;
+    let kind = given(alloc, matches, "type", GIVE_TYPE)?;
+    Ok(Request::Icon { cache, kind })
+}
+
+pub(super) fn request_of_type<'a>(
+    alloc: Global,
+    matches: &ArgMatches<'a>,
+) -> Result<Request<'a>, Error>
+    ensures { Means (type_meaning (rows_of (found_of matches.now))) result }
+{
+    let cache = given(alloc, matches, "cache", GIVE_CACHE)?;
+    let files = files_of(alloc, matches)?;
+    Ok(Request::Type {
+        cache,
+        name_only: is_on(value_of(matches, "name-only")),
+        cost: is_on(value_of(matches, "cost")),
+        magic_first: is_on(value_of(matches, "magic-first")),
+        files,
+    })
+}

@@ -1,0 +1,93 @@
+//! What clap found of an argument, and the errors where it found too little.
+
+ghost use Rattle.std.specs.Prelude.{◌≡◌, IfErr, IfOk, Some, codes, option_map, [], ◌∷◌};
+ghost use Rattle.clap.specs.Words.{all_of, first_of, found_of, rows_of, subcommand_rows_of};
+ghost use Rattle.clap.specs.Walk.{texts};
+ghost use Rattle.clap.specs.Kinds.{HasKind};
+ghost use Rattle.clap.specs.Values.{kind_of};
+ghost use Rattle.mime_request.specs.Request.{is_on, missing};
+
+use crate::command::mimelook_command;
+use clap::error::ErrorKind;
+use clap::{ArgMatches, Error};
+use std::alloc::{AllocError, Global};
+
+// The command that was met, and its matches.
+pub(super) fn subcommand_of<'m, 'a>(
+    matches: &'m ArgMatches<'a>,
+) -> Option<(&'a str, &'m ArgMatches<'a>)>
+    ensures { option_map (λ p. (p.0.now, rows_of (found_of p.1.now))) result
+        ≡ subcommand_rows_of matches.entry.now }
+{
+    matches.subcommand()
+}
+
+// The value of an argument that must be given, or an error with this message.
+pub(super) fn given<'a>(
+    alloc: Global,
+    matches: &ArgMatches<'a>,
+    id: &str,
+    message: &str,
+) -> Result<&'a str, Error>
+    ensures found { IfOk result (λ s. first_of id.now (rows_of (found_of matches.now)) ≡ Some s.now) }
+    ensures missing { IfErr result (HasKind (missing (first_of id.now (rows_of (found_of matches.now))))) }
+{
+    let Some(value) = value_of(matches, id) else {
+        return Err(refusal(alloc, ErrorKind::MissingRequiredArgument, message));
+    };
+    Ok(value)
+}
+
+// The FILEs, of which there must be one.
+pub(super) fn files_of<'a>(alloc: Global, matches: &ArgMatches<'a>) -> Result<Vec<&'a str>, Error>
+    ensures found { IfOk result (λ v. all_of (codes "file") (rows_of (found_of matches.now))
+        ≡ Some (texts v.items)) }
+    ensures missing { IfErr result (HasKind (missing (all_of (codes "file") (rows_of (found_of matches.now))))) }
+{
+    let Some(files) = values_of(matches, "file") else {
+        return Err(refusal(alloc, ErrorKind::MissingRequiredArgument, "give a FILE"));
+    };
+    let files = files.to_vec(alloc)?;
+    Ok(files)
+}
+
+// The first value of an argument.
+pub(super) fn value_of<'a>(matches: &ArgMatches<'a>, id: &str) -> Option<&'a str>
+    ensures { option_map (λ s. s.now) result ≡ first_of id.now (rows_of (found_of matches.now)) }
+{
+    matches.get_str(id)
+}
+
+// All the values of an argument.
+fn values_of<'m, 'a>(matches: &'m ArgMatches<'a>, id: &str) -> Option<&'m [&'a str]>
+    ensures { option_map (λ s. texts s.now) result
+        ≡ all_of id.now (rows_of (found_of matches.entry.now)) }
+{
+    matches.get_strs(id)
+}
+
+pub(super) fn is_on(flag: Option<&str>) -> bool
+    ensures { result ≡ is_on (option_map (λ s. s.now) flag.entry) }
+{
+    match flag {
+        Some(text) => text == "true",
+        None => false,
+    }
+}
+
+// An error of this crate's own, or that memory ran out.
+pub(super) fn refusal(alloc: Global, kind: ErrorKind, message: &str) -> Error
+    ensures { HasKind (kind ∷ []) result }
+{
+    match refusal_text(alloc, kind, message) {
+        Ok(error) => error,
+        Err(error) => Error::from(error),
+    }
+}
+
+// The message with the usage below it.
+fn refusal_text(alloc: Global, kind: ErrorKind, message: &str) -> Result<Error, AllocError>
+    ensures { IfOk result (λ e. kind_of e ≡ kind) }
+{
+    mimelook_command(alloc)?.error(kind, message)
+}

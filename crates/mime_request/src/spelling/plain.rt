@@ -1,0 +1,23 @@
+//! What the usual spellings of `plain` ask for.
+
+ghost use Rattle.std.specs.Prelude.{◌≡◌, Bool, List};
+ghost use Rattle.clap.specs.Walk.{Text};
+ghost use Rattle.mime_request.specs.Request.{asks, meaning_of, parts, plain};
+ghost use Rattle.mime_request.specs.Spelling.{AreUsual, plain_words, plain_words_flags_first};
+
+/// `plain -d DIRS [--name-only] [--magic-first] FILE...` asks for these files, from the directories
+/// of DIRS in their order, with just the flags that are given.
+pub fn usual_spelling_of_plain()
+    ensures { (dirs : Text) (name_only magic_first : Bool) (files : List Text)
+        → AreUsual dirs files
+        → meaning_of (plain_words dirs name_only magic_first files)
+        ≡ asks (plain (parts dirs) name_only magic_first files) }
+{}
+
+/// `plain [--name-only] [--magic-first] -d DIRS FILE...` asks for the same.
+pub fn flags_first_spelling_of_plain()
+    ensures { (dirs : Text) (name_only magic_first : Bool) (files : List Text)
+        → AreUsual dirs files
+        → meaning_of (plain_words_flags_first dirs name_only magic_first files)
+        ≡ meaning_of (plain_words dirs name_only magic_first files) }
+{}
