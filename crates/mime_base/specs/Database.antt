@@ -1,4 +1,5 @@
 -- A database as plain values: what merged data directories say.
+pub mod Limits
 pub mod PlainPairs
 pub mod Subclass
 pub mod Rows

@@ -36,6 +36,7 @@ pub use cache::byte_laws::{appended_stands, reading_stays, standing_reads_back, 
 pub use cache::comparing::same_name;
 pub use database::Database;
 pub use database::icon::Icon;
+pub use database::limits::database_keeps_limits;
 pub use database::pair::Pair;
 pub use database::rule::GlobRule;
 pub use kept::class::{Class, class_of, class_of_bytes};

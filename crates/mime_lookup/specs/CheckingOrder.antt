@@ -1,5 +1,5 @@
 -- The checking order: which type a name and a content have, and how much of the content is read.
-use Rattle.std.specs.Prelude.{◌≡◌, ℕ, Bool, false, nat_le, if◌then◌else◌, min, max, List, [], ◌∷◌, length, bytes_eq}
+use Rattle.std.specs.Prelude.{◌≡◌, ◌⊎◌, ℕ, Bool, true, false, nat_le, if◌then◌else◌, min, max, List, [], ◌∷◌, length, bytes_eq}
 use Rattle.std.specs.Prelude.{Option, None, Some, MatchOption}
 use Rattle.std.specs.List.{list_all}
 use Rattle.mime_base.specs.Database.{PlainDatabase, pairs_of}
@@ -38,6 +38,13 @@ are_one_type (first ∷ more) = list_all (bytes_eq first) more
 unfoldable pub globs_suffice : PlainDatabase → List ℕ → Order → Bool
 globs_suffice b name GlobsFirst = are_one_type (kept (pairs_of b) b.rules name)
 globs_suffice b name MagicFirst = false
+
+-- the globs alone decide: one type is kept, and they are asked first or no content is available; or none is kept, and none is
+-- available
+abbrev pub GlobsDecide : PlainDatabase → List ℕ → Order → Type 0 → Type 0
+GlobsDecide b name order NoContent =
+    ((are_one_type (kept (pairs_of b) b.rules name) ≡ true) × ((order ≡ GlobsFirst) ⊎ NoContent))
+    ⊎ ((kept (pairs_of b) b.rules name ≡ []) × NoContent)
 
 -- the most that is read of a content
 unfoldable pub read_limit : PlainDatabase → ℕ

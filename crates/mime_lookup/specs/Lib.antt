@@ -6,3 +6,10 @@ pub mod Ancestry
 pub mod Places
 pub mod Script
 pub mod Reads
+pub mod Spelling
+pub mod Costs
+pub mod Bounds
+pub mod StepFaults
+pub mod Finding
+pub mod Cached
+pub mod Icons

@@ -17,7 +17,7 @@ ghost use Rattle.mime_lookup.specs.Places.{IsIndexed, pairs_at, place_in};
 use crate::places::{Places, places_of, push_parents};
 use crate::subclass::is_by_itself;
 use indexmap::IndexSet;
-use mime_base::{Database, OutOfMemory};
+use mime_base::{Database, Meter, OutOfMemory};
 use std::alloc::Global;
 use std::collections::VecDeque;
 
@@ -28,13 +28,15 @@ pub fn first_of<'a>(
     kinds: &[&'a [u8]],
     default: &'a [u8],
     base: &[u8],
+    meter: &mut Meter,
 ) -> Result<&'a [u8], OutOfMemory>
-    ensures { IfOk result (λ kind. IsFirst (pairs_of (plain_database database.entry.now))
+    ensures nodes { meter.new.nodes ≡ meter.old.nodes }
+    ensures first { IfOk result (λ kind. IsFirst (pairs_of (plain_database database.entry.now))
         base.now default.entry.now (texts kinds.now) kind.now) }
 {
     let aliases = places_of(alloc, &database.aliases)?;
     let parents = places_of(alloc, &database.parents)?;
-    let kind = first_at(alloc, &aliases, &parents, kinds, default, base)?;
+    let kind = first_at(alloc, &aliases, &parents, kinds, default, base, meter)?;
     Ok(kind)
 }
 
@@ -46,15 +48,17 @@ fn first_at<'a>(
     kinds: &[&'a [u8]],
     default: &'a [u8],
     base: &[u8],
+    meter: &mut Meter,
 ) -> Result<&'a [u8], OutOfMemory>
     requires aliases { IsIndexed aliases.now.pairs.now 0 (place_in aliases.now.first) aliases.now.next.items }
     requires parents { IsIndexed parents.now.pairs.now 0 (place_in parents.now.first) parents.now.next.items }
-    ensures { IfOk result (λ kind. IsFirst (pairs_at aliases.now.pairs.now parents.now.pairs.now)
+    ensures nodes { meter.new.nodes ≡ meter.old.nodes }
+    ensures first { IfOk result (λ kind. IsFirst (pairs_at aliases.now.pairs.now parents.now.pairs.now)
         base.now default.entry.now (texts kinds.now) kind.now) }
 {
     let mut marks = IndexSet::new(alloc);
     for kind in kinds {
-        if is_a(alloc, aliases, parents, &mut marks, *kind, base)? {
+        if is_a(alloc, aliases, parents, &mut marks, *kind, base, meter)? {
             return Ok(*kind);
         }
     }
@@ -69,9 +73,11 @@ fn is_a<'a>(
     marks: &mut IndexSet<&'a [u8]>,
     kind: &'a [u8],
     base: &[u8],
+    meter: &mut Meter,
 ) -> Result<bool, OutOfMemory>
     requires aliases { IsIndexed aliases.now.pairs.now 0 (place_in aliases.now.first) aliases.now.next.items }
     requires parents { IsIndexed parents.now.pairs.now 0 (place_in parents.now.first) parents.now.next.items }
+    ensures nodes { meter.new.nodes ≡ meter.old.nodes }
     ensures answer { IfOk result (λ yes.
         NoneLeadsTo (is_one_of (texts marks.old.keys)) (pairs_at aliases.now.pairs.now parents.now.pairs.now) base.now
         → (IsTrue yes ↔ IsA (pairs_at aliases.now.pairs.now parents.now.pairs.now) kind.entry.now base.now)) }
@@ -82,7 +88,7 @@ fn is_a<'a>(
     let mut queue = VecDeque::new(alloc);
     queue.push_back(kind)?;
     while let Some(here) = queue.pop_front() {
-        if is_by_itself(here, base) {
+        if is_by_itself(here, base, meter) {
             return Ok(true);
         }
         expand(aliases, parents, marks, here, &mut queue)?;

@@ -19,9 +19,11 @@
 
 mod ancestry;
 mod answer;
+mod cached;
 mod content;
 mod fixed;
 mod kept;
+mod limits;
 mod lists;
 mod order;
 mod pairs;
@@ -33,6 +35,7 @@ mod stopped;
 mod subclass;
 
 pub use answer::Answer;
+pub use cached::{Icons, icon_of, is_a, look_up};
 pub use content::{Content, ReadFault, Untold};
 pub use lists::look_up_plain;
 pub use order::Order;

@@ -7,7 +7,7 @@ ghost use Rattle.mime_lookup.specs.Ancestry.{texts};
 ghost use Rattle.mime_lookup.specs.CheckingOrder.{Chooses, are_one_type, before_globs, front_size, globs_suffice, read_limit, read_of};
 ghost use Rattle.mime_lookup.specs.Choice.{ChoosesAmong};
 ghost use Rattle.mime_lookup.specs.Sniffing.{sniffed};
-ghost use Rattle.mime_lookup.specs.Reads.{Reads};
+ghost use Rattle.mime_lookup.specs.Reads.{AsksUnless, Reads};
 ghost use Rattle.mime_lookup.specs.Content.{Advances, GivesUp, Retries, OfReader, broken, known_content, sound};
 
 use crate::ancestry::first_of;
@@ -15,6 +15,7 @@ use crate::answer::Answer;
 use crate::content::Content;
 use crate::fixed::OCTET_STREAM;
 use crate::kept::kept_kinds;
+use crate::limits::LONGEST_NAME;
 use crate::order::Order;
 use crate::pairs::is_same;
 use crate::reading::read_front;
@@ -22,9 +23,6 @@ use crate::sniff::{Sniffed, sniff};
 use crate::stopped::{Cause, Stopped};
 use mime_base::{Database, Host, Meter, OutOfMemory, extent};
 use std::alloc::Global;
-
-/// The longest name that is looked up, in bytes.
-const LONGEST_NAME: usize = 4096;
 
 /// The fewest bytes of a content that are asked for.
 const SHORTEST_FRONT: u64 = 128;
@@ -106,8 +104,11 @@ fn kind_of<'a, R: Content>(
         (λ known. Chooses (plain_database database.entry.now) name.now known host order kind.now)) }
     ensures read { OnOk result (IfSome (known_content R.remaining content.old)
         (λ known. read.new ≡ read_of (plain_database database.entry.now) name.now known order)) }
-    ensures reader { Reads R.remaining R.tally R.health (plain_database database.entry.now)
-        (globs_suffice (plain_database database.entry.now) name.now order) content.old content.new read.new result }
+    ensures causes { IfErr result (λ cause. (cause ≡ Cause.Read) ⊎ (cause ≡ Cause.OutOfMemory)) }
+    ensures reader { Reads R.remaining R.tally R.health (read_limit (plain_database database.entry.now))
+        content.old content.new read.new result }
+    ensures asks { AsksUnless R.health (globs_suffice (plain_database database.entry.now) name.now order)
+        content.old content.new result }
     ensures nodes { meter.new.nodes ≡ meter.old.nodes }
 {
     match order {
@@ -117,7 +118,7 @@ fn kind_of<'a, R: Content>(
                 return Ok(kept[0]);
             }
             let sniffed = sniff_content(alloc, database, content, host, read, meter)?;
-            let kind = choose(alloc, database, &kept, sniffed.kind)?;
+            let kind = choose(alloc, database, &kept, sniffed.kind, meter)?;
             Ok(kind)
         }
         Order::MagicFirst => {
@@ -126,7 +127,7 @@ fn kind_of<'a, R: Content>(
                 return Ok(sniffed.kind);
             }
             let kept = kept_kinds(alloc, database, name, meter)?;
-            let kind = choose(alloc, database, &kept, sniffed.kind)?;
+            let kind = choose(alloc, database, &kept, sniffed.kind, meter)?;
             Ok(kind)
         }
     }
@@ -154,14 +155,16 @@ fn choose<'a>(
     database: &'a Database,
     kept: &[&'a [u8]],
     sniffed: &'a [u8],
+    meter: &mut Meter,
 ) -> Result<&'a [u8], OutOfMemory>
-    ensures { IfOk result (λ kind. ChoosesAmong (pairs_of (plain_database database.entry.now))
+    ensures nodes { meter.new.nodes ≡ meter.old.nodes }
+    ensures chosen { IfOk result (λ kind. ChoosesAmong (pairs_of (plain_database database.entry.now))
         (texts kept.now) sniffed.entry.now kind.now) }
 {
     if kept.is_empty() {
         return Ok(sniffed);
     }
-    first_of(alloc, database, kept, kept[0], sniffed)
+    first_of(alloc, database, kept, kept[0], sniffed, meter)
 }
 
 /// What a content is sniffed as, by its front: as much of it as magic can look at.
@@ -182,8 +185,10 @@ fn sniff_content<'a, R: Content>(
         ≡ before_globs (plain_database database.entry.now) known host Order.MagicFirst)) }
     ensures read { OnOk result (IfSome (known_content R.remaining content.old)
         (λ known. read.new ≡ front_size (plain_database database.entry.now) known)) }
-    ensures reader { Reads R.remaining R.tally R.health (plain_database database.entry.now) false
+    ensures causes { IfErr result (λ cause. (cause ≡ Cause.Read) ⊎ (cause ≡ Cause.OutOfMemory)) }
+    ensures reader { Reads R.remaining R.tally R.health (read_limit (plain_database database.entry.now))
         content.old content.new read.new result }
+    ensures asks { AsksUnless R.health false content.old content.new result }
     ensures nodes { meter.new.nodes ≡ meter.old.nodes }
 {
     match content {

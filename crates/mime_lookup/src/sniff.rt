@@ -13,7 +13,7 @@ use crate::pairs::resolve;
 use mime_base::{Database, Host, Meter, Section, looks_textual, some_line_matches};
 
 /// The least priority with which magic comes before the globs.
-const HIGH_PRIORITY: u32 = 80;
+pub const HIGH_PRIORITY: u32 = 80;
 
 /// What a content was sniffed as.
 #[derive(Clone, Copy, Debug)]
@@ -76,7 +76,7 @@ fn first_section<'a>(
 }
 
 /// The type of a content for which no section holds.
-fn by_bytes(content: &[u8]) -> &'static [u8]
+pub fn by_bytes(content: &[u8]) -> &'static [u8]
     ensures { result.now ≡ sniffed_by_bytes content.now }
 {
     if content.is_empty() {

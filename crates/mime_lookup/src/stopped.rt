@@ -1,6 +1,7 @@
 //! Why a lookup stops without an answer.
 
 use mime_base::{Meter, OutOfMemory};
+use mime_view::CacheFault;
 use std::alloc::AllocError;
 use thiserror::Error;
 
@@ -22,6 +23,9 @@ pub enum Cause {
     /// The name has more than 4,096 bytes.
     #[error("name too long")]
     NameTooLong,
+    /// What is wrong with the cache, and where. It is never [`CacheFault::OutOfMemory`].
+    #[error("{0}")]
+    Cache(CacheFault),
     /// A read of the content failed, or was interrupted once more than is tried again.
     #[error("cannot read")]
     Read,
@@ -49,5 +53,19 @@ impl From<OutOfMemory> for Cause {
 
     fn from(_error: OutOfMemory) -> Cause {
         Cause::OutOfMemory
+    }
+}
+
+impl From<CacheFault> for Cause {
+    ghost use Rattle.std.specs.Prelude.{◌≡◌};
+    ghost use Rattle.mime_lookup.specs.Cached.{cause_of};
+
+    ghost from_gives = { λ fault cause. cause ≡ cause_of fault };
+
+    fn from(fault: CacheFault) -> Cause {
+        match fault {
+            CacheFault::OutOfMemory => Cause::OutOfMemory,
+            fault => Cause::Cache(fault),
+        }
     }
 }

@@ -1,19 +1,34 @@
 //! The subclass rule ("Subclassing").
 
-ghost use Rattle.std.specs.Prelude.{◌≡◌};
+ghost use Rattle.std.specs.Prelude.{◌≡◌, ◌+◌, ◌≤◌, length, nat_eq};
+ghost use Rattle.std.specs.List.{starts_with};
 ghost use Rattle.mime_base.specs.Database.Subclass.{is_by_itself};
 
 use crate::fixed::{OCTET_STREAM, TEXT_PLAIN};
+use mime_base::{Meter, same_name};
 
 /// Whether a type is the base or a subclass of it without any pair.
 ///
 /// Every `text/*` type is a subclass of `text/plain`, and every type but `inode/*` of
 /// `application/octet-stream`.
 #[tactic(auto, unfolding(mime_base::specs::Database::Subclass::is_by_itself))]
-pub fn is_by_itself(kind: &[u8], base: &[u8]) -> bool
-    ensures { result ≡ is_by_itself kind.now base.now }
+pub fn is_by_itself(kind: &[u8], base: &[u8], meter: &mut Meter) -> bool
+    ensures answer { result ≡ is_by_itself kind.now base.now }
+    ensures nodes { meter.new.nodes ≡ meter.old.nodes }
+    ensures rises { meter.old.bytes ≤ meter.new.bytes }
+    ensures bytes { meter.new.bytes ≤ meter.old.bytes + (length base.now + 52) }
 {
-    kind == base
-        || (kind.starts_with(b"text/") && base == TEXT_PLAIN)
-        || (!kind.starts_with(b"inode/") && base == OCTET_STREAM)
+    same_name(base, kind, meter)
+        || (begins_with(kind, b"text/", meter) && same_name(TEXT_PLAIN, base, meter))
+        || (!begins_with(kind, b"inode/", meter) && same_name(OCTET_STREAM, base, meter))
+}
+
+// Whether a type begins with these bytes.
+fn begins_with(kind: &[u8], front: &[u8], meter: &mut Meter) -> bool
+    ensures answer { result ≡ starts_with nat_eq kind.now front.now }
+    ensures nodes { meter.new.nodes ≡ meter.old.nodes }
+    ensures rises { meter.old.bytes ≤ meter.new.bytes }
+    ensures bytes { meter.new.bytes ≤ meter.old.bytes + (length front.now + 1) }
+{
+    kind.len() >= front.len() && same_name(front, &kind[..front.len()], meter)
 }

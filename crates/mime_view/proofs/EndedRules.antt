@@ -8,6 +8,7 @@ use Rattle.std.proofs.lemmas.List.{length-map, length-reverse, reverse-reverse}
 use Rattle.std.proofs.lemmas.List.Elements.{All-filter, All-map, All-rest, All-same}
 use Rattle.std.proofs.lemmas.List.Elements.{filter_passes}
 use Rattle.std.proofs.lemmas.List.Sorted.{All-permutation, IsPermutation-reverse}
+use Rattle.mime_base.specs.Database.Limits.{KeepsLimits}
 use Rattle.mime_base.specs.Format.Sorted.{with_key}
 use Rattle.mime_base.specs.Format.Stored.{is_in_tree, is_suffix_class, reversed_ending, stored_text, tree_rules}
 use Rattle.mime_base.specs.Kept.{class_of}
@@ -15,7 +16,6 @@ use Rattle.mime_base.specs.Matching.Elements.{is_literal_text}
 use Rattle.mime_base.specs.Matching.Folding.{compared, compared_byte}
 use Rattle.mime_base.specs.declared.database.rule.GlobRule.{GlobRule}
 use Rattle.mime_base.specs.declared.kept.class.Class.TheVariants.{Literal, Suffix, Full}
-use Rattle.mime_view.specs.Listing.{FitsListing}
 use Rattle.mime_view.proofs.SameKeys.{same_bytes}
 
 -- a rule at the end of a path
@@ -66,7 +66,7 @@ tree_pattern (b ∷ rest) e = by_literal (is_literal_text (b ∷ rest)) e
     by_literal true e = absurd cc
     by_literal false e = by_star (b == 42) refl (is_literal_text rest) e
 
-ended : (rule : GlobRule) → is_in_tree rule ≡ true → FitsListing rule → IsEnded (reversed_ending rule) rule
+ended : (rule : GlobRule) → is_in_tree rule ≡ true → KeepsLimits rule → IsEnded (reversed_ending rule) rule
 ended rule inside fits =
     let p = tree_pattern rule.pattern inside in
     let text : List ℕ = compared rule.cased p.rest in
@@ -93,13 +93,13 @@ ended rule inside fits =
     }
 
 -- the rules of a path end there
-pub of_path : (rules : List GlobRule) (path : List ℕ) → All FitsListing rules
+pub of_path : (rules : List GlobRule) (path : List ℕ) → All KeepsLimits rules
     → All (IsEnded path) (with_key reversed_ending path (tree_rules rules))
 of_path rules path fit = λ k d l.
     let inside = All-filter (λ (r : GlobRule). bytes_eq (reversed_ending r) path) (λ (r : GlobRule). is_in_tree r ≡ true) (tree_rules rules)
     (filter_passes is_in_tree rules) k d l in
-    let fits = All-filter (λ (r : GlobRule). bytes_eq (reversed_ending r) path) FitsListing (tree_rules rules)
-    (All-filter is_in_tree FitsListing rules fit) k d l in
+    let fits = All-filter (λ (r : GlobRule). bytes_eq (reversed_ending r) path) KeepsLimits (tree_rules rules)
+    (All-filter is_in_tree KeepsLimits rules fit) k d l in
     let key = filter_passes (λ (r : GlobRule). bytes_eq (reversed_ending r) path) (tree_rules rules) k d l in
     let rule : GlobRule = get_or (with_key reversed_ending path (tree_rules rules)) k d in
     subst (λ (p : List ℕ). IsEnded p (get_or (with_key reversed_ending path (tree_rules rules)) k d))

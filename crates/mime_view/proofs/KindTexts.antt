@@ -43,6 +43,13 @@ AreTexts-all c [] (text ∷ texts) are k d l = absurd are
 AreTexts-all c (place ∷ places) (text ∷ texts) are zero d l = (place, are.0)
 AreTexts-all c (place ∷ places) (text ∷ texts) are (suc k) d l = AreTexts-all c places texts are.1 k d (omega arith)
 
+-- there are as many as offsets
+pub AreTexts-length : (c places : List ℕ) (texts : List (List ℕ)) → AreTexts c places texts → length texts ≡ length places
+AreTexts-length c [] [] are = refl
+AreTexts-length c [] (text ∷ texts) are = absurd are
+AreTexts-length c (place ∷ places) [] are = absurd are
+AreTexts-length c (place ∷ places) (text ∷ texts) are = ap suc (AreTexts-length c places texts are.1)
+
 abbrev kinds_at : List (ℕ × ℕ) → List ℕ
 kinds_at hits = map (λ hit. hit.1) hits
 

@@ -4,11 +4,11 @@ use Rattle.std.proofs.Common.{refl, sym, ap, subst, ◌∙◌, bytes_eq}
 use Rattle.std.specs.List.{All}
 use Rattle.std.specs.List.Sorted.{IsSortedBy}
 use Rattle.std.proofs.lemmas.List.Elements.{All-cons, All-head, All-nil, All-tail, All-weaker}
+use Rattle.mime_base.specs.Database.Limits.{KeepsLimits}
 use Rattle.mime_base.specs.Format.Sorted.{IsSortedByText, with_key}
 use Rattle.mime_base.specs.Format.Stored.{reversed_ending, tree_rules}
 use Rattle.mime_base.specs.Format.Tree.{InOrder, Tree, leaves_at}
 use Rattle.mime_base.specs.declared.database.rule.GlobRule.{GlobRule}
-use Rattle.mime_view.specs.Listing.{FitsListing}
 use Rattle.mime_view.specs.Listing.Reads.{rules_of}
 use Rattle.mime_view.proofs.SameKeys.{bytes_eq-same, first_of, others, permuted}
 use Rattle.mime_view.proofs.TreeLeaves.{Leaf, leaves, leaves-at, path_of, rule_of, rules-leaves}
@@ -34,7 +34,7 @@ every P (x ∷ xs) given =
 
 -- each leaf's rule ends at its path
 pub ended_leaves : (rules : List GlobRule) (tree : Tree)
-    → ((path : List ℕ) → leaves_at path tree ≡ with_key reversed_ending path (tree_rules rules)) → All FitsListing rules
+    → ((path : List ℕ) → leaves_at path tree ≡ with_key reversed_ending path (tree_rules rules)) → All KeepsLimits rules
     → All (λ x. IsEnded (path_of x) (rule_of x)) (leaves tree)
 ended_leaves rules tree same fit =
     every IsEnded (leaves tree)
@@ -58,7 +58,7 @@ keys_of text (x ∷ xs) keyed =
 
 -- the rules of the tree are listed by their endings
 pub listed_by_ending : (rules : List GlobRule) (tree : Tree) → InOrder 0 tree
-    → ((path : List ℕ) → leaves_at path tree ≡ with_key reversed_ending path (tree_rules rules)) → All FitsListing rules
+    → ((path : List ℕ) → leaves_at path tree ≡ with_key reversed_ending path (tree_rules rules)) → All KeepsLimits rules
     → IsSortedByText reversed_ending (tree_rules rules) (rules_of tree)
 listed_by_ending rules tree order same fit =
     let keyed : All Keyed (leaves tree) =

@@ -7,6 +7,7 @@ use Rattle.std.proofs.lemmas.List.Elements.{All-filter, All-head, All-tail}
 use Rattle.std.proofs.lemmas.List.Sorted.{All-permutation, length_permutation}
 use Rattle.mime_base.specs.Cache.Bytes.{Stands, field, fields}
 use Rattle.mime_base.specs.Cache.Texts.{text_at}
+use Rattle.mime_base.specs.Database.Limits.{KeepsLimits}
 use Rattle.mime_base.specs.Format.Header.{HeaderAt, Offsets}
 use Rattle.mime_base.specs.Format.Records.{CardsAt, ListAt, RecordsAt}
 use Rattle.mime_base.specs.Format.Rules.{GlobsAt, IsRule, LiteralsAt}
@@ -16,7 +17,7 @@ use Rattle.mime_base.specs.Format.Stored.{tree_rules, weight_and_flags}
 use Rattle.mime_base.specs.Format.SuffixTree.{SuffixTreeAt, tree_size}
 use Rattle.mime_base.specs.Format.Tree.{Tree, node_count}
 use Rattle.mime_base.specs.declared.database.rule.GlobRule.{GlobRule}
-use Rattle.mime_view.specs.Listing.{FitsListing, IsListing, PlainListed, listed_rule}
+use Rattle.mime_view.specs.Listing.{IsListing, PlainListed, listed_rule}
 use Rattle.mime_view.specs.Listing.Reads.{ReadsEntries, ReadsEntry, ReadsListedRules, ReadsSuffixTree, rules_of}
 use Rattle.mime_view.proofs.Headers.{header_read}
 use Rattle.mime_view.proofs.Records.{count_read, list_inside, numbers_read, record_inside, text_read}
@@ -38,17 +39,17 @@ entry_read c at rule numbers weight here (text, kind, are, stored, named) =
       weight = weight;
     }
 
-entries_read : (c : List ℕ) (at : ℕ) (rules : List GlobRule) → All FitsListing rules
+entries_read : (c : List ℕ) (at : ℕ) (rules : List GlobRule) → All KeepsLimits rules
     → RecordsAt (Stands c) 12 (IsRule (Stands c)) at rules → ReadsEntries c at rules
 entries_read c at [] fit stand = tt
 entries_read c at (rule ∷ rules) fit (numbers, here, is, rest) =
-    let fits = All-head FitsListing rule rules fit in
-    (entry_read c at rule numbers fits.0 here is, entries_read c (at + 12) rules (All-tail FitsListing rule rules fit) rest)
+    let fits = All-head KeepsLimits rule rules fit in
+    (entry_read c at rule numbers fits.0 here is, entries_read c (at + 12) rules (All-tail KeepsLimits rule rules fit) rest)
 
 entry_size : (c : List ℕ) (rule : GlobRule) (numbers : List ℕ) → IsRule (Stands c) rule numbers → 4 * length numbers ≡ 12
 entry_size c rule numbers (text, kind, are, stored, named) = ap (λ (ns : List ℕ). 4 * length ns) are
 
-rules_read : (c : List ℕ) (at : ℕ) (rules : List GlobRule) → All FitsListing rules → ListAt (Stands c) 12 (IsRule (Stands c)) at rules
+rules_read : (c : List ℕ) (at : ℕ) (rules : List GlobRule) → All KeepsLimits rules → ListAt (Stands c) 12 (IsRule (Stands c)) at rules
     → ReadsListedRules c at rules
 rules_read c at rules fit stand = record {
   count = count_read c 12 (IsRule (Stands c)) at rules stand;
@@ -56,7 +57,7 @@ rules_read c at rules fit stand = record {
   entries = entries_read c (at + 4) rules fit stand.records;
 }
 
-suffix_tree_read : (c : List ℕ) (at : ℕ) (rules : List GlobRule) → All FitsListing rules → (stand : SuffixTreeAt (Stands c) at rules)
+suffix_tree_read : (c : List ℕ) (at : ℕ) (rules : List GlobRule) → All KeepsLimits rules → (stand : SuffixTreeAt (Stands c) at rules)
     → ReadsSuffixTree c at stand.tree
 suffix_tree_read c at rules fit stand =
     let read = numbers_read c at _ stand.head in
@@ -83,7 +84,7 @@ pub record AllRead (c : List ℕ) (literals tree globs : ℕ) (rules : List Glob
   pub size : node_count roots ≡ tree_size rules
 
 all_stand : (c : List ℕ) (literals tree globs : ℕ) (offsets : Offsets) (rules : List GlobRule) → literals ≡ field c 0 3
-    → tree ≡ field c 0 4 → globs ≡ field c 0 5 → HeaderAt (Stands c) offsets → All FitsListing rules
+    → tree ≡ field c 0 4 → globs ≡ field c 0 5 → HeaderAt (Stands c) offsets → All KeepsLimits rules
     → LiteralsAt (Stands c) offsets.literals rules → SuffixTreeAt (Stands c) offsets.tree rules → GlobsAt (Stands c) offsets.globs rules
     → AllRead c literals tree globs rules
 all_stand c literals tree globs offsets rules is3 is4 is5 header fit by_literals by_tree by_globs =
@@ -91,8 +92,8 @@ all_stand c literals tree globs offsets rules is3 is4 is5 header fit by_literals
     let at_literals : literals ≡ offsets.literals = is3 ∙ ap (λ (ns : List ℕ). get_or ns 3 0) numbers in
     let at_tree : tree ≡ offsets.tree = is4 ∙ ap (λ (ns : List ℕ). get_or ns 4 0) numbers in
     let at_globs : globs ≡ offsets.globs = is5 ∙ ap (λ (ns : List ℕ). get_or ns 5 0) numbers in
-    let fit_literals = All-permutation FitsListing (literal_rules rules) by_literals.entries by_literals.sorted.permuted
-    (All-filter is_in_literals FitsListing rules fit) in
+    let fit_literals = All-permutation KeepsLimits (literal_rules rules) by_literals.entries by_literals.sorted.permuted
+    (All-filter is_in_literals KeepsLimits rules fit) in
     record {
       first = by_literals.entries;
       roots = by_tree.tree;
@@ -103,14 +104,14 @@ all_stand c literals tree globs offsets rules is3 is4 is5 header fit by_literals
       tree_reads = subst (λ (n : ℕ). ReadsSuffixTree c n by_tree.tree) (sym at_tree)
           (suffix_tree_read c offsets.tree rules fit by_tree);
       globs_read = subst (λ (n : ℕ). ReadsListedRules c n (glob_rules rules)) (sym at_globs)
-          (rules_read c offsets.globs (glob_rules rules) (All-filter is_in_globs FitsListing rules fit) by_globs);
+          (rules_read c offsets.globs (glob_rules rules) (All-filter is_in_globs KeepsLimits rules fit) by_globs);
       count = length_permutation (literal_rules rules) by_literals.entries by_literals.sorted.permuted;
       size = by_tree.size;
     }
 
 -- the same on bytes that are the cache's
 pub all_read : (c d : List ℕ) (literals tree globs : ℕ) (offsets : Offsets) (rules : List GlobRule) → d ≡ c → literals ≡ field d 0 3
-    → tree ≡ field d 0 4 → globs ≡ field d 0 5 → HeaderAt (Stands c) offsets → All FitsListing rules
+    → tree ≡ field d 0 4 → globs ≡ field d 0 5 → HeaderAt (Stands c) offsets → All KeepsLimits rules
     → LiteralsAt (Stands c) offsets.literals rules → SuffixTreeAt (Stands c) offsets.tree rules → GlobsAt (Stands c) offsets.globs rules
     → AllRead d literals tree globs rules
 all_read c d literals tree globs offsets rules same is3 is4 is5 header fit by_literals by_tree by_globs =

@@ -1,7 +1,7 @@
 -- All glob rules of a cache as a program lists them, and what listing them costs.
 pub mod Reads
 pub mod Faults
-use Rattle.std.specs.Prelude.{◌≡◌, ℕ, ◌+◌, ◌*◌, ◌/◌, ◌%◌, ◌<◌, ◌≤◌, ◌==◌, Bool, List, ◌++◌, All, length, map, Ok}
+use Rattle.std.specs.Prelude.{◌≡◌, ℕ, ◌+◌, ◌*◌, ◌/◌, ◌%◌, ◌<◌, ◌≤◌, ◌==◌, Bool, List, ◌++◌, length, map, Ok}
 use Rattle.mime_base.specs.Cache.Texts.{text_at}
 use Rattle.mime_base.specs.Format.Sorted.{IsSortedByText}
 use Rattle.mime_base.specs.Format.Stored.{glob_rules, literal_rules, reversed_ending, stored_text, tree_rules}
@@ -52,10 +52,6 @@ pub record IsListing (rules : List GlobRule) (listed : List PlainListed) : Type 
   pub sorted_literals : IsSortedByText stored_text (literal_rules rules) literals
   pub sorted_leaves : IsSortedByText reversed_ending (tree_rules rules) leaves
   pub is : listed ≡ map listed_rule (literals ++ (leaves ++ glob_rules rules))
-
--- the weight, the length of the pattern and each of its bytes fit a byte
-abbrev pub FitsListing : GlobRule → Type 0
-FitsListing rule = (rule.weight < 256) × (length rule.pattern < 256) × All (λ b. b < 256) rule.pattern
 
 -- a type that is a text of the cache, and a pattern of at most 255 bytes
 abbrev pub IsListed : List ℕ → PlainListed → Type 0

@@ -4,6 +4,7 @@ ghost use Rattle.std.specs.Prelude.{◌≡◌, ◌⊎◌, true, false, ℕ, ◌+
 ghost use Rattle.std.specs.Prelude.{All, Ok, length, map, option_map, IfErr, IfOk, IfSome, IsOkAnd, MatchOption, MatchResult, OnErr};
 ghost use Rattle.mime_base.specs.Cache.Bytes.{Stands, field};
 ghost use Rattle.mime_base.specs.Cache.Texts.{text_at};
+ghost use Rattle.mime_base.specs.Database.Limits.{KeepsLimits};
 ghost use Rattle.mime_base.specs.Database.Subclass.{resolved};
 ghost use Rattle.mime_base.specs.Format.Header.{HeaderAt, Offsets};
 ghost use Rattle.mime_base.specs.Format.Magic.{MagicAt};
@@ -27,11 +28,7 @@ ghost use Rattle.mime_view.specs.NameHits.{IsHitsFault};
 ghost use Rattle.mime_view.specs.Pairs.{looked_up};
 ghost use Rattle.mime_view.specs.Parents.{IsGiven, IsParentsFault, IsRead, has_place, is_marked, unmarked_parents, with_place};
 ghost use Rattle.mime_view.specs.Opening.{IsOpenFault, Opens};
-ghost use Rattle.mime_base.specs.Format.Rules.{GlobsAt, LiteralsAt};
-ghost use Rattle.mime_base.specs.Format.Stored.{glob_rules, literal_rules};
-ghost use Rattle.mime_base.specs.Format.SuffixTree.{SuffixTreeAt, tree_size};
-ghost use Rattle.mime_base.specs.declared.database.rule.GlobRule.{GlobRule};
-ghost use Rattle.mime_view.specs.Listing.{FitsListing, IsListed, IsListing, Lists, plain_listed};
+ghost use Rattle.mime_view.specs.Listing.{IsListed, IsListing, Lists, plain_listed};
 ghost use Rattle.mime_view.specs.Listing.Faults.{IsListingFault};
 
 use crate::budget::Budget;
@@ -125,7 +122,7 @@ impl<'a> Cache<'a> {
     /// alias is not resolved ("Recommended checking order").
     ///
     /// The name has at most 4,096 bytes. Each entry or leaf that is scanned takes a record of the budget, two
-    /// where one search serves both cases.
+    /// where one search serves both cases. No more types are given than records were taken.
     ///
     /// # Errors
     ///
@@ -145,6 +142,7 @@ impl<'a> Cache<'a> {
             SuffixTreeAt (Stands self.now) offsets.tree rules → GlobsAt (Stands self.now) offsets.globs rules →
             IfOk result (λ kinds. kinds ≡ map (λ rule. rule.kind) (kept_rules rules name.now)) }
         ensures text { IfOk result (λ kinds. All (λ kind. (at : ℕ) × (text_at self.now at ≡ Ok kind)) kinds) }
+        ensures count { IfOk result (λ kinds. length kinds + budget.new.records ≤ budget.old.records) }
         ensures need { (offsets : Offsets) (rules : List GlobRule) → All FitsRank rules →
             HeaderAt (Stands self.now) offsets → LiteralsAt (Stands self.now) offsets.literals rules →
             SuffixTreeAt (Stands self.now) offsets.tree rules → GlobsAt (Stands self.now) offsets.globs rules →
@@ -377,18 +375,18 @@ impl<'a> Cache<'a> {
         budget: &mut Budget,
     ) -> Result<Vec<Listed<'a>>, CacheFault>
         ensures answer { (offsets : Offsets) (rules : List GlobRule) → HeaderAt (Stands self.now) offsets →
-            All FitsListing rules → LiteralsAt (Stands self.now) offsets.literals rules →
+            All KeepsLimits rules → LiteralsAt (Stands self.now) offsets.literals rules →
             SuffixTreeAt (Stands self.now) offsets.tree rules → GlobsAt (Stands self.now) offsets.globs rules →
             IfOk result (λ listed. IsListing rules (map plain_listed listed.items)) }
         ensures text { IfOk result (λ listed. All (IsListed self.now) (map plain_listed listed.items)) }
         ensures need { (offsets : Offsets) (rules : List GlobRule) → HeaderAt (Stands self.now) offsets →
-            All FitsListing rules → LiteralsAt (Stands self.now) offsets.literals rules →
+            All KeepsLimits rules → LiteralsAt (Stands self.now) offsets.literals rules →
             SuffixTreeAt (Stands self.now) offsets.tree rules → GlobsAt (Stands self.now) offsets.globs rules →
             length (literal_rules rules) + tree_size rules + length (glob_rules rules) ≤ budget.old.records →
             IfErr result (λ e. e ≡ CacheFault.OutOfMemory) }
         ensures fault { IfErr result (IsListingFault self.now budget.new.records) }
         ensures takes_at_most { (offsets : Offsets) (rules : List GlobRule) → HeaderAt (Stands self.now) offsets →
-            All FitsListing rules → LiteralsAt (Stands self.now) offsets.literals rules →
+            All KeepsLimits rules → LiteralsAt (Stands self.now) offsets.literals rules →
             SuffixTreeAt (Stands self.now) offsets.tree rules → GlobsAt (Stands self.now) offsets.globs rules →
             budget.old.records ≤ budget.new.records
             + (length (literal_rules rules) + tree_size rules + length (glob_rules rules)) }

@@ -22,6 +22,7 @@ pub fn read_kinds<'a>(
     ensures answer { (rules : List GlobRule) → AreOffers counted.now hits rules →
         IfOk result (λ kinds. kinds ≡ map (λ rule. rule.kind) rules) }
     ensures text { IfOk result (λ kinds. All (λ kind. (at : ℕ) × (text_at counted.now at ≡ Ok kind)) kinds) }
+    ensures count { IfOk result (λ kinds. length kinds ≡ length hits) }
     ensures need { (rules : List GlobRule) → AreOffers counted.now hits rules →
         IfErr result (λ e. e ≡ CacheFault.OutOfMemory) }
     ensures fault { IfErr result (λ e. IsTextFault counted.now e ⊎ (e ≡ CacheFault.OutOfMemory)) }

@@ -55,6 +55,7 @@ pub fn glob_hits<'a>(
     ensures answer { (rules : List GlobRule) → All FitsRank rules → RulesAt counted.now lists rules →
         IfOk result (λ kinds. kinds ≡ map (λ rule. rule.kind) (kept_rules rules name.now)) }
     ensures text { IfOk result (λ kinds. All (λ kind. (at : ℕ) × (text_at counted.now at ≡ Ok kind)) kinds) }
+    ensures count { IfOk result (λ kinds. length kinds + budget.new.records ≤ budget.old.records) }
     ensures need { (rules : List GlobRule) → All FitsRank rules → RulesAt counted.now lists rules →
         hit_visits name.now rules ≤ budget.old.records → IfErr result (λ e. e ≡ CacheFault.OutOfMemory) }
     ensures takes_at_most { (rules : List GlobRule) → RulesAt counted.now lists rules →

@@ -1,6 +1,6 @@
 use Rattle.std.proofs.Common.{◌≡◌, ◌∙◌, ℕ, List, length, map, ap, arith, rules}
-use Rattle.std.proofs.lemmas.List.{take_all}
-use Rattle.mime_view.proofs.KindTexts.{AreTexts-all, AreTexts-kinds, AreTexts-pushed, kind_stands}
+use Rattle.std.proofs.lemmas.List.{length-map, take_all}
+use Rattle.mime_view.proofs.KindTexts.{AreTexts-all, AreTexts-kinds, AreTexts-length, AreTexts-pushed, kind_stands}
 use Rattle.mime_view.proofs.kinds.read_kinds.Goals as goal
 
 pub loop-kind-preserved : goal.loop-kind-preserved
@@ -33,3 +33,11 @@ returns-clause-answer c = λ rules offers.
 pub returns-clause-text : goal.returns-clause-text
 returns-clause-text c =
     rw c.of.ensures (AreTexts-all c.args.counted.now _ _ c.loop-kind.invariant.are)
+
+pub returns-clause-count : goal.returns-clause-count
+returns-clause-count c =
+    let are : c.deref-kind-items.result.now ≡ map (λ hit. hit.1) c.args.hits =
+    c.deref-kind-items.ensures.value ∙ c.into_kinds-kinds.ensures in
+    let all = take_all c.loop-kind.kind-index c.deref-kind-items.result.now c.loop-kind-test.false in
+    rw c.of.ensures
+    (AreTexts-length c.args.counted.now _ _ (rw (all, are) at c.loop-kind.invariant.are) ∙ length-map c.args.hits (λ hit. hit.1))

@@ -1,0 +1,42 @@
+-- What the steps of a lookup over a cache give and why they stop, as plain values.
+use Rattle.std.specs.Prelude.{◌≡◌, ◌≢◌, ◌⊎◌, ℕ, List, ◌∷◌, [], Contains, Ok, codes}
+use Rattle.mime_base.specs.Cache.Texts.{text_at}
+use Rattle.mime_lookup.specs.Finding.{PlainFinding, by_magic, fixed}
+use Rattle.mime_lookup.specs.declared.cached.sniff.Finding.{Finding}
+use Rattle.mime_lookup.specs.declared.cached.sniff.Finding.TheVariants as finding
+use Rattle.mime_lookup.specs.declared.stopped.Cause.{Cause}
+use Rattle.mime_lookup.specs.declared.stopped.Cause.TheVariants as cause
+use Rattle.mime_view.specs.declared.fault.CacheFault.{CacheFault}
+use Rattle.mime_view.specs.declared.fault.CacheFault.TheVariants as fault
+
+-- the types that the checking order gives without a cache
+abbrev pub fixed_kinds : List (List ℕ)
+fixed_kinds = codes "application/octet-stream" ∷ codes "application/x-zerosize" ∷ codes "text/plain" ∷ []
+
+-- a text of the cache
+abbrev pub IsTextOf : List ℕ → List ℕ → Type 0
+IsTextOf c text = (at : ℕ) × (text_at c at ≡ Ok text)
+
+-- a text of the cache, or one of the fixed types
+abbrev pub IsKind : List ℕ → List ℕ → Type 0
+IsKind c kind = IsTextOf c kind ⊎ Contains fixed_kinds kind
+
+-- the plain value of a finding
+abbrev pub plain_finding : Finding → PlainFinding
+plain_finding (finding.Magic kind priority) = by_magic kind.now priority
+plain_finding (finding.Fixed kind) = fixed kind.now
+
+-- a section's type is a text of the cache, any other type is fixed
+abbrev pub IsFinding : List ℕ → Finding → Type 0
+IsFinding c (finding.Magic kind priority) = IsTextOf c kind.now
+IsFinding c (finding.Fixed kind) = Contains fixed_kinds kind.now
+
+-- a read failed, an allocation was refused, or the cache has such a fault
+abbrev pub IsStop : (CacheFault → Type 0) → Cause → Type 0
+IsStop IsFault stop = (stop ≡ cause.Read) ⊎ (stop ≡ cause.OutOfMemory)
+    ⊎ ((e : CacheFault) × (stop ≡ cause.Cache e) × (e ≢ fault.OutOfMemory) × IsFault e)
+
+-- why a lookup stops for a fault of its cache; an allocation that was refused is no fault of it
+abbrev pub cause_of : CacheFault → Cause
+cause_of fault.OutOfMemory = cause.OutOfMemory
+cause_of e = cause.Cache e

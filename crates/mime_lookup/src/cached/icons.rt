@@ -1,0 +1,95 @@
+//! The icons of a type, by a cache ("The mime.cache files").
+
+ghost use Rattle.std.specs.Prelude.{◌≡◌, ◌≢◌, ◌⊎◌, ℕ, ◌≤◌, length, IfErr, IfOk, MatchResult};
+ghost use Rattle.mime_base.specs.Database.{PlainDatabase};
+ghost use Rattle.mime_lookup.specs.Bounds.{KeepsBounds};
+ghost use Rattle.mime_lookup.specs.Icons.{icons_of, plain_icons_of};
+ghost use Rattle.mime_lookup.specs.Spelling.{SpellsIcons};
+ghost use Rattle.mime_lookup.specs.StepFaults.{IsIconFault};
+
+use crate::stopped::{Cause, Stopped};
+use mime_base::{Counted, Meter, OutOfMemory, TypeName};
+use mime_view::{Budget, Cache, CacheFault};
+use std::alloc::Global;
+
+/// The icons of a type, and what it took to find them.
+#[derive(Debug, Drop)]
+pub struct Icons {
+    /// The name of the type's icon.
+    pub icon: Vec<u8>,
+    /// The name of the icon that stands for the type and those like it.
+    pub generic: Vec<u8>,
+    /// What was looked at.
+    pub meter: Meter,
+}
+
+/// The names of a type's icons, by a cache ("The mime.cache files").
+///
+/// The type is resolved by one alias step first. Where the cache names no icon, it is the type with `-` for
+/// each `/`; where it names no generic icon, it is what stands before the type's first `/` and `-x-generic`.
+/// That is this project's own. [`Cause::Cache`] says what is wrong with the cache; no content is read.
+pub fn icon_of<'a>(alloc: Global, cache: Counted<'a>, kind: &'a TypeName) -> Result<Icons, Stopped>
+    ensures answer { (b : PlainDatabase) → SpellsIcons cache.entry b → IfOk result
+        (λ icons. plain_icons_of icons ≡ icons_of b kind.entry.now) }
+    ensures need { (b : PlainDatabase) → SpellsIcons cache.entry b → length cache.entry ≤ 268435456 →
+        IfErr result (λ stopped. stopped.cause ≡ Cause.OutOfMemory) }
+    ensures fault { IfErr result (λ stopped. (stopped.cause ≡ Cause.OutOfMemory)
+        ⊎ ((e : CacheFault) × (stopped.cause ≡ Cause.Cache e) × (e ≢ CacheFault.OutOfMemory) × IsIconFault cache.entry e)) }
+    ensures read { IfErr result (λ stopped. stopped.read ≡ 0) }
+    ensures bounds { MatchResult result
+        (λ icons. KeepsBounds 0 cache.entry 0 icons.meter) (λ stopped. KeepsBounds 0 cache.entry 0 stopped.meter) }
+{
+    let mut meter = Meter::new();
+    match find_icons(alloc, cache, kind.bytes(), &mut meter) {
+        Ok((icon, generic)) => Ok(Icons { icon, generic, meter }),
+        Err(fault) => Err(Stopped {
+            cause: Cause::from(fault),
+            read: 0,
+            meter,
+        }),
+    }
+}
+
+// The names of the icon and of the generic icon of a type.
+fn find_icons<'a>(
+    alloc: Global,
+    cache: Counted<'a>,
+    kind: &'a [u8],
+    meter: &mut Meter,
+) -> Result<(Vec<u8>, Vec<u8>), CacheFault>
+{
+    let cache = Cache::open(cache, meter)?;
+    let mut budget = Budget::of(&cache);
+    let kind = cache.unalias(kind, meter, &mut budget)?;
+    let icon = cache.icon(kind, meter, &mut budget)?;
+    let generic = cache.generic_icon(kind, meter, &mut budget)?;
+    Ok((
+        icon_or_hyphens(alloc, icon, kind)?,
+        generic_or_media(alloc, generic, kind)?,
+    ))
+}
+
+// The icon's name, else the type with a hyphen for each slash.
+fn icon_or_hyphens(alloc: Global, icon: Option<&[u8]>, kind: &[u8]) -> Result<Vec<u8>, OutOfMemory> {
+    if let Some(name) = icon {
+        return Ok(Vec::from_slice(alloc, name)?);
+    }
+    let mut name = Vec::from_slice(alloc, kind)?;
+    for byte in &mut name {
+        if *byte == b'/' {
+            *byte = b'-';
+        }
+    }
+    Ok(name)
+}
+
+// The generic icon's name, else what stands before the type's first slash, and `-x-generic`.
+fn generic_or_media(alloc: Global, icon: Option<&[u8]>, kind: &[u8]) -> Result<Vec<u8>, OutOfMemory> {
+    if let Some(name) = icon {
+        return Ok(Vec::from_slice(alloc, name)?);
+    }
+    let slash = kind.iter().position(|byte| *byte == b'/').unwrap_or(kind.len());
+    let mut name = Vec::from_slice(alloc, &kind[..slash])?;
+    name.extend_from_slice(b"-x-generic")?;
+    Ok(name)
+}

@@ -1,0 +1,59 @@
+//! The kept types of a name over a cache ("Recommended checking order").
+
+ghost use Rattle.std.specs.Prelude.{◌≡◌, ◌⊎◌, ℕ, ◌+◌, ◌*◌, ◌≤◌, All, List, Ok, length, IfErr, IfOk, MatchResult};
+ghost use Rattle.mime_base.specs.Cache.Texts.{text_at};
+ghost use Rattle.mime_base.specs.Database.{PlainDatabase, pairs_of};
+ghost use Rattle.mime_base.specs.Format.Stored.{glob_rules, literal_rules};
+ghost use Rattle.mime_base.specs.Format.SuffixTree.{tree_size};
+ghost use Rattle.mime_view.specs.Hits.{near};
+ghost use Rattle.mime_lookup.specs.Ancestry.{texts};
+ghost use Rattle.mime_lookup.specs.Choice.{kept};
+ghost use Rattle.mime_lookup.specs.Costs.{Costs, ahead, glob_cost, record_cost};
+ghost use Rattle.mime_lookup.specs.Spelling.{SpellsGlobs};
+ghost use Rattle.mime_lookup.specs.StepFaults.{IsGlobsFault};
+
+use mime_base::Meter;
+use mime_view::{Budget, Cache, CacheFault};
+use std::alloc::Global;
+
+/// The types of the rules that are kept for a name, each after one alias step.
+pub fn kept_kinds<'a>(
+    alloc: Global,
+    cache: &Cache<'a>,
+    name: &[u8],
+    meter: &mut Meter,
+    budget: &mut Budget,
+) -> Result<Vec<&'a [u8]>, CacheFault>
+    requires short { length name.now ≤ 4096 }
+    ensures answer { (b : PlainDatabase) → SpellsGlobs cache.now b → IfOk result
+        (λ kinds. texts kinds.items ≡ kept (pairs_of b) b.rules name.now) }
+    ensures text { IfOk result (λ kinds. All (λ kind. (at : ℕ) × (text_at cache.now at ≡ Ok kind)) (texts kinds.items)) }
+    ensures need { (b : PlainDatabase) → SpellsGlobs cache.now b →
+        (2 * length (literal_rules b.rules) + 2 * tree_size b.rules + length (glob_rules b.rules) ≤ budget.old.records)
+        ⊎ (2 * near name.now b.rules + 2 * length name.now + 2 ≤ budget.old.records) →
+        IfErr result (λ e. e ≡ CacheFault.OutOfMemory) }
+    ensures fault { IfErr result (IsGlobsFault cache.now budget.new) }
+    ensures takes_within { (b : PlainDatabase) → SpellsGlobs cache.now b → budget.old.records ≤ budget.new.records
+        + (2 * length (literal_rules b.rules) + 2 * tree_size b.rules + length (glob_rules b.rules)) }
+    ensures takes_near { (b : PlainDatabase) → SpellsGlobs cache.now b →
+        budget.old.records ≤ budget.new.records + (2 * near name.now b.rules + 2 * length name.now + 2) }
+    ensures value_bytes { budget.new.value_bytes ≡ budget.old.value_bytes }
+    ensures nodes { MatchResult result
+        (λ kinds. meter.new.nodes + budget.new.records
+            ≤ meter.old.nodes + budget.old.records + glob_cost (length name.now) + 29 * length kinds.items)
+        (λ _. meter.new.nodes + budget.new.records
+            ≤ meter.old.nodes + budget.old.records + glob_cost (length name.now) + 29 * budget.old.records) }
+    ensures cost { (value : ℕ) → MatchResult result
+        (λ kinds. Costs (record_cost (length name.now)) value (glob_cost (length name.now))
+            budget.old budget.new meter.old (ahead (length kinds.items) meter.new))
+        (λ _. Costs (record_cost (length name.now)) value (glob_cost (length name.now))
+            budget.old budget.new meter.old meter.new) }
+    ensures rises { meter.old.nodes ≤ meter.new.nodes }
+{
+    let hits = cache.glob_hits(alloc, name, meter, budget)?;
+    let mut kinds = Vec::new(alloc);
+    for kind in hits.as_slice() {
+        kinds.push(cache.unalias(*kind, meter, budget)?)?;
+    }
+    Ok(kinds)
+}

@@ -1,0 +1,67 @@
+//! Whether a type is a subclass of another, by a cache ("Subclassing").
+
+ghost use Rattle.std.specs.Prelude.{◌≡◌, ◌≢◌, ◌⊎◌, ◌↔◌, ℕ, ◌/◌, ◌≤◌, length, IfErr, IfOk, IsTrue, MatchResult};
+ghost use Rattle.mime_base.specs.Database.{PlainDatabase, pairs_of};
+ghost use Rattle.mime_base.specs.Database.Subclass.{IsA, resolved};
+ghost use Rattle.mime_base.specs.Format.Packed.{Packed};
+ghost use Rattle.mime_lookup.specs.Bounds.{KeepsBounds};
+ghost use Rattle.mime_lookup.specs.Cached.{IsStop};
+ghost use Rattle.mime_lookup.specs.Spelling.{SpellsPairs};
+ghost use Rattle.mime_lookup.specs.StepFaults.{IsLookUpFault};
+
+use crate::cached::ancestry::leads_to;
+use crate::stopped::{Cause, Stopped};
+use mime_base::{Counted, Meter, TypeName};
+use mime_view::{Budget, Cache, CacheFault, Marks};
+use std::alloc::Global;
+
+/// Whether a type is another or a subclass of it, by the aliases and the parents of a cache ("Subclassing"),
+/// and what it took to find out.
+///
+/// Both types are resolved by one alias step first. [`Cause::Cache`] says what is wrong with the cache; no
+/// content is read.
+pub fn is_a<'a>(
+    alloc: Global,
+    cache: Counted<'a>,
+    kind: &'a TypeName,
+    base: &'a TypeName,
+) -> Result<(bool, Meter), Stopped>
+    ensures answer { (b : PlainDatabase) → SpellsPairs cache.entry b → IfOk result
+        (λ found. IsTrue found.0 ↔ IsA (pairs_of b) (resolved b.aliases kind.entry.now) (resolved b.aliases base.entry.now)) }
+    ensures need { (b : PlainDatabase) → SpellsPairs cache.entry b → length cache.entry ≤ 268435456 → Packed cache.entry b →
+        IfErr result (λ stopped. stopped.cause ≡ Cause.OutOfMemory) }
+    ensures fault { IfErr result (λ stopped. (stopped.cause ≡ Cause.OutOfMemory)
+        ⊎ ((e : CacheFault) × (stopped.cause ≡ Cause.Cache e) × (e ≢ CacheFault.OutOfMemory) × IsLookUpFault cache.entry e)) }
+    ensures read { IfErr result (λ stopped. stopped.read ≡ 0) }
+    ensures spent { IfErr result (λ stopped. stopped.cause ≡ Cause.Cache CacheFault.Spent
+        → length cache.entry / 4 ≤ stopped.meter.nodes) }
+    ensures bounds { MatchResult result
+        (λ found. KeepsBounds 0 cache.entry 0 found.1) (λ stopped. KeepsBounds 0 cache.entry 0 stopped.meter) }
+{
+    let mut meter = Meter::new();
+    match search(alloc, cache, kind.bytes(), base.bytes(), &mut meter) {
+        Ok(found) => Ok((found, meter)),
+        Err(fault) => Err(Stopped {
+            cause: Cause::from(fault),
+            read: 0,
+            meter,
+        }),
+    }
+}
+
+// The same, with its fault alone.
+fn search<'a>(
+    alloc: Global,
+    cache: Counted<'a>,
+    kind: &'a [u8],
+    base: &'a [u8],
+    meter: &mut Meter,
+) -> Result<bool, CacheFault>
+{
+    let cache = Cache::open(cache, meter)?;
+    let mut budget = Budget::of(&cache);
+    let kind = cache.unalias(kind, meter, &mut budget)?;
+    let base = cache.unalias(base, meter, &mut budget)?;
+    let mut marks = Marks::new(alloc);
+    leads_to(alloc, &cache, &mut marks, kind, base, meter, &mut budget)
+}
