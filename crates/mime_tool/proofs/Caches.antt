@@ -1,11 +1,13 @@
 -- From CACHE that was read, and a run over it, to the run of a command.
-use Rattle.std.proofs.Common.{◌≡◌, ◌≢◌, ℕ, List, [], inl, inr, Some, None, Result, Ok, Err, Vec, ap, string_bytes, subst, sym}
+use Rattle.std.proofs.Common.{◌≡◌, ◌≢◌, ◌∙◌, ◌⊎◌, ℕ, List, [], inl, inr, Some, None, Result, Ok, Err, Vec, ap, string_bytes, subst, sym}
 use Rattle.std.specs.declared.alloc.Global.{Global}
 use Rattle.mime_base.specs.Database.{PlainDatabase}
 use Rattle.mime_base.specs.Format.Packed.{Packed}
 use Rattle.mime_base.specs.Format.Spells.{Spells}
 use Rattle.mime_view.specs.declared.fault.CacheFault.{CacheFault}
 use Rattle.mime_view.specs.declared.fault.CacheFault.TheVariants as fault
+use Rattle.mime_lookup.specs.declared.stopped.Cause.{Cause}
+use Rattle.mime_lookup.specs.declared.stopped.Cause.TheVariants as cause
 use Rattle.mime_tool.specs.Cache.{GivesOrRefuses, IsAnsweredOr, IsCacheCommand, IsFaultStop, IsRefused, fault_name}
 use Rattle.mime_tool.specs.Desk.{Ends, ReadsWhole}
 use Rattle.mime_tool.specs.Files.{IsBytesOf, Stored}
@@ -71,3 +73,17 @@ module _ (X : Type 0) (path cache : List ℕ) (IsFault : CacheFault → Type 0) 
   refused_for (fault.LongText at) s is why need = refused_other (fault.LongText at) s (λ e. cc) is why need
   refused_for fault.Spent s is why need = refused_other fault.Spent s (λ e. cc) is why need
   refused_for fault.TooDeep s is why need = refused_other fault.TooDeep s (λ e. cc) is why need
+
+  -- so does what stops for a lookup that reads no content
+  pub stopped_refused : (why : Cause) (s : Stop) → ((f : CacheFault) → why ≡ cause.Cache f → IsFaultStop path f s)
+      → (why ≡ cause.OutOfMemory → s ≡ stop.OutOfMemory)
+      → (why ≡ cause.OutOfMemory) ⊎ ((f : CacheFault) × (why ≡ cause.Cache f) × (f ≢ fault.OutOfMemory) × IsFault f)
+      → ((b : PlainDatabase) → IsAsked b → Spells cache b → Packed cache b → why ≡ cause.OutOfMemory)
+      → GivesOrRefuses {X = X} path (IsRefused cache IsFault IsAsked) IsGiven (Err s)
+  stopped_refused why s by memory (inl is) need =
+      subst (λ (t : Stop). GivesOrRefuses {X = X} path (IsRefused cache IsFault IsAsked) IsGiven (Err t)) (sym (memory is)) tt
+  stopped_refused why s by memory (inr (f, is, other, fault_is)) need =
+      refused_for f s (by f is) fault_is (λ b asked spells packed. absurd (cache_memory f (sym is ∙ need b asked spells packed)))
+    where
+      cache_memory : (f : CacheFault) → cause.Cache f ≡ cause.OutOfMemory → ⊥
+      cache_memory f e = cc

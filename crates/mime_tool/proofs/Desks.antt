@@ -72,3 +72,10 @@ pub other_unsaid : (X : Type 0) (P : Run → Type 0) (status : ℕ) (text : List
 other_unsaid X P status text a b stop.OutOfMemory is p = cut_all (λ _. P) [] a b (record { status = status; out = []; err = text }) is p
 other_unsaid X P status text a b stop.CannotWrite is p = p
 other_unsaid X P status text a b (stop.Refused m) is p = absurd p
+
+-- a run whose line isn't printed; nor does the line
+pub other_unprinted : (X : Type 0) (P : Run → Type 0) (status : ℕ) (text : List ℕ) (a b : Sinks) (s : Stop)
+    → P (record { status = status; out = text; err = [] }) → Does {X = X} (printed text) a b (Err s) → Ends (λ _. P) [] a b (Err s)
+other_unprinted X P status text a b stop.OutOfMemory is p = cut_all (λ _. P) [] a b (record { status = status; out = text; err = [] }) is p
+other_unprinted X P status text a b stop.CannotWrite is p = p
+other_unprinted X P status text a b (stop.Refused m) is p = absurd p

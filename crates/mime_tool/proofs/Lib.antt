@@ -1,5 +1,6 @@
 pub mod BuildOvers
 pub mod Builds
+pub mod CachedLines
 pub mod Caches
 pub mod Commands
 pub mod DataFiles
@@ -18,4 +19,5 @@ pub mod MagicFiles
 pub mod Programs
 pub mod Runs
 pub mod Sinks
+pub mod Spelled
 pub mod Texts

@@ -12,7 +12,8 @@ use Rattle.mime_base.specs.Format.Spells.{Spells}
 use Rattle.mime_base.specs.Format.Stored.{glob_rules, literal_rules}
 use Rattle.mime_base.specs.Format.SuffixTree.{SuffixTreeAt, tree_size}
 use Rattle.mime_base.specs.declared.database.rule.GlobRule.{GlobRule}
-use Rattle.mime_view.specs.Listing.{FitsListing, IsListed, IsListing, plain_listed}
+use Rattle.mime_base.specs.Database.Limits.{KeepsLimits}
+use Rattle.mime_view.specs.Listing.{IsListed, IsListing, plain_listed}
 use Rattle.mime_view.specs.Listing.Faults.{IsListingFault}
 use Rattle.mime_view.specs.declared.fault.CacheFault.{CacheFault}
 use Rattle.mime_view.specs.declared.rules.listing.Listed.{Listed}
@@ -23,7 +24,7 @@ use Rattle.mime_tool.proofs.Headers.{packed_records}
 
 -- the rules that it gives are those of the cache
 pub rules_found : (c : List ℕ) (r : Result (Vec Listed Global) CacheFault)
-    → ((offsets : Offsets) (rules : List GlobRule) → HeaderAt (Stands c) offsets → All FitsListing rules
+    → ((offsets : Offsets) (rules : List GlobRule) → HeaderAt (Stands c) offsets → All KeepsLimits rules
     → LiteralsAt (Stands c) offsets.literals rules → SuffixTreeAt (Stands c) offsets.tree rules → GlobsAt (Stands c) offsets.globs rules
     → IfOk r (λ listed. IsListing rules (map plain_listed listed.items)))
     → IfOk r (λ listed. All (IsListed c) (map plain_listed listed.items)) → IfOk r (λ listed. AreRulesOf c (map plain_listed listed.items))
@@ -39,7 +40,7 @@ rules_faulty c left (Err f) p = inr (left, p)
 
 -- a packed cache has records for all its rules
 pub rules_needed : (c : List ℕ) (records : ℕ) (P : Type 0) → records ≡ length c / 4
-    → ((offsets : Offsets) (rules : List GlobRule) → HeaderAt (Stands c) offsets → All FitsListing rules
+    → ((offsets : Offsets) (rules : List GlobRule) → HeaderAt (Stands c) offsets → All KeepsLimits rules
     → LiteralsAt (Stands c) offsets.literals rules → SuffixTreeAt (Stands c) offsets.tree rules → GlobsAt (Stands c) offsets.globs rules
     → length (literal_rules rules) + tree_size rules + length (glob_rules rules) ≤ records → P)
     → (b : PlainDatabase) → HasListedRules b → Spells c b → Packed c b → P

@@ -4,7 +4,7 @@ use Rattle.clap.specs.Values.{kind_of}
 use Rattle.clap.specs.declared.error.Error.{Error}
 use Rattle.clap.specs.declared.error.kind.ErrorKind.{ErrorKind}
 use Rattle.clap.specs.declared.error.kind.ErrorKind.TheVariants as kind
-use Rattle.mime_request.specs.Request.{PlainRequest, Meaning, Means, plain_request, asks, build, meaning_of, parts, plain, refused}
+use Rattle.mime_request.specs.Request.{PlainRequest, Meaning, Means, plain_request, asks, build, icon, is_a, list, meaning_of, parts, plain, refused, type_of}
 use Rattle.mime_request.specs.Spelling.{AreUsual, build_words, is_option, plain_words}
 use Rattle.mime_request.specs.declared.request.Request.{Request}
 use Rattle.mime_request.proofs.UsualWords.{meaning_of-usual}
@@ -14,7 +14,7 @@ use Rattle.mime_tool.specs.Desk.{Ends, State, Works}
 use Rattle.mime_tool.specs.Files.{Stored, Writing}
 use Rattle.mime_tool.specs.Finish.{Finishes, Sinks}
 use Rattle.mime_tool.specs.Plain.{IsPlain}
-use Rattle.mime_tool.specs.Program.{Answers, IsAnswer, IsShown, Leaves, files_of, is_help, shown}
+use Rattle.mime_tool.specs.Program.{Answers, IsAnswer, IsAskedRun, IsShown, Leaves, LeavesAsked, asked_files, files_of, is_help, shown}
 use Rattle.mime_tool.specs.Run.{Run, stopped}
 use Rattle.mime_tool.specs.Stop.{message}
 use Rattle.mime_tool.specs.declared.stop.Stop.{Stop}
@@ -59,6 +59,10 @@ error_shown writes stored after (refused kinds) e a b r (inr among) p =
 leaves_same : (m : Meaning) (old new : List ℕ → Stored) → new ≡ old → Leaves m old new
 leaves_same (asks (build dirs file)) old new same = inl (λ other _. ap (λ (stored : List ℕ → Stored). stored other) same)
 leaves_same (asks (plain dirs name_only magic_first files)) old new same = same
+leaves_same (asks (list cache)) old new same = same
+leaves_same (asks (is_a cache kind base)) old new same = same
+leaves_same (asks (icon cache kind)) old new same = same
+leaves_same (asks (type_of cache name_only cost magic_first files)) old new same = same
 leaves_same (refused kinds) old new same = same
 
 pub answers_error : (m : Meaning) (e : Error) (a b : State) (r : Result ℕ Stop) → Means m (Err e)
@@ -69,11 +73,10 @@ answers_error m e a b r means p = record {
   leaves = leaves_same m a.stored b.stored p.same_files;
 }
 
--- a command that leaves what is stored
-pub answers_plain : (dirs : List (List ℕ)) (name_only magic_first : Bool) (files : List (List ℕ)) (a b : State) (r : Result ℕ Stop)
-    → Works (Ends (IsPlain a.stored dirs name_only magic_first) files) a b r → Answers (asks (plain dirs name_only magic_first files)) a b r
-answers_plain dirs name_only magic_first files a b r p =
-    record { same_setting = p.same_setting; sinks = p.sinks; leaves = p.same_files }
+-- a request that leaves what is stored
+pub answers_kept : (q : PlainRequest) (a b : State) (r : Result ℕ Stop) → (b.stored ≡ a.stored → LeavesAsked q a.stored b.stored)
+    → Works (Ends (λ files run. IsAskedRun a.setting.writes a.stored b.stored q files run) (asked_files q)) a b r → Answers (asks q) a b r
+answers_kept q a b r kept p = record { same_setting = p.same_setting; sinks = p.sinks; leaves = kept p.same_files }
 
 -- and one that doesn't
 pub answers_build : (dirs : List (List ℕ)) (file : List ℕ) (a b : State) (r : Result ℕ Stop) → Builds dirs file a b r

@@ -4,6 +4,8 @@ pub mod Desk
 pub mod Directories
 pub mod Files
 pub mod Finish
+pub mod Icon
+pub mod IsA
 pub mod Line
 pub mod LineSteps
 pub mod List
@@ -13,3 +15,5 @@ pub mod Program
 pub mod Run
 pub mod Sink
 pub mod Stop
+pub mod TypeNames
+pub mod Types

@@ -3,7 +3,8 @@ use Rattle.std.specs.Prelude.{◌≡◌, ◌⊎◌, ℕ, Bool, true, false, All,
 use Rattle.std.specs.List.{flat_map}
 use Rattle.mime_base.specs.Database.{PlainDatabase}
 use Rattle.mime_base.specs.Format.Spells.{Spells}
-use Rattle.mime_view.specs.Listing.{FitsListing, IsListed, IsListing, PlainListed}
+use Rattle.mime_base.specs.Database.Limits.{KeepsLimits}
+use Rattle.mime_view.specs.Listing.{IsListed, IsListing, PlainListed}
 use Rattle.mime_view.specs.Listing.Faults.{IsListingFault}
 use Rattle.mime_view.specs.Opening.{IsOpenFault}
 use Rattle.mime_view.specs.declared.fault.CacheFault.{CacheFault}
@@ -23,7 +24,7 @@ rule_line rule =
 
 -- the limits of what `list` looks at in a database
 abbrev pub HasListedRules : PlainDatabase → Type 0
-HasListedRules b = All FitsListing b.rules
+HasListedRules b = All KeepsLimits b.rules
 
 -- the rules that are listed of a cache: all that it spells, where it spells some, and for each a type that is a text of it
 pub record AreRulesOf (cache : List ℕ) (listed : List PlainListed) : Type 0 where

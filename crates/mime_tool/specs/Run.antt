@@ -23,6 +23,10 @@ said text = record { status = 0; out = []; err = text }
 abbrev pub unanswered : List ℕ → Run
 unanswered text = record { status = 1; out = []; err = text }
 
+-- the words are mistaken, and this says why
+abbrev pub mistaken : List ℕ → Run
+mistaken text = record { status = 2; out = []; err = text }
+
 -- a run that stops, and says this of it
 abbrev pub stopped : List ℕ → Run → Run
 stopped message run = record { status = 3; out = run.out; err = run.err ++ message }

@@ -6,6 +6,7 @@ ghost use Rattle.mime_tool.specs.Run.{refusal};
 ghost use Rattle.mime_tool.specs.Stop.{IsRefusal};
 
 use crate::stop::Stop;
+use mime_lookup::Cause;
 use mime_view::CacheFault;
 use std::alloc::{AllocError, Global};
 
@@ -16,6 +17,17 @@ pub(crate) fn faulty(alloc: Global, path: &str, fault: CacheFault) -> Stop
     match fault {
         CacheFault::OutOfMemory => Stop::OutOfMemory,
         _ => refused(alloc, path, fault),
+    }
+}
+
+/// The stop of a lookup that reads no content and stopped for this.
+pub(crate) fn stopped_for(alloc: Global, path: &str, cause: Cause) -> Stop
+    ensures fault { (fault : CacheFault) → cause ≡ Cause.Cache fault → IsFaultStop path.now fault result }
+    ensures memory { cause ≡ Cause.OutOfMemory → result ≡ Stop.OutOfMemory }
+{
+    match cause {
+        Cause::Cache(fault) => faulty(alloc, path, fault),
+        Cause::NameTooLong | Cause::Read | Cause::OutOfMemory => Stop::OutOfMemory,
     }
 }
 

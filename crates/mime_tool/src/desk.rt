@@ -4,7 +4,7 @@ ghost use Rattle.std.specs.Prelude.{◌≡◌, IfOk};
 ghost use Rattle.std.specs.List.{flat_map};
 ghost use Rattle.mime_tool.specs.Desk.{Does, OpensFile, ReadsWhole, ReplacesFile, State, Works};
 ghost use Rattle.mime_tool.specs.Files.{IsBytesOf, IsTextOf};
-ghost use Rattle.mime_tool.specs.Run.{cannot_read, printed, said};
+ghost use Rattle.mime_tool.specs.Run.{cannot_read, printed, refusal, said};
 
 use crate::files::{FileFault, Files};
 use crate::sink::{Sink, put_all};
@@ -122,4 +122,13 @@ impl<F: Files, O: Sink, E: Sink> Desk for Streams<'_, '_, '_, F, O, E> {
         complain(self.err, message)?;
         Ok(())
     }
+}
+
+/// Says on standard error what is wrong with a file or a word.
+pub(crate) fn report<D: Desk>(desk: &mut D, subject: &str, why: &str) -> Result<(), Stop>
+    ensures { Works (Does (said (refusal subject.now why.now)))
+        (D.state desk.old) (D.state desk.new) result }
+{
+    let text = format!(in desk.alloc(); "mimelook: {subject}: {why}\n")?;
+    desk.complain(text.as_str())
 }

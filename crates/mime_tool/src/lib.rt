@@ -23,6 +23,8 @@ mod cache;
 mod desk;
 mod directories;
 mod files;
+mod icon;
+mod is_a;
 mod line;
 mod list;
 mod plain;
@@ -31,6 +33,8 @@ mod sink;
 mod status;
 mod stop;
 mod system;
+mod type_names;
+mod types;
 
 pub use files::{FileFault, Files};
 pub use program::run;

@@ -17,10 +17,13 @@ ghost use Rattle.mime_tool.specs.Stop.{IsFlushed};
 use crate::build::build;
 use crate::desk::{Desk, Streams};
 use crate::files::Files;
-use crate::plain::print_types;
+use crate::icon::icon;
+use crate::is_a::is_a;
+use crate::list::list;
 use crate::sink::Sink;
 use crate::status::{ANSWERED, MISTAKEN};
 use crate::stop::{Stop, tell};
+use crate::{plain, types};
 use clap::Error;
 use clap::error::ErrorKind;
 use mime_request::{Request, request_of};
@@ -136,10 +139,27 @@ fn answer<D: Desk>(desk: &mut D, request: &Request<'_>) -> Result<u8, Stop>
             name_only,
             magic_first,
             files,
-        } => print_types(
+        } => plain::print_types(
             desk,
             directories.as_slice(),
             *name_only,
+            *magic_first,
+            files.as_slice(),
+        ),
+        Request::List { cache } => list(desk, *cache),
+        Request::IsA { cache, kind, base } => is_a(desk, *cache, *kind, *base),
+        Request::Icon { cache, kind } => icon(desk, *cache, *kind),
+        Request::Type {
+            cache,
+            name_only,
+            cost,
+            magic_first,
+            files,
+        } => types::print_types(
+            desk,
+            *cache,
+            *name_only,
+            *cost,
             *magic_first,
             files.as_slice(),
         ),
