@@ -1,5 +1,5 @@
 -- From a lookup over a cache to the line of a file.
-use Rattle.std.proofs.Common.{◌≡◌, ◌≢◌, ◌⊎◌, ◌∙◌, ◌<◌, ℕ, Bool, true, false, IfSome, List, [], ap, inl, inr, length, nat_le, string_bytes, subst, sym}
+use Rattle.std.proofs.Common.{◌≡◌, ◌⊎◌, ◌∙◌, ◌<◌, ℕ, Bool, true, false, IfSome, List, [], ap, inl, inr, length, nat_le, string_bytes, subst, sym}
 use Rattle.std.proofs.Common.{Option, Some, None, Result, Err}
 use Rattle.std.proofs.lemmas.Bool.{false≢true, leb-false}
 use Rattle.std.specs.Bool.{⊤}
@@ -16,11 +16,9 @@ use Rattle.mime_lookup.specs.CheckingOrder.{Chooses, globs_suffice, read_of}
 use Rattle.mime_lookup.specs.Content.{Health, OfReader, broken, known_content}
 use Rattle.mime_lookup.specs.StepFaults.{IsLookUpFault}
 use Rattle.mime_lookup.specs.declared.order.Order.{Order}
-use Rattle.mime_lookup.specs.declared.stopped.Cause.{Cause}
 use Rattle.mime_lookup.specs.declared.stopped.Cause.TheVariants as cause
 use Rattle.mime_lookup.specs.declared.stopped.Stopped.{Stopped}
 use Rattle.mime_view.specs.declared.fault.CacheFault.{CacheFault}
-use Rattle.mime_view.specs.declared.fault.CacheFault.TheVariants as fault
 use Rattle.mime_tool.specs.Cache.{GivesOrRefuses, IsFaultStop, fault_name}
 use Rattle.mime_tool.specs.Files.{IsReaderOf, Stored, bytes, closed, nothing, unknown, unreadable}
 use Rattle.mime_tool.specs.Line.{IsNamed, IsOpened, IsTypeLineBy, base_name, fits, type_line}

@@ -1,7 +1,7 @@
 use Rattle.std.proofs.Common.{[]}
 use Rattle.std.proofs.lemmas.Result.{err_from_is_err_and}
 use Rattle.mime_tool.specs.List.{IsListOver}
-use Rattle.mime_tool.proofs.Caches.{cache_read, cache_unread}
+use Rattle.mime_tool.proofs.Caches.{cache_unread}
 use Rattle.mime_tool.proofs.list.list.Goals as goal
 
 pub returns-in_err-cache : goal.returns-in_err-cache
