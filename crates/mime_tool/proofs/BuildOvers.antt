@@ -1,13 +1,12 @@
 -- What `build` stores of a database.
-use Rattle.std.proofs.Common.{◌≡◌, ℕ, List, [], inl, inr, Ok, Err, Vec, ap}
-use Rattle.std.proofs.Common.{refl, string_bytes, subst, sym}
+use Rattle.std.proofs.Common.{◌≡◌, ℕ, List, inl, inr, Ok, Err, Vec, ap}
+use Rattle.std.proofs.Common.{refl, subst}
 use Rattle.std.specs.declared.alloc.Global.{Global}
 use Rattle.mime_base.specs.Database.{PlainDatabase}
 use Rattle.mime_tool.specs.Build.{BuildsOver, GivesCache, IsBuildOver, IsBuilt, temp_of, writing_of}
-use Rattle.mime_tool.specs.Desk.{Ends, ReplacesFile, State}
-use Rattle.mime_tool.specs.Files.{Replaced, Stored, Untouched, Writing}
-use Rattle.mime_tool.specs.Finish.{Sinks}
-use Rattle.mime_tool.specs.Run.{Run, cannot_write, cut_short, silent, stopped}
+use Rattle.mime_tool.specs.Desk.{ReplacesFile, State}
+use Rattle.mime_tool.specs.Files.{Stored, Untouched, Writing}
+use Rattle.mime_tool.specs.Run.{Run, cut_short, silent, stopped}
 use Rattle.mime_tool.specs.declared.stop.Stop.{Stop}
 use Rattle.mime_tool.specs.declared.stop.Stop.TheVariants as stop
 use Rattle.mime_tool.proofs.Ends.{writes_nothing, writes_same}

@@ -9,7 +9,6 @@ use Rattle.mime_tool.specs.Directories.{IsCommand, IsDatabase}
 use Rattle.mime_tool.specs.Files.{Stored, Untouched, Writing}
 use Rattle.mime_tool.specs.Finish.{Sinks}
 use Rattle.mime_tool.specs.Loading.{Loads}
-use Rattle.mime_tool.specs.Run.{Run}
 use Rattle.mime_tool.specs.declared.stop.Stop.{Stop}
 use Rattle.mime_tool.specs.declared.stop.Stop.TheVariants as stop
 use Rattle.mime_tool.proofs.BuildOvers.{can_be_over, untouched_same}

@@ -9,11 +9,10 @@ use Rattle.mime_tool.specs.Desk.{Ends, State, Works}
 use Rattle.mime_tool.specs.Directories.{AreDirectories, IsCommand, IsDatabase}
 use Rattle.mime_tool.specs.Files.{Stored}
 use Rattle.mime_tool.specs.Finish.{IsCut, Sinks, WritesFront}
-use Rattle.mime_tool.specs.Loading.{◌>>=◌, Gives, Loads}
+use Rattle.mime_tool.specs.Loading.{Gives, Loads}
 use Rattle.mime_tool.specs.Run.{Run, joined, said, silent, stopped}
 use Rattle.mime_tool.specs.declared.stop.Stop.{Stop}
 use Rattle.mime_tool.specs.declared.stop.Stop.TheVariants as stop
-use Rattle.mime_tool.proofs.DirectoryLists.{can_be_directories}
 use Rattle.mime_tool.proofs.DirectoryLoops.{ReadsDirectories, plain_of}
 use Rattle.mime_tool.proofs.Ends.{ends_said, part_none, writes_nothing}
 use Rattle.mime_tool.proofs.Loads.{can_give, works_nothing, works_stop, works_then}

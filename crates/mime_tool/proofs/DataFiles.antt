@@ -3,7 +3,7 @@ use Rattle.std.proofs.Common.{◌≡◌, ℕ, Bool, List, [], Option, Some, None
 use Rattle.std.specs.List.{flat_map}
 use Rattle.std.specs.declared.alloc.Global.{Global}
 use Rattle.mime_text.specs.Lines.{skipped_of}
-use Rattle.mime_tool.specs.Desk.{Does, ReadsText, State, Works}
+use Rattle.mime_tool.specs.Desk.{Does, ReadsWhole, State, Works}
 use Rattle.mime_tool.specs.Directories.{AreFileLines, AreLinesAt, IsTextAt, all_ignored, ignored, unread}
 use Rattle.mime_tool.specs.Files.{IsTextOf, Stored, bytes, closed, nothing, unknown, unreadable}
 use Rattle.mime_tool.specs.Finish.{Sinks}
@@ -32,7 +32,7 @@ can_be_text stored path =
 
 -- a text that was read is that of the file
 text_read : (stored : List ℕ → Stored) (path : List ℕ) (a b : Sinks) (r : Result (Vec ℕ Global) Stop)
-    → ReadsText (stored path) path a b r → Loads (λ (v : Vec ℕ Global). v.items) (IsTextAt stored path) a b r
+    → ReadsWhole (IsTextOf (stored path)) path a b r → Loads (λ (v : Vec ℕ Global). v.items) (IsTextAt stored path) a b r
 text_read stored path a b (Ok v) p = ([], (p.1, refl), writes_same a b p.0)
 text_read stored path a b (Err stop.OutOfMemory) p =
     subst (λ (s : Sinks). Loads (λ (v : Vec ℕ Global). v.items) (IsTextAt stored path) a s (Err stop.OutOfMemory)) (sym p)
@@ -41,7 +41,7 @@ text_read stored path a b (Err stop.CannotWrite) p = absurd p
 text_read stored path a b (Err (stop.Refused m)) p = ([], (p.1, p.2), writes_same a b p.0)
 
 -- the same over a desk
-pub works_text : (path : List ℕ) (a b : State) (r : Result (Vec ℕ Global) Stop) → Works (ReadsText (a.stored path) path) a b r
+pub works_text : (path : List ℕ) (a b : State) (r : Result (Vec ℕ Global) Stop) → Works (ReadsWhole (IsTextOf (a.stored path)) path) a b r
     → Works (Loads (λ (v : Vec ℕ Global). v.items) (IsTextAt a.stored path)) a b r
 works_text path a b r p = record {
   same_files = p.same_files;

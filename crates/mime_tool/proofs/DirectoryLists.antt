@@ -1,21 +1,11 @@
 -- Directories, one after another.
-use Rattle.std.proofs.Common.{◌≡◌, ◌∙◌, ℕ, List, [], ◌∷◌, ◌++◌, Option, Some, None, Result, Ok, Err, Vec, append_assoc, append-nil, ap}
-use Rattle.std.proofs.Common.{map, option_map, refl, string_bytes, subst, sym}
-use Rattle.std.proofs.lemmas.List.{map-append}
-use Rattle.std.specs.declared.alloc.Global.{Global}
-use Rattle.mime_text.specs.Merging.{PlainDir, plain_dir, plain_dirs}
-use Rattle.mime_text.specs.declared.merging.DirFiles.{DirFiles}
-use Rattle.mime_tool.specs.Desk.{State, Works}
+use Rattle.std.proofs.Common.{◌≡◌, ◌∙◌, ℕ, List, [], ◌∷◌, ◌++◌, Option, Some, None, append_assoc, append-nil, ap}
+use Rattle.std.proofs.Common.{option_map, refl, subst, sym}
+use Rattle.mime_text.specs.Merging.{PlainDir}
 use Rattle.mime_tool.specs.Directories.{AreDirectories, IsDirectory}
 use Rattle.mime_tool.specs.Files.{Stored}
-use Rattle.mime_tool.specs.Finish.{Sinks}
-use Rattle.mime_tool.specs.Loading.{◌>>=◌, Gives, GoesOn, Loads}
-use Rattle.mime_tool.specs.declared.stop.Stop.{Stop}
-use Rattle.mime_tool.specs.declared.stop.Stop.TheVariants as stop
 use Rattle.mime_tool.proofs.DirectoryFiles.{can_be_directory}
-use Rattle.mime_tool.proofs.Ends.{writes_nothing}
-use Rattle.mime_tool.proofs.Loads.{CanBe, can_give, can_then, works_nothing, works_stop, works_then}
-use Rattle.mime_tool.proofs.Sinks.{front-append, wrote-append, wrote_unknown}
+use Rattle.mime_tool.proofs.Loads.{CanBe, can_give, can_then}
 
 some_is : {X : Type 0} (x y : X) → Some x ≡ Some y → x ≡ y
 some_is x y e = cc

@@ -1,5 +1,5 @@
 -- A directory after each of its files.
-use Rattle.std.proofs.Common.{◌≡◌, ℕ, List, [], Option, Some, Result, Ok, Err, ap, codes, refl}
+use Rattle.std.proofs.Common.{◌≡◌, ℕ, List, [], Some, Result, Ok, Err, ap, codes, refl}
 use Rattle.mime_base.specs.Database.PlainPairs.{plain_icons, plain_pairs}
 use Rattle.mime_text.specs.Merging.{PlainDir, plain_dir}
 use Rattle.mime_text.specs.declared.lines.globs2.GlobsFile.{GlobsFile}
@@ -9,7 +9,7 @@ use Rattle.mime_text.specs.declared.magic.file.MagicFile.{MagicFile}
 use Rattle.mime_text.specs.declared.merging.DirFiles.{DirFiles}
 use Rattle.mime_tool.specs.Desk.{State, Works}
 use Rattle.mime_tool.specs.Directories.{IsDirectory, plain_magic}
-use Rattle.mime_tool.specs.Loading.{◌>>=◌, Gives, Loads}
+use Rattle.mime_tool.specs.Loading.{Gives, Loads}
 use Rattle.mime_tool.specs.declared.stop.Stop.{Stop}
 use Rattle.mime_tool.proofs.Loads.{works_stop, works_then}
 use Rattle.mime_tool.proofs.Ends.{writes_nothing}

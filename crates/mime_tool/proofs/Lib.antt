@@ -1,5 +1,7 @@
 pub mod BuildOvers
 pub mod Builds
+pub mod CachedLines
+pub mod Caches
 pub mod Commands
 pub mod DataFiles
 pub mod Desks
@@ -9,10 +11,13 @@ pub mod DirectoryLoops
 pub mod DirectorySteps
 pub mod Endings
 pub mod Ends
+pub mod Headers
 pub mod Lines
+pub mod ListedRules
 pub mod Loads
 pub mod MagicFiles
 pub mod Programs
 pub mod Runs
 pub mod Sinks
+pub mod Spelled
 pub mod Texts

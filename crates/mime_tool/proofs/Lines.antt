@@ -19,12 +19,12 @@ pub no_lines : (stored : List ℕ → Stored) (name_only magic_first : Bool) (da
     → (run : Run) × AreTypeLines stored name_only magic_first database [] run
 no_lines stored name_only magic_first database = (silent, refl)
 
--- memory ran out before it came to anything
+-- it came to nothing: its data are refused, or memory ran out
 pub comes_undone : (lookup : PlainLookup) (stored : List ℕ → Stored) (file : List ℕ) (a b : Sinks) (s : Stop)
     → ComesTo lookup (stored file) file a b (Err s) → Ends (λ _. IsTypeLine lookup stored file) [] a b (Err s)
-comes_undone lookup stored file a b stop.OutOfMemory p = inl (writes_same a b p)
-comes_undone lookup stored file a b stop.CannotWrite p = absurd p
-comes_undone lookup stored file a b (stop.Refused m) p = absurd p
+comes_undone lookup stored file a b stop.OutOfMemory p = inl (writes_same a b p.0)
+comes_undone lookup stored file a b stop.CannotWrite p = absurd p.1
+comes_undone lookup stored file a b (stop.Refused m) p = (silent, p.1, writes_same a b p.0)
 
 -- what it came to is written
 pub comes_written : (lookup : PlainLookup) (stored : List ℕ → Stored) (file : List ℕ) (o : Outcome) (a b c : Sinks) (r : Result ℕ Stop)

@@ -1,15 +1,14 @@
 -- How the steps of loading follow one another.
-use Rattle.std.proofs.Common.{◌≡◌, ◌∙◌, ℕ, List, [], ◌∷◌, ◌++◌, Option, Some, None, Result, Ok, Err, append_assoc, append-nil, ap}
+use Rattle.std.proofs.Common.{◌∙◌, ℕ, List, [], ◌++◌, Option, Some, None, Result, Ok, Err, append_assoc}
 use Rattle.std.proofs.Common.{refl, subst}
-use Rattle.std.proofs.Common.{string_bytes, sym}
+use Rattle.std.proofs.Common.{string_bytes}
 use Rattle.mime_tool.specs.Desk.{State, Works}
 use Rattle.mime_tool.specs.Files.{Stored}
 use Rattle.mime_tool.specs.Finish.{Sinks}
-use Rattle.mime_tool.specs.Loading.{◌>>=◌, Gives, GoesOn, Loads}
-use Rattle.mime_tool.specs.Run.{said}
+use Rattle.mime_tool.specs.Loading.{◌>>=◌, Gives, Loads}
 use Rattle.mime_tool.specs.declared.stop.Stop.{Stop}
 use Rattle.mime_tool.specs.declared.stop.Stop.TheVariants as stop
-use Rattle.mime_tool.proofs.Sinks.{front-append, front_longer, front_nothing, wrote-append, wrote_nothing, wrote_unknown}
+use Rattle.mime_tool.proofs.Sinks.{front-append, front_longer, front_nothing, wrote-append, wrote_unknown}
 
 -- a step can be done
 abbrev pub CanBe : {X : Type 0} → (Option X → List ℕ → Type 0) → Type 0

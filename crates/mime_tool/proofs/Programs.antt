@@ -1,20 +1,16 @@
 -- From the run of a command to the run of the program.
-use Rattle.std.proofs.Common.{◌≡◌, ◌≢◌, ◌∙◌, ℕ, Bool, List, [], Result, Ok, Err, ap, false, inl, inr, subst}
+use Rattle.std.proofs.Common.{◌≡◌, ◌≢◌, ◌∙◌, ℕ, Bool, List, [], Result, Ok, Err, ap, inl, inr, subst}
 use Rattle.clap.specs.Values.{kind_of}
 use Rattle.clap.specs.declared.error.Error.{Error}
 use Rattle.clap.specs.declared.error.kind.ErrorKind.{ErrorKind}
 use Rattle.clap.specs.declared.error.kind.ErrorKind.TheVariants as kind
-use Rattle.mime_request.specs.Request.{PlainRequest, Meaning, Means, plain_request, asks, build, meaning_of, parts, plain, refused}
-use Rattle.mime_request.specs.Spelling.{AreUsual, build_words, is_option, plain_words}
+use Rattle.mime_request.specs.Request.{PlainRequest, Meaning, Means, plain_request, asks, build, icon, is_a, list, meaning_of, plain, refused, type_of}
 use Rattle.mime_request.specs.declared.request.Request.{Request}
-use Rattle.mime_request.proofs.UsualWords.{meaning_of-usual}
-use Rattle.mime_request.proofs.BuildWords.{meaning_of-usual_build}
-use Rattle.mime_tool.specs.Build.{Builds, IsBuild}
+use Rattle.mime_tool.specs.Build.{Builds}
 use Rattle.mime_tool.specs.Desk.{Ends, State, Works}
 use Rattle.mime_tool.specs.Files.{Stored, Writing}
 use Rattle.mime_tool.specs.Finish.{Finishes, Sinks}
-use Rattle.mime_tool.specs.Plain.{IsPlain}
-use Rattle.mime_tool.specs.Program.{Answers, IsAnswer, IsShown, Leaves, files_of, is_help, shown}
+use Rattle.mime_tool.specs.Program.{Answers, IsAnswer, IsAskedRun, IsShown, Leaves, asked_files, files_of, is_help, shown}
 use Rattle.mime_tool.specs.Run.{Run, stopped}
 use Rattle.mime_tool.specs.Stop.{message}
 use Rattle.mime_tool.specs.declared.stop.Stop.{Stop}
@@ -59,6 +55,10 @@ error_shown writes stored after (refused kinds) e a b r (inr among) p =
 leaves_same : (m : Meaning) (old new : List ℕ → Stored) → new ≡ old → Leaves m old new
 leaves_same (asks (build dirs file)) old new same = inl (λ other _. ap (λ (stored : List ℕ → Stored). stored other) same)
 leaves_same (asks (plain dirs name_only magic_first files)) old new same = same
+leaves_same (asks (list cache)) old new same = same
+leaves_same (asks (is_a cache kind base)) old new same = same
+leaves_same (asks (icon cache kind)) old new same = same
+leaves_same (asks (type_of cache name_only cost magic_first files)) old new same = same
 leaves_same (refused kinds) old new same = same
 
 pub answers_error : (m : Meaning) (e : Error) (a b : State) (r : Result ℕ Stop) → Means m (Err e)
@@ -69,13 +69,7 @@ answers_error m e a b r means p = record {
   leaves = leaves_same m a.stored b.stored p.same_files;
 }
 
--- a command that leaves what is stored
-pub answers_plain : (dirs : List (List ℕ)) (name_only magic_first : Bool) (files : List (List ℕ)) (a b : State) (r : Result ℕ Stop)
-    → Works (Ends (IsPlain a.stored dirs name_only magic_first) files) a b r → Answers (asks (plain dirs name_only magic_first files)) a b r
-answers_plain dirs name_only magic_first files a b r p =
-    record { same_setting = p.same_setting; sinks = p.sinks; leaves = p.same_files }
-
--- and one that doesn't
+-- `build` leaves what it says
 pub answers_build : (dirs : List (List ℕ)) (file : List ℕ) (a b : State) (r : Result ℕ Stop) → Builds dirs file a b r
     → Answers (asks (build dirs file)) a b r
 answers_build dirs file a b r p = record { same_setting = p.same_setting; sinks = p.sinks; leaves = p.leaves }
@@ -87,27 +81,10 @@ shown_text k help text a b r other is p =
     ends_weaker (λ _ run. run ≡ shown help text) (λ _. IsShown k) [] a b r
     (λ fs run q. (other, (text, q ∙ ap (λ (h : Bool). shown h text) is))) p
 
--- ---- the usual words
-
-usual_meaning : (words : List (List ℕ)) (dirs : List ℕ) (name_only magic_first : Bool) (names : List (List ℕ))
-    → words ≡ plain_words dirs name_only magic_first names → AreUsual dirs names
-    → meaning_of words ≡ asks (plain (parts dirs) name_only magic_first names)
-usual_meaning words dirs name_only magic_first names are usual =
-    ap meaning_of are ∙ meaning_of-usual dirs name_only magic_first names usual
-
--- the run of the usual words
-pub usual_finishes : (writes : List ℕ → List ℕ → Writing) (stored after : List ℕ → Stored) (words : List (List ℕ)) (a b : Sinks)
-    (status : ℕ) → Finishes (IsAnswer writes stored after (meaning_of words)) (files_of (meaning_of words)) a b status
-    → (dirs : List ℕ) (name_only magic_first : Bool) (names : List (List ℕ)) → words ≡ plain_words dirs name_only magic_first names
-    → AreUsual dirs names → Finishes (IsPlain stored (parts dirs) name_only magic_first) names a b status
-usual_finishes writes stored after words a b status p dirs name_only magic_first names are usual =
-    subst (λ (m : Meaning). Finishes (IsAnswer writes stored after m) (files_of m) a b status)
-    (usual_meaning words dirs name_only magic_first names are usual) p
-
-pub usual_builds : (writes : List ℕ → List ℕ → Writing) (stored after : List ℕ → Stored) (words : List (List ℕ)) (a b : Sinks)
-    (status : ℕ) → Finishes (IsAnswer writes stored after (meaning_of words)) (files_of (meaning_of words)) a b status
-    → (dirs file : List ℕ) → words ≡ build_words dirs file → is_option dirs ≡ false → is_option file ≡ false
-    → Finishes (IsBuild (parts dirs) file writes stored after) [] a b status
-usual_builds writes stored after words a b status p dirs file are plain_dirs plain_file =
-    subst (λ (m : Meaning). Finishes (IsAnswer writes stored after m) (files_of m) a b status)
-    (ap meaning_of are ∙ meaning_of-usual_build dirs file plain_dirs plain_file) p
+-- the run of words that ask for this
+pub asked_finishes : (writes : List ℕ → List ℕ → Writing) (stored after : List ℕ → Stored) (words : List (List ℕ)) (a b : Sinks)
+    (status : ℕ) (q : PlainRequest) → meaning_of words ≡ asks q
+    → Finishes (IsAnswer writes stored after (meaning_of words)) (files_of (meaning_of words)) a b status
+    → Finishes (IsAskedRun writes stored after q) (asked_files q) a b status
+asked_finishes writes stored after words a b status q is p =
+    subst (λ (m : Meaning). Finishes (IsAnswer writes stored after m) (files_of m) a b status) is p

@@ -2,7 +2,7 @@
 use Rattle.std.specs.Prelude.{◌≡◌, ◌≢◌, ℕ, false, List, Option, Some, None, Result, Ok, Err, Vec, string_bytes}
 use Rattle.std.specs.declared.alloc.Global.{Global}
 use Rattle.mime_lookup.specs.Content.{Health}
-use Rattle.mime_tool.specs.Files.{IsReaderOf, IsShut, IsTextOf, Replaced, Stored, Untouched, Writing, fails, succeeds}
+use Rattle.mime_tool.specs.Files.{IsReaderOf, IsShut, Replaced, Stored, Untouched, Writing, fails, succeeds}
 use Rattle.mime_tool.specs.Finish.{IsCut, Sinks, Writes, WritesFront}
 use Rattle.mime_tool.specs.Run.{Run, cannot_read, cannot_write, stopped, stops}
 use Rattle.mime_tool.specs.Stop.{message}
@@ -43,14 +43,12 @@ Ends IsRun files old new (Err stop.CannotWrite) = old.out ≡ None
 Ends IsRun files old new (Err s) =
     (run : Run) × IsRun files (stopped (message s) run) × Writes old new run
 
--- the text of a file is read, an empty one where there is no file; or it is refused, and that names its
--- path; or memory ran out
-abbrev pub ReadsText : Stored → List ℕ → Sinks → Sinks → Result (Vec ℕ Global) Stop → Type 0
-ReadsText stored path old new (Ok v) = (new ≡ old) × IsTextOf stored (Some v.items)
-ReadsText stored path old new (Err (stop.Refused text)) =
-    (new ≡ old) × IsTextOf stored None × (string_bytes text ≡ cannot_read path)
-ReadsText stored path old new (Err stop.CannotWrite) = ⊥
-ReadsText stored path old new (Err stop.OutOfMemory) = new ≡ old
+-- a file is read whole, and IsFound says what is found; or it is refused, and that names its path; or memory ran out
+abbrev pub ReadsWhole : (Option (List ℕ) → Type 0) → List ℕ → Sinks → Sinks → Result (Vec ℕ Global) Stop → Type 0
+ReadsWhole IsFound path old new (Ok v) = (new ≡ old) × IsFound (Some v.items)
+ReadsWhole IsFound path old new (Err (stop.Refused text)) = (new ≡ old) × IsFound None × (string_bytes text ≡ cannot_read path)
+ReadsWhole IsFound path old new (Err stop.CannotWrite) = ⊥
+ReadsWhole IsFound path old new (Err stop.OutOfMemory) = new ≡ old
 
 -- a file is replaced; or it can't be, and that names its path; or memory ran out
 abbrev pub ReplacesOrStops : List ℕ → List ℕ → List ℕ → Writing → (List ℕ → Stored) → (List ℕ → Stored)

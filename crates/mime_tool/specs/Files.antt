@@ -79,3 +79,11 @@ IsTextOf closed text = text ≡ None
 IsTextOf unreadable text = text ≡ None
 IsTextOf (bytes bs) text = text ≡ Some bs
 IsTextOf unknown text = Unit {0}
+
+-- the bytes of a file that has to be there: none where there is no file, or it can't be read
+abbrev pub IsBytesOf : Stored → Option (List ℕ) → Type 0
+IsBytesOf nothing found = found ≡ None
+IsBytesOf closed found = found ≡ None
+IsBytesOf unreadable found = found ≡ None
+IsBytesOf (bytes bs) found = found ≡ Some bs
+IsBytesOf unknown found = Unit {0}

@@ -1,28 +1,39 @@
--- What the parts of a line of `plain` give.
-use Rattle.std.specs.Prelude.{◌≡◌, ℕ, Bool, true, false, List, Option, Some, None, Result, Ok, Err}
+-- What the parts of a line give.
+use Rattle.std.specs.Prelude.{◌≡◌, ℕ, Bool, true, false, List, [], Option, Some, None, Result, Ok, Err, string_bytes}
 use Rattle.mime_base.specs.Database.{plain_database}
 use Rattle.mime_lookup.specs.Content.{Health}
 use Rattle.mime_tool.specs.Files.{IsReaderOf, Stored}
 use Rattle.mime_tool.specs.Finish.{Sinks}
 use Rattle.mime_tool.specs.Line.{IsTypeLineBy, PlainLookup, cannot_open, too_long, type_line}
-use Rattle.mime_tool.specs.Run.{Run, cannot_read, printed, unanswered}
-use Rattle.mime_tool.specs.declared.line.Lookup.{Lookup}
+use Rattle.mime_tool.specs.Plain.{lookup_over}
+use Rattle.mime_tool.specs.Run.{Run, cannot_read, printed, silent, stopped, unanswered}
+use Rattle.mime_tool.specs.Types.{cost_text, lookup_by}
 use Rattle.mime_tool.specs.declared.line.Outcome.{Outcome}
 use Rattle.mime_tool.specs.declared.line.Outcome.TheVariants as outcome
+use Rattle.mime_tool.specs.declared.line.lookup.Cost.{Cost}
+use Rattle.mime_tool.specs.declared.line.lookup.Lookup.{Lookup}
+use Rattle.mime_tool.specs.declared.line.lookup.Source.{Source}
+use Rattle.mime_tool.specs.declared.line.lookup.Source.TheVariants as source
 use Rattle.mime_tool.specs.declared.stop.Stop.{Stop}
 use Rattle.mime_tool.specs.declared.stop.Stop.TheVariants as stop
 
+-- how FILEs are looked up in this data
+abbrev pub lookup_in : Source → Lookup → PlainLookup
+lookup_in (source.Database database) lookup = lookup_over lookup.name_only lookup.order (plain_database database.now)
+lookup_in (source.Cache path bytes cost) lookup = lookup_by path.now lookup.name_only cost lookup.order bytes.now
+
 -- the plain value of a lookup
 abbrev pub plain_lookup : Lookup → PlainLookup
-plain_lookup lookup = record {
-  database = plain_database lookup.database.now;
-  name_only = lookup.name_only;
-  order = lookup.order;
-}
+plain_lookup lookup = lookup_in lookup.source lookup
+
+-- what is told of a cost
+abbrev pub tail_of : Option Cost → List ℕ
+tail_of None = []
+tail_of (Some cost) = cost_text cost.meter cost.read
 
 -- what is written of a file that comes to this
 abbrev pub run_of : List ℕ → Outcome → Run
-run_of file (outcome.Typed kind) = printed (type_line file kind.now)
+run_of file (outcome.Typed kind cost) = printed (type_line file kind.now (tail_of cost))
 run_of file outcome.CannotOpen = unanswered (cannot_open file)
 run_of file outcome.NameTooLong = unanswered (too_long file)
 run_of file outcome.CannotRead = unanswered (cannot_read file)
@@ -34,8 +45,14 @@ IsContent remaining health true stored (Some reader) = ⊥
 IsContent remaining health false stored None = ⊥
 IsContent remaining health false stored (Some reader) = IsReaderOf remaining health stored reader
 
--- what is written of what a file comes to is its line, and nothing is written yet; or memory ran out
+-- what is written of what a file comes to is its line, and so is the message of a refusal; or memory ran out
+abbrev pub LooksUp : PlainLookup → Stored → List ℕ → Result Outcome Stop → Type 0
+LooksUp lookup stored file (Ok o) = IsTypeLineBy lookup.name_only lookup stored file (run_of file o)
+LooksUp lookup stored file (Err (stop.Refused message)) =
+    IsTypeLineBy lookup.name_only lookup stored file (stopped (string_bytes message) silent)
+LooksUp lookup stored file (Err stop.CannotWrite) = ⊥
+LooksUp lookup stored file (Err stop.OutOfMemory) = Unit {0}
+
+-- the same, and nothing is written yet
 abbrev pub ComesTo : PlainLookup → Stored → List ℕ → Sinks → Sinks → Result Outcome Stop → Type 0
-ComesTo lookup stored file old new (Ok o) = (new ≡ old) × IsTypeLineBy lookup.name_only lookup stored file (run_of file o)
-ComesTo lookup stored file old new (Err stop.OutOfMemory) = new ≡ old
-ComesTo lookup stored file old new (Err _) = ⊥
+ComesTo lookup stored file old new result = (new ≡ old) × LooksUp lookup stored file result

@@ -1,29 +1,41 @@
 -- What `plain` prints.
-use Rattle.std.specs.Prelude.{ℕ, Bool, true, false, List}
+use Rattle.std.specs.Prelude.{◌≡◌, ◌⊎◌, ℕ, Bool, true, false, List, [], Option, Some}
 use Rattle.mime_base.specs.Database.{PlainDatabase}
+use Rattle.mime_base.specs.declared.magic.host.Host.TheVariants.{Little}
+use Rattle.mime_lookup.specs.CheckingOrder.{Chooses, globs_suffice}
 use Rattle.mime_lookup.specs.declared.order.Order.{Order}
-use Rattle.mime_lookup.specs.declared.order.Order.TheVariants.{GlobsFirst, MagicFirst}
 use Rattle.mime_tool.specs.Directories.{IsCommand}
 use Rattle.mime_tool.specs.Files.{Stored}
-use Rattle.mime_tool.specs.Line.{IsTypeLine, PlainLookup}
-use Rattle.mime_tool.specs.Run.{IsEach, Run}
+use Rattle.mime_tool.specs.Line.{IsTypeLine, PlainLookup, base_name, order_of, type_line}
+use Rattle.mime_tool.specs.Run.{IsEach, Run, cannot_read, printed, unanswered}
 
--- the order that is asked for by `--magic-first`, or without it
-abbrev pub order_of : Bool → Order
-order_of true = MagicFirst
-order_of false = GlobsFirst
+-- the line of a file, with a type that the checking order gives to its name and this content
+abbrev pub IsTyped : PlainDatabase → Order → Option (List ℕ) → List ℕ → Run → Type 0
+IsTyped database order content file run =
+    (kind : List ℕ) × Chooses database (base_name file) content Little order kind × (run ≡ printed (type_line file kind []))
 
--- how FILEs are looked up over this data with these flags
-abbrev pub lookup_over : Bool → Bool → PlainDatabase → PlainLookup
-lookup_over name_only magic_first database = record {
-  database = database;
+-- the run over a file whose reads all fail: its line, if the globs alone give its type
+abbrev pub IsUnread : Bool → PlainDatabase → Order → List ℕ → Run → Type 0
+IsUnread true database order file run = IsTyped database order (Some []) file run
+IsUnread false database order file run = run ≡ unanswered (cannot_read file)
+
+-- the run over a file of which nothing is known: a line with some type, or it can't be read
+abbrev pub IsGuessed : List ℕ → Run → Type 0
+IsGuessed file run = ((kind : List ℕ) × (run ≡ printed (type_line file kind []))) ⊎ (run ≡ unanswered (cannot_read file))
+
+-- how FILEs are looked up over this data
+abbrev pub lookup_over : Bool → Order → PlainDatabase → PlainLookup
+lookup_over name_only order database = record {
   name_only = name_only;
-  order = order_of magic_first;
+  IsTyped = IsTyped database order;
+  IsUnread = λ file. IsUnread (globs_suffice database (base_name file) order) database order file;
+  IsGuessed = IsGuessed;
 }
 
 -- the lines of FILEs over this data, where this is stored at each path
 abbrev pub AreTypeLines : (List ℕ → Stored) → Bool → Bool → PlainDatabase → List (List ℕ) → Run → Type 0
-AreTypeLines stored name_only magic_first database = IsEach (IsTypeLine (lookup_over name_only magic_first database) stored)
+AreTypeLines stored name_only magic_first database =
+    IsEach (IsTypeLine (lookup_over name_only (order_of magic_first) database) stored)
 
 -- the run of `plain` over these directories with these flags, for FILEs: `--name-only`, `--magic-first`
 abbrev pub IsPlain : (List ℕ → Stored) → List (List ℕ) → Bool → Bool → List (List ℕ) → Run → Type 0

@@ -3,12 +3,16 @@ use Rattle.std.specs.Prelude.{◌≡◌, ◌≢◌, ℕ, Bool, true, false, List
 use Rattle.clap.specs.Kinds.{IsAmong}
 use Rattle.clap.specs.declared.error.kind.ErrorKind.{ErrorKind}
 use Rattle.clap.specs.declared.error.kind.ErrorKind.TheVariants as kind
-use Rattle.mime_request.specs.Request.{PlainRequest, Meaning, asks, build, plain, refused}
+use Rattle.mime_request.specs.Request.{PlainRequest, Meaning, asks, build, icon, is_a, list, plain, refused, type_of}
 use Rattle.mime_tool.specs.Build.{IsBuild, LeavesBuilt}
 use Rattle.mime_tool.specs.Desk.{Ends, State}
 use Rattle.mime_tool.specs.Files.{Stored, Writing}
+use Rattle.mime_tool.specs.Icon.{IsIcon}
+use Rattle.mime_tool.specs.IsA.{IsIsA}
+use Rattle.mime_tool.specs.List.{IsList}
 use Rattle.mime_tool.specs.Plain.{IsPlain}
 use Rattle.mime_tool.specs.Run.{Run, printed}
+use Rattle.mime_tool.specs.Types.{IsType}
 use Rattle.mime_tool.specs.declared.stop.Stop.{Stop}
 
 -- whether the error is help or the version, which were asked for
@@ -32,11 +36,16 @@ IsShown k run = (k ≢ kind.OutOfMemory) × ((text : List ℕ) × (run ≡ shown
 abbrev pub IsAskedRun : (List ℕ → List ℕ → Writing) → (List ℕ → Stored) → (List ℕ → Stored) → PlainRequest → List (List ℕ) → Run → Type 0
 IsAskedRun writes old new (build dirs file) = IsBuild dirs file writes old new
 IsAskedRun writes old new (plain dirs name_only magic_first _) = IsPlain old dirs name_only magic_first
+IsAskedRun writes old new (list cache) = IsList old cache
+IsAskedRun writes old new (is_a cache kind base) = IsIsA old cache kind base
+IsAskedRun writes old new (icon cache kind) = IsIcon old cache kind
+IsAskedRun writes old new (type_of cache name_only cost magic_first _) = IsType old cache name_only cost magic_first
 
 -- the files that a request names
 abbrev pub asked_files : PlainRequest → List (List ℕ)
-asked_files (build _ _) = []
 asked_files (plain _ _ _ files) = files
+asked_files (type_of _ _ _ _ files) = files
+asked_files _ = []
 
 -- the run that the words ask for, or help, or what is wrong with them
 abbrev pub IsAnswer : (List ℕ → List ℕ → Writing) → (List ℕ → Stored) → (List ℕ → Stored) → Meaning → List (List ℕ) → Run → Type 0
@@ -51,7 +60,7 @@ files_of (refused kinds) = []
 -- what a request leaves stored: all that was, but for what `build` replaces
 abbrev pub LeavesAsked : PlainRequest → (List ℕ → Stored) → (List ℕ → Stored) → Type 0
 LeavesAsked (build dirs file) old new = LeavesBuilt dirs file old new
-LeavesAsked (plain _ _ _ _) old new = new ≡ old
+LeavesAsked _ old new = new ≡ old
 
 -- the same of words
 abbrev pub Leaves : Meaning → (List ℕ → Stored) → (List ℕ → Stored) → Type 0

@@ -23,6 +23,10 @@ said text = record { status = 0; out = []; err = text }
 abbrev pub unanswered : List ℕ → Run
 unanswered text = record { status = 1; out = []; err = text }
 
+-- the words are mistaken, and this says why
+abbrev pub mistaken : List ℕ → Run
+mistaken text = record { status = 2; out = []; err = text }
+
 -- a run that stops, and says this of it
 abbrev pub stopped : List ℕ → Run → Run
 stopped message run = record { status = 3; out = run.out; err = run.err ++ message }
@@ -45,6 +49,10 @@ abbrev pub IsEach : (List ℕ → Run → Type 0) → List (List ℕ) → Run �
 IsEach IsOne [] run = run ≡ silent
 IsEach IsOne (file ∷ files) run =
     (first : Run) × IsOne file first × IsFollowed (stops first) first (IsEach IsOne files) run
+
+-- the message on a file, which says why it gives no answer
+abbrev pub refusal : List ℕ → List ℕ → List ℕ
+refusal file why = codes "mimelook: " ++ (file ++ (codes ": " ++ (why ++ codes "\n")))
 
 -- the message on a file that can't be read
 abbrev pub cannot_read : List ℕ → List ℕ

@@ -2,8 +2,9 @@
 
 ghost use Rattle.std.specs.Prelude.{◌≡◌, IfOk};
 ghost use Rattle.std.specs.List.{flat_map};
-ghost use Rattle.mime_tool.specs.Desk.{Does, OpensFile, ReadsText, ReplacesFile, State, Works};
-ghost use Rattle.mime_tool.specs.Run.{cannot_read, printed, said};
+ghost use Rattle.mime_tool.specs.Desk.{Does, OpensFile, ReadsWhole, ReplacesFile, State, Works};
+ghost use Rattle.mime_tool.specs.Files.{IsBytesOf, IsTextOf};
+ghost use Rattle.mime_tool.specs.Run.{cannot_read, printed, refusal, said};
 
 use crate::files::{FileFault, Files};
 use crate::sink::{Sink, put_all};
@@ -27,7 +28,12 @@ pub(crate) trait Desk {
 
     /// All the bytes of a text file; a missing one counts as empty.
     fn read_text(&mut self, path: &str) -> Result<Vec<u8>, Stop>
-        ensures { Works (ReadsText ((state self.old).stored path.now) path.now)
+        ensures { Works (ReadsWhole (IsTextOf ((state self.old).stored path.now)) path.now)
+            (state self.old) (state self.new) result };
+
+    /// All the bytes of a file, which has to be there.
+    fn read_bytes(&mut self, path: &str) -> Result<Vec<u8>, Stop>
+        ensures { Works (ReadsWhole (IsBytesOf ((state self.old).stored path.now)) path.now)
             (state self.old) (state self.new) result };
 
     /// Opens a file, or gives `None` where it can't be opened.
@@ -83,6 +89,14 @@ impl<F: Files, O: Sink, E: Sink> Desk for Streams<'_, '_, '_, F, O, E> {
         }
     }
 
+    fn read_bytes(&mut self, path: &str) -> Result<Vec<u8>, Stop> {
+        match self.files.whole(self.alloc, path) {
+            Ok(Some(bytes)) => Ok(bytes),
+            Ok(None) | Err(FileFault::Failed) => Err(unreadable(self.alloc, path)),
+            Err(FileFault::OutOfMemory) => Err(Stop::OutOfMemory),
+        }
+    }
+
     fn open(&mut self, path: &str) -> Result<Option<F::Reader>, Stop> {
         match self.files.open(self.alloc, path) {
             Ok(reader) => Ok(Some(reader)),
@@ -108,4 +122,13 @@ impl<F: Files, O: Sink, E: Sink> Desk for Streams<'_, '_, '_, F, O, E> {
         complain(self.err, message)?;
         Ok(())
     }
+}
+
+/// Says on standard error what is wrong with a file or a word.
+pub(crate) fn report<D: Desk>(desk: &mut D, subject: &str, why: &str) -> Result<(), Stop>
+    ensures { Works (Does (said (refusal subject.now why.now)))
+        (D.state desk.old) (D.state desk.new) result }
+{
+    let text = format!(in desk.alloc(); "mimelook: {subject}: {why}\n")?;
+    desk.complain(text.as_str())
 }

@@ -19,16 +19,22 @@
 #![tactic(auto)]
 
 mod build;
+mod cache;
 mod desk;
 mod directories;
 mod files;
+mod icon;
+mod is_a;
 mod line;
+mod list;
 mod plain;
 mod program;
 mod sink;
 mod status;
 mod stop;
 mod system;
+mod type_names;
+mod types;
 
 pub use files::{FileFault, Files};
 pub use program::run;

@@ -1,34 +1,27 @@
 //! The line of a FILE, or why it has none. This project's own.
 
-ghost use Rattle.std.specs.Prelude.{◌≡◌, IfOk, []};
+ghost use Rattle.std.specs.Prelude.{◌≡◌, IfOk, [], string_bytes};
 ghost use Rattle.clap.specs.Walk.{texts};
 ghost use Rattle.mime_tool.specs.Desk.{Does, Ends, Works};
-ghost use Rattle.mime_tool.specs.Files.{Stored};
-ghost use Rattle.mime_tool.specs.Line.{IsTypeLine, IsTypeLineBy, base_name, refusal, type_line};
-ghost use Rattle.mime_tool.specs.LineSteps.{ComesTo, IsContent, plain_lookup, run_of};
-ghost use Rattle.mime_tool.specs.Run.{IsEach, printed, said, unanswered};
+ghost use Rattle.mime_tool.specs.Line.{IsTypeLine, base_name, type_line};
+ghost use Rattle.mime_tool.specs.LineSteps.{ComesTo, plain_lookup, run_of, tail_of};
+ghost use Rattle.mime_tool.specs.Run.{IsEach, printed, refusal, unanswered};
+ghost use Rattle.mime_tool.specs.Types.{cost_text};
 
-use crate::desk::Desk;
+mod lookup;
+
+use crate::desk::{Desk, report};
 use crate::status::{ANSWERED, NOT_ANSWERED};
 use crate::stop::Stop;
-use mime_base::{Database, Host, OutOfMemory};
-use mime_lookup::{Cause, Content, Order, look_up_plain};
-use std::alloc::Global;
-
-/// How FILEs are looked up.
-#[derive(Clone, Copy)]
-pub(crate) struct Lookup<'a> {
-    pub(crate) database: &'a Database,
-    /// Whether by their names alone: then none is opened.
-    pub(crate) name_only: bool,
-    pub(crate) order: Order,
-}
+use lookup::find;
+pub(crate) use lookup::{Cost, Lookup, Source, order_of};
+use std::alloc::{AllocError, Global};
 
 /// What a FILE comes to.
 #[derive(Clone, Copy)]
 pub(crate) enum Outcome<'a> {
-    /// It has this type.
-    Typed(&'a [u8]),
+    /// It has this type, at this cost if that is told.
+    Typed(&'a [u8], Option<Cost>),
     CannotOpen,
     NameTooLong,
     CannotRead,
@@ -75,38 +68,7 @@ fn outcome_of<'a, D: Desk>(
             return Ok(Outcome::CannotOpen);
         }
     }
-    let outcome = look_up(desk.alloc(), lookup, file, content)?;
-    Ok(outcome)
-}
-
-// What a file comes to by its name and its content, which is read as far as it is needed.
-fn look_up<'a, R: Content + Drop>(
-    alloc: Global,
-    lookup: Lookup<'a>,
-    file: &str,
-    mut content: Option<R>,
-) -> Result<Outcome<'a>, OutOfMemory>
-    ensures { IfOk result (λ outcome. (stored : Stored)
-        → IsContent R.remaining R.health lookup.entry.name_only stored content
-        → IsTypeLineBy lookup.entry.name_only (plain_lookup lookup.entry) stored file.now
-        (run_of file.now outcome)) }
-{
-    let name = base_name(file.as_bytes());
-    match look_up_plain(
-        alloc,
-        lookup.database,
-        name,
-        &mut content,
-        Host::Little,
-        lookup.order,
-    ) {
-        Ok(answer) => Ok(Outcome::Typed(answer.kind)),
-        Err(stopped) => match stopped.cause {
-            Cause::NameTooLong => Ok(Outcome::NameTooLong),
-            Cause::Read => Ok(Outcome::CannotRead),
-            Cause::OutOfMemory => Err(OutOfMemory),
-        },
-    }
+    find(desk.alloc(), lookup, file, content)
 }
 
 fn print_outcome<D: Desk>(desk: &mut D, file: &str, outcome: Outcome<'_>) -> Result<u8, Stop>
@@ -114,26 +76,57 @@ fn print_outcome<D: Desk>(desk: &mut D, file: &str, outcome: Outcome<'_>) -> Res
         (D.state desk.old) (D.state desk.new) result }
 {
     match outcome {
-        Outcome::Typed(kind) => print_type(desk, file, kind),
+        Outcome::Typed(kind, cost) => print_type(desk, file, kind, cost),
         Outcome::CannotOpen => refuse(desk, file, "cannot open"),
         Outcome::NameTooLong => refuse(desk, file, "name too long"),
         Outcome::CannotRead => refuse(desk, file, "cannot read"),
     }
 }
 
-fn print_type<D: Desk>(desk: &mut D, file: &str, kind: &[u8]) -> Result<u8, Stop>
-    ensures { Works (Ends (λ _ run. run ≡ printed (type_line file.now kind.now)) [])
+fn print_type<D: Desk>(
+    desk: &mut D,
+    file: &str,
+    kind: &[u8],
+    cost: Option<Cost>,
+) -> Result<u8, Stop>
+    ensures { Works (Ends (λ _ run. run ≡ printed (type_line file.now kind.now (tail_of cost))) [])
         (D.state desk.old) (D.state desk.new) result }
 {
-    print_pieces(desk, file, kind)?;
+    print_told(desk, file, kind, cost)?;
     Ok(ANSWERED)
 }
 
-fn print_pieces<D: Desk>(desk: &mut D, file: &str, kind: &[u8]) -> Result<(), Stop>
-    ensures { Works (Does (printed (type_line file.now kind.now)))
+fn print_told<D: Desk>(
+    desk: &mut D,
+    file: &str,
+    kind: &[u8],
+    cost: Option<Cost>,
+) -> Result<(), Stop>
+    ensures { Works (Does (printed (type_line file.now kind.now (tail_of cost))))
         (D.state desk.old) (D.state desk.new) result }
 {
-    desk.print(&[file.as_bytes(), b": ", kind, b"\n"])
+    match cost {
+        None => print_pieces(desk, file, kind, b""),
+        Some(cost) => {
+            let tail = told(desk.alloc(), cost)?;
+            print_pieces(desk, file, kind, tail.as_bytes())
+        }
+    }
+}
+
+fn told(alloc: Global, cost: Cost) -> Result<String, AllocError>
+    ensures { IfOk result (λ text. string_bytes text ≡ cost_text cost.meter cost.read) }
+{
+    let Cost { meter, read } = cost;
+    let (nodes, bytes) = (meter.nodes, meter.bytes);
+    format!(in alloc; " nodes={nodes} bytes={bytes} read={read}")
+}
+
+fn print_pieces<D: Desk>(desk: &mut D, file: &str, kind: &[u8], tail: &[u8]) -> Result<(), Stop>
+    ensures { Works (Does (printed (type_line file.now kind.now tail.now)))
+        (D.state desk.old) (D.state desk.new) result }
+{
+    desk.print(&[file.as_bytes(), b": ", kind, tail, b"\n"])
 }
 
 // Says why a file has no line.
@@ -143,14 +136,6 @@ fn refuse<D: Desk>(desk: &mut D, file: &str, why: &str) -> Result<u8, Stop>
 {
     report(desk, file, why)?;
     Ok(NOT_ANSWERED)
-}
-
-fn report<D: Desk>(desk: &mut D, file: &str, why: &str) -> Result<(), Stop>
-    ensures { Works (Does (said (refusal file.now why.now)))
-        (D.state desk.old) (D.state desk.new) result }
-{
-    let text = format!(in desk.alloc(); "mimelook: {file}: {why}\n")?;
-    desk.complain(text.as_str())
 }
 
 // What stands after the last slash.

@@ -1,15 +1,13 @@
 //! The command `plain`: the types of files, from the text files of data directories.
 
-ghost use Rattle.std.specs.Prelude.{◌≡◌};
 ghost use Rattle.clap.specs.Walk.{texts};
 ghost use Rattle.mime_tool.specs.Desk.{Ends, Works};
-ghost use Rattle.mime_tool.specs.Plain.{IsPlain, order_of};
+ghost use Rattle.mime_tool.specs.Plain.{IsPlain};
 
 use crate::desk::Desk;
 use crate::directories::load;
-use crate::line::{Lookup, print_lines};
+use crate::line::{Lookup, Source, order_of, print_lines};
 use crate::stop::Stop;
-use mime_lookup::Order;
 
 /// Prints a line `FILE: TYPE` for each file, by the data of the directories, and gives the status.
 ///
@@ -27,19 +25,9 @@ pub(crate) fn print_types<D: Desk>(
 {
     let database = load(desk, directories)?;
     let lookup = Lookup {
-        database: &database,
+        source: Source::Database(&database),
         name_only,
         order: order_of(magic_first),
     };
     print_lines(desk, lookup, files)
-}
-
-fn order_of(magic_first: bool) -> Order
-    ensures { result ≡ order_of magic_first }
-{
-    if magic_first {
-        Order::MagicFirst
-    } else {
-        Order::GlobsFirst
-    }
 }

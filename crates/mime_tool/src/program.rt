@@ -4,23 +4,31 @@
 ghost use Rattle.std.specs.Prelude.{◌≡◌, ◌≢◌, ℕ, Bool, List, [], false, is_some, map, true};
 ghost use Rattle.clap.specs.Values.{kind_of};
 ghost use Rattle.mime_request.specs.Request.{asks, meaning_of, parts, plain_request};
-ghost use Rattle.mime_request.specs.Spelling.{AreUsual, build_words, is_option, plain_words};
+ghost use Rattle.mime_request.specs.Spelling.{AreUsual, build_words, icon_words, is_a_words, is_option, list_words};
+ghost use Rattle.mime_request.specs.Spelling.{plain_words, type_words};
 ghost use Rattle.mime_tool.specs.Build.{IsBuild};
 ghost use Rattle.mime_tool.specs.Desk.{Does, Ends, Works};
 ghost use Rattle.mime_tool.specs.Finish.{Finishes};
+ghost use Rattle.mime_tool.specs.Icon.{IsIcon};
+ghost use Rattle.mime_tool.specs.IsA.{IsIsA};
+ghost use Rattle.mime_tool.specs.List.{IsList};
 ghost use Rattle.mime_tool.specs.Plain.{IsPlain};
 ghost use Rattle.mime_tool.specs.Program.{Answers, IsAnswer, IsShown, Leaves, files_of, is_help, shown};
 ghost use Rattle.mime_tool.specs.Run.{printed};
 ghost use Rattle.mime_tool.specs.Sink.{IsHandedOn, Wrote};
 ghost use Rattle.mime_tool.specs.Stop.{IsFlushed};
+ghost use Rattle.mime_tool.specs.Types.{IsType};
 
 use crate::build::build;
 use crate::desk::{Desk, Streams};
 use crate::files::Files;
-use crate::plain::print_types;
+use crate::icon::icon;
+use crate::is_a::is_a;
+use crate::list::list;
 use crate::sink::Sink;
 use crate::status::{ANSWERED, MISTAKEN};
 use crate::stop::{Stop, tell};
+use crate::{plain, types};
 use clap::Error;
 use clap::error::ErrorKind;
 use mime_request::{Request, request_of};
@@ -29,11 +37,12 @@ use std::convert::AsStr;
 
 /// Runs the program on the words after its name, and gives the exit status.
 ///
-/// The status is 0 where every file was answered, a cache was stored or help was shown, 1 where some
-/// file can't be opened or read or has a name that is too long, 2 where the words are wrong, 3 where
-/// the data can't be read or are refused, a cache can't be written or `out` fails, and 4 where memory
-/// ran out. Messages go to `err`, a line each; its faults are passed over, unless memory ran out.
-/// Lines that were printed before a stop stay, and are flushed.
+/// The status is 0 where every file was answered, a cache was stored, what was asked of a cache was
+/// printed, or help was shown; 1 where some file can't be opened or read or has a name that is too
+/// long, or `isa` says no; 2 where the words are wrong; 3 where the data or the cache can't be read or
+/// are refused, a cache can't be written or `out` fails; and 4 where memory ran out. Messages go to
+/// `err`, a line each; its faults are passed over, unless memory ran out. Lines that were printed
+/// before a stop stay, and are flushed.
 pub fn run<F: Files, O: Sink, E: Sink, S: AsStr>(
     alloc: Global,
     words: &[S],
@@ -57,7 +66,7 @@ pub fn run<F: Files, O: Sink, E: Sink, S: AsStr>(
         (record { out = O.holds out.old; err = E.holds err.old })
         (record { out = O.holds out.new; err = E.holds err.new }) result }
 
-    // `build -d DIRS -o FILE`, with no word of the parser of command lines.
+    // `build -d DIRS -o FILE`, likewise.
     ensures build { is_some (O.holds out.old) ≡ true
         → (dirs file : List ℕ) → map S.text words.now ≡ build_words dirs file
         → is_option dirs ≡ false → is_option file ≡ false
@@ -65,10 +74,61 @@ pub fn run<F: Files, O: Sink, E: Sink, S: AsStr>(
         (record { out = O.holds out.old; err = E.holds err.old })
         (record { out = O.holds out.new; err = E.holds err.new }) result }
 
+    // `list -c CACHE`
+    ensures list { is_some (O.holds out.old) ≡ true
+        → (cache : List ℕ) → map S.text words.now ≡ list_words cache → is_option cache ≡ false
+        → Finishes (IsList (F.tells files.old) cache) []
+        (record { out = O.holds out.old; err = E.holds err.old })
+        (record { out = O.holds out.new; err = E.holds err.new }) result }
+
+    // `isa -c CACHE TYPE BASE`
+    ensures is_a { is_some (O.holds out.old) ≡ true
+        → (cache kind base : List ℕ) → map S.text words.now ≡ is_a_words cache kind base
+        → is_option cache ≡ false → is_option kind ≡ false → is_option base ≡ false
+        → Finishes (IsIsA (F.tells files.old) cache kind base) []
+        (record { out = O.holds out.old; err = E.holds err.old })
+        (record { out = O.holds out.new; err = E.holds err.new }) result }
+
+    // `icon -c CACHE TYPE`
+    ensures icon { is_some (O.holds out.old) ≡ true
+        → (cache kind : List ℕ) → map S.text words.now ≡ icon_words cache kind
+        → is_option cache ≡ false → is_option kind ≡ false
+        → Finishes (IsIcon (F.tells files.old) cache kind) []
+        (record { out = O.holds out.old; err = E.holds err.old })
+        (record { out = O.holds out.new; err = E.holds err.new }) result }
+
+    // `type -c CACHE [--name-only] [--cost] [--magic-first] FILE...`
+    ensures type_of { is_some (O.holds out.old) ≡ true
+        → (cache : List ℕ) (name_only cost magic_first : Bool) (names : List (List ℕ))
+        → map S.text words.now ≡ type_words cache name_only cost magic_first names → AreUsual cache names
+        → Finishes (IsType (F.tells files.old) cache name_only cost magic_first) names
+        (record { out = O.holds out.old; err = E.holds err.old })
+        (record { out = O.holds out.new; err = E.holds err.new }) result }
+
     // What is left stored, however the run ends: all that was, but for what `build` replaces.
     ensures leaves { Leaves (meaning_of (map S.text words.now)) (F.tells files.old) (F.tells files.new) }
 
     // The last that standard output was asked is to hand on what it held back.
+    ensures flushed { is_some (O.holds out.old) ≡ true → IsHandedOn result (O.flushed out.new) }
+{
+    finish(alloc, words, files, out, err)
+}
+
+// Does what the words ask for, hands on what was printed, and says why it stopped.
+fn finish<F: Files, O: Sink, E: Sink, S: AsStr>(
+    alloc: Global,
+    words: &[S],
+    files: &mut F,
+    out: &mut O,
+    err: &mut E,
+) -> u8
+    ensures answers { is_some (O.holds out.old) ≡ true
+        → Finishes (IsAnswer (F.writes files.old) (F.tells files.old) (F.tells files.new)
+        (meaning_of (map S.text words.now)))
+        (files_of (meaning_of (map S.text words.now)))
+        (record { out = O.holds out.old; err = E.holds err.old })
+        (record { out = O.holds out.new; err = E.holds err.new }) result }
+    ensures leaves { Leaves (meaning_of (map S.text words.now)) (F.tells files.old) (F.tells files.new) }
     ensures flushed { is_some (O.holds out.old) ≡ true → IsHandedOn result (O.flushed out.new) }
 {
     let ended = perform(alloc, words, files, out, err);
@@ -136,10 +196,27 @@ fn answer<D: Desk>(desk: &mut D, request: &Request<'_>) -> Result<u8, Stop>
             name_only,
             magic_first,
             files,
-        } => print_types(
+        } => plain::print_types(
             desk,
             directories.as_slice(),
             *name_only,
+            *magic_first,
+            files.as_slice(),
+        ),
+        Request::List { cache } => list(desk, *cache),
+        Request::IsA { cache, kind, base } => is_a(desk, *cache, *kind, *base),
+        Request::Icon { cache, kind } => icon(desk, *cache, *kind),
+        Request::Type {
+            cache,
+            name_only,
+            cost,
+            magic_first,
+            files,
+        } => types::print_types(
+            desk,
+            *cache,
+            *name_only,
+            *cost,
             *magic_first,
             files.as_slice(),
         ),

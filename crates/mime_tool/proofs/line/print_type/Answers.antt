@@ -1,15 +1,16 @@
 use Rattle.std.proofs.Common.{◌≡◌, refl}
 use Rattle.std.proofs.lemmas.Result.{err_from_is_err_and}
 use Rattle.mime_tool.specs.Line.{type_line}
+use Rattle.mime_tool.specs.LineSteps.{tail_of}
 use Rattle.mime_tool.specs.Run.{Run, printed}
 use Rattle.mime_tool.proofs.Desks.{ends_undone}
 use Rattle.mime_tool.proofs.line.print_type.Goals as goal
 
-pub returns-in_err-print_pieces : goal.returns-in_err-print_pieces
-returns-in_err-print_pieces g c =
+pub returns-in_err-print_told : goal.returns-in_err-print_told
+returns-in_err-print_told g c =
     let e = err_from_is_err_and c.from_residual.result c.from_residual.ensures.1 in
-    let put = c.in_err-print_pieces.ensures in
-    let line = printed (type_line c.args.file.now c.args.kind.now) in
+    let put = c.in_err-print_told.ensures in
+    let line = printed (type_line c.args.file.now c.args.kind.now (tail_of c.args.cost)) in
     rw (e.1, e.2) (record {
       same_files = put.same_files;
       same_setting = put.same_setting;
@@ -18,9 +19,9 @@ returns-in_err-print_pieces g c =
 
 pub returns : goal.returns
 returns g c =
-    let put = c.in_ok-print_pieces.ensures in
+    let put = c.in_ok-print_told.ensures in
     record {
       same_files = put.same_files;
       same_setting = put.same_setting;
-      sinks = (printed (type_line c.args.file.now c.args.kind.now), refl, refl, refl, put.sinks);
+      sinks = (printed (type_line c.args.file.now c.args.kind.now (tail_of c.args.cost)), refl, refl, refl, put.sinks);
     }

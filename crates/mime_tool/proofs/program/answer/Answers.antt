@@ -1,4 +1,3 @@
-use Rattle.std.proofs.Common.{List}
 use Rattle.mime_tool.proofs.Programs.{answers_build}
 use Rattle.mime_tool.proofs.program.answer.Goals as goal
 

@@ -1,134 +1,38 @@
-use Rattle.std.proofs.Common.{map}
-use Rattle.mime_request.specs.Request.{meaning_of}
-use Rattle.mime_tool.specs.Finish.{Sinks}
-use Rattle.mime_tool.specs.Program.{IsAnswer, files_of}
-use Rattle.mime_tool.proofs.Endings.{ends_known, finishes_done, finishes_told, handed_on, handed_on_told}
-use Rattle.mime_tool.proofs.Programs.{usual_builds, usual_finishes}
+use Rattle.std.proofs.Common.{◌∙◌, ap, map}
+use Rattle.mime_request.specs.Request.{build, icon, is_a, list, meaning_of, parts, plain, type_of}
+use Rattle.mime_request.proofs.BuildWords.{meaning_of-usual_build}
+use Rattle.mime_request.proofs.CacheWords.{meaning_of-usual_icon, meaning_of-usual_is_a, meaning_of-usual_list}
+use Rattle.mime_request.proofs.TypeWords.{meaning_of-usual_type}
+use Rattle.mime_request.proofs.UsualWords.{meaning_of-usual}
+use Rattle.mime_tool.proofs.Programs.{asked_finishes}
 use Rattle.mime_tool.proofs.program.run.Goals as goal
 
-pub returns-in-Ok-clause-answers : goal.returns-in-Ok-clause-answers
-returns-in-Ok-clause-answers g c = λ known.
-    let writes = g.F.Files.writes c.args.files.now in
-    let stored = g.F.Files.tells c.args.files.now in
-    let after = g.F.Files.tells c.perform-ended.new.files in
-    let m = meaning_of (map g.S.AsStr.text c.args.words.now) in
-    let a : Sinks = record { out = g.O.Sink.holds c.args.out.now; err = g.E.Sink.holds c.args.err.now } in
-    let b : Sinks = record { out = g.O.Sink.holds c.perform-ended.new.out; err = g.E.Sink.holds c.perform-ended.new.err } in
-    let ended = c.perform-ended.result in
-    let flushed = c.in-Ok.ensures.flushed
-    (ends_known (IsAnswer writes stored after m) (files_of m) a b ended c.perform-ended.ensures.ended known) in
-    finishes_done (IsAnswer writes stored after m) (files_of m) a b (g.O.Sink.holds c.flush_after.new.out)
-    (g.O.Sink.flushed c.flush_after.new.out) ended c.in-Ok.status c.perform-ended.ensures.ended c.in-Ok.ensures.kept flushed
+pub returns-clause-plain : goal.returns-clause-plain
+returns-clause-plain g c = λ known dirs name_only magic_first names are usual.
+    asked_finishes (g.F.Files.writes c.args.files.now) _ _ (map g.S.AsStr.text c.args.words.now) _ _ _ (plain (parts dirs) name_only magic_first names)
+    (ap meaning_of are ∙ meaning_of-usual dirs name_only magic_first names usual) (c.finish.ensures.answers known)
 
-pub returns-in-Ok-clause-plain : goal.returns-in-Ok-clause-plain
-returns-in-Ok-clause-plain g c = λ known.
-    let writes = g.F.Files.writes c.args.files.now in
-    let stored = g.F.Files.tells c.args.files.now in
-    let after = g.F.Files.tells c.perform-ended.new.files in
-    let words = map g.S.AsStr.text c.args.words.now in
-    let m = meaning_of words in
-    let a : Sinks = record { out = g.O.Sink.holds c.args.out.now; err = g.E.Sink.holds c.args.err.now } in
-    let b : Sinks = record { out = g.O.Sink.holds c.perform-ended.new.out; err = g.E.Sink.holds c.perform-ended.new.err } in
-    let o = g.O.Sink.holds c.flush_after.new.out in
-    let ended = c.perform-ended.result in
-    let flushed = c.in-Ok.ensures.flushed
-    (ends_known (IsAnswer writes stored after m) (files_of m) a b ended c.perform-ended.ensures.ended known) in
-    usual_finishes writes stored after words a (record { out = o; err = b.err }) c.in-Ok.status
-    (finishes_done (IsAnswer writes stored after m) (files_of m) a b o (g.O.Sink.flushed c.flush_after.new.out) ended c.in-Ok.status
-    c.perform-ended.ensures.ended c.in-Ok.ensures.kept flushed)
+pub returns-clause-build : goal.returns-clause-build
+returns-clause-build g c = λ known dirs file are plain_dirs plain_file.
+    asked_finishes (g.F.Files.writes c.args.files.now) _ _ (map g.S.AsStr.text c.args.words.now) _ _ _ (build (parts dirs) file)
+    (ap meaning_of are ∙ meaning_of-usual_build dirs file plain_dirs plain_file) (c.finish.ensures.answers known)
 
-pub returns-in-Ok-clause-build : goal.returns-in-Ok-clause-build
-returns-in-Ok-clause-build g c = λ known.
-    let writes = g.F.Files.writes c.args.files.now in
-    let stored = g.F.Files.tells c.args.files.now in
-    let after = g.F.Files.tells c.perform-ended.new.files in
-    let words = map g.S.AsStr.text c.args.words.now in
-    let m = meaning_of words in
-    let a : Sinks = record { out = g.O.Sink.holds c.args.out.now; err = g.E.Sink.holds c.args.err.now } in
-    let b : Sinks = record { out = g.O.Sink.holds c.perform-ended.new.out; err = g.E.Sink.holds c.perform-ended.new.err } in
-    let o = g.O.Sink.holds c.flush_after.new.out in
-    let ended = c.perform-ended.result in
-    let flushed = c.in-Ok.ensures.flushed
-    (ends_known (IsAnswer writes stored after m) (files_of m) a b ended c.perform-ended.ensures.ended known) in
-    usual_builds writes stored after words a (record { out = o; err = b.err }) c.in-Ok.status
-    (finishes_done (IsAnswer writes stored after m) (files_of m) a b o (g.O.Sink.flushed c.flush_after.new.out) ended c.in-Ok.status
-    c.perform-ended.ensures.ended c.in-Ok.ensures.kept flushed)
+pub returns-clause-list : goal.returns-clause-list
+returns-clause-list g c = λ known cache are plain_cache.
+    asked_finishes (g.F.Files.writes c.args.files.now) _ _ (map g.S.AsStr.text c.args.words.now) _ _ _ (list cache)
+    (ap meaning_of are ∙ meaning_of-usual_list cache plain_cache) (c.finish.ensures.answers known)
 
-pub returns-in-Ok-clause-flushed : goal.returns-in-Ok-clause-flushed
-returns-in-Ok-clause-flushed g c = λ known.
-    let writes = g.F.Files.writes c.args.files.now in
-    let stored = g.F.Files.tells c.args.files.now in
-    let after = g.F.Files.tells c.perform-ended.new.files in
-    let m = meaning_of (map g.S.AsStr.text c.args.words.now) in
-    let a : Sinks = record { out = g.O.Sink.holds c.args.out.now; err = g.E.Sink.holds c.args.err.now } in
-    let b : Sinks = record { out = g.O.Sink.holds c.perform-ended.new.out; err = g.E.Sink.holds c.perform-ended.new.err } in
-    let ended = c.perform-ended.result in
-    let flushed = c.in-Ok.ensures.flushed
-    (ends_known (IsAnswer writes stored after m) (files_of m) a b ended c.perform-ended.ensures.ended known) in
-    handed_on (g.O.Sink.flushed c.flush_after.new.out) ended c.in-Ok.status c.in-Ok.status flushed
+pub returns-clause-is_a : goal.returns-clause-is_a
+returns-clause-is_a g c = λ known cache kind base are plain_cache plain_kind plain_base.
+    asked_finishes (g.F.Files.writes c.args.files.now) _ _ (map g.S.AsStr.text c.args.words.now) _ _ _ (is_a cache kind base)
+    (ap meaning_of are ∙ meaning_of-usual_is_a cache kind base plain_cache plain_kind plain_base) (c.finish.ensures.answers known)
 
-pub returns-in-Err-clause-answers : goal.returns-in-Err-clause-answers
-returns-in-Err-clause-answers g c = λ known.
-    let writes = g.F.Files.writes c.args.files.now in
-    let stored = g.F.Files.tells c.args.files.now in
-    let after = g.F.Files.tells c.perform-ended.new.files in
-    let m = meaning_of (map g.S.AsStr.text c.args.words.now) in
-    let a : Sinks = record { out = g.O.Sink.holds c.args.out.now; err = g.E.Sink.holds c.args.err.now } in
-    let b : Sinks = record { out = g.O.Sink.holds c.perform-ended.new.out; err = g.E.Sink.holds c.perform-ended.new.err } in
-    let o = g.O.Sink.holds c.flush_after.new.out in
-    let ended = c.perform-ended.result in
-    let flushed = c.in-Err.ensures.flushed
-    (ends_known (IsAnswer writes stored after m) (files_of m) a b ended c.perform-ended.ensures.ended known) in
-    finishes_told (IsAnswer writes stored after m) (files_of m) a b o (g.E.Sink.holds c.tell.new.err)
-    (g.O.Sink.flushed c.flush_after.new.out) ended c.in-Err.stop c.tell.result c.perform-ended.ensures.ended known
-    c.in-Err.ensures.kept flushed c.tell.ensures
+pub returns-clause-icon : goal.returns-clause-icon
+returns-clause-icon g c = λ known cache kind are plain_cache plain_kind.
+    asked_finishes (g.F.Files.writes c.args.files.now) _ _ (map g.S.AsStr.text c.args.words.now) _ _ _ (icon cache kind)
+    (ap meaning_of are ∙ meaning_of-usual_icon cache kind plain_cache plain_kind) (c.finish.ensures.answers known)
 
-pub returns-in-Err-clause-plain : goal.returns-in-Err-clause-plain
-returns-in-Err-clause-plain g c = λ known.
-    let writes = g.F.Files.writes c.args.files.now in
-    let stored = g.F.Files.tells c.args.files.now in
-    let after = g.F.Files.tells c.perform-ended.new.files in
-    let words = map g.S.AsStr.text c.args.words.now in
-    let m = meaning_of words in
-    let a : Sinks = record { out = g.O.Sink.holds c.args.out.now; err = g.E.Sink.holds c.args.err.now } in
-    let b : Sinks = record { out = g.O.Sink.holds c.perform-ended.new.out; err = g.E.Sink.holds c.perform-ended.new.err } in
-    let o = g.O.Sink.holds c.flush_after.new.out in
-    let e = g.E.Sink.holds c.tell.new.err in
-    let ended = c.perform-ended.result in
-    let flushed = c.in-Err.ensures.flushed
-    (ends_known (IsAnswer writes stored after m) (files_of m) a b ended c.perform-ended.ensures.ended known) in
-    usual_finishes writes stored after words a (record { out = o; err = e }) c.tell.result
-    (finishes_told (IsAnswer writes stored after m) (files_of m) a b o e (g.O.Sink.flushed c.flush_after.new.out) ended
-    c.in-Err.stop c.tell.result c.perform-ended.ensures.ended known c.in-Err.ensures.kept flushed c.tell.ensures)
-
-pub returns-in-Err-clause-build : goal.returns-in-Err-clause-build
-returns-in-Err-clause-build g c = λ known.
-    let writes = g.F.Files.writes c.args.files.now in
-    let stored = g.F.Files.tells c.args.files.now in
-    let after = g.F.Files.tells c.perform-ended.new.files in
-    let words = map g.S.AsStr.text c.args.words.now in
-    let m = meaning_of words in
-    let a : Sinks = record { out = g.O.Sink.holds c.args.out.now; err = g.E.Sink.holds c.args.err.now } in
-    let b : Sinks = record { out = g.O.Sink.holds c.perform-ended.new.out; err = g.E.Sink.holds c.perform-ended.new.err } in
-    let o = g.O.Sink.holds c.flush_after.new.out in
-    let e = g.E.Sink.holds c.tell.new.err in
-    let ended = c.perform-ended.result in
-    let flushed = c.in-Err.ensures.flushed
-    (ends_known (IsAnswer writes stored after m) (files_of m) a b ended c.perform-ended.ensures.ended known) in
-    usual_builds writes stored after words a (record { out = o; err = e }) c.tell.result
-    (finishes_told (IsAnswer writes stored after m) (files_of m) a b o e (g.O.Sink.flushed c.flush_after.new.out) ended
-    c.in-Err.stop c.tell.result c.perform-ended.ensures.ended known c.in-Err.ensures.kept flushed c.tell.ensures)
-
-pub returns-in-Err-clause-flushed : goal.returns-in-Err-clause-flushed
-returns-in-Err-clause-flushed g c = λ known.
-    let writes = g.F.Files.writes c.args.files.now in
-    let stored = g.F.Files.tells c.args.files.now in
-    let after = g.F.Files.tells c.perform-ended.new.files in
-    let m = meaning_of (map g.S.AsStr.text c.args.words.now) in
-    let a : Sinks = record { out = g.O.Sink.holds c.args.out.now; err = g.E.Sink.holds c.args.err.now } in
-    let b : Sinks = record { out = g.O.Sink.holds c.perform-ended.new.out; err = g.E.Sink.holds c.perform-ended.new.err } in
-    let ended = c.perform-ended.result in
-    let flushed = c.in-Err.ensures.flushed
-    (ends_known (IsAnswer writes stored after m) (files_of m) a b ended c.perform-ended.ensures.ended known) in
-    handed_on_told (g.O.Sink.flushed c.flush_after.new.out) ended c.in-Err.stop b.err (g.E.Sink.holds c.tell.new.err) c.tell.result flushed
-    c.tell.ensures
+pub returns-clause-type_of : goal.returns-clause-type_of
+returns-clause-type_of g c = λ known cache name_only cost magic_first names are usual.
+    asked_finishes (g.F.Files.writes c.args.files.now) _ _ (map g.S.AsStr.text c.args.words.now) _ _ _ (type_of cache name_only cost magic_first names)
+    (ap meaning_of are ∙ meaning_of-usual_type cache name_only cost magic_first names usual) (c.finish.ensures.answers known)

@@ -1,9 +1,8 @@
 use Rattle.std.proofs.Common.{◌∙◌, refl}
 use Rattle.std.proofs.lemmas.Result.{err_from_is_err_and}
-use Rattle.mime_tool.specs.Line.{refusal}
-use Rattle.mime_tool.specs.Run.{said}
+use Rattle.mime_tool.specs.Run.{refusal, said}
 use Rattle.mime_tool.proofs.Desks.{does_nothing}
-use Rattle.mime_tool.proofs.line.report.Goals as goal
+use Rattle.mime_tool.proofs.desk.report.Goals as goal
 
 pub returns-in_err-text : goal.returns-in_err-text
 returns-in_err-text g c =
@@ -11,7 +10,7 @@ returns-in_err-text g c =
     rw (e.1, e.2) (record {
       same_files = refl;
       same_setting = refl;
-      sinks = does_nothing (Unit {0}) (said (refusal c.args.file.now c.args.why.now))
+      sinks = does_nothing (Unit {0}) (said (refusal c.args.subject.now c.args.why.now))
           (g.D.Desk.state c.args.desk.now).sinks;
     })
 

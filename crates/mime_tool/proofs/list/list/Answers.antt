@@ -1,0 +1,16 @@
+use Rattle.std.proofs.Common.{[]}
+use Rattle.std.proofs.lemmas.Result.{err_from_is_err_and}
+use Rattle.mime_tool.specs.List.{IsListOver}
+use Rattle.mime_tool.proofs.Caches.{cache_unread}
+use Rattle.mime_tool.proofs.list.list.Goals as goal
+
+pub returns-in_err-cache : goal.returns-in_err-cache
+returns-in_err-cache g c =
+    let e = err_from_is_err_and c.from_residual.result c.from_residual.ensures.1 in
+    let read = c.in_err-cache.ensures in
+    let stored = (g.D.Desk.state c.args.desk.now).stored in
+    rw (e.1, e.2) (record {
+      same_files = read.same_files;
+      same_setting = read.same_setting;
+      sinks = cache_unread stored c.args.path.now (IsListOver c.args.path.now) [] _ _ _ read.sinks;
+    })

@@ -1,0 +1,63 @@
+use Rattle.std.proofs.Common.{map}
+use Rattle.mime_request.specs.Request.{meaning_of}
+use Rattle.mime_tool.specs.Finish.{Sinks}
+use Rattle.mime_tool.specs.Program.{IsAnswer, files_of}
+use Rattle.mime_tool.proofs.Endings.{ends_known, finishes_done, finishes_told, handed_on, handed_on_told}
+use Rattle.mime_tool.proofs.program.finish.Goals as goal
+
+pub returns-in-Ok-clause-answers : goal.returns-in-Ok-clause-answers
+returns-in-Ok-clause-answers g c = λ known.
+    let writes = g.F.Files.writes c.args.files.now in
+    let stored = g.F.Files.tells c.args.files.now in
+    let after = g.F.Files.tells c.perform-ended.new.files in
+    let m = meaning_of (map g.S.AsStr.text c.args.words.now) in
+    let a : Sinks = record { out = g.O.Sink.holds c.args.out.now; err = g.E.Sink.holds c.args.err.now } in
+    let b : Sinks = record { out = g.O.Sink.holds c.perform-ended.new.out; err = g.E.Sink.holds c.perform-ended.new.err } in
+    let ended = c.perform-ended.result in
+    let flushed = c.in-Ok.ensures.flushed
+    (ends_known (IsAnswer writes stored after m) (files_of m) a b ended c.perform-ended.ensures.ended known) in
+    finishes_done (IsAnswer writes stored after m) (files_of m) a b (g.O.Sink.holds c.flush_after.new.out)
+    (g.O.Sink.flushed c.flush_after.new.out) ended c.in-Ok.status c.perform-ended.ensures.ended c.in-Ok.ensures.kept flushed
+
+pub returns-in-Ok-clause-flushed : goal.returns-in-Ok-clause-flushed
+returns-in-Ok-clause-flushed g c = λ known.
+    let writes = g.F.Files.writes c.args.files.now in
+    let stored = g.F.Files.tells c.args.files.now in
+    let after = g.F.Files.tells c.perform-ended.new.files in
+    let m = meaning_of (map g.S.AsStr.text c.args.words.now) in
+    let a : Sinks = record { out = g.O.Sink.holds c.args.out.now; err = g.E.Sink.holds c.args.err.now } in
+    let b : Sinks = record { out = g.O.Sink.holds c.perform-ended.new.out; err = g.E.Sink.holds c.perform-ended.new.err } in
+    let ended = c.perform-ended.result in
+    let flushed = c.in-Ok.ensures.flushed
+    (ends_known (IsAnswer writes stored after m) (files_of m) a b ended c.perform-ended.ensures.ended known) in
+    handed_on (g.O.Sink.flushed c.flush_after.new.out) ended c.in-Ok.status c.in-Ok.status flushed
+
+pub returns-in-Err-clause-answers : goal.returns-in-Err-clause-answers
+returns-in-Err-clause-answers g c = λ known.
+    let writes = g.F.Files.writes c.args.files.now in
+    let stored = g.F.Files.tells c.args.files.now in
+    let after = g.F.Files.tells c.perform-ended.new.files in
+    let m = meaning_of (map g.S.AsStr.text c.args.words.now) in
+    let a : Sinks = record { out = g.O.Sink.holds c.args.out.now; err = g.E.Sink.holds c.args.err.now } in
+    let b : Sinks = record { out = g.O.Sink.holds c.perform-ended.new.out; err = g.E.Sink.holds c.perform-ended.new.err } in
+    let o = g.O.Sink.holds c.flush_after.new.out in
+    let ended = c.perform-ended.result in
+    let flushed = c.in-Err.ensures.flushed
+    (ends_known (IsAnswer writes stored after m) (files_of m) a b ended c.perform-ended.ensures.ended known) in
+    finishes_told (IsAnswer writes stored after m) (files_of m) a b o (g.E.Sink.holds c.tell.new.err)
+    (g.O.Sink.flushed c.flush_after.new.out) ended c.in-Err.stop c.tell.result c.perform-ended.ensures.ended known
+    c.in-Err.ensures.kept flushed c.tell.ensures
+
+pub returns-in-Err-clause-flushed : goal.returns-in-Err-clause-flushed
+returns-in-Err-clause-flushed g c = λ known.
+    let writes = g.F.Files.writes c.args.files.now in
+    let stored = g.F.Files.tells c.args.files.now in
+    let after = g.F.Files.tells c.perform-ended.new.files in
+    let m = meaning_of (map g.S.AsStr.text c.args.words.now) in
+    let a : Sinks = record { out = g.O.Sink.holds c.args.out.now; err = g.E.Sink.holds c.args.err.now } in
+    let b : Sinks = record { out = g.O.Sink.holds c.perform-ended.new.out; err = g.E.Sink.holds c.perform-ended.new.err } in
+    let ended = c.perform-ended.result in
+    let flushed = c.in-Err.ensures.flushed
+    (ends_known (IsAnswer writes stored after m) (files_of m) a b ended c.perform-ended.ensures.ended known) in
+    handed_on_told (g.O.Sink.flushed c.flush_after.new.out) ended c.in-Err.stop b.err (g.E.Sink.holds c.tell.new.err) c.tell.result flushed
+    c.tell.ensures

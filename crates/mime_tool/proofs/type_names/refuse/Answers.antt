@@ -1,0 +1,26 @@
+use Rattle.std.proofs.Common.{◌≡◌, refl}
+use Rattle.std.proofs.lemmas.Result.{err_from_is_err_and}
+use Rattle.mime_tool.specs.Run.{Run, mistaken}
+use Rattle.mime_tool.specs.TypeNames.{not_a_type}
+use Rattle.mime_tool.proofs.Desks.{other_unsaid}
+use Rattle.mime_tool.proofs.type_names.refuse.Goals as goal
+
+pub returns-in_err-report : goal.returns-in_err-report
+returns-in_err-report g c =
+    let e = err_from_is_err_and c.from_residual.result c.from_residual.ensures.1 in
+    let told = c.in_err-report.ensures in
+    let text = not_a_type c.args.word.now in
+    rw (e.1, e.2) (record {
+      same_files = told.same_files;
+      same_setting = told.same_setting;
+      sinks = other_unsaid (Unit {0}) (λ (run : Run). run ≡ mistaken text) 2 text _ _ _ refl told.sinks;
+    })
+
+pub returns : goal.returns
+returns g c =
+    let told = c.in_ok-report.ensures in
+    record {
+      same_files = told.same_files;
+      same_setting = told.same_setting;
+      sinks = (mistaken (not_a_type c.args.word.now), refl, refl, refl, told.sinks);
+    }

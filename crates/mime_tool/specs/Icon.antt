@@ -1,0 +1,35 @@
+-- What `icon` prints.
+use Rattle.std.specs.Prelude.{◌≡◌, ℕ, List, [], ◌∷◌, ◌++◌, codes, ⊤}
+use Rattle.mime_base.specs.Database.{PlainDatabase}
+use Rattle.mime_base.specs.Format.Spells.{Spells}
+use Rattle.mime_lookup.specs.Icons.{PlainIcons, icons_of}
+use Rattle.mime_lookup.specs.StepFaults.{IsIconFault}
+use Rattle.mime_view.specs.declared.fault.CacheFault.{CacheFault}
+use Rattle.mime_tool.specs.Cache.{IsAnsweredOr, IsCacheCommand, IsRefused}
+use Rattle.mime_tool.specs.Files.{Stored}
+use Rattle.mime_tool.specs.Run.{Run, printed}
+use Rattle.mime_tool.specs.TypeNames.{IsRunOfTypes}
+
+-- `icon: NAME` and `generic: NAME`
+abbrev pub icon_lines : PlainIcons → List ℕ
+icon_lines icons = codes "icon: " ++ (icons.icon ++ (codes "\ngeneric: " ++ (icons.generic ++ codes "\n")))
+
+-- the icons of a type: those of the database that the cache spells, where it spells one
+abbrev pub AreIconsOf : List ℕ → List ℕ → PlainIcons → Type 0
+AreIconsOf cache kind icons = (b : PlainDatabase) → Spells cache b → icons ≡ icons_of b kind
+
+-- `icon` refuses the cache for this fault
+abbrev pub RefusesIcons : List ℕ → CacheFault → Type 0
+RefusesIcons cache = IsRefused cache (IsIconFault cache) (λ _. ⊤)
+
+-- the icons are printed
+abbrev pub AreIconLines : List ℕ → List ℕ → Run → Type 0
+AreIconLines cache kind run = (icons : PlainIcons) × AreIconsOf cache kind icons × (run ≡ printed (icon_lines icons))
+
+-- the run of `icon` over a cache that lies at this path
+abbrev pub IsIconOver : List ℕ → List ℕ → List ℕ → List (List ℕ) → Run → Type 0
+IsIconOver path kind cache files run = IsAnsweredOr path (RefusesIcons cache) (AreIconLines cache kind) run
+
+-- the run of `icon`: the word is looked at before the cache is read
+abbrev pub IsIcon : (List ℕ → Stored) → List ℕ → List ℕ → List (List ℕ) → Run → Type 0
+IsIcon stored path kind files = IsRunOfTypes (kind ∷ []) (IsCacheCommand stored path (IsIconOver path kind) files)

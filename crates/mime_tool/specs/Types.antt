@@ -1,0 +1,78 @@
+-- What `type` prints.
+use Rattle.std.specs.Prelude.{◌≡◌, ◌⊎◌, ℕ, Bool, true, false, List, [], ◌++◌, Option, Some, codes, decimal, length, ⊤}
+use Rattle.mime_base.specs.Database.{PlainDatabase}
+use Rattle.mime_base.specs.Database.Limits.{IsWithinLimits}
+use Rattle.mime_base.specs.Format.Spells.{Spells}
+use Rattle.mime_base.specs.declared.magic.host.Host.TheVariants.{Little}
+use Rattle.mime_base.specs.declared.meter.Meter.{Meter}
+use Rattle.mime_lookup.specs.Bounds.{KeepsBounds}
+use Rattle.mime_lookup.specs.Cached.{IsKind}
+use Rattle.mime_lookup.specs.CheckingOrder.{Chooses, globs_suffice, read_of}
+use Rattle.mime_lookup.specs.StepFaults.{IsLookUpFault}
+use Rattle.mime_lookup.specs.declared.order.Order.{Order}
+use Rattle.mime_view.specs.declared.fault.CacheFault.{CacheFault}
+use Rattle.mime_tool.specs.Cache.{IsAnsweredOr, IsCacheCommand, IsRefused}
+use Rattle.mime_tool.specs.Files.{Stored}
+use Rattle.mime_tool.specs.Line.{IsTypeLine, PlainLookup, base_name, order_of, type_line}
+use Rattle.mime_tool.specs.Run.{IsEach, Run, cannot_read, printed, unanswered}
+
+-- what `--cost` tells of an answer: the records that were visited, the bytes that were compared, and those that were read
+abbrev pub cost_text : Meter → ℕ → List ℕ
+cost_text meter read =
+    codes " nodes=" ++ (decimal meter.nodes ++ (codes " bytes=" ++ (decimal meter.bytes ++ (codes " read=" ++ decimal read))))
+
+-- what stands behind a type, with `--cost` or without it
+abbrev pub cost_tail : Bool → Meter → ℕ → List ℕ
+cost_tail true meter read = cost_text meter read
+cost_tail false meter read = []
+
+-- `type` refuses the cache for this fault
+abbrev pub RefusesLookup : List ℕ → CacheFault → Type 0
+RefusesLookup cache = IsRefused cache (IsLookUpFault cache) IsWithinLimits
+
+-- the line of a file: a type that the cache or the order has, and a cost within the bounds; where the cache spells a database,
+-- IsSaid holds of it, the type and the bytes that were read
+pub record IsLine (cache : List ℕ) (cost : Bool) (file : List ℕ) (IsSaid : PlainDatabase → List ℕ → ℕ → Type 0) (run : Run) : Type 0 where
+  pub kind : List ℕ
+  pub meter : Meter
+  pub read : ℕ
+  pub is_kind : IsKind cache kind
+  pub bounds : KeepsBounds (length (base_name file)) cache read meter
+  pub spelled : (b : PlainDatabase) → IsWithinLimits b → Spells cache b → IsSaid b kind read
+  pub is : run ≡ printed (type_line file kind (cost_tail cost meter read))
+
+-- the checking order gives the type to the name and this content, and reads so many bytes of it
+abbrev pub IsChosen : Option (List ℕ) → Order → List ℕ → PlainDatabase → List ℕ → ℕ → Type 0
+IsChosen content order file b kind read =
+    Chooses b (base_name file) content Little order kind × (read ≡ read_of b (base_name file) content order)
+
+-- the globs give the type alone
+abbrev pub IsChosenByGlobs : Order → List ℕ → PlainDatabase → List ℕ → ℕ → Type 0
+IsChosenByGlobs order file b kind read = (globs_suffice b (base_name file) order ≡ true) × IsChosen (Some []) order file b kind read
+
+-- the file can't be read, and no database that the cache spells gives its type by the globs alone
+abbrev pub CannotBeRead : List ℕ → Order → List ℕ → Run → Type 0
+CannotBeRead cache order file run =
+    ((b : PlainDatabase) → IsWithinLimits b → Spells cache b → globs_suffice b (base_name file) order ≡ false)
+    × (run ≡ unanswered (cannot_read file))
+
+-- how FILEs are looked up over the cache at this path
+abbrev pub lookup_by : List ℕ → Bool → Bool → Order → List ℕ → PlainLookup
+lookup_by path name_only cost order cache = record {
+  name_only = name_only;
+  IsTyped = λ content file. IsAnsweredOr path (RefusesLookup cache) (IsLine cache cost file (IsChosen content order file));
+  IsUnread = λ file. IsAnsweredOr path (RefusesLookup cache)
+      (λ run. IsLine cache cost file (IsChosenByGlobs order file) run ⊎ CannotBeRead cache order file run);
+  IsGuessed = λ file. IsAnsweredOr path (RefusesLookup cache)
+      (λ run. IsLine cache cost file (λ _ _ _. ⊤) run ⊎ CannotBeRead cache order file run);
+}
+
+-- the lines of FILEs by a cache, where this is stored at each path
+abbrev pub AreLinesBy : (List ℕ → Stored) → List ℕ → Bool → Bool → Bool → List ℕ → List (List ℕ) → Run → Type 0
+AreLinesBy stored path name_only cost magic_first cache =
+    IsEach (IsTypeLine (lookup_by path name_only cost (order_of magic_first) cache) stored)
+
+-- the run of `type` over the cache at this path with these flags, for FILEs: `--name-only`, `--cost`, `--magic-first`
+abbrev pub IsType : (List ℕ → Stored) → List ℕ → Bool → Bool → Bool → List (List ℕ) → Run → Type 0
+IsType stored path name_only cost magic_first =
+    IsCacheCommand stored path (AreLinesBy stored path name_only cost magic_first)

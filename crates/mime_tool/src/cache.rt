@@ -1,0 +1,64 @@
+//! What is said of a CACHE that gives no answer. This project's own.
+
+ghost use Rattle.std.specs.Prelude.{◌≡◌, IfOk, string_bytes};
+ghost use Rattle.mime_tool.specs.Cache.{IsFaultStop, fault_name};
+ghost use Rattle.mime_tool.specs.Run.{refusal};
+ghost use Rattle.mime_tool.specs.Stop.{IsRefusal};
+
+use crate::stop::Stop;
+use mime_lookup::Cause;
+use mime_view::CacheFault;
+use std::alloc::{AllocError, Global};
+
+/// The stop of a fault of the cache at this path.
+pub(crate) fn faulty(alloc: Global, path: &str, fault: CacheFault) -> Stop
+    ensures { IsFaultStop path.now fault result }
+{
+    match fault {
+        CacheFault::OutOfMemory => Stop::OutOfMemory,
+        _ => refused(alloc, path, fault),
+    }
+}
+
+/// The stop of a lookup that reads no content and stopped for this.
+pub(crate) fn stopped_for(alloc: Global, path: &str, cause: Cause) -> Stop
+    ensures fault { (fault : CacheFault) → cause ≡ Cause.Cache fault → IsFaultStop path.now fault result }
+    ensures memory { cause ≡ Cause.OutOfMemory → result ≡ Stop.OutOfMemory }
+{
+    match cause {
+        Cause::Cache(fault) => faulty(alloc, path, fault),
+        Cause::NameTooLong | Cause::Read | Cause::OutOfMemory => Stop::OutOfMemory,
+    }
+}
+
+fn refused(alloc: Global, path: &str, fault: CacheFault) -> Stop
+    ensures { IsRefusal (refusal path.now (fault_name fault)) result }
+{
+    match message_of(alloc, path, fault) {
+        Ok(message) => Stop::Refused(message),
+        Err(_) => Stop::OutOfMemory,
+    }
+}
+
+fn message_of(alloc: Global, path: &str, fault: CacheFault) -> Result<String, AllocError>
+    ensures { IfOk result (λ message. string_bytes message ≡ refusal path.now (fault_name fault)) }
+{
+    let name = name_of(alloc, fault)?;
+    format!(in alloc; "mimelook: {path}: {name}\n")
+}
+
+// What the message on a fault calls it.
+fn name_of(alloc: Global, fault: CacheFault) -> Result<String, AllocError>
+    ensures { IfOk result (λ name. string_bytes name ≡ fault_name fault) }
+{
+    match fault {
+        CacheFault::Truncated => format!(in alloc; "truncated"),
+        CacheFault::Version(major, minor) => format!(in alloc; "version {major}.{minor}"),
+        CacheFault::TooLarge => format!(in alloc; "too large"),
+        CacheFault::OutOfRange(at) => format!(in alloc; "out of range at {at}"),
+        CacheFault::LongText(at) => format!(in alloc; "long text at {at}"),
+        CacheFault::Spent => format!(in alloc; "budget spent"),
+        CacheFault::TooDeep => format!(in alloc; "too deep"),
+        CacheFault::OutOfMemory => format!(in alloc; "out of memory"),
+    }
+}

@@ -1,0 +1,135 @@
+//! How a FILE is looked up: by a database, or by the bytes of a cache.
+
+ghost use Rattle.std.specs.Prelude.{◌≡◌, Bool};
+ghost use Rattle.mime_base.specs.Database.{plain_database};
+ghost use Rattle.mime_tool.specs.Files.{Stored};
+ghost use Rattle.mime_tool.specs.Line.{order_of};
+ghost use Rattle.mime_tool.specs.LineSteps.{IsContent, LooksUp, plain_lookup, tail_of};
+ghost use Rattle.mime_tool.specs.Plain.{lookup_over};
+ghost use Rattle.mime_tool.specs.Types.{cost_tail, lookup_by};
+
+use super::{Outcome, base_name};
+use crate::cache::faulty;
+use crate::stop::Stop;
+use mime_base::{Counted, Database, Host, Meter};
+use mime_lookup::{Cause, Content, Order, look_up, look_up_plain};
+use std::alloc::Global;
+
+/// What FILEs are looked up in.
+#[derive(Clone, Copy)]
+pub(crate) enum Source<'a> {
+    Database(&'a Database),
+    Cache {
+        path: &'a str,
+        bytes: &'a [u8],
+        /// Whether the cost of each answer is told.
+        cost: bool,
+    },
+}
+
+/// How FILEs are looked up.
+#[derive(Clone, Copy)]
+pub(crate) struct Lookup<'a> {
+    pub(crate) source: Source<'a>,
+    /// Whether by their names alone: then none is opened.
+    pub(crate) name_only: bool,
+    pub(crate) order: Order,
+}
+
+/// What an answer cost: what was looked at, and how many bytes of the content were read.
+#[derive(Clone, Copy)]
+pub(crate) struct Cost {
+    pub(crate) meter: Meter,
+    pub(crate) read: u64,
+}
+
+/// The order that `--magic-first` asks for, or its absence.
+pub(crate) fn order_of(magic_first: bool) -> Order
+    ensures { result ≡ order_of magic_first }
+{
+    if magic_first {
+        Order::MagicFirst
+    } else {
+        Order::GlobsFirst
+    }
+}
+
+/// What a file comes to by its name and its content, which is read as far as it is needed.
+pub(super) fn find<'a, R: Content + Drop>(
+    alloc: Global,
+    lookup: Lookup<'a>,
+    file: &str,
+    content: Option<R>,
+) -> Result<Outcome<'a>, Stop>
+    ensures { (stored : Stored) → IsContent R.remaining R.health lookup.entry.name_only stored content
+        → LooksUp (plain_lookup lookup.entry) stored file.now result }
+{
+    let Lookup {
+        source,
+        name_only: _,
+        order,
+    } = lookup;
+    match source {
+        Source::Database(database) => find_in_database(alloc, database, order, file, content),
+        Source::Cache { path, bytes, cost } => {
+            find_in_cache(alloc, path, bytes, cost, order, file, content)
+        }
+    }
+}
+
+fn find_in_database<'a, R: Content + Drop>(
+    alloc: Global,
+    database: &'a Database,
+    order: Order,
+    file: &str,
+    mut content: Option<R>,
+) -> Result<Outcome<'a>, Stop>
+    ensures { (stored : Stored) (name_only : Bool) → IsContent R.remaining R.health name_only stored content
+        → LooksUp (lookup_over name_only order (plain_database database.entry.now)) stored file.now result }
+{
+    let name = base_name(file.as_bytes());
+    match look_up_plain(alloc, database, name, &mut content, Host::Little, order) {
+        Ok(answer) => Ok(Outcome::Typed(answer.kind, None)),
+        Err(stopped) => match stopped.cause {
+            Cause::NameTooLong => Ok(Outcome::NameTooLong),
+            Cause::Read => Ok(Outcome::CannotRead),
+            Cause::Cache(_) | Cause::OutOfMemory => Err(Stop::OutOfMemory),
+        },
+    }
+}
+
+fn find_in_cache<'a, R: Content + Drop>(
+    alloc: Global,
+    path: &str,
+    bytes: &'a [u8],
+    cost: bool,
+    order: Order,
+    file: &str,
+    mut content: Option<R>,
+) -> Result<Outcome<'a>, Stop>
+    ensures { (stored : Stored) (name_only : Bool) → IsContent R.remaining R.health name_only stored content
+        → LooksUp (lookup_by path.now name_only cost order bytes.entry.now) stored file.now result }
+{
+    let name = base_name(file.as_bytes());
+    let cache = Counted::new(bytes);
+    match look_up(alloc, cache, name, &mut content, Host::Little, order) {
+        Ok(answer) => Ok(Outcome::Typed(answer.kind, cost_of(cost, answer.meter, answer.read))),
+        Err(stopped) => match stopped.cause {
+            Cause::NameTooLong => Ok(Outcome::NameTooLong),
+            Cause::Read => Ok(Outcome::CannotRead),
+            Cause::Cache(fault) => Err(faulty(alloc, path, fault)),
+            Cause::OutOfMemory => Err(Stop::OutOfMemory),
+        },
+    }
+}
+
+// What an answer cost, where that is told.
+fn cost_of(is_told: bool, meter: Meter, read: u64) -> Option<Cost>
+    ensures { tail_of result ≡ cost_tail is_told meter read }
+{
+    if is_told {
+        Some(Cost { meter, read })
+    } else {
+        None
+    }
+}
