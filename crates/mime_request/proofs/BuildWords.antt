@@ -1,6 +1,6 @@
 -- What the usual spellings of `build` mean.
-use Rattle.std.proofs.Common.{◌≡◌, false, List, [], ◌∷◌, Some, refl, codes}
-use Rattle.clap.specs.Walk.{Row, Text, Walk, finished, idle, nothing_held, option, used, walk_from}
+use Rattle.std.proofs.Common.{◌≡◌, false, List, [], ◌∷◌, refl, codes}
+use Rattle.clap.specs.Walk.{Row, Text, Walk, finished, nothing_held, used, walk_from}
 use Rattle.clap.specs.Simple.{filled, with_index}
 use Rattle.clap.proofs.OnLiterals.{clap_on_literals}
 use Rattle.mime_request.specs.CommandLine.{output_rule}
@@ -10,33 +10,19 @@ use Rattle.mime_request.proofs.CommandWords.{meaning_of-met}
 use Rattle.mime_request.proofs.OptionWords.{directories_used}
 use Rattle.mime_request.proofs.PlainWords.{IsPlainWord, plain_word}
 use Rattle.mime_request.proofs.Shapes.{build_met, build_shape}
-use Rattle.mime_request.proofs.Walks.{Steps, Leads, between, end_fault, ends, goes}
+use Rattle.mime_request.proofs.ValueWords.{value_taken}
+use Rattle.mime_request.proofs.Walks.{Steps, Leads, after_value, before_value, end_fault, ends, goes}
 
 abbrev output_used : Text → List Row → List Row
 output_used file = used (with_index 1 (filled output_rule)) (file ∷ [])
 
--- before the value of the option, and after it
-abbrev before_value : Text → List Row → Walk
-before_value id rows = between rows (Some (id, [])) (option id)
-
-abbrev after_value : Text → List Row → Text → Walk
-after_value id rows value = between rows (Some (id, value ∷ [])) idle
-
 directories : (rows : List Row) (dirs : Text) → IsPlainWord dirs
     → Steps build_shape [] (before_value (codes "dirs") rows) dirs (after_value (codes "dirs") rows dirs)
-unfolding clap_on_literals
-directories rows dirs h = record {
-  no_fault = rw (h.no_dashes, h.no_long, h.no_short) refl;
-  moves = rw (h.no_dashes, h.no_long, h.no_short) refl;
-}
+directories rows dirs h = value_taken build_shape _ _ rows dirs refl refl h
 
 output : (rows : List Row) (file : Text) → IsPlainWord file
     → Steps build_shape [] (before_value (codes "output") rows) file (after_value (codes "output") rows file)
-unfolding clap_on_literals
-output rows file h = record {
-  no_fault = rw (h.no_dashes, h.no_long, h.no_short) refl;
-  moves = rw (h.no_dashes, h.no_long, h.no_short) refl;
-}
+output rows file h = value_taken build_shape _ _ rows file refl refl h
 
 option_d : Steps build_shape [] (walk_from nothing_held) (codes "-d") (before_value (codes "dirs") [])
 unfolding clap_on_literals

@@ -1,6 +1,6 @@
 -- What the usual spellings of `list`, `isa` and `icon` mean, and how each command over a cache reads `-c CACHE`.
 use Rattle.std.proofs.Common.{◌≡◌, false, List, [], ◌∷◌, Some, refl, codes}
-use Rattle.clap.specs.Walk.{Row, Text, Walk, idle, nothing_held, option, used, walk_from}
+use Rattle.clap.specs.Walk.{Row, Text, Walk, idle, nothing_held, used, walk_from}
 use Rattle.clap.specs.Simple.{filled, with_index}
 use Rattle.clap.proofs.OnLiterals.{clap_on_literals}
 use Rattle.mime_request.specs.CommandLine.{cache_rule, kind_rule}
@@ -10,21 +10,20 @@ use Rattle.mime_request.proofs.CommandWords.{meaning_of-met}
 use Rattle.mime_request.proofs.PlainWords.{IsPlainWord, plain_word}
 use Rattle.mime_request.proofs.Shapes.{OverCache, cache_met, icon_over, icon_shape, is_a_over, is_a_shape, list_over, shape_of}
 use Rattle.mime_request.proofs.Shapes.{type_over}
-use Rattle.mime_request.proofs.Walks.{Steps, Leads, at_position, between, ends, goes}
+use Rattle.mime_request.proofs.ValueWords.{positional_takes, value_taken}
+use Rattle.mime_request.proofs.Walks.{Steps, Leads, after_value, at_position, before_value, ends, goes}
 
--- before CACHE, and after it
-abbrev before_cache : Walk
-before_cache = between [] (Some (codes "cache", [])) (option (codes "cache"))
-
+-- after CACHE
 abbrev pub after_cache : Text → Walk
-after_cache cache = between [] (Some (codes "cache", cache ∷ [])) idle
+after_cache = after_value (codes "cache") []
 
 -- the rows after `-c CACHE`
 abbrev pub cache_used : Text → List Row
 cache_used cache = used (with_index 1 (filled cache_rule)) (cache ∷ []) []
 
 -- `-c` waits for CACHE
-option_c : (m : OverCache) → Steps (shape_of (cache_met m)) [] (walk_from nothing_held) (codes "-c") before_cache
+option_c : (m : OverCache)
+    → Steps (shape_of (cache_met m)) [] (walk_from nothing_held) (codes "-c") (before_value (codes "cache") [])
 unfolding clap_on_literals
 option_c list_over = record { no_fault = refl; moves = refl }
 option_c is_a_over = record { no_fault = refl; moves = refl }
@@ -33,24 +32,11 @@ option_c type_over = record { no_fault = refl; moves = refl }
 
 -- the word after it is CACHE
 cache_value : (m : OverCache) (cache : Text) → IsPlainWord cache
-    → Steps (shape_of (cache_met m)) [] before_cache cache (after_cache cache)
-unfolding clap_on_literals
-cache_value list_over cache h = record {
-  no_fault = rw (h.no_dashes, h.no_long, h.no_short) refl;
-  moves = rw (h.no_dashes, h.no_long, h.no_short) refl;
-}
-cache_value is_a_over cache h = record {
-  no_fault = rw (h.no_dashes, h.no_long, h.no_short) refl;
-  moves = rw (h.no_dashes, h.no_long, h.no_short) refl;
-}
-cache_value icon_over cache h = record {
-  no_fault = rw (h.no_dashes, h.no_long, h.no_short) refl;
-  moves = rw (h.no_dashes, h.no_long, h.no_short) refl;
-}
-cache_value type_over cache h = record {
-  no_fault = rw (h.no_dashes, h.no_long, h.no_short) refl;
-  moves = rw (h.no_dashes, h.no_long, h.no_short) refl;
-}
+    → Steps (shape_of (cache_met m)) [] (before_value (codes "cache") []) cache (after_cache cache)
+cache_value list_over cache h = value_taken _ _ _ [] cache refl refl h
+cache_value is_a_over cache h = value_taken _ _ _ [] cache refl refl h
+cache_value icon_over cache h = value_taken _ _ _ [] cache refl refl h
+cache_value type_over cache h = value_taken _ _ _ [] cache refl refl h
 
 -- over `-c CACHE`
 pub over_cache : (m : OverCache) (cache : Text) (words : List Text) (end : Walk) → is_option cache ≡ false
@@ -69,28 +55,16 @@ after_base cache kind base =
 
 -- the first word after the options of `icon` is TYPE
 kind_of_icon : (cache kind : Text) → IsPlainWord kind → Steps icon_shape [] (after_cache cache) kind (after_kind cache kind)
-unfolding clap_on_literals
-kind_of_icon cache kind h = record {
-  no_fault = rw (h.no_dashes, h.no_long, h.no_short) refl;
-  moves = rw (h.no_dashes, h.no_long, h.no_short) refl;
-}
+kind_of_icon cache kind h = positional_takes icon_shape _ 1 _ _ kind refl refl h
 
 -- so is that of `isa`
 kind_of_is_a : (cache kind : Text) → IsPlainWord kind → Steps is_a_shape [] (after_cache cache) kind (after_kind cache kind)
-unfolding clap_on_literals
-kind_of_is_a cache kind h = record {
-  no_fault = rw (h.no_dashes, h.no_long, h.no_short) refl;
-  moves = rw (h.no_dashes, h.no_long, h.no_short) refl;
-}
+kind_of_is_a cache kind h = positional_takes is_a_shape _ 1 _ _ kind refl refl h
 
 -- the second is BASE
 base_of_is_a : (cache kind base : Text) → IsPlainWord base
     → Steps is_a_shape [] (after_kind cache kind) base (after_base cache kind base)
-unfolding clap_on_literals
-base_of_is_a cache kind base h = record {
-  no_fault = rw (h.no_dashes, h.no_long, h.no_short) refl;
-  moves = rw (h.no_dashes, h.no_long, h.no_short) refl;
-}
+base_of_is_a cache kind base h = positional_takes is_a_shape _ 2 _ _ base refl refl h
 
 -- what `list -c CACHE` means
 pub meaning_of-usual_list : (cache : Text) → is_option cache ≡ false → meaning_of (list_words cache) ≡ asks (list cache)

@@ -11,4 +11,5 @@ pub mod PlainWords
 pub mod Shapes
 pub mod TypeWords
 pub mod UsualWords
+pub mod ValueWords
 pub mod Walks

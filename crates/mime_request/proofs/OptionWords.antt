@@ -1,6 +1,6 @@
 -- The walk of `plain` over its options, in each order.
-use Rattle.std.proofs.Common.{Bool, true, false, List, [], ◌∷◌, ◌++◌, Some, None, refl, codes}
-use Rattle.clap.specs.Walk.{Row, Text, Walk, idle, nothing_held, option, used, walk_from}
+use Rattle.std.proofs.Common.{Bool, true, false, List, [], ◌∷◌, ◌++◌, None, refl, codes}
+use Rattle.clap.specs.Walk.{Row, Text, Walk, idle, nothing_held, used, walk_from}
 use Rattle.clap.specs.Simple.{filled, with_index}
 use Rattle.clap.proofs.OnLiterals.{clap_on_literals}
 use Rattle.mime_request.specs.CommandLine.{directories_rule, magic_first_rule, name_only_rule}
@@ -8,7 +8,8 @@ use Rattle.mime_request.specs.Spelling.{plain_flags}
 use Rattle.mime_request.proofs.FileWords.{in_files}
 use Rattle.mime_request.proofs.PlainWords.{IsPlainWord}
 use Rattle.mime_request.proofs.Shapes.{plain_shape}
-use Rattle.mime_request.proofs.Walks.{Steps, Leads, between, flag_used, goes}
+use Rattle.mime_request.proofs.ValueWords.{positional_takes, value_taken}
+use Rattle.mime_request.proofs.Walks.{Steps, Leads, after_value, before_value, between, flag_used, goes}
 
 -- whether the flags stand after `-d DIRS` or before it
 pub data Order : Type 0 where
@@ -32,10 +33,10 @@ option_rows flags_first n m dirs = directories_used dirs (flags_used n m [])
 
 -- before DIRS, and after it
 abbrev before_dirs : List Row → Walk
-before_dirs rows = between rows (Some (codes "dirs", [])) (option (codes "dirs"))
+before_dirs = before_value (codes "dirs")
 
 abbrev after_dirs : List Row → Text → Walk
-after_dirs rows dirs = between rows (Some (codes "dirs", dirs ∷ [])) idle
+after_dirs = after_value (codes "dirs")
 
 -- after the flags alone, and after `-d DIRS` and the flags
 abbrev after_flags : Bool → Bool → Walk
@@ -51,11 +52,7 @@ option_d rows = record { no_fault = refl; moves = refl }
 
 directories : (rows : List Row) (dirs : Text) → IsPlainWord dirs
     → Steps plain_shape [] (before_dirs rows) dirs (after_dirs rows dirs)
-unfolding clap_on_literals
-directories rows dirs h = record {
-  no_fault = rw (h.no_dashes, h.no_long, h.no_short) refl;
-  moves = rw (h.no_dashes, h.no_long, h.no_short) refl;
-}
+directories rows dirs h = value_taken plain_shape _ _ rows dirs refl refl h
 
 name_only_first : Steps plain_shape [] (after_flags false false) (codes "--name-only") (after_flags true false)
 unfolding clap_on_literals
@@ -79,31 +76,14 @@ magic_first_last false dirs = record { no_fault = refl; moves = refl }
 -- a file settles DIRS, if that is pending
 file_after_dirs : (n m : Bool) (dirs file : Text) → IsPlainWord file
     → Steps plain_shape [] (after_dirs (flags_used n m []) dirs) file (in_files (option_rows flags_first n m dirs) (file ∷ []))
-unfolding clap_on_literals
-file_after_dirs true true dirs file h = record {
-  no_fault = rw (h.no_dashes, h.no_long, h.no_short) refl;
-  moves = rw (h.no_dashes, h.no_long, h.no_short) refl;
-}
-file_after_dirs true false dirs file h = record {
-  no_fault = rw (h.no_dashes, h.no_long, h.no_short) refl;
-  moves = rw (h.no_dashes, h.no_long, h.no_short) refl;
-}
-file_after_dirs false true dirs file h = record {
-  no_fault = rw (h.no_dashes, h.no_long, h.no_short) refl;
-  moves = rw (h.no_dashes, h.no_long, h.no_short) refl;
-}
-file_after_dirs false false dirs file h = record {
-  no_fault = rw (h.no_dashes, h.no_long, h.no_short) refl;
-  moves = rw (h.no_dashes, h.no_long, h.no_short) refl;
-}
+file_after_dirs true true dirs file h = positional_takes plain_shape _ 1 _ _ file refl refl h
+file_after_dirs true false dirs file h = positional_takes plain_shape _ 1 _ _ file refl refl h
+file_after_dirs false true dirs file h = positional_takes plain_shape _ 1 _ _ file refl refl h
+file_after_dirs false false dirs file h = positional_takes plain_shape _ 1 _ _ file refl refl h
 
 file_after_flags : (rows : List Row) (file : Text) → IsPlainWord file
     → Steps plain_shape [] (between rows None idle) file (in_files rows (file ∷ []))
-unfolding clap_on_literals
-file_after_flags rows file h = record {
-  no_fault = rw (h.no_dashes, h.no_long, h.no_short) refl;
-  moves = rw (h.no_dashes, h.no_long, h.no_short) refl;
-}
+file_after_flags rows file h = positional_takes plain_shape _ 1 rows None file refl refl h
 
 file_after_both : (n m : Bool) (dirs file : Text) → IsPlainWord file
     → Steps plain_shape [] (after_both n m dirs) file (in_files (option_rows directories_first n m dirs) (file ∷ []))

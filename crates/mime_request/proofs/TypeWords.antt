@@ -13,6 +13,7 @@ use Rattle.mime_request.proofs.CommandWords.{meaning_of-met}
 use Rattle.mime_request.proofs.FileWords.{files_fit, in_files, over_files}
 use Rattle.mime_request.proofs.PlainWords.{IsPlainWord, neither, plain_word}
 use Rattle.mime_request.proofs.Shapes.{cache_met, type_over, type_shape, type_takes}
+use Rattle.mime_request.proofs.ValueWords.{positional_takes}
 use Rattle.mime_request.proofs.Walks.{Steps, Leads, between, flag_used, goes, neither_fault}
 
 -- the rows after `-c CACHE` and the flags that are given
@@ -66,20 +67,12 @@ over_magic_first n k false cache words end rest = rest
 -- the first FILE, after a flag
 file_after_flags : (rows : List Row) (file : Text) → IsPlainWord file
     → Steps type_shape [] (between rows None idle) file (in_files rows (file ∷ []))
-unfolding clap_on_literals
-file_after_flags rows file h = record {
-  no_fault = rw (h.no_dashes, h.no_long, h.no_short) refl;
-  moves = rw (h.no_dashes, h.no_long, h.no_short) refl;
-}
+file_after_flags rows file h = positional_takes type_shape _ 1 rows None file refl refl h
 
 -- and right after CACHE, which it settles
 file_after_cache : (cache file : Text) → IsPlainWord file
     → Steps type_shape [] (after_cache cache) file (in_files (cache_used cache) (file ∷ []))
-unfolding clap_on_literals
-file_after_cache cache file h = record {
-  no_fault = rw (h.no_dashes, h.no_long, h.no_short) refl;
-  moves = rw (h.no_dashes, h.no_long, h.no_short) refl;
-}
+file_after_cache cache file h = positional_takes type_shape _ 1 _ _ file refl refl h
 
 -- the first FILE, after any flags
 first_file : (n k m : Bool) (cache file : Text) → IsPlainWord file

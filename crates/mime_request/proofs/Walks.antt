@@ -1,7 +1,7 @@
 -- Walks of clap over the words of one command, step by step.
-use Rattle.std.proofs.Common.{◌≡◌, ◌∙◌, ℕ, Bool, true, false, List, [], ◌∷◌, Option, None, ap, fold, refl}
-use Rattle.clap.specs.Walk.{Held, Names, Row, Rule, Text, Waiting, Walk, finished, nothing_held, settled, used, walk, walk_from}
-use Rattle.clap.specs.Walk.{walked}
+use Rattle.std.proofs.Common.{◌≡◌, ◌∙◌, ℕ, Bool, true, false, List, [], ◌∷◌, Option, Some, None, ap, fold, refl}
+use Rattle.clap.specs.Walk.{Held, Names, Row, Rule, Text, Waiting, Walk, finished, idle, nothing_held, option, settled, used}
+use Rattle.clap.specs.Walk.{walk, walk_from, walked}
 use Rattle.clap.specs.Simple.{Shape, filled, with_index}
 use Rattle.clap.specs.Faults.{check_fault, defaults_fault, level_fault, settle_fault, turn_fault, walk_fault}
 use Rattle.clap.specs.Kinds.{Kinds, or_else}
@@ -19,6 +19,13 @@ at_position position rows pending waiting = record {
 -- between two options, or before the first positional
 abbrev pub between : List Row → Option (Text × List Text) → Waiting → Walk
 between = at_position 1
+
+-- before the value of an option, and after it
+abbrev pub before_value : Text → List Row → Walk
+before_value id rows = between rows (Some (id, [])) (option id)
+
+abbrev pub after_value : Text → List Row → Text → Walk
+after_value id rows value = between rows (Some (id, value ∷ [])) idle
 
 -- the rows after a flag, if it is given
 abbrev pub flag_used : Bool → Rule → List Row → List Row

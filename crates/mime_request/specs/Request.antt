@@ -29,8 +29,8 @@ pub data PlainRequest : Type 0 where
   is_a : Text → Text → Text → PlainRequest
   -- by this cache, the icons of the type
   icon : Text → Text → PlainRequest
-  -- from this cache, whether by names alone, whether with the cost, whether content of high priority
-  -- comes before the globs, and the files whose types are asked for
+  -- from this cache, whether by names alone, whether the costs are told, whether content of high
+  -- priority comes before the globs, and the files whose types are asked for
   type_of : Text → Bool → Bool → Bool → List Text → PlainRequest
 
 -- what words mean: they ask for something, or are answered by an error of one of these kinds, among
@@ -70,7 +70,8 @@ build_meaning rows = given (first_of (codes "output") rows) (λ file.
 -- what `plain` means by what clap found after it
 abbrev pub plain_meaning : List Row → Meaning
 plain_meaning rows = given (all_of (codes "file") rows) (λ files.
-    asks (plain (parts_of (first_of (codes "dirs") rows)) (is_on (first_of (codes "name-only") rows))
+    asks (plain (parts_of (first_of (codes "dirs") rows))
+    (is_on (first_of (codes "name-only") rows))
     (is_on (first_of (codes "magic-first") rows)) files))
 
 -- what `list` means by what clap found after it

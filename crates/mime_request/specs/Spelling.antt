@@ -66,8 +66,7 @@ type_words cache name_only cost magic_first files =
     ++ (flag_words cost (codes "--cost")
     ++ (flag_words magic_first (codes "--magic-first") ++ files)))
 
--- neither DIRS or CACHE nor a FILE could be taken for an option, and there are fewer FILEs than
--- memory can hold
+-- neither DIRS or CACHE nor a FILE could be taken for an option, and memory can hold the FILEs
 pub record AreUsual (source : Text) (files : List Text) : Type 0 where
   pub plain_source : is_option source ≡ false
   pub plain_files : are_files files ≡ true

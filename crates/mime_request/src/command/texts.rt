@@ -12,11 +12,10 @@ pub(crate) const MIMELOOK: HelpTexts<'static> = HelpTexts {
     about: "Tells the MIME types of files",
     usage: "mimelook <COMMAND>",
     after_help: "\
-Messages go to standard error.
+Messages go to standard error. The --help of a command says more of its exit statuses.
 
 Exit status:
-  0  every FILE was answered, or what was asked for was done; or help or the version
-     was printed
+  0  what was asked for was done; or help or the version was printed
   1  some file not answered, or isa says no
   2  the command line is wrong
   3  database, cache or output refused
@@ -73,7 +72,7 @@ pub(crate) const LIST: HelpTexts<'static> = HelpTexts {
     about: "Prints a line WEIGHT:TYPE:PATTERN for each glob rule of a cache",
     usage: "mimelook list -c CACHE",
     after_help: "\
-Messages go to standard error. :cs stands behind a PATTERN that is case-sensitive.
+Messages go to standard error. A line ends in :cs where the rule is case-sensitive.
 
 Exit status:
   0  every rule was printed; or help was printed
@@ -87,11 +86,12 @@ Example:
 };
 
 pub(crate) const IS_A: HelpTexts<'static> = HelpTexts {
-    about: "Prints yes where TYPE is a BASE by a cache, and no where it is not",
+    about: "Prints yes where TYPE is BASE or is derived from it, by a cache, and else no",
     usage: "mimelook isa -c CACHE TYPE BASE",
     after_help: "\
-Messages go to standard error. A type is itself, what its parents are, and what the
-type is that it is an alias of.
+Messages go to standard error. TYPE is BASE where they are the same type, or a parent
+of TYPE in CACHE is BASE. Any text type is text/plain, and any type but those of inode
+is application/octet-stream. TYPE and BASE may be aliases.
 
 Exit status:
   0  yes was printed; or help was printed
@@ -109,7 +109,8 @@ pub(crate) const ICON: HelpTexts<'static> = HelpTexts {
     about: "Prints the icon and the generic icon of a type, from a cache",
     usage: "mimelook icon -c CACHE TYPE",
     after_help: "\
-Messages go to standard error.
+Messages go to standard error. Where CACHE names no icon, it is TYPE with - in place
+of /; the generic one is then the part before the / and -x-generic. TYPE may be an alias.
 
 Exit status:
   0  both were printed; or help was printed
@@ -151,5 +152,6 @@ The cache to write, such as /usr/share/mime/mime.cache;
 it is written as FILE.new and then renamed";
 
 pub(crate) const COST: &str = "\
-Print behind each TYPE what it cost: nodes=N records of the cache that were visited,
-bytes=B bytes that were read or compared of it, and read=R bytes that were read of FILE";
+Print behind each TYPE what the answer cost: nodes=N, records of CACHE that were
+visited; bytes=B, bytes that were read or compared; read=R, bytes of FILE that
+were read";

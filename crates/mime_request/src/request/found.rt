@@ -29,8 +29,10 @@ pub(super) fn given<'a>(
     id: &str,
     message: &str,
 ) -> Result<&'a str, Error>
-    ensures found { IfOk result (λ s. first_of id.now (rows_of (found_of matches.now)) ≡ Some s.now) }
-    ensures missing { IfErr result (HasKind (missing (first_of id.now (rows_of (found_of matches.now))))) }
+    ensures found { IfOk result (λ s. first_of id.now (rows_of (found_of matches.now))
+        ≡ Some s.now) }
+    ensures missing { IfErr result
+        (HasKind (missing (first_of id.now (rows_of (found_of matches.now))))) }
 {
     let Some(value) = value_of(matches, id) else {
         return Err(refusal(alloc, ErrorKind::MissingRequiredArgument, message));
@@ -42,7 +44,8 @@ pub(super) fn given<'a>(
 pub(super) fn files_of<'a>(alloc: Global, matches: &ArgMatches<'a>) -> Result<Vec<&'a str>, Error>
     ensures found { IfOk result (λ v. all_of (codes "file") (rows_of (found_of matches.now))
         ≡ Some (texts v.items)) }
-    ensures missing { IfErr result (HasKind (missing (all_of (codes "file") (rows_of (found_of matches.now))))) }
+    ensures missing { IfErr result
+        (HasKind (missing (all_of (codes "file") (rows_of (found_of matches.now))))) }
 {
     let Some(files) = values_of(matches, "file") else {
         return Err(refusal(alloc, ErrorKind::MissingRequiredArgument, "give a FILE"));

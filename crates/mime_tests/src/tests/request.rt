@@ -1,3 +1,4 @@
+mod caches;
 mod help;
 mod refusals;
 mod words;

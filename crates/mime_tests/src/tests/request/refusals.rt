@@ -1,9 +1,13 @@
 //! Words that are refused: the kind of error that answers them, and the texts of some.
 //!
-//! The other texts are held by the tests of the program, which prints them.
+//! The other texts of `build` and `plain` are held by the tests of the program, which prints them.
+
+mod over_caches;
 
 use clap::error::ErrorKind;
 use mime_request::request_of;
+use std::alloc::Global;
+use std::process::Abort;
 use std::test::Fail;
 
 /// Words, and the kind of error that answers them.
@@ -136,15 +140,18 @@ const REFUSED: [Refused; 24] = [
     },
 ];
 
-#[test]
-fn refuses_by_kind(rt: HostRuntime) -> Result<(), Fail> {
-    for row in &REFUSED {
-        match request_of(rt.alloc(), row.words) {
+fn are_refused(rt: &impl Abort, alloc: Global, rows: &[Refused]) {
+    for row in rows {
+        match request_of(alloc, row.words) {
             Ok(request) => assert!(rt; false, "{}: {request:?}", row.name),
             Err(error) => assert_eq!(rt; error.kind(), row.kind, "{}", row.name),
         }
     }
-    Ok(())
+}
+
+#[test]
+fn refuses_by_kind(rt: HostRuntime) {
+    are_refused(&rt, rt.alloc(), &REFUSED);
 }
 
 const UNKNOWN_COMMAND: &str = "\
@@ -166,6 +173,15 @@ Usage: mimelook plain -d DIRS [--name-only] [--magic-first] FILE...
 For more information, try '--help'.
 ";
 
+const NO_COMMAND: &str = "\
+error: 'mimelook' requires a subcommand but one was not provided
+  [subcommands: build, plain, list, isa, icon, type]
+
+Usage: mimelook <COMMAND>
+
+For more information, try '--help'.
+";
+
 /// Words, and the whole text that answers them.
 struct Mistake {
     name: &'static str,
@@ -173,7 +189,7 @@ struct Mistake {
     text: &'static str,
 }
 
-const MISTAKES: [Mistake; 2] = [
+const MISTAKES: [Mistake; 3] = [
     Mistake {
         name: "unknown command",
         words: &["sniff", "x"],
@@ -184,22 +200,26 @@ const MISTAKES: [Mistake; 2] = [
         words: &["plain", "-d", "a", "--names", "x"],
         text: SIMILAR_OPTION,
     },
+    Mistake {
+        name: "no words",
+        words: &[],
+        text: NO_COMMAND,
+    },
 ];
 
-#[test]
-fn says_what_is_wrong(rt: HostRuntime) -> Result<(), Fail> {
-    for row in &MISTAKES {
-        match request_of(rt.alloc(), row.words) {
+fn are_said(rt: &impl Abort, alloc: Global, rows: &[Mistake]) -> Result<(), Fail> {
+    for row in rows {
+        match request_of(alloc, row.words) {
             Ok(request) => assert!(rt; false, "{}: {request:?}", row.name),
             Err(error) => {
-                assert_eq!(rt;
-                    error.to_string(rt.alloc())?.as_str(),
-                    row.text,
-                    "{}",
-                    row.name
-                )
+                assert_eq!(rt; error.to_string(alloc)?.as_str(), row.text, "{}", row.name)
             }
         }
     }
     Ok(())
+}
+
+#[test]
+fn says_what_is_wrong(rt: HostRuntime) -> Result<(), Fail> {
+    are_said(&rt, rt.alloc(), &MISTAKES)
 }

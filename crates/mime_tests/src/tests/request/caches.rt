@@ -1,0 +1,190 @@
+//! What the words of the commands over a cache ask for.
+
+use mime_request::request_of;
+use std::alloc::Global;
+use std::process::Abort;
+use std::test::Fail;
+
+/// Words, and the request that they are, as `Debug` writes it.
+#[derive(Clone, Copy)]
+struct Asked {
+    name: &'static str,
+    words: &'static [&'static str],
+    request: &'static str,
+}
+
+const LISTS: [Asked; 4] = [
+    Asked {
+        name: "usual words",
+        words: &["list", "-c", "c"],
+        request: r#"List { cache: "c" }"#,
+    },
+    Asked {
+        name: "CACHE in the option's word",
+        words: &["list", "-cc/d"],
+        request: r#"List { cache: "c/d" }"#,
+    },
+    Asked {
+        name: "empty CACHE",
+        words: &["list", "-c", ""],
+        request: r#"List { cache: "" }"#,
+    },
+    Asked {
+        name: "command's name",
+        words: &["list", "-c", "list"],
+        request: r#"List { cache: "list" }"#,
+    },
+];
+
+const IS_AS: [Asked; 6] = [
+    Asked {
+        name: "usual words",
+        words: &["isa", "-c", "c", "t/h", "t/m"],
+        request: r#"IsA { cache: "c", kind: "t/h", base: "t/m" }"#,
+    },
+    Asked {
+        name: "-c last",
+        words: &["isa", "t/h", "t/m", "-c", "c"],
+        request: r#"IsA { cache: "c", kind: "t/h", base: "t/m" }"#,
+    },
+    Asked {
+        name: "-c between",
+        words: &["isa", "t/h", "-cc", "t/m"],
+        request: r#"IsA { cache: "c", kind: "t/h", base: "t/m" }"#,
+    },
+    Asked {
+        name: "words that are no types",
+        words: &["isa", "-c", "c", "h", ""],
+        request: r#"IsA { cache: "c", kind: "h", base: "" }"#,
+    },
+    Asked {
+        name: "hyphens",
+        words: &["isa", "-c", "c", "--", "-h", "--cost"],
+        request: r#"IsA { cache: "c", kind: "-h", base: "--cost" }"#,
+    },
+    Asked {
+        name: "command's name",
+        words: &["isa", "-c", "isa", "isa", "isa"],
+        request: r#"IsA { cache: "isa", kind: "isa", base: "isa" }"#,
+    },
+];
+
+const ICONS: [Asked; 3] = [
+    Asked {
+        name: "usual words",
+        words: &["icon", "-c", "c", "t/h"],
+        request: r#"Icon { cache: "c", kind: "t/h" }"#,
+    },
+    Asked {
+        name: "-c last",
+        words: &["icon", "t/h", "-c", "c"],
+        request: r#"Icon { cache: "c", kind: "t/h" }"#,
+    },
+    Asked {
+        name: "a word that is no type",
+        words: &["icon", "-c", "c", "h"],
+        request: r#"Icon { cache: "c", kind: "h" }"#,
+    },
+];
+
+const TYPES: [Asked; 10] = [
+    Asked {
+        name: "no flag",
+        words: &["type", "-c", "c", "x", "y"],
+        request: r#"Type { cache: "c", name_only: false, cost: false, magic_first: false, files: ["x", "y"] }"#,
+    },
+    Asked {
+        name: "names alone",
+        words: &["type", "-c", "c", "--name-only", "x"],
+        request: r#"Type { cache: "c", name_only: true, cost: false, magic_first: false, files: ["x"] }"#,
+    },
+    Asked {
+        name: "cost",
+        words: &["type", "-c", "c", "--cost", "x"],
+        request: r#"Type { cache: "c", name_only: false, cost: true, magic_first: false, files: ["x"] }"#,
+    },
+    Asked {
+        name: "magic first",
+        words: &["type", "-c", "c", "--magic-first", "x"],
+        request: r#"Type { cache: "c", name_only: false, cost: false, magic_first: true, files: ["x"] }"#,
+    },
+    Asked {
+        name: "all flags",
+        words: &[
+            "type",
+            "-c",
+            "c",
+            "--name-only",
+            "--cost",
+            "--magic-first",
+            "x",
+        ],
+        request: r#"Type { cache: "c", name_only: true, cost: true, magic_first: true, files: ["x"] }"#,
+    },
+    Asked {
+        name: "flags the other way round",
+        words: &[
+            "type",
+            "--magic-first",
+            "--cost",
+            "--name-only",
+            "-c",
+            "c",
+            "x",
+        ],
+        request: r#"Type { cache: "c", name_only: true, cost: true, magic_first: true, files: ["x"] }"#,
+    },
+    Asked {
+        name: "options last",
+        words: &["type", "x", "y", "--cost", "-cc/d"],
+        request: r#"Type { cache: "c/d", name_only: false, cost: true, magic_first: false, files: ["x", "y"] }"#,
+    },
+    Asked {
+        name: "hyphens",
+        words: &["type", "-c", "c", "--", "-x", "--"],
+        request: r#"Type { cache: "c", name_only: false, cost: false, magic_first: false, files: ["-x", "--"] }"#,
+    },
+    Asked {
+        name: "command's name",
+        words: &["type", "-c", "type", "type"],
+        request: r#"Type { cache: "type", name_only: false, cost: false, magic_first: false, files: ["type"] }"#,
+    },
+    Asked {
+        name: "empty FILE",
+        words: &["type", "-c", "c", ""],
+        request: r#"Type { cache: "c", name_only: false, cost: false, magic_first: false, files: [""] }"#,
+    },
+];
+
+fn asks(rt: &impl Abort, alloc: Global, rows: &[Asked]) -> Result<(), Fail> {
+    for row in rows {
+        match request_of(alloc, row.words) {
+            Ok(request) => {
+                let found = format!(in alloc; "{request:?}")?;
+                assert_eq!(rt; found.as_str(), row.request, "{}", row.name);
+            }
+            Err(error) => assert!(rt; false, "{}: {error}", row.name),
+        }
+    }
+    Ok(())
+}
+
+#[test]
+fn asks_for_the_rules_of_a_cache(rt: HostRuntime) -> Result<(), Fail> {
+    asks(&rt, rt.alloc(), &LISTS)
+}
+
+#[test]
+fn asks_whether_a_type_is_another(rt: HostRuntime) -> Result<(), Fail> {
+    asks(&rt, rt.alloc(), &IS_AS)
+}
+
+#[test]
+fn asks_for_icons(rt: HostRuntime) -> Result<(), Fail> {
+    asks(&rt, rt.alloc(), &ICONS)
+}
+
+#[test]
+fn asks_for_files_by_a_cache(rt: HostRuntime) -> Result<(), Fail> {
+    asks(&rt, rt.alloc(), &TYPES)
+}
