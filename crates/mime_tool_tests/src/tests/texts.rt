@@ -100,7 +100,7 @@ const VERSION: &str = "mimelook 0.1.0\n";
 
 const NO_COMMAND: &str = "\
 error: 'mimelook' requires a subcommand but one was not provided
-  [subcommands: build, plain]
+  [subcommands: build, plain, list, isa, icon, type]
 
 Usage: mimelook <COMMAND>
 
