@@ -1,43 +1,24 @@
--- From a lookup over a cache to the line of a file.
-use Rattle.std.proofs.Common.{◌≡◌, ◌⊎◌, ◌∙◌, ◌<◌, ℕ, Bool, true, false, IfSome, List, [], ap, inl, inr, length, nat_le, string_bytes, subst, sym}
-use Rattle.std.proofs.Common.{Option, Some, None, Result, Err}
-use Rattle.std.proofs.lemmas.Bool.{false≢true, leb-false}
+-- From what a lookup over a cache answers to the line of a file.
+use Rattle.std.proofs.Common.{◌≡◌, ℕ, Bool, true, false, IfSome, List, [], ap, inl, inr, length, subst}
+use Rattle.std.proofs.Common.{Option, Some, None}
 use Rattle.std.specs.Bool.{⊤}
 use Rattle.std.specs.Option.{option_map}
 use Rattle.mime_base.specs.Database.{PlainDatabase}
 use Rattle.mime_base.specs.Database.Limits.{IsWithinLimits}
-use Rattle.mime_base.specs.Format.Packed.{Packed}
 use Rattle.mime_base.specs.Format.Spells.{Spells}
 use Rattle.mime_base.specs.declared.magic.host.Host.TheVariants.{Little}
 use Rattle.mime_base.specs.declared.meter.Meter.{Meter}
 use Rattle.mime_lookup.specs.Bounds.{KeepsBounds}
-use Rattle.mime_lookup.specs.Cached.{IsKind, IsStop}
+use Rattle.mime_lookup.specs.Cached.{IsKind}
 use Rattle.mime_lookup.specs.CheckingOrder.{Chooses, globs_suffice, read_of}
 use Rattle.mime_lookup.specs.Content.{Health, OfReader, broken, known_content}
-use Rattle.mime_lookup.specs.StepFaults.{IsLookUpFault}
 use Rattle.mime_lookup.specs.declared.order.Order.{Order}
-use Rattle.mime_lookup.specs.declared.stopped.Cause.TheVariants as cause
-use Rattle.mime_lookup.specs.declared.stopped.Stopped.{Stopped}
-use Rattle.mime_view.specs.declared.fault.CacheFault.{CacheFault}
-use Rattle.mime_tool.specs.Cache.{GivesOrRefuses, IsFaultStop, fault_name}
 use Rattle.mime_tool.specs.Files.{IsReaderOf, Stored, bytes, closed, nothing, unknown, unreadable}
-use Rattle.mime_tool.specs.Line.{IsNamed, IsOpened, IsTypeLineBy, base_name, fits, type_line}
-use Rattle.mime_tool.specs.LineSteps.{IsContent, LooksUp}
-use Rattle.mime_tool.specs.Run.{Run, printed, refusal, silent, stopped}
-use Rattle.mime_tool.specs.Types.{IsChosen, IsChosenByGlobs, IsLine, RefusesLookup, cost_tail, lookup_by}
-use Rattle.mime_tool.specs.declared.stop.Stop.{Stop}
-use Rattle.mime_tool.specs.declared.stop.Stop.TheVariants as stop
-use Rattle.mime_tool.proofs.Caches.{refused_for}
-
--- a name fits, unless it has more than 4,096 bytes
-pub fits_unless : (name : List ℕ) (is : Bool) → nat_le (length name) 4096 ≡ is → (4096 < length name → ⊥) → nat_le (length name) 4096 ≡ true
-fits_unless name true e short = e
-fits_unless name false e short = absurd (short (leb-false (length name) 4096 e))
-
--- what holds of a name that fits
-named : (is : Bool) (file : List ℕ) (P : Run → Type 0) (run : Run) → is ≡ true → P run → IsNamed is file P run
-named true file P run fit p = p
-named false file P run fit p = absurd (false≢true fit)
+use Rattle.mime_tool.specs.Line.{IsOpened, IsTypeLineBy, base_name, fits, type_line}
+use Rattle.mime_tool.specs.LineSteps.{IsContent}
+use Rattle.mime_tool.specs.Run.{printed}
+use Rattle.mime_tool.specs.Types.{IsChosen, IsChosenByGlobs, IsLine, cost_tail, lookup_by}
+use Rattle.mime_tool.proofs.CachedStops.{named}
 
 -- what is known of a content that a reader tells
 known : (P : Option (List ℕ) → Type 0) (told : Option (List ℕ)) (bs : List ℕ) → told ≡ Some bs
@@ -49,28 +30,8 @@ both : (o : Option (Option (List ℕ))) (P Q : Option (List ℕ) → Type 0) →
 both None P Q p q = tt
 both (Some it) P Q p q = (p, q)
 
--- a fault of the cache is neither a failed read nor want of memory
-other_cause : (f : CacheFault) → (cause.Cache f ≡ cause.Read) ⊎ (cause.Cache f ≡ cause.OutOfMemory) → ⊥
-other_cause f (inl e) = cc
-other_cause f (inr e) = cc
-
--- a lookup that stops for its cache doesn't stop for the length of the name
-pub not_too_long : {X : Type 0} (s t : Stopped) (f : CacheFault) → t.cause ≡ cause.NameTooLong → ◌≡◌ {A = Result X Stopped} (Err s) (Err t)
-    → s.cause ≡ cause.Cache f → ⊥
-not_too_long s t f long same is =
-    let all : s ≡ t = cc in
-    let bad : cause.Cache f ≡ cause.NameTooLong = sym is ∙ (ap (λ (it : Stopped). it.cause) all ∙ long) in cc
-
--- which fault it is
-fault_of_stop : (cache : List ℕ) (f : CacheFault) → IsStop (IsLookUpFault cache) (cause.Cache f) → IsLookUpFault cache f
-fault_of_stop cache f (inl e) = absurd (other_cause f (inl e))
-fault_of_stop cache f (inr (inl e)) = absurd (other_cause f (inr e))
-fault_of_stop cache f (inr (inr (e, is, other, fault_is))) = subst (IsLookUpFault cache) (sym (same f e is)) fault_is
-  where
-    same : (f e : CacheFault) → cause.Cache f ≡ cause.Cache e → f ≡ e
-    same f e is = cc
-
-module _ {R : Type 0} (remaining : R → Option (List ℕ)) (health : R → Health) (path cache : List ℕ) (cost : Bool) (order : Order) (file : List ℕ) where
+module _ {R : Type 0} (remaining : R → Option (List ℕ)) (health : R → Health) (path cache : List ℕ) (cost : Bool) (order : Order)
+    (file : List ℕ) where
   -- what a lookup says of each database that the cache spells
   abbrev OfSpelled : (PlainDatabase → Type 0) → Type 0
   OfSpelled Says = (b : PlainDatabase) → IsWithinLimits b → Spells cache b → Says b
@@ -96,7 +57,8 @@ module _ {R : Type 0} (remaining : R → Option (List ℕ)) (health : R → Heal
 
   -- an answer is the line of a file that was opened
   opened : (name_only : Bool) (stored : Stored) (reader : R) (kind : List ℕ) (meter : Meter) (read : ℕ) (tail : List ℕ)
-      → tail ≡ cost_tail cost meter read → fits file ≡ true → IsKind cache kind → KeepsBounds (length (base_name file)) cache read meter
+      → tail ≡ cost_tail cost meter read → fits file ≡ true → IsKind cache kind
+      → KeepsBounds (length (base_name file)) cache read meter
       → OfSpelled (λ b. IfSome (known_content remaining (Some reader)) (λ it. IsChosen it order file b kind read))
       → OfSpelled (λ b. health reader ≡ broken → globs_suffice b (base_name file) order ≡ true)
       → IsReaderOf remaining health stored reader
@@ -113,14 +75,17 @@ module _ {R : Type 0} (remaining : R → Option (List ℕ)) (health : R → Heal
       named (fits file) file _ _ fit (inl (line (IsChosen (Some bs) order file) kind meter read tail told is_kind bounds
       (λ b limits spells. known (λ it. IsChosen it order file b kind read) (remaining reader) bs has.0 (chosen b limits spells))))
   opened name_only unknown reader kind meter read tail told fit is_kind bounds chosen asked has =
-      inr (named (fits file) file _ _ fit (inl (inl (line (λ _ _ _. ⊤) kind meter read tail told is_kind bounds (λ b limits spells. tt)))))
+      inr (named (fits file) file _ _ fit (inl (inl (line (λ _ _ _. ⊤) kind meter read tail told is_kind bounds
+      (λ b limits spells. tt)))))
 
   -- an answer is the line of a file
-  pub line_found : (content after : Option R) (kind : List ℕ) (meter : Meter) (read : ℕ) (tail : List ℕ) → tail ≡ cost_tail cost meter read
+  pub line_found : (content after : Option R) (kind : List ℕ) (meter : Meter) (read : ℕ) (tail : List ℕ)
+      → tail ≡ cost_tail cost meter read
       → fits file ≡ true → IsKind cache kind → KeepsBounds (length (base_name file)) cache read meter
       → OfSpelled (λ b. IfSome (known_content remaining content) (λ it. Chooses b (base_name file) it Little order kind))
       → OfSpelled (λ b. IfSome (known_content remaining content) (λ it. read ≡ read_of b (base_name file) it order))
-      → OfSpelled (λ b. OfReader (λ before _. health before ≡ broken → globs_suffice b (base_name file) order ≡ true) ⊤ content after)
+      → OfSpelled (λ b. OfReader (λ before _. health before ≡ broken → globs_suffice b (base_name file) order ≡ true) ⊤ content
+      after)
       → (stored : Stored) (name_only : Bool) → IsContent remaining health name_only stored content
       → IsTypeLineBy name_only (lookup_by path name_only cost order cache) stored file (printed (type_line file kind tail))
   line_found None after kind meter read tail told fit is_kind bounds chosen reads asked stored true has =
@@ -131,41 +96,6 @@ module _ {R : Type 0} (remaining : R → Option (List ℕ)) (health : R → Heal
   line_found (Some reader) after kind meter read tail told fit is_kind bounds chosen reads asked stored false has =
       opened false stored reader kind meter read tail told fit is_kind bounds
       (λ b limits spells. both (known_content remaining (Some reader)) _ _ (chosen b limits spells) (reads b limits spells))
-      (λ b limits spells. of_reader (λ before. health before ≡ broken → globs_suffice b (base_name file) order ≡ true) reader after
+      (λ b limits spells. of_reader (λ before. health before ≡ broken → globs_suffice b (base_name file) order ≡ true) reader
+      after
       (asked b limits spells)) has
-
-  -- a refusal is the run over a file that was looked up
-  refused_run : (f : CacheFault) (text : List ℕ) (name_only : Bool) (stored : Stored) (content : Option R) → fits file ≡ true
-      → RefusesLookup cache f → text ≡ refusal path (fault_name f) → IsContent remaining health name_only stored content
-      → IsTypeLineBy name_only (lookup_by path name_only cost order cache) stored file (stopped text silent)
-  refused_run f text true stored content fit refuses is has =
-      named (fits file) file _ _ fit (inr (f, refuses, ap (λ (t : List ℕ). stopped t silent) is))
-  refused_run f text false stored None fit refuses is has = absurd has
-  refused_run f text false nothing (Some reader) fit refuses is has = absurd has
-  refused_run f text false closed (Some reader) fit refuses is has = absurd has
-  refused_run f text false unreadable (Some reader) fit refuses is has =
-      named (fits file) file _ _ fit (inr (f, refuses, ap (λ (t : List ℕ). stopped t silent) is))
-  refused_run f text false (bytes bs) (Some reader) fit refuses is has =
-      named (fits file) file _ _ fit (inr (f, refuses, ap (λ (t : List ℕ). stopped t silent) is))
-  refused_run f text false unknown (Some reader) fit refuses is has =
-      inr (named (fits file) file _ _ fit (inr (f, refuses, ap (λ (t : List ℕ). stopped t silent) is)))
-
-  -- what stops for a fault of the cache
-  looked_up : (s : Stop) → GivesOrRefuses {X = Unit {0}} path (RefusesLookup cache) (λ _. ⊤) (Err s) → fits file ≡ true
-      → (stored : Stored) (name_only : Bool) (content : Option R) → IsContent remaining health name_only stored content
-      → LooksUp (lookup_by path name_only cost order cache) stored file (Err s)
-  looked_up stop.OutOfMemory p fit stored name_only content has = tt
-  looked_up stop.CannotWrite p fit stored name_only content has = absurd p
-  looked_up (stop.Refused m) p fit stored name_only content has =
-      refused_run p.0 (string_bytes m) name_only stored content fit p.1 p.2 has
-
-  -- a fault of the cache is the stop of a lookup
-  pub line_refused : (f : CacheFault) (s : Stop) (content : Option R) → IsFaultStop path f s → fits file ≡ true
-      → IsStop (IsLookUpFault cache) (cause.Cache f)
-      → ((b : PlainDatabase) → IsWithinLimits b → Spells cache b → Packed cache b
-      → (cause.Cache f ≡ cause.Read) ⊎ (cause.Cache f ≡ cause.OutOfMemory))
-      → (stored : Stored) (name_only : Bool) → IsContent remaining health name_only stored content
-      → LooksUp (lookup_by path name_only cost order cache) stored file (Err s)
-  line_refused f s content stops fit is answers stored name_only has =
-      looked_up s (refused_for (Unit {0}) path cache (IsLookUpFault cache) IsWithinLimits (λ _. ⊤) f s stops (fault_of_stop cache f is)
-      (λ b limits spells packed. absurd (other_cause f (answers b limits spells packed)))) fit stored name_only content has

@@ -24,7 +24,8 @@ abbrev pub OverCache : Type 1
 OverCache = List ℕ → List (List ℕ) → Run → Type 0
 
 -- it isn't read
-pub cache_unread : (stored : List ℕ → Stored) (path : List ℕ) (IsOver : OverCache) (files : List (List ℕ)) (a b : Sinks) (s : Stop)
+pub cache_unread : (stored : List ℕ → Stored) (path : List ℕ) (IsOver : OverCache) (files : List (List ℕ)) (a b : Sinks)
+    (s : Stop)
     → ReadsWhole (IsBytesOf (stored path)) path a b (Err s) → Ends (IsCacheCommand stored path IsOver) files a b (Err s)
 cache_unread stored path IsOver files a b stop.OutOfMemory p = inl (writes_same a b p)
 cache_unread stored path IsOver files a b stop.CannotWrite p = absurd p
@@ -40,7 +41,8 @@ cache_read stored path IsOver files v a b c r p q =
     (ends_weaker (IsOver v.items) (IsCacheCommand stored path IsOver) files b c r (λ fs run is. (Some v.items, p.1, is)) q)
 
 -- it is refused, or memory ran out
-pub cache_refused : (X : Type 0) (path : List ℕ) (IsRefusedFor : CacheFault → Type 0) (IsGiven : X → Type 0) (IsAnswered : Run → Type 0)
+pub cache_refused : (X : Type 0) (path : List ℕ) (IsRefusedFor : CacheFault → Type 0) (IsGiven : X → Type 0)
+    (IsAnswered : Run → Type 0)
     (a : Sinks) (s : Stop) → GivesOrRefuses {X = X} path IsRefusedFor IsGiven (Err s)
     → Ends (λ _. IsAnsweredOr path IsRefusedFor IsAnswered) [] a a (Err s)
 cache_refused X path IsRefusedFor IsGiven IsAnswered a stop.OutOfMemory p = inl (writes_nothing a)
@@ -50,7 +52,8 @@ cache_refused X path IsRefusedFor IsGiven IsAnswered a (stop.Refused m) p =
 
 -- ---- a fault, and what stops at it
 
-module _ (X : Type 0) (path cache : List ℕ) (IsFault : CacheFault → Type 0) (IsAsked : PlainDatabase → Type 0) (IsGiven : X → Type 0) where
+module _ (X : Type 0) (path cache : List ℕ) (IsFault : CacheFault → Type 0) (IsAsked : PlainDatabase → Type 0)
+    (IsGiven : X → Type 0) where
   -- a fault but for want of memory
   refused_other : (f : CacheFault) (s : Stop) → f ≢ fault.OutOfMemory → IsRefusal (refusal path (fault_name f)) s → IsFault f
       → ((b : PlainDatabase) → IsAsked b → Spells cache b → Packed cache b → f ≡ fault.OutOfMemory)

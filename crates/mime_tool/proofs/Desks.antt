@@ -22,7 +22,8 @@ does_more a b c u x y (Err stop.CannotWrite) p q = wrote_unknown a.out b.out x.o
 does_more a b c u x y (Err (stop.Refused m)) p q = q
 
 -- a run that was not done, with more to come
-does_no_more : (X : Type 0) (a b : Sinks) (x y : Run) (e : Stop) → Does {X = X} x a b (Err e) → Does {X = X} (joined x y) a b (Err e)
+does_no_more : (X : Type 0) (a b : Sinks) (x y : Run) (e : Stop) → Does {X = X} x a b (Err e)
+    → Does {X = X} (joined x y) a b (Err e)
 does_no_more X a b x y stop.OutOfMemory p = (front_longer a.out b.out x.out y.out p.0, front_longer a.err b.err x.err y.err p.1)
 does_no_more X a b x y stop.CannotWrite p = p
 does_no_more X a b x y (stop.Refused m) p = p
@@ -43,14 +44,16 @@ module _ {X : Type 0} (Y : Type 0) (tell : List ℕ → Run) (parts : (x y : Lis
       (subst (λ (run : Run). Does {X = Y} run a c (Err e)) (parts first (at ++ rest)) all)
 
 -- the message at an index was not said
-pub says_cut_at : {X : Type 0} (Y : Type 0) (f : X → List ℕ) (xs : List X) (i : ℕ) (d : X) (a b c : Sinks) (u : Unit {0}) (e : Stop)
+pub says_cut_at : {X : Type 0} (Y : Type 0) (f : X → List ℕ) (xs : List X) (i : ℕ) (d : X) (a b c : Sinks) (u : Unit {0})
+    (e : Stop)
     → i < length xs
     → Does {X = Unit {0}} (said (flat_map f (take i xs))) a b (Ok u) → Does {X = Y} (said (f (get_or xs i d))) b c (Err e)
     → Does {X = Y} (said (flat_map f xs)) a c (Err e)
 says_cut_at Y f xs i d a b c u e lt before here = cut_at Y said (λ x y. refl) f xs i d a b c u e lt before here
 
 -- the line of the item x, which is that at an index, was not printed
-pub prints_cut_at : {X : Type 0} (Y : Type 0) (f : X → List ℕ) (xs : List X) (i : ℕ) (x : X) (a b c : Sinks) (u : Unit {0}) (e : Stop)
+pub prints_cut_at : {X : Type 0} (Y : Type 0) (f : X → List ℕ) (xs : List X) (i : ℕ) (x : X) (a b c : Sinks) (u : Unit {0})
+    (e : Stop)
     → i < length xs → x ≡ get_or xs i x
     → Does {X = Unit {0}} (printed (flat_map f (take i xs))) a b (Ok u) → Does {X = Y} (printed (f x)) b c (Err e)
     → Does {X = Y} (printed (flat_map f xs)) a c (Err e)
@@ -69,13 +72,16 @@ ends_undone X P run a b (stop.Refused m) is p = absurd p
 -- a run whose message isn't said; the message doesn't depend on the status
 pub other_unsaid : (X : Type 0) (P : Run → Type 0) (status : ℕ) (text : List ℕ) (a b : Sinks) (s : Stop)
     → P (record { status = status; out = []; err = text }) → Does {X = X} (said text) a b (Err s) → Ends (λ _. P) [] a b (Err s)
-other_unsaid X P status text a b stop.OutOfMemory is p = cut_all (λ _. P) [] a b (record { status = status; out = []; err = text }) is p
+other_unsaid X P status text a b stop.OutOfMemory is p = cut_all (λ _. P) [] a b
+    (record { status = status; out = []; err = text }) is p
 other_unsaid X P status text a b stop.CannotWrite is p = p
 other_unsaid X P status text a b (stop.Refused m) is p = absurd p
 
 -- a run whose line isn't printed; nor does the line
 pub other_unprinted : (X : Type 0) (P : Run → Type 0) (status : ℕ) (text : List ℕ) (a b : Sinks) (s : Stop)
-    → P (record { status = status; out = text; err = [] }) → Does {X = X} (printed text) a b (Err s) → Ends (λ _. P) [] a b (Err s)
-other_unprinted X P status text a b stop.OutOfMemory is p = cut_all (λ _. P) [] a b (record { status = status; out = text; err = [] }) is p
+    → P (record { status = status; out = text; err = [] }) → Does {X = X} (printed text) a b (Err s)
+    → Ends (λ _. P) [] a b (Err s)
+other_unprinted X P status text a b stop.OutOfMemory is p = cut_all (λ _. P) [] a b
+    (record { status = status; out = text; err = [] }) is p
 other_unprinted X P status text a b stop.CannotWrite is p = p
 other_unprinted X P status text a b (stop.Refused m) is p = absurd p

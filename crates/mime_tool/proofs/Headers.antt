@@ -17,7 +17,8 @@ use Rattle.mime_view.specs.declared.fault.CacheFault.TheVariants as fault
 -- so many numbers have four times as many bytes
 length-cards : (numbers : List ℕ) → length (cards numbers) ≡ 4 * length numbers
 length-cards [] = refl
-length-cards (n ∷ numbers) = omega (arith, length-append (card_bytes n) (cards numbers), length-card_bytes n, length-cards numbers)
+length-cards (n ∷ numbers) = omega
+    (arith, length-append (card_bytes n) (cards numbers), length-card_bytes n, length-cards numbers)
 
 -- a header that stands has 40 bytes
 header_inside : (c : List ℕ) (offsets : Offsets) → HeaderAt (Stands c) offsets → 40 ≤ length c

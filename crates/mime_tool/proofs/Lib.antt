@@ -1,6 +1,7 @@
 pub mod BuildOvers
 pub mod Builds
 pub mod CachedLines
+pub mod CachedStops
 pub mod Caches
 pub mod Commands
 pub mod DataFiles

@@ -1,5 +1,6 @@
 -- From what the reader of caches says of rules to what `list` says.
-use Rattle.std.proofs.Common.{◌≡◌, ◌+◌, ◌/◌, ◌≤◌, ℕ, All, IfErr, IfOk, List, Result, Ok, Err, Vec, ap, inl, inr, length, map, subst, sym}
+use Rattle.std.proofs.Common.{◌≡◌, ◌+◌, ◌/◌, ◌≤◌, ℕ, All, IfErr, IfOk, List, Result, Ok, Err, Vec, ap, inl, inr, length, map}
+use Rattle.std.proofs.Common.{subst, sym}
 use Rattle.std.proofs.lemmas.List.Folds.{flat_map-map}
 use Rattle.std.specs.List.{flat_map}
 use Rattle.std.specs.declared.alloc.Global.{Global}
@@ -25,9 +26,11 @@ use Rattle.mime_tool.proofs.Headers.{packed_records}
 -- the rules that it gives are those of the cache
 pub rules_found : (c : List ℕ) (r : Result (Vec Listed Global) CacheFault)
     → ((offsets : Offsets) (rules : List GlobRule) → HeaderAt (Stands c) offsets → All KeepsLimits rules
-    → LiteralsAt (Stands c) offsets.literals rules → SuffixTreeAt (Stands c) offsets.tree rules → GlobsAt (Stands c) offsets.globs rules
+    → LiteralsAt (Stands c) offsets.literals rules → SuffixTreeAt (Stands c) offsets.tree rules
+    → GlobsAt (Stands c) offsets.globs rules
     → IfOk r (λ listed. IsListing rules (map plain_listed listed.items)))
-    → IfOk r (λ listed. All (IsListed c) (map plain_listed listed.items)) → IfOk r (λ listed. AreRulesOf c (map plain_listed listed.items))
+    → IfOk r (λ listed. All (IsListed c) (map plain_listed listed.items))
+    → IfOk r (λ listed. AreRulesOf c (map plain_listed listed.items))
 rules_found c (Ok v) answer texts =
     record { spelled = λ b asked s. answer s.offsets b.rules s.header asked s.literals s.tree s.globs; texts = texts }
 rules_found c (Err f) answer texts = tt
@@ -41,7 +44,8 @@ rules_faulty c left (Err f) p = inr (left, p)
 -- a packed cache has records for all its rules
 pub rules_needed : (c : List ℕ) (records : ℕ) (P : Type 0) → records ≡ length c / 4
     → ((offsets : Offsets) (rules : List GlobRule) → HeaderAt (Stands c) offsets → All KeepsLimits rules
-    → LiteralsAt (Stands c) offsets.literals rules → SuffixTreeAt (Stands c) offsets.tree rules → GlobsAt (Stands c) offsets.globs rules
+    → LiteralsAt (Stands c) offsets.literals rules → SuffixTreeAt (Stands c) offsets.tree rules
+    → GlobsAt (Stands c) offsets.globs rules
     → length (literal_rules rules) + tree_size rules + length (glob_rules rules) ≤ records → P)
     → (b : PlainDatabase) → HasListedRules b → Spells c b → Packed c b → P
 rules_needed c records P is need b asked s packed =
@@ -51,5 +55,7 @@ rules_needed c records P is need b asked s packed =
 
 -- the lines of the rules are an answer of `list`
 pub lines_answer : (path cache : List ℕ) (rules : List Listed) → AreRulesOf cache (map plain_listed rules)
-    → IsAnsweredOr path (RefusesRules cache) (AreRuleLines cache) (printed (flat_map (λ rule. rule_line (plain_listed rule)) rules))
-lines_answer path cache rules are = inl (map plain_listed rules, are, sym (ap printed (flat_map-map rule_line plain_listed rules)))
+    → IsAnsweredOr path (RefusesRules cache) (AreRuleLines cache)
+    (printed (flat_map (λ rule. rule_line (plain_listed rule)) rules))
+lines_answer path cache rules are = inl
+    (map plain_listed rules, are, sym (ap printed (flat_map-map rule_line plain_listed rules)))

@@ -4,7 +4,8 @@ use Rattle.clap.specs.Values.{kind_of}
 use Rattle.clap.specs.declared.error.Error.{Error}
 use Rattle.clap.specs.declared.error.kind.ErrorKind.{ErrorKind}
 use Rattle.clap.specs.declared.error.kind.ErrorKind.TheVariants as kind
-use Rattle.mime_request.specs.Request.{PlainRequest, Meaning, Means, plain_request, asks, build, icon, is_a, list, meaning_of, plain, refused, type_of}
+use Rattle.mime_request.specs.Request.{PlainRequest, Meaning, Means, plain_request, asks, build, icon, is_a, list, meaning_of}
+use Rattle.mime_request.specs.Request.{plain, refused, type_of}
 use Rattle.mime_request.specs.declared.request.Request.{Request}
 use Rattle.mime_tool.specs.Build.{Builds}
 use Rattle.mime_tool.specs.Desk.{Ends, State, Works}
@@ -49,7 +50,8 @@ error_shown writes stored after (refused kinds) e a b (Err stop.OutOfMemory) (in
 error_shown writes stored after (refused kinds) e a b (Err stop.CannotWrite) (inl memory) p = p
 error_shown writes stored after (refused kinds) e a b (Err (stop.Refused m)) (inl memory) p = absurd (p.1.0 memory)
 error_shown writes stored after (refused kinds) e a b r (inr among) p =
-    ends_weaker (λ _. IsShown (kind_of e)) (IsAnswer writes stored after (refused kinds)) [] a b r (λ fs run q. (kind_of e, among, q)) p
+    ends_weaker (λ _. IsShown (kind_of e)) (IsAnswer writes stored after (refused kinds)) [] a b r
+    (λ fs run q. (kind_of e, among, q)) p
 
 -- what is stored stays
 leaves_same : (m : Meaning) (old new : List ℕ → Stored) → new ≡ old → Leaves m old new
@@ -75,7 +77,8 @@ pub answers_build : (dirs : List (List ℕ)) (file : List ℕ) (a b : State) (r 
 answers_build dirs file a b r p = record { same_setting = p.same_setting; sinks = p.sinks; leaves = p.leaves }
 
 -- the text of an error is shown
-pub shown_text : (k : ErrorKind) (help : Bool) (text : List ℕ) (a b : Sinks) (r : Result ℕ Stop) → k ≢ kind.OutOfMemory → help ≡ is_help k
+pub shown_text : (k : ErrorKind) (help : Bool) (text : List ℕ) (a b : Sinks) (r : Result ℕ Stop) → k ≢ kind.OutOfMemory
+    → help ≡ is_help k
     → Ends (λ _ run. run ≡ shown help text) [] a b r → Ends (λ _. IsShown k) [] a b r
 shown_text k help text a b r other is p =
     ends_weaker (λ _ run. run ≡ shown help text) (λ _. IsShown k) [] a b r

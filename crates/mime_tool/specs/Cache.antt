@@ -28,7 +28,8 @@ IsFaultStop path fault.OutOfMemory s = s ≡ stop.OutOfMemory
 IsFaultStop path f s = IsRefusal (refusal path (fault_name f)) s
 
 -- a fault for which a cache gives no answer: IsFault says why, and no cache that spells what is asked for and is packed has it
-pub record IsRefused (cache : List ℕ) (IsFault : CacheFault → Type 0) (IsAsked : PlainDatabase → Type 0) (f : CacheFault) : Type 0 where
+pub record IsRefused (cache : List ℕ) (IsFault : CacheFault → Type 0) (IsAsked : PlainDatabase → Type 0)
+    (f : CacheFault) : Type 0 where
   pub other : f ≢ fault.OutOfMemory
   pub why : IsFault f
   pub unspelled : (b : PlainDatabase) → IsAsked b → Spells cache b → Packed cache b → ⊥

@@ -33,7 +33,8 @@ IsShown k run = (k ≢ kind.OutOfMemory) × ((text : List ℕ) × (run ≡ shown
 
 -- the run of a request, where this is known of replacing files, and this was stored and then that; a command has a
 -- line here
-abbrev pub IsAskedRun : (List ℕ → List ℕ → Writing) → (List ℕ → Stored) → (List ℕ → Stored) → PlainRequest → List (List ℕ) → Run → Type 0
+abbrev pub IsAskedRun : (List ℕ → List ℕ → Writing) → (List ℕ → Stored) → (List ℕ → Stored) → PlainRequest → List (List ℕ) → Run
+    → Type 0
 IsAskedRun writes old new (build dirs file) = IsBuild dirs file writes old new
 IsAskedRun writes old new (plain dirs name_only magic_first _) = IsPlain old dirs name_only magic_first
 IsAskedRun writes old new (list cache) = IsList old cache

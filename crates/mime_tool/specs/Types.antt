@@ -32,7 +32,8 @@ RefusesLookup cache = IsRefused cache (IsLookUpFault cache) IsWithinLimits
 
 -- the line of a file: a type that the cache or the order has, and a cost within the bounds; where the cache spells a database,
 -- IsSaid holds of it, the type and the bytes that were read
-pub record IsLine (cache : List ℕ) (cost : Bool) (file : List ℕ) (IsSaid : PlainDatabase → List ℕ → ℕ → Type 0) (run : Run) : Type 0 where
+pub record IsLine (cache : List ℕ) (cost : Bool) (file : List ℕ) (IsSaid : PlainDatabase → List ℕ → ℕ → Type 0)
+    (run : Run) : Type 0 where
   pub kind : List ℕ
   pub meter : Meter
   pub read : ℕ
@@ -48,7 +49,8 @@ IsChosen content order file b kind read =
 
 -- the globs give the type alone
 abbrev pub IsChosenByGlobs : Order → List ℕ → PlainDatabase → List ℕ → ℕ → Type 0
-IsChosenByGlobs order file b kind read = (globs_suffice b (base_name file) order ≡ true) × IsChosen (Some []) order file b kind read
+IsChosenByGlobs order file b kind read = (globs_suffice b (base_name file) order ≡ true)
+    × IsChosen (Some []) order file b kind read
 
 -- the file can't be read, and no database that the cache spells gives its type by the globs alone
 abbrev pub CannotBeRead : List ℕ → Order → List ℕ → Run → Type 0

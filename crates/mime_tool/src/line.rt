@@ -106,10 +106,10 @@ fn print_told<D: Desk>(
         (D.state desk.old) (D.state desk.new) result }
 {
     match cost {
-        None => print_pieces(desk, file, kind, b""),
+        None => print_pieces(desk, file, kind),
         Some(cost) => {
             let tail = told(desk.alloc(), cost)?;
-            print_pieces(desk, file, kind, tail.as_bytes())
+            print_all_pieces(desk, file, kind, tail.as_bytes())
         }
     }
 }
@@ -122,7 +122,14 @@ fn told(alloc: Global, cost: Cost) -> Result<String, AllocError>
     format!(in alloc; " nodes={nodes} bytes={bytes} read={read}")
 }
 
-fn print_pieces<D: Desk>(desk: &mut D, file: &str, kind: &[u8], tail: &[u8]) -> Result<(), Stop>
+fn print_pieces<D: Desk>(desk: &mut D, file: &str, kind: &[u8]) -> Result<(), Stop>
+    ensures { Works (Does (printed (type_line file.now kind.now [])))
+        (D.state desk.old) (D.state desk.new) result }
+{
+    desk.print(&[file.as_bytes(), b": ", kind, b"\n"])
+}
+
+fn print_all_pieces<D: Desk>(desk: &mut D, file: &str, kind: &[u8], tail: &[u8]) -> Result<(), Stop>
     ensures { Works (Does (printed (type_line file.now kind.now tail.now)))
         (D.state desk.old) (D.state desk.new) result }
 {

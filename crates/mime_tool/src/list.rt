@@ -10,7 +10,8 @@ ghost use Rattle.mime_base.specs.Format.Spells.{Spells};
 ghost use Rattle.mime_view.specs.Listing.{plain_listed};
 ghost use Rattle.mime_tool.specs.Cache.{GivesOrRefuses};
 ghost use Rattle.mime_tool.specs.Desk.{Does, Ends, Works};
-ghost use Rattle.mime_tool.specs.List.{AreRulesOf, HasListedRules, IsList, IsListFault, IsListOver, RefusesRules, cased_mark, rule_line};
+ghost use Rattle.mime_tool.specs.List.{AreRulesOf, HasListedRules, IsList, IsListFault, IsListOver};
+ghost use Rattle.mime_tool.specs.List.{RefusesRules, cased_mark, rule_line};
 ghost use Rattle.mime_tool.specs.Run.{printed};
 
 use crate::cache::faulty;

@@ -1,4 +1,5 @@
 mod build;
+mod caches;
 mod contents;
 mod directories;
 mod faults;

@@ -12,15 +12,27 @@ Usage: mimelook <COMMAND>
 Commands:
   build  Writes a mime.cache from the text files of data directories
   plain  Prints a line FILE: TYPE for each FILE, from the text files of data directories
+  list   Prints a line WEIGHT:TYPE:PATTERN for each glob rule of a cache
+  isa    Prints yes where TYPE is BASE or is derived from it, by a cache, and else no
+  icon   Prints the icon and the generic icon of a type, from a cache
+  type   Prints a line FILE: TYPE for each FILE, from a cache
 
 Options:
   -h, --help     Print help
   -V, --version  Print version
 
-Messages go to standard error. The --help of a command says what its exit statuses are;
-help and the version have 0, and a wrong command line has 2.
+Messages go to standard error. The --help of a command says more of its exit statuses.
+
+Exit status:
+  0  what was asked for was done; or help or the version was printed
+  1  some file not answered, or isa says no
+  2  the command line is wrong
+  3  database, cache or output refused
+  4  out of memory
 
 Examples:
+  $ mimelook type -c /usr/share/mime/mime.cache notes.txt
+  notes.txt: text/plain
   $ mimelook plain -d /usr/local/share:/usr/share notes.txt
   notes.txt: text/plain
   $ mimelook build -d /usr/local/share:/usr/share -o /usr/share/mime/mime.cache
@@ -88,7 +100,7 @@ const VERSION: &str = "mimelook 0.1.0\n";
 
 const NO_COMMAND: &str = "\
 error: 'mimelook' requires a subcommand but one was not provided
-  [subcommands: build, plain]
+  [subcommands: build, plain, list, isa, icon, type]
 
 Usage: mimelook <COMMAND>
 

@@ -23,5 +23,6 @@ returns g c =
     record {
       same_files = told.same_files ∙ read.same_files;
       same_setting = told.same_setting ∙ read.same_setting;
-      sinks = cache_read stored c.args.path.now (IsIconOver c.args.path.now c.args.kind.now) [] c.in_ok-cache.cache _ _ _ _ read.sinks told.sinks;
+      sinks = cache_read stored c.args.path.now (IsIconOver c.args.path.now c.args.kind.now) [] c.in_ok-cache.cache _ _ _ _
+          read.sinks told.sinks;
     }

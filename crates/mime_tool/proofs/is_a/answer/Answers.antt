@@ -23,6 +23,7 @@ returns g c =
     record {
       same_files = told.same_files;
       same_setting = told.same_setting;
-      sinks = ends_weaker (λ _ run. run ≡ answer_run says) (IsAnswerOver c.args.path.now c.args.kind.now c.args.base.now c.args.cache.now) []
+      sinks = ends_weaker (λ _ run. run ≡ answer_run says)
+          (IsAnswerOver c.args.path.now c.args.kind.now c.args.base.now c.args.cache.now) []
           _ _ _ (λ files run is. inl (says, c.in_ok-yes.ensures, is)) told.sinks;
     }

@@ -12,7 +12,8 @@ returns-in_err-cache g c =
     rw (e.1, e.2) (record {
       same_files = read.same_files;
       same_setting = read.same_setting;
-      sinks = cache_unread stored c.args.path.now (IsAnswerOver c.args.path.now c.args.kind.now c.args.base.now) [] _ _ _ read.sinks;
+      sinks = cache_unread stored c.args.path.now (IsAnswerOver c.args.path.now c.args.kind.now c.args.base.now) [] _ _ _
+          read.sinks;
     })
 
 pub returns : goal.returns
@@ -23,5 +24,6 @@ returns g c =
     record {
       same_files = told.same_files ∙ read.same_files;
       same_setting = told.same_setting ∙ read.same_setting;
-      sinks = cache_read stored c.args.path.now (IsAnswerOver c.args.path.now c.args.kind.now c.args.base.now) [] c.in_ok-cache.cache _ _ _ _ read.sinks told.sinks;
+      sinks = cache_read stored c.args.path.now (IsAnswerOver c.args.path.now c.args.kind.now c.args.base.now) []
+          c.in_ok-cache.cache _ _ _ _ read.sinks told.sinks;
     }

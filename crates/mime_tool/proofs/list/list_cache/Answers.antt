@@ -34,7 +34,8 @@ returns-in_err-print_rules g c =
       same_files = put.same_files;
       same_setting = put.same_setting;
       sinks = ends_undone (Unit {0}) (IsAnsweredOr path (RefusesRules cache) (AreRuleLines cache))
-          (printed (flat_map (λ rule. rule_line (plain_listed rule)) rules)) _ _ _ (lines_answer path cache rules c.in_ok-rules.ensures)
+          (printed (flat_map (λ rule. rule_line (plain_listed rule)) rules)) _ _ _
+          (lines_answer path cache rules c.in_ok-rules.ensures)
           put.sinks;
     })
 

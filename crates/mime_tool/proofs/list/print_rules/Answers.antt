@@ -14,6 +14,7 @@ returns-in_err-print_rule g c =
     rw (e.1, e.2) (record {
       same_files = line.same_files ∙ before.same_files;
       same_setting = line.same_setting ∙ before.same_setting;
-      sinks = prints_cut_at (Unit {0}) (λ rule. rule_line (plain_listed rule)) c.args.rules.now c.loop-rule.rule-index c.rule-item.result
+      sinks = prints_cut_at (Unit {0}) (λ rule. rule_line (plain_listed rule)) c.args.rules.now c.loop-rule.rule-index
+          c.rule-item.result
           _ _ _ _ _ lt c.rule-item.is before.sinks line.sinks;
     })

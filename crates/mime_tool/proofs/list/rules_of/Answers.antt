@@ -17,7 +17,8 @@ returns-clause-answer c =
 pub returns-clause-need : goal.returns-clause-need
 returns-clause-need c =
     let is : c.in_ok-cache.cache ≡ c.args.cache.now = c.in_ok-cache.ensures.opened.0 ∙ c.new.ensures in
-    rules_needed c.args.cache.now c.of-budget.result.records _ (rw is at c.of-budget.ensures.records) (rw is at c.rules.ensures.need)
+    rules_needed c.args.cache.now c.of-budget.result.records _ (rw is at c.of-budget.ensures.records)
+    (rw is at c.rules.ensures.need)
 
 pub returns-clause-fault : goal.returns-clause-fault
 returns-clause-fault c =

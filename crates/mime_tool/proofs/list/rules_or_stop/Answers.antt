@@ -10,5 +10,6 @@ pub returns-in-Err : goal.returns-in-Err
 returns-in-Err c =
     let cache = c.args.cache.now in
     refused_for (Vec Listed Global) c.args.path.now cache (IsListFault cache) HasListedRules
-    (λ rules. AreRulesOf cache (map plain_listed rules.items)) c.in-Err.fault c.faulty.result c.faulty.ensures c.in-Err.ensures.fault
+    (λ rules. AreRulesOf cache (map plain_listed rules.items)) c.in-Err.fault c.faulty.result c.faulty.ensures
+    c.in-Err.ensures.fault
     c.in-Err.ensures.need

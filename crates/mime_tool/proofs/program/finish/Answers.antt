@@ -59,5 +59,6 @@ returns-in-Err-clause-flushed g c = λ known.
     let ended = c.perform-ended.result in
     let flushed = c.in-Err.ensures.flushed
     (ends_known (IsAnswer writes stored after m) (files_of m) a b ended c.perform-ended.ensures.ended known) in
-    handed_on_told (g.O.Sink.flushed c.flush_after.new.out) ended c.in-Err.stop b.err (g.E.Sink.holds c.tell.new.err) c.tell.result flushed
+    handed_on_told (g.O.Sink.flushed c.flush_after.new.out) ended c.in-Err.stop b.err
+    (g.E.Sink.holds c.tell.new.err) c.tell.result flushed
     c.tell.ensures

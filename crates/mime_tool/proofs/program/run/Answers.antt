@@ -9,7 +9,8 @@ use Rattle.mime_tool.proofs.program.run.Goals as goal
 
 pub returns-clause-plain : goal.returns-clause-plain
 returns-clause-plain g c = λ known dirs name_only magic_first names are usual.
-    asked_finishes (g.F.Files.writes c.args.files.now) _ _ (map g.S.AsStr.text c.args.words.now) _ _ _ (plain (parts dirs) name_only magic_first names)
+    asked_finishes (g.F.Files.writes c.args.files.now) _ _ (map g.S.AsStr.text c.args.words.now) _ _ _
+    (plain (parts dirs) name_only magic_first names)
     (ap meaning_of are ∙ meaning_of-usual dirs name_only magic_first names usual) (c.finish.ensures.answers known)
 
 pub returns-clause-build : goal.returns-clause-build
@@ -34,5 +35,6 @@ returns-clause-icon g c = λ known cache kind are plain_cache plain_kind.
 
 pub returns-clause-type_of : goal.returns-clause-type_of
 returns-clause-type_of g c = λ known cache name_only cost magic_first names are usual.
-    asked_finishes (g.F.Files.writes c.args.files.now) _ _ (map g.S.AsStr.text c.args.words.now) _ _ _ (type_of cache name_only cost magic_first names)
+    asked_finishes (g.F.Files.writes c.args.files.now) _ _ (map g.S.AsStr.text c.args.words.now) _ _ _
+    (type_of cache name_only cost magic_first names)
     (ap meaning_of are ∙ meaning_of-usual_type cache name_only cost magic_first names usual) (c.finish.ensures.answers known)

@@ -8,6 +8,7 @@ returns g c =
     record {
       same_files = done.same_files;
       same_setting = done.same_setting;
-      sinks = shown_text (kind_of c.args.error) c.is_help.result c.as_str.result.now _ _ _ (c.is_memory.ensures c.if-is_memory.false)
+      sinks = shown_text (kind_of c.args.error) c.is_help.result c.as_str.result.now _ _ _
+          (c.is_memory.ensures c.if-is_memory.false)
           c.is_help.ensures done.sinks;
     }

@@ -14,7 +14,8 @@ returns-in_err-cache g c =
       same_files = read.same_files;
       same_setting = read.same_setting;
       sinks = cache_unread stored c.args.path.now
-          (AreLinesBy stored c.args.path.now c.args.name_only c.args.cost c.args.magic_first) (texts c.args.files.now) _ _ _ read.sinks;
+          (AreLinesBy stored c.args.path.now c.args.name_only c.args.cost c.args.magic_first)
+          (texts c.args.files.now) _ _ _ read.sinks;
     })
 
 pub returns : goal.returns
@@ -25,6 +26,7 @@ returns g c =
     record {
       same_files = lines.same_files ∙ read.same_files;
       same_setting = lines.same_setting ∙ read.same_setting;
-      sinks = cache_read stored c.args.path.now (AreLinesBy stored c.args.path.now c.args.name_only c.args.cost c.args.magic_first)
+      sinks = cache_read stored c.args.path.now
+          (AreLinesBy stored c.args.path.now c.args.name_only c.args.cost c.args.magic_first)
           (texts c.args.files.now) c.in_ok-cache.cache _ _ _ _ read.sinks lines.sinks;
     }

@@ -1,7 +1,8 @@
 use Rattle.std.proofs.Common.{◌≡◌, nat_le, length, refl, true}
 use Rattle.std.proofs.lemmas.Bool.{leb-true}
 use Rattle.mime_tool.specs.Line.{base_name}
-use Rattle.mime_tool.proofs.CachedLines.{fits_unless, line_found, line_refused, not_too_long}
+use Rattle.mime_tool.proofs.CachedLines.{line_found}
+use Rattle.mime_tool.proofs.CachedStops.{fits_unless, line_refused, not_too_long}
 use Rattle.mime_tool.proofs.line.lookup.find_in_cache.Goals as goal
 
 pub returns-in-Ok : goal.returns-in-Ok
@@ -10,8 +11,10 @@ returns-in-Ok g c =
     let found = rw (is, c.new-cache.ensures) at c.in-Ok.ensures in
     let answer = c.in-Ok.answer in
     let fit = fits_unless (base_name c.args.file.now) _ refl (λ long. let bad = (found.too_long long).1 in cc) in
-    line_found g.R.Read.remaining g.R.Content.health c.args.path.now c.args.bytes.now c.args.cost c.args.order c.args.file.now c.args.content
-    c.look_up.new.content answer.kind.now answer.meter answer.read _ c.cost_of.ensures fit found.kind found.bounds found.chosen found.read
+    line_found g.R.Read.remaining g.R.Content.health c.args.path.now c.args.bytes.now c.args.cost c.args.order c.args.file.now
+    c.args.content
+    c.look_up.new.content answer.kind.now answer.meter answer.read _ c.cost_of.ensures fit found.kind found.bounds found.chosen
+    found.read
     found.asked
 
 pub returns-in-Cache : goal.returns-in-Cache
