@@ -1,11 +1,12 @@
 -- Why a call over a cache stops, by the fault of the cache.
-use Rattle.std.proofs.Common.{◌≡◌, ◌⊎◌, refl, inl, inr, sym, ◌∙◌}
+use Rattle.std.proofs.Common.{◌≡◌, ◌⊎◌, refl, inl, inr}
 use Rattle.std.specs.Prelude.{◌≢◌}
 use Rattle.mime_lookup.specs.Cached.{cause_of}
 use Rattle.mime_lookup.specs.declared.stopped.Cause.{Cause}
 use Rattle.mime_lookup.specs.declared.stopped.Cause.TheVariants as cause
 use Rattle.mime_view.specs.declared.fault.CacheFault.{CacheFault}
-use Rattle.mime_view.specs.declared.fault.CacheFault.TheVariants.{Truncated, Version, TooLarge, OutOfRange, LongText, Spent, TooDeep, OutOfMemory}
+use Rattle.mime_view.specs.declared.fault.CacheFault.TheVariants.{Truncated, Version, TooLarge, OutOfRange}
+use Rattle.mime_view.specs.declared.fault.CacheFault.TheVariants.{LongText, Spent, TooDeep, OutOfMemory}
 
 -- an allocation was refused, or the cache has such a fault
 abbrev pub IsCaused : (CacheFault → Type 0) → Cause → Type 0

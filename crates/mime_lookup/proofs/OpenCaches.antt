@@ -1,5 +1,5 @@
 -- Caches whose header stands are opened, and texts of a cache are short.
-use Rattle.std.proofs.Common.{◌≡◌, ℕ, ◌+◌, ◌*◌, ◌<◌, ◌≤◌, List, [], ◌∷◌, length, length-append, get_or, Ok, refl, ap, arith}
+use Rattle.std.proofs.Common.{◌≡◌, ℕ, ◌*◌, ◌≤◌, List, [], ◌∷◌, length, length-append, get_or, Ok, refl, ap, arith}
 use Rattle.std.proofs.lemmas.Bool.{and_parts, leb-true}
 use Rattle.std.specs.List.{list_all}
 use Rattle.std.specs.Prelude.{nat_le, true}
@@ -12,12 +12,14 @@ use Rattle.mime_base.proofs.CacheLemmas.Standing.{Stands-inside}
 use Rattle.mime_base.proofs.CacheLemmas.TextsStand.{text_at-read}
 use Rattle.mime_view.specs.Opening.{IsOpenFault}
 use Rattle.mime_view.specs.declared.fault.CacheFault.{CacheFault}
-use Rattle.mime_view.specs.declared.fault.CacheFault.TheVariants.{Truncated, Version, TooLarge, OutOfRange, LongText, Spent, TooDeep, OutOfMemory}
+use Rattle.mime_view.specs.declared.fault.CacheFault.TheVariants.{Truncated, Version, TooLarge, OutOfRange}
+use Rattle.mime_view.specs.declared.fault.CacheFault.TheVariants.{LongText, Spent, TooDeep, OutOfMemory}
 
 -- so many numbers have four times as many bytes
 length-cards : (numbers : List ℕ) → length (cards numbers) ≡ 4 * length numbers
 length-cards [] = refl
-length-cards (n ∷ numbers) = omega (arith, length-append (card_bytes n) (cards numbers), length-card_bytes n, length-cards numbers)
+length-cards (n ∷ numbers) =
+    omega (arith, length-append (card_bytes n) (cards numbers), length-card_bytes n, length-cards numbers)
 
 -- a header that stands is whole
 header_inside : (c : List ℕ) (offsets : Offsets) → HeaderAt (Stands c) offsets → 40 ≤ length c

@@ -1,6 +1,6 @@
 //! Whether a type is a subclass of another, by a cache ("Subclassing").
 
-ghost use Rattle.std.specs.Prelude.{◌≡◌, ◌≢◌, ◌⊎◌, ◌↔◌, ℕ, ◌+◌, ◌*◌, ◌/◌, ◌≤◌, length, IfErr, IfOk, IsTrue, MatchResult};
+ghost use Rattle.std.specs.Prelude.{◌≡◌, ◌≢◌, ◌⊎◌, ◌↔◌, ◌+◌, ◌*◌, ◌/◌, ◌≤◌, length, IfErr, IfOk, IsTrue, MatchResult};
 ghost use Rattle.mime_base.specs.Database.{PlainDatabase, pairs_of};
 ghost use Rattle.mime_base.specs.Database.Subclass.{IsA, resolved};
 ghost use Rattle.mime_base.specs.Format.Packed.{Packed};

@@ -10,7 +10,8 @@ abbrev pub invariant-loop-here : goal.invariant-loop-here
 invariant-loop-here l = record {
   nodes : l.meter.nodes ≡ l.initial.meter.nodes;
   searched : NoneLeadsTo (is_one_of (texts l.initial.marks.keys)) (pairs_at l.aliases.pairs.now l.parents.pairs.now) l.base →
-      Searched (pairs_at l.aliases.pairs.now l.parents.pairs.now) l.base l.kind (is_one_of (texts l.marks.keys)) (texts l.queue.items);
+      Searched (pairs_at l.aliases.pairs.now l.parents.pairs.now) l.base l.kind (is_one_of (texts l.marks.keys))
+      (texts l.queue.items);
 }
 
 abbrev pub decreases-loop-here : goal.decreases-loop-here

@@ -1,4 +1,4 @@
-use Rattle.std.proofs.Common.{ℕ, ◌+◌, ◌≤◌, [], length, ap, inl, inr, ⊎_elim, arith}
+use Rattle.std.proofs.Common.{ℕ, length, ap, inl, inr, ⊎_elim, arith}
 use Rattle.std.proofs.lemmas.Result.{IfErr-weaker, err_from_is_err_and}
 use Rattle.mime_base.specs.Cache.Bytes.{field}
 use Rattle.mime_base.specs.Database.{pairs_of}
@@ -51,8 +51,10 @@ returns-clause-answer c = λ b spells.
     let there : SpellsPairs c.in_ok-cache.cache b = rw c.in_ok-cache.ensures.opened.0 spells in
     let none : NoneLeadsTo (is_marked c.in_ok-cache.cache at c.new-marks.result) (pairs_of b) c.in_ok-base.base.now =
     rw c.new-marks.ensures (λ kind is is_a. cc (marked-none c.in_ok-cache.cache at kind, is)) in
-    rw (c.in_ok-kind.ensures.answer there.offsets b.aliases there.header there.aliases,
-    c.in_ok-base.ensures.answer there.offsets b.aliases there.header there.aliases) at (c.leads_to.ensures.answer b there none)
+    rw (
+      c.in_ok-kind.ensures.answer there.offsets b.aliases there.header there.aliases,
+      c.in_ok-base.ensures.answer there.offsets b.aliases there.header there.aliases,
+    ) at (c.leads_to.ensures.answer b there none)
 
 pub returns-clause-need : goal.returns-clause-need
 returns-clause-need c = λ b spells small packed.
