@@ -19,7 +19,7 @@ use std::process::Abort;
 struct Row<'a> {
     name: &'static str,
     cache: &'a [u8],
-    file: &'a [u8],
+    file: &'static [u8],
     content: Option<&'static [u8]>,
     order: Order,
     outcome: Outcome<'static>,
@@ -28,18 +28,23 @@ struct Row<'a> {
 /// Each row is answered by its outcome.
 fn are_answered(rt: &impl Abort, alloc: Global, rows: &[Row<'_>]) {
     for row in rows {
-        let mut content = row.content;
-        let found = look_up_in(
-            rt,
-            alloc,
-            row.cache,
-            row.file,
-            &mut content,
-            Host::Little,
-            row.order,
-        );
-        assert_eq!(rt; found, row.outcome, "{}, {:?}", row.name, row.order);
+        is_answered(rt, alloc, row);
     }
+}
+
+/// A row is answered by its outcome.
+fn is_answered(rt: &impl Abort, alloc: Global, row: &Row<'_>) {
+    let (mut content, host) = (row.content, Host::Little);
+    let found = look_up_in(
+        rt,
+        alloc,
+        row.cache,
+        row.file,
+        &mut content,
+        host,
+        row.order,
+    );
+    assert_eq!(rt; found, row.outcome, "{}, {:?}", row.name, row.order);
 }
 
 /// The outcome of a lookup over the bytes of a cache.
