@@ -28,3 +28,4 @@ pub mod ParentSteps
 pub mod PairsLeft
 pub mod Queues
 pub mod SearchCosts
+pub mod BoundLemmas

@@ -19,6 +19,7 @@ ghost use Rattle.mime_lookup.specs.Choice.{ChoosesAmong, kept};
 ghost use Rattle.mime_lookup.specs.Content.{Advances, GivesUp, Retries, OfReader, broken, known_content, sound};
 ghost use Rattle.mime_lookup.specs.Costs.{Costs, ahead, glob_cost, record_cost};
 ghost use Rattle.mime_lookup.specs.Finding.{PlainFinding, found_in, is_high, resolved_finding};
+ghost use Rattle.mime_lookup.specs.Headline.{IsHeadline};
 ghost use Rattle.mime_lookup.specs.Reads.{AsksUnless, Reads};
 ghost use Rattle.mime_lookup.specs.Spelling.{SpellsGlobs, SpellsMagic, SpellsPairs};
 ghost use Rattle.mime_lookup.specs.StepFaults.{IsAliasFault, IsGlobsFault, IsLookUpFault, IsSearchFault, IsSniffFault};
@@ -68,6 +69,7 @@ pub fn look_up<'a, R: Content>(
     host: Host,
     order: Order,
 ) -> Result<Answer<'a>, Stopped>
+    ensures headline { IsHeadline R.remaining R.tally cache.entry name.now content.old content.new host order result }
     ensures chosen { (b : PlainDatabase) → IsWithinLimits b → Spells cache.entry b → IfOk result
         (λ answer. IfSome (known_content R.remaining content.old)
         (λ known. Chooses b name.now known host order answer.kind.now)) }
@@ -104,12 +106,6 @@ pub fn look_up<'a, R: Content>(
         (λ stopped. KeepsBounds (length name.now) cache.entry stopped.read stopped.meter) }
     ensures spent { content.old ≡ None → IfErr result (λ stopped. stopped.cause ≡ Cause.Cache CacheFault.Spent
         → length cache.entry / 4 ≤ stopped.meter.nodes) }
-    ensures near { (b : PlainDatabase) → SpellsGlobs cache.entry b → length cache.entry ≤ 268435456
-        → GlobsDecide b name.now order (content.old ≡ None) → MatchResult result
-        (λ answer. IfSome (known_content R.remaining content.old)
-        (λ known. Chooses b name.now known host order answer.kind.now)
-        × (answer.meter.nodes ≤ near_max (length name.now) (near name.now b.rules)))
-        (λ stopped. Packed cache.entry b → length name.now ≤ 4096 → stopped.cause ≡ Cause.OutOfMemory) }
 {
     let mut read = 0;
     let mut meter = Meter::new();
@@ -137,6 +133,24 @@ fn open_and_find<'a, R: Content>(
     meter: &mut Meter,
 ) -> Result<&'a [u8], Cause>
     requires none { read.old ≡ 0 }
+    requires short { length name.now ≤ 4096 }
+    requires no_nodes { meter.old.nodes ≡ 0 }
+    requires no_bytes { meter.old.bytes ≡ 0 }
+    ensures chosen { (b : PlainDatabase) → IsWithinLimits b → Spells cache.entry b → IfOk result
+        (λ kind. IfSome (known_content R.remaining content.old) (λ known. Chooses b name.now known host order kind.now)) }
+    ensures read { (b : PlainDatabase) → IsWithinLimits b → Spells cache.entry b → OnOk result
+        (IfSome (known_content R.remaining content.old) (λ known. read.new ≡ read_of b name.now known order)) }
+    ensures kind { IfOk result (λ kind. IsKind cache.entry kind.now) }
+    ensures fault { IfErr result (IsStop (IsLookUpFault cache.entry)) }
+    ensures answers { (b : PlainDatabase) → IsWithinLimits b → Spells cache.entry b → Packed cache.entry b →
+        IfErr result (λ cause. (cause ≡ Cause.Read) ⊎ (cause ≡ Cause.OutOfMemory)) }
+    ensures reader { Reads R.remaining R.tally R.health (max 128 (stated_extent cache.entry))
+        content.old content.new read.new result }
+    ensures asks { (b : PlainDatabase) → IsWithinLimits b → Spells cache.entry b →
+        AsksUnless R.health (globs_suffice b name.now order) content.old content.new result }
+    ensures spent { content.old ≡ None → IfErr result
+        (λ cause. cause ≡ Cause.Cache CacheFault.Spent → length cache.entry / 4 ≤ meter.new.nodes) }
+    ensures bounds { KeepsBounds (length name.now) cache.entry read.new meter.new }
 {
     let cache = Cache::open(cache, meter)?;
     let mut budget = Budget::of(&cache);
