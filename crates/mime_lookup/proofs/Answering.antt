@@ -14,7 +14,7 @@ use Rattle.mime_lookup.specs.declared.order.Order.{Order}
 use Rattle.mime_lookup.specs.declared.order.Order.TheVariants.{GlobsFirst, MagicFirst}
 
 -- of kept types that are one type the first is chosen
-one_type_chosen : (pairs : Pairs) (kinds : List (List ℕ)) (base : List ℕ) → are_one_type kinds ≡ true →
+pub one_type_chosen : (pairs : Pairs) (kinds : List (List ℕ)) (base : List ℕ) → are_one_type kinds ≡ true →
     ChoosesAmong pairs kinds base (get_or kinds 0 [])
 one_type_chosen pairs [] base one = absurd cc
 one_type_chosen pairs (first ∷ more) base one =

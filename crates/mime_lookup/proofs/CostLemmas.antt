@@ -112,27 +112,27 @@ module _ (each value more later kinds : ℕ) (old mid late new : Budget) (before
     (fair : raised before.nodes old.records ≤ hits.nodes + mid.records) (starts_bytes : before.bytes ≤ hits.bytes)
     (same : tested.nodes ≡ hits.nodes) (rises : hits.bytes ≤ tested.bytes) (within : tested.bytes ≤ hits.bytes + 256 * kinds)
   where
-  -- the test alone
-  pub costs_tested : Costs each value more old mid before tested
-  costs_tested = record {
-    records = first.records;
-    value_bytes = first.value_bytes;
-    rises = omega arith;
-    nodes = omega (arith, first.nodes);
-    fair = omega arith;
-    bytes_rise = omega arith;
-    bytes = omega (arith, first.bytes);
-  }
+    -- the test alone
+    pub costs_tested : Costs each value more old mid before tested
+    costs_tested = record {
+      records = first.records;
+      value_bytes = first.value_bytes;
+      rises = omega arith;
+      nodes = omega (arith, first.nodes);
+      fair = omega arith;
+      bytes_rise = omega arith;
+      bytes = omega (arith, first.bytes);
+    }
 
-  -- the test, another step, and the choice
-  pub costs_chosen : Costs each value later mid late tested sniffed → Costs each value (29 + 29 * kinds) late new sniffed after
-      → Costs each value (more + (later + 29)) old new before after
-  costs_chosen second third = record {
-    records = omega (arith, first.records, second.records, third.records);
-    value_bytes = omega (arith, first.value_bytes, second.value_bytes, third.value_bytes);
-    rises = omega arith;
-    nodes = omega (arith, first.nodes, second.nodes, third.nodes);
-    fair = omega arith;
-    bytes_rise = omega arith;
-    bytes = omega (arith, first.bytes, second.bytes, third.bytes);
-  }
+    -- the test, another step, and the choice
+    pub costs_chosen : Costs each value later mid late tested sniffed → Costs each value (29 + 29 * kinds) late new sniffed after
+        → Costs each value (more + (later + 29)) old new before after
+    costs_chosen second third = record {
+      records = omega (arith, first.records, second.records, third.records);
+      value_bytes = omega (arith, first.value_bytes, second.value_bytes, third.value_bytes);
+      rises = omega arith;
+      nodes = omega (arith, first.nodes, second.nodes, third.nodes);
+      fair = omega arith;
+      bytes_rise = omega arith;
+      bytes = omega (arith, first.bytes, second.bytes, third.bytes);
+    }

@@ -28,4 +28,5 @@ pub mod ParentSteps
 pub mod PairsLeft
 pub mod Queues
 pub mod SearchCosts
+pub mod MagicFirst
 pub mod BoundLemmas

@@ -35,7 +35,7 @@ pub asked : (c : List ℕ) (at : ℕ) (pairs : List (List ℕ × List ℕ)) (kin
     (found : Option Parents) → IsGiven pairs kinds (is_marked c at marks kind) kind found
     → IfSome found (IsRead c at marks kind)
     → MatchOption found (after ≡ marks) (λ parents. (has_place marks parents.entry ≡ true) × (after ≡ marks)
-        ⊎ (has_place marks parents.entry ≡ false) × (after ≡ with_place marks parents.entry))
+    ⊎ (has_place marks parents.entry ≡ false) × (after ≡ with_place marks parents.entry))
     → Asked pairs kind (is_marked c at marks) (is_marked c at after) (came found)
 asked c at pairs kinds kind marks after None given read same = record {
   due = no_parents pairs kind (is_marked c at marks kind) given.1;

@@ -55,12 +55,12 @@ module _ {R : Type 0} (remaining : R → Option (List ℕ)) (tally : R → Optio
 module _ {R : Type 0} (health : R → Health) (suffice : Bool) where
   -- an answer by the globs alone
   pub asks_nothing : {X : Type 0} (content : Option R) (x : X) → suffice ≡ true → AsksUnless health suffice content content (Ok x)
-  asks_nothing None x enough = record { answers = tt; asked = tt; }
-  asks_nothing (Some reader) x enough = record { answers = λ _. enough; asked = tt; }
+  asks_nothing None x enough = record { answers = tt; asked = tt }
+  asks_nothing (Some reader) x enough = record { answers = λ _. enough; asked = tt }
 
   -- a step that did not ask the globs stopped, and its error is passed on
   pub asks_stopped : {X Y : Type 0} (before after : Option R) (cause : Cause) (result : Result Y Cause) → suffice ≡ false →
       IsErrAnd result (λ passed. passed ≡ cause) → AsksUnless {X = X} health false before after (Err cause) →
       AsksUnless health suffice before after result
   asks_stopped before after cause (Ok y) is same step = absurd same
-  asks_stopped before after cause (Err passed) is same step = record { answers = tt; asked = λ _. is; }
+  asks_stopped before after cause (Err passed) is same step = record { answers = tt; asked = λ _. is }

@@ -32,6 +32,7 @@ pub record IsHeadline {R : Type 0} (remaining : R → Option (List ℕ)) (tally 
     (before after : Option R) (host : Host) (order : Order) (result : Result Answer Stopped) : Type 0 where
   pub any_bytes : MatchResult result
       (λ answer. StaysWithin c name answer.read answer.meter) (λ stopped. StaysWithin c name stopped.read stopped.meter)
-  pub written : (b : PlainDatabase) → IsWithinLimits b → Spells c b → Packed c b → length name ≤ 4096 → MatchResult result
+  pub written : (b : PlainDatabase) → IsWithinLimits b → Spells c b → Packed c b → length name ≤ 4096 →
+      MatchResult result
       (λ answer. IfSome (known_content remaining before) (λ known. Chooses b name known host order answer.kind.now))
       (λ stopped. IsRefused tally before after stopped.cause)

@@ -134,10 +134,11 @@ fn open_and_find<'a, R: Content>(
 ) -> Result<&'a [u8], Cause>
     requires none { read.old ≡ 0 }
     requires short { length name.now ≤ 4096 }
-    requires no_nodes { meter.old.nodes ≡ 0 }
-    requires no_bytes { meter.old.bytes ≡ 0 }
+    requires nodes { meter.old.nodes ≡ 0 }
+    requires bytes { meter.old.bytes ≡ 0 }
     ensures chosen { (b : PlainDatabase) → IsWithinLimits b → Spells cache.entry b → IfOk result
-        (λ kind. IfSome (known_content R.remaining content.old) (λ known. Chooses b name.now known host order kind.now)) }
+        (λ kind. IfSome (known_content R.remaining content.old)
+        (λ known. Chooses b name.now known host order kind.now)) }
     ensures read { (b : PlainDatabase) → IsWithinLimits b → Spells cache.entry b → OnOk result
         (IfSome (known_content R.remaining content.old) (λ known. read.new ≡ read_of b name.now known order)) }
     ensures kind { IfOk result (λ kind. IsKind cache.entry kind.now) }

@@ -34,10 +34,10 @@ loop-kind-preserved c =
     let from = drop-cons c.in-Some.more.now c.loop-kind.kind-index _ c.loop-kind-test.true in
     record {
       rest = c.loop-kind.invariant.rest
-        ∙ ap (λ ks. list_all (bytes_eq c.in-Some.first.now.now) (texts ks)) from
-        ∙ ap (λ b. b && list_all (bytes_eq c.in-Some.first.now.now) (texts (drop (suc c.loop-kind.kind-index) c.in-Some.more.now)))
-        (decided _ _ (bytes_eq-Decides _ _) c.same_name.ensures.same ∙ c.if-not-same_name.false)
-        ∙ rw add-one refl;
+          ∙ ap (λ ks. list_all (bytes_eq c.in-Some.first.now.now) (texts ks)) from
+          ∙ ap (λ b. b && list_all (bytes_eq c.in-Some.first.now.now) (texts (drop (suc c.loop-kind.kind-index) c.in-Some.more.now)))
+          (decided _ _ (bytes_eq-Decides _ _) c.same_name.ensures.same ∙ c.if-not-same_name.false)
+          ∙ rw add-one refl;
       nodes = omega arith;
       rises = omega arith;
       bytes = λ first. let bytes = c.loop-kind.invariant.bytes first in omega (arith, c.same_name.ensures.limit, c.same_name.ensures.bytes);

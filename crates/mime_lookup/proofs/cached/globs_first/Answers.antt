@@ -122,8 +122,12 @@ pub returns-in_err-kind-clause-answers : goal.returns-in_err-kind-clause-answers
 returns-in_err-kind-clause-answers g c b within spells affords =
     let magic = spelled_magic c.args.cache.now b within spells in
     let enough : length b.parents ≤ c.sniff_content.new.budget.records =
-    omega (arith, affords.records, c.in_ok-kept.ensures.takes_within b (spelled_globs c.args.cache.now b within spells),
-    c.in_ok-finding.ensures.takes_at_most b magic) in
+    omega (
+      arith,
+      affords.records,
+      c.in_ok-kept.ensures.takes_within b (spelled_globs c.args.cache.now b within spells),
+      c.in_ok-finding.ensures.takes_at_most b magic,
+    ) in
     passed_on _ (cause_of c.in_err-kind.field-0.0) c.from_residual-in_err-kind.result c.from_residual-in_err-kind.ensures.1
     (inr (ap cause_of (c.in_err-kind.ensures.need b magic (spelled_pairs c.args.cache.now b spells) enough)))
 
