@@ -30,3 +30,5 @@ pub mod Queues
 pub mod SearchCosts
 pub mod MagicFirst
 pub mod BoundLemmas
+pub mod GlobsCosts
+pub mod MagicCosts

@@ -5,12 +5,12 @@ use Rattle.mime_lookup.specs.Ancestry.{texts}
 use Rattle.mime_lookup.specs.Cached.{cause_of, plain_finding}
 use Rattle.mime_lookup.specs.CheckingOrder.{are_one_type}
 use Rattle.mime_lookup.specs.Choice.{ChoosesAmong}
-use Rattle.mime_lookup.specs.Costs.{glob_cost, record_cost}
+use Rattle.mime_lookup.specs.Costs.{record_cost}
 use Rattle.mime_lookup.specs.Finding.{resolved_finding}
 use Rattle.mime_lookup.specs.StepFaults.{IsLookUpFault, IsSniffFault, of_globs, of_magic}
 use Rattle.mime_lookup.specs.declared.order.Order.TheVariants.{GlobsFirst}
 use Rattle.mime_lookup.proofs.Answering.{by_globs, by_globs_and_content, first_text, read_front, read_none, suffice}
-use Rattle.mime_lookup.proofs.CostLemmas.{costs_chosen, costs_tested, costs_then, costs_wider}
+use Rattle.mime_lookup.proofs.GlobsCosts.{costs_choice_then, costs_one_type_first, costs_sniffed_then, costs_unkept_first}
 use Rattle.mime_lookup.proofs.Findings.{sniffed-where}
 use Rattle.mime_lookup.proofs.KindTexts.{chosen_kind, first_kind, texts_short}
 use Rattle.mime_lookup.proofs.ReadsLemmas.{asks_nothing, asks_stopped}
@@ -26,11 +26,8 @@ returns-in_err-kept-clause-fault g c =
 
 pub returns-in_err-kept-clause-cost : goal.returns-in_err-kept-clause-cost
 returns-in_err-kept-clause-cost g c =
-    let cost = glob_cost (length c.args.name.now) in
-    let each = record_cost (length c.args.name.now) in
-    let value = c.args.read.now + 1 in
-    costs_wider each each value value cost (cost + 31) c.args.budget.now c.kept_kinds.new.budget c.args.meter.now
-    c.kept_kinds.new.meter (omega arith) (omega arith) (omega arith) (c.in_err-kept.ensures.cost value)
+    costs_unkept_first (length c.args.name.now) c.args.read.now c.args.budget.now c.kept_kinds.new.budget c.args.meter.now
+    c.kept_kinds.new.meter (c.in_err-kept.ensures.cost (c.args.read.now + 1))
 
 pub returns-then-are_one_type-clause-chosen : goal.returns-then-are_one_type-clause-chosen
 returns-then-are_one_type-clause-chosen g c b within spells =
@@ -63,19 +60,12 @@ returns-then-are_one_type-clause-asks g c b within spells =
 
 pub returns-then-are_one_type-clause-cost : goal.returns-then-are_one_type-clause-cost
 returns-then-are_one_type-clause-cost g c =
-    let cost = glob_cost (length c.args.name.now) in
-    let each = record_cost (length c.args.name.now) in
-    let value = c.args.read.now + 1 in
-    let kinds = length c.in_ok-kept.kept.items in
     let kept = c.in_ok-kept.ensures in
     let short = texts_short c.args.cache.now (texts c.in_ok-kept.kept.items) kept.text in
     let tested = c.are_one_type.ensures in
-    costs_wider each each value value cost (cost + 31) c.args.budget.now c.kept_kinds.new.budget c.args.meter.now
-    c.are_one_type.new.meter (omega arith) (omega arith) (omega arith)
-    (costs_tested each value cost 0 kinds c.args.budget.now c.kept_kinds.new.budget c.kept_kinds.new.budget c.kept_kinds.new.budget
-    c.args.meter.now c.kept_kinds.new.meter c.are_one_type.new.meter c.are_one_type.new.meter c.are_one_type.new.meter
-    (kept.cost value) kept.rises kept.fair kept.bytes_rise tested.nodes tested.rises
-    ((rw c.deref.ensures.value at tested.bytes) short))
+    costs_one_type_first (length c.args.name.now) c.args.read.now (length c.in_ok-kept.kept.items) c.args.budget.now
+    c.kept_kinds.new.budget c.args.meter.now c.kept_kinds.new.meter c.are_one_type.new.meter (kept.cost (c.args.read.now + 1)) kept.rises
+    kept.fair kept.bytes_rise tested.nodes tested.rises ((rw c.deref.ensures.value at tested.bytes) short)
 
 pub returns-in_err-finding-clause-fault : goal.returns-in_err-finding-clause-fault
 returns-in_err-finding-clause-fault g c =
@@ -95,22 +85,13 @@ returns-in_err-finding-clause-asks g c b within spells =
 
 pub returns-in_err-finding-clause-cost : goal.returns-in_err-finding-clause-cost
 returns-in_err-finding-clause-cost g c =
-    let cost = glob_cost (length c.args.name.now) in
-    let each = record_cost (length c.args.name.now) in
-    let value = c.sniff_content.new.read + 1 in
-    let kinds = length c.in_ok-kept.kept.items in
     let kept = c.in_ok-kept.ensures in
     let short = texts_short c.args.cache.now (texts c.in_ok-kept.kept.items) kept.text in
     let tested = c.are_one_type.ensures in
-    costs_wider each each value value (cost + 2) (cost + 31) c.args.budget.now c.sniff_content.new.budget c.args.meter.now
-    c.sniff_content.new.meter (omega arith) (omega arith) (omega arith)
-    (costs_then each value cost 2 c.args.budget.now c.kept_kinds.new.budget c.sniff_content.new.budget c.args.meter.now
-    c.are_one_type.new.meter c.sniff_content.new.meter
-    (costs_tested each value cost 0 kinds c.args.budget.now c.kept_kinds.new.budget c.kept_kinds.new.budget c.kept_kinds.new.budget
-    c.args.meter.now c.kept_kinds.new.meter c.are_one_type.new.meter c.are_one_type.new.meter c.are_one_type.new.meter
-    (kept.cost value) kept.rises kept.fair kept.bytes_rise tested.nodes tested.rises
-    ((rw c.deref.ensures.value at tested.bytes) short))
-    (c.in_err-finding.ensures.cost each (omega arith)))
+    costs_sniffed_then (length c.args.name.now) c.sniff_content.new.read (length c.in_ok-kept.kept.items) c.args.budget.now
+    c.kept_kinds.new.budget c.args.meter.now c.kept_kinds.new.meter c.are_one_type.new.meter (kept.cost (c.sniff_content.new.read + 1)) kept.rises
+    kept.fair kept.bytes_rise tested.nodes tested.rises ((rw c.deref.ensures.value at tested.bytes) short)
+    c.sniff_content.new.budget c.sniff_content.new.meter (c.in_err-finding.ensures.cost (record_cost (length c.args.name.now)) (omega arith))
 
 pub returns-in_err-kind-clause-fault : goal.returns-in_err-kind-clause-fault
 returns-in_err-kind-clause-fault g c =
@@ -133,18 +114,15 @@ returns-in_err-kind-clause-answers g c b within spells affords =
 
 pub returns-in_err-kind-clause-cost : goal.returns-in_err-kind-clause-cost
 returns-in_err-kind-clause-cost g c =
-    let cost = glob_cost (length c.args.name.now) in
-    let each = record_cost (length c.args.name.now) in
-    let value = c.sniff_content.new.read + 1 in
-    let kinds = length c.in_ok-kept.kept.items in
     let kept = c.in_ok-kept.ensures in
     let short = texts_short c.args.cache.now (texts c.in_ok-kept.kept.items) kept.text in
     let tested = c.are_one_type.ensures in
-    costs_chosen each value cost 2 kinds c.args.budget.now c.kept_kinds.new.budget c.sniff_content.new.budget c.choose.new.budget
-    c.args.meter.now c.kept_kinds.new.meter c.are_one_type.new.meter c.sniff_content.new.meter c.choose.new.meter
-    (kept.cost value) kept.rises kept.fair kept.bytes_rise tested.nodes tested.rises
-    ((rw c.deref.ensures.value at tested.bytes) short) (c.in_ok-finding.ensures.cost each (omega arith))
-    (rw c.deref-2.ensures.value at (c.in_err-kind.ensures.cost each value (omega arith)))
+    costs_choice_then (length c.args.name.now) c.sniff_content.new.read (length c.in_ok-kept.kept.items) c.args.budget.now
+    c.kept_kinds.new.budget c.args.meter.now c.kept_kinds.new.meter c.are_one_type.new.meter (kept.cost (c.sniff_content.new.read + 1)) kept.rises
+    kept.fair kept.bytes_rise tested.nodes tested.rises ((rw c.deref.ensures.value at tested.bytes) short)
+    c.sniff_content.new.budget c.choose.new.budget c.sniff_content.new.meter c.choose.new.meter
+    (c.in_ok-finding.ensures.cost (record_cost (length c.args.name.now)) (omega arith))
+    (rw c.deref-2.ensures.value at (c.in_err-kind.ensures.cost (record_cost (length c.args.name.now)) (c.sniff_content.new.read + 1) (omega arith)))
 
 pub returns-clause-chosen : goal.returns-clause-chosen
 returns-clause-chosen g c b within spells =
@@ -173,15 +151,12 @@ returns-clause-kind g c =
 
 pub returns-clause-cost : goal.returns-clause-cost
 returns-clause-cost g c =
-    let cost = glob_cost (length c.args.name.now) in
-    let each = record_cost (length c.args.name.now) in
-    let value = c.sniff_content.new.read + 1 in
-    let kinds = length c.in_ok-kept.kept.items in
     let kept = c.in_ok-kept.ensures in
     let short = texts_short c.args.cache.now (texts c.in_ok-kept.kept.items) kept.text in
     let tested = c.are_one_type.ensures in
-    costs_chosen each value cost 2 kinds c.args.budget.now c.kept_kinds.new.budget c.sniff_content.new.budget c.choose.new.budget
-    c.args.meter.now c.kept_kinds.new.meter c.are_one_type.new.meter c.sniff_content.new.meter c.choose.new.meter
-    (kept.cost value) kept.rises kept.fair kept.bytes_rise tested.nodes tested.rises
-    ((rw c.deref.ensures.value at tested.bytes) short) (c.in_ok-finding.ensures.cost each (omega arith))
-    (rw c.deref-2.ensures.value at (c.in_ok-kind.ensures.cost each value (omega arith)))
+    costs_choice_then (length c.args.name.now) c.sniff_content.new.read (length c.in_ok-kept.kept.items) c.args.budget.now
+    c.kept_kinds.new.budget c.args.meter.now c.kept_kinds.new.meter c.are_one_type.new.meter (kept.cost (c.sniff_content.new.read + 1)) kept.rises
+    kept.fair kept.bytes_rise tested.nodes tested.rises ((rw c.deref.ensures.value at tested.bytes) short)
+    c.sniff_content.new.budget c.choose.new.budget c.sniff_content.new.meter c.choose.new.meter
+    (c.in_ok-finding.ensures.cost (record_cost (length c.args.name.now)) (omega arith))
+    (rw c.deref-2.ensures.value at (c.in_ok-kind.ensures.cost (record_cost (length c.args.name.now)) (c.sniff_content.new.read + 1) (omega arith)))

@@ -5,13 +5,13 @@ use Rattle.mime_lookup.specs.Ancestry.{texts}
 use Rattle.mime_lookup.specs.Cached.{cause_of, plain_finding}
 use Rattle.mime_lookup.specs.CheckingOrder.{are_one_type}
 use Rattle.mime_lookup.specs.Choice.{ChoosesAmong}
-use Rattle.mime_lookup.specs.Costs.{Costs, glob_cost, record_cost}
+use Rattle.mime_lookup.specs.Costs.{record_cost}
 use Rattle.mime_lookup.specs.Finding.{is_high, resolved_finding}
 use Rattle.mime_lookup.specs.StepFaults.{IsLookUpFault, IsSniffFault, of_globs, of_magic, of_search}
 use Rattle.mime_lookup.specs.declared.order.Order.TheVariants.{MagicFirst}
 use Rattle.mime_lookup.proofs.Answering.{first_text, read_first, suffice_not}
-use Rattle.mime_lookup.proofs.CostLemmas.{costs_chosen, costs_nodes, costs_none, costs_tested, costs_then, costs_wider}
 use Rattle.mime_lookup.proofs.KindTexts.{chosen_kind, first_kind, texts_short}
+use Rattle.mime_lookup.proofs.MagicCosts.{costs_of_choice, costs_one_type, costs_resolved, costs_sniffed, costs_unkept}
 use Rattle.mime_lookup.proofs.MagicFirst.{by_high_magic, by_low_magic, by_one_type}
 use Rattle.mime_lookup.proofs.ReadsLemmas.{asks_stopped}
 use Rattle.mime_lookup.proofs.SpelledParts.{spelled_globs, spelled_magic, spelled_pairs}
@@ -32,11 +32,9 @@ returns-in_err-finding-clause-asks g c b within spells =
 
 pub returns-in_err-finding-clause-cost : goal.returns-in_err-finding-clause-cost
 returns-in_err-finding-clause-cost g c =
-    let cost = glob_cost (length c.args.name.now) in
-    let each = record_cost (length c.args.name.now) in
-    let value = c.sniff_content.new.read + 1 in
-    costs_wider each each value value 2 (cost + 31) c.args.budget.now c.sniff_content.new.budget c.args.meter.now
-    c.sniff_content.new.meter (omega arith) (omega arith) (omega arith) (c.in_err-finding.ensures.cost each (omega arith))
+    costs_sniffed (length c.args.name.now) c.sniff_content.new.read c.args.budget.now c.sniff_content.new.budget c.args.meter.now
+    c.sniff_content.new.meter
+    (c.in_err-finding.ensures.cost (record_cost (length c.args.name.now)) (omega arith))
 
 pub returns-in_err-kind-clause-fault : goal.returns-in_err-kind-clause-fault
 returns-in_err-kind-clause-fault g c =
@@ -50,17 +48,11 @@ returns-in_err-kind-clause-answers g c b within spells affords =
 
 pub returns-in_err-kind-clause-cost : goal.returns-in_err-kind-clause-cost
 returns-in_err-kind-clause-cost g c =
-    let cost = glob_cost (length c.args.name.now) in
-    let each = record_cost (length c.args.name.now) in
-    let value = c.sniff_content.new.read + 1 in
     let step = c.in_err-kind.ensures in
-    let resolved : Costs each value 29 c.sniff_content.new.budget c.resolve.new.budget c.sniff_content.new.meter c.resolve.new.meter =
-    rw step.budget (costs_nodes each value 29 c.sniff_content.new.budget c.sniff_content.new.meter c.resolve.new.meter
-    step.rises step.nodes step.bytes_rise step.bytes) in
-    costs_wider each each value value (2 + 29) (cost + 31) c.args.budget.now c.resolve.new.budget c.args.meter.now
-    c.resolve.new.meter (omega arith) (omega arith) (omega arith)
-    (costs_then each value 2 29 c.args.budget.now c.sniff_content.new.budget c.resolve.new.budget c.args.meter.now
-    c.sniff_content.new.meter c.resolve.new.meter (c.in_ok-finding.ensures.cost each (omega arith)) resolved)
+    costs_resolved (length c.args.name.now) c.sniff_content.new.read c.args.budget.now c.sniff_content.new.budget c.args.meter.now
+    c.sniff_content.new.meter
+    (c.in_ok-finding.ensures.cost (record_cost (length c.args.name.now)) (omega arith)) c.resolve.new.budget c.resolve.new.meter
+    step.budget step.rises step.nodes step.bytes_rise step.bytes
 
 pub returns-then-is_high-clause-chosen : goal.returns-then-is_high-clause-chosen
 returns-then-is_high-clause-chosen g c b within spells =
@@ -75,17 +67,11 @@ returns-then-is_high-clause-read g c b within spells =
 
 pub returns-then-is_high-clause-cost : goal.returns-then-is_high-clause-cost
 returns-then-is_high-clause-cost g c =
-    let cost = glob_cost (length c.args.name.now) in
-    let each = record_cost (length c.args.name.now) in
-    let value = c.sniff_content.new.read + 1 in
     let step = c.in_ok-kind.ensures in
-    let resolved : Costs each value 29 c.sniff_content.new.budget c.resolve.new.budget c.sniff_content.new.meter c.resolve.new.meter =
-    rw step.budget (costs_nodes each value 29 c.sniff_content.new.budget c.sniff_content.new.meter c.resolve.new.meter
-    step.rises step.nodes step.bytes_rise step.bytes) in
-    costs_wider each each value value (2 + 29) (cost + 31) c.args.budget.now c.resolve.new.budget c.args.meter.now
-    c.resolve.new.meter (omega arith) (omega arith) (omega arith)
-    (costs_then each value 2 29 c.args.budget.now c.sniff_content.new.budget c.resolve.new.budget c.args.meter.now
-    c.sniff_content.new.meter c.resolve.new.meter (c.in_ok-finding.ensures.cost each (omega arith)) resolved)
+    costs_resolved (length c.args.name.now) c.sniff_content.new.read c.args.budget.now c.sniff_content.new.budget c.args.meter.now
+    c.sniff_content.new.meter
+    (c.in_ok-finding.ensures.cost (record_cost (length c.args.name.now)) (omega arith)) c.resolve.new.budget c.resolve.new.meter
+    step.budget step.rises step.nodes step.bytes_rise step.bytes
 
 pub returns-in_err-kept-clause-fault : goal.returns-in_err-kept-clause-fault
 returns-in_err-kept-clause-fault g c =
@@ -94,14 +80,10 @@ returns-in_err-kept-clause-fault g c =
 
 pub returns-in_err-kept-clause-cost : goal.returns-in_err-kept-clause-cost
 returns-in_err-kept-clause-cost g c =
-    let cost = glob_cost (length c.args.name.now) in
-    let each = record_cost (length c.args.name.now) in
-    let value = c.sniff_content.new.read + 1 in
-    costs_wider each each value value (2 + cost) (cost + 31) c.args.budget.now c.kept_kinds.new.budget c.args.meter.now
-    c.kept_kinds.new.meter (omega arith) (omega arith) (omega arith)
-    (costs_then each value 2 cost c.args.budget.now c.sniff_content.new.budget c.kept_kinds.new.budget c.args.meter.now
-    c.sniff_content.new.meter c.kept_kinds.new.meter (c.in_ok-finding.ensures.cost each (omega arith))
-    (c.in_err-kept.ensures.cost value))
+    costs_unkept (length c.args.name.now) c.sniff_content.new.read c.args.budget.now c.sniff_content.new.budget c.args.meter.now
+    c.sniff_content.new.meter
+    (c.in_ok-finding.ensures.cost (record_cost (length c.args.name.now)) (omega arith)) c.kept_kinds.new.budget c.kept_kinds.new.meter
+    (c.in_err-kept.ensures.cost (c.sniff_content.new.read + 1))
 
 pub returns-then-are_one_type-clause-chosen : goal.returns-then-are_one_type-clause-chosen
 returns-then-are_one_type-clause-chosen g c b within spells =
@@ -125,21 +107,14 @@ returns-then-are_one_type-clause-kind g c =
 
 pub returns-then-are_one_type-clause-cost : goal.returns-then-are_one_type-clause-cost
 returns-then-are_one_type-clause-cost g c =
-    let cost = glob_cost (length c.args.name.now) in
-    let each = record_cost (length c.args.name.now) in
-    let value = c.sniff_content.new.read + 1 in
-    let kinds = length c.in_ok-kept.kept.items in
     let kept = c.in_ok-kept.ensures in
     let short = texts_short c.args.cache.now (texts c.in_ok-kept.kept.items) kept.text in
     let tested = c.are_one_type.ensures in
-    costs_wider each each value value (2 + cost) (cost + 31) c.args.budget.now c.kept_kinds.new.budget c.args.meter.now
-    c.are_one_type.new.meter (omega arith) (omega arith) (omega arith)
-    (costs_then each value 2 cost c.args.budget.now c.sniff_content.new.budget c.kept_kinds.new.budget c.args.meter.now
-    c.sniff_content.new.meter c.are_one_type.new.meter (c.in_ok-finding.ensures.cost each (omega arith))
-    (costs_tested each value cost 0 kinds c.sniff_content.new.budget c.kept_kinds.new.budget c.kept_kinds.new.budget
-    c.kept_kinds.new.budget c.sniff_content.new.meter c.kept_kinds.new.meter c.are_one_type.new.meter c.are_one_type.new.meter
-    c.are_one_type.new.meter (kept.cost value) kept.rises kept.fair kept.bytes_rise tested.nodes tested.rises
-    ((rw c.deref.ensures.value at tested.bytes) short)))
+    costs_one_type (length c.args.name.now) c.sniff_content.new.read c.args.budget.now c.sniff_content.new.budget c.args.meter.now
+    c.sniff_content.new.meter
+    (c.in_ok-finding.ensures.cost (record_cost (length c.args.name.now)) (omega arith)) (length c.in_ok-kept.kept.items) c.kept_kinds.new.budget
+    c.kept_kinds.new.meter c.are_one_type.new.meter (kept.cost (c.sniff_content.new.read + 1)) kept.rises kept.fair kept.bytes_rise tested.nodes
+    tested.rises ((rw c.deref.ensures.value at tested.bytes) short)
 
 pub returns-in_err-kind-2-clause-fault : goal.returns-in_err-kind-2-clause-fault
 returns-in_err-kind-2-clause-fault g c =
@@ -162,22 +137,15 @@ returns-in_err-kind-2-clause-answers g c b within spells affords =
 
 pub returns-in_err-kind-2-clause-cost : goal.returns-in_err-kind-2-clause-cost
 returns-in_err-kind-2-clause-cost g c =
-    let cost = glob_cost (length c.args.name.now) in
-    let each = record_cost (length c.args.name.now) in
-    let value = c.sniff_content.new.read + 1 in
-    let kinds = length c.in_ok-kept.kept.items in
     let kept = c.in_ok-kept.ensures in
     let short = texts_short c.args.cache.now (texts c.in_ok-kept.kept.items) kept.text in
     let tested = c.are_one_type.ensures in
-    costs_wider each each value value (2 + (cost + 29)) (cost + 31) c.args.budget.now c.choose.new.budget c.args.meter.now
-    c.choose.new.meter (omega arith) (omega arith) (omega arith)
-    (costs_then each value 2 (cost + 29) c.args.budget.now c.sniff_content.new.budget c.choose.new.budget c.args.meter.now
-    c.sniff_content.new.meter c.choose.new.meter (c.in_ok-finding.ensures.cost each (omega arith))
-    (costs_chosen each value cost 0 kinds c.sniff_content.new.budget c.kept_kinds.new.budget c.kept_kinds.new.budget
-    c.choose.new.budget c.sniff_content.new.meter c.kept_kinds.new.meter c.are_one_type.new.meter c.are_one_type.new.meter
-    c.choose.new.meter (kept.cost value) kept.rises kept.fair kept.bytes_rise tested.nodes tested.rises
-    ((rw c.deref.ensures.value at tested.bytes) short) (costs_none each value c.kept_kinds.new.budget c.are_one_type.new.meter)
-    (rw c.deref-2.ensures.value at (c.in_err-kind-2.ensures.cost each value (omega arith)))))
+    costs_of_choice (length c.args.name.now) c.sniff_content.new.read c.args.budget.now c.sniff_content.new.budget c.args.meter.now
+    c.sniff_content.new.meter
+    (c.in_ok-finding.ensures.cost (record_cost (length c.args.name.now)) (omega arith)) (length c.in_ok-kept.kept.items) c.kept_kinds.new.budget
+    c.kept_kinds.new.meter c.are_one_type.new.meter (kept.cost (c.sniff_content.new.read + 1)) kept.rises kept.fair kept.bytes_rise tested.nodes
+    tested.rises ((rw c.deref.ensures.value at tested.bytes) short) c.choose.new.budget c.choose.new.meter
+    (rw c.deref-2.ensures.value at (c.in_err-kind-2.ensures.cost (record_cost (length c.args.name.now)) (c.sniff_content.new.read + 1) (omega arith)))
 
 pub returns-clause-chosen : goal.returns-clause-chosen
 returns-clause-chosen g c b within spells =
@@ -202,19 +170,12 @@ returns-clause-kind g c =
 
 pub returns-clause-cost : goal.returns-clause-cost
 returns-clause-cost g c =
-    let cost = glob_cost (length c.args.name.now) in
-    let each = record_cost (length c.args.name.now) in
-    let value = c.sniff_content.new.read + 1 in
-    let kinds = length c.in_ok-kept.kept.items in
     let kept = c.in_ok-kept.ensures in
     let short = texts_short c.args.cache.now (texts c.in_ok-kept.kept.items) kept.text in
     let tested = c.are_one_type.ensures in
-    costs_wider each each value value (2 + (cost + 29)) (cost + 31) c.args.budget.now c.choose.new.budget c.args.meter.now
-    c.choose.new.meter (omega arith) (omega arith) (omega arith)
-    (costs_then each value 2 (cost + 29) c.args.budget.now c.sniff_content.new.budget c.choose.new.budget c.args.meter.now
-    c.sniff_content.new.meter c.choose.new.meter (c.in_ok-finding.ensures.cost each (omega arith))
-    (costs_chosen each value cost 0 kinds c.sniff_content.new.budget c.kept_kinds.new.budget c.kept_kinds.new.budget
-    c.choose.new.budget c.sniff_content.new.meter c.kept_kinds.new.meter c.are_one_type.new.meter c.are_one_type.new.meter
-    c.choose.new.meter (kept.cost value) kept.rises kept.fair kept.bytes_rise tested.nodes tested.rises
-    ((rw c.deref.ensures.value at tested.bytes) short) (costs_none each value c.kept_kinds.new.budget c.are_one_type.new.meter)
-    (rw c.deref-2.ensures.value at (c.in_ok-kind-2.ensures.cost each value (omega arith)))))
+    costs_of_choice (length c.args.name.now) c.sniff_content.new.read c.args.budget.now c.sniff_content.new.budget c.args.meter.now
+    c.sniff_content.new.meter
+    (c.in_ok-finding.ensures.cost (record_cost (length c.args.name.now)) (omega arith)) (length c.in_ok-kept.kept.items) c.kept_kinds.new.budget
+    c.kept_kinds.new.meter c.are_one_type.new.meter (kept.cost (c.sniff_content.new.read + 1)) kept.rises kept.fair kept.bytes_rise tested.nodes
+    tested.rises ((rw c.deref.ensures.value at tested.bytes) short) c.choose.new.budget c.choose.new.meter
+    (rw c.deref-2.ensures.value at (c.in_ok-kind-2.ensures.cost (record_cost (length c.args.name.now)) (c.sniff_content.new.read + 1) (omega arith)))
