@@ -32,3 +32,4 @@ pub mod MagicFirst
 pub mod BoundLemmas
 pub mod GlobsCosts
 pub mod MagicCosts
+pub mod NearLemmas

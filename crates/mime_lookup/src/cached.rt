@@ -3,14 +3,18 @@
 ghost use Rattle.std.specs.Prelude.{◌≡◌, ◌≢◌, ◌⊎◌, ℕ, ◌+◌, ◌*◌, ◌/◌, ◌<◌, ◌≤◌, List, max, length, IfOk, IfErr, OnOk, IfSome, MatchResult};
 ghost use Rattle.std.specs.Prelude.{All, Contains, true, false, ⊤, Ok, Some, None, []};
 ghost use Rattle.mime_base.specs.Cache.Texts.{text_at};
+ghost use Rattle.std.specs.Prelude.{IsOkAnd};
+ghost use Rattle.mime_base.specs.Cache.Bytes.{Stands};
 ghost use Rattle.mime_base.specs.Database.{PlainDatabase, pairs_of};
 ghost use Rattle.mime_base.specs.Database.Limits.{IsWithinLimits};
 ghost use Rattle.mime_base.specs.Format.Spells.{Spells};
+ghost use Rattle.mime_base.specs.Format.Header.{HeaderAt, Offsets};
+ghost use Rattle.mime_base.specs.Format.Pairs.{PairsAt};
 ghost use Rattle.mime_base.specs.Format.Packed.{Packed, matchlet_count, value_length};
 ghost use Rattle.mime_base.specs.Format.Stored.{glob_rules, literal_rules};
 ghost use Rattle.mime_base.specs.Format.SuffixTree.{tree_size};
 ghost use Rattle.mime_view.specs.Hits.{near};
-ghost use Rattle.mime_lookup.specs.Affords.{Affords};
+ghost use Rattle.mime_lookup.specs.Affords.{Affords, rule_records};
 ghost use Rattle.mime_lookup.specs.Ancestry.{texts};
 ghost use Rattle.mime_lookup.specs.Bounds.{KeepsBounds, near_max, stated_extent};
 ghost use Rattle.mime_lookup.specs.Cached.{IsFinding, IsKind, IsStop, plain_finding};
@@ -207,6 +211,12 @@ fn globs_first<'a, R: Content>(
         AsksUnless R.health (globs_suffice b name.now Order.GlobsFirst) content.old content.new result }
     ensures spent { content.old ≡ None → IfErr result
         (λ cause. cause ≡ Cause.Cache CacheFault.Spent → budget.new.records ≡ 0) }
+    ensures near { (b : PlainDatabase) → SpellsGlobs cache.now b → GlobsDecide b name.now Order.GlobsFirst (content.old ≡ None) →
+        IfOk result (λ kind. IfSome (known_content R.remaining content.old)
+        (λ known. Chooses b name.now known host Order.GlobsFirst kind.now)
+        × (meter.new.nodes < meter.old.nodes + near_max (length name.now) (near name.now b.rules))) }
+    ensures near_need { (b : PlainDatabase) → SpellsGlobs cache.now b → GlobsDecide b name.now Order.GlobsFirst (content.old ≡ None) →
+        rule_records b ≤ budget.old.records → IfErr result (λ cause. cause ≡ Cause.OutOfMemory) }
     ensures cost { Costs (record_cost (length name.now)) (read.new + 1) (glob_cost (length name.now) + (2 + 29))
         budget.old budget.new meter.old meter.new }
 {
@@ -297,6 +307,10 @@ fn choose<'a>(
         (λ kind. ChoosesAmong (pairs_of b) (texts kept.now)
         (resolved_finding b.aliases (plain_finding finding.entry)) kind.now) }
     ensures none { texts kept.now ≡ [] → IfOk result (λ kind. IsKind cache.now kind.now) }
+    ensures base { texts kept.now ≡ [] → (b : PlainDatabase) (offsets : Offsets) → HeaderAt (Stands cache.now) offsets →
+        PairsAt (Stands cache.now) offsets.aliases b.aliases → IsOkAnd result
+        (λ kind. kind.now ≡ resolved_finding b.aliases (plain_finding finding.entry)) }
+    ensures unspent { texts kept.now ≡ [] → budget.new ≡ budget.old }
     ensures one { IfOk result (λ kind. IsKind cache.now kind.now ⊎ Contains (texts kept.now) kind.now) }
     ensures need { (b : PlainDatabase) → SpellsMagic cache.now b → SpellsPairs cache.now b →
         length b.parents ≤ budget.old.records → IfErr result (λ e. e ≡ CacheFault.OutOfMemory) }
