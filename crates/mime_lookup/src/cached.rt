@@ -10,7 +10,7 @@ ghost use Rattle.mime_base.specs.Format.Packed.{Packed, matchlet_count, value_le
 ghost use Rattle.mime_base.specs.Format.Stored.{glob_rules, literal_rules};
 ghost use Rattle.mime_base.specs.Format.SuffixTree.{tree_size};
 ghost use Rattle.mime_view.specs.Hits.{near};
-ghost use Rattle.mime_lookup.specs.Affords.{Affords};
+ghost use Rattle.mime_lookup.specs.Affords.{Affords, rule_records};
 ghost use Rattle.mime_lookup.specs.Ancestry.{texts};
 ghost use Rattle.mime_lookup.specs.Bounds.{KeepsBounds, near_max, stated_extent};
 ghost use Rattle.mime_lookup.specs.Cached.{IsFinding, IsKind, IsStop, plain_finding};
@@ -253,6 +253,32 @@ fn magic_first<'a, R: Content>(
         let kind = resolve(cache, finding, meter, budget)?;
         return Ok(kind);
     }
+    let kind = by_globs(alloc, cache, name, finding, meter, budget)?;
+    Ok(kind)
+}
+
+// What the globs give, and where they conflict or are silent the choice by what was found.
+fn by_globs<'a>(
+    alloc: Global,
+    cache: &Cache<'a>,
+    name: &[u8],
+    finding: Finding<'a>,
+    meter: &mut Meter,
+    budget: &mut Budget,
+) -> Result<&'a [u8], CacheFault>
+    requires finding { IsFinding cache.now finding }
+    requires short { length name.now ≤ 4096 }
+    ensures answer { (b : PlainDatabase) → IsWithinLimits b → Spells cache.now b → IfOk result
+        (λ kind. ChoosesAmong (pairs_of b) (kept (pairs_of b) b.rules name.now)
+        (resolved_finding b.aliases (plain_finding finding.entry)) kind.now) }
+    ensures kind { IfOk result (λ kind. IsKind cache.now kind.now) }
+    ensures fault { IfErr result (IsLookUpFault cache.now) }
+    ensures need { (b : PlainDatabase) → IsWithinLimits b → Spells cache.now b →
+        rule_records b + length b.parents ≤ budget.old.records → IfErr result (λ e. e ≡ CacheFault.OutOfMemory) }
+    ensures spent { IfErr result (λ e. e ≡ CacheFault.Spent → budget.new.records ≡ 0) }
+    ensures cost { (value : ℕ) → Costs (record_cost (length name.now)) value (glob_cost (length name.now) + 29)
+        budget.old budget.new meter.old meter.new }
+{
     let kept = kept_kinds(alloc, cache, name, meter, budget)?;
     if are_one_type(&kept, meter) {
         return Ok(kept[0]);
