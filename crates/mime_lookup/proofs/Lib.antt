@@ -32,3 +32,5 @@ pub mod MagicFirst
 pub mod BoundLemmas
 pub mod GlobsCosts
 pub mod MagicCosts
+pub mod OpenCaches
+pub mod CauseLemmas
