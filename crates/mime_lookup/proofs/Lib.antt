@@ -33,3 +33,5 @@ pub mod BoundLemmas
 pub mod GlobsCosts
 pub mod MagicCosts
 pub mod NearLemmas
+pub mod OpenCaches
+pub mod CauseLemmas

@@ -1,5 +1,6 @@
 -- What a lookup over a cache visits where the globs alone decide.
-use Rattle.std.proofs.Common.{◌≡◌, ◌∙◌, ℕ, ◌≤◌, true, false, List, [], length, inl, inr, ap, sym, arith}
+use Rattle.std.proofs.Common.{◌≡◌, ◌∙◌, ℕ, ◌≤◌, true, false, List, [], length, inl, inr, ap, sym, refl, arith}
+use Rattle.std.specs.Prelude.{⊤}
 use Rattle.std.proofs.lemmas.List.{length-map}
 use denote.Bor.{Bor}
 use Rattle.mime_base.specs.Database.{PlainDatabase, pairs_of}
@@ -11,6 +12,7 @@ use Rattle.mime_lookup.specs.Ancestry.{texts}
 use Rattle.mime_lookup.specs.CheckingOrder.{GlobsDecide, are_one_type}
 use Rattle.mime_lookup.specs.Choice.{kept}
 use Rattle.mime_lookup.specs.declared.order.Order.{Order}
+use Rattle.mime_lookup.specs.declared.order.Order.TheVariants.{GlobsFirst, MagicFirst}
 
 -- no more types are kept than rules are near the name
 pub kept_few : KeptAreNear → (b : PlainDatabase) (name : List ℕ) (kinds : List (Bor (List ℕ)))
@@ -30,3 +32,10 @@ none_kept b name order NoContent kinds are conflict (inl one) =
     let both : true ≡ false = sym one.0 ∙ sym (ap are_one_type are) ∙ conflict in
     absurd cc
 none_kept b name order NoContent kinds are conflict (inr none) = (are ∙ none.0, none.1)
+
+-- where magic is asked first the globs decide without a content alone
+pub decide_without : (b : PlainDatabase) (name : List ℕ) (NoContent : Type 0) → GlobsDecide b name MagicFirst NoContent
+    → NoContent × GlobsDecide b name GlobsFirst ⊤
+decide_without b name NoContent (inl (one, inl same)) = absurd cc
+decide_without b name NoContent (inl (one, inr none)) = (none, inl (one, inl refl))
+decide_without b name NoContent (inr none) = (none.1, inr (none.0, tt))

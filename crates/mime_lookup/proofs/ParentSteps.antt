@@ -1,20 +1,17 @@
--- An answer of the parent list: what it gives, the marks after it, and how many pairs are left unmarked.
-use Rattle.std.proofs.Common.{◌≡◌, ◌⊎◌, ℕ, ◌+◌, ◌≤◌, Bool, true, false, IsTrue, List, [], ◌∷◌, ◌++◌, length, map, cond, bytes_eq}
-use Rattle.std.proofs.Common.{refl, sym, ap, inl, inr, ⊎_elim, ◌∙◌, arith, Option, None, Some, true≢false}
+-- An answer of the parent list: what it gives, and which types are marked after it.
+use Rattle.std.proofs.Common.{◌≡◌, ◌⊎◌, ℕ, Bool, true, false, IsTrue, List, [], ◌++◌, map}
+use Rattle.std.proofs.Common.{refl, sym, ap, inl, inr, ⊎_elim, ◌∙◌, Option, None, Some}
 use Rattle.std.specs.Prelude.{MatchOption, IfSome}
 use Rattle.std.proofs.lemmas.Bool.{cases_Bool}
-use Rattle.std.proofs.lemmas.List.{length-map}
-use Rattle.std.proofs.lemmas.Slice.Eq.{bytes_eq-Decides}
 use Rattle.mime_base.specs.Database.Subclass.{Pairs, above, parents, resolved}
-use Rattle.mime_lookup.specs.Ancestry.{Expanded, unmarked}
-use Rattle.mime_lookup.proofs.Marks.{unmarked-marked, unmarked-new}
-use Rattle.mime_lookup.proofs.PairSteps.{parents-here, parents-nil, parents-past}
+use Rattle.mime_lookup.specs.Ancestry.{Expanded}
 use Rattle.mime_view.specs.Parents.{IsGiven, IsRead, has_place, is_marked, unmarked_parents, with_place}
 use Rattle.mime_view.specs.declared.parents.Parents.{Parents}
 use Rattle.mime_lookup.proofs.PlaceMarks.{marked_here, marked_now, marked_others, marked_still}
 
 -- a type was asked for its parents: what was due came, and it alone is marked besides
-pub record Asked (pairs : List (List ℕ × List ℕ)) (kind : List ℕ) (before after : List ℕ → Bool) (came : List (List ℕ)) : Type 0 where
+pub record Asked (pairs : List (List ℕ × List ℕ)) (kind : List ℕ) (before after : List ℕ → Bool) (came : List (List ℕ)) :
+    Type 0 where
   pub due : came ≡ unmarked_parents pairs (before kind) kind
   pub kept : (x : List ℕ) → IsTrue (before x) → IsTrue (after x)
   pub others : (x : List ℕ) → IsTrue (after x) → IsTrue (before x) ⊎ (x ≡ kind)

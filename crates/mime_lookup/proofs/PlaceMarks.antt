@@ -1,5 +1,5 @@
 -- Marks on entries of the parent list: which types are marked after a mark more.
-use Rattle.std.proofs.Common.{◌≡◌, ◌⊎◌, ℕ, ◌+◌, ◌*◌, Bool, true, false, List, [], ◌∷◌, cond, bytes_eq}
+use Rattle.std.proofs.Common.{◌≡◌, ◌⊎◌, ℕ, ◌+◌, ◌*◌, Bool, true, false, List, [], ◌∷◌, cond}
 use Rattle.std.proofs.Common.{Ordering, Less, Equal, Greater, nat_cmp}
 use Rattle.std.proofs.Common.{true≢false, refl, sym, ap, inl, inr, ⊎_elim, ◌∙◌}
 use Rattle.std.specs.Prelude.{◌||◌, ◌&&◌, ◌==◌, Result, Ok, Err, nat_lt}
@@ -22,7 +22,8 @@ or-right a b is = rw is (or-true a)
 -- what is among places and one more is among the places, or is the one
 any_with-cases : (test : ℕ → Bool) (places : List ℕ) (place : ℕ) → list_any test (with_place places place) ≡ true
     → (list_any test places ≡ true) ⊎ (test place ≡ true)
-any_with-cases test [] place is = ⊎_elim (λ here. inr here) (λ none. absurd (true≢false (sym none))) (or_cases (test place) false is)
+any_with-cases test [] place is =
+    ⊎_elim (λ here. inr here) (λ none. absurd (true≢false (sym none))) (or_cases (test place) false is)
 any_with-cases test (first ∷ places) place is = by_order (nat_cmp place first) is (any_with-cases test places place)
   where
     by_order : (o : Ordering)
@@ -58,7 +59,8 @@ any_with-still test (first ∷ places) place is = by_order (nat_cmp place first)
 any_with-now : (test : ℕ → Bool) (places : List ℕ) (place : ℕ) → has_place places place ≡ false → test place ≡ true
     → list_any test (with_place places place) ≡ true
 any_with-now test [] place new is = or-left (test place) false is
-any_with-now test (first ∷ places) place new is = by_order (nat_cmp place first) new (λ rest. any_with-now test places place rest is)
+any_with-now test (first ∷ places) place new is =
+    by_order (nat_cmp place first) new (λ rest. any_with-now test places place rest is)
   where
     by_order : (o : Ordering) → (is_eq o || has_place places place) ≡ false
         → (has_place places place ≡ false → list_any test (with_place places place) ≡ true)
@@ -68,7 +70,8 @@ any_with-now test (first ∷ places) place new is = by_order (nat_cmp place firs
     by_order Greater new more = or-right (test first) (list_any test (with_place places place)) (more new)
 
 -- what was read is one text
-one_text : (left right : List ℕ) (read : Result (List ℕ) ByteFault) → is_text left read ≡ true → is_text right read ≡ true → left ≡ right
+one_text : (left right : List ℕ) (read : Result (List ℕ) ByteFault) → is_text left read ≡ true
+    → is_text right read ≡ true → left ≡ right
 one_text left right (Ok text) l r = sym ((bytes_eq-Decides text left).0 l) ∙ (bytes_eq-Decides text right).0 r
 one_text left right (Err fault) l r = absurd (true≢false (sym l))
 
@@ -126,7 +129,8 @@ module _ (c : List ℕ) (at : ℕ) (marks kind : List ℕ) (place : ℕ) (entry 
   marked_now = any_with-now (is_entry c at kind) marks place new entry
 
   -- no other type is marked
-  pub marked_others : (x : List ℕ) → is_marked c at (with_place marks place) x ≡ true → (is_marked c at marks x ≡ true) ⊎ (x ≡ kind)
+  pub marked_others : (x : List ℕ) → is_marked c at (with_place marks place) x ≡ true
+      → (is_marked c at marks x ≡ true) ⊎ (x ≡ kind)
   unfolding is_marked
   marked_others x is =
       ⊎_elim

@@ -33,8 +33,9 @@ none_queued [] after same rest = refl
 none_queued (first ∷ queue) after same rest = absurd (omega (arith, ap length (same ∙ rest)))
 
 -- a type that is no subclass of the base is passed over
-pub passed_over : (pairs : Pairs) (base default : List ℕ) (kinds : List (Bor (List ℕ))) (i : ℕ) (d : Bor (List ℕ)) → i < length kinds
-    → (IsA pairs (get_or kinds i d).now base → ⊥) → (answer : List ℕ) → IsFirst pairs base default (texts (drop (i + 1) kinds)) answer
+pub passed_over : (pairs : Pairs) (base default : List ℕ) (kinds : List (Bor (List ℕ))) (i : ℕ) (d : Bor (List ℕ))
+    → i < length kinds → (IsA pairs (get_or kinds i d).now base → ⊥) → (answer : List ℕ)
+    → IsFirst pairs base default (texts (drop (i + 1) kinds)) answer
     → IsFirst pairs base default (texts (drop i kinds)) answer
 passed_over pairs base default kinds i d within never answer rest =
     subst (λ (ks : List (Bor (List ℕ))). IsFirst pairs base default (texts ks) answer) (sym (drop-cons kinds i d within))

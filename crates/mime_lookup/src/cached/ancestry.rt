@@ -5,7 +5,8 @@
 //! marked type leads to the base, so no entry is expanded twice. Over damaged bytes it ends since each type
 //! that enters the queue takes a record of the budget.
 
-ghost use Rattle.std.specs.Prelude.{◌≡◌, ◌↔◌, ◌⊎◌, ℕ, ◌+◌, ◌*◌, ◌≤◌, ◌∷◌, ◌++◌, false, Contains, List, length, map, IfErr, IfOk, IsTrue, OnOk};
+ghost use Rattle.std.specs.Prelude.{◌≡◌, ◌↔◌, ◌⊎◌, ℕ, ◌+◌, ◌*◌, ◌≤◌, ◌∷◌, ◌++◌, false};
+ghost use Rattle.std.specs.Prelude.{Contains, length, map, IfErr, IfOk, IsTrue, OnOk};
 ghost use Rattle.std.specs.VecDeque.{deque_len};
 ghost use Rattle.mime_base.specs.Cache.Bytes.{field};
 ghost use Rattle.mime_base.specs.Database.{PlainDatabase, pairs_of};
@@ -16,7 +17,7 @@ ghost use Rattle.mime_lookup.specs.Ancestry.{Expanded, NoneLeadsTo, texts, unmar
 ghost use Rattle.mime_lookup.specs.Choice.{IsFirst};
 ghost use Rattle.mime_lookup.specs.Costs.{Costs};
 ghost use Rattle.mime_lookup.specs.Spelling.{SpellsPairs};
-ghost use Rattle.mime_lookup.specs.Searching.{search_cost};
+ghost use Rattle.mime_lookup.specs.Searching.{expansion_cost, search_cost, step_cost};
 ghost use Rattle.mime_lookup.specs.StepFaults.{IsAliasFault, IsSearchFault};
 
 use crate::subclass::is_by_itself;
@@ -121,11 +122,11 @@ fn expand<'a>(
     ensures bytes_rise { meter.old.bytes ≤ meter.new.bytes }
     ensures nodes { meter.new.nodes + 59 * budget.new.records ≤ meter.old.nodes + 59 * budget.old.records + 29 }
     ensures bytes { meter.new.bytes + search_cost * budget.new.records
-        ≤ meter.old.bytes + search_cost * budget.old.records + 6912 }
+        ≤ meter.old.bytes + search_cost * budget.old.records + expansion_cost }
     ensures nodes_ahead { OnOk result (meter.new.nodes + 59 * budget.new.records + 29 * deque_len queue.new
         ≤ meter.old.nodes + 59 * budget.old.records + 29 * deque_len queue.old + 29) }
-    ensures bytes_ahead { OnOk result (meter.new.bytes + search_cost * budget.new.records + 7424 * deque_len queue.new
-        ≤ meter.old.bytes + search_cost * budget.old.records + 7424 * deque_len queue.old + 6912) }
+    ensures bytes_ahead { OnOk result (meter.new.bytes + search_cost * budget.new.records + step_cost * deque_len queue.new
+        ≤ meter.old.bytes + search_cost * budget.old.records + step_cost * deque_len queue.old + expansion_cost) }
 {
     let found = cache.parents_of(alloc, kind, marks, meter, budget)?;
     let Some(parents) = found else {
@@ -151,7 +152,7 @@ fn push_resolved<'a>(
     ensures rises { meter.old.nodes ≤ meter.new.nodes }
     ensures nodes { meter.new.nodes ≤ meter.old.nodes + 29 * length kinds.now }
     ensures bytes_rise { meter.old.bytes ≤ meter.new.bytes }
-    ensures bytes { meter.new.bytes ≤ meter.old.bytes + 7424 * length kinds.now }
+    ensures bytes { meter.new.bytes ≤ meter.old.bytes + step_cost * length kinds.now }
 {
     for kind in kinds {
         queue.push_back(cache.unalias(*kind, meter, budget)?)?;

@@ -1,11 +1,11 @@
 //! Whether a type is a subclass of another, by a cache ("Subclassing").
 
-ghost use Rattle.std.specs.Prelude.{◌≡◌, ◌≢◌, ◌⊎◌, ◌↔◌, ℕ, ◌/◌, ◌≤◌, length, IfErr, IfOk, IsTrue, MatchResult};
+ghost use Rattle.std.specs.Prelude.{◌≡◌, ◌≢◌, ◌⊎◌, ◌↔◌, ◌+◌, ◌*◌, ◌/◌, ◌≤◌, length, IfErr, IfOk, IsTrue, MatchResult};
 ghost use Rattle.mime_base.specs.Database.{PlainDatabase, pairs_of};
 ghost use Rattle.mime_base.specs.Database.Subclass.{IsA, resolved};
 ghost use Rattle.mime_base.specs.Format.Packed.{Packed};
 ghost use Rattle.mime_lookup.specs.Bounds.{KeepsBounds};
-ghost use Rattle.mime_lookup.specs.Cached.{IsStop};
+ghost use Rattle.mime_lookup.specs.Searching.{search_cost};
 ghost use Rattle.mime_lookup.specs.Spelling.{SpellsPairs};
 ghost use Rattle.mime_lookup.specs.StepFaults.{IsLookUpFault};
 
@@ -56,7 +56,17 @@ fn search<'a>(
     kind: &'a [u8],
     base: &'a [u8],
     meter: &mut Meter,
-) -> Result<bool, CacheFault> {
+) -> Result<bool, CacheFault>
+    requires base { length base.now ≤ 255 }
+    ensures answer { (b : PlainDatabase) → SpellsPairs cache.entry b → IfOk result
+        (λ is. IsTrue is ↔ IsA (pairs_of b) (resolved b.aliases kind.entry.now) (resolved b.aliases base.entry.now)) }
+    ensures need { (b : PlainDatabase) → SpellsPairs cache.entry b → length cache.entry ≤ 268435456 → Packed cache.entry b →
+        IfErr result (λ e. e ≡ CacheFault.OutOfMemory) }
+    ensures fault { IfErr result (IsLookUpFault cache.entry) }
+    ensures spent { IfErr result (λ e. e ≡ CacheFault.Spent → length cache.entry / 4 ≤ meter.new.nodes) }
+    ensures nodes { meter.new.nodes ≤ meter.old.nodes + 88 + 59 * (length cache.entry / 4) }
+    ensures bytes { meter.new.bytes ≤ meter.old.bytes + 22528 + search_cost * (length cache.entry / 4) }
+{
     let cache = Cache::open(cache, meter)?;
     let mut budget = Budget::of(&cache);
     let kind = cache.unalias(kind, meter, &mut budget)?;

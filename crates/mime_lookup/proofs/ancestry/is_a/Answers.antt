@@ -8,16 +8,19 @@ pub returns-then-is_by_itself-clause-answer : goal.returns-then-is_by_itself-cla
 returns-then-is_by_itself-clause-answer c = λ none. (
   (λ _. searched_found (pairs_at c.args.aliases.now.pairs.now c.args.parents.now.pairs.now) c.args.base.now c.args.kind.now
       (is_one_of (texts c.loop-here.marks.keys)) c.in-Some.here.now (texts c.pop_front.new.self.items)
-      (rw c.in-Some.ensures.items at (c.loop-here.invariant none))
-      (sym c.is_by_itself.ensures ∙ c.if-is_by_itself.true)),
+      (rw c.in-Some.ensures.items at (c.loop-here.invariant.searched none))
+      (sym c.is_by_itself.ensures.answer ∙ c.if-is_by_itself.true)),
   (λ _. refl),
 )
 
 pub loop-here-preserved : goal.loop-here-preserved
-loop-here-preserved c = λ none.
-    searched_more (pairs_at c.args.aliases.now.pairs.now c.args.parents.now.pairs.now) c.args.base.now c.args.kind.now
-    (is_one_of (texts c.loop-here.marks.keys)) (is_one_of (texts c.expand.new.marks.keys)) c.in-Some.here.now
-    (texts c.pop_front.new.self.items) (texts c.expand.new.queue.items)
-    (rw c.in-Some.ensures.items at (c.loop-here.invariant none))
-    (sym c.is_by_itself.ensures ∙ c.if-is_by_itself.false)
-    c.in_ok-expand.ensures.expanded
+loop-here-preserved c = record {
+  nodes = c.is_by_itself.ensures.nodes ∙ c.loop-here.invariant.nodes;
+  searched = λ none.
+      searched_more (pairs_at c.args.aliases.now.pairs.now c.args.parents.now.pairs.now) c.args.base.now c.args.kind.now
+      (is_one_of (texts c.loop-here.marks.keys)) (is_one_of (texts c.expand.new.marks.keys)) c.in-Some.here.now
+      (texts c.pop_front.new.self.items) (texts c.expand.new.queue.items)
+      (rw c.in-Some.ensures.items at (c.loop-here.invariant.searched none))
+      (sym c.is_by_itself.ensures.answer ∙ c.if-is_by_itself.false)
+      c.in_ok-expand.ensures.expanded;
+}

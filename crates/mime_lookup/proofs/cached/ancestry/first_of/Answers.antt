@@ -1,7 +1,6 @@
-use Rattle.std.proofs.Common.{◌+◌, [], length, arith}
+use Rattle.std.proofs.Common.{◌+◌, [], length, sym, true≢false, ◌∙◌, arith}
 use Rattle.mime_base.specs.Cache.Bytes.{field}
 use Rattle.mime_base.specs.Database.{pairs_of}
-use Rattle.mime_base.specs.Database.Subclass.{IsA}
 use Rattle.mime_view.specs.Parents.{is_marked}
 use Rattle.mime_lookup.proofs.CostLemmas.{costs_none}
 use Rattle.mime_lookup.proofs.PairsLeft.{unmarked_most}
@@ -28,20 +27,21 @@ loop-kind-preserved c = record {
   rest = λ b spells answer rest.
       c.loop-kind.invariant.rest b spells answer
       (passed_over (pairs_of b) c.args.base.now c.args.default.now c.args.kinds.now c.loop-kind.kind-index _ c.loop-kind-test.true
-      (λ (is_a : IsA (pairs_of b) _ c.args.base.now). cc ((c.in_ok-leads_to.ensures.answer b spells (c.loop-kind.invariant.settled b spells)).1 is_a, c.if-branch.false))
+      (λ is_a. true≢false (sym ((c.in_ok-leads_to.ensures.answer b spells (c.loop-kind.invariant.settled b spells)).1 is_a)
+      ∙ c.if-branch.false))
       answer rest);
   owed = λ b spells. omega (arith, c.loop-kind.invariant.owed b spells, c.in_ok-leads_to.ensures.owed b spells);
   cost =
-      costs_next c.loop-kind.kind-index c.args.budget.now c.loop-kind.budget c.leads_to.new.budget c.args.meter.now c.loop-kind.meter
-      c.leads_to.new.meter c.loop-kind.invariant.cost c.leads_to.ensures.cost;
+      costs_next c.loop-kind.kind-index c.args.budget.now c.loop-kind.budget c.leads_to.new.budget c.args.meter.now
+      c.loop-kind.meter c.leads_to.new.meter c.loop-kind.invariant.cost c.leads_to.ensures.cost;
 }
 
 pub returns-in_err-leads_to-clause-cost : goal.returns-in_err-leads_to-clause-cost
 returns-in_err-leads_to-clause-cost c = λ each value enough.
     costs_all each value (c.loop-kind.kind-index + 1) (length c.args.kinds.now) c.args.budget.now c.leads_to.new.budget
     c.args.meter.now c.leads_to.new.meter enough (omega (arith, c.loop-kind-test.true))
-    (costs_next c.loop-kind.kind-index c.args.budget.now c.loop-kind.budget c.leads_to.new.budget c.args.meter.now c.loop-kind.meter
-    c.leads_to.new.meter c.loop-kind.invariant.cost c.leads_to.ensures.cost)
+    (costs_next c.loop-kind.kind-index c.args.budget.now c.loop-kind.budget c.leads_to.new.budget c.args.meter.now
+    c.loop-kind.meter c.leads_to.new.meter c.loop-kind.invariant.cost c.leads_to.ensures.cost)
 
 pub returns-then-branch-clause-one : goal.returns-then-branch-clause-one
 returns-then-branch-clause-one c =
@@ -51,8 +51,8 @@ pub returns-then-branch-clause-cost : goal.returns-then-branch-clause-cost
 returns-then-branch-clause-cost c = λ each value enough.
     costs_all each value (c.loop-kind.kind-index + 1) (length c.args.kinds.now) c.args.budget.now c.leads_to.new.budget
     c.args.meter.now c.leads_to.new.meter enough (omega (arith, c.loop-kind-test.true))
-    (costs_next c.loop-kind.kind-index c.args.budget.now c.loop-kind.budget c.leads_to.new.budget c.args.meter.now c.loop-kind.meter
-    c.leads_to.new.meter c.loop-kind.invariant.cost c.leads_to.ensures.cost)
+    (costs_next c.loop-kind.kind-index c.args.budget.now c.loop-kind.budget c.leads_to.new.budget c.args.meter.now
+    c.loop-kind.meter c.leads_to.new.meter c.loop-kind.invariant.cost c.leads_to.ensures.cost)
 
 pub returns-clause-cost : goal.returns-clause-cost
 returns-clause-cost c = λ each value enough.

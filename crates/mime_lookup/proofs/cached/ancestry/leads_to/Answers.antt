@@ -10,7 +10,8 @@ use Rattle.mime_lookup.proofs.cached.ancestry.leads_to.Goals as goal
 pub returns-then-is_by_itself-clause-answer : goal.returns-then-is_by_itself-clause-answer
 returns-then-is_by_itself-clause-answer c = λ b spells none. (
   (λ _. searched_found (pairs_of b) c.args.base.now c.args.kind.now
-      (is_marked c.args.cache.now (field c.args.cache.now 0 2) c.loop-here.marks) c.in-Some.here.now (texts c.pop_front.new.self.items)
+      (is_marked c.args.cache.now (field c.args.cache.now 0 2) c.loop-here.marks) c.in-Some.here.now
+      (texts c.pop_front.new.self.items)
       (rw c.in-Some.ensures.items at (c.loop-here.invariant.searched b spells none))
       (sym c.is_by_itself.ensures.answer ∙ c.if-is_by_itself.true)),
   (λ _. refl),
@@ -40,7 +41,8 @@ pub returns-clause-answer : goal.returns-clause-answer
 returns-clause-answer c = λ b spells none.
     let marked = is_marked c.args.cache.now (field c.args.cache.now 0 2) c.loop-here.marks in
     let so_far = c.loop-here.invariant.searched b spells none in
-    let left = none_queued c.loop-here.queue.items c.pop_front.new.self.items c.in_default.ensures.items c.in_default.ensures.rest in
+    let left = none_queued c.loop-here.queue.items c.pop_front.new.self.items c.in_default.ensures.items
+    c.in_default.ensures.rest in
     let all = searched_all (pairs_of b) c.args.base.now c.args.kind.now marked (rw left at so_far) in
     ((λ is. absurd (true≢false (sym is))), (λ is_a. absurd (all.0 is_a)))
 
@@ -48,5 +50,6 @@ pub returns-clause-marked : goal.returns-clause-marked
 returns-clause-marked c = λ b spells none _.
     let marked = is_marked c.args.cache.now (field c.args.cache.now 0 2) c.loop-here.marks in
     let so_far = c.loop-here.invariant.searched b spells none in
-    let left = none_queued c.loop-here.queue.items c.pop_front.new.self.items c.in_default.ensures.items c.in_default.ensures.rest in
+    let left = none_queued c.loop-here.queue.items c.pop_front.new.self.items c.in_default.ensures.items
+    c.in_default.ensures.rest in
     (searched_all (pairs_of b) c.args.base.now c.args.kind.now marked (rw left at so_far)).1

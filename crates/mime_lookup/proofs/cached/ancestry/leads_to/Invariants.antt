@@ -5,7 +5,7 @@ use Rattle.mime_base.specs.Database.{PlainDatabase, pairs_of}
 use Rattle.mime_base.specs.Meter.{raised}
 use Rattle.mime_view.specs.Parents.{is_marked}
 use Rattle.mime_lookup.specs.Ancestry.{NoneLeadsTo, texts, unmarked}
-use Rattle.mime_lookup.specs.Searching.{search_cost}
+use Rattle.mime_lookup.specs.Searching.{search_cost, step_cost}
 use Rattle.mime_lookup.specs.Spelling.{SpellsPairs}
 use Rattle.mime_lookup.proofs.Searches.{Searched}
 use Rattle.mime_lookup.proofs.cached.ancestry.leads_to.Given as goal
@@ -24,8 +24,8 @@ invariant-loop-here l = record {
   fair : raised l.fn.meter.nodes l.fn.budget.records ≤ l.meter.nodes + l.budget.records;
   nodes : l.meter.nodes + 59 * l.budget.records + 29 * deque_len l.queue ≤ l.fn.meter.nodes + 59 * l.fn.budget.records + 29;
   bytes_rise : l.fn.meter.bytes ≤ l.meter.bytes;
-  bytes : l.meter.bytes + search_cost * l.budget.records + 7424 * deque_len l.queue
-      ≤ l.fn.meter.bytes + search_cost * l.fn.budget.records + 7424;
+  bytes : l.meter.bytes + search_cost * l.budget.records + step_cost * deque_len l.queue
+      ≤ l.fn.meter.bytes + search_cost * l.fn.budget.records + step_cost;
 }
 
 abbrev pub decreases-loop-here : goal.decreases-loop-here

@@ -3,6 +3,7 @@ use Rattle.std.specs.VecDeque.{deque_len}
 use Rattle.mime_base.specs.Database.{PlainDatabase}
 use Rattle.mime_base.specs.Database.Subclass.{resolved}
 use Rattle.mime_lookup.specs.Ancestry.{texts}
+use Rattle.mime_lookup.specs.Searching.{step_cost}
 use Rattle.mime_lookup.specs.Spelling.{SpellsPairs}
 use Rattle.mime_lookup.proofs.cached.ancestry.push_resolved.Given as goal
 
@@ -15,5 +16,5 @@ invariant-loop-kind l = record {
   rises : l.fn.meter.nodes ≤ l.meter.nodes;
   nodes : l.meter.nodes ≤ l.fn.meter.nodes + 29 * l.kind-index;
   bytes_rise : l.fn.meter.bytes ≤ l.meter.bytes;
-  bytes : l.meter.bytes ≤ l.fn.meter.bytes + 7424 * l.kind-index;
+  bytes : l.meter.bytes ≤ l.fn.meter.bytes + step_cost * l.kind-index;
 }
