@@ -110,11 +110,10 @@ returns-then-are_one_type-clause-near c b globs decide =
     let items = c.in_ok-kept.kept.items in
     let kept = c.in_ok-kept.ensures in
     let base = resolved_finding b.aliases (plain_finding c.args.finding) in
-    let one : are_one_type (texts items) ≡ true = rw c.deref.ensures.value at (sym c.are_one_type.ensures.answer ∙ c.if-are_one_type.true) in
-    (
+    let one : are_one_type (texts items) ≡ true = rw c.deref.ensures.value at (sym c.are_one_type.ensures.answer ∙ c.if-are_one_type.true) in (
       rw (← kept.answer b globs) (subst (ChoosesAmong (pairs_of b) (texts items) base)
-      (sym (ap (λ (text : Bor (List ℕ)). text.now) c.index.ensures ∙ first_text items c.index.result.now one))
-      (one_type_chosen (pairs_of b) (texts items) base one)),
+          (sym (ap (λ (text : Bor (List ℕ)). text.now) c.index.ensures ∙ first_text items c.index.result.now one))
+          (one_type_chosen (pairs_of b) (texts items) base one)),
       omega (arith, c.are_one_type.ensures.nodes, kept.nodes, kept.takes_near b globs, kept.few b globs),
     )
 
@@ -135,8 +134,7 @@ returns-clause-near c b globs decide =
     let unspent = (rw c.deref-2.ensures.value at c.in_ok-kind.ensures.unspent) none.0 in
     let cost = rw c.deref-2.ensures.value at (c.in_ok-kind.ensures.cost 15104 0 (omega arith)) in
     let no_kinds : length c.in_ok-kept.kept.items ≡ 0 =
-    sym (length-map c.in_ok-kept.kept.items (λ (text : Bor (List ℕ)). text.now)) ∙ ap length none.0 in
-    (
+    sym (length-map c.in_ok-kept.kept.items (λ (text : Bor (List ℕ)). text.now)) ∙ ap length none.0 in (
       rw (← kept.answer b globs, none.0) base,
       omega (
         arith,

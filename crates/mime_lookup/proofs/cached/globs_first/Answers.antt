@@ -174,10 +174,9 @@ pub returns-then-are_one_type-clause-near : goal.returns-then-are_one_type-claus
 returns-then-are_one_type-clause-near g c b globs decide =
     let items = c.in_ok-kept.kept.items in
     let kept = c.in_ok-kept.ensures in
-    let one : are_one_type (texts items) ≡ true = rw c.deref.ensures.value at (sym c.are_one_type.ensures.answer ∙ c.if-are_one_type.true) in
-    (
+    let one : are_one_type (texts items) ≡ true = rw c.deref.ensures.value at (sym c.are_one_type.ensures.answer ∙ c.if-are_one_type.true) in (
       by_globs b c.args.name.now c.args.host GlobsFirst refl (texts items) (kept.answer b globs) _ _ one
-      (ap (λ (text : Bor (List ℕ)). text.now) c.index.ensures ∙ first_text items c.index.result.now one),
+          (ap (λ (text : Bor (List ℕ)). text.now) c.index.ensures ∙ first_text items c.index.result.now one),
       omega (arith, c.are_one_type.ensures.nodes, kept.nodes, kept.takes_near b globs, kept.few b globs),
     )
 
@@ -208,11 +207,10 @@ returns-clause-near g c b globs decide =
     let unspent = (rw c.deref-2.ensures.value at c.in_ok-kind.ensures.unspent) none.0 in
     let cost = rw c.deref-2.ensures.value at (c.in_ok-kind.ensures.cost 15104 0 (omega arith)) in
     let no_kinds : length c.in_ok-kept.kept.items ≡ 0 =
-    sym (length-map c.in_ok-kept.kept.items (λ (text : Bor (List ℕ)). text.now)) ∙ ap length none.0 in
-    (
+    sym (length-map c.in_ok-kept.kept.items (λ (text : Bor (List ℕ)). text.now)) ∙ ap length none.0 in (
       by_globs_and_content b c.args.name.now c.args.host GlobsFirst refl kinds (kept.answer b globs) _
-      (resolved_finding b.aliases found) c.in_ok-kind.kind.now
-      (sniffed-where b c.args.host found _ (rw none.1 (c.in_ok-finding.ensures.unavailable none.1))) (rw none.0 base),
+          (resolved_finding b.aliases found) c.in_ok-kind.kind.now
+          (sniffed-where b c.args.host found _ (rw none.1 (c.in_ok-finding.ensures.unavailable none.1))) (rw none.0 base),
       omega (
         arith,
         cost.nodes,

@@ -142,10 +142,9 @@ returns-clause-near g c b globs decide =
     let without = decide_without b c.args.name.now (c.args.content.now ≡ None) decide in
     let same = (c.in_ok-finding.ensures.none without.0).0 in
     let found = plain_finding c.in_ok-finding.finding in
-    let near = c.in_ok-kind-2.ensures.near b globs without.1 in
-    (
+    let near = c.in_ok-kind-2.ensures.near b globs without.1 in (
       by_low_magic b c.args.name.now c.args.host found _ c.in_ok-kind-2.kind.now
-      (rw without.0 (c.in_ok-finding.ensures.unavailable without.0)) (kept (pairs_of b) b.rules c.args.name.now) refl
-      (sym c.is_high.ensures ∙ c.if-is_high.false) near.0,
+          (rw without.0 (c.in_ok-finding.ensures.unavailable without.0)) (kept (pairs_of b) b.rules c.args.name.now) refl
+          (sym c.is_high.ensures ∙ c.if-is_high.false) near.0,
       omega (arith, near.1, ap (λ (meter : Meter). meter.nodes) same.1),
     )
