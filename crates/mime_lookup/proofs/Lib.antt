@@ -30,5 +30,8 @@ pub mod Queues
 pub mod SearchCosts
 pub mod MagicFirst
 pub mod BoundLemmas
+pub mod GlobsCosts
+pub mod MagicCosts
+pub mod NearLemmas
 pub mod OpenCaches
 pub mod CauseLemmas

@@ -1,13 +1,13 @@
 -- The answer where magic is asked first, by what was found in the content.
-use Rattle.std.proofs.Common.{◌≡◌, ℕ, true, false, refl, List, [], Option, get_or}
+use Rattle.std.proofs.Common.{◌≡◌, ℕ, true, false, refl, List, Option}
 use Rattle.std.specs.Prelude.{IfSome}
 use Rattle.mime_base.specs.Database.{PlainDatabase, pairs_of}
 use Rattle.mime_base.specs.declared.magic.host.Host.{Host}
-use Rattle.mime_lookup.specs.CheckingOrder.{Chooses, are_one_type}
+use Rattle.mime_lookup.specs.CheckingOrder.{Chooses}
 use Rattle.mime_lookup.specs.Choice.{ChoosesAmong, kept}
 use Rattle.mime_lookup.specs.Finding.{PlainFinding, found_in, is_high, resolved_finding}
 use Rattle.mime_lookup.specs.declared.order.Order.TheVariants.{MagicFirst}
-use Rattle.mime_lookup.proofs.Answering.{by_magic, by_magic_and_globs, one_type_chosen}
+use Rattle.mime_lookup.proofs.Answering.{by_magic, by_magic_and_globs}
 use Rattle.mime_lookup.proofs.Findings.{before_globs-where, sniffed-where}
 
 module _ (b : PlainDatabase) (name : List ℕ) (host : Host) (found : PlainFinding) (known : Option (Option (List ℕ))) (answer : List ℕ)
@@ -27,10 +27,3 @@ module _ (b : PlainDatabase) (name : List ℕ) (host : Host) (found : PlainFindi
     by_low_magic kinds are low chosen =
         by_magic_and_globs b name host MagicFirst refl (resolved_finding b.aliases found) (is_high found) known kinds answer are low
         (before_globs-where b host found known is) (sniffed-where b host found known is) chosen
-
-    -- magic of low priority, or none, and one type by the globs
-    pub by_one_type : (kinds : List (List ℕ)) → kinds ≡ kept (pairs_of b) b.rules name → is_high found ≡ false →
-        are_one_type kinds ≡ true → answer ≡ get_or kinds 0 [] →
-        IfSome known (λ content. Chooses b name content host MagicFirst answer)
-    by_one_type kinds are low one same =
-        by_low_magic kinds are low (rw same (one_type_chosen (pairs_of b) kinds (resolved_finding b.aliases found) one))

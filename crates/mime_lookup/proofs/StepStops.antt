@@ -1,24 +1,37 @@
 -- Why a lookup over a cache stops, by the step that stopped.
-use Rattle.std.proofs.Common.{◌≡◌, ◌⊎◌, ℕ, List, Result, Ok, Err, inl, inr, subst, sym}
+use Rattle.std.proofs.Common.{◌≡◌, ◌⊎◌, ℕ, List, Result, Ok, Err, inl, inr, refl, subst, sym}
 use Rattle.std.specs.Prelude.{IfErr, IsErrAnd}
-use Rattle.mime_lookup.specs.Cached.{IsStop}
+use Rattle.mime_lookup.specs.Cached.{IsStop, cause_of}
 use Rattle.mime_lookup.specs.StepFaults.{IsAliasFault, IsLookUpFault, IsSearchFault, of_search}
 use Rattle.mime_lookup.specs.declared.stopped.Cause.{Cause}
+use Rattle.mime_lookup.specs.declared.stopped.Cause.TheVariants as cause
 use Rattle.mime_view.specs.declared.budget.Budget.{Budget}
 use Rattle.mime_view.specs.declared.fault.CacheFault.{CacheFault}
+use Rattle.mime_view.specs.declared.fault.CacheFault.TheVariants as fault
 
 -- a fault of one step, as one of the lookup
-pub stop_weaker : (IsFault IsOther : CacheFault → Type 0) (cause : Cause) → ((e : CacheFault) → IsFault e → IsOther e)
-    → IsStop IsFault cause → IsStop IsOther cause
-stop_weaker IsFault IsOther cause weaker (inl read) = inl read
-stop_weaker IsFault IsOther cause weaker (inr (inl memory)) = inr (inl memory)
-stop_weaker IsFault IsOther cause weaker (inr (inr stop)) = inr (inr (stop.0, stop.1, stop.2, weaker stop.0 stop.3))
+pub stop_weaker : (IsFault IsOther : CacheFault → Type 0) (stop : Cause) → ((e : CacheFault) → IsFault e → IsOther e)
+    → IsStop IsFault stop → IsStop IsOther stop
+stop_weaker IsFault IsOther stop weaker (inl read) = inl read
+stop_weaker IsFault IsOther stop weaker (inr (inl memory)) = inr (inl memory)
+stop_weaker IsFault IsOther stop weaker (inr (inr other)) = inr (inr (other.0, other.1, other.2, weaker other.0 other.3))
 
 -- an error that is passed on
-pub passed_on : {X : Type 0} (IsSo : Cause → Type 0) (cause : Cause) (result : Result X Cause)
-    → IsErrAnd result (λ passed. passed ≡ cause) → IsSo cause → IfErr result IsSo
-passed_on IsSo cause (Ok x) same is = tt
-passed_on IsSo cause (Err passed) same is = subst IsSo (sym same) is
+pub passed_on : {X E : Type 0} (IsSo : E → Type 0) (error : E) (result : Result X E)
+    → IsErrAnd result (λ passed. passed ≡ error) → IsSo error → IfErr result IsSo
+passed_on IsSo error (Ok x) same is = tt
+passed_on IsSo error (Err passed) same is = subst IsSo (sym same) is
+
+-- a budget that is spent is no other fault
+pub spent_fault : (e : CacheFault) → cause_of e ≡ cause.Cache fault.Spent → e ≡ fault.Spent
+spent_fault fault.Truncated same = absurd cc
+spent_fault (fault.Version major minor) same = absurd cc
+spent_fault fault.TooLarge same = absurd cc
+spent_fault (fault.OutOfRange at) same = absurd cc
+spent_fault (fault.LongText at) same = absurd cc
+spent_fault fault.Spent same = refl
+spent_fault fault.TooDeep same = absurd cc
+spent_fault fault.OutOfMemory same = absurd cc
 
 -- a fault of the choice among the kept types
 pub choice_fault : (c : List ℕ) (after : Budget) (e : CacheFault) → IsAliasFault c e ⊎ IsSearchFault c after e → IsLookUpFault c e

@@ -15,3 +15,4 @@ pub mod Cached
 pub mod Icons
 pub mod Affords
 pub mod Searching
+pub mod Headline

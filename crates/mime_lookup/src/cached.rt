@@ -3,14 +3,18 @@
 ghost use Rattle.std.specs.Prelude.{◌≡◌, ◌≢◌, ◌⊎◌, ℕ, ◌+◌, ◌*◌, ◌/◌, ◌<◌, ◌≤◌, List, max, length, IfOk, IfErr, OnOk, IfSome, MatchResult};
 ghost use Rattle.std.specs.Prelude.{All, Contains, true, false, ⊤, Ok, Some, None, []};
 ghost use Rattle.mime_base.specs.Cache.Texts.{text_at};
+ghost use Rattle.std.specs.Prelude.{IsOkAnd};
+ghost use Rattle.mime_base.specs.Cache.Bytes.{Stands};
 ghost use Rattle.mime_base.specs.Database.{PlainDatabase, pairs_of};
 ghost use Rattle.mime_base.specs.Database.Limits.{IsWithinLimits};
 ghost use Rattle.mime_base.specs.Format.Spells.{Spells};
+ghost use Rattle.mime_base.specs.Format.Header.{HeaderAt, Offsets};
+ghost use Rattle.mime_base.specs.Format.Pairs.{PairsAt};
 ghost use Rattle.mime_base.specs.Format.Packed.{Packed, matchlet_count, value_length};
 ghost use Rattle.mime_base.specs.Format.Stored.{glob_rules, literal_rules};
 ghost use Rattle.mime_base.specs.Format.SuffixTree.{tree_size};
 ghost use Rattle.mime_view.specs.Hits.{near};
-ghost use Rattle.mime_lookup.specs.Affords.{Affords};
+ghost use Rattle.mime_lookup.specs.Affords.{Affords, rule_records};
 ghost use Rattle.mime_lookup.specs.Ancestry.{texts};
 ghost use Rattle.mime_lookup.specs.Bounds.{KeepsBounds, near_max, stated_extent};
 ghost use Rattle.mime_lookup.specs.Cached.{IsFinding, IsKind, IsStop, plain_finding};
@@ -19,6 +23,7 @@ ghost use Rattle.mime_lookup.specs.Choice.{ChoosesAmong, kept};
 ghost use Rattle.mime_lookup.specs.Content.{Advances, GivesUp, Retries, OfReader, broken, known_content, sound};
 ghost use Rattle.mime_lookup.specs.Costs.{Costs, ahead, glob_cost, record_cost};
 ghost use Rattle.mime_lookup.specs.Finding.{PlainFinding, found_in, is_high, resolved_finding};
+ghost use Rattle.mime_lookup.specs.Headline.{IsHeadline};
 ghost use Rattle.mime_lookup.specs.Reads.{AsksUnless, Reads};
 ghost use Rattle.mime_lookup.specs.Spelling.{SpellsGlobs, SpellsMagic, SpellsPairs};
 ghost use Rattle.mime_lookup.specs.StepFaults.{IsAliasFault, IsGlobsFault, IsLookUpFault, IsSearchFault, IsSniffFault};
@@ -68,6 +73,7 @@ pub fn look_up<'a, R: Content>(
     host: Host,
     order: Order,
 ) -> Result<Answer<'a>, Stopped>
+    ensures headline { IsHeadline R.remaining R.tally cache.entry name.now content.old content.new host order result }
     ensures chosen { (b : PlainDatabase) → IsWithinLimits b → Spells cache.entry b → IfOk result
         (λ answer. IfSome (known_content R.remaining content.old)
         (λ known. Chooses b name.now known host order answer.kind.now)) }
@@ -104,6 +110,12 @@ pub fn look_up<'a, R: Content>(
         (λ stopped. KeepsBounds (length name.now) cache.entry stopped.read stopped.meter) }
     ensures spent { content.old ≡ None → IfErr result (λ stopped. stopped.cause ≡ Cause.Cache CacheFault.Spent
         → length cache.entry / 4 ≤ stopped.meter.nodes) }
+    ensures near { (b : PlainDatabase) → SpellsGlobs cache.entry b → length cache.entry ≤ 268435456
+        → GlobsDecide b name.now order (content.old ≡ None) → MatchResult result
+        (λ answer. IfSome (known_content R.remaining content.old)
+        (λ known. Chooses b name.now known host order answer.kind.now)
+        × (answer.meter.nodes ≤ near_max (length name.now) (near name.now b.rules)))
+        (λ stopped. Packed cache.entry b → length name.now ≤ 4096 → stopped.cause ≡ Cause.OutOfMemory) }
 {
     let mut read = 0;
     let mut meter = Meter::new();
@@ -149,6 +161,12 @@ fn open_and_find<'a, R: Content>(
         AsksUnless R.health (globs_suffice b name.now order) content.old content.new result }
     ensures spent { content.old ≡ None → IfErr result
         (λ cause. cause ≡ Cause.Cache CacheFault.Spent → length cache.entry / 4 ≤ meter.new.nodes) }
+    ensures near { (b : PlainDatabase) → SpellsGlobs cache.entry b → GlobsDecide b name.now order (content.old ≡ None) → IfOk result
+        (λ kind. IfSome (known_content R.remaining content.old) (λ known. Chooses b name.now known host order kind.now)
+        × (meter.new.nodes ≤ near_max (length name.now) (near name.now b.rules))) }
+    ensures near_need { (b : PlainDatabase) → SpellsGlobs cache.entry b → length cache.entry ≤ 268435456 →
+        GlobsDecide b name.now order (content.old ≡ None) → Packed cache.entry b →
+        IfErr result (λ cause. cause ≡ Cause.OutOfMemory) }
     ensures bounds { KeepsBounds (length name.now) cache.entry read.new meter.new }
 {
     let cache = Cache::open(cache, meter)?;
@@ -205,6 +223,12 @@ fn globs_first<'a, R: Content>(
         AsksUnless R.health (globs_suffice b name.now Order.GlobsFirst) content.old content.new result }
     ensures spent { content.old ≡ None → IfErr result
         (λ cause. cause ≡ Cause.Cache CacheFault.Spent → budget.new.records ≡ 0) }
+    ensures near { (b : PlainDatabase) → SpellsGlobs cache.now b → GlobsDecide b name.now Order.GlobsFirst (content.old ≡ None) →
+        IfOk result (λ kind. IfSome (known_content R.remaining content.old)
+        (λ known. Chooses b name.now known host Order.GlobsFirst kind.now)
+        × (meter.new.nodes < meter.old.nodes + near_max (length name.now) (near name.now b.rules))) }
+    ensures near_need { (b : PlainDatabase) → SpellsGlobs cache.now b → GlobsDecide b name.now Order.GlobsFirst (content.old ≡ None) →
+        rule_records b ≤ budget.old.records → IfErr result (λ cause. cause ≡ Cause.OutOfMemory) }
     ensures cost { Costs (record_cost (length name.now)) (read.new + 1) (glob_cost (length name.now) + (2 + 29))
         budget.old budget.new meter.old meter.new }
 {
@@ -245,6 +269,12 @@ fn magic_first<'a, R: Content>(
         AsksUnless R.health (globs_suffice b name.now Order.MagicFirst) content.old content.new result }
     ensures spent { content.old ≡ None → IfErr result
         (λ cause. cause ≡ Cause.Cache CacheFault.Spent → budget.new.records ≡ 0) }
+    ensures near { (b : PlainDatabase) → SpellsGlobs cache.now b → GlobsDecide b name.now Order.MagicFirst (content.old ≡ None) →
+        IfOk result (λ kind. IfSome (known_content R.remaining content.old)
+        (λ known. Chooses b name.now known host Order.MagicFirst kind.now)
+        × (meter.new.nodes < meter.old.nodes + near_max (length name.now) (near name.now b.rules))) }
+    ensures near_need { (b : PlainDatabase) → SpellsGlobs cache.now b → GlobsDecide b name.now Order.MagicFirst (content.old ≡ None) →
+        rule_records b ≤ budget.old.records → IfErr result (λ cause. cause ≡ Cause.OutOfMemory) }
     ensures cost { Costs (record_cost (length name.now)) (read.new + 1) (glob_cost (length name.now) + (2 + 29))
         budget.old budget.new meter.old meter.new }
 {
@@ -253,6 +283,38 @@ fn magic_first<'a, R: Content>(
         let kind = resolve(cache, finding, meter, budget)?;
         return Ok(kind);
     }
+    let kind = by_globs(alloc, cache, name, finding, meter, budget)?;
+    Ok(kind)
+}
+
+// What the globs give, and where they conflict or are silent the choice by what was found.
+fn by_globs<'a>(
+    alloc: Global,
+    cache: &Cache<'a>,
+    name: &[u8],
+    finding: Finding<'a>,
+    meter: &mut Meter,
+    budget: &mut Budget,
+) -> Result<&'a [u8], CacheFault>
+    requires finding { IsFinding cache.now finding }
+    requires short { length name.now ≤ 4096 }
+    ensures answer { (b : PlainDatabase) → IsWithinLimits b → Spells cache.now b → IfOk result
+        (λ kind. ChoosesAmong (pairs_of b) (kept (pairs_of b) b.rules name.now)
+        (resolved_finding b.aliases (plain_finding finding.entry)) kind.now) }
+    ensures kind { IfOk result (λ kind. IsKind cache.now kind.now) }
+    ensures fault { IfErr result (IsLookUpFault cache.now) }
+    ensures need { (b : PlainDatabase) → IsWithinLimits b → Spells cache.now b →
+        rule_records b + length b.parents ≤ budget.old.records → IfErr result (λ e. e ≡ CacheFault.OutOfMemory) }
+    ensures spent { IfErr result (λ e. e ≡ CacheFault.Spent → budget.new.records ≡ 0) }
+    ensures near { (b : PlainDatabase) → SpellsGlobs cache.now b → GlobsDecide b name.now Order.GlobsFirst ⊤ → IfOk result
+        (λ kind. ChoosesAmong (pairs_of b) (kept (pairs_of b) b.rules name.now)
+        (resolved_finding b.aliases (plain_finding finding.entry)) kind.now
+        × (meter.new.nodes < meter.old.nodes + near_max (length name.now) (near name.now b.rules))) }
+    ensures near_need { (b : PlainDatabase) → SpellsGlobs cache.now b → GlobsDecide b name.now Order.GlobsFirst ⊤ →
+        rule_records b ≤ budget.old.records → IfErr result (λ e. e ≡ CacheFault.OutOfMemory) }
+    ensures cost { (value : ℕ) → Costs (record_cost (length name.now)) value (glob_cost (length name.now) + 29)
+        budget.old budget.new meter.old meter.new }
+{
     let kept = kept_kinds(alloc, cache, name, meter, budget)?;
     if are_one_type(&kept, meter) {
         return Ok(kept[0]);
@@ -295,6 +357,10 @@ fn choose<'a>(
         (λ kind. ChoosesAmong (pairs_of b) (texts kept.now)
         (resolved_finding b.aliases (plain_finding finding.entry)) kind.now) }
     ensures none { texts kept.now ≡ [] → IfOk result (λ kind. IsKind cache.now kind.now) }
+    ensures base { texts kept.now ≡ [] → (b : PlainDatabase) (offsets : Offsets) → HeaderAt (Stands cache.now) offsets →
+        PairsAt (Stands cache.now) offsets.aliases b.aliases → IsOkAnd result
+        (λ kind. kind.now ≡ resolved_finding b.aliases (plain_finding finding.entry)) }
+    ensures unspent { texts kept.now ≡ [] → budget.new ≡ budget.old }
     ensures one { IfOk result (λ kind. IsKind cache.now kind.now ⊎ Contains (texts kept.now) kind.now) }
     ensures need { (b : PlainDatabase) → SpellsMagic cache.now b → SpellsPairs cache.now b →
         length b.parents ≤ budget.old.records → IfErr result (λ e. e ≡ CacheFault.OutOfMemory) }

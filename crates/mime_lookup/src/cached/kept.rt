@@ -14,7 +14,7 @@ ghost use Rattle.mime_lookup.specs.Spelling.{SpellsGlobs};
 ghost use Rattle.mime_lookup.specs.StepFaults.{IsGlobsFault};
 
 use mime_base::Meter;
-use mime_view::{Budget, Cache, CacheFault};
+use mime_view::{Budget, Cache, CacheFault, kept_are_near};
 use std::alloc::Global;
 
 /// The types of the rules that are kept for a name, each after one alias step.
@@ -28,6 +28,8 @@ pub fn kept_kinds<'a>(
     requires short { length name.now ≤ 4096 }
     ensures answer { (b : PlainDatabase) → SpellsGlobs cache.now b → IfOk result
         (λ kinds. texts kinds.items ≡ kept (pairs_of b) b.rules name.now) }
+    ensures few { (b : PlainDatabase) → SpellsGlobs cache.now b → IfOk result
+        (λ kinds. length kinds.items ≤ near name.now b.rules) }
     ensures text { IfOk result (λ kinds. All (λ kind. (at : ℕ) × (text_at cache.now at ≡ Ok kind)) (texts kinds.items)) }
     ensures need { (b : PlainDatabase) → SpellsGlobs cache.now b →
         (2 * length (literal_rules b.rules) + 2 * tree_size b.rules + length (glob_rules b.rules) ≤ budget.old.records)
@@ -58,5 +60,6 @@ pub fn kept_kinds<'a>(
     for kind in hits.as_slice() {
         kinds.push(cache.unalias(*kind, meter, budget)?)?;
     }
+    kept_are_near();
     Ok(kinds)
 }

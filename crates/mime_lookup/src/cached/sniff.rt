@@ -1,7 +1,7 @@
 //! What a content is sniffed as over a cache ("Recommended checking order").
 
 ghost use Rattle.std.specs.Prelude.{◌≡◌, ◌⊎◌, ℕ, ◌+◌, ◌*◌, ◌≤◌, List, max, length, IfErr, IfOk, IfSome, IsOk, IsOkAnd, OnOk};
-ghost use Rattle.std.specs.Prelude.{None, Some, false};
+ghost use Rattle.std.specs.Prelude.{None, Some, codes, false};
 ghost use Rattle.mime_base.specs.Cache.Bytes.{Stands};
 ghost use Rattle.mime_base.specs.Database.{PlainDatabase};
 ghost use Rattle.mime_base.specs.Format.Header.{HeaderAt, Offsets};
@@ -11,7 +11,7 @@ ghost use Rattle.mime_lookup.specs.Bounds.{stated_extent};
 ghost use Rattle.mime_lookup.specs.CheckingOrder.{front_size};
 ghost use Rattle.mime_lookup.specs.Content.{known_content};
 ghost use Rattle.mime_lookup.specs.Costs.{Costs};
-ghost use Rattle.mime_lookup.specs.Finding.{found_by, found_in, is_high, resolved_finding};
+ghost use Rattle.mime_lookup.specs.Finding.{fixed, found_by, found_in, is_high, resolved_finding};
 ghost use Rattle.mime_lookup.specs.Cached.{IsFinding, IsKind, IsStop, IsTextOf, plain_finding};
 ghost use Rattle.mime_lookup.specs.Reads.{AsksUnless, Reads};
 ghost use Rattle.mime_lookup.specs.Spelling.{SpellsMagic};
@@ -97,6 +97,8 @@ pub fn sniff_content<'a, R: Content>(
         value_length b.sections ≤ budget.old.value_bytes →
         IfErr result (λ cause. (cause ≡ Cause.Read) ⊎ (cause ≡ Cause.OutOfMemory)) }
     ensures fault { IfErr result (IsStop (IsSniffFault cache.now budget.new)) }
+    ensures unavailable { content.old ≡ None → IfOk result
+        (λ finding. plain_finding finding ≡ fixed (codes "application/octet-stream")) }
     ensures none { (content.old ≡ None) → OnOk result ((budget.new ≡ budget.old) × (meter.new ≡ meter.old)) × IsOk result }
     ensures reader { Reads R.remaining R.tally R.health (max 128 (stated_extent cache.now))
         content.old content.new read.new result }

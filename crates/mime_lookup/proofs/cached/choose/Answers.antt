@@ -20,6 +20,12 @@ returns-then-is_empty-clause-answer c b magic pairs =
     let none : length c.args.kept.now ≡ 0 = grind (arith, eqb-true) in
     chooses-found (pairs_of b) c.in_ok-base.base.now (resolved_finding b.aliases (plain_finding c.args.finding)) c.args.kept.now base none
 
+pub returns-in_err-base-clause-base : goal.returns-in_err-base-clause-base
+returns-in_err-base-clause-base c none b offsets header aliases = absurd (c.in_err-base.ensures.answer b offsets header aliases)
+
+pub returns-then-is_empty-clause-base : goal.returns-then-is_empty-clause-base
+returns-then-is_empty-clause-base c none b offsets header aliases = c.in_ok-base.ensures.answer b offsets header aliases
+
 pub first_of-requires : goal.first_of-requires
 first_of-requires c = record { base = omega (arith, kind_short c.args.cache.now c.in_ok-base.base.now c.in_ok-base.ensures.kind) }
 

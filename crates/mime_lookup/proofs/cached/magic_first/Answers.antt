@@ -1,22 +1,22 @@
-use Rattle.std.proofs.Common.{◌≡◌, ◌∙◌, ◌+◌, ◌*◌, ◌<◌, ◌≤◌, ℕ, true, false, List, [], length, inl, inr, ap, sym, arith, refl}
-use denote.Bor.{Bor}
+use Rattle.std.proofs.Common.{◌≡◌, ◌∙◌, ◌+◌, ◌*◌, ◌<◌, ◌≤◌, ℕ, true, false, List, [], length, inl, inr, ap, sym, arith, refl, None}
 use Rattle.mime_base.specs.Database.{pairs_of}
-use Rattle.mime_lookup.specs.Ancestry.{texts}
+use Rattle.mime_lookup.specs.Affords.{rule_records}
 use Rattle.mime_lookup.specs.Cached.{cause_of, plain_finding}
-use Rattle.mime_lookup.specs.CheckingOrder.{are_one_type}
-use Rattle.mime_lookup.specs.Choice.{ChoosesAmong}
-use Rattle.mime_lookup.specs.Costs.{Costs, glob_cost, record_cost}
-use Rattle.mime_lookup.specs.Finding.{is_high, resolved_finding}
-use Rattle.mime_lookup.specs.StepFaults.{IsLookUpFault, IsSniffFault, of_globs, of_magic, of_search}
+use Rattle.mime_lookup.specs.Choice.{kept}
+use Rattle.mime_lookup.specs.Costs.{glob_cost, record_cost}
+use Rattle.mime_lookup.specs.StepFaults.{IsLookUpFault, IsSniffFault, of_magic}
 use Rattle.mime_lookup.specs.declared.order.Order.TheVariants.{MagicFirst}
-use Rattle.mime_lookup.proofs.Answering.{first_text, read_first, suffice_not}
-use Rattle.mime_lookup.proofs.CostLemmas.{costs_chosen, costs_nodes, costs_none, costs_tested, costs_then, costs_wider}
-use Rattle.mime_lookup.proofs.KindTexts.{chosen_kind, first_kind, texts_short}
-use Rattle.mime_lookup.proofs.MagicFirst.{by_high_magic, by_low_magic, by_one_type}
+use Rattle.mime_lookup.proofs.Answering.{read_first, suffice_not}
+use Rattle.mime_lookup.proofs.MagicCosts.{costs_later, costs_resolved, costs_sniffed}
+use Rattle.mime_lookup.proofs.MagicFirst.{by_high_magic, by_low_magic}
+use Rattle.mime_base.specs.declared.meter.Meter.{Meter}
+use Rattle.mime_view.specs.declared.budget.Budget.{Budget}
+use Rattle.mime_lookup.specs.Finding.{is_high}
+use Rattle.mime_lookup.proofs.NearLemmas.{decide_without}
 use Rattle.mime_lookup.proofs.ReadsLemmas.{asks_stopped}
-use Rattle.mime_lookup.proofs.SpelledParts.{spelled_globs, spelled_magic, spelled_pairs}
+use Rattle.mime_lookup.proofs.SpelledParts.{spelled_magic}
 use Rattle.mime_lookup.proofs.Stops.{stops_by}
-use Rattle.mime_lookup.proofs.StepStops.{choice_fault, passed_on, stop_weaker}
+use Rattle.mime_lookup.proofs.StepStops.{choice_fault, passed_on, spent_fault, stop_weaker}
 use Rattle.mime_lookup.proofs.cached.magic_first.Goals as goal
 
 pub returns-in_err-finding-clause-fault : goal.returns-in_err-finding-clause-fault
@@ -32,11 +32,9 @@ returns-in_err-finding-clause-asks g c b within spells =
 
 pub returns-in_err-finding-clause-cost : goal.returns-in_err-finding-clause-cost
 returns-in_err-finding-clause-cost g c =
-    let cost = glob_cost (length c.args.name.now) in
-    let each = record_cost (length c.args.name.now) in
-    let value = c.sniff_content.new.read + 1 in
-    costs_wider each each value value 2 (cost + 31) c.args.budget.now c.sniff_content.new.budget c.args.meter.now
-    c.sniff_content.new.meter (omega arith) (omega arith) (omega arith) (c.in_err-finding.ensures.cost each (omega arith))
+    costs_sniffed (length c.args.name.now) c.sniff_content.new.read c.args.budget.now c.sniff_content.new.budget c.args.meter.now
+    c.sniff_content.new.meter
+    (c.in_err-finding.ensures.cost (record_cost (length c.args.name.now)) (omega arith))
 
 pub returns-in_err-kind-clause-fault : goal.returns-in_err-kind-clause-fault
 returns-in_err-kind-clause-fault g c =
@@ -50,17 +48,11 @@ returns-in_err-kind-clause-answers g c b within spells affords =
 
 pub returns-in_err-kind-clause-cost : goal.returns-in_err-kind-clause-cost
 returns-in_err-kind-clause-cost g c =
-    let cost = glob_cost (length c.args.name.now) in
-    let each = record_cost (length c.args.name.now) in
-    let value = c.sniff_content.new.read + 1 in
     let step = c.in_err-kind.ensures in
-    let resolved : Costs each value 29 c.sniff_content.new.budget c.resolve.new.budget c.sniff_content.new.meter c.resolve.new.meter =
-    rw step.budget (costs_nodes each value 29 c.sniff_content.new.budget c.sniff_content.new.meter c.resolve.new.meter
-    step.rises step.nodes step.bytes_rise step.bytes) in
-    costs_wider each each value value (2 + 29) (cost + 31) c.args.budget.now c.resolve.new.budget c.args.meter.now
-    c.resolve.new.meter (omega arith) (omega arith) (omega arith)
-    (costs_then each value 2 29 c.args.budget.now c.sniff_content.new.budget c.resolve.new.budget c.args.meter.now
-    c.sniff_content.new.meter c.resolve.new.meter (c.in_ok-finding.ensures.cost each (omega arith)) resolved)
+    costs_resolved (length c.args.name.now) c.sniff_content.new.read c.args.budget.now c.sniff_content.new.budget c.args.meter.now
+    c.sniff_content.new.meter
+    (c.in_ok-finding.ensures.cost (record_cost (length c.args.name.now)) (omega arith)) c.resolve.new.budget c.resolve.new.meter
+    step.budget step.rises step.nodes step.bytes_rise step.bytes
 
 pub returns-then-is_high-clause-chosen : goal.returns-then-is_high-clause-chosen
 returns-then-is_high-clause-chosen g c b within spells =
@@ -75,146 +67,84 @@ returns-then-is_high-clause-read g c b within spells =
 
 pub returns-then-is_high-clause-cost : goal.returns-then-is_high-clause-cost
 returns-then-is_high-clause-cost g c =
-    let cost = glob_cost (length c.args.name.now) in
-    let each = record_cost (length c.args.name.now) in
-    let value = c.sniff_content.new.read + 1 in
     let step = c.in_ok-kind.ensures in
-    let resolved : Costs each value 29 c.sniff_content.new.budget c.resolve.new.budget c.sniff_content.new.meter c.resolve.new.meter =
-    rw step.budget (costs_nodes each value 29 c.sniff_content.new.budget c.sniff_content.new.meter c.resolve.new.meter
-    step.rises step.nodes step.bytes_rise step.bytes) in
-    costs_wider each each value value (2 + 29) (cost + 31) c.args.budget.now c.resolve.new.budget c.args.meter.now
-    c.resolve.new.meter (omega arith) (omega arith) (omega arith)
-    (costs_then each value 2 29 c.args.budget.now c.sniff_content.new.budget c.resolve.new.budget c.args.meter.now
-    c.sniff_content.new.meter c.resolve.new.meter (c.in_ok-finding.ensures.cost each (omega arith)) resolved)
-
-pub returns-in_err-kept-clause-fault : goal.returns-in_err-kept-clause-fault
-returns-in_err-kept-clause-fault g c =
-    stops_by (IsLookUpFault c.args.cache.now) c.in_err-kept.field-0.0 c.from_residual-in_err-kept.result
-    c.from_residual-in_err-kept.ensures.1 (of_globs c.kept_kinds.new.budget c.in_err-kept.ensures.fault)
-
-pub returns-in_err-kept-clause-cost : goal.returns-in_err-kept-clause-cost
-returns-in_err-kept-clause-cost g c =
-    let cost = glob_cost (length c.args.name.now) in
-    let each = record_cost (length c.args.name.now) in
-    let value = c.sniff_content.new.read + 1 in
-    costs_wider each each value value (2 + cost) (cost + 31) c.args.budget.now c.kept_kinds.new.budget c.args.meter.now
-    c.kept_kinds.new.meter (omega arith) (omega arith) (omega arith)
-    (costs_then each value 2 cost c.args.budget.now c.sniff_content.new.budget c.kept_kinds.new.budget c.args.meter.now
-    c.sniff_content.new.meter c.kept_kinds.new.meter (c.in_ok-finding.ensures.cost each (omega arith))
-    (c.in_err-kept.ensures.cost value))
-
-pub returns-then-are_one_type-clause-chosen : goal.returns-then-are_one_type-clause-chosen
-returns-then-are_one_type-clause-chosen g c b within spells =
-    let kept = c.in_ok-kept.kept.items in
-    let one : are_one_type (texts kept) ≡ true = rw c.deref.ensures.value at (sym c.are_one_type.ensures.answer ∙ c.if-are_one_type.true) in
-    by_one_type b c.args.name.now c.args.host (plain_finding c.in_ok-finding.finding) _ _
-    (c.in_ok-finding.ensures.found b (spelled_magic c.args.cache.now b within spells)) (texts kept)
-    (c.in_ok-kept.ensures.answer b (spelled_globs c.args.cache.now b within spells)) (sym c.is_high.ensures ∙ c.if-is_high.false) one
-    (ap (λ (text : Bor (List ℕ)). text.now) c.index.ensures ∙ first_text kept c.index.result.now one)
-
-pub returns-then-are_one_type-clause-read : goal.returns-then-are_one_type-clause-read
-returns-then-are_one_type-clause-read g c b within spells =
-    read_first b c.args.name.now c.args.host MagicFirst refl [] true _ _
-    (c.in_ok-finding.ensures.read b (spelled_magic c.args.cache.now b within spells))
-
-pub returns-then-are_one_type-clause-kind : goal.returns-then-are_one_type-clause-kind
-returns-then-are_one_type-clause-kind g c =
-    let kept = c.in_ok-kept.kept.items in
-    let one : are_one_type (texts kept) ≡ true = rw c.deref.ensures.value at (sym c.are_one_type.ensures.answer ∙ c.if-are_one_type.true) in
-    rw c.index.ensures (first_kind c.args.cache.now kept c.index.result.now one c.in_ok-kept.ensures.text)
-
-pub returns-then-are_one_type-clause-cost : goal.returns-then-are_one_type-clause-cost
-returns-then-are_one_type-clause-cost g c =
-    let cost = glob_cost (length c.args.name.now) in
-    let each = record_cost (length c.args.name.now) in
-    let value = c.sniff_content.new.read + 1 in
-    let kinds = length c.in_ok-kept.kept.items in
-    let kept = c.in_ok-kept.ensures in
-    let short = texts_short c.args.cache.now (texts c.in_ok-kept.kept.items) kept.text in
-    let tested = c.are_one_type.ensures in
-    costs_wider each each value value (2 + cost) (cost + 31) c.args.budget.now c.kept_kinds.new.budget c.args.meter.now
-    c.are_one_type.new.meter (omega arith) (omega arith) (omega arith)
-    (costs_then each value 2 cost c.args.budget.now c.sniff_content.new.budget c.kept_kinds.new.budget c.args.meter.now
-    c.sniff_content.new.meter c.are_one_type.new.meter (c.in_ok-finding.ensures.cost each (omega arith))
-    (costs_tested each value cost 0 kinds c.sniff_content.new.budget c.kept_kinds.new.budget c.kept_kinds.new.budget
-    c.kept_kinds.new.budget c.sniff_content.new.meter c.kept_kinds.new.meter c.are_one_type.new.meter c.are_one_type.new.meter
-    c.are_one_type.new.meter (kept.cost value) kept.rises kept.fair kept.bytes_rise tested.nodes tested.rises
-    ((rw c.deref.ensures.value at tested.bytes) short)))
-
-pub returns-in_err-kind-2-clause-fault : goal.returns-in_err-kind-2-clause-fault
-returns-in_err-kind-2-clause-fault g c =
-    stops_by (IsLookUpFault c.args.cache.now) c.in_err-kind-2.field-0.0 c.from_residual-in_err-kind-2.result
-    c.from_residual-in_err-kind-2.ensures.1
-    (choice_fault c.args.cache.now c.choose.new.budget c.in_err-kind-2.field-0.0 c.in_err-kind-2.ensures.fault)
-
-pub returns-in_err-kind-2-clause-answers : goal.returns-in_err-kind-2-clause-answers
-returns-in_err-kind-2-clause-answers g c b within spells affords =
-    let magic = spelled_magic c.args.cache.now b within spells in
-    let enough : length b.parents ≤ c.kept_kinds.new.budget.records =
-    omega (
-      arith,
-      affords.records,
-      c.in_ok-kept.ensures.takes_within b (spelled_globs c.args.cache.now b within spells),
-      c.in_ok-finding.ensures.takes_at_most b magic,
-    ) in
-    passed_on _ (cause_of c.in_err-kind-2.field-0.0) c.from_residual-in_err-kind-2.result c.from_residual-in_err-kind-2.ensures.1
-    (inr (ap cause_of (c.in_err-kind-2.ensures.need b magic (spelled_pairs c.args.cache.now b spells) enough)))
-
-pub returns-in_err-kind-2-clause-cost : goal.returns-in_err-kind-2-clause-cost
-returns-in_err-kind-2-clause-cost g c =
-    let cost = glob_cost (length c.args.name.now) in
-    let each = record_cost (length c.args.name.now) in
-    let value = c.sniff_content.new.read + 1 in
-    let kinds = length c.in_ok-kept.kept.items in
-    let kept = c.in_ok-kept.ensures in
-    let short = texts_short c.args.cache.now (texts c.in_ok-kept.kept.items) kept.text in
-    let tested = c.are_one_type.ensures in
-    costs_wider each each value value (2 + (cost + 29)) (cost + 31) c.args.budget.now c.choose.new.budget c.args.meter.now
-    c.choose.new.meter (omega arith) (omega arith) (omega arith)
-    (costs_then each value 2 (cost + 29) c.args.budget.now c.sniff_content.new.budget c.choose.new.budget c.args.meter.now
-    c.sniff_content.new.meter c.choose.new.meter (c.in_ok-finding.ensures.cost each (omega arith))
-    (costs_chosen each value cost 0 kinds c.sniff_content.new.budget c.kept_kinds.new.budget c.kept_kinds.new.budget
-    c.choose.new.budget c.sniff_content.new.meter c.kept_kinds.new.meter c.are_one_type.new.meter c.are_one_type.new.meter
-    c.choose.new.meter (kept.cost value) kept.rises kept.fair kept.bytes_rise tested.nodes tested.rises
-    ((rw c.deref.ensures.value at tested.bytes) short) (costs_none each value c.kept_kinds.new.budget c.are_one_type.new.meter)
-    (rw c.deref-2.ensures.value at (c.in_err-kind-2.ensures.cost each value (omega arith)))))
-
-pub returns-clause-chosen : goal.returns-clause-chosen
-returns-clause-chosen g c b within spells =
-    let kinds = texts c.in_ok-kept.kept.items in
-    let kind = c.in_ok-kind-2.kind.now in
-    let magic = spelled_magic c.args.cache.now b within spells in
-    let found = plain_finding c.in_ok-finding.finding in
-    let chosen : ChoosesAmong (pairs_of b) kinds (resolved_finding b.aliases found) kind =
-    rw c.deref-2.ensures.value at (c.in_ok-kind-2.ensures.answer b magic (spelled_pairs c.args.cache.now b spells)) in
-    by_low_magic b c.args.name.now c.args.host found _ kind (c.in_ok-finding.ensures.found b magic) kinds
-    (c.in_ok-kept.ensures.answer b (spelled_globs c.args.cache.now b within spells)) (sym c.is_high.ensures ∙ c.if-is_high.false) chosen
+    costs_resolved (length c.args.name.now) c.sniff_content.new.read c.args.budget.now c.sniff_content.new.budget c.args.meter.now
+    c.sniff_content.new.meter
+    (c.in_ok-finding.ensures.cost (record_cost (length c.args.name.now)) (omega arith)) c.resolve.new.budget c.resolve.new.meter
+    step.budget step.rises step.nodes step.bytes_rise step.bytes
 
 pub returns-clause-read : goal.returns-clause-read
 returns-clause-read g c b within spells =
     read_first b c.args.name.now c.args.host MagicFirst refl [] true _ _
     (c.in_ok-finding.ensures.read b (spelled_magic c.args.cache.now b within spells))
 
-pub returns-clause-kind : goal.returns-clause-kind
-returns-clause-kind g c =
-    chosen_kind c.args.cache.now c.in_ok-kind-2.kind.now (texts c.in_ok-kept.kept.items) c.in_ok-kept.ensures.text
-    (rw c.deref-2.ensures.value at c.in_ok-kind-2.ensures.one)
+pub returns-in_err-kind-2-clause-fault : goal.returns-in_err-kind-2-clause-fault
+returns-in_err-kind-2-clause-fault g c =
+    stops_by (IsLookUpFault c.args.cache.now) c.in_err-kind-2.field-0.0 c.from_residual-in_err-kind-2.result
+    c.from_residual-in_err-kind-2.ensures.1 c.in_err-kind-2.ensures.fault
+
+pub returns-in_err-kind-2-clause-answers : goal.returns-in_err-kind-2-clause-answers
+returns-in_err-kind-2-clause-answers g c b within spells affords =
+    let enough : rule_records b + length b.parents ≤ c.sniff_content.new.budget.records =
+    omega (arith, affords.records, c.in_ok-finding.ensures.takes_at_most b (spelled_magic c.args.cache.now b within spells)) in
+    passed_on _ (cause_of c.in_err-kind-2.field-0.0) c.from_residual-in_err-kind-2.result c.from_residual-in_err-kind-2.ensures.1
+    (inr (ap cause_of (c.in_err-kind-2.ensures.need b within spells enough)))
+
+pub returns-in_err-kind-2-clause-spent : goal.returns-in_err-kind-2-clause-spent
+returns-in_err-kind-2-clause-spent g c none =
+    passed_on _ (cause_of c.in_err-kind-2.field-0.0) c.from_residual-in_err-kind-2.result c.from_residual-in_err-kind-2.ensures.1
+    (λ same. c.in_err-kind-2.ensures.spent (spent_fault c.in_err-kind-2.field-0.0 same))
+
+pub returns-in_err-kind-2-clause-cost : goal.returns-in_err-kind-2-clause-cost
+returns-in_err-kind-2-clause-cost g c =
+    costs_later (length c.args.name.now) c.sniff_content.new.read c.args.budget.now c.sniff_content.new.budget c.args.meter.now
+    c.sniff_content.new.meter (c.in_ok-finding.ensures.cost (record_cost (length c.args.name.now)) (omega arith)) (glob_cost (length c.args.name.now) + 29)
+    c.by_globs.new.budget c.by_globs.new.meter (omega arith) (c.in_err-kind-2.ensures.cost (c.sniff_content.new.read + 1))
+
+pub returns-clause-chosen : goal.returns-clause-chosen
+returns-clause-chosen g c b within spells =
+    by_low_magic b c.args.name.now c.args.host (plain_finding c.in_ok-finding.finding) _ c.in_ok-kind-2.kind.now
+    (c.in_ok-finding.ensures.found b (spelled_magic c.args.cache.now b within spells)) (kept (pairs_of b) b.rules c.args.name.now) refl
+    (sym c.is_high.ensures ∙ c.if-is_high.false) (c.in_ok-kind-2.ensures.answer b within spells)
 
 pub returns-clause-cost : goal.returns-clause-cost
 returns-clause-cost g c =
-    let cost = glob_cost (length c.args.name.now) in
-    let each = record_cost (length c.args.name.now) in
-    let value = c.sniff_content.new.read + 1 in
-    let kinds = length c.in_ok-kept.kept.items in
-    let kept = c.in_ok-kept.ensures in
-    let short = texts_short c.args.cache.now (texts c.in_ok-kept.kept.items) kept.text in
-    let tested = c.are_one_type.ensures in
-    costs_wider each each value value (2 + (cost + 29)) (cost + 31) c.args.budget.now c.choose.new.budget c.args.meter.now
-    c.choose.new.meter (omega arith) (omega arith) (omega arith)
-    (costs_then each value 2 (cost + 29) c.args.budget.now c.sniff_content.new.budget c.choose.new.budget c.args.meter.now
-    c.sniff_content.new.meter c.choose.new.meter (c.in_ok-finding.ensures.cost each (omega arith))
-    (costs_chosen each value cost 0 kinds c.sniff_content.new.budget c.kept_kinds.new.budget c.kept_kinds.new.budget
-    c.choose.new.budget c.sniff_content.new.meter c.kept_kinds.new.meter c.are_one_type.new.meter c.are_one_type.new.meter
-    c.choose.new.meter (kept.cost value) kept.rises kept.fair kept.bytes_rise tested.nodes tested.rises
-    ((rw c.deref.ensures.value at tested.bytes) short) (costs_none each value c.kept_kinds.new.budget c.are_one_type.new.meter)
-    (rw c.deref-2.ensures.value at (c.in_ok-kind-2.ensures.cost each value (omega arith)))))
+    costs_later (length c.args.name.now) c.sniff_content.new.read c.args.budget.now c.sniff_content.new.budget c.args.meter.now
+    c.sniff_content.new.meter (c.in_ok-finding.ensures.cost (record_cost (length c.args.name.now)) (omega arith)) (glob_cost (length c.args.name.now) + 29)
+    c.by_globs.new.budget c.by_globs.new.meter (omega arith) (c.in_ok-kind-2.ensures.cost (c.sniff_content.new.read + 1))
+
+pub returns-in_err-finding-clause-near_need : goal.returns-in_err-finding-clause-near_need
+returns-in_err-finding-clause-near_need g c b globs decide enough =
+    let without = decide_without b c.args.name.now (c.args.content.now ≡ None) decide in
+    let stopped = (c.in_err-finding.ensures.none without.0).1 in
+    absurd cc
+
+pub returns-in_err-kind-clause-near_need : goal.returns-in_err-kind-clause-near_need
+returns-in_err-kind-clause-near_need g c b globs decide enough =
+    absurd (c.in_err-kind.ensures.answer b globs.offsets globs.header globs.aliases)
+
+pub returns-then-is_high-clause-near : goal.returns-then-is_high-clause-near
+returns-then-is_high-clause-near g c b globs decide =
+    let without = decide_without b c.args.name.now (c.args.content.now ≡ None) decide in
+    let both : false ≡ true = sym (ap is_high (c.in_ok-finding.ensures.unavailable without.0)) ∙ sym c.is_high.ensures ∙ c.if-is_high.true in
+    absurd cc
+
+pub returns-in_err-kind-2-clause-near_need : goal.returns-in_err-kind-2-clause-near_need
+returns-in_err-kind-2-clause-near_need g c b globs decide enough =
+    let without = decide_without b c.args.name.now (c.args.content.now ≡ None) decide in
+    let same = (c.in_ok-finding.ensures.none without.0).0 in
+    let left : rule_records b ≤ c.sniff_content.new.budget.records = omega (arith, enough, ap (λ (budget : Budget). budget.records) same.0) in
+    passed_on _ (cause_of c.in_err-kind-2.field-0.0) c.from_residual-in_err-kind-2.result c.from_residual-in_err-kind-2.ensures.1
+    (ap cause_of (c.in_err-kind-2.ensures.near_need b globs without.1 left))
+
+pub returns-clause-near : goal.returns-clause-near
+returns-clause-near g c b globs decide =
+    let without = decide_without b c.args.name.now (c.args.content.now ≡ None) decide in
+    let same = (c.in_ok-finding.ensures.none without.0).0 in
+    let found = plain_finding c.in_ok-finding.finding in
+    let near = c.in_ok-kind-2.ensures.near b globs without.1 in (
+      by_low_magic b c.args.name.now c.args.host found _ c.in_ok-kind-2.kind.now
+          (rw without.0 (c.in_ok-finding.ensures.unavailable without.0)) (kept (pairs_of b) b.rules c.args.name.now) refl
+          (sym c.is_high.ensures ∙ c.if-is_high.false) near.0,
+      omega (arith, near.1, ap (λ (meter : Meter). meter.nodes) same.1),
+    )

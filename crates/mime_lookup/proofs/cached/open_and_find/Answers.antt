@@ -21,3 +21,7 @@ returns-in-MagicFirst-clause-bounds g c =
     keeps_bounds (length c.args.name.now) c.magic_first.new.read c.args.cache c.of-budget.result c.magic_first.new.budget c.open.new.meter
     c.magic_first.new.meter (rw same at c.of-budget.ensures.records) (rw same at c.of-budget.ensures.value_bytes)
     (omega (arith, c.in_ok-cache.ensures.nodes)) c.magic_first.ensures.cost (omega (arith, c.in_ok-cache.ensures.bytes))
+
+pub returns-in_err-cache-clause-near_need : goal.returns-in_err-cache-clause-near_need
+returns-in_err-cache-clause-near_need g c b globs limit decide packed =
+    absurd (header_without_fault c.args.cache globs.offsets _ globs.header limit c.in_err-cache.ensures.opened)

@@ -10,6 +10,7 @@ use Rattle.mime_lookup.specs.Cached.{IsTextOf}
 use Rattle.mime_lookup.specs.Choice.{kept}
 use Rattle.mime_lookup.specs.Costs.{glob_cost}
 use Rattle.mime_lookup.proofs.CostLemmas.{costs_kept}
+use Rattle.mime_lookup.proofs.NearLemmas.{kept_few}
 use Rattle.mime_lookup.proofs.KeptTypes.{all_item, all_more, given_more}
 use Rattle.mime_lookup.proofs.cached.kept.kept_kinds.Goals as goal
 
@@ -50,6 +51,10 @@ returns-clause-answer c = λ b spelled.
     ∙ ap (λ all. map step (texts all)) (take_all c.loop-kind.kind-index items c.loop-kind-test.false)
     ∙ ap (map step) (c.as_slice-kind-items.ensures ∙ hits)
     ∙ map-map step (λ (rule : GlobRule). rule.kind) (kept_rules b.rules c.args.name.now)
+
+pub returns-clause-few : goal.returns-clause-few
+returns-clause-few c = λ b spelled.
+    kept_few c.kept_are_near.ensures b c.args.name.now c.loop-kind.kinds.items (returns-clause-answer c b spelled)
 
 pub returns-clause-cost : goal.returns-clause-cost
 returns-clause-cost c = λ value.
