@@ -3,5 +3,7 @@ pub mod Masks
 pub mod Mirroring
 pub mod Windows
 pub mod HoldingLines
+pub mod Ranges
+pub mod Skipping
 pub mod Fronts
 pub mod Extents
