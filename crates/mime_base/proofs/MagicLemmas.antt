@@ -5,5 +5,6 @@ pub mod Windows
 pub mod HoldingLines
 pub mod Ranges
 pub mod Skipping
+pub mod StatedLines
 pub mod Fronts
 pub mod Extents

@@ -1,14 +1,14 @@
 -- Values that are sought at the offsets of a range, in the steps of a search.
 use Rattle.std.proofs.Common.{◌≡◌, ℕ, zero, suc, ◌+◌, ◌-◌, ◌*◌, ◌<◌, ◌≤◌, ◌||◌, Bool, true, false, cond, min, List, length}
-use Rattle.std.proofs.Common.{take, drop, Option, refl, sym, ap, ap₂, ◌∙◌, arith}
-use Rattle.std.proofs.Math.Bool.{or-true}
-use Rattle.std.proofs.lemmas.Bool.{and_from, and_left, and_right, le-leb, lt-leb}
+use Rattle.std.proofs.Common.{Option, ⊎_elim, refl, ap, ap₂, ◌∙◌, arith}
+use Rattle.std.proofs.Math.Nat.{mul-le-mul_right, suc-mul}
+use Rattle.std.proofs.lemmas.Bool.{and_from, and_left, and_right, cases_lt, le-leb, lt-leb}
 use Rattle.mime_base.specs.Magic.Holds.{bytes_of_mask, equals_at, equals_from}
 use Rattle.mime_base.specs.Magic.Masking.{equal_bytes, window_equals}
 use Rattle.mime_base.specs.Magic.Ranges.{compared_at, compared_from}
 use Rattle.mime_base.specs.Magic.{PlainLine, line_from}
 use Rattle.mime_base.specs.declared.magic.host.Host.{Host}
-use Rattle.mime_base.proofs.MagicLemmas.HoldingLines.{equals_from-none, equals_from-outside, window}
+use Rattle.mime_base.proofs.MagicLemmas.HoldingLines.{equals_from-outside, window}
 
 module _ (own : PlainLine) (host : Host) (content : List ℕ) where
   -- how many bytes of a window are compared
@@ -89,6 +89,39 @@ module _ (own : PlainLine) (host : Host) (content : List ℕ) where
       ap (compared_from own host content at) one_less
       ∙ ap (λ (k : ℕ). compared_at own host content at + cond (equals_at own host content at) 0 k)
       (compared_from-room (suc at) n m (n + m) refl (λ some. omega (arith, beyond some)))
+
+  -- what is compared where the first window does or does not equal is no more than if it does not
+  stopped : (equal : Bool) (n : ℕ) → cond equal 0 n ≤ n
+  stopped true n = omega arith
+  stopped false n = omega arith
+
+  most_inside : (at n : ℕ) → at + length own.value ≤ length content
+      → compared_from own host content (suc at) n ≤ (length content + 1 - suc at) * length own.value
+      → compared_from own host content at (suc n) ≤ (length content + 1 - at) * length own.value
+  most_inside at n within rest =
+      let places : length content + 1 - at ≡ suc (length content + 1 - suc at) = omega arith in
+      let product = ap (λ (k : ℕ). k * length own.value) places ∙ suc-mul (length content + 1 - suc at) (length own.value) in
+      omega (
+        arith,
+        product,
+        rest,
+        compared_from-suc at n,
+        compared_at-inside at within,
+        stopped (equals_at own host content at) (compared_from own host content (suc at) n),
+      )
+
+  most_from : (at range : ℕ) → compared_from own host content at range ≤ (length content + 1 - at) * length own.value
+  most_from at zero = omega (arith, compared_from-none at)
+  most_from at (suc n) =
+      ⊎_elim (λ beyond. omega (arith, compared_from-outside at (suc n) beyond))
+      (λ within. most_inside at n within (most_from (suc at) n))
+      (cases_lt (length content) (at + length own.value))
+
+  -- no more is compared than the value at each place of the content and at its end
+  pub compared_from-most : (at range : ℕ) → compared_from own host content at range ≤ (length content + 1) * length own.value
+  compared_from-most at range =
+      let fewer = mul-le-mul_right {m = length content + 1 - at} {n = length content + 1} (length own.value) (omega arith) in
+      omega (arith, most_from at range, fewer)
 
 -- the start and the range of a line play no part
 pub equals_from-anywhere : (start range word : ℕ) (value : List ℕ) (mask : Option (List ℕ)) (host : Host) (content : List ℕ)

@@ -1,5 +1,5 @@
 -- Windows that are passed over, since already their first byte is not the value's.
-use Rattle.std.proofs.Common.{◌≡◌, ℕ, zero, suc, ◌+◌, ◌-◌, ◌<◌, ◌≤◌, ◌==◌, false, min, List, [], ◌∷◌, length, get_or, take, drop}
+use Rattle.std.proofs.Common.{◌≡◌, ℕ, zero, suc, ◌+◌, ◌-◌, ◌<◌, ◌≤◌, false, List, [], ◌∷◌, length, get_or, take, drop}
 use Rattle.std.proofs.Common.{bit_and, Option, Some, None, refl, sym, ap, ap₂, ◌∙◌, arith, length-drop}
 use Rattle.std.specs.Option.{unwrap_or}
 use Rattle.memchr.specs.Find.{IsFirstByte, is_byte}
@@ -12,7 +12,7 @@ use Rattle.mime_base.specs.Magic.Mirrored.{mirrored}
 use Rattle.mime_base.specs.Magic.Ranges.{compared_from}
 use Rattle.mime_base.specs.Magic.{PlainLine, line_from}
 use Rattle.mime_base.specs.declared.magic.host.Host.{Host}
-use Rattle.mime_base.proofs.MagicLemmas.HoldingLines.{equals_from-passed, window}
+use Rattle.mime_base.proofs.MagicLemmas.HoldingLines.{equals_from-passed}
 use Rattle.mime_base.proofs.MagicLemmas.Ranges.{compared_from-passed, window_cost}
 use Rattle.mime_base.proofs.MagicLemmas.Windows.{counted, stops}
 

@@ -1,5 +1,5 @@
 -- How many bytes of the windows of a range are compared, and the line that a record of a cache states.
-use Rattle.std.specs.Prelude.{◌≡◌, refl, ℕ, ◌+◌, zero, suc, Bool, ◌&&◌, nat_le, nat_lt, min, if◌then◌else◌, List, [], ◌∷◌}
+use Rattle.std.specs.Prelude.{◌≡◌, refl, ℕ, ◌+◌, zero, suc, Bool, ◌&&◌, nat_le, nat_lt, min, if◌then◌else◌, List}
 use Rattle.std.specs.Prelude.{length, take, drop, Some, None, codes}
 use Rattle.mime_base.specs.Cache.Bytes.{optional_mask, value_at}
 use Rattle.mime_base.specs.Magic.Holds.{bytes_of_mask, equals_at}

@@ -1,30 +1,41 @@
-use Rattle.std.proofs.Common.{rules, ◌≡◌, true, false, ℕ, ◌+◌, ◌*◌, ◌<◌, ◌≤◌, List, length, take, min, Ok, Err, if◌then◌else◌, IfOk, IfErr, IsOkAnd, OnOk, OnErr, MatchOption, MatchResult, ◌-◌, ◌/◌, ◌%◌, Bool, nat_eq, nat_lt, [], ◌∷◌, ◌++◌, slice_index_or, slice_set, bit_and, bit_or, Fits, w8, w32, w64, Bor, MutBor}
-use Rattle.std.specs.Ordering.{nat_cmp}
-use Rattle.std.specs.Cmp.Lexicographic.{slice_cmp}
-use Rattle.mime_base.specs.Cache.Bytes.{both_lie, fields, lies, optional_mask, value_at}
-use Rattle.mime_base.specs.Magic.Holds.{equals_from}
-use Rattle.mime_base.specs.Magic.Masking.{equal_bytes, window_equals}
-use Rattle.mime_base.specs.Magic.Ranges.{compared_from, stated_line, window_fits}
-use Rattle.mime_base.specs.Meter.{raised}
-use Rattle.mime_base.specs.Cache.Texts.{before_zero, front, order_at, order_cost, text_at, text_cost, unended}
+use Rattle.std.proofs.Common.{◌≡◌, ◌+◌, ◌*◌, ℕ, List, length, Some, ap, ◌∙◌, arith}
+use Rattle.mime_base.specs.Magic.{line_from}
+use Rattle.mime_base.proofs.MagicLemmas.Ranges.{compared_from-most}
+use Rattle.mime_base.proofs.MagicLemmas.StatedLines.{empty_equals, length-inside, none_inside}
 use Rattle.mime_base.proofs.cache.Counted.value_in_range.Goals as goal
 
--- src/cache.rt:232:13
 pub returns-then-range-eq0-clause-equal : goal.returns-then-range-eq0-clause-equal
-returns-then-range-eq0-clause-equal c = ?
+returns-then-range-eq0-clause-equal c = λ lie.
+    (none_inside c.args.self.now c.args.value c.args.start c.args.range c.args.host c.args.content.now lie
+    (λ some. omega arith)).0
 
--- src/cache.rt:232:13
 pub returns-then-range-eq0-clause-bytes : goal.returns-then-range-eq0-clause-bytes
-returns-then-range-eq0-clause-bytes c = ?
+returns-then-range-eq0-clause-bytes c = λ lie.
+    omega (
+      arith,
+      (none_inside c.args.self.now c.args.value c.args.start c.args.range c.args.host c.args.content.now lie
+          (λ some. omega arith)).1,
+    )
 
--- src/cache.rt:235:13
 pub returns-then-size-eq0-clause-equal : goal.returns-then-size-eq0-clause-equal
-returns-then-size-eq0-clause-equal c = ?
+returns-then-size-eq0-clause-equal c = λ lie.
+    (empty_equals c.args.self.now c.args.value c.args.start c.args.range c.args.host c.args.content.now lie
+    (omega arith) (omega arith) (omega arith)).0
 
--- src/cache.rt:235:13
 pub returns-then-size-eq0-clause-bytes : goal.returns-then-size-eq0-clause-bytes
-returns-then-size-eq0-clause-bytes c = ?
+returns-then-size-eq0-clause-bytes c = λ lie.
+    omega (
+      arith,
+      (empty_equals c.args.self.now c.args.value c.args.start c.args.range c.args.host c.args.content.now lie
+          (omega arith) (omega arith) (omega arith)).1,
+    )
 
--- src/cache.rt:200:5
 pub returns-clause-limit : goal.returns-clause-limit
-returns-clause-limit c = ?
+returns-clause-limit c =
+    let bytes : List ℕ = c.in_ok-bytes.bytes.now in
+    let own = line_from c.args.start c.args.range c.args.value.word bytes (Some c.in_ok-mask.mask.now) in
+    let given = c.in_ok-bytes.ensures.given in
+    let size : length bytes ≡ c.args.value.size = length-inside _ bytes _ _ given.0 given.1 ∙ c.from-size.ensures in
+    let product = ap (λ (n : ℕ). (length c.args.content.now + 1) * n) size in
+    let most = compared_from-most own c.args.host c.args.content.now c.args.start c.args.range in
+    omega (arith, product, most, c.value_in_range.ensures.bytes)

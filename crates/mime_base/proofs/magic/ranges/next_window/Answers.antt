@@ -1,8 +1,5 @@
-use Rattle.std.proofs.Common.{◌≡◌, ℕ, ◌+◌, ◌-◌, ◌<◌, List, [], length, take, drop, Some, sym, ap, ap₂, ◌∙◌, arith}
+use Rattle.std.proofs.Common.{◌≡◌, length, sym, ◌∙◌, arith}
 use Rattle.std.proofs.lemmas.Bool.{eqb-false, eqb-true}
-use Rattle.mime_base.specs.Magic.Holds.{equals_from}
-use Rattle.mime_base.specs.Magic.{line_from}
-use Rattle.mime_base.specs.Magic.Ranges.{compared_from}
 use Rattle.mime_base.proofs.MagicLemmas.Skipping.{passed_over-found, without_bytes}
 use Rattle.mime_base.proofs.magic.ranges.next_window.Goals as goal
 

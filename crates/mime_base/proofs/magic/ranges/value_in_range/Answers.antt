@@ -1,4 +1,4 @@
-use Rattle.std.proofs.Common.{◌≡◌, ℕ, ◌+◌, ◌-◌, ◌<◌, length, Some, sym, ◌∙◌, arith}
+use Rattle.std.proofs.Common.{ℕ, ◌+◌, ◌-◌, ◌<◌, length, Some, sym, ◌∙◌, arith}
 use Rattle.mime_base.specs.Magic.{line_from}
 use Rattle.mime_base.proofs.MagicLemmas.HoldingLines.{equals_from-outside}
 use Rattle.mime_base.proofs.MagicLemmas.Ranges.{compared_from-anywhere, compared_from-outside, compared_from-room}

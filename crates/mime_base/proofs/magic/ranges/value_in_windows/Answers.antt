@@ -1,4 +1,4 @@
-use Rattle.std.proofs.Common.{◌≡◌, ℕ, ◌+◌, ◌-◌, ◌<◌, length, min, take, drop, Some, true, false, sym, ap, ◌∙◌, arith, rules}
+use Rattle.std.proofs.Common.{◌≡◌, ℕ, ◌+◌, ◌-◌, length, min, take, drop, Some, true, false, sym, ap, ◌∙◌, arith, rules}
 use Rattle.mime_base.specs.Magic.{line_from}
 use Rattle.mime_base.specs.Magic.Masking.{equal_bytes, window_equals}
 use Rattle.mime_base.specs.Magic.Ranges.{compared_from}
