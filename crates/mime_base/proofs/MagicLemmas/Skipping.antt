@@ -81,17 +81,16 @@ module _ (value : List ℕ) (word : ℕ) (host : Host) (content : List ℕ) (som
       )
 
   -- so do those before the first that begins with the first byte of the value
-  pub passed_over-found : (at end passed : ℕ) (found : Option ℕ) → at ≤ end → end + length value ≤ length content + 1
-      → passed ≡ unwrap_or found (length (take (end - at) (drop at content)))
-      → IsFirstByte (is_byte (get_or value 0 0)) (take (end - at) (drop at content)) found
+  pub passed_over-before : (at end passed : ℕ) → at ≤ end → end + length value ≤ length content + 1
+      → passed ≤ length (take (end - at) (drop at content))
+      → ((i : ℕ) → i < passed → get_or (take (end - at) (drop at content)) i 0 ≡ get_or value 0 0 → ⊥)
       → (equals_from own host content at (end - at) ≡ equals_from own host content (at + passed) (end - (at + passed)))
       × (compared_from own host content at (end - at) ≡ passed + compared_from own host content (at + passed) (end - (at + passed)))
-  passed_over-found at end passed found order inside is first =
+  passed_over-before at end passed order inside limit differ =
       let size = length-take-le (end - at) (drop at content) (omega (arith, length-drop at content)) in
-      let found_is = passed-differs (get_or value 0 0) (take (end - at) (drop at content)) found first in
-      passed_over at passed (end - (at + passed)) (end - at) (omega (arith, found_is.0)) (omega (arith, found_is.0))
-      (λ i below e. found_is.1 i (omega arith)
-      (get_or-take (end - at) (drop at content) i 0 (omega (arith, found_is.0)) ∙ get_or-drop at content i 0 ∙ e))
+      passed_over at passed (end - (at + passed)) (end - at) (omega arith) (omega arith)
+      (λ i below e. differ i below
+      (get_or-take (end - at) (drop at content) i 0 (omega arith) ∙ get_or-drop at content i 0 ∙ e))
 
 -- a list of no length
 pub without_bytes : (bytes : List ℕ) → length bytes ≡ 0 → bytes ≡ []

@@ -1,6 +1,6 @@
 //! Values that are sought at the offsets of a range ("The magic files").
 
-ghost use Rattle.std.specs.Prelude.{◌≡◌, ◌+◌, ◌-◌, ◌^◌, ◌<◌, ◌≤◌, length, min, Some};
+ghost use Rattle.std.specs.Prelude.{◌≡◌, ◌≢◌, ℕ, ◌+◌, ◌-◌, ◌^◌, ◌<◌, ◌≤◌, length, min, slice_index, Some};
 ghost use Rattle.mime_base.specs.Magic.Holds.{equals_from};
 ghost use Rattle.mime_base.specs.Magic.{line_from};
 ghost use Rattle.mime_base.specs.Magic.Masking.{equal_bytes, window_equals};
@@ -98,10 +98,22 @@ fn next_window(
     if !mask.is_empty() || value.is_empty() || group_of(word, host, value.len()) != 1 {
         return at;
     }
-    let windows = &content[at..end];
-    let passed = memchr(value[0], windows).unwrap_or(windows.len());
+    let passed = length_before(value[0], &content[at..end]);
     meter.add_bytes(passed as u64);
     at + passed
+}
+
+/// How many bytes stand before the first of this value, or at all. Most ranges have one offset, and of
+/// one byte no search is begun.
+#[inline]
+fn length_before(byte: u8, bytes: &[u8]) -> usize
+    ensures limit { result ≤ length bytes.now }
+    ensures differ { (i : ℕ) → i < result → slice_index bytes.now i ≢ byte }
+{
+    if bytes.len() == 1 {
+        return usize::from(bytes[0] != byte);
+    }
+    memchr(byte, bytes).unwrap_or(bytes.len())
 }
 
 /// Whether a window equals a value under its mask. It adds the bytes up to and with the first that
