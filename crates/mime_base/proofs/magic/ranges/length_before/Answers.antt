@@ -1,4 +1,4 @@
-use Rattle.std.proofs.Common.{◌≡◌, ℕ, length, arith, rules, ap}
+use Rattle.std.proofs.Common.{arith}
 use Rattle.mime_base.proofs.MagicLemmas.Skipping.{passed-differs}
 use Rattle.mime_base.proofs.magic.ranges.length_before.Goals as goal
 
