@@ -16,6 +16,7 @@ module _ (own : PlainLine) (host : Host) (content : List ℕ) where
   window_cost at =
       min (equal_bytes own.value (bytes_of_mask own.mask) own.word host (window own host content at) + 1) (length own.value)
 
+  -- of one that lies wholly in the content
   compared_at-inside : (at : ℕ) → at + length own.value ≤ length content → compared_at own host content at ≡ window_cost at
   compared_at-inside at within =
       ap (λ b. cond b (window_cost at) 0) (le-leb (at + length own.value) (length content) within)
@@ -31,6 +32,7 @@ module _ (own : PlainLine) (host : Host) (content : List ℕ) where
   unfolding compared_from
   compared_from-suc at n = refl
 
+  -- the same, where it is known whether the window equals the value
   compared_from-more : (at n left : ℕ) (equal : Bool) → left ≡ n + 1 → at + length own.value ≤ length content →
       equals_at own host content at ≡ equal →
       compared_from own host content at left ≡ window_cost at + cond equal 0 (compared_from own host content (at + 1) n)
@@ -38,7 +40,8 @@ module _ (own : PlainLine) (host : Host) (content : List ℕ) where
       let one_less : left ≡ suc n = omega arith in
       let next : suc at ≡ at + 1 = omega arith in
       ap (compared_from own host content at) one_less ∙ compared_from-suc at n
-      ∙ ap (λ (k : ℕ). compared_at own host content at + cond (equals_at own host content at) 0 (compared_from own host content k n)) next
+      ∙ ap (λ (k : ℕ). compared_at own host content at
+      + cond (equals_at own host content at) 0 (compared_from own host content k n)) next
       ∙ ap₂ (λ (k : ℕ) (b : Bool). k + cond b 0 (compared_from own host content (at + 1) n)) (compared_at-inside at within) e
 
   -- its window equals the value
@@ -57,7 +60,8 @@ module _ (own : PlainLine) (host : Host) (content : List ℕ) where
   compared_from-passed at n left is within differs = compared_from-more at n left false is within (and_right _ _ differs)
 
   -- no window lies wholly in the content from here on
-  pub compared_from-outside : (at range : ℕ) → length content < at + length own.value → compared_from own host content at range ≡ 0
+  pub compared_from-outside : (at range : ℕ) → length content < at + length own.value
+      → compared_from own host content at range ≡ 0
   unfolding compared_from
   compared_from-outside at zero beyond = refl
   compared_from-outside at (suc range) beyond =
@@ -72,11 +76,13 @@ module _ (own : PlainLine) (host : Host) (content : List ℕ) where
       equals_from own host content at left ≡ equals_from own host content at n
   unfolding equals_from
   equals_from-room at zero zero left is beyond = ap (equals_from own host content at) is
-  equals_from-room at zero (suc m) left is beyond = equals_from-outside own host content at left (omega (arith, beyond (omega arith)))
+  equals_from-room at zero (suc m) left is beyond =
+      equals_from-outside own host content at left (omega (arith, beyond (omega arith)))
   equals_from-room at (suc n) m left is beyond =
       let one_less : left ≡ suc (n + m) = omega arith in
       ap (equals_from own host content at) one_less
-      ∙ ap (λ b. equals_at own host content at || b) (equals_from-room (suc at) n m (n + m) refl (λ some. omega (arith, beyond some)))
+      ∙ ap (λ b. equals_at own host content at || b)
+      (equals_from-room (suc at) n m (n + m) refl (λ some. omega (arith, beyond some)))
 
   -- and none of their bytes is compared
   pub compared_from-room : (at n m left : ℕ) → left ≡ n + m → (0 < m → length content < at + n + length own.value) →
@@ -90,11 +96,12 @@ module _ (own : PlainLine) (host : Host) (content : List ℕ) where
       ∙ ap (λ (k : ℕ). compared_at own host content at + cond (equals_at own host content at) 0 k)
       (compared_from-room (suc at) n m (n + m) refl (λ some. omega (arith, beyond some)))
 
-  -- what is compared where the first window does or does not equal is no more than if it does not
+  -- where the window equals the value no more is compared than where it does not
   stopped : (equal : Bool) (n : ℕ) → cond equal 0 n ≤ n
   stopped true n = omega arith
   stopped false n = omega arith
 
+  -- each place adds at most the value, in one step
   most_inside : (at n : ℕ) → at + length own.value ≤ length content
       → compared_from own host content (suc at) n ≤ (length content + 1 - suc at) * length own.value
       → compared_from own host content at (suc n) ≤ (length content + 1 - at) * length own.value
@@ -110,6 +117,7 @@ module _ (own : PlainLine) (host : Host) (content : List ℕ) where
         stopped (equals_at own host content at) (compared_from own host content (suc at) n),
       )
 
+  -- and over all offsets
   most_from : (at range : ℕ) → compared_from own host content at range ≤ (length content + 1 - at) * length own.value
   most_from at zero = omega (arith, compared_from-none at)
   most_from at (suc n) =
@@ -133,6 +141,7 @@ equals_from-anywhere start range word value mask host content at (suc n) =
     ap (λ b. equals_at (line_from 0 0 word value mask) host content at || b)
     (equals_from-anywhere start range word value mask host content (suc at) n)
 
+-- nor in what is compared
 pub compared_from-anywhere : (start range word : ℕ) (value : List ℕ) (mask : Option (List ℕ)) (host : Host) (content : List ℕ)
     (at n : ℕ) → compared_from (line_from start range word value mask) host content at n
     ≡ compared_from (line_from 0 0 word value mask) host content at n

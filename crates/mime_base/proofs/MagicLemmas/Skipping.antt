@@ -85,7 +85,8 @@ module _ (value : List ℕ) (word : ℕ) (host : Host) (content : List ℕ) (som
       → passed ≤ length (take (end - at) (drop at content))
       → ((i : ℕ) → i < passed → get_or (take (end - at) (drop at content)) i 0 ≡ get_or value 0 0 → ⊥)
       → (equals_from own host content at (end - at) ≡ equals_from own host content (at + passed) (end - (at + passed)))
-      × (compared_from own host content at (end - at) ≡ passed + compared_from own host content (at + passed) (end - (at + passed)))
+      × (compared_from own host content at (end - at)
+      ≡ passed + compared_from own host content (at + passed) (end - (at + passed)))
   passed_over-before at end passed order inside limit differ =
       let size = length-take-le (end - at) (drop at content) (omega (arith, length-drop at content)) in
       passed_over at passed (end - (at + passed)) (end - at) (omega arith) (omega arith)

@@ -1,6 +1,6 @@
 -- The value of a line as its record in a cache states it, and the windows of its range.
-use Rattle.std.proofs.Common.{◌≡◌, ℕ, ◌+◌, ◌-◌, ◌<◌, ◌≤◌, ◌==◌, ◌&&◌, ◌||◌, Bool, true, false, true≢false, List, length, drop, refl, sym}
-use Rattle.std.proofs.Common.{ap, ◌∙◌, arith, length-drop}
+use Rattle.std.proofs.Common.{◌≡◌, ℕ, ◌+◌, ◌-◌, ◌<◌, ◌≤◌, ◌==◌, ◌&&◌, ◌||◌, Bool, true, false, true≢false}
+use Rattle.std.proofs.Common.{List, length, drop, refl, sym, ap, ◌∙◌, arith, length-drop}
 use Rattle.std.specs.Prelude.{nat_le}
 use Rattle.std.proofs.lemmas.Bool.{eqb-true, leb-true}
 use Rattle.std.proofs.lemmas.List.{length-take-le}
@@ -28,7 +28,8 @@ length-inside c bytes at size inside is =
 length-lying : (c : List ℕ) (at size : ℕ) → lies c at size ≡ true → length (value_at c at size) ≡ size
 length-lying c at size lie = by_size (size == 0) refl lie
   where
-    by_size : (none : Bool) → (size == 0) ≡ none → (none || nat_le (at + size) (length c)) ≡ true → length (value_at c at size) ≡ size
+    by_size : (none : Bool) → (size == 0) ≡ none → (none || nat_le (at + size) (length c)) ≡ true
+        → length (value_at c at size) ≡ size
     by_size true e lie = let zero : size ≡ 0 = eqb-true size 0 e in rw zero refl
     by_size false e lie =
         let inside : at + size ≤ length c = leb-true (at + size) (length c) lie in
