@@ -5,6 +5,7 @@ pub mod Windows
 pub mod HoldingLines
 pub mod Ranges
 pub mod Skipping
+pub mod MostCompared
 pub mod StatedLines
 pub mod Fronts
 pub mod Extents

@@ -1,8 +1,7 @@
 -- Values that are sought at the offsets of a range, in the steps of a search.
 use Rattle.std.proofs.Common.{◌≡◌, ℕ, zero, suc, ◌+◌, ◌-◌, ◌*◌, ◌<◌, ◌≤◌, ◌||◌, Bool, true, false, cond, min, List, length}
-use Rattle.std.proofs.Common.{Option, ⊎_elim, refl, ap, ap₂, ◌∙◌, arith}
-use Rattle.std.proofs.Math.Nat.{mul-le-mul_right, suc-mul}
-use Rattle.std.proofs.lemmas.Bool.{and_from, and_left, and_right, cases_lt, le-leb, lt-leb}
+use Rattle.std.proofs.Common.{Option, refl, ap, ap₂, ◌∙◌, arith}
+use Rattle.std.proofs.lemmas.Bool.{and_from, and_left, and_right, le-leb, lt-leb}
 use Rattle.mime_base.specs.Magic.Holds.{bytes_of_mask, equals_at, equals_from}
 use Rattle.mime_base.specs.Magic.Masking.{equal_bytes, window_equals}
 use Rattle.mime_base.specs.Magic.Ranges.{compared_at, compared_from}
@@ -17,7 +16,7 @@ module _ (own : PlainLine) (host : Host) (content : List ℕ) where
       min (equal_bytes own.value (bytes_of_mask own.mask) own.word host (window own host content at) + 1) (length own.value)
 
   -- of one that lies wholly in the content
-  compared_at-inside : (at : ℕ) → at + length own.value ≤ length content → compared_at own host content at ≡ window_cost at
+  pub compared_at-inside : (at : ℕ) → at + length own.value ≤ length content → compared_at own host content at ≡ window_cost at
   compared_at-inside at within =
       ap (λ b. cond b (window_cost at) 0) (le-leb (at + length own.value) (length content) within)
 
@@ -27,7 +26,7 @@ module _ (own : PlainLine) (host : Host) (content : List ℕ) where
   compared_from-none at = refl
 
   -- one of the offsets that are left, and those after it
-  compared_from-suc : (at n : ℕ) → compared_from own host content at (suc n)
+  pub compared_from-suc : (at n : ℕ) → compared_from own host content at (suc n)
       ≡ compared_at own host content at + cond (equals_at own host content at) 0 (compared_from own host content (suc at) n)
   unfolding compared_from
   compared_from-suc at n = refl
@@ -95,41 +94,6 @@ module _ (own : PlainLine) (host : Host) (content : List ℕ) where
       ap (compared_from own host content at) one_less
       ∙ ap (λ (k : ℕ). compared_at own host content at + cond (equals_at own host content at) 0 k)
       (compared_from-room (suc at) n m (n + m) refl (λ some. omega (arith, beyond some)))
-
-  -- where the window equals the value no more is compared than where it does not
-  stopped : (equal : Bool) (n : ℕ) → cond equal 0 n ≤ n
-  stopped true n = omega arith
-  stopped false n = omega arith
-
-  -- each place adds at most the value, in one step
-  most_inside : (at n : ℕ) → at + length own.value ≤ length content
-      → compared_from own host content (suc at) n ≤ (length content + 1 - suc at) * length own.value
-      → compared_from own host content at (suc n) ≤ (length content + 1 - at) * length own.value
-  most_inside at n within rest =
-      let places : length content + 1 - at ≡ suc (length content + 1 - suc at) = omega arith in
-      let product = ap (λ (k : ℕ). k * length own.value) places ∙ suc-mul (length content + 1 - suc at) (length own.value) in
-      omega (
-        arith,
-        product,
-        rest,
-        compared_from-suc at n,
-        compared_at-inside at within,
-        stopped (equals_at own host content at) (compared_from own host content (suc at) n),
-      )
-
-  -- and over all offsets
-  most_from : (at range : ℕ) → compared_from own host content at range ≤ (length content + 1 - at) * length own.value
-  most_from at zero = omega (arith, compared_from-none at)
-  most_from at (suc n) =
-      ⊎_elim (λ beyond. omega (arith, compared_from-outside at (suc n) beyond))
-      (λ within. most_inside at n within (most_from (suc at) n))
-      (cases_lt (length content) (at + length own.value))
-
-  -- no more is compared than the value at each place of the content and at its end
-  pub compared_from-most : (at range : ℕ) → compared_from own host content at range ≤ (length content + 1) * length own.value
-  compared_from-most at range =
-      let fewer = mul-le-mul_right {m = length content + 1 - at} {n = length content + 1} (length own.value) (omega arith) in
-      omega (arith, most_from at range, fewer)
 
 -- the start and the range of a line play no part
 pub equals_from-anywhere : (start range word : ℕ) (value : List ℕ) (mask : Option (List ℕ)) (host : Host) (content : List ℕ)

@@ -1,6 +1,6 @@
 use Rattle.std.proofs.Common.{◌≡◌, ◌+◌, ◌*◌, ℕ, List, length, Some, ap, ◌∙◌, arith}
 use Rattle.mime_base.specs.Magic.{line_from}
-use Rattle.mime_base.proofs.MagicLemmas.Ranges.{compared_from-most}
+use Rattle.mime_base.proofs.MagicLemmas.MostCompared.{compared_from-most}
 use Rattle.mime_base.proofs.MagicLemmas.StatedLines.{empty_equals, length-inside, none_inside}
 use Rattle.mime_base.proofs.cache.Counted.value_in_range.Goals as goal
 
