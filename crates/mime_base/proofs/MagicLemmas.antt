@@ -3,5 +3,9 @@ pub mod Masks
 pub mod Mirroring
 pub mod Windows
 pub mod HoldingLines
+pub mod Ranges
+pub mod Skipping
+pub mod MostCompared
+pub mod StatedLines
 pub mod Fronts
 pub mod Extents

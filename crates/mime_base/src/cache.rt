@@ -7,20 +7,25 @@
 pub mod byte_fault;
 pub mod byte_laws;
 pub mod comparing;
+pub mod stated_value;
 
 ghost use Rattle.std.specs.Prelude.{◌≡◌, true, false, ℕ, ◌+◌, ◌*◌, ◌<◌, ◌≤◌, List, length, take, min, Ok, Err};
-ghost use Rattle.std.specs.Prelude.{if◌then◌else◌, IfOk, IfErr, OnOk, OnErr, MatchOption, MatchResult};
+ghost use Rattle.std.specs.Prelude.{if◌then◌else◌, IfOk, IfErr, IsOkAnd, OnOk, OnErr, MatchOption, MatchResult};
 ghost use Rattle.std.specs.Ordering.{nat_cmp};
 ghost use Rattle.std.specs.Cmp.Lexicographic.{slice_cmp};
 ghost use Rattle.mime_base.specs.Cache.Bytes.{both_lie, fields, lies, optional_mask, value_at};
+ghost use Rattle.mime_base.specs.Magic.Holds.{equals_from};
 ghost use Rattle.mime_base.specs.Magic.Masking.{equal_bytes, window_equals};
+ghost use Rattle.mime_base.specs.Magic.Ranges.{compared_from, stated_line, window_fits};
 ghost use Rattle.mime_base.specs.Meter.{raised};
 ghost use Rattle.mime_base.specs.Cache.Texts.{before_zero, front, order_at, order_cost, text_at, text_cost, unended};
 
 use crate::cache::byte_fault::ByteFault;
 use crate::cache::comparing::compare_front;
+use crate::cache::stated_value::StatedValue;
 use crate::magic::host::Host;
 use crate::magic::masking::equal_bytes;
+use crate::magic::ranges::value_in_range;
 use crate::meter::Meter;
 use byteorder::{BigEndian, ByteOrder};
 use memchr::memchr;
@@ -185,6 +190,53 @@ impl<'a> Counted<'a> {
         let equal = equal_bytes(value, mask, word, host, window);
         meter.add_bytes((equal as u64 + 1).min(u64::from(size)));
         Ok(equal == window.len())
+    }
+
+    /// Whether the window at one of `range` offsets of the content from `start` on equals a value.
+    ///
+    /// The numbers are as [`Counted::cards`] gives them. It answers, refuses and adds what
+    /// [`Counted::value_equals`] does of each window that lies in the content, up to and with the first
+    /// that equals: where none lies there, no value is needed and nothing added.
+    pub fn value_in_range(
+        &self,
+        value: StatedValue,
+        start: u32,
+        range: u32,
+        content: &[u8],
+        host: Host,
+        meter: &mut Meter,
+    ) -> Result<bool, ByteFault>
+        ensures equal { both_lie self.now value.at value.mask_at value.size ≡ true → IsOkAnd result (λ equal.
+            equal ≡ equals_from (stated_line self.now value start range) host content.now start range) }
+        ensures outside { window_fits value.size start range content.now ≡ false → result ≡ Ok false }
+        ensures needs { window_fits value.size start range content.now ≡ true →
+            OnOk result (both_lie self.now value.at value.mask_at value.size ≡ true) }
+        ensures fault { IfErr result (λ fault. (both_lie self.now value.at value.mask_at value.size ≡ false)
+            × (fault ≡ ByteFault.OutOfRange (if lies self.now value.at value.size then value.mask_at else value.at))) }
+        ensures nodes { meter.new.nodes ≡ meter.old.nodes }
+        ensures bytes { both_lie self.now value.at value.mask_at value.size ≡ true → meter.new.bytes ≡ raised meter.old.bytes
+            (compared_from (stated_line self.now value start range) host content.now start range) }
+        ensures bytes_outside { both_lie self.now value.at value.mask_at value.size ≡ false →
+            meter.new.bytes ≡ meter.old.bytes }
+        ensures limit { meter.new.bytes ≤ meter.old.bytes + (length content.now + 1) * value.size }
+        ensures rises { meter.old.bytes ≤ meter.new.bytes }
+    {
+        let StatedValue {
+            at,
+            mask_at,
+            size,
+            word,
+        } = value;
+        let (start, range, size) = (start as usize, range as usize, u64::from(size));
+        if range == 0 || (content.len() as u64) < start as u64 + size {
+            return Ok(false);
+        }
+        if size == 0 {
+            return Ok(true);
+        }
+        let bytes = bytes_at(self.bytes, u64::from(at), size)?;
+        let mask = optional_mask(self.bytes, u64::from(mask_at), size)?;
+        Ok(value_in_range(bytes, mask, word, host, content, start, range, meter))
     }
 }
 

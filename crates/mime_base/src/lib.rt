@@ -34,6 +34,7 @@ pub use cache::Counted;
 pub use cache::byte_fault::ByteFault;
 pub use cache::byte_laws::{appended_stands, reading_stays, standing_reads_back, texts_are_read};
 pub use cache::comparing::same_name;
+pub use cache::stated_value::StatedValue;
 pub use database::Database;
 pub use database::icon::Icon;
 pub use database::limits::database_keeps_limits;

@@ -1,30 +1,12 @@
 -- The value of a line as its record states it.
-use Rattle.std.proofs.Common.{◌≡◌, ℕ, ◌+◌, ◌≤◌, ◌||◌, ◌==◌, Bool, true, false, List, length, get_or, drop}
-use Rattle.std.proofs.Common.{Some, refl, ap, ap₂, ◌∙◌, arith, length-drop}
-use Rattle.std.specs.Prelude.{nat_le}
-use Rattle.std.proofs.lemmas.Bool.{eqb-true, leb-true}
-use Rattle.std.proofs.lemmas.List.{length-take-le}
-use Rattle.mime_base.specs.Cache.Bytes.{both_lie, field, fields, lies, optional_mask, value_at}
+use Rattle.std.proofs.Common.{◌≡◌, ℕ, Bool, true, List, length, get_or}
+use Rattle.std.proofs.Common.{Some, ap, ap₂, ◌∙◌}
+use Rattle.mime_base.specs.Cache.Bytes.{both_lie, field, fields, optional_mask, value_at}
 use Rattle.mime_base.specs.Magic.{PlainLine, line_from}
 use Rattle.mime_base.specs.Magic.Holds.{bytes_of_mask, equals_from}
 use Rattle.mime_base.specs.declared.magic.host.Host.{Host}
 use Rattle.mime_base.proofs.MagicLemmas.HoldingLines.{equals_from-mask}
 use Rattle.mime_view.specs.Magic.{ReadsLine}
-use Rattle.mime_view.proofs.AllOf.{both_left}
-
--- bytes that lie in the cache are as many as were asked for
-length-lying : (c : List ℕ) (at size : ℕ) → lies c at size ≡ true → length (value_at c at size) ≡ size
-length-lying c at size lie = by_size (size == 0) refl lie
-  where
-    by_size : (none : Bool) → (size == 0) ≡ none → (none || nat_le (at + size) (length c)) ≡ true → length (value_at c at size) ≡ size
-    by_size true e lie = let zero : size ≡ 0 = eqb-true size 0 e in rw zero refl
-    by_size false e lie =
-        let inside : at + size ≤ length c = leb-true (at + size) (length c) lie in
-        length-take-le size (drop at c) (omega (arith, length-drop at c))
-
--- a value that lies in the cache with its mask has its length
-pub length-value : (c : List ℕ) (at mask size : ℕ) → both_lie c at mask size ≡ true → length (value_at c at size) ≡ size
-length-value c at mask size lie = length-lying c at size (both_left (lies c at size) (mask == 0 || lies c mask size) lie)
 
 -- the line that a record states
 abbrev pub stated : List ℕ → ℕ → ℕ → ℕ → ℕ → ℕ → ℕ → PlainLine

@@ -1,13 +1,13 @@
 //! The magic list: sections, and lines with their children ("The mime.cache files").
 
-ghost use Rattle.std.specs.Prelude.{◌≡◌, ℕ, ◌+◌, ◌*◌, ◌^◌, ◌<◌, ◌≤◌, true, false, List, Some, None};
-ghost use Rattle.std.specs.Prelude.{length, if◌then◌else◌, IfOk, IfErr, IfSome, IsOk, IsOkAnd, Ok, OnOk};
-ghost use Rattle.mime_base.specs.Cache.Bytes.{both_lie, field, lies, optional_mask, value_at};
+ghost use Rattle.std.specs.Prelude.{◌≡◌, ℕ, ◌+◌, ◌*◌, ◌^◌, ◌<◌, ◌≤◌, true, List, Some, None};
+ghost use Rattle.std.specs.Prelude.{length, if◌then◌else◌, IfOk, IfErr, IfSome, IsOk, Ok, OnOk};
+ghost use Rattle.mime_base.specs.Cache.Bytes.{field};
 ghost use Rattle.mime_base.specs.Cache.Texts.{text_at};
 ghost use Rattle.mime_base.specs.Format.Magic.{line_count, width};
 ghost use Rattle.mime_base.specs.Format.Packed.{forest_value_length, matchlet_count, value_length};
 ghost use Rattle.mime_base.specs.Magic.{Forest, PlainLine, PlainSection, are_allowed, are_allowed_sections};
-ghost use Rattle.mime_base.specs.Magic.{bare, line, line_from};
+ghost use Rattle.mime_base.specs.Magic.{bare, line};
 ghost use Rattle.mime_base.specs.Magic.Holds.{equals_from, first_magic, some_holds};
 ghost use Rattle.mime_view.specs.Magic.{IsBlockFault, IsLineFault, IsLinesFault, IsMagicFault};
 ghost use Rattle.mime_view.specs.Magic.{IsSectionFault, LiesBlock, plain_found};
@@ -15,67 +15,10 @@ ghost use Rattle.mime_view.specs.Magic.{Paid, ReadsLine, ReadsLines, ReadsMagic,
 
 use crate::budget::Budget;
 use crate::fault::CacheFault;
-use mime_base::{Counted, Host, Meter};
+use mime_base::{Counted, Host, Meter, StatedValue};
 
 /// The last level on which a line stands, counted from 0.
 const LAST_LEVEL: u32 = 63;
-
-/// A value with its mask, as the record of a line states them.
-#[derive(Clone, Copy)]
-struct Value {
-    at: u32,
-    mask: u32,
-    size: u32,
-    word: u32,
-}
-
-/// Whether the window at one of `range` offsets from `start` on equals a value.
-fn equals_in_range(
-    counted: &Counted<'_>,
-    value: Value,
-    start: u32,
-    range: u32,
-    content: &[u8],
-    host: Host,
-    meter: &mut Meter,
-) -> Result<bool, CacheFault>
-    ensures answer { both_lie counted.now value.at value.mask value.size ≡ true → IsOkAnd result (λ equal.
-        equal ≡ equals_from (line_from start range value.word (value_at counted.now value.at value.size)
-        (Some (optional_mask counted.now value.mask value.size))) host content.now start range) }
-    ensures fault { IfErr result (λ e. (both_lie counted.now value.at value.mask value.size ≡ false)
-        × (e ≡ CacheFault.OutOfRange (if lies counted.now value.at value.size then value.mask else value.at))) }
-    ensures nodes { meter.new.nodes ≡ meter.old.nodes }
-    ensures bytes_rise { meter.old.bytes ≤ meter.new.bytes }
-    ensures bytes { meter.new.bytes ≤ meter.old.bytes + (length content.now + 1) * value.size }
-{
-    let Value {
-        at,
-        mask,
-        size,
-        word,
-    } = value;
-    let (start, range, wide) = (u64::from(start), u64::from(range), u64::from(size));
-    let length = content.len() as u64;
-    if length < wide {
-        return Ok(false);
-    }
-    let places = length - wide + 1;
-    for place in start..places.min(start + range) {
-        let window = &content[place as usize..(place + wide) as usize];
-        if counted.value_equals(
-            u64::from(at),
-            u64::from(mask),
-            size,
-            word,
-            window,
-            host,
-            meter,
-        )? {
-            return Ok(true);
-        }
-    }
-    Ok(false)
-}
 
 /// Whether a line by itself holds, and where its children stand.
 #[derive(Clone, Copy)]
@@ -106,15 +49,15 @@ fn see_line(
     ensures cost { Paid (length content.now) 0 0 budget.old budget.new meter.old meter.new }
 {
     budget.take_record()?;
-    let [start, range, word, size, at, mask, count, first] = counted.cards::<8>(at, meter)?;
+    let [start, range, word, size, at, mask_at, count, first] = counted.cards::<8>(at, meter)?;
     budget.take_value_bytes(u64::from(size))?;
-    let value = Value {
+    let value = StatedValue {
         at,
-        mask,
+        mask_at,
         size,
         word,
     };
-    let equals = equals_in_range(counted, value, start, range, content, host, meter)?;
+    let equals = counted.value_in_range(value, start, range, content, host, meter)?;
     Ok(Seen {
         equals,
         count: u64::from(count),

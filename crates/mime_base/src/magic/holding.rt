@@ -2,14 +2,13 @@
 //!
 //! Windows of the content are compared in place, and nothing is allocated.
 
-ghost use Rattle.std.specs.Prelude.{◌≡◌, ◌+◌, ◌<◌, ◌≤◌, ◌^◌, length, take, drop, Some};
+ghost use Rattle.std.specs.Prelude.{◌≡◌, ◌≤◌};
 ghost use Rattle.mime_base.specs.Magic.Holds.{bytes_of_mask, equals_from, line_holds, some_holds};
-ghost use Rattle.mime_base.specs.Magic.{forest_of, line_from, mask_bytes, plain_matchlet, plain_matchlets};
-ghost use Rattle.mime_base.specs.Magic.Masking.{window_equals};
+ghost use Rattle.mime_base.specs.Magic.{forest_of, mask_bytes, plain_matchlet, plain_matchlets};
 
 use crate::magic::host::Host;
-use crate::magic::masking::equal_bytes;
 use crate::magic::matchlet::Matchlet;
+use crate::magic::ranges::value_in_range;
 use crate::meter::Meter;
 
 /// Whether a line holds for a content: the bytes at some offset of its range equal its value, and
@@ -71,54 +70,4 @@ fn bits_of(mask: &Option<Vec<u8>>) -> &[u8]
         Some(bytes) => bytes,
         None => &[],
     }
-}
-
-/// Whether the window at one of `range` offsets from `start` on equals a value under its mask.
-fn value_in_range(
-    value: &[u8],
-    mask: &[u8],
-    word: u32,
-    host: Host,
-    content: &[u8],
-    start: usize,
-    range: usize,
-    meter: &mut Meter,
-) -> bool
-    requires fits { start + range < 2 ^ 64 }
-    ensures equal { result ≡ equals_from (line_from start range word value.now (Some mask.now))
-        host content.now start range }
-    ensures nodes { meter.new.nodes ≡ meter.old.nodes }
-    ensures rises { meter.old.bytes ≤ meter.new.bytes }
-{
-    if content.len() < value.len() {
-        return false;
-    }
-    let places = content.len() - value.len() + 1;
-    for at in start..places.min(start + range) {
-        let window = &content[at..at + value.len()];
-        if value_is(value, mask, word, host, window, meter) {
-            return true;
-        }
-    }
-    false
-}
-
-/// Whether a window equals a value under its mask. It adds the bytes up to and with the first that
-/// differs.
-fn value_is(
-    value: &[u8],
-    mask: &[u8],
-    word: u32,
-    host: Host,
-    window: &[u8],
-    meter: &mut Meter,
-) -> bool
-    requires { length window.now ≡ length value.now }
-    ensures equal { result ≡ window_equals value.now mask.now word host window.now }
-    ensures nodes { meter.new.nodes ≡ meter.old.nodes }
-    ensures rises { meter.old.bytes ≤ meter.new.bytes }
-{
-    let equal = equal_bytes(value, mask, word, host, window);
-    meter.add_bytes((equal as u64).saturating_add(1).min(value.len() as u64));
-    equal == window.len()
 }

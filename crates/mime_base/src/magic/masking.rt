@@ -28,7 +28,7 @@ pub fn equal_bytes(value: &[u8], mask: &[u8], word: u32, host: Host, window: &[u
 }
 
 /// How many bytes are a group that is reversed.
-fn group_of(word: u32, host: Host, size: usize) -> usize
+pub fn group_of(word: u32, host: Host, size: usize) -> usize
     ensures { result ≡ group_of word host size }
 {
     match host {

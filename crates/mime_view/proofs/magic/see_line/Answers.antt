@@ -5,7 +5,7 @@ use Rattle.mime_view.proofs.magic.see_line.Goals as goal
 pub returns-clause-answer : goal.returns-clause-answer
 returns-clause-answer c = λ own reads.
     line_stated c.args.counted.now c.args.at own c.in_ok-start.field-0 c.args.host c.args.content.now c.in_ok-equals.equals
-    c.in_ok-start.ensures.numbers.1 reads c.in_ok-equals.ensures.answer
+    c.in_ok-start.ensures.numbers.1 reads c.in_ok-equals.ensures.equal
 
 pub returns-clause-cost : goal.returns-clause-cost
 returns-clause-cost c =
@@ -21,5 +21,5 @@ returns-clause-cost c =
       nodes = omega (arith, c.in_ok-take_record.ensures.taken);
       fair = omega (arith, c.in_ok-take_record.ensures.taken);
       bytes_rise = omega arith;
-      bytes = omega (arith, c.in_ok-equals.ensures.bytes);
+      bytes = omega (arith, c.in_ok-equals.ensures.limit);
     }

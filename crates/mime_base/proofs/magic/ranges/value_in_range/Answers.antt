@@ -1,0 +1,38 @@
+use Rattle.std.proofs.Common.{ℕ, ◌+◌, ◌-◌, ◌<◌, length, Some, sym, ◌∙◌, arith}
+use Rattle.mime_base.specs.Magic.{line_from}
+use Rattle.mime_base.proofs.MagicLemmas.HoldingLines.{equals_from-outside}
+use Rattle.mime_base.proofs.MagicLemmas.Ranges.{compared_from-anywhere, compared_from-outside, compared_from-room}
+use Rattle.mime_base.proofs.MagicLemmas.Ranges.{equals_from-anywhere, equals_from-room}
+use Rattle.mime_base.proofs.magic.ranges.value_in_range.Goals as goal
+
+pub returns-then-content-value-clause-equal : goal.returns-then-content-value-clause-equal
+returns-then-content-value-clause-equal c =
+    let own = line_from c.args.start c.args.range c.args.word c.args.value.now (Some c.args.mask.now) in
+    let beyond : length c.args.content.now < c.args.start + length c.args.value.now = omega arith in
+    sym (equals_from-outside own c.args.host c.args.content.now c.args.start c.args.range beyond)
+
+pub returns-then-content-value-clause-bytes : goal.returns-then-content-value-clause-bytes
+returns-then-content-value-clause-bytes c =
+    let own = line_from c.args.start c.args.range c.args.word c.args.value.now (Some c.args.mask.now) in
+    let beyond : length c.args.content.now < c.args.start + length c.args.value.now = omega arith in
+    omega (arith, compared_from-outside own c.args.host c.args.content.now c.args.start c.args.range beyond)
+
+pub returns-clause-equal : goal.returns-clause-equal
+returns-clause-equal c =
+    let own = line_from c.args.start c.args.range c.args.word c.args.value.now (Some c.args.mask.now) in
+    let n : ℕ = c.min-end.result - c.args.start in
+    c.value_in_windows.ensures.equal
+    ∙ sym (equals_from-room own c.args.host c.args.content.now c.args.start n (c.args.range - n) c.args.range (omega arith)
+    (λ some. omega arith)
+    ∙ equals_from-anywhere c.args.start c.args.range c.args.word c.args.value.now (Some c.args.mask.now) c.args.host
+    c.args.content.now c.args.start n)
+
+pub returns-clause-bytes : goal.returns-clause-bytes
+returns-clause-bytes c =
+    let own = line_from c.args.start c.args.range c.args.word c.args.value.now (Some c.args.mask.now) in
+    let n : ℕ = c.min-end.result - c.args.start in
+    let fewer = compared_from-room own c.args.host c.args.content.now c.args.start n (c.args.range - n) c.args.range (omega arith)
+    (λ some. omega arith)
+    ∙ compared_from-anywhere c.args.start c.args.range c.args.word c.args.value.now (Some c.args.mask.now) c.args.host
+    c.args.content.now c.args.start n in
+    omega (arith, fewer, c.value_in_windows.ensures.bytes)
