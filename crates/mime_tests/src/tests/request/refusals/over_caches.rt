@@ -192,7 +192,7 @@ Usage: mimelook type -c CACHE [--name-only] [--cost] [--magic-first] FILE...
 For more information, try '--help'.
 ";
 
-const NO_FILE: &str = "\
+const NO_FILE_OF_TYPE: &str = "\
 error: the following required arguments were not provided:
   <FILE>...
 
@@ -253,7 +253,7 @@ const MISTAKES: [Mistake; 10] = [
     Mistake {
         name: "no FILE",
         words: &["type", "--cost", "-c", "c"],
-        text: NO_FILE,
+        text: NO_FILE_OF_TYPE,
     },
     Mistake {
         name: "--cost twice",
