@@ -1,13 +1,15 @@
 //! A call of a cache's reader for each line of a file, for a tool that counts instructions.
 //!
 //! The words are a call, how many turns, the path of a cache and the path of a file. Its lines are names for
-//! `hits`, and types for `unalias`, `parents` and `icon`. For `sniff` it holds contents, each after its length in
-//! four bytes, the highest first. Any other call asks nothing.
+//! `hits` and `name`, and types for `unalias`, `parents` and `icon`. For `sniff` and `content` it holds contents, each
+//! after its length in four bytes, the highest first. `name` and `content` are whole lookups, the latter of a name that
+//! no rule matches. Any other call asks nothing.
 #![tactic(auto)]
 
 use bstr::ByteSlice;
 use byteorder::{BigEndian, ByteOrder};
 use mime_base::{Counted, Host, Meter};
+use mime_lookup::{Order, look_up};
 use mime_view::{Budget, Cache, CacheFault, Marks};
 use std::alloc::Global;
 use std::{env, fs, io};
@@ -21,6 +23,8 @@ enum Call {
     Parents,
     Icon,
     Sniff,
+    Name,
+    Content,
 }
 
 fn call_of(word: &str) -> Call {
@@ -30,6 +34,8 @@ fn call_of(word: &str) -> Call {
         "parents" => Call::Parents,
         "icon" => Call::Icon,
         "sniff" => Call::Sniff,
+        "name" => Call::Name,
+        "content" => Call::Content,
         _ => Call::Nothing,
     }
 }
@@ -39,6 +45,7 @@ fn ask(
     alloc: Global,
     call: Call,
     cache: &Cache<'_>,
+    bytes: &[u8],
     asked: &[u8],
     meter: &mut Meter,
 ) -> Result<u64, CacheFault> {
@@ -50,6 +57,24 @@ fn ask(
         Call::Parents => parents(alloc, cache, asked, meter, &mut budget),
         Call::Icon => icon(cache, asked, meter, &mut budget),
         Call::Sniff => sniffed(cache, asked, meter, &mut budget),
+        Call::Name => Ok(kind_length(alloc, bytes, asked, None)),
+        Call::Content => Ok(kind_length(alloc, bytes, b"\x01", Some(asked))),
+    }
+}
+
+/// How long the type is that a lookup answers, or 0.
+fn kind_length(alloc: Global, bytes: &[u8], name: &[u8], content: Option<&[u8]>) -> u64 {
+    let (cache, mut content) = (Counted::new(bytes), content);
+    match look_up(
+        alloc,
+        cache,
+        name,
+        &mut content,
+        Host::Little,
+        Order::GlobsFirst,
+    ) {
+        Ok(answer) => answer.kind.len() as u64,
+        Err(_) => 0,
     }
 }
 
@@ -114,12 +139,13 @@ fn turn(
     alloc: Global,
     call: Call,
     cache: &Cache<'_>,
+    bytes: &[u8],
     file: &[u8],
     meter: &mut Meter,
 ) -> Result<u64, CacheFault> {
     match call {
-        Call::Sniff => over_contents(alloc, call, cache, file, meter),
-        _ => over_lines(alloc, call, cache, file, meter),
+        Call::Sniff | Call::Content => over_contents(alloc, call, cache, bytes, file, meter),
+        _ => over_lines(alloc, call, cache, bytes, file, meter),
     }
 }
 
@@ -127,12 +153,13 @@ fn over_lines(
     alloc: Global,
     call: Call,
     cache: &Cache<'_>,
+    bytes: &[u8],
     file: &[u8],
     meter: &mut Meter,
 ) -> Result<u64, CacheFault> {
     let mut all = 0u64;
     for line in file.lines() {
-        all = all.wrapping_add(ask(alloc, call, cache, line, meter)?);
+        all = all.wrapping_add(ask(alloc, call, cache, bytes, line, meter)?);
     }
     Ok(all)
 }
@@ -141,6 +168,7 @@ fn over_contents(
     alloc: Global,
     call: Call,
     cache: &Cache<'_>,
+    bytes: &[u8],
     file: &[u8],
     meter: &mut Meter,
 ) -> Result<u64, CacheFault> {
@@ -150,7 +178,7 @@ fn over_contents(
         let (length, after) = rest.split_at(4);
         let size = (BigEndian::read_u32(length) as usize).min(after.len());
         let (content, others) = after.split_at(size);
-        all = all.wrapping_add(ask(alloc, call, cache, content, meter)?);
+        all = all.wrapping_add(ask(alloc, call, cache, bytes, content, meter)?);
         rest = others;
     }
     Ok(all)
@@ -167,7 +195,7 @@ fn ask_all(
     let cache = Cache::open(Counted::new(bytes), meter)?;
     let mut all = 0u64;
     for _ in 0..turns {
-        all = all.wrapping_add(turn(alloc, call, &cache, file, meter)?);
+        all = all.wrapping_add(turn(alloc, call, &cache, bytes, file, meter)?);
     }
     Ok(all)
 }

@@ -1,3 +1,4 @@
 mod numbers;
+mod ranges;
 mod texts;
 mod values;
