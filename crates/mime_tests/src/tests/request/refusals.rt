@@ -1,6 +1,6 @@
-//! Words that are refused: the kind of error that answers them, and the texts of some.
+//! Words that are refused: the kind of error that answers them, and two texts.
 //!
-//! The other texts of `build` and `plain` are held by the tests of the program, which prints them.
+//! The tests of the program hold the other texts.
 
 mod over_caches;
 
@@ -173,15 +173,6 @@ Usage: mimelook plain -d DIRS [--name-only] [--magic-first] FILE...
 For more information, try '--help'.
 ";
 
-const NO_COMMAND: &str = "\
-error: 'mimelook' requires a subcommand but one was not provided
-  [subcommands: build, plain, list, isa, icon, type]
-
-Usage: mimelook <COMMAND>
-
-For more information, try '--help'.
-";
-
 /// Words, and the whole text that answers them.
 struct Mistake {
     name: &'static str,
@@ -189,7 +180,7 @@ struct Mistake {
     text: &'static str,
 }
 
-const MISTAKES: [Mistake; 3] = [
+const MISTAKES: [Mistake; 2] = [
     Mistake {
         name: "unknown command",
         words: &["sniff", "x"],
@@ -200,15 +191,12 @@ const MISTAKES: [Mistake; 3] = [
         words: &["plain", "-d", "a", "--names", "x"],
         text: SIMILAR_OPTION,
     },
-    Mistake {
-        name: "no words",
-        words: &[],
-        text: NO_COMMAND,
-    },
 ];
 
-fn are_said(rt: &impl Abort, alloc: Global, rows: &[Mistake]) -> Result<(), Fail> {
-    for row in rows {
+#[test]
+fn says_what_is_wrong(rt: HostRuntime) -> Result<(), Fail> {
+    let alloc = rt.alloc();
+    for row in &MISTAKES {
         match request_of(alloc, row.words) {
             Ok(request) => assert!(rt; false, "{}: {request:?}", row.name),
             Err(error) => {
@@ -217,9 +205,4 @@ fn are_said(rt: &impl Abort, alloc: Global, rows: &[Mistake]) -> Result<(), Fail
         }
     }
     Ok(())
-}
-
-#[test]
-fn says_what_is_wrong(rt: HostRuntime) -> Result<(), Fail> {
-    are_said(&rt, rt.alloc(), &MISTAKES)
 }

@@ -1,10 +1,9 @@
 //! Refused words of the commands over a cache.
 
-use super::{Mistake, Refused, are_refused, are_said};
+use super::{Refused, are_refused};
 use clap::error::ErrorKind;
-use std::test::Fail;
 
-const REFUSED: [Refused; 22] = [
+const REFUSED: [Refused; 23] = [
     Refused {
         name: "no words after list",
         words: &["list"],
@@ -81,6 +80,11 @@ const REFUSED: [Refused; 22] = [
         kind: ErrorKind::UnknownArgument,
     },
     Refused {
+        name: "no words after type",
+        words: &["type"],
+        kind: ErrorKind::MissingRequiredArgument,
+    },
+    Refused {
         name: "no -c of type",
         words: &["type", "x"],
         kind: ErrorKind::MissingRequiredArgument,
@@ -120,149 +124,4 @@ const REFUSED: [Refused; 22] = [
 #[test]
 fn refuses_by_kind(rt: HostRuntime) {
     are_refused(&rt, rt.alloc(), &REFUSED);
-}
-
-const LIST_ALONE: &str = "\
-error: the following required arguments were not provided:
-  -c <CACHE>
-
-Usage: mimelook list -c CACHE
-
-For more information, try '--help'.
-";
-
-const NO_CACHE: &str = "\
-error: a value is required for '-c <CACHE>' but none was supplied
-
-For more information, try '--help'.
-";
-
-const IS_A_ALONE: &str = "\
-error: the following required arguments were not provided:
-  -c <CACHE>
-  <TYPE>
-  <BASE>
-
-Usage: mimelook isa -c CACHE TYPE BASE
-
-For more information, try '--help'.
-";
-
-const NO_BASE: &str = "\
-error: the following required arguments were not provided:
-  <BASE>
-
-Usage: mimelook isa -c CACHE TYPE BASE
-
-For more information, try '--help'.
-";
-
-const CACHE_TWICE: &str = "\
-error: the argument '-c <CACHE>' cannot be used multiple times
-
-Usage: mimelook isa -c CACHE TYPE BASE
-
-For more information, try '--help'.
-";
-
-const NO_TYPE: &str = "\
-error: the following required arguments were not provided:
-  <TYPE>
-
-Usage: mimelook icon -c CACHE TYPE
-
-For more information, try '--help'.
-";
-
-const SECOND_TYPE: &str = "\
-error: unexpected argument 't/m' found
-
-Usage: mimelook icon -c CACHE TYPE
-
-For more information, try '--help'.
-";
-
-const TYPE_ALONE: &str = "\
-error: the following required arguments were not provided:
-  -c <CACHE>
-  <FILE>...
-
-Usage: mimelook type -c CACHE [--name-only] [--cost] [--magic-first] FILE...
-
-For more information, try '--help'.
-";
-
-const NO_FILE_OF_TYPE: &str = "\
-error: the following required arguments were not provided:
-  <FILE>...
-
-Usage: mimelook type -c CACHE [--name-only] [--cost] [--magic-first] FILE...
-
-For more information, try '--help'.
-";
-
-const COST_TWICE: &str = "\
-error: the argument '--cost' cannot be used multiple times
-
-Usage: mimelook type -c CACHE [--name-only] [--cost] [--magic-first] FILE...
-
-For more information, try '--help'.
-";
-
-const MISTAKES: [Mistake; 10] = [
-    Mistake {
-        name: "list alone",
-        words: &["list"],
-        text: LIST_ALONE,
-    },
-    Mistake {
-        name: "-c without CACHE",
-        words: &["list", "-c"],
-        text: NO_CACHE,
-    },
-    Mistake {
-        name: "isa alone",
-        words: &["isa"],
-        text: IS_A_ALONE,
-    },
-    Mistake {
-        name: "no BASE",
-        words: &["isa", "-c", "c", "t/h"],
-        text: NO_BASE,
-    },
-    Mistake {
-        name: "-c twice",
-        words: &["isa", "-c", "c", "-c", "c", "t/h", "t/m"],
-        text: CACHE_TWICE,
-    },
-    Mistake {
-        name: "no TYPE",
-        words: &["icon", "-c", "c"],
-        text: NO_TYPE,
-    },
-    Mistake {
-        name: "a second type",
-        words: &["icon", "-c", "c", "t/h", "t/m"],
-        text: SECOND_TYPE,
-    },
-    Mistake {
-        name: "type alone",
-        words: &["type"],
-        text: TYPE_ALONE,
-    },
-    Mistake {
-        name: "no FILE",
-        words: &["type", "--cost", "-c", "c"],
-        text: NO_FILE_OF_TYPE,
-    },
-    Mistake {
-        name: "--cost twice",
-        words: &["type", "-c", "c", "--cost", "--cost", "x"],
-        text: COST_TWICE,
-    },
-];
-
-#[test]
-fn says_what_is_wrong(rt: HostRuntime) -> Result<(), Fail> {
-    are_said(&rt, rt.alloc(), &MISTAKES)
 }

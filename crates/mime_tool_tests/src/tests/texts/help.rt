@@ -1,0 +1,113 @@
+//! The version, and the help of the program, of `build` and of `plain`.
+
+mod over_caches;
+
+use super::{are_answered, printed};
+use std::test::Fail;
+
+const HELP: &str = "\
+Tells the MIME types of files
+
+Usage: mimelook <COMMAND>
+
+Commands:
+  build  Writes a mime.cache from the text files of data directories
+  plain  Prints a line FILE: TYPE for each FILE, from the text files of data directories
+  list   Prints a line WEIGHT:TYPE:PATTERN for each glob rule of a cache
+  isa    Prints yes where TYPE is BASE or is derived from it, by a cache, and else no
+  icon   Prints the icon and the generic icon of a type, from a cache
+  type   Prints a line FILE: TYPE for each FILE, from a cache
+
+Options:
+  -h, --help     Print help
+  -V, --version  Print version
+
+Messages go to standard error. The --help of a command says more of its exit statuses.
+
+Exit status:
+  0  what was asked for was done; or help or the version was printed
+  1  some file not answered, or isa says no
+  2  the command line is wrong
+  3  database, cache or output refused
+  4  out of memory
+
+Examples:
+  $ mimelook type -c /usr/share/mime/mime.cache notes.txt
+  notes.txt: text/plain
+  $ mimelook plain -d /usr/local/share:/usr/share notes.txt
+  notes.txt: text/plain
+  $ mimelook build -d /usr/local/share:/usr/share -o /usr/share/mime/mime.cache
+";
+
+const BUILD_HELP: &str = "\
+Writes a mime.cache from the text files of data directories
+
+Usage: mimelook build -d DIRS -o FILE
+
+Options:
+  -d <DIRS>   Data directories, most preferred first, with colons between them, such as
+              /usr/local/share:/usr/share; an empty part is passed over
+  -o <FILE>   The cache to write, such as /usr/share/mime/mime.cache;
+              it is written as FILE.new and then renamed
+  -h, --help  Print help
+
+Messages go to standard error. The files are DIR/mime/globs2, magic, aliases,
+subclasses, icons and generic-icons; a missing one counts as empty.
+
+Exit status:
+  0  FILE was written; or help was printed
+  2  the command line is wrong, or a word of it is not UTF-8
+  3  the data can't be read or is refused, the database is too large, or FILE can't
+     be written
+  4  out of memory
+
+Example:
+  $ mimelook build -d /usr/local/share:/usr/share -o /usr/share/mime/mime.cache
+";
+
+const PLAIN_HELP: &str = "\
+Prints a line FILE: TYPE for each FILE, from the text files of data directories
+
+Usage: mimelook plain -d DIRS [--name-only] [--magic-first] FILE...
+
+Arguments:
+  <FILE>...  The files to tell the types of; put -- before one that begins with -
+
+Options:
+  -d <DIRS>          Data directories, most preferred first, with colons between them, such as
+                     /usr/local/share:/usr/share; an empty part is passed over
+      --name-only    Go by the names alone: no FILE is opened
+      --magic-first  Let content of high priority (80 or more) decide before names
+  -h, --help         Print help
+
+Messages go to standard error. The files are DIR/mime/globs2, magic, aliases,
+subclasses, icons and generic-icons; a missing one counts as empty.
+A FILE that is not UTF-8 refuses the whole call.
+
+Exit status:
+  0  every FILE was answered; or help was printed
+  1  some FILE can't be opened or read, or its name is too long (above 4096 bytes);
+     the others were answered
+  2  the command line is wrong, or a word of it is not UTF-8
+  3  the data can't be read or is refused, or the output can't be written
+  4  out of memory
+
+Example:
+  $ mimelook plain -d /usr/local/share:/usr/share notes.txt
+  notes.txt: text/plain
+";
+
+const VERSION: &str = "mimelook 0.1.0\n";
+
+#[test]
+fn shows_help_whole(rt: HostRuntime) -> Result<(), Fail> {
+    let rows = [
+        printed("help", &["--help"], HELP),
+        printed("help in short", &["-h"], HELP),
+        printed("version", &["--version"], VERSION),
+        printed("version in short", &["-V"], VERSION),
+        printed("help of build", &["build", "--help"], BUILD_HELP),
+        printed("help of plain", &["plain", "--help"], PLAIN_HELP),
+    ];
+    are_answered(&rt, rt.alloc(), &rows)
+}

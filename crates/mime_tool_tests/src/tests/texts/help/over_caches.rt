@@ -1,0 +1,125 @@
+//! The help of the commands over a cache.
+
+use crate::tests::texts::{are_answered, printed};
+use std::test::Fail;
+
+const LIST_HELP: &str = "\
+Prints a line WEIGHT:TYPE:PATTERN for each glob rule of a cache
+
+Usage: mimelook list -c CACHE
+
+Options:
+  -c <CACHE>  The cache to read, such as /usr/share/mime/mime.cache
+  -h, --help  Print help
+
+Messages go to standard error. A line ends in :cs where the rule is case-sensitive.
+
+Exit status:
+  0  every rule was printed; or help was printed
+  2  the command line is wrong, or a word of it is not UTF-8
+  3  CACHE can't be read or is refused, or the output can't be written
+  4  out of memory
+
+Example:
+  $ mimelook list -c /usr/share/mime/mime.cache
+  50:text/plain:*.txt
+";
+
+const IS_A_HELP: &str = "\
+Prints yes where TYPE is BASE or is derived from it, by a cache, and else no
+
+Usage: mimelook isa -c CACHE TYPE BASE
+
+Arguments:
+  <TYPE>  The type that is asked about, such as text/html
+  <BASE>  The type that it may be, such as text/plain
+
+Options:
+  -c <CACHE>  The cache to read, such as /usr/share/mime/mime.cache
+  -h, --help  Print help
+
+Messages go to standard error. TYPE is BASE where they are the same type, or a parent
+of TYPE in CACHE is BASE. Any text type is text/plain, and any type but those of inode
+is application/octet-stream. TYPE and BASE may be aliases.
+
+Exit status:
+  0  yes was printed; or help was printed
+  1  no was printed
+  2  the command line is wrong, a word of it is not UTF-8, or TYPE or BASE is no type
+  3  CACHE can't be read or is refused, or the output can't be written
+  4  out of memory
+
+Example:
+  $ mimelook isa -c /usr/share/mime/mime.cache text/html text/plain
+  yes
+";
+
+const ICON_HELP: &str = "\
+Prints the icon and the generic icon of a type, from a cache
+
+Usage: mimelook icon -c CACHE TYPE
+
+Arguments:
+  <TYPE>  The type that is asked about, such as text/html
+
+Options:
+  -c <CACHE>  The cache to read, such as /usr/share/mime/mime.cache
+  -h, --help  Print help
+
+Messages go to standard error. Where CACHE names no icon, it is TYPE with - in place
+of /; the generic one is then the part before the / and -x-generic. TYPE may be an alias.
+
+Exit status:
+  0  both were printed; or help was printed
+  2  the command line is wrong, a word of it is not UTF-8, or TYPE is no type
+  3  CACHE can't be read or is refused, or the output can't be written
+  4  out of memory
+
+Example:
+  $ mimelook icon -c /usr/share/mime/mime.cache text/html
+  icon: text-html
+  generic: text-x-generic
+";
+
+const TYPE_HELP: &str = "\
+Prints a line FILE: TYPE for each FILE, from a cache
+
+Usage: mimelook type -c CACHE [--name-only] [--cost] [--magic-first] FILE...
+
+Arguments:
+  <FILE>...  The files to tell the types of; put -- before one that begins with -
+
+Options:
+  -c <CACHE>         The cache to read, such as /usr/share/mime/mime.cache
+      --name-only    Go by the names alone: no FILE is opened
+      --cost         Print behind each TYPE what the answer cost: nodes=N, records of CACHE that were
+                     visited; bytes=B, bytes that were read or compared; read=R, bytes of FILE that
+                     were read
+      --magic-first  Let content of high priority (80 or more) decide before names
+  -h, --help         Print help
+
+Messages go to standard error. A FILE that is not UTF-8 refuses the whole call.
+
+Exit status:
+  0  every FILE was answered; or help was printed
+  1  some FILE can't be opened or read, or its name is too long (above 4096 bytes);
+     the others were answered
+  2  the command line is wrong, or a word of it is not UTF-8
+  3  CACHE can't be read or is refused, or the output can't be written
+  4  out of memory
+
+Example:
+  $ mimelook type -c /usr/share/mime/mime.cache notes.txt
+  notes.txt: text/plain
+";
+
+#[test]
+fn shows_help_whole(rt: HostRuntime) -> Result<(), Fail> {
+    let rows = [
+        printed("help of list", &["list", "--help"], LIST_HELP),
+        printed("help of isa", &["isa", "--help"], IS_A_HELP),
+        printed("help after a TYPE", &["icon", "t/h", "-h"], ICON_HELP),
+        printed("help after -c", &["type", "-c", "c", "--help"], TYPE_HELP),
+    ];
+    are_answered(&rt, rt.alloc(), &rows)
+}
