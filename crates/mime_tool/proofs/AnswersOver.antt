@@ -1,5 +1,6 @@
 -- What an answer over a database comes to, from a lookup over its cache.
-use Rattle.std.proofs.Common.{◌≡◌, ◌⊎◌, ◌∙◌, ℕ, ◌+◌, ◌*◌, ◌<◌, ◌≤◌, List, length, Option, Result, Ok, Err, Vec, Bor, IfSome, arith, ap, refl, sym, subst, inl, inr}
+use Rattle.std.proofs.Common.{◌≡◌, ◌⊎◌, ◌∙◌, ℕ, ◌+◌, ◌*◌, ◌<◌, ◌≤◌, List, length, Option, Result, Ok, Err, Vec, IfSome}
+use Rattle.std.proofs.Common.{arith, ap, refl, sym, subst, inl, inr}
 use Rattle.std.specs.declared.alloc.Global.{Global}
 use Rattle.std.proofs.lemmas.Bool.{cases_lt}
 use Rattle.std.proofs.Math.Nat.{mul-le-mul_left}
@@ -29,7 +30,8 @@ keeps_room name size read c meter within keeps =
     }
 
 -- the same of bytes that are those of a cache
-keeps_same : (name size read : ℕ) (c bytes : List ℕ) (meter : Meter) → length c ≤ size → bytes ≡ c → KeepsBounds name bytes read meter
+keeps_same : (name size read : ℕ) (c bytes : List ℕ) (meter : Meter) → length c ≤ size → bytes ≡ c
+    → KeepsBounds name bytes read meter
     → KeepsRoom name size read meter
 keeps_same name size read c bytes meter within same keeps =
     keeps_room name size read c meter within (subst (λ (x : List ℕ). KeepsBounds name x read meter) same keeps)

@@ -24,5 +24,6 @@ pub mod Spelled
 pub mod Texts
 pub mod AnswersFrom
 pub mod AnswersOver
+pub mod SaidDatabases
 pub mod SaidDirs
 pub mod SaidTexts

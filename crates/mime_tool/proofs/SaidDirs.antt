@@ -1,9 +1,8 @@
 -- What directories say, one more at a time, and the first whose magic is refused.
-use Rattle.std.proofs.Common.{◌≡◌, ◌≢◌, ◌⊎◌, ◌∙◌, ℕ, zero, suc, ◌+◌, ◌<◌, ◌≤◌, List, [], ◌∷◌, ◌++◌, Option, Some, None, Vec, arith, refl, sym}
-use Rattle.std.proofs.Common.{ap, subst, get_or, length, take, inl, inr, Ok, Err, Result}
+use Rattle.std.proofs.Common.{◌≡◌, ◌∙◌, ℕ, zero, suc, ◌+◌, ◌<◌, ◌≤◌, List, [], ◌∷◌, ◌++◌, Some, arith, sym}
+use Rattle.std.proofs.Common.{ap, subst, get_or, length, take, inl, inr}
 use Rattle.std.proofs.lemmas.Option.{none-some}
 use Rattle.std.proofs.lemmas.List.{map-append, take_all, take_more}
-use Rattle.mime_base.specs.Database.{PlainDatabase}
 use Rattle.mime_text.specs.Magic.Reading.{magic_fault}
 use Rattle.mime_text.specs.Merging.{PlainDir, plain_dir, plain_dirs}
 use Rattle.mime_text.specs.declared.magic.fault.MagicFault.{MagicFault}
@@ -15,7 +14,8 @@ use Rattle.mime_tool.specs.declared.from_texts.AnswerFault.TheVariants as fault
 use Rattle.mime_tool.specs.declared.from_texts.DirBytes.{DirBytes}
 
 -- one more directory
-say_one_more : (dirs : List DirBytes) (plains : List PlainDir) (dir : DirBytes) (plain : PlainDir) → SayDirs dirs plains → SaysDir dir plain
+say_one_more : (dirs : List DirBytes) (plains : List PlainDir) (dir : DirBytes) (plain : PlainDir) → SayDirs dirs plains
+    → SaysDir dir plain
     → SayDirs (dirs ++ dir ∷ []) (plains ++ plain ∷ [])
 say_one_more [] [] dir plain says is = (is, tt)
 say_one_more [] (first ∷ plains) dir plain says is = absurd says
@@ -33,7 +33,8 @@ say_more dirs i d within files more file are says is =
     (subst (λ ps. SayDirs (take i dirs ++ get_or dirs i d ∷ []) ps) (sym plains) all)
 
 -- all directories of a loop
-pub say_all : (dirs : List DirBytes) (i : ℕ) (plains : List PlainDir) → length dirs ≤ i → SayDirs (take i dirs) plains → SayDirs dirs plains
+pub say_all : (dirs : List DirBytes) (i : ℕ) (plains : List PlainDir) → length dirs ≤ i → SayDirs (take i dirs) plains
+    → SayDirs dirs plains
 say_all dirs i plains within says = subst (λ front. SayDirs front plains) (take_all i dirs within) says
 
 -- the fault of a directory after those that say something is the first
@@ -55,7 +56,8 @@ fault_at dirs i d plains e within says (inr is) =
     subst (IsFaultOfDirs dirs) (sym is.1) (refused_at dirs i d plains is.0 within says is.2)
 
 -- where directories say something, no magic is refused
-pub none_refused : (dirs : List DirBytes) (plains : List PlainDir) (i : ℕ) (f : MagicFault) → SayDirs dirs plains → FirstRefused dirs i f → ⊥
+pub none_refused : (dirs : List DirBytes) (plains : List PlainDir) (i : ℕ) (f : MagicFault) → SayDirs dirs plains
+    → FirstRefused dirs i f → ⊥
 none_refused [] plains i f says refused = refused
 none_refused (dir ∷ dirs) [] i f says refused = says
 none_refused (dir ∷ dirs) (plain ∷ plains) zero f says refused =

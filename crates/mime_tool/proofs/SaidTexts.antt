@@ -1,22 +1,18 @@
--- What the texts of directories say is one database, and there is none where a magic is refused.
+-- What the same texts of directories say is alike.
 use Rattle.std.proofs.Common.{◌≡◌, ◌∙◌, ℕ, Bool, true, false, List, [], ◌∷◌, ◌++◌, refl, sym}
 use Rattle.std.proofs.Common.{ap, ap₂, subst, map}
-use Rattle.std.specs.Prelude.{Contains, ◌↔◌}
+use Rattle.std.specs.Prelude.{Contains}
 use Rattle.std.specs.List.{flat_map}
-use Rattle.std.specs.Str.{bytes_eq}
 use Rattle.std.proofs.lemmas.Cmp.{nat_list_eq_equiv}
 use Rattle.std.proofs.lemmas.Map.Views.{Contains-from_any, list_any-from_Contains}
 use Rattle.std.proofs.lemmas.Slice.Eq.{bytes_eq-Decides}
-use Rattle.mime_base.specs.Database.{PlainDatabase}
-use Rattle.mime_base.specs.Database.PlainPairs.{is_same_pair}
-use Rattle.mime_base.specs.Magic.{PlainSection}
-use Rattle.mime_base.specs.declared.database.rule.GlobRule.{GlobRule}
 use Rattle.mime_text.specs.Lines.{HasJust}
 use Rattle.mime_text.specs.Magic.File.{deleted_kinds, kept_sections}
-use Rattle.mime_text.specs.Merging.{PlainDir, has_same_name, falling, is_among, merged, merged_rules, once, undeleted, undeleted_sections, without}
+use Rattle.mime_text.specs.Merging.{PlainDir, is_among, undeleted}
+use Rattle.mime_text.specs.Merging.{without}
 use Rattle.mime_text.proofs.MagicLemmas.Laws.{one_list}
 use Rattle.mime_text.proofs.Merges.Undeleted.{without-alike}
-use Rattle.mime_tool.specs.FromTexts.{SayDatabase, SayDirs, SaysDir}
+use Rattle.mime_tool.specs.FromTexts.{SayDirs, SaysDir}
 use Rattle.mime_tool.specs.declared.from_texts.DirBytes.{DirBytes}
 
 -- ---- markers
@@ -35,7 +31,8 @@ same_test false true goes comes = comes refl
 same_test false false goes comes = refl
 
 -- the same types are among lists of the same members
-pub among_alike : (kinds others : List (List ℕ)) → HasJust kinds others → (kind : List ℕ) → is_among kinds kind ≡ is_among others kind
+pub among_alike : (kinds others : List (List ℕ)) → HasJust kinds others → (kind : List ℕ)
+    → is_among kinds kind ≡ is_among others kind
 among_alike kinds others just kind =
     same_test (is_among kinds kind) (is_among others kind) (among_more kinds others kind (just kind).0)
     (among_more others kinds kind (just kind).1)
@@ -84,7 +81,8 @@ AreAlike (left ∷ lefts) [] = ⊥
 AreAlike (left ∷ lefts) (right ∷ rights) = IsAlike left right × AreAlike lefts rights
 
 -- what the same texts say is alike
-pub all_alike : (dirs : List DirBytes) (lefts rights : List PlainDir) → SayDirs dirs lefts → SayDirs dirs rights → AreAlike lefts rights
+pub all_alike : (dirs : List DirBytes) (lefts rights : List PlainDir) → SayDirs dirs lefts → SayDirs dirs rights
+    → AreAlike lefts rights
 all_alike [] [] [] p q = tt
 all_alike [] [] (right ∷ rights) p q = absurd q
 all_alike [] (left ∷ lefts) rights p q = absurd p
@@ -94,7 +92,8 @@ all_alike (dir ∷ dirs) (left ∷ lefts) (right ∷ rights) p q =
     (said_alike dir left right p.0 q.0, all_alike dirs lefts rights p.1 q.1)
 
 -- a list that is the same in each directory is the same of all
-pub same_lists : {A : Type 0} (list_of : PlainDir → List A) → ((left right : PlainDir) → IsAlike left right → list_of left ≡ list_of right)
+pub same_lists : {A : Type 0} (list_of : PlainDir → List A) → ((left right : PlainDir) → IsAlike left right
+    → list_of left ≡ list_of right)
     → (lefts rights : List PlainDir) → AreAlike lefts rights → flat_map list_of lefts ≡ flat_map list_of rights
 same_lists list_of same [] [] are = refl
 same_lists list_of same [] (right ∷ rights) are = absurd are
@@ -115,45 +114,3 @@ same_items kind_of part_of same (left ∷ lefts) (right ∷ rights) are =
     let here = same left right are.0 in
     ap₂ ◌++◌ here.0 (ap (without kind_of (part_of left).1) (same_items kind_of part_of same lefts rights are.1)
     ∙ without-alike kind_of (part_of left).1 (part_of right).1 (among_alike (part_of left).1 (part_of right).1 here.1) _)
-
-abbrev Pairs : Type 0
-Pairs = List (List ℕ × List ℕ)
-
--- a database of these lists
-abbrev made : List GlobRule → Pairs → Pairs → List PlainSection → Pairs → Pairs → PlainDatabase
-made rules aliases parents sections icons generic_icons = record {
-  rules = rules;
-  aliases = aliases;
-  parents = parents;
-  sections = sections;
-  icons = icons;
-  generic_icons = generic_icons;
-}
-
--- databases of the same lists are the same
-same_made : (r r2 : List GlobRule) (a a2 p p2 : Pairs) (s s2 : List PlainSection) (i i2 g g2 : Pairs) → r ≡ r2 → a ≡ a2 → p ≡ p2 → s ≡ s2
-    → i ≡ i2 → g ≡ g2 → made r a p s i g ≡ made r2 a2 p2 s2 i2 g2
-same_made r r2 a a2 p p2 s s2 i i2 g g2 er ea ep es ei eg =
-    ap (λ x. made x a p s i g) er ∙ ap (λ x. made r2 x p s i g) ea ∙ ap (λ x. made r2 a2 x s i g) ep
-    ∙ ap (λ x. made r2 a2 p2 x i g) es ∙ ap (λ x. made r2 a2 p2 s2 x g) ei ∙ ap (λ x. made r2 a2 p2 s2 i2 x) eg
-
--- directories that are alike merge to one database
-pub merged_alike : (lefts rights : List PlainDir) → AreAlike lefts rights → merged lefts ≡ merged rights
-unfolding merged
-merged_alike lefts rights are =
-    let rules : merged_rules lefts ≡ merged_rules rights =
-    same_items (λ (rule : GlobRule). rule.kind) (λ dir. (dir.rules, dir.deleted_globs)) (λ l r is. (is.rules, is.deleted_globs))
-    lefts rights are in
-    let sections : undeleted_sections lefts ≡ undeleted_sections rights =
-    same_items (λ (section : PlainSection). section.kind) (λ dir. (dir.sections, dir.deleted_magic))
-    (λ l r is. (is.sections, is.deleted_magic)) lefts rights are in
-    same_made _ _ _ _ _ _ _ _ _ _ _ _ rules
-    (ap (once has_same_name) (same_lists (λ dir. dir.aliases) (λ l r is. is.aliases) lefts rights are))
-    (ap (once is_same_pair) (same_lists (λ dir. dir.subclasses) (λ l r is. is.subclasses) lefts rights are))
-    (ap (falling (λ (section : PlainSection). section.priority)) sections)
-    (ap (once has_same_name) (same_lists (λ dir. dir.icons) (λ l r is. is.icons) lefts rights are))
-    (ap (once has_same_name) (same_lists (λ dir. dir.generic_icons) (λ l r is. is.generic_icons) lefts rights are))
-
--- the texts of directories say one database
-pub one_database : (dirs : List DirBytes) (left right : PlainDatabase) → SayDatabase dirs left → SayDatabase dirs right → left ≡ right
-one_database dirs left right p q = p.2 ∙ merged_alike p.0 q.0 (all_alike dirs p.0 q.0 p.1 q.1) ∙ sym q.2

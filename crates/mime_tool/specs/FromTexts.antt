@@ -1,5 +1,6 @@
 -- What the texts of data directories say, and what an answer from them comes to.
-use Rattle.std.specs.Prelude.{◌≡◌, ◌≢◌, ◌⊎◌, ◌<◌, ◌≤◌, ℕ, zero, suc, List, [], ◌∷◌, length, Option, Some, None, IfSome, Result, Ok, Err}
+use Rattle.std.specs.Prelude.{◌≡◌, ◌⊎◌, ◌<◌, ◌≤◌, ℕ, zero, suc, List, [], ◌∷◌, length, Option, Some, None, IfSome}
+use Rattle.std.specs.Prelude.{Result, Ok, Err}
 use Rattle.mime_base.specs.Database.{PlainDatabase}
 use Rattle.mime_base.specs.Format.Room.{room}
 use Rattle.mime_base.specs.Format.Spells.{cache_limit}

@@ -11,7 +11,8 @@ returns-in_err-answer g c = λ b limits is fits.
     let at = sym c.new.ensures in
     let spells = subst (λ bytes. Spells bytes b) at is.spells in
     let packed = subst (λ bytes. Packed bytes b) at is.packed in
-    rw (e.1, e.2) (stopped_over b c.args.name.now c.args.cache.now _ _ _ fits is.long c.new.ensures c.in_err-answer.ensures.too_long
+    rw (e.1, e.2) (stopped_over b c.args.name.now c.args.cache.now _ _ _ fits is.long c.new.ensures
+    c.in_err-answer.ensures.too_long
     (c.in_err-answer.ensures.answers b limits spells packed) c.in_err-answer.ensures.bounds)
 
 pub returns : goal.returns
