@@ -22,3 +22,8 @@ pub mod Runs
 pub mod Sinks
 pub mod Spelled
 pub mod Texts
+pub mod AnswersFrom
+pub mod AnswersOver
+pub mod SaidDatabases
+pub mod SaidDirs
+pub mod SaidTexts

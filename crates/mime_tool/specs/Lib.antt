@@ -17,3 +17,4 @@ pub mod Sink
 pub mod Stop
 pub mod TypeNames
 pub mod Types
+pub mod FromTexts

@@ -23,6 +23,7 @@ mod cache;
 mod desk;
 mod directories;
 mod files;
+mod from_texts;
 mod icon;
 mod is_a;
 mod line;
@@ -37,6 +38,7 @@ mod type_names;
 mod types;
 
 pub use files::{FileFault, Files};
+pub use from_texts::{AnswerFault, DirBytes, OwnedAnswer, answer};
 pub use program::run;
 pub use sink::{Sink, SinkFault};
 pub use system::{Stream, SystemFiles, read_whole};

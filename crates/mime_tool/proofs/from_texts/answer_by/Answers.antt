@@ -1,0 +1,23 @@
+use Rattle.std.proofs.Common.{sym, subst}
+use Rattle.std.proofs.lemmas.Result.{err_from_is_err_and}
+use Rattle.mime_base.specs.Format.Packed.{Packed}
+use Rattle.mime_base.specs.Format.Spells.{Spells}
+use Rattle.mime_tool.proofs.AnswersOver.{answer_over, stopped_over}
+use Rattle.mime_tool.proofs.from_texts.answer_by.Goals as goal
+
+pub returns-in_err-answer : goal.returns-in_err-answer
+returns-in_err-answer g c = λ b limits is fits.
+    let e = err_from_is_err_and c.from_residual.result c.from_residual.ensures.1 in
+    let at = sym c.new.ensures in
+    let spells = subst (λ bytes. Spells bytes b) at is.spells in
+    let packed = subst (λ bytes. Packed bytes b) at is.packed in
+    rw (e.1, e.2) (stopped_over b c.args.name.now c.args.cache.now _ _ _ fits is.long c.new.ensures
+    c.in_err-answer.ensures.too_long
+    (c.in_err-answer.ensures.answers b limits spells packed) c.in_err-answer.ensures.bounds)
+
+pub returns : goal.returns
+returns g c = λ b limits is fits.
+    let spells = subst (λ bytes. Spells bytes b) (sym c.new.ensures) is.spells in
+    answer_over b c.args.name.now c.args.cache.now _ _ _ _ _ _ c.in_ok-kind.kind fits is.long c.new.ensures
+    c.in_ok-answer.ensures.too_long (c.in_ok-answer.ensures.chosen b limits spells) (c.in_ok-answer.ensures.read b limits spells)
+    c.in_ok-answer.ensures.bounds (c.in_ok-kind.ensures.items_if_clones_equal (λ x y same. same))

@@ -1,0 +1,126 @@
+-- What the texts of data directories say, and what an answer from them comes to.
+use Rattle.std.specs.Prelude.{◌≡◌, ◌⊎◌, ◌<◌, ◌≤◌, ℕ, zero, suc, List, [], ◌∷◌, length, Option, Some, None, IfSome}
+use Rattle.std.specs.Prelude.{Result, Ok, Err}
+use Rattle.mime_base.specs.Database.{PlainDatabase}
+use Rattle.mime_base.specs.Format.Room.{room}
+use Rattle.mime_base.specs.Format.Spells.{cache_limit}
+use Rattle.mime_base.specs.declared.magic.host.Host.{Host}
+use Rattle.mime_base.specs.declared.meter.Meter.{Meter}
+use Rattle.mime_lookup.specs.Bounds.{bytes_max, nodes_max}
+use Rattle.mime_lookup.specs.CheckingOrder.{Chooses, read_of}
+use Rattle.mime_lookup.specs.declared.order.Order.{Order}
+use Rattle.mime_lookup.specs.declared.stopped.Cause.{Cause}
+use Rattle.mime_lookup.specs.declared.stopped.Cause.TheVariants as cause
+use Rattle.mime_lookup.specs.declared.stopped.Stopped.{Stopped}
+use Rattle.mime_store.specs.declared.fault.StoreFault.{StoreFault}
+use Rattle.mime_store.specs.declared.fault.StoreFault.TheVariants as store
+use Rattle.mime_text.specs.Magic.Reading.{magic_fault}
+use Rattle.mime_text.specs.Merging.{PlainDir, merged}
+use Rattle.mime_text.specs.declared.magic.fault.MagicFault.{MagicFault}
+use Rattle.mime_tool.specs.Directories.{AreGlobs, AreIcons, ArePairs, IsMagic}
+use Rattle.mime_tool.specs.declared.from_texts.AnswerFault.{AnswerFault}
+use Rattle.mime_tool.specs.declared.from_texts.AnswerFault.TheVariants as fault
+use Rattle.mime_tool.specs.declared.from_texts.DirBytes.{DirBytes}
+use Rattle.mime_tool.specs.declared.from_texts.OwnedAnswer.{OwnedAnswer}
+
+-- ---- texts
+
+-- what the six texts of a directory say
+pub record SaysDir (dir : DirBytes) (plain : PlainDir) : Type 0 where
+  pub globs : AreGlobs dir.globs2.now (plain.rules, plain.deleted_globs)
+  pub magic : IsMagic dir.magic.now (plain.sections, plain.deleted_magic)
+  pub aliases : ArePairs dir.aliases.now plain.aliases
+  pub subclasses : ArePairs dir.subclasses.now plain.subclasses
+  pub icons : AreIcons dir.icons.now plain.icons
+  pub generic_icons : AreIcons dir.generic_icons.now plain.generic_icons
+
+-- what directories say, each in its place
+abbrev pub SayDirs : List DirBytes → List PlainDir → Type 0
+SayDirs [] [] = Unit {0}
+SayDirs [] (plain ∷ plains) = ⊥
+SayDirs (dir ∷ dirs) [] = ⊥
+SayDirs (dir ∷ dirs) (plain ∷ plains) = SaysDir dir plain × SayDirs dirs plains
+
+-- the database that directories say, the most preferred first
+abbrev pub SayDatabase : List DirBytes → PlainDatabase → Type 0
+SayDatabase dirs b = (plains : List PlainDir) × SayDirs dirs plains × (b ≡ merged plains)
+
+-- the directory of this number, counted from 0, is the first whose magic has a fault, and this is its first
+abbrev pub FirstRefused : List DirBytes → ℕ → MagicFault → Type 0
+FirstRefused [] i f = ⊥
+FirstRefused (dir ∷ dirs) zero f = magic_fault dir.magic.now ≡ Some f
+FirstRefused (dir ∷ dirs) (suc i) f = (magic_fault dir.magic.now ≡ None) × FirstRefused dirs i f
+
+-- ---- answers
+
+-- a meter keeps to the bounds of a lookup over a cache of at most so many bytes
+pub record KeepsRoom (name size read : ℕ) (meter : Meter) : Type 0 where
+  pub nodes : meter.nodes ≤ nodes_max name size
+  pub bytes : meter.bytes ≤ bytes_max name size read
+
+-- the answer to a name over a database that fits in a cache, and what it took
+pub record IsAnswer (b : PlainDatabase) (name : List ℕ) (content : Option (Option (List ℕ))) (host : Host) (order : Order)
+    (answer : OwnedAnswer) : Type 0 where
+  pub fits : room b ≤ cache_limit
+  pub short : length name ≤ 4096
+  pub chosen : IfSome content (λ known. Chooses b name known host order answer.kind.items)
+  pub read : IfSome content (λ known. answer.read ≡ read_of b name known order)
+  pub keeps : KeepsRoom (length name) (room b) answer.read answer.meter
+
+-- a lookup over a database that fits in a cache stops for a long name alone, or for a read of the content alone
+pub record IsStopped (b : PlainDatabase) (name : List ℕ) (stopped : Stopped) : Type 0 where
+  pub fits : room b ≤ cache_limit
+  pub too_long : 4096 < length name → stopped.cause ≡ cause.NameTooLong
+  pub otherwise : length name ≤ 4096 → stopped.cause ≡ cause.Read
+  pub keeps : KeepsRoom (length name) (room b) stopped.read stopped.meter
+
+-- why there is no answer over a database: no cache can hold it, or the lookup stopped, or memory ran out
+abbrev pub IsFaultOver : PlainDatabase → List ℕ → AnswerFault → Type 0
+IsFaultOver b name (fault.Magic i f) = ⊥
+IsFaultOver b name (fault.Store f) = (f ≡ store.TooLarge) × (cache_limit < room b)
+IsFaultOver b name (fault.Lookup stopped) = IsStopped b name stopped
+IsFaultOver b name fault.OutOfMemory = Unit {0}
+
+-- what an answer over a database comes to
+abbrev pub ComesOver : PlainDatabase → List ℕ → Option (Option (List ℕ)) → Host → Order → Result OwnedAnswer AnswerFault → Type 0
+ComesOver b name content host order (Ok answer) = IsAnswer b name content host order answer
+ComesOver b name content host order (Err e) = IsFaultOver b name e
+
+-- a fault of this magic, unless memory ran out
+abbrev pub IsRefusal : {X : Type 0} → ℕ → MagicFault → Result X AnswerFault → Type 0
+IsRefusal i f (Ok x) = ⊥
+IsRefusal i f (Err e) = (e ≡ fault.Magic i f) ⊎ (e ≡ fault.OutOfMemory)
+
+-- ---- the parts of an answer
+
+-- the first fault of the directories' magic, unless memory ran out
+abbrev pub IsFaultOfDirs : List DirBytes → AnswerFault → Type 0
+IsFaultOfDirs dirs (fault.Magic i f) = FirstRefused dirs i f
+IsFaultOfDirs dirs (fault.Store f) = ⊥
+IsFaultOfDirs dirs (fault.Lookup stopped) = ⊥
+IsFaultOfDirs dirs fault.OutOfMemory = Unit {0}
+
+-- the first fault of this text of magic, of the directory of this number, unless memory ran out
+abbrev pub IsFaultIn : List ℕ → ℕ → AnswerFault → Type 0
+IsFaultIn text number e =
+    (e ≡ fault.OutOfMemory) ⊎ ((f : MagicFault) × (e ≡ fault.Magic number f) × (magic_fault text ≡ Some f))
+
+-- no cache can hold a database, unless memory ran out
+abbrev pub IsStoreFault : PlainDatabase → AnswerFault → Type 0
+IsStoreFault b e = (e ≡ fault.OutOfMemory) ⊎ ((e ≡ fault.Store store.TooLarge) × (cache_limit < room b))
+
+-- a fault of writing a cache; memory has its own
+abbrev pub of_store : StoreFault → AnswerFault
+of_store store.TooLarge = fault.Store store.TooLarge
+of_store store.OutOfMemory = fault.OutOfMemory
+
+-- a stop for this cause
+abbrev pub of_cause : Stopped → Cause → AnswerFault
+of_cause stopped cause.NameTooLong = fault.Lookup stopped
+of_cause stopped (cause.Cache f) = fault.Lookup stopped
+of_cause stopped cause.Read = fault.Lookup stopped
+of_cause stopped cause.OutOfMemory = fault.OutOfMemory
+
+-- a stop of a lookup; memory has its own
+abbrev pub of_stopped : Stopped → AnswerFault
+of_stopped stopped = of_cause stopped stopped.cause

@@ -1,0 +1,250 @@
+//! From the bytes of data directories to the type of a file, with nothing stored between.
+
+ghost use Rattle.std.specs.Prelude.{◌≡◌, ◌⊎◌, ◌≤◌, ℕ, List, IfOk, IfErr};
+ghost use Rattle.mime_base.specs.Database.{PlainDatabase, plain_database};
+ghost use Rattle.mime_base.specs.Database.Limits.{IsWithinLimits};
+ghost use Rattle.mime_base.specs.Format.Room.{room};
+ghost use Rattle.mime_base.specs.Format.Spells.{cache_limit};
+ghost use Rattle.mime_lookup.specs.Content.{known_content};
+ghost use Rattle.mime_text.specs.Merging.{plain_dir, plain_dirs};
+ghost use Rattle.mime_text.specs.declared.magic.fault.MagicFault.{MagicFault};
+ghost use Rattle.mime_tool.specs.Build.{IsCacheOf};
+ghost use Rattle.mime_tool.specs.Directories.{IsMagic, plain_magic};
+ghost use Rattle.mime_tool.specs.FromTexts.{ComesOver, FirstRefused, IsFaultIn, IsFaultOfDirs, IsRefusal, IsStoreFault};
+ghost use Rattle.mime_tool.specs.FromTexts.{SayDatabase, SayDirs, SaysDir, of_stopped, of_store};
+ghost use Rattle.mime_tool.specs.declared.from_texts.AnswerFault.TheVariants as faults;
+
+use mime_base::{Counted, Database, Host, Meter, OutOfMemory, database_keeps_limits};
+use mime_lookup::{Answer, Cause, Content, Order, Stopped, look_up};
+use mime_store::{StoreFault, write_cache};
+use mime_text::{
+    DirFiles, MagicFault, MagicFile, merge, read_globs2, read_icons, read_magic, read_pairs,
+};
+use std::alloc::{AllocError, AllocFailed, Global};
+use thiserror::Error;
+
+/// The most bytes that a cache may have.
+const CACHE_LIMIT: usize = 268_435_456;
+
+/// The text files of one data directory. A missing file is one of no bytes.
+#[derive(Clone, Copy)]
+pub struct DirBytes<'a> {
+    /// The file `globs2`.
+    pub globs2: &'a [u8],
+    /// The file `magic`.
+    pub magic: &'a [u8],
+    /// The file `aliases`.
+    pub aliases: &'a [u8],
+    /// The file `subclasses`.
+    pub subclasses: &'a [u8],
+    /// The file `icons`.
+    pub icons: &'a [u8],
+    /// The file `generic-icons`.
+    pub generic_icons: &'a [u8],
+}
+
+/// The type of a file, and what it took to find it.
+#[derive(Debug, Drop)]
+pub struct OwnedAnswer {
+    /// The type.
+    pub kind: Vec<u8>,
+    /// How many bytes of the content were read.
+    pub read: u64,
+    /// What was looked at.
+    pub meter: Meter,
+}
+
+/// Why there is no answer.
+#[derive(Clone, Copy, Debug, PartialEq, Eq, Error)]
+pub enum AnswerFault {
+    /// The first directory whose `magic` is refused, counted from 0, and the first fault of that.
+    #[error("directory {0}: {1}")]
+    Magic(usize, MagicFault),
+    /// The database takes more bytes than a cache may have.
+    #[error("{0}")]
+    Store(StoreFault),
+    /// The name is too long, or the content can't be read.
+    #[error("{0}")]
+    Lookup(Stopped),
+    /// An allocation was refused.
+    #[error("out of memory")]
+    OutOfMemory,
+}
+
+impl From<OutOfMemory> for AnswerFault {
+    ghost from_gives = { λ _ fault. fault ≡ faults.OutOfMemory };
+
+    fn from(_error: OutOfMemory) -> AnswerFault {
+        AnswerFault::OutOfMemory
+    }
+}
+
+impl From<AllocError> for AnswerFault {
+    ghost from_gives = { λ _ fault. fault ≡ faults.OutOfMemory };
+
+    fn from(_error: AllocError) -> AnswerFault {
+        AnswerFault::OutOfMemory
+    }
+}
+
+impl<T: Drop> From<AllocFailed<T>> for AnswerFault {
+    ghost from_gives = { λ _ fault. fault ≡ faults.OutOfMemory };
+
+    fn from(_error: AllocFailed<T>) -> AnswerFault {
+        AnswerFault::OutOfMemory
+    }
+}
+
+impl From<StoreFault> for AnswerFault {
+    ghost from_gives = { λ store fault. fault ≡ of_store store };
+
+    fn from(fault: StoreFault) -> AnswerFault {
+        match fault {
+            StoreFault::TooLarge => AnswerFault::Store(StoreFault::TooLarge),
+            StoreFault::OutOfMemory => AnswerFault::OutOfMemory,
+        }
+    }
+}
+
+impl From<Stopped> for AnswerFault {
+    ghost from_gives = { λ stopped fault. fault ≡ of_stopped stopped };
+
+    fn from(stopped: Stopped) -> AnswerFault {
+        match stopped.cause {
+            Cause::NameTooLong | Cause::Cache(_) | Cause::Read => AnswerFault::Lookup(stopped),
+            Cause::OutOfMemory => AnswerFault::OutOfMemory,
+        }
+    }
+}
+
+/// The type that the checking order gives to a name and a content, by the text files of directories.
+///
+/// ```text
+/// let dirs = [own, system]; // the most preferred first
+/// let mut content = Some(&b"#!/bin/sh\n"[..]);
+/// let (host, order) = (Host::Little, Order::GlobsFirst);
+/// let answer = answer(alloc, &dirs, b"install.sh", &mut content, host, order)?;
+/// ```
+///
+/// The files are read and merged, a cache is written in memory, and the lookup goes over its bytes: what
+/// it visits, compares and reads keeps to the bounds of a lookup. Malformed lines are passed over.
+///
+/// Want of memory is [`AnswerFault::OutOfMemory`], wherever it arose. This project's own.
+pub fn answer<R: Content>(
+    alloc: Global,
+    dirs: &[DirBytes<'_>],
+    name: &[u8],
+    content: &mut Option<R>,
+    host: Host,
+    order: Order,
+) -> Result<OwnedAnswer, AnswerFault>
+    // Where all magic is accepted.
+    ensures accepted { (b : PlainDatabase) → SayDatabase dirs.now b →
+        ComesOver b name.now (known_content R.remaining content.old) host order result }
+    // Where some isn't.
+    ensures refused { (i : ℕ) (f : MagicFault) → FirstRefused dirs.now i f → IsRefusal i f result }
+{
+    let database = read_database(alloc, dirs)?;
+    answer_over(alloc, &database, name, content, host, order)
+}
+
+// The database of the directories.
+fn read_database(alloc: Global, dirs: &[DirBytes<'_>]) -> Result<Database, AnswerFault>
+    ensures says { IfOk result (λ database. SayDatabase dirs.now (plain_database database)) }
+    ensures fault { IfErr result (IsFaultOfDirs dirs.now) }
+{
+    let files = read_dirs(alloc, dirs)?;
+    let database = merge(alloc, files)?;
+    Ok(database)
+}
+
+fn read_dirs(alloc: Global, dirs: &[DirBytes<'_>]) -> Result<Vec<DirFiles>, AnswerFault>
+    ensures says { IfOk result (λ files. SayDirs dirs.now (plain_dirs files.items)) }
+    ensures fault { IfErr result (IsFaultOfDirs dirs.now) }
+{
+    let mut files = Vec::new(alloc);
+    for (number, dir) in dirs.iter().enumerate() {
+        let read = read_dir(alloc, number, dir)?;
+        files.push(read)?;
+    }
+    Ok(files)
+}
+
+// What the files of the directory of this number say.
+fn read_dir(alloc: Global, number: usize, dir: &DirBytes<'_>) -> Result<DirFiles, AnswerFault>
+    ensures says { IfOk result (λ files. SaysDir dir.now (plain_dir files)) }
+    ensures fault { IfErr result (IsFaultIn dir.now.magic.now number) }
+{
+    let globs = read_globs2(alloc, dir.globs2)?;
+    let magic = read_numbered(alloc, number, dir.magic)?;
+    let aliases = read_pairs(alloc, dir.aliases)?;
+    let subclasses = read_pairs(alloc, dir.subclasses)?;
+    let icons = read_icons(alloc, dir.icons)?;
+    let generic_icons = read_icons(alloc, dir.generic_icons)?;
+    Ok(DirFiles {
+        globs,
+        magic,
+        aliases,
+        subclasses,
+        icons,
+        generic_icons,
+    })
+}
+
+// The file `magic` of the directory of this number.
+fn read_numbered(alloc: Global, number: usize, text: &[u8]) -> Result<MagicFile, AnswerFault>
+    ensures says { IfOk result (λ file. IsMagic text.now (plain_magic file)) }
+    ensures fault { IfErr result (IsFaultIn text.now number) }
+{
+    match read_magic(alloc, text) {
+        Ok(file) => Ok(file),
+        Err(MagicFault::OutOfMemory) => Err(AnswerFault::OutOfMemory),
+        Err(fault) => Err(AnswerFault::Magic(number, fault)),
+    }
+}
+
+fn answer_over<R: Content>(
+    alloc: Global,
+    database: &Database,
+    name: &[u8],
+    content: &mut Option<R>,
+    host: Host,
+    order: Order,
+) -> Result<OwnedAnswer, AnswerFault>
+    ensures { ComesOver (plain_database database.now) name.now (known_content R.remaining content.old)
+        host order result }
+{
+    let cache = cache_of(alloc, database)?;
+    database_keeps_limits(database);
+    answer_by(alloc, cache.as_slice(), name, content, host, order)
+}
+
+fn cache_of(alloc: Global, database: &Database) -> Result<Vec<u8>, AnswerFault>
+    ensures cache { IfOk result (λ cache. IsCacheOf (plain_database database.now) cache.items) }
+    ensures fits { IfOk result (λ _. room (plain_database database.now) ≤ cache_limit) }
+    ensures fault { IfErr result (IsStoreFault (plain_database database.now)) }
+{
+    let cache = write_cache(alloc, database, CACHE_LIMIT)?;
+    Ok(cache)
+}
+
+// The type by a cache.
+fn answer_by<R: Content>(
+    alloc: Global,
+    cache: &[u8],
+    name: &[u8],
+    content: &mut Option<R>,
+    host: Host,
+    order: Order,
+) -> Result<OwnedAnswer, AnswerFault>
+    ensures { (b : PlainDatabase) → IsWithinLimits b → IsCacheOf b cache.now → room b ≤ cache_limit →
+        ComesOver b name.now (known_content R.remaining content.old) host order result }
+{
+    let answer = look_up(alloc, Counted::new(cache), name, content, host, order)?;
+    let kind = answer.kind.to_vec(alloc)?;
+    Ok(OwnedAnswer {
+        kind,
+        read: answer.read,
+        meter: answer.meter,
+    })
+}
