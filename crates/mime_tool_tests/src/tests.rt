@@ -4,6 +4,7 @@ mod contents;
 mod directories;
 mod faults;
 mod files;
+mod from_texts;
 mod rows;
 mod system;
 mod texts;
