@@ -7,6 +7,7 @@ import subprocess
 import sys
 import tempfile
 
+from lookups import LOOKUPS, ExpectedLookup
 from reader import ALIASES, GENERIC_ICONS, ICONS, MAGIC, PARENTS, Expected, Reader, elements, in_groups_reversed
 
 TOP = os.path.dirname(os.path.dirname(os.path.abspath(__file__)))
@@ -47,7 +48,7 @@ def cache_of(mimelook, directory):
     """The cache that the program builds of a directory."""
     with tempfile.TemporaryDirectory() as folder:
         path = os.path.join(folder, "mime.cache")
-        subprocess.run([mimelook, "build", "-d", directory, "-o", path], check=True)
+        subprocess.run([mimelook, "build", "-d", directory, "-o", path], check=True, capture_output=True)
         with open(path, "rb") as file:
             return file.read()
 
@@ -81,7 +82,7 @@ def names_in(reader, which):
 
 def name_for(pattern):
     """A name that a pattern matches, as it is or folded."""
-    return b"".join(b"A" if admitted is None else bytes([max(byte for byte in admitted if byte < 127)]) for admitted in elements(pattern))
+    return b"".join(b"A" if admitted is None else bytes([max((byte for byte in admitted if byte < 127), default=65)]) for admitted in elements(pattern))
 
 
 def contents_for(reader):
@@ -112,6 +113,22 @@ def questions_of(cache):
         *(call + kind for kind in dict.fromkeys(kinds) for call in (b"parents ", b"icon ", b"generic ")),
         *(call + content.hex().encode() for content in dict.fromkeys(contents) for call in (b"sniff ", b"sniff-big ")),
         *(b"hits " + name for name in dict.fromkeys([*names, *map(bytes.upper, names), b"", b"\0z", b"a\0.gz", b"a\0", b"z" * 300])),
+    ]
+
+
+def lookups_of(cache):
+    """Lookups of names and contents in both orders, of names that several rules match, and of types, in an undamaged cache."""
+    reader = Reader(cache)
+    kinds = list(dict.fromkeys([*names_in(reader, ALIASES), *names_in(reader, PARENTS), *names_in(reader, ICONS), b"t/g"]))
+    patterns = [pattern for _, _, pattern in reader.rules()]
+    often = spread(pattern for pattern in patterns if patterns.count(pattern) > 1)
+    names = [name_for(pattern) for pattern in (*spread(patterns), *often)]
+    contents = spread(content.hex().encode() for content in (*contents_for(reader), b"", b"text\n", bytes(300)))
+    asked = [*((b"-", name) for name in names), *((content, b"\1") for content in contents), *itertools.product(contents[:2], names[-2:])]
+    return [
+        *(b" ".join((call, *words)) for words in dict.fromkeys(asked) for call in (b"type", b"type-magic-first")),
+        *(b"isa %s %s" % pair for pair in itertools.product(kinds, (*kinds[-1:], b"text/plain", b"x/none"))),
+        *(b"icons " + kind for kind in kinds),
     ]
 
 
@@ -218,10 +235,23 @@ def lines_of(program, caches, questions):
     return [lines[at:at + len(questions)] for at in range(0, len(lines), len(questions))]
 
 
+def expected_of(cache, question):
+    """What the second reader says of a question."""
+    is_lookup = question.partition(b" ")[0].decode() in LOOKUPS
+    return (ExpectedLookup if is_lookup else Expected)(cache, question)
+
+
 def differences(program, caches, questions):
     """For each cache: the cache, the answers of the second reader, and for each question that is answered otherwise what differs."""
     for batch in batches(caches):
         for cache, lines in zip(batch, lines_of(program, batch, questions)):
-            expected = [Expected(cache, question) for question in questions]
+            expected = [expected_of(cache, question) for question in questions]
             wrong = [(question, it.differs(line)) for question, it, line in zip(questions, expected, lines)]
             yield cache, [it.said for it in expected], [(question, what) for question, what in wrong if what]
+
+
+def kind_of(said):
+    """A fault without its numbers, or `an answer`."""
+    words = said.partition(" and ")[0].split()
+    faults = ("truncated", "version", "too large", "out of range", "long text", "budget spent", "too deep")
+    return next((fault for fault in faults if " ".join(words).startswith(fault)), "an answer")

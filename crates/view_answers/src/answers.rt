@@ -1,7 +1,9 @@
 //! One question to one cache, and its answer as a line.
 
+use crate::lookups::{content_of, halves, icons, kind, subclass};
 use crate::shown::Shown;
 use mime_base::{Counted, Host, Meter};
+use mime_lookup::Order;
 use mime_view::{Budget, Cache, CacheFault, Marks};
 use std::alloc::Global;
 use std::io;
@@ -9,11 +11,23 @@ use std::io;
 /// How many bytes of a name are asked for.
 const LONGEST_NAME: usize = 4096;
 
-/// The answer of a cache, given as bytes, to a question, or its fault, with what was counted and what is left.
+/// The answer of a cache, given as bytes, to a question, or its fault, with what was counted and what is left or was read.
 pub fn answer(alloc: Global, bytes: &[u8], question: &[u8]) -> io::Result<String> {
+    let (call, word) = halves(question);
+    match call {
+        b"type" => kind(alloc, bytes, word, Order::GlobsFirst),
+        b"type-magic-first" => kind(alloc, bytes, word, Order::MagicFirst),
+        b"isa" => subclass(alloc, bytes, word),
+        b"icons" => icons(alloc, bytes, word),
+        _ => of_view(alloc, bytes, call, word),
+    }
+}
+
+/// The answer of a call of the reader.
+fn of_view(alloc: Global, bytes: &[u8], call: &[u8], word: &[u8]) -> io::Result<String> {
     let mut meter = Meter::new();
     match Cache::open(Counted::new(bytes), &mut meter) {
-        Ok(cache) => of_open_cache(alloc, &cache, meter, question),
+        Ok(cache) => of_open_cache(alloc, &cache, meter, call, word),
         Err(fault) => Ok(format!(in alloc;
             "{fault} nodes={} bytes={} records=0 values=0",
             meter.nodes, meter.bytes
@@ -26,12 +40,9 @@ fn of_open_cache(
     alloc: Global,
     cache: &Cache<'_>,
     opened: Meter,
-    question: &[u8],
+    call: &[u8],
+    word: &[u8],
 ) -> io::Result<String> {
-    let (call, word) = match question.iter().position(|&byte| byte == b' ') {
-        Some(at) => (&question[..at], &question[at + 1..]),
-        None => (question, &question[question.len()..]),
-    };
     let mut meter = if call == b"open".as_slice() {
         opened
     } else {
@@ -178,25 +189,4 @@ fn rules(
         }
         Err(fault) => format!(in alloc; "{fault}")?,
     })
-}
-
-/// The bytes that hexadecimal digits spell, two for each.
-fn content_of(alloc: Global, digits: &[u8]) -> io::Result<Vec<u8>> {
-    let mut content = Vec::new(alloc);
-    for pair in digits.chunks_exact(2) {
-        content.push(
-            digit_of(pair[0])
-                .wrapping_mul(16)
-                .wrapping_add(digit_of(pair[1])),
-        )?;
-    }
-    Ok(content)
-}
-
-fn digit_of(byte: u8) -> u8 {
-    match byte {
-        b'0'..=b'9' => byte - b'0',
-        b'a'..=b'f' => byte - b'a' + 10,
-        _ => 0,
-    }
 }
