@@ -11,8 +11,8 @@ from lookups import LOOKUPS, ExpectedLookup
 from reader import ALIASES, GENERIC_ICONS, ICONS, MAGIC, PARENTS, Expected, Reader, elements, in_groups_reversed
 
 TOP = os.path.dirname(os.path.dirname(os.path.abspath(__file__)))
-ANSWERS = os.path.join(TOP, "crates/view_answers/out/view_answers")
-MIMELOOK = os.path.join(TOP, "crates/mimelook/out/mimelook")
+ANSWERS = os.environ.get("ANSWERS", os.path.join(TOP, "crates/view_answers/out/view_answers"))
+MIMELOOK = os.environ.get("MIMELOOK", os.path.join(TOP, "crates/mimelook/out/mimelook"))
 # a cache of two rules, an alias, a subclass and a line of magic, of which texts are shared
 SAMPLE = bytes.fromhex("""
     00010002 00000028 00000034 00000048 00000058 00000090 00000094 000000d0
