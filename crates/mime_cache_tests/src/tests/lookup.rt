@@ -1,5 +1,5 @@
-//! Types of names and contents, by the lists of a database and by the bytes of its cache. A [`Row`] is a lookup
-//! over the merged texts of directories.
+//! Types of names and contents, by the lists of a database, by the bytes of its cache, and from the texts of directories in
+//! one run. A [`Row`] is a lookup over such texts; where it has a content, that comes also in pieces, with interruptions and failures.
 
 mod by_name;
 mod cached;
@@ -7,14 +7,17 @@ mod globs;
 mod health;
 mod limits;
 mod magic;
+mod pieces;
 mod reads;
 mod sample;
 
 use crate::tests::lookup::cached::look_up_in;
-use crate::tests::texts::{Texts, merged};
+use crate::tests::lookup::pieces::{is_answered_in_pieces, is_interrupted, is_refused_by_failures};
+use crate::tests::texts::{Texts, dirs_of, merged};
 use mime_base::{Database, Host};
 use mime_lookup::{Answer, Cause, Content, Order, Stopped, look_up_plain};
 use mime_store::write_cache;
+use mime_tool::answer;
 use std::alloc::Global;
 use std::process::Abort;
 use std::test::Fail;
@@ -87,6 +90,22 @@ fn are_answered(rt: &impl Abort, alloc: Global, rows: &[Row]) -> Result<(), Fail
             outcome: Ok((row.kind, row.read)),
         };
         are_answered_alike(rt, alloc, &database, &asked, (row.content, row.content))?;
+        is_answered_from_texts(rt, alloc, row)?;
+        if let Some(content) = row.content {
+            is_answered_in_pieces(rt, alloc, &database, &asked, content)?;
+            is_interrupted(rt, alloc, &database, &asked, content)?;
+            is_refused_by_failures(rt, alloc, &database, &asked, content)?;
+        }
     }
+    Ok(())
+}
+
+/// A row is answered by its type from the texts of its directories in one run.
+fn is_answered_from_texts(rt: &impl Abort, alloc: Global, row: &Row) -> Result<(), Fail> {
+    let dirs = dirs_of(alloc, row.dirs)?;
+    let mut content = row.content;
+    let found = answer(alloc, &dirs, row.file, &mut content, row.host, row.order)?;
+    assert_eq!(rt; found.kind.as_slice(), row.kind, "{}, from texts", row.name);
+    assert_eq!(rt; found.read, row.read, "{}, from texts", row.name);
     Ok(())
 }

@@ -3,19 +3,18 @@
 //! The sample's literal list stands at 72, its tree at 88, with the root `z` at 96, `g` at 108, `.` at
 //! 120 and a leaf at 132, and its glob list at 144.
 
-ghost use Rattle.std.specs.Prelude.{◌+◌, ◌≤◌, length};
-
 use crate::tests::sample::SAMPLE;
 use mime_base::{Counted, Meter};
 use mime_view::{Budget, Cache, CacheFault, Listed};
 use std::alloc::Global;
+use std::process::Abort;
 
 /// The sample with other bytes at an offset.
-fn with<const N: usize>(at: usize, bytes: [u8; N]) -> [u8; 240]
-    requires { at + N ≤ 240 }
-{
+fn with(at: usize, bytes: &[u8]) -> [u8; 240] {
     let mut cache = SAMPLE;
-    cache[at..at + N].copy_from_slice(&bytes);
+    for (byte, other) in cache.iter_mut().skip(at).zip(bytes) {
+        *byte = *other;
+    }
     cache
 }
 
@@ -34,11 +33,11 @@ fn rules_of<'a>(alloc: Global, bytes: &'a [u8]) -> (Result<Vec<Listed<'a>>, Cach
 /// A weight, a type, a pattern and the case-sensitive flag.
 type Row = (u8, &'static [u8], &'static [u8], bool);
 
-/// What a cache lists.
-#[derive(Drop)]
+/// What the sample lists with other bytes at an offset, and the records that are left.
 struct Lists {
     name: &'static str,
-    bytes: [u8; 240],
+    at: usize,
+    bytes: &'static [u8],
     left: u64,
     rows: &'static [Row],
 }
@@ -47,76 +46,85 @@ const MK: Row = (50, b"t/m", b"mk", false);
 
 const GZ: Row = (50, b"t/g", b"*.gz", false);
 
+const LISTS: [Lists; 8] = [
+    Lists {
+        name: "sample",
+        at: 0,
+        bytes: &[],
+        left: 55,
+        rows: &[MK, GZ],
+    },
+    // the glob list is that of the literal rules
+    Lists {
+        name: "the literal list again as the glob list",
+        at: 23,
+        bytes: &[72],
+        left: 54,
+        rows: &[MK, GZ, MK],
+    },
+    // the weight is the lowest byte, the flag the lowest bit of the next; the others say nothing
+    Lists {
+        name: "flags of a literal entry",
+        at: 84,
+        bytes: &[0xff, 0xfe, 1, 7],
+        left: 55,
+        rows: &[(7, b"t/m", b"mk", true), GZ],
+    },
+    Lists {
+        name: "flags of a leaf",
+        at: 140,
+        bytes: &[0, 1, 1, 255],
+        left: 55,
+        rows: &[MK, (255, b"t/g", b"*.gz", true)],
+    },
+    Lists {
+        name: "a character above 255",
+        at: 110,
+        bytes: &[1],
+        left: 57,
+        rows: &[MK],
+    },
+    Lists {
+        name: "a leaf among the roots",
+        at: 99,
+        bytes: &[0],
+        left: 58,
+        rows: &[MK],
+    },
+    // its first record stands at 120, but that isn't looked at
+    Lists {
+        name: "a node of no children",
+        at: 115,
+        bytes: &[0],
+        left: 57,
+        rows: &[MK],
+    },
+    Lists {
+        name: "siblings in their order: `g` and then `.`",
+        at: 103,
+        bytes: &[2],
+        left: 53,
+        rows: &[MK, GZ, (50, b"t/g", b"*.z", false)],
+    },
+];
+
+/// The rules are those of the rows.
+fn are_listed(rt: &impl Abort, name: &str, rules: &[Listed<'_>], rows: &[Row]) {
+    assert_eq!(rt; rules.len(), rows.len(), "{name}");
+    for (rule, (weight, kind, pattern, cased)) in rules.iter().zip(rows) {
+        assert_eq!(rt; (rule.weight, rule.cased), (*weight, *cased), "{name}");
+        assert_eq!(rt; rule.kind, *kind, "{name}");
+        assert_eq!(rt; rule.pattern.as_slice(), *pattern, "{name}");
+    }
+}
+
 #[test]
 fn rules_of_the_sample(rt: HostRuntime) -> Result<(), CacheFault> {
-    let lists = [
-        Lists {
-            name: "sample",
-            bytes: SAMPLE,
-            left: 55,
-            rows: &[MK, GZ],
-        },
-        // the glob list is that of the literal rules
-        Lists {
-            name: "the literal list again as the glob list",
-            bytes: with(23, [72]),
-            left: 54,
-            rows: &[MK, GZ, MK],
-        },
-        // the weight is the lowest byte, the flag the lowest bit of the next; the others say nothing
-        Lists {
-            name: "flags of a literal entry",
-            bytes: with(84, [0xff, 0xfe, 1, 7]),
-            left: 55,
-            rows: &[(7, b"t/m", b"mk", true), GZ],
-        },
-        Lists {
-            name: "flags of a leaf",
-            bytes: with(140, [0, 1, 1, 255]),
-            left: 55,
-            rows: &[MK, (255, b"t/g", b"*.gz", true)],
-        },
-        Lists {
-            name: "a character above 255",
-            bytes: with(110, [1]),
-            left: 57,
-            rows: &[MK],
-        },
-        Lists {
-            name: "a leaf among the roots",
-            bytes: with(99, [0]),
-            left: 58,
-            rows: &[MK],
-        },
-        // its first record stands at 120, but that isn't looked at
-        Lists {
-            name: "a node of no children",
-            bytes: with(115, [0]),
-            left: 57,
-            rows: &[MK],
-        },
-        Lists {
-            name: "siblings in their order: `g` and then `.`",
-            bytes: with(103, [2]),
-            left: 53,
-            rows: &[MK, GZ, (50, b"t/g", b"*.z", false)],
-        },
-    ];
-    for list in &lists {
-        let (rules, left) = rules_of(rt.alloc(), &list.bytes);
-        let rules = rules?;
+    for list in &LISTS {
+        let cache = with(list.at, list.bytes);
+        let (rules, left) = rules_of(rt.alloc(), &cache);
         assert_eq!(rt; left, list.left, "{}", list.name);
-        assert_eq!(rt; rules.len(), list.rows.len(), "{}", list.name);
-        for (rule, (weight, kind, pattern, cased)) in rules.iter().zip(list.rows) {
-            assert_eq!(rt;
-                (rule.weight, rule.cased),
-                (*weight, *cased),
-                "{}",
-                list.name
-            );
-            assert_eq!(rt; rule.kind, *kind, "{}", list.name);
-            assert_eq!(rt; rule.pattern.as_slice(), *pattern, "{}", list.name);
-        }
+        are_listed(&rt, list.name, &rules?, list.rows);
     }
     Ok(())
 }
@@ -124,7 +132,7 @@ fn rules_of_the_sample(rt: HostRuntime) -> Result<(), CacheFault> {
 /// Node `z` is its own child: the budget ends the walk, or the 254th character does.
 #[test]
 fn a_node_that_is_its_own_child(rt: HostRuntime) -> Result<(), CacheFault> {
-    let tree_loop = with(107, [0x60]);
+    let tree_loop = with(107, &[0x60]);
     let (rules, left) = rules_of(rt.alloc(), &tree_loop);
     assert_eq!(rt; rules.err(), Some(CacheFault::Spent));
     assert_eq!(rt; left, 0);
@@ -180,10 +188,7 @@ const FAR: CacheFault = CacheFault::OutOfRange(4_294_967_295);
 #[test]
 fn damaged_rules(rt: HostRuntime) -> Result<(), CacheFault> {
     for (name, at, fault) in DAMAGES {
-        let mut bytes = SAMPLE;
-        for byte in bytes.iter_mut().skip(at).take(4) {
-            *byte = 0xff;
-        }
+        let bytes = with(at, &[0xff; 4]);
         let (rules, _) = rules_of(rt.alloc(), &bytes);
         assert_eq!(rt; rules.err(), Some(fault), "{name}");
     }
