@@ -6,7 +6,7 @@
 ghost use Rattle.std.specs.Prelude.{◌≡◌, ◌+◌, ◌++◌, [], ◌∷◌, IfOk, OnOk, List, ℕ, length, map, not};
 ghost use Rattle.std.specs.List.{list_any};
 ghost use Rattle.mime_base.specs.Database.PlainPairs.{is_same_pair};
-ghost use Rattle.mime_text.specs.Merging.{has_same_key, marks, once, picked, with_key};
+ghost use Rattle.mime_text.specs.Merging.{has_same_key, marks, once, picked, with_new_key};
 
 use super::key::Key;
 use indexmap::IndexSet;
@@ -40,7 +40,7 @@ impl<'a> Keys<'a> {
     /// Adds a key, and answers whether it is new.
     fn add(&mut self, key: (&'a [u8], &'a [u8])) -> Result<bool, OutOfMemory>
         ensures new { IfOk result (λ new. new ≡ not (list_any (is_same_pair (key.entry.0.now, key.entry.1.now)) self.old)) }
-        ensures keys { OnOk result (self.new ≡ with_key self.old (key.entry.0.now, key.entry.1.now)) }
+        ensures keys { OnOk result (self.new ≡ with_new_key self.old (key.entry.0.now, key.entry.1.now)) }
     {
         Ok(self.texts.insert(key)?)
     }
