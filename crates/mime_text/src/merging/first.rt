@@ -29,12 +29,12 @@ impl<'a> Model for Keys<'a> {
 }
 
 impl<'a> Keys<'a> {
-    fn new(alloc: Global) -> Keys<'a>
-        ensures { result ≡ [] }
+    /// No keys, and room for so many.
+    fn with_capacity(alloc: Global, capacity: usize) -> Result<Keys<'a>, OutOfMemory>
+        ensures { IfOk result (λ keys. keys ≡ []) }
     {
-        Keys {
-            texts: IndexSet::new(alloc),
-        }
+        let texts = IndexSet::with_capacity(alloc, capacity)?;
+        Ok(Keys { texts })
     }
 
     /// Adds a key, and answers whether it is new.
@@ -61,8 +61,8 @@ pub fn first_of_each<T: Drop, K: Key<T>>(
 fn first_marks<T: Drop, K: Key<T>>(alloc: Global, entries: &[T]) -> Result<Vec<bool>, OutOfMemory>
     ensures { IfOk result (λ firsts. firsts.items ≡ marks [] (map K.key_of entries.now)) }
 {
-    let mut keys = Keys::new(alloc);
-    let mut firsts = Vec::new(alloc);
+    let mut keys = Keys::with_capacity(alloc, entries.len())?;
+    let mut firsts = Vec::with_capacity(alloc, entries.len())?;
     for entry in entries {
         firsts.push(keys.add(K::of(entry))?)?;
     }
@@ -75,7 +75,7 @@ fn marked<T: Drop>(alloc: Global, entries: Vec<T>, marks: Vec<bool>) -> Result<V
     ensures { IfOk result (λ kept. kept.items ≡ picked marks.items entries.items) }
 {
     let (mut entries, mut marks) = (entries, marks);
-    let mut kept = Vec::new(alloc);
+    let mut kept = Vec::with_capacity(alloc, entries.len())?;
     while let (Some(entry), Some(mark)) = (entries.pop(), marks.pop()) {
         if mark {
             kept.push(entry)?;
