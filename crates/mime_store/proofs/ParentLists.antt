@@ -10,7 +10,7 @@ use Rattle.mime_base.specs.Format.Room.{parents_room, text_room}
 use Rattle.mime_base.specs.Format.Sorted.{IsSortedByText, with_key}
 use Rattle.mime_base.specs.Database.Subclass.{parents}
 use Rattle.mime_store.specs.Runs.{AreRuns, IsRun, PlainRun, run_parts_room, runs_room, second_text, seconds_room}
-use Rattle.mime_store.specs.Views.{first_text, second_view, texts}
+use Rattle.mime_store.specs.Views.{first_text, pair_texts, second_view}
 use Rattle.mime_store.specs.declared.text_pair.TextPair.{TextPair}
 use Rattle.mime_store.proofs.Gather.{Keeps, Sized}
 use Rattle.mime_store.proofs.Entries.{cards_carry, records_carry, text_carry}
@@ -104,16 +104,17 @@ runs_room-is pairs sorted runs by_text h =
     )
 
 -- the second texts alone
-pub seconds-are : (pairs : List TextPair) → map second_text (map texts pairs) ≡ map second_view pairs
+pub seconds-are : (pairs : List TextPair) → map second_text (map pair_texts pairs) ≡ map second_view pairs
 seconds-are [] = refl
 seconds-are (pair ∷ pairs) = ap (λ l. pair.second.now ∷ l) (seconds-are pairs)
 
-pub seconds_room-is : (pairs : List TextPair) → seconds_room (map texts pairs) ≡ 4 * length pairs + sum_by text_room (map second_view pairs)
+pub seconds_room-is : (pairs : List TextPair)
+    → seconds_room (map pair_texts pairs) ≡ 4 * length pairs + sum_by text_room (map second_view pairs)
 seconds_room-is [] = refl
 seconds_room-is (pair ∷ pairs) =
     omega (
       arith,
       seconds_room-is pairs,
-      sum_by-cons (λ (p : List ℕ × List ℕ). 4 + text_room p.1) (texts pair) (map texts pairs),
+      sum_by-cons (λ (p : List ℕ × List ℕ). 4 + text_room p.1) (pair_texts pair) (map pair_texts pairs),
       sum_by-cons text_room (second_view pair) (map second_view pairs),
     )

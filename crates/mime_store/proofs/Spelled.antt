@@ -16,7 +16,7 @@ use Rattle.mime_base.specs.declared.database.rule.GlobRule.{GlobRule}
 use Rattle.mime_store.specs.Endings.{AreEndings, Entry, TreeOf}
 use Rattle.mime_store.specs.Parts.{AreParts, parts_room}
 use Rattle.mime_store.specs.Runs.{AreRuns, plain_run}
-use Rattle.mime_store.specs.Views.{first_text, texts}
+use Rattle.mime_store.specs.Views.{first_text, pair_texts}
 use Rattle.mime_store.specs.declared.run.Run.{Run}
 use Rattle.mime_store.specs.declared.parts.Parts.{Parts}
 use Rattle.mime_store.proofs.Entries.{cards_carry, records_carry}
@@ -82,7 +82,7 @@ rules_room-sorted rules sorted by_text =
 
 -- the parts take what the database takes
 pub parts_room-is : (parts : Parts) (runs : List Run) (b : code.Database) → AreParts parts b
-    → AreRuns (map plain_run runs) (map texts parts.parents.items) → parts_room parts runs b.sections.items ≡ room (plain_database b)
+    → AreRuns (map plain_run runs) (map pair_texts parts.parents.items) → parts_room parts runs b.sections.items ≡ room (plain_database b)
 parts_room-is parts runs b are h =
     omega (
       arith,

@@ -15,7 +15,7 @@ use Rattle.mime_store.specs.Endings.{TreeOf, ending_entry}
 use Rattle.mime_store.specs.Namespaces.{HasNoNamespaces}
 use Rattle.mime_store.specs.Parts.{AreParts}
 use Rattle.mime_store.specs.Runs.{AreRuns, IsRun, plain_run}
-use Rattle.mime_store.specs.Views.{rule_of, texts}
+use Rattle.mime_store.specs.Views.{pair_texts, rule_of}
 use Rattle.mime_store.specs.Written.{Grew, Written}
 use Rattle.mime_store.specs.declared.run.Run.{Run}
 use Rattle.mime_store.specs.declared.parts.Parts.{Parts}
@@ -36,16 +36,16 @@ cache_length o9 c o begun is =
     ∙ omega (arith, length-cards (header_numbers o), length-drop 40 o9)
 
 pub cache_spells : (o1 o2 o3 o4 o5 o6 o7 o8 o9 c : List ℕ) (parts : Parts) (runs : List Run) (b : code.Database) (o : Offsets)
-    (s2 s3 s4 s5 s6 s7 s8 s9 : ℕ) → AreParts parts b → AreRuns (map plain_run runs) (map texts parts.parents.items)
-    → ListAt (Written o1) 8 (IsPair (Written o1)) o.aliases (map texts parts.aliases.items)
+    (s2 s3 s4 s5 s6 s7 s8 s9 : ℕ) → AreParts parts b → AreRuns (map plain_run runs) (map pair_texts parts.parents.items)
+    → ListAt (Written o1) 8 (IsPair (Written o1)) o.aliases (map pair_texts parts.aliases.items)
     → Grew o1 o2 s2 → ListAt (Written o2) 8 (IsRun (Written o2)) o.parents (map plain_run runs)
     → Grew o2 o3 s3 → ListAt (Written o3) 12 (IsRule (Written o3)) o.literals (map rule_of parts.literals.items)
     → Grew o3 o4 s4 → TreeOf (Written o4) o.tree (map (ending_entry 0) parts.endings.items)
     → Grew o4 o5 s5 → ListAt (Written o5) 12 (IsRule (Written o5)) o.globs (map rule_of parts.globs.items)
     → Grew o5 o6 s6 → MagicAt (Written o6) o.magic (plain_sections b.sections.items)
     → Grew o6 o7 s7
-    → Grew o7 o8 s8 → ListAt (Written o8) 8 (IsPair (Written o8)) o.icons (map texts parts.icons.items)
-    → Grew o8 o9 s9 → ListAt (Written o9) 8 (IsPair (Written o9)) o.generic_icons (map texts parts.generic_icons.items)
+    → Grew o7 o8 s8 → ListAt (Written o8) 8 (IsPair (Written o8)) o.icons (map pair_texts parts.icons.items)
+    → Grew o8 o9 s9 → ListAt (Written o9) 8 (IsPair (Written o9)) o.generic_icons (map pair_texts parts.generic_icons.items)
     → c ≡ cards (header_numbers o) ++ drop 40 o9 → HeaderAt (Stands c) o → length c ≤ cache_limit → Spells c (plain_database b)
 cache_spells o1 o2 o3 o4 o5 o6 o7 o8 o9 c parts runs b o s2 s3 s4 s5 s6 s7 s8 s9 are h
     aliases g2 parents g3 literals g4 tree g5 globs g6 magic g7 g8 icons g9 generic is header within =

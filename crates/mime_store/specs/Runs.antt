@@ -4,7 +4,7 @@ use Rattle.std.specs.Set.{is_member}
 use Rattle.mime_base.specs.Format.Parents.{IsName}
 use Rattle.mime_base.specs.Format.Records.{ListAt, Standing, TextAt}
 use Rattle.mime_base.specs.Format.Room.{text_room}
-use Rattle.mime_store.specs.Views.{first_text, texts}
+use Rattle.mime_store.specs.Views.{first_text, pair_texts}
 use Rattle.mime_store.specs.declared.run.Run.{Run}
 
 -- a first text, and its pairs
@@ -13,7 +13,7 @@ PlainRun = List ℕ × List (List ℕ × List ℕ)
 
 -- the run of the code
 abbrev pub plain_run : Run → PlainRun
-plain_run run = (run.kind.now, map texts run.pairs.now)
+plain_run run = (run.kind.now, map pair_texts run.pairs.now)
 
 -- the second text of a pair
 abbrev pub second_text : List ℕ × List ℕ → List ℕ

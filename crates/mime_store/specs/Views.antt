@@ -7,8 +7,8 @@ use Rattle.mime_store.specs.declared.text_pair.TextPair.{TextPair}
 use Rattle.mime_store.specs.declared.stored_rule.StoredRule.{StoredRule}
 
 -- the two texts of a pair
-abbrev pub texts : TextPair → List ℕ × List ℕ
-texts pair = (pair.first.now, pair.second.now)
+abbrev pub pair_texts : TextPair → List ℕ × List ℕ
+pair_texts pair = (pair.first.now, pair.second.now)
 
 -- the first text of a pair
 abbrev pub first_text : List ℕ × List ℕ → List ℕ

@@ -113,11 +113,12 @@ fn append_card(out: &mut Vec<u8>, number: u32) -> Result<(), OutOfMemory>
 }
 
 fn append_cards(out: &mut Vec<u8>, numbers: &[u32]) -> Result<(), OutOfMemory>
+    requires room { length out.old.items + 4 * length numbers.now < 2 ^ 32 }
     ensures { OnOk result (out.new.items ≡ out.old.items ++ cards numbers.now) }
 {
-    for number in numbers {
-        append_card(out, *number)?;
-    }
+    let start = out.len();
+    out.resize(start + 4 * numbers.len(), 0)?;
+    overwrite(&mut out[start..], numbers);
     Ok(())
 }
 

@@ -11,7 +11,7 @@ ghost use Rattle.mime_base.specs.Format.Spells.{Spells, cache_limit};
 ghost use Rattle.mime_store.specs.Namespaces.{HasNoNamespaces};
 ghost use Rattle.mime_store.specs.Parts.{AreParts, parts_room};
 ghost use Rattle.mime_store.specs.Runs.{AreRuns, plain_run};
-ghost use Rattle.mime_store.specs.Views.{texts};
+ghost use Rattle.mime_store.specs.Views.{pair_texts};
 
 use crate::bytes::{append_list, append_zeros, patch};
 use crate::fault::StoreFault;
@@ -75,7 +75,7 @@ fn lesser(left: usize, right: usize) -> usize
 /// Whether a database takes at most so many bytes.
 fn fits(limit: usize, database: &Database, parts: &Parts<'_>, runs: &[Run<'_, '_>]) -> bool
     requires parts { AreParts parts.now database.now }
-    requires runs { AreRuns (map plain_run runs.now) (map texts parts.now.parents.items) }
+    requires runs { AreRuns (map plain_run runs.now) (map pair_texts parts.now.parents.items) }
     requires small { limit < 2 ^ 32 }
     ensures { IsTrue result ↔ (room (plain_database database.now) ≤ limit) }
 {
@@ -112,7 +112,7 @@ fn write_parts(
     runs: &[Run<'_, '_>],
 ) -> Result<Vec<u8>, OutOfMemory>
     requires parts { AreParts parts.now database.now }
-    requires runs { AreRuns (map plain_run runs.now) (map texts parts.now.parents.items) }
+    requires runs { AreRuns (map plain_run runs.now) (map pair_texts parts.now.parents.items) }
     requires room { parts_room parts.now runs.now database.now.sections.items ≤ cache_limit }
     ensures spells { IfOk result (λ cache. Spells cache.items (plain_database database.now)) }
     ensures packed { IfOk result (λ cache. Packed cache.items (plain_database database.now)) }

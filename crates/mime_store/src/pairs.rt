@@ -6,7 +6,7 @@ ghost use Rattle.mime_base.specs.Format.Records.{ListAt};
 ghost use Rattle.mime_base.specs.Format.Room.{pairs_room};
 ghost use Rattle.mime_base.specs.Format.Sorted.{IsSortedByText};
 ghost use Rattle.mime_base.specs.Database.PlainPairs.{plain_icons, plain_pairs};
-ghost use Rattle.mime_store.specs.Views.{first_text, pair_texts_room, texts};
+ghost use Rattle.mime_store.specs.Views.{first_text, pair_texts, pair_texts_room};
 ghost use Rattle.mime_store.specs.Written.{Grew, Written};
 
 use crate::bytes::{append_list, append_text};
@@ -17,7 +17,7 @@ use std::alloc::Global;
 /// The texts of pairs, in their order.
 #[tactic(auto, using(crate::proofs::Fits::type_fits))]
 pub fn texts_of_pairs(alloc: Global, pairs: &[Pair]) -> Result<Vec<TextPair<'_>>, OutOfMemory>
-    ensures { IfOk result (λ found. map texts found.items ≡ plain_pairs pairs.now) }
+    ensures { IfOk result (λ found. map pair_texts found.items ≡ plain_pairs pairs.now) }
 {
     let mut found = Vec::with_capacity(alloc, pairs.len())?;
     for pair in pairs {
@@ -32,7 +32,7 @@ pub fn texts_of_pairs(alloc: Global, pairs: &[Pair]) -> Result<Vec<TextPair<'_>>
 /// The texts of icons, in their order.
 #[tactic(auto, using(crate::proofs::Fits::type_fits, crate::proofs::Fits::icon_fits))]
 pub fn texts_of_icons(alloc: Global, icons: &[Icon]) -> Result<Vec<TextPair<'_>>, OutOfMemory>
-    ensures { IfOk result (λ found. map texts found.items ≡ plain_icons icons.now) }
+    ensures { IfOk result (λ found. map pair_texts found.items ≡ plain_icons icons.now) }
 {
     let mut found = Vec::with_capacity(alloc, icons.len())?;
     for icon in icons {
@@ -46,7 +46,7 @@ pub fn texts_of_icons(alloc: Global, icons: &[Icon]) -> Result<Vec<TextPair<'_>>
 
 /// Sorts pairs by their first texts; those of one first text stay in their order.
 pub fn sort_pairs(pairs: &mut Vec<TextPair<'_>>) -> Result<(), OutOfMemory>
-    ensures { OnOk result (IsSortedByText first_text (map texts pairs.old.items) (map texts pairs.new.items)) }
+    ensures { OnOk result (IsSortedByText first_text (map pair_texts pairs.old.items) (map pair_texts pairs.new.items)) }
 {
     pairs.sort_by(|left, right| left.first.cmp(right.first))?;
     Ok(())
@@ -58,10 +58,10 @@ pub fn write_pairs(
     out: &mut Vec<u8>,
     pairs: &[TextPair<'_>],
 ) -> Result<u32, OutOfMemory>
-    requires room { length out.old.items + (4 + pairs_room (map texts pairs.now)) < 2 ^ 32 }
+    requires room { length out.old.items + (4 + pairs_room (map pair_texts pairs.now)) < 2 ^ 32 }
     requires begun { 40 ≤ length out.old.items }
-    ensures grew { OnOk result (Grew out.old.items out.new.items (4 + pairs_room (map texts pairs.now))) }
-    ensures stands { IfOk result (λ at. ListAt (Written out.new.items) 8 (IsPair (Written out.new.items)) at (map texts pairs.now)) }
+    ensures grew { OnOk result (Grew out.old.items out.new.items (4 + pairs_room (map pair_texts pairs.now))) }
+    ensures stands { IfOk result (λ at. ListAt (Written out.new.items) 8 (IsPair (Written out.new.items)) at (map pair_texts pairs.now)) }
 {
     let mut entries = Vec::new(alloc);
     for pair in pairs {
@@ -74,10 +74,10 @@ pub fn write_pairs(
 
 /// The two texts; answers the entry.
 fn write_texts(out: &mut Vec<u8>, pair: &TextPair<'_>) -> Result<[u32; 2], OutOfMemory>
-    requires room { length out.old.items + pair_texts_room (texts pair.now) < 2 ^ 32 }
+    requires room { length out.old.items + pair_texts_room (pair_texts pair.now) < 2 ^ 32 }
     requires begun { 40 ≤ length out.old.items }
-    ensures grew { OnOk result (Grew out.old.items out.new.items (pair_texts_room (texts pair.now))) }
-    ensures entry { IfOk result (λ entry. IsPair (Written out.new.items) (texts pair.now) entry) }
+    ensures grew { OnOk result (Grew out.old.items out.new.items (pair_texts_room (pair_texts pair.now))) }
+    ensures entry { IfOk result (λ entry. IsPair (Written out.new.items) (pair_texts pair.now) entry) }
 {
     let first = append_text(out, pair.first)?;
     let second = append_text(out, pair.second)?;

@@ -6,7 +6,7 @@ ghost use Rattle.mime_base.specs.Format.Parents.{IsName};
 ghost use Rattle.mime_base.specs.Format.Records.{ListAt};
 ghost use Rattle.mime_base.specs.Format.Sorted.{text_lt};
 ghost use Rattle.mime_store.specs.Runs.{AreRuns, EndsRun, IsRun, OfKind, plain_run, run_parts_room, runs_room, second_text, seconds_room};
-ghost use Rattle.mime_store.specs.Views.{first_text, texts};
+ghost use Rattle.mime_store.specs.Views.{first_text, pair_texts};
 ghost use Rattle.mime_store.specs.Written.{Grew, Written};
 
 use crate::bytes::{append_list, append_text};
@@ -20,8 +20,8 @@ pub fn runs<'p, 'a>(
     alloc: Global,
     pairs: &'p [TextPair<'a>],
 ) -> Result<Vec<Run<'p, 'a>>, OutOfMemory>
-    requires sorted { IsSortedBy (λ left right. text_lt left.0 right.0) (map texts pairs.now) }
-    ensures { IfOk result (λ runs. AreRuns (map plain_run runs.items) (map texts pairs.now)) }
+    requires sorted { IsSortedBy (λ left right. text_lt left.0 right.0) (map pair_texts pairs.now) }
+    ensures { IfOk result (λ runs. AreRuns (map plain_run runs.items) (map pair_texts pairs.now)) }
 {
     let mut runs = Vec::new(alloc);
     let mut at = 0;
@@ -40,8 +40,8 @@ pub fn runs<'p, 'a>(
 /// How many pairs from the front have this first text.
 fn run_length(pairs: &[TextPair<'_>], kind: &[u8]) -> usize
     ensures within { result ≤ length pairs.now }
-    ensures all { OfKind kind.now (map texts (take result pairs.now)) }
-    ensures ends { EndsRun kind.now (map texts (drop result pairs.now)) }
+    ensures all { OfKind kind.now (map pair_texts (take result pairs.now)) }
+    ensures ends { EndsRun kind.now (map pair_texts (drop result pairs.now)) }
 {
     let mut count = 0;
     for pair in pairs {
@@ -91,11 +91,11 @@ fn write_seconds(
     out: &mut Vec<u8>,
     pairs: &[TextPair<'_>],
 ) -> Result<u32, OutOfMemory>
-    requires room { length out.old.items + (4 + seconds_room (map texts pairs.now)) < 2 ^ 32 }
+    requires room { length out.old.items + (4 + seconds_room (map pair_texts pairs.now)) < 2 ^ 32 }
     requires begun { 40 ≤ length out.old.items }
-    ensures grew { OnOk result (Grew out.old.items out.new.items (4 + seconds_room (map texts pairs.now))) }
+    ensures grew { OnOk result (Grew out.old.items out.new.items (4 + seconds_room (map pair_texts pairs.now))) }
     ensures stands { IfOk result (λ at.
-        ListAt (Written out.new.items) 4 (IsName (Written out.new.items)) at (map second_text (map texts pairs.now))) }
+        ListAt (Written out.new.items) 4 (IsName (Written out.new.items)) at (map second_text (map pair_texts pairs.now))) }
 {
     let mut offsets = Vec::new(alloc);
     for pair in pairs {

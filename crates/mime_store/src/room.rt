@@ -7,7 +7,7 @@ ghost use Rattle.mime_base.specs.Magic.{forest_of, mask_bytes, plain_matchlet, p
 ghost use Rattle.mime_store.specs.Endings.{common, ending_room, entries_room, ending_entry};
 ghost use Rattle.mime_store.specs.Lines.{matchlet_parts_room, section_parts_room};
 ghost use Rattle.mime_store.specs.Runs.{plain_run, run_parts_room, runs_room, seconds_room};
-ghost use Rattle.mime_store.specs.Views.{pair_texts_room, rule_of, rule_texts_room, texts};
+ghost use Rattle.mime_store.specs.Views.{pair_texts, pair_texts_room, rule_of, rule_texts_room};
 
 use crate::bytes::padding;
 use crate::ending::Ending;
@@ -41,8 +41,8 @@ fn take_text(left: usize, text: &[u8]) -> Option<usize>
 /// Room for pairs with their texts.
 pub fn take_pairs(left: usize, pairs: &[TextPair<'_>]) -> Option<usize>
     requires { left < 2 ^ 32 }
-    ensures { MatchOption result (left < pairs_room (map texts pairs.now))
-        (λ rest. rest + pairs_room (map texts pairs.now) ≡ left) }
+    ensures { MatchOption result (left < pairs_room (map pair_texts pairs.now))
+        (λ rest. rest + pairs_room (map pair_texts pairs.now) ≡ left) }
 {
     let mut rest = left;
     for pair in pairs {
@@ -53,8 +53,8 @@ pub fn take_pairs(left: usize, pairs: &[TextPair<'_>]) -> Option<usize>
 
 fn take_pair(left: usize, pair: &TextPair<'_>) -> Option<usize>
     requires { left < 2 ^ 32 }
-    ensures { MatchOption result (left < 8 + pair_texts_room (texts pair.now))
-        (λ rest. rest + (8 + pair_texts_room (texts pair.now)) ≡ left) }
+    ensures { MatchOption result (left < 8 + pair_texts_room (pair_texts pair.now))
+        (λ rest. rest + (8 + pair_texts_room (pair_texts pair.now)) ≡ left) }
 {
     let left = left.checked_sub(8)?;
     let left = take_text(left, pair.first)?;
@@ -171,8 +171,8 @@ fn take_run(left: usize, run: &Run<'_, '_>) -> Option<usize>
 /// Room for the second texts of pairs, and an offset for each.
 fn take_seconds(left: usize, pairs: &[TextPair<'_>]) -> Option<usize>
     requires { left < 2 ^ 32 }
-    ensures { MatchOption result (left < seconds_room (map texts pairs.now))
-        (λ rest. rest + seconds_room (map texts pairs.now) ≡ left) }
+    ensures { MatchOption result (left < seconds_room (map pair_texts pairs.now))
+        (λ rest. rest + seconds_room (map pair_texts pairs.now) ≡ left) }
 {
     let mut rest = left;
     for pair in pairs {

@@ -84,7 +84,11 @@ pub fn is_in_tree(rule: &GlobRule) -> bool
 fn is_in_globs(rule: &GlobRule) -> bool
     ensures { result ≡ is_in_globs rule.now }
 {
-    !is_in_literals(rule) && !is_in_tree(rule)
+    match class_of(&rule.pattern) {
+        Class::Literal => false,
+        Class::Suffix => rule.pattern.bytes().len() == 1,
+        Class::Full => true,
+    }
 }
 
 fn is_in_literals(rule: &GlobRule) -> bool

@@ -17,8 +17,8 @@ lines [] = []
 lines (b ∷ rest) = if b == 10 then [] ∷ lines rest else onto_first b (lines rest)
 
 -- what stands between the separators of a line
-abbrev pub fields : ℕ → List ℕ → List (List ℕ)
-fields separator line = slice_split (λ b. b == separator) line
+abbrev pub line_fields : ℕ → List ℕ → List (List ℕ)
+line_fields separator line = slice_split (λ b. b == separator) line
 
 -- an empty line, or one that begins with # (35)
 abbrev pub is_passed : List ℕ → Bool

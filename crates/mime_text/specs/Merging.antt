@@ -73,13 +73,13 @@ abbrev pub has_same_key : {A : Type 0} → (A → List ℕ × List ℕ) → A �
 has_same_key key_of left right = is_same_pair (key_of left) (key_of right)
 
 -- the keys with one more
-abbrev pub with_key : List (List ℕ × List ℕ) → (List ℕ × List ℕ) → List (List ℕ × List ℕ)
-with_key keys key = if list_any (is_same_pair key) keys then keys else keys ++ key ∷ []
+abbrev pub with_new_key : List (List ℕ × List ℕ) → (List ℕ × List ℕ) → List (List ℕ × List ℕ)
+with_new_key keys key = if list_any (is_same_pair key) keys then keys else keys ++ key ∷ []
 
 -- which of these keys are none of those before
 abbrev pub marks : List (List ℕ × List ℕ) → List (List ℕ × List ℕ) → List Bool
 marks seen [] = []
-marks seen (key ∷ keys) = not (list_any (is_same_pair key) seen) ∷ marks (with_key seen key) keys
+marks seen (key ∷ keys) = not (list_any (is_same_pair key) seen) ∷ marks (with_new_key seen key) keys
 
 -- the entries that are marked
 abbrev pub picked : {A : Type 0} → List Bool → List A → List A

@@ -10,7 +10,7 @@ mod names;
 pub mod pairs;
 
 ghost use Rattle.std.specs.Prelude.{◌≡◌, ◌<◌, ◌∷◌, length, slice_index};
-ghost use Rattle.mime_text.specs.Lines.{fields, is_passed, lines};
+ghost use Rattle.mime_text.specs.Lines.{line_fields, is_passed, lines};
 
 use bstr::{ByteSlice, Split};
 use memchr::memchr;
@@ -83,7 +83,7 @@ pub fn is_passed(line: &[u8]) -> bool
 /// The fields of a line, which stand between the separators.
 pub fn fields<'a, 's>(line: &'a [u8], separator: &'s [u8]) -> Split<'a, 's>
     requires { length separator.now ≡ 1 }
-    ensures { result ≡ fields (slice_index separator.now 0) line.now }
+    ensures { result ≡ line_fields (slice_index separator.now 0) line.now }
 {
     line.split_str(separator)
 }

@@ -4,7 +4,7 @@ use Rattle.mime_base.specs.Database.PlainPairs.{plain_icons, plain_pairs}
 use Rattle.mime_base.specs.Magic.{PlainSection}
 use Rattle.mime_base.specs.declared.database.rule.GlobRule.{GlobRule}
 use Rattle.mime_text.specs.Lines.Globs2.{is_malformed_rule, markers_of, rules_of}
-use Rattle.mime_text.specs.Lines.Icons.{icons_of, is_malformed_icon}
+use Rattle.mime_text.specs.Lines.Icons.{icons_in, is_malformed_icon}
 use Rattle.mime_text.specs.Lines.Pairs.{is_malformed_pair, pairs_in}
 use Rattle.mime_text.specs.Merging.{PlainDir}
 use Rattle.mime_tool.specs.Directories.{AreGlobs, AreIcons, AreLinesAt, ArePairs, IsDirectory, IsMagicAt, path_of}
@@ -83,7 +83,7 @@ can_be_pairs name stored dir =
 
 can_be_icons : (name : List ℕ) (stored : List ℕ → Stored) (dir : List ℕ) → CanBe (AreIconsIn name stored dir)
 can_be_icons name stored dir =
-    can_be_lines_at Pairs AreIcons is_malformed_icon stored (path_of dir name) (λ text. (plain_icons (icons_of text), refl))
+    can_be_lines_at Pairs AreIcons is_malformed_icon stored (path_of dir name) (λ text. (plain_icons (icons_in text), refl))
 
 pub after_generic : (dir : List ℕ) (globs : Globs) (magic : Magic) (aliases subclasses icons generic_icons : Pairs)
     → CanBe (Gives (directory globs magic aliases subclasses icons generic_icons))

@@ -7,7 +7,7 @@ use Rattle.mime_base.specs.Magic.{PlainSection, plain_sections}
 use Rattle.mime_base.specs.declared.database.rule.GlobRule.{GlobRule}
 use Rattle.mime_text.specs.Lines.{HasJust, skipped_of}
 use Rattle.mime_text.specs.Lines.Globs2.{is_malformed_rule, markers_of, rules_of}
-use Rattle.mime_text.specs.Lines.Icons.{icons_of, is_malformed_icon}
+use Rattle.mime_text.specs.Lines.Icons.{icons_in, is_malformed_icon}
 use Rattle.mime_text.specs.Lines.Pairs.{is_malformed_pair, pairs_in}
 use Rattle.mime_text.specs.Magic.Entries.{PlainFlatSection}
 use Rattle.mime_text.specs.Magic.File.{deleted_kinds, kept_sections}
@@ -70,7 +70,7 @@ ArePairs text pairs = pairs ≡ plain_pairs (pairs_in text)
 
 -- the icons of a text of icons or generic-icons
 abbrev pub AreIcons : List ℕ → List (List ℕ × List ℕ) → Type 0
-AreIcons text icons = icons ≡ plain_icons (icons_of text)
+AreIcons text icons = icons ≡ plain_icons (icons_in text)
 
 -- ---- the file magic
 

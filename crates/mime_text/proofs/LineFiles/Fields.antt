@@ -8,7 +8,7 @@ use Rattle.std.proofs.lemmas.List.Splits.{slice_split-cons_yes, slice_split-cons
 use Rattle.std.specs.List.{onto_first}
 use Rattle.memchr.specs.Find.{occurs_at, matches_from, matches}
 use Rattle.bstr.specs.Text.{part, split_at}
-use Rattle.mime_text.specs.Lines.{fields}
+use Rattle.mime_text.specs.Lines.{line_fields}
 
 -- the pieces with a front put before the first
 abbrev onto_front : List ℕ → List (List ℕ) → List (List ℕ)
@@ -22,9 +22,9 @@ onto_front-onto_first front b [] = refl
 onto_front-onto_first front b (piece ∷ pieces) = ap (λ p. p ∷ pieces) (sym (append_assoc front (b ∷ []) piece))
 
 -- an empty front changes nothing, since there is always a first field
-onto_front-nil : (c : ℕ) (xs : List ℕ) → onto_front [] (fields c xs) ≡ fields c xs
+onto_front-nil : (c : ℕ) (xs : List ℕ) → onto_front [] (line_fields c xs) ≡ line_fields c xs
 onto_front-nil c [] = refl
-onto_front-nil c (b ∷ rest) = kept (eqb b c) (fields c rest)
+onto_front-nil c (b ∷ rest) = kept (eqb b c) (line_fields c rest)
   where
     first_kept : (pieces : List (List ℕ)) → onto_front [] (onto_first b pieces) ≡ onto_first b pieces
     first_kept [] = refl
@@ -99,7 +99,7 @@ part-more last i line rest b le e =
 
 -- the pieces from place `last` on, where no separator stands before place i
 split_at-from : (line : List ℕ) (c last i : ℕ) (xs : List ℕ) → last ≤ i → drop i line ≡ xs → i + length xs ≡ length line
-    → split_at line 1 last (matches_from line (c ∷ []) 0 i (suc (length xs))) ≡ onto_front (part last i line) (fields c xs)
+    → split_at line 1 last (matches_from line (c ∷ []) 0 i (suc (length xs))) ≡ onto_front (part last i line) (line_fields c xs)
 split_at-from line c last i [] le e fits =
     let none = occurs_at-end line c i (omega arith) in
     let whole : take (i - last) (drop last line) ≡ drop last line =
@@ -115,24 +115,24 @@ split_at-from line c last i (b ∷ rest) le e fits =
     let later = split_at-from line c (suc i) (suc i) rest (omega arith) behind (omega arith) in
     ap (split_at line 1 last) (matches_from-hit line c i (suc (length rest)) (here ∙ yes_is))
     ∙ split_at-cons line last i _
-    ∙ ap₂ ◌∷◌ (sym (append-nil (part last i line))) (later ∙ ap (λ front. onto_front front (fields c rest)) (part-empty (suc i) line)
+    ∙ ap₂ ◌∷◌ (sym (append-nil (part last i line))) (later ∙ ap (λ front. onto_front front (line_fields c rest)) (part-empty (suc i) line)
     ∙ onto_front-nil c rest)
     ∙ ap (onto_front (part last i line)) (sym (slice_split-cons_yes (λ x. eqb x c) b rest yes_is)))
     (λ no_is.
     let later = split_at-from line c last (suc i) rest (omega arith) behind (omega arith) in
     ap (split_at line 1 last) (matches_from-miss line c i (suc (length rest)) (here ∙ no_is))
     ∙ later
-    ∙ ap (λ front. onto_front front (fields c rest)) (part-more last i line rest b le e)
-    ∙ sym (onto_front-onto_first (part last i line) b (fields c rest))
+    ∙ ap (λ front. onto_front front (line_fields c rest)) (part-more last i line rest b le e)
+    ∙ sym (onto_front-onto_first (part last i line) b (line_fields c rest))
     ∙ ap (onto_front (part last i line)) (sym (slice_split-cons_no (λ x. eqb x c) b rest no_is)))
     (cases_Bool (eqb b c))
 
 -- the pieces around the one byte are the fields
-pub split_at-one : (c : ℕ) (line : List ℕ) → split_at line 1 0 (matches line (c ∷ []) 0) ≡ fields c line
+pub split_at-one : (c : ℕ) (line : List ℕ) → split_at line 1 0 (matches line (c ∷ []) 0) ≡ line_fields c line
 split_at-one c line =
     let room : length line + 1 - 0 ≡ suc (length line) = omega arith in
     rw room (split_at-from line c 0 0 line (omega arith) refl (omega arith)
-    ∙ ap (λ front. onto_front front (fields c line)) (part-empty 0 line) ∙ onto_front-nil c line)
+    ∙ ap (λ front. onto_front front (line_fields c line)) (part-empty 0 line) ∙ onto_front-nil c line)
 
 -- a list of one byte
 alone : (xs : List ℕ) → length xs ≡ 1 → xs ≡ get_or xs 0 0 ∷ []
@@ -142,7 +142,7 @@ alone (x ∷ y ∷ ys) e = absurd (omega arith)
 
 -- the same, of a separator that is a list of one byte
 pub split_at-alone : (separator line : List ℕ) → length separator ≡ 1
-    → split_at line (length separator) 0 (matches line separator 0) ≡ fields (get_or separator 0 0) line
+    → split_at line (length separator) 0 (matches line separator 0) ≡ line_fields (get_or separator 0 0) line
 split_at-alone separator line one =
-    subst (λ s. split_at line (length s) 0 (matches line s 0) ≡ fields (get_or separator 0 0) line) (sym (alone separator one))
+    subst (λ s. split_at line (length s) 0 (matches line s 0) ≡ line_fields (get_or separator 0 0) line) (sym (alone separator one))
     (split_at-one (get_or separator 0 0) line)

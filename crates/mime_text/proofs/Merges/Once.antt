@@ -11,7 +11,7 @@ use Rattle.std.specs.List.{filter, list_any}
 use Rattle.std.specs.Str.{bytes_eq}
 use Rattle.mime_base.specs.Database.PlainPairs.{are_distinct_pairs, have_distinct_names, is_same_pair}
 use Rattle.mime_text.proofs.Merges.Filters.{filter-all, filter-filter, filter-map, list_any-filter, list_any-others}
-use Rattle.mime_text.specs.Merging.{has_same_key, has_same_name, marks, once, picked, with_key}
+use Rattle.mime_text.specs.Merging.{has_same_key, has_same_name, marks, once, picked, with_new_key}
 
 -- ---- keys
 
@@ -87,7 +87,7 @@ module _ {A : Type 0} (key_of : A → List ℕ × List ℕ) where
   -- there is a mark for each entry
   pub length-marks : (seen : List (List ℕ × List ℕ)) (entries : List A) → length (marks seen (map key_of entries)) ≡ length entries
   length-marks seen [] = refl
-  length-marks seen (entry ∷ entries) = ap suc (length-marks (with_key seen (key_of entry)) entries)
+  length-marks seen (entry ∷ entries) = ap suc (length-marks (with_new_key seen (key_of entry)) entries)
 
 -- ---- plain entries
 

@@ -8,7 +8,7 @@ use Rattle.mime_base.specs.Names.{is_type_name, is_pattern}
 use Rattle.mime_base.specs.declared.database.rule.GlobRule.{GlobRule}
 use Rattle.mime_text.specs.declared.lines.globs2.GlobEntry.{GlobEntry}
 use Rattle.mime_text.specs.declared.lines.globs2.GlobEntry.TheVariants.{Rule, Marker}
-use Rattle.mime_text.specs.Lines.{fields}
+use Rattle.mime_text.specs.Lines.{line_fields}
 use Rattle.mime_text.specs.Lines.File.{entries_by, is_malformed, line_by}
 
 -- a number of decimal digits, at least one, with a value from 0 to 255
@@ -19,7 +19,7 @@ weight_of field =
 
 -- whether one of the flags, with commas (44) between them, is cs
 unfoldable pub has_cs : List ℕ → Bool
-has_cs flags = list_any (λ flag. bytes_eq flag (codes "cs")) (fields 44 flags)
+has_cs flags = list_any (λ flag. bytes_eq flag (codes "cs")) (line_fields 44 flags)
 
 -- whether the first field after the pattern has that flag; further fields say nothing
 abbrev pub is_cased : List (List ℕ) → Bool
@@ -47,7 +47,7 @@ entry_of_fields _ = None
 
 -- what a line spells: weight:type:pattern, or weight:type:pattern:flags (58 is the colon)
 unfoldable pub entry_of : List ℕ → Option GlobEntry
-entry_of line = entry_of_fields (fields 58 line)
+entry_of line = entry_of_fields (line_fields 58 line)
 
 -- the rule that a line spells, if it spells one
 abbrev pub as_rule : GlobEntry → Option GlobRule

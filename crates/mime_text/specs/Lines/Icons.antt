@@ -30,5 +30,5 @@ abbrev pub is_malformed_icon : List ℕ → Bool
 is_malformed_icon line = is_malformed (line_by icon_of line)
 
 -- the icons of a text, in the order of their lines
-abbrev pub icons_of : List ℕ → List Icon
-icons_of text = entries_by icon_of text
+abbrev pub icons_in : List ℕ → List Icon
+icons_in text = entries_by icon_of text

@@ -6,7 +6,7 @@ use Rattle.mime_base.specs.declared.database.icon.Icon.{Icon}
 use Rattle.mime_text.specs.declared.lines.file.Line.TheVariants.{Spelled, Passed, Malformed}
 use Rattle.mime_text.specs.Lines.{skipped_of}
 use Rattle.mime_text.specs.Lines.File.{entries_by, line_by}
-use Rattle.mime_text.specs.Lines.Icons.{icon_of, icons_of, is_malformed_icon}
+use Rattle.mime_text.specs.Lines.Icons.{icon_of, icons_in, is_malformed_icon}
 
 abbrev icon : List ℕ → List ℕ → Icon
 icon kind name = record { kind = kind; name = name }
@@ -47,7 +47,7 @@ abbrev icon_text : List ℕ
 icon_text =
     join_with_byte 10 (codes "t/a:x" ∷ codes ":y" ∷ codes "t/a:" ∷ codes "# z" ∷ codes "t/b:c:d" ∷ [])
 
-pub icon_text-icons : icons_of icon_text ≡ icon (codes "t/a") (codes "x") ∷ icon (codes "t/b") (codes "c:d") ∷ []
+pub icon_text-icons : icons_in icon_text ≡ icon (codes "t/a") (codes "x") ∷ icon (codes "t/b") (codes "c:d") ∷ []
 unfolding icon_of entries_by is_type_name is_icon_name
 icon_text-icons = refl
 

@@ -73,11 +73,11 @@ abbrev last : List ℕ
 last = codes "[50:t/a]" ++ 10 ∷ []
 
 -- and the header before it
-abbrev front : List ℕ
-front = header ++ last
+abbrev first_head : List ℕ
+first_head = header ++ last
 
 -- there a first line may come, at 21
-first_line : IsBeforeLine 0 front
+first_line : IsBeforeLine 0 first_head
 unfolding computing
 first_line = record {
   before = header;
@@ -165,11 +165,11 @@ unfolding computing
 no_header = (λ e. subst AreSome e tt, λ rest e. subst IsThere (sym (ap (after_prefix header) e)) tt, refl)
 
 -- `>0=` 00 05 `ab` newline
-cut_value : HasFault (front ++ codes ">0=" ++ 0 ∷ 5 ∷ codes "ab" ++ 10 ∷ []) (Malformed Truncated 29)
+cut_value : HasFault (first_head ++ codes ">0=" ++ 0 ∷ 5 ∷ codes "ab" ++ 10 ∷ []) (Malformed Truncated 29)
 unfolding computing
 cut_value = inr (record {
   limit = 0;
-  before = front;
+  before = first_head;
   line = codes ">0=" ++ 0 ∷ 5 ∷ codes "ab" ++ 10 ∷ [];
   within = 8;
   whole = refl;
@@ -206,11 +206,11 @@ no_section = inr (record {
 })
 
 -- `>=` 00 01 `a` newline
-no_start : HasFault (front ++ codes ">=" ++ 0 ∷ 1 ∷ codes "a" ++ 10 ∷ []) (Malformed BadNumber 22)
+no_start : HasFault (first_head ++ codes ">=" ++ 0 ∷ 1 ∷ codes "a" ++ 10 ∷ []) (Malformed BadNumber 22)
 unfolding computing
 no_start = record {
   limit = 0;
-  before = front;
+  before = first_head;
   line = codes ">=" ++ 0 ∷ 1 ∷ codes "a" ++ 10 ∷ [];
   within = 1;
   whole = refl;
@@ -228,11 +228,11 @@ no_start = record {
 }
 
 -- `>4294967294=` 00 01 `a` newline
-large_line : HasFault (front ++ codes ">4294967294=" ++ 0 ∷ 1 ∷ codes "a" ++ 10 ∷ []) (Malformed BadNumber 21)
+large_line : HasFault (first_head ++ codes ">4294967294=" ++ 0 ∷ 1 ∷ codes "a" ++ 10 ∷ []) (Malformed BadNumber 21)
 unfolding computing
 large_line = record {
   limit = 0;
-  before = front;
+  before = first_head;
   line = codes ">4294967294=" ++ 0 ∷ 1 ∷ codes "a" ++ 10 ∷ [];
   within = 0;
   whole = refl;
@@ -243,11 +243,11 @@ large_line = record {
 }
 
 -- `>0=` 00 03 `abc~2` newline
-odd_word : HasFault (front ++ codes ">0=" ++ 0 ∷ 3 ∷ codes "abc~2" ++ 10 ∷ []) (Malformed BadWord 30)
+odd_word : HasFault (first_head ++ codes ">0=" ++ 0 ∷ 3 ∷ codes "abc~2" ++ 10 ∷ []) (Malformed BadWord 30)
 unfolding computing
 odd_word = record {
   limit = 0;
-  before = front;
+  before = first_head;
   line = codes ">0=" ++ 0 ∷ 3 ∷ codes "abc~2" ++ 10 ∷ [];
   within = 9;
   whole = refl;
@@ -271,11 +271,11 @@ odd_word = record {
 }
 
 -- `1>0=` 00 01 `a` newline
-first_indent : HasFault (front ++ codes "1>0=" ++ 0 ∷ 1 ∷ codes "a" ++ 10 ∷ []) (Malformed BadIndent 21)
+first_indent : HasFault (first_head ++ codes "1>0=" ++ 0 ∷ 1 ∷ codes "a" ++ 10 ∷ []) (Malformed BadIndent 21)
 unfolding computing
 first_indent = record {
   limit = 0;
-  before = front;
+  before = first_head;
   line = codes "1>0=" ++ 0 ∷ 1 ∷ codes "a" ++ 10 ∷ [];
   within = 0;
   whole = refl;

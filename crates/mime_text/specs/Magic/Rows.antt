@@ -120,9 +120,9 @@ sixty_five_levels = refl
 -- ---- markers and ignored lines
 
 -- a section without lines
-nothing : file_of (section []) ≡ Ok ([], [])
+no_lines : file_of (section []) ≡ Ok ([], [])
 unfolding computing
-nothing = refl
+no_lines = refl
 
 -- `>0__NOMAGIC__` newline
 short_marker : file_of (section (codes ">0__NOMAGIC__" ++ 10 ∷ [])) ≡ Ok ([], codes "t/a" ∷ [])

@@ -63,7 +63,7 @@ pub fn read_globs2(alloc: Global, bytes: &[u8]) -> Result<GlobsFile, OutOfMemory
 {
     let read: LineFile<GlobEntry> = read_lines(alloc, bytes)?;
     let mut file = GlobsFile {
-        rules: Vec::new(alloc),
+        rules: Vec::with_capacity(alloc, read.entries.len())?,
         deleted: Vec::new(alloc),
         skipped: read.skipped,
     };

@@ -5,7 +5,7 @@
 ghost use Rattle.std.specs.Prelude.{◌≡◌, IfOk};
 ghost use Rattle.std.specs.Option.{option_map};
 ghost use Rattle.mime_text.specs.Lines.{skipped_of};
-ghost use Rattle.mime_text.specs.Lines.Icons.{at_colon, icon_of, icons_of, is_malformed_icon};
+ghost use Rattle.mime_text.specs.Lines.Icons.{at_colon, icon_of, icons_in, is_malformed_icon};
 
 use super::file::{LineEntry, LineFile, read_lines};
 use super::names::{icon_name_of, type_name_of};
@@ -26,7 +26,7 @@ pub struct IconsFile {
 ///
 /// A malformed line is told by its number. Empty lines and comments are passed over.
 pub fn read_icons(alloc: Global, bytes: &[u8]) -> Result<IconsFile, OutOfMemory>
-    ensures icons { IfOk result (λ file. file.icons.items ≡ icons_of bytes.now) }
+    ensures icons { IfOk result (λ file. file.icons.items ≡ icons_in bytes.now) }
     ensures skipped { IfOk result (λ file. file.skipped.items ≡ skipped_of is_malformed_icon bytes.now) }
 {
     let file: LineFile<Icon> = read_lines(alloc, bytes)?;

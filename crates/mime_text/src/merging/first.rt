@@ -6,7 +6,7 @@
 ghost use Rattle.std.specs.Prelude.{◌≡◌, ◌+◌, ◌++◌, [], ◌∷◌, IfOk, OnOk, List, ℕ, length, map, not};
 ghost use Rattle.std.specs.List.{list_any};
 ghost use Rattle.mime_base.specs.Database.PlainPairs.{is_same_pair};
-ghost use Rattle.mime_text.specs.Merging.{has_same_key, marks, once, picked, with_key};
+ghost use Rattle.mime_text.specs.Merging.{has_same_key, marks, once, picked, with_new_key};
 
 use super::key::Key;
 use indexmap::IndexSet;
@@ -29,18 +29,18 @@ impl<'a> Model for Keys<'a> {
 }
 
 impl<'a> Keys<'a> {
-    fn new(alloc: Global) -> Keys<'a>
-        ensures { result ≡ [] }
+    /// No keys, and room for so many.
+    fn with_capacity(alloc: Global, capacity: usize) -> Result<Keys<'a>, OutOfMemory>
+        ensures { IfOk result (λ keys. keys ≡ []) }
     {
-        Keys {
-            texts: IndexSet::new(alloc),
-        }
+        let texts = IndexSet::with_capacity(alloc, capacity)?;
+        Ok(Keys { texts })
     }
 
     /// Adds a key, and answers whether it is new.
     fn add(&mut self, key: (&'a [u8], &'a [u8])) -> Result<bool, OutOfMemory>
         ensures new { IfOk result (λ new. new ≡ not (list_any (is_same_pair (key.entry.0.now, key.entry.1.now)) self.old)) }
-        ensures keys { OnOk result (self.new ≡ with_key self.old (key.entry.0.now, key.entry.1.now)) }
+        ensures keys { OnOk result (self.new ≡ with_new_key self.old (key.entry.0.now, key.entry.1.now)) }
     {
         Ok(self.texts.insert(key)?)
     }
@@ -61,8 +61,8 @@ pub fn first_of_each<T: Drop, K: Key<T>>(
 fn first_marks<T: Drop, K: Key<T>>(alloc: Global, entries: &[T]) -> Result<Vec<bool>, OutOfMemory>
     ensures { IfOk result (λ firsts. firsts.items ≡ marks [] (map K.key_of entries.now)) }
 {
-    let mut keys = Keys::new(alloc);
-    let mut firsts = Vec::new(alloc);
+    let mut keys = Keys::with_capacity(alloc, entries.len())?;
+    let mut firsts = Vec::with_capacity(alloc, entries.len())?;
     for entry in entries {
         firsts.push(keys.add(K::of(entry))?)?;
     }
@@ -75,7 +75,7 @@ fn marked<T: Drop>(alloc: Global, entries: Vec<T>, marks: Vec<bool>) -> Result<V
     ensures { IfOk result (λ kept. kept.items ≡ picked marks.items entries.items) }
 {
     let (mut entries, mut marks) = (entries, marks);
-    let mut kept = Vec::new(alloc);
+    let mut kept = Vec::with_capacity(alloc, entries.len())?;
     while let (Some(entry), Some(mark)) = (entries.pop(), marks.pop()) {
         if mark {
             kept.push(entry)?;

@@ -36,7 +36,7 @@ impl Types {
     pub fn contains(&self, kind: &TypeName) -> bool
         ensures { result ≡ is_among self.now kind.now }
     {
-        self.names.contains(kind.bytes())
+        !self.names.is_empty() && self.names.contains(kind.bytes())
     }
 
     /// Adds a type.

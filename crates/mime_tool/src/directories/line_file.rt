@@ -145,7 +145,7 @@ impl LineFile for PairsFile {
 }
 
 impl LineFile for IconsFile {
-    ghost use Rattle.mime_text.specs.Lines.Icons.{icons_of};
+    ghost use Rattle.mime_text.specs.Lines.Icons.{icons_in};
 
     ghost Plain = { List (List ℕ × List ℕ) };
 
@@ -165,5 +165,5 @@ impl LineFile for IconsFile {
         self.skipped.as_slice()
     }
 
-    ghost total = { λ text. (plain_icons (icons_of text), refl) };
+    ghost total = { λ text. (plain_icons (icons_in text), refl) };
 }

@@ -1,6 +1,13 @@
-use Rattle.std.proofs.Common.{arith}
+use Rattle.std.proofs.Common.{arith, length-append}
+use Rattle.mime_base.specs.Cache.Bytes.{card_bytes}
 use Rattle.mime_store.proofs.Lists.{list_grew, list_numbers}
+use Rattle.mime_store.proofs.Records.{length-card}
 use Rattle.mime_store.proofs.bytes.append_list.Goals as goal
+
+pub append_cards-requires : goal.append_cards-requires
+append_cards-requires c =
+    rw c.in_ok-append_card.ensures
+    (omega (arith, c.requires.room, length-append c.args.out.now.items (card_bytes c.args.count), length-card c.args.count))
 
 pub returns-clause-grew : goal.returns-clause-grew
 returns-clause-grew c =

@@ -1,6 +1,6 @@
 use Rattle.std.proofs.Common.{arith, map}
 use Rattle.mime_store.specs.Runs.{AreRuns, plain_run}
-use Rattle.mime_store.specs.Views.{texts}
+use Rattle.mime_store.specs.Views.{pair_texts}
 use Rattle.mime_store.proofs.Spelled.{parts_room-is}
 use Rattle.mime_store.proofs.cache.write_cache.Goals as goal
 
@@ -16,7 +16,7 @@ write_parts-requires-clause-runs c = rw c.deref-3.ensures.value (rw c.deref.ensu
 pub write_parts-requires-clause-room : goal.write_parts-requires-clause-room
 write_parts-requires-clause-room c =
     let parts = c.in_ok-parts.parts in
-    let runs : AreRuns (map plain_run c.deref-3.result.now) (map texts parts.parents.items) =
+    let runs : AreRuns (map plain_run c.deref-3.result.now) (map pair_texts parts.parents.items) =
     rw c.deref-3.ensures.value (rw c.deref.ensures.value at c.in_ok-runs.ensures) in
     omega (
       arith,

@@ -1,7 +1,7 @@
 use Rattle.std.proofs.Common.{◌≡◌, map, take}
 use Rattle.mime_base.specs.Database.PlainPairs.{plain_pairs}
-use Rattle.mime_store.specs.Views.{texts}
+use Rattle.mime_store.specs.Views.{pair_texts}
 use Rattle.mime_store.proofs.pairs.texts_of_pairs.Given as goal
 
 abbrev pub invariant-loop-pair : goal.invariant-loop-pair
-invariant-loop-pair l = map texts l.found.items ≡ plain_pairs (take l.pair-index l.pairs)
+invariant-loop-pair l = map pair_texts l.found.items ≡ plain_pairs (take l.pair-index l.pairs)

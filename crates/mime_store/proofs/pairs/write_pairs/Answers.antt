@@ -1,7 +1,7 @@
 use Rattle.std.proofs.Common.{arith, rules, map}
 use Rattle.std.proofs.lemmas.List.{length-map}
 use Rattle.mime_base.specs.Format.Pairs.{IsPair}
-use Rattle.mime_store.specs.Views.{pair_texts_room, texts}
+use Rattle.mime_store.specs.Views.{pair_texts, pair_texts_room}
 use Rattle.mime_store.proofs.Entries.{pair_keeps, pair_sized}
 use Rattle.mime_store.proofs.Gather.{gather_end, gather_push}
 use Rattle.mime_store.proofs.Loops.{grew_all, grew_more, next_fits, sum_by-fixed}
@@ -11,9 +11,9 @@ use Rattle.mime_store.proofs.pairs.write_pairs.Goals as goal
 pub write_texts-requires-clause-room : goal.write_texts-requires-clause-room
 write_texts-requires-clause-room c =
     let xs = c.args.pairs.now in
-    next_fits texts pair_texts_room xs c.loop-pair.pair-index c.pair-item.result c.args.out.now.items _ _ c.loop-pair-test.true
+    next_fits pair_texts pair_texts_room xs c.loop-pair.pair-index c.pair-item.result c.args.out.now.items _ _ c.loop-pair-test.true
     c.pair-item.is c.loop-pair.invariant.grew
-    (omega (arith, c.requires.room, length-map xs texts, sum_by-fixed 8 pair_texts_room (map texts xs)))
+    (omega (arith, c.requires.room, length-map xs pair_texts, sum_by-fixed 8 pair_texts_room (map pair_texts xs)))
 
 pub write_texts-requires-clause-begun : goal.write_texts-requires-clause-begun
 write_texts-requires-clause-begun c = omega (arith, c.requires.begun, grew_length _ _ _ c.loop-pair.invariant.grew)
@@ -21,9 +21,9 @@ write_texts-requires-clause-begun c = omega (arith, c.requires.begun, grew_lengt
 pub loop-pair-preserved : goal.loop-pair-preserved
 loop-pair-preserved c =
     record {
-      grew = grew_more texts pair_texts_room c.args.pairs.now c.loop-pair.pair-index c.pair-item.result c.args.out.now.items _ _
+      grew = grew_more pair_texts pair_texts_room c.args.pairs.now c.loop-pair.pair-index c.pair-item.result c.args.out.now.items _ _
           c.loop-pair-test.true c.pair-item.is c.loop-pair.invariant.grew c.in_ok-entry.ensures.grew;
-      gathered = rw c.in_ok-extend_from_slice.ensures.items (gather_push texts IsPair pair_keeps _ _ _ _ _
+      gathered = rw c.in_ok-extend_from_slice.ensures.items (gather_push pair_texts IsPair pair_keeps _ _ _ _ _
           c.args.pairs.now _ _ c.loop-pair-test.true c.pair-item.is c.in_ok-entry.ensures.grew
           c.loop-pair.invariant.gathered c.in_ok-entry.ensures.entry);
       count = search rules;
@@ -32,14 +32,14 @@ loop-pair-preserved c =
 pub append_list-requires-clause-room : goal.append_list-requires-clause-room
 append_list-requires-clause-room c =
     let xs = c.args.pairs.now in
-    let g = grew_all texts pair_texts_room xs c.loop-pair.pair-index c.args.out.now.items _ c.loop-pair-test.false
+    let g = grew_all pair_texts pair_texts_room xs c.loop-pair.pair-index c.args.out.now.items _ c.loop-pair-test.false
     c.loop-pair.invariant.grew in
     omega (
       arith,
       c.requires.room,
       grew_length _ _ _ g,
-      length-map xs texts,
-      sum_by-fixed 8 pair_texts_room (map texts xs),
+      length-map xs pair_texts,
+      sum_by-fixed 8 pair_texts_room (map pair_texts xs),
       c.deref.ensures.len,
       c.loop-pair.invariant.count,
     )
@@ -50,12 +50,12 @@ append_list-requires-clause-begun c = omega (arith, c.requires.begun, grew_lengt
 pub returns-clause-grew : goal.returns-clause-grew
 returns-clause-grew c =
     let xs = c.args.pairs.now in
-    let g = grew_all texts pair_texts_room xs c.loop-pair.pair-index c.args.out.now.items _ c.loop-pair-test.false
+    let g = grew_all pair_texts pair_texts_room xs c.loop-pair.pair-index c.args.out.now.items _ c.loop-pair-test.false
     c.loop-pair.invariant.grew in
     grew_to _ _ _ _ (omega (
       arith,
-      length-map xs texts,
-      sum_by-fixed 8 pair_texts_room (map texts xs),
+      length-map xs pair_texts,
+      sum_by-fixed 8 pair_texts_room (map pair_texts xs),
       c.deref.ensures.len,
       c.loop-pair.invariant.count,
     ))
@@ -64,8 +64,8 @@ returns-clause-grew c =
 pub returns-clause-stands : goal.returns-clause-stands
 returns-clause-stands c =
     record {
-      count = rw (length-map c.args.pairs.now texts) c.in_ok-at.ensures.count;
-      records = gather_end texts IsPair pair_keeps 8 pair_sized _ _ _ c.loop-pair.out.items _ _ c.args.pairs.now
+      count = rw (length-map c.args.pairs.now pair_texts) c.in_ok-at.ensures.count;
+      records = gather_end pair_texts IsPair pair_keeps 8 pair_sized _ _ _ c.loop-pair.out.items _ _ c.args.pairs.now
           c.loop-pair-test.false c.in_ok-at.ensures.grew c.loop-pair.invariant.gathered
           (rw (← c.deref.ensures.value) c.in_ok-at.ensures.numbers);
     }
@@ -73,4 +73,4 @@ returns-clause-stands c =
 pub overflow_cast-pairs : goal.overflow_cast-pairs
 overflow_cast-pairs c =
     let xs = c.args.pairs.now in
-    omega (arith, c.requires.room, length-map xs texts, sum_by-fixed 8 pair_texts_room (map texts xs))
+    omega (arith, c.requires.room, length-map xs pair_texts, sum_by-fixed 8 pair_texts_room (map pair_texts xs))
