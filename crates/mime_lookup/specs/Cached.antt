@@ -14,12 +14,12 @@ abbrev pub fixed_kinds : List (List ℕ)
 fixed_kinds = codes "application/octet-stream" ∷ codes "application/x-zerosize" ∷ codes "text/plain" ∷ []
 
 -- a text of the cache
-abbrev pub IsTextOf : List ℕ → List ℕ → Type 0
-IsTextOf c text = (at : ℕ) × (text_at c at ≡ Ok text)
+abbrev pub IsCacheText : List ℕ → List ℕ → Type 0
+IsCacheText c text = (at : ℕ) × (text_at c at ≡ Ok text)
 
 -- a text of the cache, or one of the fixed types
 abbrev pub IsKind : List ℕ → List ℕ → Type 0
-IsKind c kind = IsTextOf c kind ⊎ Contains fixed_kinds kind
+IsKind c kind = IsCacheText c kind ⊎ Contains fixed_kinds kind
 
 -- the plain value of a finding
 abbrev pub plain_finding : Finding → PlainFinding
@@ -28,7 +28,7 @@ plain_finding (finding.Fixed kind) = fixed kind.now
 
 -- a section's type is a text of the cache, any other type is fixed
 abbrev pub IsFinding : List ℕ → Finding → Type 0
-IsFinding c (finding.Magic kind priority) = IsTextOf c kind.now
+IsFinding c (finding.Magic kind priority) = IsCacheText c kind.now
 IsFinding c (finding.Fixed kind) = Contains fixed_kinds kind.now
 
 -- a read failed, an allocation was refused, or the cache has such a fault

@@ -15,7 +15,7 @@ ghost use Rattle.mime_base.specs.Format.Stored.{glob_rules, literal_rules};
 ghost use Rattle.mime_base.specs.Format.SuffixTree.{tree_size};
 ghost use Rattle.mime_view.specs.Hits.{near};
 ghost use Rattle.mime_lookup.specs.Affords.{Affords, rule_records};
-ghost use Rattle.mime_lookup.specs.Ancestry.{texts};
+ghost use Rattle.mime_lookup.specs.Ancestry.{kinds_of};
 ghost use Rattle.mime_lookup.specs.Bounds.{KeepsBounds, near_max, stated_extent};
 ghost use Rattle.mime_lookup.specs.Cached.{IsFinding, IsKind, IsStop, plain_finding};
 ghost use Rattle.mime_lookup.specs.CheckingOrder.{Chooses, GlobsDecide, are_one_type, globs_suffice, read_limit, read_of};
@@ -325,10 +325,10 @@ fn by_globs<'a>(
 
 // Whether there are types, and all are one type.
 fn are_one_type(kinds: &[&[u8]], meter: &mut Meter) -> bool
-    ensures answer { result ≡ are_one_type (texts kinds.now) }
+    ensures answer { result ≡ are_one_type (kinds_of kinds.now) }
     ensures nodes { meter.new.nodes ≡ meter.old.nodes }
     ensures rises { meter.old.bytes ≤ meter.new.bytes }
-    ensures bytes { All (λ kind. length kind < 256) (texts kinds.now) →
+    ensures bytes { All (λ kind. length kind < 256) (kinds_of kinds.now) →
         meter.new.bytes ≤ meter.old.bytes + 256 * length kinds.now }
 {
     let Some((first, more)) = kinds.split_first() else {
@@ -354,14 +354,14 @@ fn choose<'a>(
 ) -> Result<&'a [u8], CacheFault>
     requires finding { IsFinding cache.now finding }
     ensures answer { (b : PlainDatabase) → SpellsMagic cache.now b → SpellsPairs cache.now b → IfOk result
-        (λ kind. ChoosesAmong (pairs_of b) (texts kept.now)
+        (λ kind. ChoosesAmong (pairs_of b) (kinds_of kept.now)
         (resolved_finding b.aliases (plain_finding finding.entry)) kind.now) }
-    ensures none { texts kept.now ≡ [] → IfOk result (λ kind. IsKind cache.now kind.now) }
-    ensures base { texts kept.now ≡ [] → (b : PlainDatabase) (offsets : Offsets) → HeaderAt (Stands cache.now) offsets →
+    ensures none { kinds_of kept.now ≡ [] → IfOk result (λ kind. IsKind cache.now kind.now) }
+    ensures base { kinds_of kept.now ≡ [] → (b : PlainDatabase) (offsets : Offsets) → HeaderAt (Stands cache.now) offsets →
         PairsAt (Stands cache.now) offsets.aliases b.aliases → IsOkAnd result
         (λ kind. kind.now ≡ resolved_finding b.aliases (plain_finding finding.entry)) }
-    ensures unspent { texts kept.now ≡ [] → budget.new ≡ budget.old }
-    ensures one { IfOk result (λ kind. IsKind cache.now kind.now ⊎ Contains (texts kept.now) kind.now) }
+    ensures unspent { kinds_of kept.now ≡ [] → budget.new ≡ budget.old }
+    ensures one { IfOk result (λ kind. IsKind cache.now kind.now ⊎ Contains (kinds_of kept.now) kind.now) }
     ensures need { (b : PlainDatabase) → SpellsMagic cache.now b → SpellsPairs cache.now b →
         length b.parents ≤ budget.old.records → IfErr result (λ e. e ≡ CacheFault.OutOfMemory) }
     ensures fault { IfErr result (λ e. IsAliasFault cache.now e ⊎ IsSearchFault cache.now budget.new e) }

@@ -5,7 +5,7 @@ ghost use Rattle.std.specs.Prelude.{IfErr, IfOk, IfSome, MatchResult, OnOk};
 ghost use Rattle.mime_base.specs.Database.{PlainDatabase};
 ghost use Rattle.mime_lookup.specs.Bounds.{KeepsBounds};
 ghost use Rattle.mime_lookup.specs.Icons.{HasIconLists, icons_of, plain_icons_of};
-ghost use Rattle.mime_lookup.specs.Icons.{before_slash, generic_of_media, hyphen_for_slash, or_else, with_hyphens};
+ghost use Rattle.mime_lookup.specs.Icons.{before_slash, generic_of_media, hyphen_for_slash, name_or, with_hyphens};
 ghost use Rattle.mime_lookup.specs.Spelling.{SpellsIcons};
 ghost use Rattle.mime_lookup.specs.StepFaults.{IsIconFault};
 
@@ -86,7 +86,7 @@ fn find_icons<'a>(
 
 // The icon's name, else the type with a hyphen for each slash.
 fn icon_or_hyphens(alloc: Global, icon: Option<&[u8]>, kind: &[u8]) -> Result<Vec<u8>, OutOfMemory>
-    ensures { IfOk result (λ name. name.items ≡ or_else (option_map (λ text. text.now) icon.entry) (with_hyphens kind.now)) }
+    ensures { IfOk result (λ name. name.items ≡ name_or (option_map (λ text. text.now) icon.entry) (with_hyphens kind.now)) }
 {
     match icon {
         Some(name) => Ok(Vec::from_slice(alloc, name)?),
@@ -114,7 +114,7 @@ fn hyphen_for_slash(byte: u8) -> u8
 
 // The generic icon's name, else what stands before the type's first slash, and `-x-generic`.
 fn generic_or_media(alloc: Global, icon: Option<&[u8]>, kind: &[u8]) -> Result<Vec<u8>, OutOfMemory>
-    ensures { IfOk result (λ name. name.items ≡ or_else (option_map (λ text. text.now) icon.entry) (generic_of_media kind.now)) }
+    ensures { IfOk result (λ name. name.items ≡ name_or (option_map (λ text. text.now) icon.entry) (generic_of_media kind.now)) }
 {
     match icon {
         Some(name) => Ok(Vec::from_slice(alloc, name)?),

@@ -7,7 +7,7 @@ ghost use Rattle.mime_base.specs.Format.Stored.{glob_rules, literal_rules};
 ghost use Rattle.mime_base.specs.Format.SuffixTree.{tree_size};
 ghost use Rattle.mime_base.specs.Meter.{raised};
 ghost use Rattle.mime_view.specs.Hits.{near};
-ghost use Rattle.mime_lookup.specs.Ancestry.{texts};
+ghost use Rattle.mime_lookup.specs.Ancestry.{kinds_of};
 ghost use Rattle.mime_lookup.specs.Choice.{kept};
 ghost use Rattle.mime_lookup.specs.Costs.{Costs, ahead, glob_cost, record_cost};
 ghost use Rattle.mime_lookup.specs.Spelling.{SpellsGlobs};
@@ -27,10 +27,10 @@ pub fn kept_kinds<'a>(
 ) -> Result<Vec<&'a [u8]>, CacheFault>
     requires short { length name.now ≤ 4096 }
     ensures answer { (b : PlainDatabase) → SpellsGlobs cache.now b → IfOk result
-        (λ kinds. texts kinds.items ≡ kept (pairs_of b) b.rules name.now) }
+        (λ kinds. kinds_of kinds.items ≡ kept (pairs_of b) b.rules name.now) }
     ensures few { (b : PlainDatabase) → SpellsGlobs cache.now b → IfOk result
         (λ kinds. length kinds.items ≤ near name.now b.rules) }
-    ensures text { IfOk result (λ kinds. All (λ kind. (at : ℕ) × (text_at cache.now at ≡ Ok kind)) (texts kinds.items)) }
+    ensures text { IfOk result (λ kinds. All (λ kind. (at : ℕ) × (text_at cache.now at ≡ Ok kind)) (kinds_of kinds.items)) }
     ensures need { (b : PlainDatabase) → SpellsGlobs cache.now b →
         (2 * length (literal_rules b.rules) + 2 * tree_size b.rules + length (glob_rules b.rules) ≤ budget.old.records)
         ⊎ (2 * near name.now b.rules + 2 * length name.now + 2 ≤ budget.old.records) →

@@ -5,7 +5,7 @@ use denote.Bor.{Bor}
 use Rattle.mime_base.specs.Database.{pairs_of}
 use Rattle.mime_base.specs.declared.meter.Meter.{Meter}
 use Rattle.mime_view.specs.declared.budget.Budget.{Budget}
-use Rattle.mime_lookup.specs.Ancestry.{texts}
+use Rattle.mime_lookup.specs.Ancestry.{kinds_of}
 use Rattle.mime_lookup.specs.Cached.{plain_finding}
 use Rattle.mime_lookup.specs.CheckingOrder.{are_one_type}
 use Rattle.mime_lookup.specs.Choice.{ChoosesAmong}
@@ -36,17 +36,17 @@ returns-in_err-kept-clause-cost c value =
 pub returns-then-are_one_type-clause-answer : goal.returns-then-are_one_type-clause-answer
 returns-then-are_one_type-clause-answer c b within spells =
     let kept = c.in_ok-kept.kept.items in
-    let one : are_one_type (texts kept) ≡ true =
+    let one : are_one_type (kinds_of kept) ≡ true =
     rw c.deref.ensures.value at (sym c.are_one_type.ensures.answer ∙ c.if-are_one_type.true) in
     rw (← c.in_ok-kept.ensures.answer b (spelled_globs c.args.cache.now b within spells))
-    (subst (ChoosesAmong (pairs_of b) (texts kept) (resolved_finding b.aliases (plain_finding c.args.finding)))
+    (subst (ChoosesAmong (pairs_of b) (kinds_of kept) (resolved_finding b.aliases (plain_finding c.args.finding)))
     (sym (ap (λ (text : Bor (List ℕ)). text.now) c.index.ensures ∙ first_text kept c.index.result.now one))
-    (one_type_chosen (pairs_of b) (texts kept) (resolved_finding b.aliases (plain_finding c.args.finding)) one))
+    (one_type_chosen (pairs_of b) (kinds_of kept) (resolved_finding b.aliases (plain_finding c.args.finding)) one))
 
 pub returns-then-are_one_type-clause-kind : goal.returns-then-are_one_type-clause-kind
 returns-then-are_one_type-clause-kind c =
     let kept = c.in_ok-kept.kept.items in
-    let one : are_one_type (texts kept) ≡ true =
+    let one : are_one_type (kinds_of kept) ≡ true =
     rw c.deref.ensures.value at (sym c.are_one_type.ensures.answer ∙ c.if-are_one_type.true) in
     rw c.index.ensures (first_kind c.args.cache.now kept c.index.result.now one c.in_ok-kept.ensures.text)
 
@@ -55,7 +55,7 @@ returns-then-are_one_type-clause-cost c value =
     let cost = glob_cost (length c.args.name.now) in
     let each = record_cost (length c.args.name.now) in
     let kept = c.in_ok-kept.ensures in
-    let short = texts_short c.args.cache.now (texts c.in_ok-kept.kept.items) kept.text in
+    let short = texts_short c.args.cache.now (kinds_of c.in_ok-kept.kept.items) kept.text in
     let tested = c.are_one_type.ensures in
     costs_wider each each value value cost (cost + 29) c.args.budget.now c.kept_kinds.new.budget c.args.meter.now
     c.are_one_type.new.meter (omega arith) (omega arith) (omega arith)
@@ -74,7 +74,7 @@ returns-in_err-kind-clause-cost c value =
     let cost = glob_cost (length c.args.name.now) in
     let each = record_cost (length c.args.name.now) in
     let kept = c.in_ok-kept.ensures in
-    let short = texts_short c.args.cache.now (texts c.in_ok-kept.kept.items) kept.text in
+    let short = texts_short c.args.cache.now (kinds_of c.in_ok-kept.kept.items) kept.text in
     let tested = c.are_one_type.ensures in
     costs_chosen each value cost 0 (length c.in_ok-kept.kept.items) c.args.budget.now c.kept_kinds.new.budget c.kept_kinds.new.budget
     c.choose.new.budget c.args.meter.now c.kept_kinds.new.meter c.are_one_type.new.meter c.are_one_type.new.meter
@@ -87,7 +87,7 @@ returns-clause-cost c value =
     let cost = glob_cost (length c.args.name.now) in
     let each = record_cost (length c.args.name.now) in
     let kept = c.in_ok-kept.ensures in
-    let short = texts_short c.args.cache.now (texts c.in_ok-kept.kept.items) kept.text in
+    let short = texts_short c.args.cache.now (kinds_of c.in_ok-kept.kept.items) kept.text in
     let tested = c.are_one_type.ensures in
     costs_chosen each value cost 0 (length c.in_ok-kept.kept.items) c.args.budget.now c.kept_kinds.new.budget c.kept_kinds.new.budget
     c.choose.new.budget c.args.meter.now c.kept_kinds.new.meter c.are_one_type.new.meter c.are_one_type.new.meter
@@ -97,7 +97,7 @@ returns-clause-cost c value =
 
 pub returns-clause-kind : goal.returns-clause-kind
 returns-clause-kind c =
-    chosen_kind c.args.cache.now c.in_ok-kind.kind.now (texts c.in_ok-kept.kept.items) c.in_ok-kept.ensures.text
+    chosen_kind c.args.cache.now c.in_ok-kind.kind.now (kinds_of c.in_ok-kept.kept.items) c.in_ok-kept.ensures.text
     (rw c.deref-2.ensures.value at c.in_ok-kind.ensures.one)
 
 pub returns-in_err-kept-clause-near_need : goal.returns-in_err-kept-clause-near_need
@@ -110,23 +110,23 @@ returns-then-are_one_type-clause-near c b globs decide =
     let items = c.in_ok-kept.kept.items in
     let kept = c.in_ok-kept.ensures in
     let base = resolved_finding b.aliases (plain_finding c.args.finding) in
-    let one : are_one_type (texts items) ≡ true = rw c.deref.ensures.value at (sym c.are_one_type.ensures.answer ∙ c.if-are_one_type.true) in (
-      rw (← kept.answer b globs) (subst (ChoosesAmong (pairs_of b) (texts items) base)
+    let one : are_one_type (kinds_of items) ≡ true = rw c.deref.ensures.value at (sym c.are_one_type.ensures.answer ∙ c.if-are_one_type.true) in (
+      rw (← kept.answer b globs) (subst (ChoosesAmong (pairs_of b) (kinds_of items) base)
           (sym (ap (λ (text : Bor (List ℕ)). text.now) c.index.ensures ∙ first_text items c.index.result.now one))
-          (one_type_chosen (pairs_of b) (texts items) base one)),
+          (one_type_chosen (pairs_of b) (kinds_of items) base one)),
       omega (arith, c.are_one_type.ensures.nodes, kept.nodes, kept.takes_near b globs, kept.few b globs),
     )
 
 pub returns-in_err-kind-clause-near_need : goal.returns-in_err-kind-clause-near_need
 returns-in_err-kind-clause-near_need c b globs decide enough =
-    let kinds = texts c.in_ok-kept.kept.items in
+    let kinds = kinds_of c.in_ok-kept.kept.items in
     let conflict : are_one_type kinds ≡ false = rw c.deref.ensures.value at (sym c.are_one_type.ensures.answer ∙ c.if-are_one_type.false) in
     let none = none_kept b c.args.name.now GlobsFirst ⊤ kinds (c.in_ok-kept.ensures.answer b globs) conflict decide in
     absurd ((rw c.deref-2.ensures.value at c.in_err-kind.ensures.base) none.0 b globs.offsets globs.header globs.aliases)
 
 pub returns-clause-near : goal.returns-clause-near
 returns-clause-near c b globs decide =
-    let kinds = texts c.in_ok-kept.kept.items in
+    let kinds = kinds_of c.in_ok-kept.kept.items in
     let kept = c.in_ok-kept.ensures in
     let conflict : are_one_type kinds ≡ false = rw c.deref.ensures.value at (sym c.are_one_type.ensures.answer ∙ c.if-are_one_type.false) in
     let none = none_kept b c.args.name.now GlobsFirst ⊤ kinds (c.in_ok-kept.ensures.answer b globs) conflict decide in

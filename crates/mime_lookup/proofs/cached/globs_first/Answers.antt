@@ -4,7 +4,7 @@ use denote.Bor.{Bor}
 use Rattle.mime_base.specs.declared.meter.Meter.{Meter}
 use Rattle.mime_view.specs.declared.budget.Budget.{Budget}
 use Rattle.mime_base.specs.Database.{PlainDatabase, pairs_of}
-use Rattle.mime_lookup.specs.Ancestry.{texts}
+use Rattle.mime_lookup.specs.Ancestry.{kinds_of}
 use Rattle.mime_lookup.specs.Cached.{cause_of, plain_finding}
 use Rattle.mime_lookup.specs.CheckingOrder.{are_one_type}
 use Rattle.mime_lookup.specs.Choice.{ChoosesAmong}
@@ -36,14 +36,14 @@ returns-in_err-kept-clause-cost g c =
 pub returns-then-are_one_type-clause-chosen : goal.returns-then-are_one_type-clause-chosen
 returns-then-are_one_type-clause-chosen g c b within spells =
     let kept = c.in_ok-kept.kept.items in
-    let one : are_one_type (texts kept) ≡ true = rw c.deref.ensures.value at (sym c.are_one_type.ensures.answer ∙ c.if-are_one_type.true) in
-    by_globs b c.args.name.now c.args.host GlobsFirst refl (texts kept)
+    let one : are_one_type (kinds_of kept) ≡ true = rw c.deref.ensures.value at (sym c.are_one_type.ensures.answer ∙ c.if-are_one_type.true) in
+    by_globs b c.args.name.now c.args.host GlobsFirst refl (kinds_of kept)
     (c.in_ok-kept.ensures.answer b (spelled_globs c.args.cache.now b within spells)) _ _ one
     (ap (λ (text : Bor (List ℕ)). text.now) c.index.ensures ∙ first_text kept c.index.result.now one)
 
 pub returns-then-are_one_type-clause-read : goal.returns-then-are_one_type-clause-read
 returns-then-are_one_type-clause-read g c b within spells =
-    let kinds = texts c.in_ok-kept.kept.items in
+    let kinds = kinds_of c.in_ok-kept.kept.items in
     let one : are_one_type kinds ≡ true = rw c.deref.ensures.value at (sym c.are_one_type.ensures.answer ∙ c.if-are_one_type.true) in
     read_none b c.args.name.now c.args.host GlobsFirst refl kinds
     (c.in_ok-kept.ensures.answer b (spelled_globs c.args.cache.now b within spells)) _ _ one c.requires.none
@@ -51,12 +51,12 @@ returns-then-are_one_type-clause-read g c b within spells =
 pub returns-then-are_one_type-clause-kind : goal.returns-then-are_one_type-clause-kind
 returns-then-are_one_type-clause-kind g c =
     let kept = c.in_ok-kept.kept.items in
-    let one : are_one_type (texts kept) ≡ true = rw c.deref.ensures.value at (sym c.are_one_type.ensures.answer ∙ c.if-are_one_type.true) in
+    let one : are_one_type (kinds_of kept) ≡ true = rw c.deref.ensures.value at (sym c.are_one_type.ensures.answer ∙ c.if-are_one_type.true) in
     rw c.index.ensures (first_kind c.args.cache.now kept c.index.result.now one c.in_ok-kept.ensures.text)
 
 pub returns-then-are_one_type-clause-asks : goal.returns-then-are_one_type-clause-asks
 returns-then-are_one_type-clause-asks g c b within spells =
-    let kinds = texts c.in_ok-kept.kept.items in
+    let kinds = kinds_of c.in_ok-kept.kept.items in
     let one : are_one_type kinds ≡ true = rw c.deref.ensures.value at (sym c.are_one_type.ensures.answer ∙ c.if-are_one_type.true) in
     asks_nothing g.R.Content.health _ c.args.content.now _
     (suffice b c.args.name.now c.args.host GlobsFirst refl kinds
@@ -65,7 +65,7 @@ returns-then-are_one_type-clause-asks g c b within spells =
 pub returns-then-are_one_type-clause-cost : goal.returns-then-are_one_type-clause-cost
 returns-then-are_one_type-clause-cost g c =
     let kept = c.in_ok-kept.ensures in
-    let short = texts_short c.args.cache.now (texts c.in_ok-kept.kept.items) kept.text in
+    let short = texts_short c.args.cache.now (kinds_of c.in_ok-kept.kept.items) kept.text in
     let tested = c.are_one_type.ensures in
     costs_one_type_first (length c.args.name.now) c.args.read.now (length c.in_ok-kept.kept.items) c.args.budget.now
     c.kept_kinds.new.budget c.args.meter.now c.kept_kinds.new.meter c.are_one_type.new.meter (kept.cost (c.args.read.now + 1)) kept.rises
@@ -79,7 +79,7 @@ returns-in_err-finding-clause-fault g c =
 
 pub returns-in_err-finding-clause-asks : goal.returns-in_err-finding-clause-asks
 returns-in_err-finding-clause-asks g c b within spells =
-    let kinds = texts c.in_ok-kept.kept.items in
+    let kinds = kinds_of c.in_ok-kept.kept.items in
     let conflict : are_one_type kinds ≡ false = rw c.deref.ensures.value at (sym c.are_one_type.ensures.answer ∙ c.if-are_one_type.false) in
     asks_stopped g.R.Content.health _ c.args.content.now c.sniff_content.new.content c.in_err-finding.field-0.0
     c.from_residual-in_err-finding.result
@@ -90,7 +90,7 @@ returns-in_err-finding-clause-asks g c b within spells =
 pub returns-in_err-finding-clause-cost : goal.returns-in_err-finding-clause-cost
 returns-in_err-finding-clause-cost g c =
     let kept = c.in_ok-kept.ensures in
-    let short = texts_short c.args.cache.now (texts c.in_ok-kept.kept.items) kept.text in
+    let short = texts_short c.args.cache.now (kinds_of c.in_ok-kept.kept.items) kept.text in
     let tested = c.are_one_type.ensures in
     costs_sniffed_then (length c.args.name.now) c.sniff_content.new.read (length c.in_ok-kept.kept.items) c.args.budget.now
     c.kept_kinds.new.budget c.args.meter.now c.kept_kinds.new.meter c.are_one_type.new.meter (kept.cost (c.sniff_content.new.read + 1)) kept.rises
@@ -119,7 +119,7 @@ returns-in_err-kind-clause-answers g c b within spells affords =
 pub returns-in_err-kind-clause-cost : goal.returns-in_err-kind-clause-cost
 returns-in_err-kind-clause-cost g c =
     let kept = c.in_ok-kept.ensures in
-    let short = texts_short c.args.cache.now (texts c.in_ok-kept.kept.items) kept.text in
+    let short = texts_short c.args.cache.now (kinds_of c.in_ok-kept.kept.items) kept.text in
     let tested = c.are_one_type.ensures in
     costs_choice_then (length c.args.name.now) c.sniff_content.new.read (length c.in_ok-kept.kept.items) c.args.budget.now
     c.kept_kinds.new.budget c.args.meter.now c.kept_kinds.new.meter c.are_one_type.new.meter (kept.cost (c.sniff_content.new.read + 1)) kept.rises
@@ -130,7 +130,7 @@ returns-in_err-kind-clause-cost g c =
 
 pub returns-clause-chosen : goal.returns-clause-chosen
 returns-clause-chosen g c b within spells =
-    let kinds = texts c.in_ok-kept.kept.items in
+    let kinds = kinds_of c.in_ok-kept.kept.items in
     let kind = c.in_ok-kind.kind.now in
     let magic = spelled_magic c.args.cache.now b within spells in
     let found = plain_finding c.in_ok-finding.finding in
@@ -142,7 +142,7 @@ returns-clause-chosen g c b within spells =
 
 pub returns-clause-read : goal.returns-clause-read
 returns-clause-read g c b within spells =
-    let kinds = texts c.in_ok-kept.kept.items in
+    let kinds = kinds_of c.in_ok-kept.kept.items in
     let conflict : are_one_type kinds ≡ false = rw c.deref.ensures.value at (sym c.are_one_type.ensures.answer ∙ c.if-are_one_type.false) in
     read_front b c.args.name.now c.args.host GlobsFirst refl kinds
     (c.in_ok-kept.ensures.answer b (spelled_globs c.args.cache.now b within spells)) _ _ conflict
@@ -150,13 +150,13 @@ returns-clause-read g c b within spells =
 
 pub returns-clause-kind : goal.returns-clause-kind
 returns-clause-kind g c =
-    chosen_kind c.args.cache.now c.in_ok-kind.kind.now (texts c.in_ok-kept.kept.items) c.in_ok-kept.ensures.text
+    chosen_kind c.args.cache.now c.in_ok-kind.kind.now (kinds_of c.in_ok-kept.kept.items) c.in_ok-kept.ensures.text
     (rw c.deref-2.ensures.value at c.in_ok-kind.ensures.one)
 
 pub returns-clause-cost : goal.returns-clause-cost
 returns-clause-cost g c =
     let kept = c.in_ok-kept.ensures in
-    let short = texts_short c.args.cache.now (texts c.in_ok-kept.kept.items) kept.text in
+    let short = texts_short c.args.cache.now (kinds_of c.in_ok-kept.kept.items) kept.text in
     let tested = c.are_one_type.ensures in
     costs_choice_then (length c.args.name.now) c.sniff_content.new.read (length c.in_ok-kept.kept.items) c.args.budget.now
     c.kept_kinds.new.budget c.args.meter.now c.kept_kinds.new.meter c.are_one_type.new.meter (kept.cost (c.sniff_content.new.read + 1)) kept.rises
@@ -174,15 +174,15 @@ pub returns-then-are_one_type-clause-near : goal.returns-then-are_one_type-claus
 returns-then-are_one_type-clause-near g c b globs decide =
     let items = c.in_ok-kept.kept.items in
     let kept = c.in_ok-kept.ensures in
-    let one : are_one_type (texts items) ≡ true = rw c.deref.ensures.value at (sym c.are_one_type.ensures.answer ∙ c.if-are_one_type.true) in (
-      by_globs b c.args.name.now c.args.host GlobsFirst refl (texts items) (kept.answer b globs) _ _ one
+    let one : are_one_type (kinds_of items) ≡ true = rw c.deref.ensures.value at (sym c.are_one_type.ensures.answer ∙ c.if-are_one_type.true) in (
+      by_globs b c.args.name.now c.args.host GlobsFirst refl (kinds_of items) (kept.answer b globs) _ _ one
           (ap (λ (text : Bor (List ℕ)). text.now) c.index.ensures ∙ first_text items c.index.result.now one),
       omega (arith, c.are_one_type.ensures.nodes, kept.nodes, kept.takes_near b globs, kept.few b globs),
     )
 
 pub returns-in_err-finding-clause-near_need : goal.returns-in_err-finding-clause-near_need
 returns-in_err-finding-clause-near_need g c b globs decide enough =
-    let kinds = texts c.in_ok-kept.kept.items in
+    let kinds = kinds_of c.in_ok-kept.kept.items in
     let conflict : are_one_type kinds ≡ false = rw c.deref.ensures.value at (sym c.are_one_type.ensures.answer ∙ c.if-are_one_type.false) in
     let none = none_kept b c.args.name.now GlobsFirst (c.args.content.now ≡ None) kinds (c.in_ok-kept.ensures.answer b globs) conflict decide in
     let stopped = (c.in_err-finding.ensures.none none.1).1 in
@@ -190,14 +190,14 @@ returns-in_err-finding-clause-near_need g c b globs decide enough =
 
 pub returns-in_err-kind-clause-near_need : goal.returns-in_err-kind-clause-near_need
 returns-in_err-kind-clause-near_need g c b globs decide enough =
-    let kinds = texts c.in_ok-kept.kept.items in
+    let kinds = kinds_of c.in_ok-kept.kept.items in
     let conflict : are_one_type kinds ≡ false = rw c.deref.ensures.value at (sym c.are_one_type.ensures.answer ∙ c.if-are_one_type.false) in
     let none = none_kept b c.args.name.now GlobsFirst (c.args.content.now ≡ None) kinds (c.in_ok-kept.ensures.answer b globs) conflict decide in
     absurd ((rw c.deref-2.ensures.value at c.in_err-kind.ensures.base) none.0 b globs.offsets globs.header globs.aliases)
 
 pub returns-clause-near : goal.returns-clause-near
 returns-clause-near g c b globs decide =
-    let kinds = texts c.in_ok-kept.kept.items in
+    let kinds = kinds_of c.in_ok-kept.kept.items in
     let kept = c.in_ok-kept.ensures in
     let found = plain_finding c.in_ok-finding.finding in
     let conflict : are_one_type kinds ≡ false = rw c.deref.ensures.value at (sym c.are_one_type.ensures.answer ∙ c.if-are_one_type.false) in
