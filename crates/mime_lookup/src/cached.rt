@@ -3,7 +3,7 @@
 ghost use Rattle.std.specs.Prelude.{◌≡◌, ◌≢◌, ◌⊎◌, ℕ, ◌+◌, ◌*◌, ◌/◌, ◌<◌, ◌≤◌, List, max, length, IfOk, IfErr, OnOk, IfSome, MatchResult};
 ghost use Rattle.std.specs.Prelude.{All, Contains, true, false, ⊤, Ok, Some, None, []};
 ghost use Rattle.mime_base.specs.Cache.Texts.{text_at};
-ghost use Rattle.std.specs.Prelude.{IsOkAnd};
+ghost use Rattle.std.specs.Prelude.{IsErrAnd, IsOkAnd};
 ghost use Rattle.mime_base.specs.Cache.Bytes.{Stands};
 ghost use Rattle.mime_base.specs.Database.{PlainDatabase, pairs_of};
 ghost use Rattle.mime_base.specs.Database.Limits.{IsWithinLimits};
@@ -14,6 +14,7 @@ ghost use Rattle.mime_base.specs.Format.Packed.{Packed, matchlet_count, value_le
 ghost use Rattle.mime_base.specs.Format.Stored.{glob_rules, literal_rules};
 ghost use Rattle.mime_base.specs.Format.SuffixTree.{tree_size};
 ghost use Rattle.mime_view.specs.Hits.{near};
+ghost use Rattle.mime_view.specs.Opening.{IsOpenFault, Opens};
 ghost use Rattle.mime_lookup.specs.Affords.{Affords, rule_records};
 ghost use Rattle.mime_lookup.specs.Ancestry.{kinds_of};
 ghost use Rattle.mime_lookup.specs.Bounds.{KeepsBounds, near_max, stated_extent};
@@ -80,6 +81,9 @@ pub fn look_up<'a, R: Content>(
     ensures read { (b : PlainDatabase) → IsWithinLimits b → Spells cache.entry b → IfOk result
         (λ answer. IfSome (known_content R.remaining content.old) (λ known. answer.read ≡ read_of b name.now known order)) }
     ensures kind { IfOk result (λ answer. IsKind cache.entry answer.kind.now) }
+    ensures opened { OnOk result (Opens cache.entry) }
+    ensures refused { length name.now ≤ 4096 → (e : CacheFault) → IsOpenFault cache.entry e →
+        IsErrAnd result (λ stopped. stopped.cause ≡ Cause.Cache e) }
     ensures too_long { 4096 < length name.now → (content.new ≡ content.old) × (result ≡ Err (record {
       cause = Cause.NameTooLong;
       read = 0;
@@ -132,6 +136,7 @@ pub fn look_up<'a, R: Content>(
 }
 
 // The type of a name and a content by the bytes of a cache, and how many bytes of the content were read.
+#[tactic(auto, using(crate::proofs::OpenFaults::opens_without_fault))]
 fn open_and_find<'a, R: Content>(
     alloc: Global,
     cache: Counted<'a>,
@@ -152,6 +157,8 @@ fn open_and_find<'a, R: Content>(
     ensures read { (b : PlainDatabase) → IsWithinLimits b → Spells cache.entry b → OnOk result
         (IfSome (known_content R.remaining content.old) (λ known. read.new ≡ read_of b name.now known order)) }
     ensures kind { IfOk result (λ kind. IsKind cache.entry kind.now) }
+    ensures opened { OnOk result (Opens cache.entry) }
+    ensures refused { (e : CacheFault) → IsOpenFault cache.entry e → IsErrAnd result (λ cause. cause ≡ Cause.Cache e) }
     ensures fault { IfErr result (IsStop (IsLookUpFault cache.entry)) }
     ensures answers { (b : PlainDatabase) → IsWithinLimits b → Spells cache.entry b → Packed cache.entry b →
         IfErr result (λ cause. (cause ≡ Cause.Read) ⊎ (cause ≡ Cause.OutOfMemory)) }

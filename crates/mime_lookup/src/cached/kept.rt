@@ -56,9 +56,9 @@ pub fn kept_kinds<'a>(
     ensures bytes_rise { meter.old.bytes ≤ meter.new.bytes }
 {
     let hits = cache.glob_hits(alloc, name, meter, budget)?;
-    let mut kinds = Vec::new(alloc);
-    for kind in hits.as_slice() {
-        kinds.push(cache.unalias(*kind, meter, budget)?)?;
+    let mut kinds = hits.into_vec();
+    for kind in kinds.iter_mut() {
+        *kind = cache.unalias(*kind, meter, budget)?;
     }
     kept_are_near();
     Ok(kinds)

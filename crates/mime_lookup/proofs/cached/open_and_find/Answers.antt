@@ -1,7 +1,11 @@
 use Rattle.std.proofs.Common.{◌≡◌, ◌/◌, ◌≤◌, length, arith}
 use Rattle.mime_lookup.proofs.BoundLemmas.{keeps_bounds}
-use Rattle.mime_lookup.proofs.Openings.{header_without_fault}
+use Rattle.mime_lookup.proofs.OpenFaults.{header_without_fault, refused_for}
 use Rattle.mime_lookup.proofs.cached.open_and_find.Goals as goal
+
+pub returns-in_err-cache-clause-refused : goal.returns-in_err-cache-clause-refused
+returns-in_err-cache-clause-refused g c e fault =
+    refused_for c.args.cache _ e c.in_err-cache.ensures.opened fault c.from_residual.result c.from_residual.ensures.1
 
 pub returns-in_err-cache-clause-answers : goal.returns-in_err-cache-clause-answers
 returns-in_err-cache-clause-answers g c b within spells packed =
