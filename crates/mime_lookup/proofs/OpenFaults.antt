@@ -1,6 +1,6 @@
 -- What is wrong with a header: one fault at most, none where it opens, and the cause that it is.
-use Rattle.std.proofs.Common.{◌≡◌, ◌∙◌, ◌⊎◌, ℕ, ◌*◌, ◌<◌, ◌≤◌, List, length, Result, Ok, Err, inl, inr, refl, sym, ap, ap₂, arith}
-use Rattle.std.specs.Prelude.{IsErrAnd}
+use Rattle.std.proofs.Common.{◌≡◌, ◌∙◌, ◌⊎◌, ℕ, ◌+◌, ◌*◌, ◌<◌, ◌≤◌, List, length, Result, Ok, Err, inl, inr, refl, sym, ap, ap₂, arith}
+use Rattle.std.specs.Prelude.{IsErrAnd, OnOk}
 use Rattle.mime_base.specs.Cache.Bytes.{Stands}
 use Rattle.mime_base.specs.Format.Header.{HeaderAt, Offsets}
 use Rattle.mime_lookup.specs.Cached.{cause_of}
@@ -48,6 +48,11 @@ one_fault c e x (inr (inr large)) (inl other) = absurd (omega (arith, large.1.0,
 one_fault c e x (inr (inr large)) (inr (inl other)) = absurd (other.3.3 large.1.1)
 one_fault c e x (inr (inr large)) (inr (inr other)) = large.0 ∙ sym other.0
 
+-- what holds anyway
+pub on_ok : {X E P : Type 0} (result : Result X E) → P → OnOk result P
+on_ok (Ok x) is = is
+on_ok (Err e) is = tt
+
 -- where a header opens, there is none
 no_fault : (c : List ℕ) (e : CacheFault) → Opens c → IsOneOfThree c e → ⊥
 no_fault c e opens (inl short) = omega (arith, opens.header, short.1)
@@ -74,17 +79,17 @@ cause_of-open_fault c TooDeep is = refl
 cause_of-open_fault c OutOfMemory is = absurd is
 
 -- The fault that opening gives is passed on, and there is no other.
-module _ {X : Type 0} (c : List ℕ) (given e : CacheFault) (is : IsOpenFault c given) (other : IsOpenFault c e) where
+module _ (c : List ℕ) (given e : CacheFault) (is : IsOpenFault c given) (other : IsOpenFault c e) where
   same_fault : given ≡ e
   same_fault = one_fault c given e (one_of_three c given is) (one_of_three c e other)
 
   -- as itself
-  pub refused_with : (result : Result X CacheFault) → IsErrAnd result (λ fault. fault ≡ given) → IsErrAnd result (λ fault. fault ≡ e)
+  pub refused_with : {X : Type 0} (result : Result X CacheFault) → IsErrAnd result (λ fault. fault ≡ given) → IsErrAnd result (λ fault. fault ≡ e)
   refused_with (Ok x) passed = absurd passed
   refused_with (Err fault) passed = passed ∙ same_fault
 
   -- as a cause
-  pub refused_for : (result : Result X Cause) → IsErrAnd result (λ stop. stop ≡ cause_of given) →
+  pub refused_for : {X : Type 0} (result : Result X Cause) → IsErrAnd result (λ stop. stop ≡ cause_of given) →
       IsErrAnd result (λ stop. stop ≡ cause.Cache e)
   refused_for (Ok x) passed = absurd passed
   refused_for (Err stop) passed = passed ∙ ap cause_of same_fault ∙ cause_of-open_fault c e other

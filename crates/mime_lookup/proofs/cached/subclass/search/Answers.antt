@@ -7,7 +7,7 @@ use Rattle.mime_view.specs.declared.budget.Budget.{Budget}
 use Rattle.mime_lookup.specs.Ancestry.{NoneLeadsTo}
 use Rattle.mime_lookup.specs.Spelling.{SpellsPairs}
 use Rattle.mime_lookup.specs.StepFaults.{IsLookUpFault, IsSearchFault, of_search}
-use Rattle.mime_lookup.proofs.OpenFaults.{header_without_fault, refused_with}
+use Rattle.mime_lookup.proofs.OpenFaults.{header_without_fault, on_ok, refused_with}
 use Rattle.mime_lookup.proofs.ShortTexts.{text_short}
 use Rattle.mime_lookup.proofs.PairsLeft.{unmarked_most}
 use Rattle.mime_lookup.proofs.PlaceMarks.{marked-none}
@@ -81,3 +81,6 @@ pub returns-clause-fault : goal.returns-clause-fault
 returns-clause-fault c =
     IfErr-weaker c.leads_to.result (IsSearchFault c.in_ok-cache.cache c.leads_to.new.budget) (IsLookUpFault c.args.cache)
     (λ e is. rw (← c.in_ok-cache.ensures.opened.0) (of_search c.leads_to.new.budget is)) c.leads_to.ensures.fault
+
+pub returns-clause-opened : goal.returns-clause-opened
+returns-clause-opened c = on_ok c.leads_to.result c.in_ok-cache.ensures.opened.1
