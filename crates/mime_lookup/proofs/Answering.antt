@@ -6,7 +6,7 @@ use Rattle.mime_base.specs.Database.{PlainDatabase, pairs_of}
 use Rattle.mime_base.specs.Database.Subclass.{Pairs}
 use Rattle.mime_base.specs.declared.magic.host.Host.{Host}
 use denote.Bor.{Bor}
-use Rattle.mime_lookup.specs.Ancestry.{texts}
+use Rattle.mime_lookup.specs.Ancestry.{kinds_of}
 use Rattle.mime_lookup.specs.CheckingOrder.{Chooses, are_one_type, before_globs, front_size, globs_suffice, read_of}
 use Rattle.mime_lookup.specs.Choice.{ChoosesAmong, IsFirst, kept}
 use Rattle.mime_lookup.specs.Sniffing.{sniffed}
@@ -21,8 +21,8 @@ one_type_chosen pairs (first ∷ more) base one =
     subst (λ b. MatchBool b (first ≡ first) (IsFirst pairs base first (first ∷ more) first)) (sym one) refl
 
 -- the first of some types
-pub first_text : (kept : List (Bor (List ℕ))) (d : Bor (List ℕ)) → are_one_type (texts kept) ≡ true →
-    (get_or kept 0 d).now ≡ get_or (texts kept) 0 []
+pub first_text : (kept : List (Bor (List ℕ))) (d : Bor (List ℕ)) → are_one_type (kinds_of kept) ≡ true →
+    (get_or kept 0 d).now ≡ get_or (kinds_of kept) 0 []
 first_text [] d one = absurd cc
 first_text (first ∷ more) d one = refl
 

@@ -5,7 +5,7 @@ use Rattle.std.specs.List.{list_all}
 use Rattle.std.proofs.lemmas.Bool.{and_from, and_parts}
 use Rattle.std.proofs.lemmas.Slice.Eq.{bytes_eq-Decides}
 use denote.Bor.{Bor}
-use Rattle.mime_lookup.specs.Ancestry.{texts}
+use Rattle.mime_lookup.specs.Ancestry.{kinds_of}
 use Rattle.mime_lookup.specs.Choice.{ChoosesAmong, IsFirst}
 use Rattle.mime_base.specs.Database.Subclass.{Pairs}
 
@@ -34,13 +34,13 @@ chooses-from_first pairs kind_of base (x ∷ xs) answer d some is = by_cases (li
 
 -- the same over references, where the base is what was found
 pub chooses-from_found : (pairs : Pairs) (base found : List ℕ) (kept : List (Bor (List ℕ))) (d : Bor (List ℕ)) (answer : List ℕ) →
-    base ≡ found → 0 < length kept → IsFirst pairs base (get_or kept 0 d).now (texts kept) answer →
-    ChoosesAmong pairs (texts kept) found answer
+    base ≡ found → 0 < length kept → IsFirst pairs base (get_or kept 0 d).now (kinds_of kept) answer →
+    ChoosesAmong pairs (kinds_of kept) found answer
 chooses-from_found pairs base found kept d answer same some is =
     rw (← same) (chooses-from_first pairs (λ text. text.now) base kept answer d some is)
 
 -- no type is kept
 pub chooses-found : (pairs : Pairs) (base found : List ℕ) (kept : List (Bor (List ℕ))) → base ≡ found → length kept ≡ 0 →
-    ChoosesAmong pairs (texts kept) found base
+    ChoosesAmong pairs (kinds_of kept) found base
 chooses-found pairs base found [] same none = same
 chooses-found pairs base found (kind ∷ kept) same none = absurd (omega arith)

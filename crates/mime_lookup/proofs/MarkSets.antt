@@ -6,20 +6,20 @@ use Rattle.std.proofs.lemmas.Bool.{cases_Bool, cond-false}
 use Rattle.std.proofs.lemmas.List.{map-append}
 use Rattle.std.proofs.lemmas.Slice.Eq.{bytes_eq-Decides}
 use denote.Bor.{Bor}
-use Rattle.mime_lookup.specs.Ancestry.{is_one_of, texts}
+use Rattle.mime_lookup.specs.Ancestry.{is_one_of, kinds_of}
 use Rattle.mime_lookup.proofs.PairSteps.{is_one_of-here, is_one_of-nil, is_one_of-past}
 
 -- a set of marks has a type
-pub marked-any : (keys : List (Bor (List ℕ))) (kind : List ℕ) → is_one_of (texts keys) kind ≡ list_any (λ key. bytes_eq kind key.now) keys
+pub marked-any : (keys : List (Bor (List ℕ))) (kind : List ℕ) → is_one_of (kinds_of keys) kind ≡ list_any (λ key. bytes_eq kind key.now) keys
 marked-any [] kind = is_one_of-nil kind
 marked-any (key ∷ keys) kind =
     ⊎_elim
     (λ hit.
-    is_one_of-here key.now kind (texts keys) hit
+    is_one_of-here key.now kind (kinds_of keys) hit
     ∙ sym (ap (λ b. b || list_any (λ k. bytes_eq kind k.now) keys)
     ((bytes_eq-Decides kind key.now).1 (sym ((bytes_eq-Decides key.now kind).0 hit)))))
     (λ miss.
-    is_one_of-past key.now kind (texts keys) miss ∙ marked-any keys kind
+    is_one_of-past key.now kind (kinds_of keys) miss ∙ marked-any keys kind
     ∙ sym (ap (λ b. b || list_any (λ k. bytes_eq kind k.now) keys) (other key.now kind miss)))
     (cases_Bool (bytes_eq key.now kind))
   where
@@ -31,7 +31,7 @@ marked-any (key ∷ keys) kind =
         (cases_Bool (bytes_eq right left))
 
 -- a type that is not marked is added to the set
-pub mark-more : (keys : List (Bor (List ℕ))) (kind : Bor (List ℕ)) → is_one_of (texts keys) kind.now ≡ false →
-    texts (cond (list_any (λ key. bytes_eq kind.now key.now) keys) keys (keys ++ kind ∷ [])) ≡ texts keys ++ kind.now ∷ []
+pub mark-more : (keys : List (Bor (List ℕ))) (kind : Bor (List ℕ)) → is_one_of (kinds_of keys) kind.now ≡ false →
+    kinds_of (cond (list_any (λ key. bytes_eq kind.now key.now) keys) keys (keys ++ kind ∷ [])) ≡ kinds_of keys ++ kind.now ∷ []
 mark-more keys kind new =
-    ap texts (cond-false _ keys (keys ++ kind ∷ []) (sym (marked-any keys kind.now) ∙ new)) ∙ map-append (λ text. text.now) keys (kind ∷ [])
+    ap kinds_of (cond-false _ keys (keys ++ kind ∷ []) (sym (marked-any keys kind.now) ∙ new)) ∙ map-append (λ text. text.now) keys (kind ∷ [])

@@ -8,7 +8,7 @@ use Rattle.mime_base.specs.Database.Subclass.{resolved}
 use Rattle.mime_base.specs.Kept.{kept_rules}
 use Rattle.mime_base.specs.declared.database.rule.GlobRule.{GlobRule}
 use Rattle.mime_view.specs.Hits.{KeptAreNear, near}
-use Rattle.mime_lookup.specs.Ancestry.{texts}
+use Rattle.mime_lookup.specs.Ancestry.{kinds_of}
 use Rattle.mime_lookup.specs.CheckingOrder.{GlobsDecide, are_one_type}
 use Rattle.mime_lookup.specs.Choice.{kept}
 use Rattle.mime_lookup.specs.declared.order.Order.{Order}
@@ -16,7 +16,7 @@ use Rattle.mime_lookup.specs.declared.order.Order.TheVariants.{GlobsFirst, Magic
 
 -- no more types are kept than rules are near the name
 pub kept_few : KeptAreNear → (b : PlainDatabase) (name : List ℕ) (kinds : List (Bor (List ℕ)))
-    → texts kinds ≡ kept (pairs_of b) b.rules name → length kinds ≤ near name b.rules
+    → kinds_of kinds ≡ kept (pairs_of b) b.rules name → length kinds ≤ near name b.rules
 unfolding kept
 kept_few law b name kinds same =
     let size : length kinds ≡ length (kept_rules b.rules name) =
@@ -26,10 +26,10 @@ kept_few law b name kinds same =
 
 -- where the globs decide and give no one type, none is kept and no content is available
 pub none_kept : (b : PlainDatabase) (name : List ℕ) (order : Order) (NoContent : Type 0) (kinds : List (List ℕ))
-    → kinds ≡ kept (pairs_of b) b.rules name → are_one_type kinds ≡ false → GlobsDecide b name order NoContent
+    → kinds ≡ kept (pairs_of b) b.rules name → are_one_type (kept (pairs_of b) b.rules name) ≡ false → GlobsDecide b name order NoContent
     → (kinds ≡ []) × NoContent
 none_kept b name order NoContent kinds are conflict (inl one) =
-    let both : true ≡ false = sym one.0 ∙ sym (ap are_one_type are) ∙ conflict in
+    let both : true ≡ false = sym one.0 ∙ conflict in
     absurd cc
 none_kept b name order NoContent kinds are conflict (inr none) = (are ∙ none.0, none.1)
 

@@ -6,26 +6,26 @@ use Rattle.std.proofs.lemmas.List.Elements.{Contains-append_right, Contains-get_
 use Rattle.std.specs.Prelude.{Contains}
 use Rattle.std.specs.Borrow.{Bor}
 use Rattle.mime_base.specs.Database.Subclass.{Pairs, IsA}
-use Rattle.mime_lookup.specs.Ancestry.{texts}
+use Rattle.mime_lookup.specs.Ancestry.{kinds_of}
 use Rattle.mime_lookup.specs.Choice.{IsFirst}
 
 -- one type more is put at the end, after a step
 pub queued-more : (step : List ℕ → List ℕ) (kinds before queue after : List (Bor (List ℕ))) (i : ℕ) (one d : Bor (List ℕ))
     → i < length kinds → one.now ≡ step (get_or kinds i d).now → after ≡ queue ++ one ∷ []
-    → texts queue ≡ texts before ++ map step (texts (take i kinds))
-    → texts after ≡ texts before ++ map step (texts (take (i + 1) kinds))
+    → kinds_of queue ≡ kinds_of before ++ map step (kinds_of (take i kinds))
+    → kinds_of after ≡ kinds_of before ++ map step (kinds_of (take (i + 1) kinds))
 queued-more step kinds before queue after i one d within is grown so_far =
-    let done = map step (texts (take i kinds)) in
+    let done = map step (kinds_of (take i kinds)) in
     let next = get_or kinds i d in
-    let last : map step (texts (take (i + 1) kinds)) ≡ done ++ one.now ∷ [] =
-    ap (λ ks. map step (texts ks)) (take_more kinds i d within)
+    let last : map step (kinds_of (take (i + 1) kinds)) ≡ done ++ one.now ∷ [] =
+    ap (λ ks. map step (kinds_of ks)) (take_more kinds i d within)
     ∙ ap (map step) (map-append (λ (k : Bor (List ℕ)). k.now) (take i kinds) (next ∷ []))
-    ∙ map-append step (texts (take i kinds)) (next.now ∷ [])
+    ∙ map-append step (kinds_of (take i kinds)) (next.now ∷ [])
     ∙ ap (λ k. done ++ k ∷ []) (sym is) in
-    ap texts grown ∙ map-append (λ (k : Bor (List ℕ)). k.now) queue (one ∷ [])
+    ap kinds_of grown ∙ map-append (λ (k : Bor (List ℕ)). k.now) queue (one ∷ [])
     ∙ ap (λ q. q ++ one.now ∷ []) so_far
-    ∙ append_assoc (texts before) done (one.now ∷ [])
-    ∙ ap (λ more. texts before ++ more) (sym last)
+    ∙ append_assoc (kinds_of before) done (one.now ∷ [])
+    ∙ ap (λ more. kinds_of before ++ more) (sym last)
 
 -- a queue that stays the same without its first type has none
 pub none_queued : (queue after : List (Bor (List ℕ))) → queue ≡ after → after ≡ drop 1 queue → queue ≡ []
@@ -35,17 +35,17 @@ none_queued (first ∷ queue) after same rest = absurd (omega (arith, ap length 
 -- a type that is no subclass of the base is passed over
 pub passed_over : (pairs : Pairs) (base default : List ℕ) (kinds : List (Bor (List ℕ))) (i : ℕ) (d : Bor (List ℕ))
     → i < length kinds → (IsA pairs (get_or kinds i d).now base → ⊥) → (answer : List ℕ)
-    → IsFirst pairs base default (texts (drop (i + 1) kinds)) answer
-    → IsFirst pairs base default (texts (drop i kinds)) answer
+    → IsFirst pairs base default (kinds_of (drop (i + 1) kinds)) answer
+    → IsFirst pairs base default (kinds_of (drop i kinds)) answer
 passed_over pairs base default kinds i d within never answer rest =
-    subst (λ (ks : List (Bor (List ℕ))). IsFirst pairs base default (texts ks) answer) (sym (drop-cons kinds i d within))
+    subst (λ (ks : List (Bor (List ℕ))). IsFirst pairs base default (kinds_of ks) answer) (sym (drop-cons kinds i d within))
     (inr (never, rw add-one at rest))
 
 -- a candidate is one of the default and the candidates
 pub candidate : (default : List ℕ) (kinds : List (Bor (List ℕ))) (i : ℕ) (d : Bor (List ℕ)) → i < length kinds
-    → Contains (default ∷ texts kinds) (get_or kinds i d).now
+    → Contains (default ∷ kinds_of kinds) (get_or kinds i d).now
 candidate default kinds i d within =
     let now : Bor (List ℕ) → List ℕ = λ kind. kind.now in
-    Contains-append_right (default ∷ []) (texts kinds) (get_or kinds i d).now
-    (subst (λ (kind : List ℕ). Contains (texts kinds) kind) (get_or-map now kinds i d [] within)
-    (Contains-get_or (texts kinds) i [] (omega (arith, within, length-map kinds now))))
+    Contains-append_right (default ∷ []) (kinds_of kinds) (get_or kinds i d).now
+    (subst (λ (kind : List ℕ). Contains (kinds_of kinds) kind) (get_or-map now kinds i d [] within)
+    (Contains-get_or (kinds_of kinds) i [] (omega (arith, within, length-map kinds now))))

@@ -3,9 +3,9 @@ use Rattle.std.specs.Prelude.{◌≡◌, ◌⊎◌, ℕ, suc, zero, Bool, false,
 use Rattle.std.specs.Borrow.{Bor}
 use Rattle.mime_base.specs.Database.Subclass.{Pairs, IsA, above}
 
--- the bytes behind references
-abbrev pub texts : List (Bor (List ℕ)) → List (List ℕ)
-texts = map (λ text. text.now)
+-- the types that references name
+abbrev pub kinds_of : List (Bor (List ℕ)) → List (List ℕ)
+kinds_of = map (λ text. text.now)
 
 -- whether a type is one of these
 unfoldable pub is_one_of : List (List ℕ) → List ℕ → Bool

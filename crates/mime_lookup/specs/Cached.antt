@@ -1,7 +1,11 @@
 -- What the steps of a lookup over a cache give and why they stop, as plain values.
-use Rattle.std.specs.Prelude.{◌≡◌, ◌≢◌, ◌⊎◌, ℕ, List, ◌∷◌, [], Contains, Ok, codes}
+use Rattle.std.specs.Prelude.{◌≡◌, ◌≢◌, ◌⊎◌, ℕ, true, false, List, ◌∷◌, [], length, get_or, All, Contains, Ok, codes}
 use Rattle.mime_base.specs.Cache.Texts.{text_at}
 use Rattle.mime_lookup.specs.Finding.{PlainFinding, by_magic, fixed}
+use Rattle.mime_lookup.specs.Ancestry.{kinds_of}
+use Rattle.mime_lookup.specs.CheckingOrder.{are_one_type}
+use Rattle.mime_lookup.specs.declared.cached.kept.Kept.{Kept}
+use Rattle.mime_lookup.specs.declared.cached.kept.Kept.TheVariants as kept
 use Rattle.mime_lookup.specs.declared.cached.sniff.Finding.{Finding}
 use Rattle.mime_lookup.specs.declared.cached.sniff.Finding.TheVariants as finding
 use Rattle.mime_lookup.specs.declared.stopped.Cause.{Cause}
@@ -14,12 +18,12 @@ abbrev pub fixed_kinds : List (List ℕ)
 fixed_kinds = codes "application/octet-stream" ∷ codes "application/x-zerosize" ∷ codes "text/plain" ∷ []
 
 -- a text of the cache
-abbrev pub IsTextOf : List ℕ → List ℕ → Type 0
-IsTextOf c text = (at : ℕ) × (text_at c at ≡ Ok text)
+abbrev pub IsCacheText : List ℕ → List ℕ → Type 0
+IsCacheText c text = (at : ℕ) × (text_at c at ≡ Ok text)
 
 -- a text of the cache, or one of the fixed types
 abbrev pub IsKind : List ℕ → List ℕ → Type 0
-IsKind c kind = IsTextOf c kind ⊎ Contains fixed_kinds kind
+IsKind c kind = IsCacheText c kind ⊎ Contains fixed_kinds kind
 
 -- the plain value of a finding
 abbrev pub plain_finding : Finding → PlainFinding
@@ -28,8 +32,23 @@ plain_finding (finding.Fixed kind) = fixed kind.now
 
 -- a section's type is a text of the cache, any other type is fixed
 abbrev pub IsFinding : List ℕ → Finding → Type 0
-IsFinding c (finding.Magic kind priority) = IsTextOf c kind.now
+IsFinding c (finding.Magic kind priority) = IsCacheText c kind.now
 IsFinding c (finding.Fixed kind) = Contains fixed_kinds kind.now
+
+-- what is kept of these types: the one that all are, or all of them
+abbrev pub IsKept : List (List ℕ) → Kept → Type 0
+IsKept kinds (kept.One kind) = (are_one_type kinds ≡ true) × (kind.now ≡ get_or kinds 0 [])
+IsKept kinds (kept.Others others) = (are_one_type kinds ≡ false) × (kinds_of others.items ≡ kinds)
+
+-- texts of the cache
+abbrev pub AreCacheTexts : List ℕ → Kept → Type 0
+AreCacheTexts c (kept.One kind) = IsCacheText c kind.now
+AreCacheTexts c (kept.Others others) = All (IsCacheText c) (kinds_of others.items)
+
+-- how many types are left to choose among
+abbrev pub others_count : Kept → ℕ
+others_count (kept.One kind) = 0
+others_count (kept.Others others) = length others.items
 
 -- a read failed, an allocation was refused, or the cache has such a fault
 abbrev pub IsStop : (CacheFault → Type 0) → Cause → Type 0

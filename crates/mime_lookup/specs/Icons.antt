@@ -13,9 +13,9 @@ pub record PlainIcons : Type 0 where
   pub generic : List ℕ
 
 -- the name itself, where there is one, else the other
-abbrev pub or_else : Option (List ℕ) → List ℕ → List ℕ
-or_else None other = other
-or_else (Some name) other = name
+abbrev pub name_or : Option (List ℕ) → List ℕ → List ℕ
+name_or None other = other
+name_or (Some name) other = name
 
 -- a hyphen (45) for a slash (47), and any other byte for itself
 abbrev pub hyphen_for_slash : ℕ → ℕ
@@ -37,8 +37,8 @@ generic_of_media kind = before_slash kind ++ codes "-x-generic"
 -- the icons of a type that was resolved
 abbrev pub icons_by : PlainDatabase → List ℕ → PlainIcons
 icons_by b kind = record {
-  icon = or_else (looked_up b.icons kind) (with_hyphens kind);
-  generic = or_else (looked_up b.generic_icons kind) (generic_of_media kind);
+  icon = name_or (looked_up b.icons kind) (with_hyphens kind);
+  generic = name_or (looked_up b.generic_icons kind) (generic_of_media kind);
 }
 
 -- the icons of a type, after one alias step

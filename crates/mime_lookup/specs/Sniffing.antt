@@ -1,6 +1,7 @@
 -- What a content is sniffed as.
 use Rattle.std.specs.Prelude.{◌≡◌, ◌⊎◌, refl, ℕ, ◌≤◌, if◌then◌else◌, List, [], ◌∷◌, ◌++◌, length, Option, None, Some, codes}
 use Rattle.mime_base.specs.Database.{PlainDatabase}
+use Rattle.mime_base.specs.Format.Sample.{empty_database}
 use Rattle.mime_base.specs.Magic.Extent.{extent}
 use Rattle.mime_base.specs.Magic.Holds.{first_magic}
 use Rattle.mime_base.specs.Database.Subclass.{resolved}
@@ -30,17 +31,14 @@ FrontIsEnough =
     sniffed b (Some front) host ≡ sniffed b (Some (front ++ rest)) host
 
 -- content that is not available, and content without any magic
-abbrev nothing : PlainDatabase
-nothing = record { rules = []; aliases = []; parents = []; sections = []; icons = []; generic_icons = [] }
-
-not_available : (host : Host) → sniffed nothing None host ≡ codes "application/octet-stream"
+not_available : (host : Host) → sniffed empty_database None host ≡ codes "application/octet-stream"
 unfolding sniffed
 not_available host = refl
 
-empty : (host : Host) → sniffed nothing (Some []) host ≡ codes "application/x-zerosize"
+empty : (host : Host) → sniffed empty_database (Some []) host ≡ codes "application/x-zerosize"
 unfolding sniffed first_magic
 empty host = refl
 
-a_line : (host : Host) → sniffed nothing (Some (codes "hi" ++ 10 ∷ [])) host ≡ codes "text/plain"
+a_line : (host : Host) → sniffed empty_database (Some (codes "hi" ++ 10 ∷ [])) host ≡ codes "text/plain"
 unfolding sniffed first_magic looks_textual
 a_line host = refl

@@ -10,7 +10,7 @@ ghost use Rattle.std.specs.VecDeque.{deque_len};
 ghost use Rattle.mime_base.specs.Database.{pairs_of, plain_database};
 ghost use Rattle.mime_base.specs.Database.PlainPairs.{plain_pairs};
 ghost use Rattle.mime_base.specs.Database.Subclass.{IsA};
-ghost use Rattle.mime_lookup.specs.Ancestry.{Expanded, NoneLeadsTo, is_one_of, texts, unmarked};
+ghost use Rattle.mime_lookup.specs.Ancestry.{Expanded, NoneLeadsTo, is_one_of, kinds_of, unmarked};
 ghost use Rattle.mime_lookup.specs.Choice.{IsFirst};
 ghost use Rattle.mime_lookup.specs.Places.{IsIndexed, pairs_at, place_in};
 
@@ -32,7 +32,7 @@ pub fn first_of<'a>(
 ) -> Result<&'a [u8], OutOfMemory>
     ensures nodes { meter.new.nodes ≡ meter.old.nodes }
     ensures first { IfOk result (λ kind. IsFirst (pairs_of (plain_database database.entry.now))
-        base.now default.entry.now (texts kinds.now) kind.now) }
+        base.now default.entry.now (kinds_of kinds.now) kind.now) }
 {
     let aliases = places_of(alloc, &database.aliases)?;
     let parents = places_of(alloc, &database.parents)?;
@@ -54,7 +54,7 @@ fn first_at<'a>(
     requires parents { IsIndexed parents.now.pairs.now 0 (place_in parents.now.first) parents.now.next.items }
     ensures nodes { meter.new.nodes ≡ meter.old.nodes }
     ensures first { IfOk result (λ kind. IsFirst (pairs_at aliases.now.pairs.now parents.now.pairs.now)
-        base.now default.entry.now (texts kinds.now) kind.now) }
+        base.now default.entry.now (kinds_of kinds.now) kind.now) }
 {
     let mut marks = IndexSet::new(alloc);
     for kind in kinds {
@@ -79,11 +79,11 @@ fn is_a<'a>(
     requires parents { IsIndexed parents.now.pairs.now 0 (place_in parents.now.first) parents.now.next.items }
     ensures nodes { meter.new.nodes ≡ meter.old.nodes }
     ensures answer { IfOk result (λ yes.
-        NoneLeadsTo (is_one_of (texts marks.old.keys)) (pairs_at aliases.now.pairs.now parents.now.pairs.now) base.now
+        NoneLeadsTo (is_one_of (kinds_of marks.old.keys)) (pairs_at aliases.now.pairs.now parents.now.pairs.now) base.now
         → (IsTrue yes ↔ IsA (pairs_at aliases.now.pairs.now parents.now.pairs.now) kind.entry.now base.now)) }
     ensures marked { IfOk result (λ yes. yes ≡ false →
-        NoneLeadsTo (is_one_of (texts marks.old.keys)) (pairs_at aliases.now.pairs.now parents.now.pairs.now) base.now
-        → NoneLeadsTo (is_one_of (texts marks.new.keys)) (pairs_at aliases.now.pairs.now parents.now.pairs.now) base.now) }
+        NoneLeadsTo (is_one_of (kinds_of marks.old.keys)) (pairs_at aliases.now.pairs.now parents.now.pairs.now) base.now
+        → NoneLeadsTo (is_one_of (kinds_of marks.new.keys)) (pairs_at aliases.now.pairs.now parents.now.pairs.now) base.now) }
 {
     let mut queue = VecDeque::new(alloc);
     queue.push_back(kind)?;
@@ -107,11 +107,11 @@ fn expand<'a>(
     requires aliases { IsIndexed aliases.now.pairs.now 0 (place_in aliases.now.first) aliases.now.next.items }
     requires parents { IsIndexed parents.now.pairs.now 0 (place_in parents.now.first) parents.now.next.items }
     ensures expanded { OnOk result (Expanded (pairs_at aliases.now.pairs.now parents.now.pairs.now) kind.entry.now
-        (is_one_of (texts marks.old.keys)) (is_one_of (texts marks.new.keys))
-        (texts queue.old.items) (texts queue.new.items)) }
+        (is_one_of (kinds_of marks.old.keys)) (is_one_of (kinds_of marks.new.keys))
+        (kinds_of queue.old.items) (kinds_of queue.new.items)) }
     ensures falls { OnOk result (
-        deque_len queue.new + unmarked (plain_pairs parents.now.pairs.now) (is_one_of (texts marks.new.keys))
-        ≡ deque_len queue.old + unmarked (plain_pairs parents.now.pairs.now) (is_one_of (texts marks.old.keys))) }
+        deque_len queue.new + unmarked (plain_pairs parents.now.pairs.now) (is_one_of (kinds_of marks.new.keys))
+        ≡ deque_len queue.old + unmarked (plain_pairs parents.now.pairs.now) (is_one_of (kinds_of marks.old.keys))) }
 {
     if is_marked(marks, kind) {
         return Ok(());
@@ -123,7 +123,7 @@ fn expand<'a>(
 
 /// Whether a type is marked.
 fn is_marked(marks: &IndexSet<&[u8]>, kind: &[u8]) -> bool
-    ensures { result ≡ is_one_of (texts marks.now.keys) kind.now }
+    ensures { result ≡ is_one_of (kinds_of marks.now.keys) kind.now }
 {
     marks.contains(kind)
 }

@@ -2,7 +2,7 @@
 
 ghost use Rattle.std.specs.Prelude.{◌≡◌, map, IfOk};
 ghost use Rattle.mime_base.specs.Database.{pairs_of, plain_database};
-ghost use Rattle.mime_lookup.specs.Ancestry.{texts};
+ghost use Rattle.mime_lookup.specs.Ancestry.{kinds_of};
 ghost use Rattle.mime_lookup.specs.Choice.{kept};
 ghost use Rattle.mime_base.specs.Kept.{kept_rules};
 
@@ -37,7 +37,7 @@ pub fn kept_kinds<'a>(
     name: &[u8],
     meter: &mut Meter,
 ) -> Result<Vec<&'a [u8]>, OutOfMemory>
-    ensures kept { IfOk result (λ kinds. texts kinds.items
+    ensures kept { IfOk result (λ kinds. kinds_of kinds.items
         ≡ kept (pairs_of (plain_database database.entry.now)) database.entry.now.rules.items name.now) }
     ensures nodes { meter.new.nodes ≡ meter.old.nodes }
 {

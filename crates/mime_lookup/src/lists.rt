@@ -3,7 +3,7 @@
 ghost use Rattle.std.specs.Prelude.{◌≡◌, ◌≢◌, ◌⊎◌, ◌<◌, ◌≤◌, length, IfOk, IfErr, OnOk, IfSome, MatchResult, Some, None};
 ghost use Rattle.std.specs.Prelude.{true, false, ⊤, if◌then◌else◌};
 ghost use Rattle.mime_base.specs.Database.{pairs_of, plain_database};
-ghost use Rattle.mime_lookup.specs.Ancestry.{texts};
+ghost use Rattle.mime_lookup.specs.Ancestry.{kinds_of};
 ghost use Rattle.mime_lookup.specs.CheckingOrder.{Chooses, are_one_type, before_globs, front_size, globs_suffice, read_limit, read_of};
 ghost use Rattle.mime_lookup.specs.Choice.{ChoosesAmong};
 ghost use Rattle.mime_lookup.specs.Sniffing.{sniffed};
@@ -135,7 +135,7 @@ fn kind_of<'a, R: Content>(
 
 /// Whether there are types, and all are one type.
 fn are_one_type(kinds: &[&[u8]]) -> bool
-    ensures { result ≡ are_one_type (texts kinds.now) }
+    ensures { result ≡ are_one_type (kinds_of kinds.now) }
 {
     let Some((first, more)) = kinds.split_first() else {
         return false;
@@ -159,7 +159,7 @@ fn choose<'a>(
 ) -> Result<&'a [u8], OutOfMemory>
     ensures nodes { meter.new.nodes ≡ meter.old.nodes }
     ensures chosen { IfOk result (λ kind. ChoosesAmong (pairs_of (plain_database database.entry.now))
-        (texts kept.now) sniffed.entry.now kind.now) }
+        (kinds_of kept.now) sniffed.entry.now kind.now) }
 {
     if kept.is_empty() {
         return Ok(sniffed);

@@ -6,7 +6,7 @@ ghost use Rattle.mime_base.specs.Database.PlainPairs.{plain_pairs};
 ghost use Rattle.mime_base.specs.Database.Subclass as above;
 ghost use Rattle.mime_base.specs.declared.database.pair.Pair as plain;
 ghost use Rattle.mime_base.specs.Database.Subclass.{resolved};
-ghost use Rattle.mime_lookup.specs.Ancestry.{texts};
+ghost use Rattle.mime_lookup.specs.Ancestry.{kinds_of};
 ghost use Rattle.mime_lookup.specs.Places.{IsIndexed, place_in};
 
 use indexmap::IndexMap;
@@ -72,7 +72,7 @@ pub fn push_parents<'a>(
 ) -> Result<(), OutOfMemory>
     requires aliases { IsIndexed aliases.now.pairs.now 0 (place_in aliases.now.first) aliases.now.next.items }
     requires parents { IsIndexed parents.now.pairs.now 0 (place_in parents.now.first) parents.now.next.items }
-    ensures queue { OnOk result (texts queue.new.items ≡ texts queue.old.items
+    ensures queue { OnOk result (kinds_of queue.new.items ≡ kinds_of queue.old.items
         ++ map (resolved (plain_pairs aliases.now.pairs.now)) (above.parents (plain_pairs parents.now.pairs.now) kind.now)) }
     ensures longer { OnOk result (deque_len queue.new
         ≡ deque_len queue.old + length (above.parents (plain_pairs parents.now.pairs.now) kind.now)) }

@@ -13,7 +13,7 @@ ghost use Rattle.mime_base.specs.Database.{PlainDatabase, pairs_of};
 ghost use Rattle.mime_base.specs.Database.Subclass.{IsA, resolved};
 ghost use Rattle.mime_base.specs.Meter.{raised};
 ghost use Rattle.mime_view.specs.Parents.{is_marked};
-ghost use Rattle.mime_lookup.specs.Ancestry.{Expanded, NoneLeadsTo, texts, unmarked};
+ghost use Rattle.mime_lookup.specs.Ancestry.{Expanded, NoneLeadsTo, kinds_of, unmarked};
 ghost use Rattle.mime_lookup.specs.Choice.{IsFirst};
 ghost use Rattle.mime_lookup.specs.Costs.{Costs};
 ghost use Rattle.mime_lookup.specs.Spelling.{SpellsPairs};
@@ -38,8 +38,8 @@ pub fn first_of<'a>(
 ) -> Result<&'a [u8], CacheFault>
     requires base { length base.now ≤ 255 }
     ensures answer { (b : PlainDatabase) → SpellsPairs cache.now b → IfOk result
-        (λ kind. IsFirst (pairs_of b) base.now default.entry.now (texts kinds.now) kind.now) }
-    ensures one { IfOk result (λ kind. Contains (default.entry.now ∷ texts kinds.now) kind.now) }
+        (λ kind. IsFirst (pairs_of b) base.now default.entry.now (kinds_of kinds.now) kind.now) }
+    ensures one { IfOk result (λ kind. Contains (default.entry.now ∷ kinds_of kinds.now) kind.now) }
     ensures need { (b : PlainDatabase) → SpellsPairs cache.now b → length b.parents ≤ budget.old.records →
         IfErr result (λ e. e ≡ CacheFault.OutOfMemory) }
     ensures fault { IfErr result (IsSearchFault cache.now budget.new) }
@@ -106,7 +106,7 @@ fn expand<'a>(
 ) -> Result<(), CacheFault>
     ensures expanded { (b : PlainDatabase) → SpellsPairs cache.now b → OnOk result (Expanded (pairs_of b) kind.now
         (is_marked cache.now (field cache.now 0 2) marks.old) (is_marked cache.now (field cache.now 0 2) marks.new)
-        (texts queue.old.items) (texts queue.new.items)) }
+        (kinds_of queue.old.items) (kinds_of queue.new.items)) }
     ensures need { (b : PlainDatabase) → SpellsPairs cache.now b →
         unmarked b.parents (is_marked cache.now (field cache.now 0 2) marks.old) ≤ budget.old.records →
         IfErr result (λ e. e ≡ CacheFault.OutOfMemory) }
@@ -144,7 +144,7 @@ fn push_resolved<'a>(
     budget: &mut Budget,
 ) -> Result<(), CacheFault>
     ensures queue { (b : PlainDatabase) → SpellsPairs cache.now b → OnOk result
-        (texts queue.new.items ≡ texts queue.old.items ++ map (resolved b.aliases) (texts kinds.now)) }
+        (kinds_of queue.new.items ≡ kinds_of queue.old.items ++ map (resolved b.aliases) (kinds_of kinds.now)) }
     ensures need { (b : PlainDatabase) → SpellsPairs cache.now b → IfErr result (λ e. e ≡ CacheFault.OutOfMemory) }
     ensures fault { IfErr result (λ e. IsAliasFault cache.now e ⊎ (e ≡ CacheFault.OutOfMemory)) }
     ensures longer { OnOk result (deque_len queue.new ≡ deque_len queue.old + length kinds.now) }

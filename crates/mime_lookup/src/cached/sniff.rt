@@ -12,7 +12,7 @@ ghost use Rattle.mime_lookup.specs.CheckingOrder.{front_size};
 ghost use Rattle.mime_lookup.specs.Content.{known_content};
 ghost use Rattle.mime_lookup.specs.Costs.{Costs};
 ghost use Rattle.mime_lookup.specs.Finding.{fixed, found_by, found_in, is_high, resolved_finding};
-ghost use Rattle.mime_lookup.specs.Cached.{IsFinding, IsKind, IsStop, IsTextOf, plain_finding};
+ghost use Rattle.mime_lookup.specs.Cached.{IsFinding, IsKind, IsStop, IsCacheText, plain_finding};
 ghost use Rattle.mime_lookup.specs.Reads.{AsksUnless, Reads};
 ghost use Rattle.mime_lookup.specs.Spelling.{SpellsMagic};
 ghost use Rattle.mime_lookup.specs.StepFaults.{IsAliasFault, IsSniffFault};
@@ -152,7 +152,7 @@ fn sniff_reader<'a, R: Content>(
 // What the first section that holds makes of a content, or its bytes alone.
 fn finding_of<'a>(section: Option<(&'a [u8], u32)>, content: &[u8]) -> Finding<'a>
     ensures found { plain_finding result ≡ found_by (plain_found section.entry) content.now }
-    ensures finding { (c : List ℕ) → IfSome section.entry (λ pair. IsTextOf c pair.0.now) → IsFinding c result }
+    ensures finding { (c : List ℕ) → IfSome section.entry (λ pair. IsCacheText c pair.0.now) → IsFinding c result }
 {
     match section {
         Some((kind, priority)) => Finding::Magic(kind, priority),

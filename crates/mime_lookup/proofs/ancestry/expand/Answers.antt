@@ -2,31 +2,31 @@ use Rattle.std.proofs.Common.{◌≡◌, ◌++◌, false, sym, ◌∙◌, arith}
 use Rattle.mime_base.specs.Database.PlainPairs.{plain_pairs}
 use Rattle.mime_lookup.specs.Places.{pairs_at}
 use Rattle.mime_base.specs.Database.Subclass.{above}
-use Rattle.mime_lookup.specs.Ancestry.{is_one_of, texts}
+use Rattle.mime_lookup.specs.Ancestry.{is_one_of, kinds_of}
 use Rattle.mime_lookup.proofs.Marks.{expanded_marked, expanded_new, unmarked-falls}
 use Rattle.mime_lookup.proofs.MarkSets.{mark-more}
 use Rattle.mime_lookup.proofs.ancestry.expand.Goals as goal
 
 pub returns-then-is_marked-clause-expanded : goal.returns-then-is_marked-clause-expanded
 returns-then-is_marked-clause-expanded c =
-    expanded_marked (pairs_at c.args.aliases.now.pairs.now c.args.parents.now.pairs.now) c.args.kind.now (texts c.args.marks.now.keys)
-    (texts c.args.queue.now.items)
+    expanded_marked (pairs_at c.args.aliases.now.pairs.now c.args.parents.now.pairs.now) c.args.kind.now (kinds_of c.args.marks.now.keys)
+    (kinds_of c.args.queue.now.items)
     (sym c.is_marked.ensures ∙ c.if-is_marked.true)
 
 pub returns-clause-expanded : goal.returns-clause-expanded
 unfolding above
 returns-clause-expanded c =
     let pairs = pairs_at c.args.aliases.now.pairs.now c.args.parents.now.pairs.now in
-    let marks = texts c.args.marks.now.keys in
-    let grown : texts c.push_parents.new.queue.items ≡ texts c.args.queue.now.items ++ above pairs c.args.kind.now =
+    let marks = kinds_of c.args.marks.now.keys in
+    let grown : kinds_of c.push_parents.new.queue.items ≡ kinds_of c.args.queue.now.items ++ above pairs c.args.kind.now =
     c.in_ok-push_parents.ensures.queue in
     let new : is_one_of marks c.args.kind.now ≡ false = sym c.is_marked.ensures ∙ c.if-is_marked.false in
     rw (c.in_ok-insert.ensures.keys, mark-more c.args.marks.now.keys c.args.kind new)
-    (expanded_new pairs c.args.kind.now marks (texts c.args.queue.now.items) (texts c.push_parents.new.queue.items) grown)
+    (expanded_new pairs c.args.kind.now marks (kinds_of c.args.queue.now.items) (kinds_of c.push_parents.new.queue.items) grown)
 
 pub returns-clause-falls : goal.returns-clause-falls
 returns-clause-falls c =
-    let marks = texts c.args.marks.now.keys in
+    let marks = kinds_of c.args.marks.now.keys in
     let new : is_one_of marks c.args.kind.now ≡ false = sym c.is_marked.ensures ∙ c.if-is_marked.false in
     let falls = unmarked-falls (plain_pairs c.args.parents.now.pairs.now) c.args.kind.now marks new in
     let longer = c.in_ok-push_parents.ensures.longer in

@@ -1,7 +1,7 @@
 use Rattle.std.proofs.Common.{◌≡◌, ◌∙◌, ℕ, true, false, List, [], ap, sym}
 use denote.Bor.{Bor}
 use Rattle.mime_base.specs.Database.{pairs_of, plain_database}
-use Rattle.mime_lookup.specs.Ancestry.{texts}
+use Rattle.mime_lookup.specs.Ancestry.{kinds_of}
 use Rattle.mime_lookup.specs.CheckingOrder.{are_one_type, read_limit}
 use Rattle.mime_lookup.specs.Choice.{ChoosesAmong}
 use Rattle.mime_lookup.proofs.Answering.{by_globs, by_globs_and_content, by_magic, by_magic_and_globs, first_text}
@@ -12,14 +12,14 @@ use Rattle.mime_lookup.proofs.lists.kind_of.Goals as goal
 pub returns-then-are_one_type-clause-chosen : goal.returns-then-are_one_type-clause-chosen
 returns-then-are_one_type-clause-chosen g c =
     let kept = c.in_ok-kept-in-GlobsFirst.kept.items in
-    let one : are_one_type (texts kept) ≡ true = rw c.deref.ensures.value at (sym c.are_one_type.ensures ∙ c.if-are_one_type.true) in
-    by_globs (plain_database c.args.database.now) c.args.name.now c.args.host c.args.order c.in-GlobsFirst.is (texts kept)
+    let one : are_one_type (kinds_of kept) ≡ true = rw c.deref.ensures.value at (sym c.are_one_type.ensures ∙ c.if-are_one_type.true) in
+    by_globs (plain_database c.args.database.now) c.args.name.now c.args.host c.args.order c.in-GlobsFirst.is (kinds_of kept)
     c.in_ok-kept-in-GlobsFirst.ensures.kept _ _ one
     (ap (λ (text : Bor (List ℕ)). text.now) c.index.ensures ∙ first_text kept c.index.result.now one)
 
 pub returns-then-are_one_type-clause-read : goal.returns-then-are_one_type-clause-read
 returns-then-are_one_type-clause-read g c =
-    let kinds = texts c.in_ok-kept-in-GlobsFirst.kept.items in
+    let kinds = kinds_of c.in_ok-kept-in-GlobsFirst.kept.items in
     let one : are_one_type kinds ≡ true = rw c.deref.ensures.value at (sym c.are_one_type.ensures ∙ c.if-are_one_type.true) in
     read_none (plain_database c.args.database.now) c.args.name.now c.args.host c.args.order c.in-GlobsFirst.is kinds
     c.in_ok-kept-in-GlobsFirst.ensures.kept _ _ one c.requires.none
@@ -31,7 +31,7 @@ returns-then-are_one_type-clause-reader g c =
 
 pub returns-then-are_one_type-clause-asks : goal.returns-then-are_one_type-clause-asks
 returns-then-are_one_type-clause-asks g c =
-    let kinds = texts c.in_ok-kept-in-GlobsFirst.kept.items in
+    let kinds = kinds_of c.in_ok-kept-in-GlobsFirst.kept.items in
     let one : are_one_type kinds ≡ true = rw c.deref.ensures.value at (sym c.are_one_type.ensures ∙ c.if-are_one_type.true) in
     asks_nothing g.R.Content.health _ c.args.content.now _
     (suffice (plain_database c.args.database.now) c.args.name.now c.args.host c.args.order c.in-GlobsFirst.is kinds
@@ -48,7 +48,7 @@ returns-in_err-sniffed-in-GlobsFirst-clause-reader g c =
 pub returns-in_err-sniffed-in-GlobsFirst-clause-asks :
     goal.returns-in_err-sniffed-in-GlobsFirst-clause-asks
 returns-in_err-sniffed-in-GlobsFirst-clause-asks g c =
-    let kinds = texts c.in_ok-kept-in-GlobsFirst.kept.items in
+    let kinds = kinds_of c.in_ok-kept-in-GlobsFirst.kept.items in
     let conflict : are_one_type kinds ≡ false = rw c.deref.ensures.value at (sym c.are_one_type.ensures ∙ c.if-are_one_type.false) in
     asks_stopped g.R.Content.health _ c.args.content.now c.sniff_content.new.content c.in_err-sniffed-in-GlobsFirst.field-0.0
     c.from_residual-in_err-sniffed-in-GlobsFirst.result
@@ -87,7 +87,7 @@ pub returns-in_ok-kind-in-GlobsFirst-clause-chosen :
     goal.returns-in_ok-kind-in-GlobsFirst-clause-chosen
 returns-in_ok-kind-in-GlobsFirst-clause-chosen g c =
     let b = plain_database c.args.database.now in
-    let kinds = texts c.in_ok-kept-in-GlobsFirst.kept.items in
+    let kinds = kinds_of c.in_ok-kept-in-GlobsFirst.kept.items in
     let found = c.in_ok-sniffed-in-GlobsFirst.sniffed.kind.now in
     let kind = c.in_ok-kind-in-GlobsFirst.kind.now in
     let chosen : ChoosesAmong (pairs_of b) kinds found kind =
@@ -98,7 +98,7 @@ returns-in_ok-kind-in-GlobsFirst-clause-chosen g c =
 pub returns-in_ok-kind-in-GlobsFirst-clause-read :
     goal.returns-in_ok-kind-in-GlobsFirst-clause-read
 returns-in_ok-kind-in-GlobsFirst-clause-read g c =
-    let kinds = texts c.in_ok-kept-in-GlobsFirst.kept.items in
+    let kinds = kinds_of c.in_ok-kept-in-GlobsFirst.kept.items in
     let conflict : are_one_type kinds ≡ false = rw c.deref.ensures.value at (sym c.are_one_type.ensures ∙ c.if-are_one_type.false) in
     read_front (plain_database c.args.database.now) c.args.name.now c.args.host c.args.order c.in-GlobsFirst.is kinds
     c.in_ok-kept-in-GlobsFirst.ensures.kept _ _ conflict c.in_ok-sniffed-in-GlobsFirst.ensures.read
@@ -107,7 +107,7 @@ pub returns-in_ok-kind-in-MagicFirst-clause-chosen :
     goal.returns-in_ok-kind-in-MagicFirst-clause-chosen
 returns-in_ok-kind-in-MagicFirst-clause-chosen g c =
     let b = plain_database c.args.database.now in
-    let kinds = texts c.in_ok-kept-in-MagicFirst.kept.items in
+    let kinds = kinds_of c.in_ok-kept-in-MagicFirst.kept.items in
     let sniffed = c.in_ok-sniffed-in-MagicFirst.sniffed in
     let kind = c.in_ok-kind-in-MagicFirst.kind.now in
     let chosen : ChoosesAmong (pairs_of b) kinds sniffed.kind.now kind =

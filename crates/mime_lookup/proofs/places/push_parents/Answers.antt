@@ -3,7 +3,7 @@ use Rattle.std.proofs.lemmas.List.{get_or_default, map-append}
 use Rattle.std.specs.VecDeque.{deque_len}
 use Rattle.mime_base.specs.Database.PlainPairs.{plain_pairs}
 use Rattle.mime_base.specs.Database.Subclass.{resolved}
-use Rattle.mime_lookup.specs.Ancestry.{texts}
+use Rattle.mime_lookup.specs.Ancestry.{kinds_of}
 use Rattle.mime_lookup.specs.Places.{IsNext, place_in}
 use Rattle.mime_lookup.proofs.Walks.{Walked, places_left-falls, walked-all, walked-first, walked-more}
 use Rattle.mime_lookup.proofs.places.push_parents.Goals as goal
@@ -11,7 +11,7 @@ use Rattle.mime_lookup.proofs.places.push_parents.Goals as goal
 pub loop-place-init : goal.loop-place-init
 loop-place-init c =
     walked-first c.args.parents.now.pairs.now (resolved (plain_pairs c.args.aliases.now.pairs.now)) c.args.kind.now
-    (texts c.args.queue.now.items) (deque_len c.args.queue.now) c.copied-place.result
+    (kinds_of c.args.queue.now.items) (deque_len c.args.queue.now) c.copied-place.result
     (subst (IsNext c.args.parents.now.pairs.now c.args.kind.now 0) (sym (c.copied-place.ensures ∙ c.get.ensures.value))
     (c.requires.parents.firsts c.args.kind.now))
 
@@ -55,10 +55,10 @@ loop-place-preserved c =
     let value : c.index-place.result.now ≡ get_or next k None =
     c.index-place.ensures ∙ get_or_default next k c.index-place.result.now None inside in
     rw (c.in_ok-push_back.ensures.items, map-append)
-    (subst (λ place. Walked pairs step c.args.kind.now place (texts c.loop-place.queue.items ++ c.resolve_at.result.now ∷ [])
-    (texts c.args.queue.now.items) (deque_len c.push_back.new.self) (deque_len c.args.queue.now)) (sym value)
-    (walked-more pairs step c.args.kind.now (texts c.args.queue.now.items) (deque_len c.args.queue.now) here c.index-pairs-here.result
-    c.index-pairs-here.is (texts c.loop-place.queue.items) c.resolve_at.result.now (deque_len c.loop-place.queue)
+    (subst (λ place. Walked pairs step c.args.kind.now place (kinds_of c.loop-place.queue.items ++ c.resolve_at.result.now ∷ [])
+    (kinds_of c.args.queue.now.items) (deque_len c.push_back.new.self) (deque_len c.args.queue.now)) (sym value)
+    (walked-more pairs step c.args.kind.now (kinds_of c.args.queue.now.items) (deque_len c.args.queue.now) here c.index-pairs-here.result
+    c.index-pairs-here.is (kinds_of c.loop-place.queue.items) c.resolve_at.result.now (deque_len c.loop-place.queue)
     (deque_len c.push_back.new.self) (place_in c.args.parents.now.first) next k at c.requires.parents size
     (c.resolve_at.ensures ∙ ap step c.bytes.ensures.text) (omega (arith, c.in_ok-push_back.ensures.len))))
 
@@ -66,10 +66,10 @@ pub returns-clause-queue : goal.returns-clause-queue
 returns-clause-queue c =
     let at = rw c.in_default.is at c.loop-place.invariant in
     (walked-all c.args.parents.now.pairs.now (resolved (plain_pairs c.args.aliases.now.pairs.now)) c.args.kind.now
-    (texts c.args.queue.now.items) (deque_len c.args.queue.now) (texts c.loop-place.queue.items) (deque_len c.loop-place.queue) at).0
+    (kinds_of c.args.queue.now.items) (deque_len c.args.queue.now) (kinds_of c.loop-place.queue.items) (deque_len c.loop-place.queue) at).0
 
 pub returns-clause-longer : goal.returns-clause-longer
 returns-clause-longer c =
     let at = rw c.in_default.is at c.loop-place.invariant in
     (walked-all c.args.parents.now.pairs.now (resolved (plain_pairs c.args.aliases.now.pairs.now)) c.args.kind.now
-    (texts c.args.queue.now.items) (deque_len c.args.queue.now) (texts c.loop-place.queue.items) (deque_len c.loop-place.queue) at).1
+    (kinds_of c.args.queue.now.items) (deque_len c.args.queue.now) (kinds_of c.loop-place.queue.items) (deque_len c.loop-place.queue) at).1

@@ -4,7 +4,7 @@ use Rattle.mime_base.specs.Cache.Bytes.{field}
 use Rattle.mime_base.specs.Database.{pairs_of}
 use Rattle.mime_view.specs.Parents.{is_marked}
 use Rattle.mime_view.specs.declared.budget.Budget.{Budget}
-use Rattle.mime_lookup.specs.Ancestry.{texts}
+use Rattle.mime_lookup.specs.Ancestry.{kinds_of}
 use Rattle.mime_lookup.proofs.PairsLeft.{asked_falls, due_left}
 use Rattle.mime_lookup.proofs.ParentSteps.{asked, came, expanded_by}
 use Rattle.mime_lookup.proofs.cached.ancestry.expand.Goals as goal
@@ -24,8 +24,8 @@ returns-in_default-clause-expanded c = λ b spells.
     c.in_ok-found.found (c.in_ok-found.ensures.answer spells.offsets b.parents spells.header spells.parents)
     c.in_ok-found.ensures.read c.in_ok-found.ensures.marked in
     expanded_by (pairs_of b) c.args.kind.now (is_marked c.args.cache.now at c.args.marks.now)
-    (is_marked c.args.cache.now at c.parents_of.new.marks) [] (texts c.args.queue.now.items) (texts c.args.queue.now.items)
-    (rw (ap came c.in_default.is) at is) (sym (append-nil (texts c.args.queue.now.items)))
+    (is_marked c.args.cache.now at c.parents_of.new.marks) [] (kinds_of c.args.queue.now.items) (kinds_of c.args.queue.now.items)
+    (rw (ap came c.in_default.is) at is) (sym (append-nil (kinds_of c.args.queue.now.items)))
 
 pub returns-clause-expanded : goal.returns-clause-expanded
 returns-clause-expanded c = λ b spells.
@@ -36,8 +36,8 @@ returns-clause-expanded c = λ b spells.
     let given = rw (ap came c.in-Some.is, sym c.as_slice.ensures) at is in
     on_ok_weaker c.push_resolved.result
     (λ grown. expanded_by (pairs_of b) c.args.kind.now (is_marked c.args.cache.now at c.args.marks.now)
-    (is_marked c.args.cache.now at c.parents_of.new.marks) (texts c.as_slice.result.now) (texts c.args.queue.now.items)
-    (texts c.push_resolved.new.queue.items) given grown)
+    (is_marked c.args.cache.now at c.parents_of.new.marks) (kinds_of c.as_slice.result.now) (kinds_of c.args.queue.now.items)
+    (kinds_of c.push_resolved.new.queue.items) given grown)
     (c.push_resolved.ensures.queue b spells)
 
 pub returns-clause-need : goal.returns-clause-need

@@ -2,7 +2,7 @@ use Rattle.std.proofs.Common.{◌+◌, ◌*◌, ◌≤◌, List, ℕ, drop, leng
 use Rattle.mime_base.specs.Cache.Bytes.{field}
 use Rattle.mime_base.specs.Database.{PlainDatabase, pairs_of}
 use Rattle.mime_view.specs.Parents.{is_marked}
-use Rattle.mime_lookup.specs.Ancestry.{NoneLeadsTo, texts, unmarked}
+use Rattle.mime_lookup.specs.Ancestry.{NoneLeadsTo, kinds_of, unmarked}
 use Rattle.mime_lookup.specs.Choice.{IsFirst}
 use Rattle.mime_lookup.specs.Costs.{Costs}
 use Rattle.mime_lookup.specs.Searching.{search_cost}
@@ -14,8 +14,8 @@ invariant-loop-kind l = record {
   settled : (b : PlainDatabase) → SpellsPairs l.cache b →
       NoneLeadsTo (is_marked l.cache (field l.cache 0 2) l.marks) (pairs_of b) l.base;
   rest : (b : PlainDatabase) → SpellsPairs l.cache b → (answer : List ℕ) →
-      IsFirst (pairs_of b) l.base l.default (texts (drop l.kind-index l.kinds)) answer →
-      IsFirst (pairs_of b) l.base l.default (texts l.kinds) answer;
+      IsFirst (pairs_of b) l.base l.default (kinds_of (drop l.kind-index l.kinds)) answer →
+      IsFirst (pairs_of b) l.base l.default (kinds_of l.kinds) answer;
   owed : (b : PlainDatabase) → SpellsPairs l.cache b →
       unmarked b.parents (is_marked l.cache (field l.cache 0 2) l.marks) + l.fn.budget.records
       ≤ length b.parents + l.budget.records;

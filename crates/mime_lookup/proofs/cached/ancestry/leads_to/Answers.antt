@@ -2,7 +2,7 @@ use Rattle.std.proofs.Common.{refl, sym, true≢false, arith, ◌∙◌}
 use Rattle.mime_base.specs.Cache.Bytes.{field}
 use Rattle.mime_base.specs.Database.{pairs_of}
 use Rattle.mime_view.specs.Parents.{is_marked}
-use Rattle.mime_lookup.specs.Ancestry.{texts}
+use Rattle.mime_lookup.specs.Ancestry.{kinds_of}
 use Rattle.mime_lookup.proofs.Queues.{none_queued}
 use Rattle.mime_lookup.proofs.Searches.{searched_all, searched_found, searched_more}
 use Rattle.mime_lookup.proofs.cached.ancestry.leads_to.Goals as goal
@@ -11,7 +11,7 @@ pub returns-then-is_by_itself-clause-answer : goal.returns-then-is_by_itself-cla
 returns-then-is_by_itself-clause-answer c = λ b spells none. (
   (λ _. searched_found (pairs_of b) c.args.base.now c.args.kind.now
       (is_marked c.args.cache.now (field c.args.cache.now 0 2) c.loop-here.marks) c.in-Some.here.now
-      (texts c.pop_front.new.self.items)
+      (kinds_of c.pop_front.new.self.items)
       (rw c.in-Some.ensures.items at (c.loop-here.invariant.searched b spells none))
       (sym c.is_by_itself.ensures.answer ∙ c.if-is_by_itself.true)),
   (λ _. refl),
@@ -23,7 +23,7 @@ loop-here-preserved c = record {
       searched_more (pairs_of b) c.args.base.now c.args.kind.now
       (is_marked c.args.cache.now (field c.args.cache.now 0 2) c.loop-here.marks)
       (is_marked c.args.cache.now (field c.args.cache.now 0 2) c.expand.new.marks) c.in-Some.here.now
-      (texts c.pop_front.new.self.items) (texts c.expand.new.queue.items)
+      (kinds_of c.pop_front.new.self.items) (kinds_of c.expand.new.queue.items)
       (rw c.in-Some.ensures.items at (c.loop-here.invariant.searched b spells none))
       (sym c.is_by_itself.ensures.answer ∙ c.if-is_by_itself.false)
       (c.in_ok-expand.ensures.expanded b spells);

@@ -4,7 +4,7 @@ use Rattle.mime_base.specs.Cache.Bytes.{field}
 use Rattle.mime_base.specs.Database.{PlainDatabase, pairs_of}
 use Rattle.mime_base.specs.Meter.{raised}
 use Rattle.mime_view.specs.Parents.{is_marked}
-use Rattle.mime_lookup.specs.Ancestry.{NoneLeadsTo, texts, unmarked}
+use Rattle.mime_lookup.specs.Ancestry.{NoneLeadsTo, kinds_of, unmarked}
 use Rattle.mime_lookup.specs.Searching.{search_cost, step_cost}
 use Rattle.mime_lookup.specs.Spelling.{SpellsPairs}
 use Rattle.mime_lookup.proofs.Searches.{Searched}
@@ -14,7 +14,7 @@ abbrev pub invariant-loop-here : goal.invariant-loop-here
 invariant-loop-here l = record {
   searched : (b : PlainDatabase) → SpellsPairs l.cache b →
       NoneLeadsTo (is_marked l.cache (field l.cache 0 2) l.fn.marks) (pairs_of b) l.base →
-      Searched (pairs_of b) l.base l.kind (is_marked l.cache (field l.cache 0 2) l.marks) (texts l.queue.items);
+      Searched (pairs_of b) l.base l.kind (is_marked l.cache (field l.cache 0 2) l.marks) (kinds_of l.queue.items);
   owed : (b : PlainDatabase) → SpellsPairs l.cache b →
       unmarked b.parents (is_marked l.cache (field l.cache 0 2) l.marks) + l.fn.budget.records
       ≤ unmarked b.parents (is_marked l.cache (field l.cache 0 2) l.fn.marks) + l.budget.records;

@@ -2,7 +2,7 @@ use Rattle.std.proofs.Common.{◌≡◌, ◌+◌, ◌*◌, ◌≤◌, ◌++◌, 
 use Rattle.std.specs.VecDeque.{deque_len}
 use Rattle.mime_base.specs.Database.{PlainDatabase}
 use Rattle.mime_base.specs.Database.Subclass.{resolved}
-use Rattle.mime_lookup.specs.Ancestry.{texts}
+use Rattle.mime_lookup.specs.Ancestry.{kinds_of}
 use Rattle.mime_lookup.specs.Searching.{step_cost}
 use Rattle.mime_lookup.specs.Spelling.{SpellsPairs}
 use Rattle.mime_lookup.proofs.cached.ancestry.push_resolved.Given as goal
@@ -10,7 +10,7 @@ use Rattle.mime_lookup.proofs.cached.ancestry.push_resolved.Given as goal
 abbrev pub invariant-loop-kind : goal.invariant-loop-kind
 invariant-loop-kind l = record {
   queue : (b : PlainDatabase) → SpellsPairs l.cache b →
-      texts l.queue.items ≡ texts l.fn.queue.items ++ map (resolved b.aliases) (texts (take l.kind-index l.kinds));
+      kinds_of l.queue.items ≡ kinds_of l.fn.queue.items ++ map (resolved b.aliases) (kinds_of (take l.kind-index l.kinds));
   longer : deque_len l.queue ≡ deque_len l.fn.queue + l.kind-index;
   budget : l.budget ≡ l.fn.budget;
   rises : l.fn.meter.nodes ≤ l.meter.nodes;

@@ -5,8 +5,8 @@ use Rattle.std.proofs.lemmas.Simd.{map-map}
 use Rattle.mime_base.specs.Database.Subclass.{resolved}
 use Rattle.mime_base.specs.Kept.{kept_rules}
 use Rattle.mime_base.specs.declared.database.rule.GlobRule.{GlobRule}
-use Rattle.mime_lookup.specs.Ancestry.{texts}
-use Rattle.mime_lookup.specs.Cached.{IsTextOf}
+use Rattle.mime_lookup.specs.Ancestry.{kinds_of}
+use Rattle.mime_lookup.specs.Cached.{IsCacheText}
 use Rattle.mime_lookup.specs.Choice.{kept}
 use Rattle.mime_lookup.specs.Costs.{glob_cost}
 use Rattle.mime_lookup.proofs.CostLemmas.{costs_kept}
@@ -27,11 +27,11 @@ loop-kind-preserved c = record {
       (c.loop-kind.invariant.answer b spelled);
   text =
       let items = c.as_slice-kind-items.result.now in
-      let is = all_item (IsTextOf c.args.cache.now) items c.loop-kind.kind-index _ c.loop-kind-test.true
+      let is = all_item (IsCacheText c.args.cache.now) items c.loop-kind.kind-index _ c.loop-kind-test.true
       (rw (sym c.as_slice-kind-items.ensures) at c.in_ok-hits.ensures.text) in
-      all_more (IsTextOf c.args.cache.now) c.loop-kind.kinds.items c.push.new.self.items c.in_ok-unalias.field-0
+      all_more (IsCacheText c.args.cache.now) c.loop-kind.kinds.items c.push.new.self.items c.in_ok-unalias.field-0
       c.in_ok-push.ensures.items
-      (⊎_elim (λ same. subst (IsTextOf c.args.cache.now) (sym same) is) (λ text. text) c.in_ok-unalias.ensures.text)
+      (⊎_elim (λ same. subst (IsCacheText c.args.cache.now) (sym same) is) (λ text. text) c.in_ok-unalias.ensures.text)
       c.loop-kind.invariant.text;
   budget = search rules;
   rises = search rules;
@@ -48,7 +48,7 @@ returns-clause-answer c = λ b spelled.
     let hits = c.in_ok-hits.ensures.answer spelled.offsets b.rules spelled.ranks spelled.header spelled.literals spelled.tree
     spelled.globs in
     c.loop-kind.invariant.answer b spelled
-    ∙ ap (λ all. map step (texts all)) (take_all c.loop-kind.kind-index items c.loop-kind-test.false)
+    ∙ ap (λ all. map step (kinds_of all)) (take_all c.loop-kind.kind-index items c.loop-kind-test.false)
     ∙ ap (map step) (c.as_slice-kind-items.ensures ∙ hits)
     ∙ map-map step (λ (rule : GlobRule). rule.kind) (kept_rules b.rules c.args.name.now)
 
