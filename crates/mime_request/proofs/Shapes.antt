@@ -2,28 +2,28 @@
 use Rattle.std.proofs.Common.{codes}
 use Rattle.clap.specs.Walk.{Text}
 use Rattle.clap.specs.Simple.{App, Shape, built_leaf, inherited, marked_built, with_leaf_noted}
-use Rattle.mime_request.specs.CommandLine.{build, icon, is_a, list, mimelook, plain, type_of}
+use Rattle.mime_request.specs.CommandLine.{build_app, icon_app, is_a_app, list_app, mimelook, plain_app, type_app}
 
 abbrev below : App → Shape
 below command = built_leaf (inherited (with_leaf_noted (marked_built mimelook.top)) command.top)
 
 abbrev pub build_shape : Shape
-build_shape = below build
+build_shape = below build_app
 
 abbrev pub plain_shape : Shape
-plain_shape = below plain
+plain_shape = below plain_app
 
 abbrev pub list_shape : Shape
-list_shape = below list
+list_shape = below list_app
 
 abbrev pub is_a_shape : Shape
-is_a_shape = below is_a
+is_a_shape = below is_a_app
 
 abbrev pub icon_shape : Shape
-icon_shape = below icon
+icon_shape = below icon_app
 
 abbrev pub type_shape : Shape
-type_shape = below type_of
+type_shape = below type_app
 
 -- a command over a cache
 pub data OverCache : Type 0 where

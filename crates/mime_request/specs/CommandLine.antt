@@ -67,29 +67,29 @@ abbrev pub base_rule : Rule
 base_rule = record (new_rule (codes "base")) { value_names = 1; required = true }
 
 -- `build -d DIRS -o FILE`
-abbrev pub build : App
-build = with_rule (with_rule (new_app (codes "build")) directories_rule) output_rule
+abbrev pub build_app : App
+build_app = with_rule (with_rule (new_app (codes "build")) directories_rule) output_rule
 
 -- `plain -d DIRS [--name-only] [--magic-first] FILE...`
-abbrev pub plain : App
-plain = with_rule (with_rule (with_rule (with_rule (new_app (codes "plain")) directories_rule)
+abbrev pub plain_app : App
+plain_app = with_rule (with_rule (with_rule (with_rule (new_app (codes "plain")) directories_rule)
     name_only_rule) magic_first_rule) files_rule
 
 -- `list -c CACHE`
-abbrev pub list : App
-list = with_rule (new_app (codes "list")) cache_rule
+abbrev pub list_app : App
+list_app = with_rule (new_app (codes "list")) cache_rule
 
 -- `isa -c CACHE TYPE BASE`
-abbrev pub is_a : App
-is_a = with_rule (with_rule (with_rule (new_app (codes "isa")) cache_rule) kind_rule) base_rule
+abbrev pub is_a_app : App
+is_a_app = with_rule (with_rule (with_rule (new_app (codes "isa")) cache_rule) kind_rule) base_rule
 
 -- `icon -c CACHE TYPE`
-abbrev pub icon : App
-icon = with_rule (with_rule (new_app (codes "icon")) cache_rule) kind_rule
+abbrev pub icon_app : App
+icon_app = with_rule (with_rule (new_app (codes "icon")) cache_rule) kind_rule
 
 -- `type -c CACHE [--name-only] [--cost] [--magic-first] FILE...`
-abbrev pub type_of : App
-type_of = with_rule (with_rule (with_rule (with_rule (with_rule (new_app (codes "type")) cache_rule)
+abbrev pub type_app : App
+type_app = with_rule (with_rule (with_rule (with_rule (with_rule (new_app (codes "type")) cache_rule)
     name_only_rule) cost_rule) magic_first_rule) files_rule
 
 -- `mimelook`, without its own name among the words: it has a version and wants a command
@@ -103,9 +103,9 @@ mimelook_alone = on_top (λ s. record s {
 
 -- `mimelook` with the commands over data directories
 abbrev pub mimelook_of_directories : App
-mimelook_of_directories = with_subcommand (with_subcommand mimelook_alone build.top) plain.top
+mimelook_of_directories = with_subcommand (with_subcommand mimelook_alone build_app.top) plain_app.top
 
 -- `mimelook` with all its commands
 abbrev pub mimelook : App
 mimelook = with_subcommand (with_subcommand (with_subcommand (with_subcommand
-    mimelook_of_directories list.top) is_a.top) icon.top) type_of.top
+    mimelook_of_directories list_app.top) is_a_app.top) icon_app.top) type_app.top

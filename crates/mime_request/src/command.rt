@@ -3,9 +3,10 @@
 ghost use Rattle.std.specs.Prelude.{◌≡◌, IfOk, false};
 ghost use Rattle.clap.specs.Words.{app_of, rule_of};
 ghost use Rattle.clap.specs.declared.builder.command.Command.TheViews.{out-Command};
-ghost use Rattle.mime_request.specs.CommandLine.{base_rule, build, cache_rule, cost_rule, directories_rule, files_rule, icon};
-ghost use Rattle.mime_request.specs.CommandLine.{is_a, kind_rule, list, magic_first_rule, mimelook, mimelook_alone};
-ghost use Rattle.mime_request.specs.CommandLine.{mimelook_of_directories, name_only_rule, output_rule, plain, type_of};
+ghost use Rattle.mime_request.specs.CommandLine.{base_rule, build_app, cache_rule, cost_rule, directories_rule};
+ghost use Rattle.mime_request.specs.CommandLine.{files_rule, icon_app, is_a_app, kind_rule, list_app, magic_first_rule};
+ghost use Rattle.mime_request.specs.CommandLine.{mimelook, mimelook_alone, mimelook_of_directories, name_only_rule};
+ghost use Rattle.mime_request.specs.CommandLine.{output_rule, plain_app, type_app};
 
 mod texts;
 
@@ -122,7 +123,7 @@ fn base<'a>(alloc: Global) -> Arg<'a>
 
 // The command `build`, as it stands below `mimelook`.
 fn build_command<'a>(alloc: Global) -> Result<Command<'a>, AllocError>
-    ensures app { IfOk result (λ c. app_of c ≡ build) }
+    ensures app { IfOk result (λ c. app_of c ≡ build_app) }
     ensures local { IfOk result (λ c. (out-Command c).has_globals ≡ false) }
 {
     let command = with_help(Command::new(alloc, "build"), BUILD);
@@ -133,7 +134,7 @@ fn build_command<'a>(alloc: Global) -> Result<Command<'a>, AllocError>
 
 // The command `plain`, likewise.
 fn plain_command<'a>(alloc: Global) -> Result<Command<'a>, AllocError>
-    ensures app { IfOk result (λ c. app_of c ≡ plain) }
+    ensures app { IfOk result (λ c. app_of c ≡ plain_app) }
     ensures local { IfOk result (λ c. (out-Command c).has_globals ≡ false) }
 {
     let command = with_help(Command::new(alloc, "plain"), PLAIN);
@@ -146,7 +147,7 @@ fn plain_command<'a>(alloc: Global) -> Result<Command<'a>, AllocError>
 
 // The command `list`, likewise.
 fn list_command<'a>(alloc: Global) -> Result<Command<'a>, AllocError>
-    ensures app { IfOk result (λ c. app_of c ≡ list) }
+    ensures app { IfOk result (λ c. app_of c ≡ list_app) }
     ensures local { IfOk result (λ c. (out-Command c).has_globals ≡ false) }
 {
     let command = with_help(Command::new(alloc, "list"), LIST);
@@ -156,7 +157,7 @@ fn list_command<'a>(alloc: Global) -> Result<Command<'a>, AllocError>
 
 // The command `isa`, likewise.
 fn is_a_command<'a>(alloc: Global) -> Result<Command<'a>, AllocError>
-    ensures app { IfOk result (λ c. app_of c ≡ is_a) }
+    ensures app { IfOk result (λ c. app_of c ≡ is_a_app) }
     ensures local { IfOk result (λ c. (out-Command c).has_globals ≡ false) }
 {
     let command = with_help(Command::new(alloc, "isa"), IS_A);
@@ -168,7 +169,7 @@ fn is_a_command<'a>(alloc: Global) -> Result<Command<'a>, AllocError>
 
 // The command `icon`, likewise.
 fn icon_command<'a>(alloc: Global) -> Result<Command<'a>, AllocError>
-    ensures app { IfOk result (λ c. app_of c ≡ icon) }
+    ensures app { IfOk result (λ c. app_of c ≡ icon_app) }
     ensures local { IfOk result (λ c. (out-Command c).has_globals ≡ false) }
 {
     let command = with_help(Command::new(alloc, "icon"), ICON);
@@ -179,7 +180,7 @@ fn icon_command<'a>(alloc: Global) -> Result<Command<'a>, AllocError>
 
 // The command `type`, likewise.
 fn type_command<'a>(alloc: Global) -> Result<Command<'a>, AllocError>
-    ensures app { IfOk result (λ c. app_of c ≡ type_of) }
+    ensures app { IfOk result (λ c. app_of c ≡ type_app) }
     ensures local { IfOk result (λ c. (out-Command c).has_globals ≡ false) }
 {
     let command = with_help(Command::new(alloc, "type"), TYPE);

@@ -15,7 +15,7 @@ use Rattle.mime_lookup.specs.declared.order.Order.{Order}
 use Rattle.mime_lookup.specs.declared.stopped.Cause.TheVariants as cause
 use Rattle.mime_lookup.specs.declared.stopped.Stopped.{Stopped}
 use Rattle.mime_view.specs.declared.fault.CacheFault.{CacheFault}
-use Rattle.mime_tool.specs.Cache.{GivesOrRefuses, IsFaultStop, fault_name}
+use Rattle.mime_tool.specs.Cache.{GivesOrRefuses, IsCacheFaultStop, cache_fault_name}
 use Rattle.mime_tool.specs.Files.{Stored, bytes, closed, nothing, unknown, unreadable}
 use Rattle.mime_tool.specs.Line.{IsNamed, IsTypeLineBy, fits}
 use Rattle.mime_tool.specs.LineSteps.{IsContent, LooksUp}
@@ -61,7 +61,7 @@ module _ {R : Type 0} (remaining : R → Option (List ℕ)) (health : R → Heal
     (file : List ℕ) where
   -- a refusal is the run over a file that was looked up
   refused_run : (f : CacheFault) (text : List ℕ) (name_only : Bool) (stored : Stored) (content : Option R) → fits file ≡ true
-      → RefusesLookup cache f → text ≡ refusal path (fault_name f) → IsContent remaining health name_only stored content
+      → RefusesLookup cache f → text ≡ refusal path (cache_fault_name f) → IsContent remaining health name_only stored content
       → IsTypeLineBy name_only (lookup_by path name_only cost order cache) stored file (stopped text silent)
   refused_run f text true stored content fit refuses is has =
       named (fits file) file _ _ fit (inr (f, refuses, ap (λ (t : List ℕ). stopped t silent) is))
@@ -85,7 +85,7 @@ module _ {R : Type 0} (remaining : R → Option (List ℕ)) (health : R → Heal
       refused_run p.0 (string_bytes m) name_only stored content fit p.1 p.2 has
 
   -- a fault of the cache is the stop of a lookup
-  pub line_refused : (f : CacheFault) (s : Stop) (content : Option R) → IsFaultStop path f s → fits file ≡ true
+  pub line_refused : (f : CacheFault) (s : Stop) (content : Option R) → IsCacheFaultStop path f s → fits file ≡ true
       → IsStop (IsLookUpFault cache) (cause.Cache f)
       → ((b : PlainDatabase) → IsWithinLimits b → Spells cache b → Packed cache b
       → (cause.Cache f ≡ cause.Read) ⊎ (cause.Cache f ≡ cause.OutOfMemory))

@@ -8,7 +8,7 @@ use Rattle.mime_view.specs.declared.fault.CacheFault.{CacheFault}
 use Rattle.mime_view.specs.declared.fault.CacheFault.TheVariants as fault
 use Rattle.mime_lookup.specs.declared.stopped.Cause.{Cause}
 use Rattle.mime_lookup.specs.declared.stopped.Cause.TheVariants as cause
-use Rattle.mime_tool.specs.Cache.{GivesOrRefuses, IsAnsweredOr, IsCacheCommand, IsFaultStop, IsRefused, fault_name}
+use Rattle.mime_tool.specs.Cache.{GivesOrRefuses, IsAnsweredOr, IsCacheCommand, IsCacheFaultStop, IsRefused, cache_fault_name}
 use Rattle.mime_tool.specs.Desk.{Ends, ReadsWhole}
 use Rattle.mime_tool.specs.Files.{IsBytesOf, Stored}
 use Rattle.mime_tool.specs.Finish.{Sinks}
@@ -55,7 +55,7 @@ cache_refused X path IsRefusedFor IsGiven IsAnswered a (stop.Refused m) p =
 module _ (X : Type 0) (path cache : List ℕ) (IsFault : CacheFault → Type 0) (IsAsked : PlainDatabase → Type 0)
     (IsGiven : X → Type 0) where
   -- a fault but for want of memory
-  refused_other : (f : CacheFault) (s : Stop) → f ≢ fault.OutOfMemory → IsRefusal (refusal path (fault_name f)) s → IsFault f
+  refused_other : (f : CacheFault) (s : Stop) → f ≢ fault.OutOfMemory → IsRefusal (refusal path (cache_fault_name f)) s → IsFault f
       → ((b : PlainDatabase) → IsAsked b → Spells cache b → Packed cache b → f ≡ fault.OutOfMemory)
       → GivesOrRefuses {X = X} path (IsRefused cache IsFault IsAsked) IsGiven (Err s)
   refused_other f stop.OutOfMemory other is why need = tt
@@ -64,7 +64,7 @@ module _ (X : Type 0) (path cache : List ℕ) (IsFault : CacheFault → Type 0) 
       (f, record { other = other; why = why; unspelled = λ b asked spells packed. other (need b asked spells packed) }, is)
 
   -- what stops at a fault refuses the cache for it
-  pub refused_for : (f : CacheFault) (s : Stop) → IsFaultStop path f s → IsFault f
+  pub refused_for : (f : CacheFault) (s : Stop) → IsCacheFaultStop path f s → IsFault f
       → ((b : PlainDatabase) → IsAsked b → Spells cache b → Packed cache b → f ≡ fault.OutOfMemory)
       → GivesOrRefuses {X = X} path (IsRefused cache IsFault IsAsked) IsGiven (Err s)
   refused_for fault.OutOfMemory s is why need =
@@ -78,7 +78,7 @@ module _ (X : Type 0) (path cache : List ℕ) (IsFault : CacheFault → Type 0) 
   refused_for fault.TooDeep s is why need = refused_other fault.TooDeep s (λ e. cc) is why need
 
   -- so does what stops for a lookup that reads no content
-  pub stopped_refused : (why : Cause) (s : Stop) → ((f : CacheFault) → why ≡ cause.Cache f → IsFaultStop path f s)
+  pub stopped_refused : (why : Cause) (s : Stop) → ((f : CacheFault) → why ≡ cause.Cache f → IsCacheFaultStop path f s)
       → (why ≡ cause.OutOfMemory → s ≡ stop.OutOfMemory)
       → (why ≡ cause.OutOfMemory) ⊎ ((f : CacheFault) × (why ≡ cause.Cache f) × (f ≢ fault.OutOfMemory) × IsFault f)
       → ((b : PlainDatabase) → IsAsked b → Spells cache b → Packed cache b → why ≡ cause.OutOfMemory)

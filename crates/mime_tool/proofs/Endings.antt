@@ -4,7 +4,7 @@ use Rattle.std.proofs.Common.{is_some, refl, subst, sym}
 use Rattle.mime_tool.specs.Desk.{Ends}
 use Rattle.mime_tool.specs.Finish.{Finishes, IsCut, IsCutAndSaid, Sinks, Writes}
 use Rattle.mime_tool.specs.Run.{Run, out_of_memory, stopped}
-use Rattle.mime_tool.specs.Sink.{Flush, IsHandedOn, Wrote, WroteFront}
+use Rattle.mime_tool.specs.Sink.{Flush, IsHandedOn, Wrote, WroteFront, WroteMessage}
 use Rattle.mime_tool.specs.Stop.{IsFlushed, SaysCut, TellsStop, message}
 use Rattle.mime_tool.specs.declared.stop.Stop.{Stop}
 use Rattle.mime_tool.specs.declared.stop.Stop.TheVariants as stop
@@ -45,30 +45,30 @@ ok_err : (x : ℕ) (s : Stop) → ◌≡◌ {A = Result ℕ Stop} (Ok x) (Err s)
 ok_err x s e = cc
 
 -- a status after the flush is that of the command
-pub finishes_done : (P : List (List ℕ) → Run → Type 0) (files : List (List ℕ)) (a b : Sinks) (o : Option (List ℕ)) (flush : Flush)
+pub finishes_done : (P : List (List ℕ) → Run → Type 0) (files : List (List ℕ)) (capacity : Option ℕ) (a b : Sinks) (o : Option (List ℕ)) (flush : Flush)
     (ended : Result ℕ Stop) (status : ℕ) → Ends P files a b ended → Wrote b.out o []
-    → IsFlushed flush ended (Ok status) → Finishes P files a (record { out = o; err = b.err }) status
-finishes_done P files a b o flush (Ok s) status p kept (inl f) =
+    → IsFlushed flush ended (Ok status) → Finishes P files capacity a (record { out = o; err = b.err }) status
+finishes_done P files capacity a b o flush (Ok s) status p kept (inl f) =
     inl (p.0, p.1, same_ok status s f.1 ∙ p.3, (wrote_kept a.out b.out o p.0.out p.4.0 kept, p.4.1))
-finishes_done P files a b o flush (Ok s) status p kept (inr f) = absurd (ok_err status stop.OutOfMemory f.1)
-finishes_done P files a b o flush (Err s) status p kept f = absurd (ok_err status s f.0)
+finishes_done P files capacity a b o flush (Ok s) status p kept (inr f) = absurd (ok_err status stop.OutOfMemory f.1)
+finishes_done P files capacity a b o flush (Err s) status p kept f = absurd (ok_err status s f.0)
 
 -- memory ran out in a command
-cut_said : (P : List (List ℕ) → Run → Type 0) (files : List (List ℕ)) (a b : Sinks) (o e : Option (List ℕ)) → IsCut P files a b
-    → Wrote b.out o [] → WroteFront b.err e out_of_memory
-    → IsCutAndSaid P files a (record { out = o; err = e })
-cut_said P files a b o e (inl p) kept said =
+cut_said : (P : List (List ℕ) → Run → Type 0) (files : List (List ℕ)) (capacity : Option ℕ) (a b : Sinks) (o e : Option (List ℕ)) → IsCut P files a b
+    → Wrote b.out o [] → WroteMessage capacity b.err e out_of_memory
+    → IsCutAndSaid P files capacity a (record { out = o; err = e })
+cut_said P files capacity a b o e (inl p) kept said =
     (record { out = o; err = b.err }, inl (wrote_kept a.out b.out o [] p.0 kept, p.1), refl, said)
-cut_said P files a b o e (inr p) kept said =
+cut_said P files capacity a b o e (inr p) kept said =
     (record { out = o; err = b.err }, inr (p.0, p.1, (front_kept a.out b.out o p.0.out p.2.0 kept, p.2.1)), refl, said)
 
 -- the message of a refusal was said, or memory ran out
-refused_said : (P : List (List ℕ) → Run → Type 0) (files : List (List ℕ)) (a b : Sinks) (o e : Option (List ℕ)) (text : List ℕ)
+refused_said : (P : List (List ℕ) → Run → Type 0) (files : List (List ℕ)) (capacity : Option ℕ) (a b : Sinks) (o e : Option (List ℕ)) (text : List ℕ)
     (status : ℕ) (run : Run) → P files (stopped text run) → Writes a b run → Wrote b.out o []
-    → ((status ≡ 3) × Wrote b.err e text) ⊎ ((status ≡ 4) × SaysCut b.err e text) → Finishes P files a (record { out = o; err = e }) status
-refused_said P files a b o e text status run is w kept (inl t) =
+    → ((status ≡ 3) × Wrote b.err e text) ⊎ ((status ≡ 4) × SaysCut capacity b.err e text) → Finishes P files capacity a (record { out = o; err = e }) status
+refused_said P files capacity a b o e text status run is w kept (inl t) =
     inl (stopped text run, is, t.0, (wrote_kept a.out b.out o run.out w.0 kept, wrote-append a.err b.err e run.err text w.1 t.1))
-refused_said P files a b o e text status run is w kept (inr t) =
+refused_said P files capacity a b o e text status run is w kept (inr t) =
     let cut : Sinks = record { out = o; err = t.1.0 } in
     inr (
       t.0,
@@ -82,39 +82,39 @@ refused_said P files a b o e text status run is w kept (inr t) =
     )
 
 -- a stop of the command was told
-stop_told : (P : List (List ℕ) → Run → Type 0) (files : List (List ℕ)) (a b : Sinks) (o e : Option (List ℕ)) (s : Stop) (status : ℕ)
+stop_told : (P : List (List ℕ) → Run → Type 0) (files : List (List ℕ)) (capacity : Option ℕ) (a b : Sinks) (o e : Option (List ℕ)) (s : Stop) (status : ℕ)
     → Ends P files a b (Err s) → is_some a.out ≡ true → Wrote b.out o []
-    → TellsStop s b.err e status → Finishes P files a (record { out = o; err = e }) status
-stop_told P files a b o e stop.OutOfMemory status p known kept told = inr (told.0, cut_said P files a b o e p kept told.1)
-stop_told P files a b o e stop.CannotWrite status p known kept told = absurd (unknown_known a.out p known)
-stop_told P files a b o e (stop.Refused m) status p known kept told =
-    refused_said P files a b o e (message (stop.Refused m)) status p.0 p.1 p.2 kept told
+    → TellsStop s capacity b.err e status → Finishes P files capacity a (record { out = o; err = e }) status
+stop_told P files capacity a b o e stop.OutOfMemory status p known kept told = inr (told.0, cut_said P files capacity a b o e p kept told.1)
+stop_told P files capacity a b o e stop.CannotWrite status p known kept told = absurd (unknown_known a.out p known)
+stop_told P files capacity a b o e (stop.Refused m) status p known kept told =
+    refused_said P files capacity a b o e (message (stop.Refused m)) status p.0 p.1 p.2 kept told
 
 -- memory ran out in the flush, after the command was done
-unflushed_told : (P : List (List ℕ) → Run → Type 0) (files : List (List ℕ)) (a b : Sinks) (o e : Option (List ℕ)) (s : ℕ) (status : ℕ)
+unflushed_told : (P : List (List ℕ) → Run → Type 0) (files : List (List ℕ)) (capacity : Option ℕ) (a b : Sinks) (o e : Option (List ℕ)) (s : ℕ) (status : ℕ)
     → Ends P files a b (Ok s) → Wrote b.out o []
-    → TellsStop stop.OutOfMemory b.err e status → Finishes P files a (record { out = o; err = e }) status
-unflushed_told P files a b o e s status p kept told =
-    inr (told.0, cut_said P files a b o e (cut_all P files a b p.0 p.1 (writes_all a b p.0 p.4)) kept told.1)
+    → TellsStop stop.OutOfMemory capacity b.err e status → Finishes P files capacity a (record { out = o; err = e }) status
+unflushed_told P files capacity a b o e s status p kept told =
+    inr (told.0, cut_said P files capacity a b o e (cut_all P files a b p.0 p.1 (writes_all a b p.0 p.4)) kept told.1)
 
 -- a stop after the flush was told
-pub finishes_told : (P : List (List ℕ) → Run → Type 0) (files : List (List ℕ)) (a b : Sinks) (o e : Option (List ℕ)) (flush : Flush)
+pub finishes_told : (P : List (List ℕ) → Run → Type 0) (files : List (List ℕ)) (capacity : Option ℕ) (a b : Sinks) (o e : Option (List ℕ)) (flush : Flush)
     (ended : Result ℕ Stop) (s : Stop) (status : ℕ) → Ends P files a b ended → is_some a.out ≡ true
-    → Wrote b.out o [] → IsFlushed flush ended (Err s) → TellsStop s b.err e status
-    → Finishes P files a (record { out = o; err = e }) status
-finishes_told P files a b o e flush (Ok t) s status p known kept (inl f) told = absurd (ok_err t s (sym f.1))
-finishes_told P files a b o e flush (Ok t) s status p known kept (inr f) told =
-    unflushed_told P files a b o e t status p kept (subst (λ (x : Stop). TellsStop x b.err e status) (same_err s stop.OutOfMemory f.1) told)
-finishes_told P files a b o e flush (Err t) s status p known kept f told =
-    stop_told P files a b o e t status p known kept (subst (λ (x : Stop). TellsStop x b.err e status) (same_err s t f.0) told)
+    → Wrote b.out o [] → IsFlushed flush ended (Err s) → TellsStop s capacity b.err e status
+    → Finishes P files capacity a (record { out = o; err = e }) status
+finishes_told P files capacity a b o e flush (Ok t) s status p known kept (inl f) told = absurd (ok_err t s (sym f.1))
+finishes_told P files capacity a b o e flush (Ok t) s status p known kept (inr f) told =
+    unflushed_told P files capacity a b o e t status p kept (subst (λ (x : Stop). TellsStop x capacity b.err e status) (same_err s stop.OutOfMemory f.1) told)
+finishes_told P files capacity a b o e flush (Err t) s status p known kept f told =
+    stop_told P files capacity a b o e t status p known kept (subst (λ (x : Stop). TellsStop x capacity b.err e status) (same_err s t f.0) told)
 
 -- a stop was told with status 3 or 4
-told_status : (s : Stop) (old new : Option (List ℕ)) (status : ℕ) → TellsStop s old new status → 3 ≤ status
-told_status stop.OutOfMemory old new status p = let x = p.0 in omega arith
-told_status stop.CannotWrite old new status (inl p) = let x = p.0 in omega arith
-told_status stop.CannotWrite old new status (inr p) = let x = p.0 in omega arith
-told_status (stop.Refused m) old new status (inl p) = let x = p.0 in omega arith
-told_status (stop.Refused m) old new status (inr p) = let x = p.0 in omega arith
+told_status : (s : Stop) (capacity : Option ℕ) (old new : Option (List ℕ)) (status : ℕ) → TellsStop s capacity old new status → 3 ≤ status
+told_status stop.OutOfMemory capacity old new status p = let x = p.0 in omega arith
+told_status stop.CannotWrite capacity old new status (inl p) = let x = p.0 in omega arith
+told_status stop.CannotWrite capacity old new status (inr p) = let x = p.0 in omega arith
+told_status (stop.Refused m) capacity old new status (inl p) = let x = p.0 in omega arith
+told_status (stop.Refused m) capacity old new status (inr p) = let x = p.0 in omega arith
 
 -- the output was handed on where no stop is left
 pub handed_on : (flush : Flush) (ended : Result ℕ Stop) (s status : ℕ) → IsFlushed flush ended (Ok s) → IsHandedOn status flush
@@ -123,9 +123,9 @@ handed_on flush (Ok t) s status (inr f) = absurd (ok_err s stop.OutOfMemory f.1)
 handed_on flush (Err t) s status f = absurd (ok_err s t f.0)
 
 -- it was, or memory ran out in that, where a stop was told
-pub handed_on_told : (flush : Flush) (ended : Result ℕ Stop) (s : Stop) (old new : Option (List ℕ)) (status : ℕ)
-    → IsFlushed flush ended (Err s) → TellsStop s old new status → IsHandedOn status flush
-handed_on_told flush (Ok t) s old new status (inl f) told = absurd (ok_err t s (sym f.1))
-handed_on_told flush (Ok t) s old new status (inr f) told = inr (f.0, told_status s old new status told)
-handed_on_told flush (Err t) s old new status (f, inl g) told = inl g
-handed_on_told flush (Err t) s old new status (f, inr g) told = inr (g, told_status s old new status told)
+pub handed_on_told : (flush : Flush) (ended : Result ℕ Stop) (s : Stop) (capacity : Option ℕ) (old new : Option (List ℕ)) (status : ℕ)
+    → IsFlushed flush ended (Err s) → TellsStop s capacity old new status → IsHandedOn status flush
+handed_on_told flush (Ok t) s capacity old new status (inl f) told = absurd (ok_err t s (sym f.1))
+handed_on_told flush (Ok t) s capacity old new status (inr f) told = inr (f.0, told_status s capacity old new status told)
+handed_on_told flush (Err t) s capacity old new status (f, inl g) told = inl g
+handed_on_told flush (Err t) s capacity old new status (f, inr g) told = inr (g, told_status s capacity old new status told)

@@ -17,6 +17,7 @@ pub mod Lines
 pub mod ListedRules
 pub mod Loads
 pub mod MagicFiles
+pub mod Messages
 pub mod Programs
 pub mod Runs
 pub mod Sinks
@@ -24,6 +25,7 @@ pub mod Spelled
 pub mod Texts
 pub mod AnswersFrom
 pub mod AnswersOver
+pub mod ContentReaders
 pub mod SaidDatabases
 pub mod SaidDirs
 pub mod SaidTexts

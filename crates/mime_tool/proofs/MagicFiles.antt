@@ -9,7 +9,7 @@ use Rattle.mime_text.specs.declared.magic.fault.MagicFault.{MagicFault}
 use Rattle.mime_text.specs.declared.magic.fault.MagicFault.TheVariants as fault
 use Rattle.mime_text.specs.declared.magic.file.MagicFile.{MagicFile}
 use Rattle.mime_text.proofs.MagicLemmas.Laws.{spells_or_fails}
-use Rattle.mime_tool.specs.Directories.{IsFaultStop, IsMagicAt, IsMagicOrFault, IsTextAt, faulty, plain_magic}
+use Rattle.mime_tool.specs.Directories.{IsMagicFaultStop, IsMagicAt, IsMagicOrFault, IsTextAt, faulty, plain_magic}
 use Rattle.mime_tool.specs.Files.{Stored}
 use Rattle.mime_tool.specs.Finish.{Sinks}
 use Rattle.mime_tool.specs.Loading.{Loads}
@@ -43,7 +43,7 @@ magic_parsed path text s file flat_sections spells is =
     ([], ((flat_sections, spells, is.sections, is.deleted), refl), writes_nothing s)
 
 -- the stop at a fault is a refusal, or memory ran out
-fault_stops : (path : List ℕ) (f : MagicFault) (s : Stop) → IsFaultStop path f s → (s ≡ stop.OutOfMemory) ⊎ IsRefusal (faulty path f) s
+fault_stops : (path : List ℕ) (f : MagicFault) (s : Stop) → IsMagicFaultStop path f s → (s ≡ stop.OutOfMemory) ⊎ IsRefusal (faulty path f) s
 fault_stops path (fault.Malformed kind offset) s p = inr p
 fault_stops path fault.OutOfMemory s p = inl p
 
@@ -63,8 +63,8 @@ refused path text f sinks stop.CannotWrite is (inr p) = absurd p
 refused path text f sinks (stop.Refused m) is (inr p) = ([], (f, is, p), writes_nothing sinks)
 
 -- what wasn't parsed has a fault, or memory ran out
-pub magic_refused : (path text : List ℕ) (f : MagicFault) (sinks : Sinks) (s : Stop) → IsFaultOf text f → IsFaultStop path f s
+pub magic_refused : (path text : List ℕ) (f : MagicFault) (sinks : Sinks) (s : Stop) → IsFaultOf text f → IsMagicFaultStop path f s
     → Loads plain_magic (IsMagicOrFault path text) sinks sinks (Err s)
 magic_refused path text f sinks s (inl memory) p =
-    refused_memory path text sinks s (subst (λ (x : MagicFault). IsFaultStop path x s) memory p)
+    refused_memory path text sinks s (subst (λ (x : MagicFault). IsMagicFaultStop path x s) memory p)
 magic_refused path text f sinks s (inr is) p = refused path text f sinks s is (fault_stops path f s p)

@@ -1,5 +1,5 @@
 -- From the run of a command to the run of the program.
-use Rattle.std.proofs.Common.{◌≡◌, ◌≢◌, ◌∙◌, ℕ, Bool, List, [], Result, Ok, Err, ap, inl, inr, subst}
+use Rattle.std.proofs.Common.{◌≡◌, ◌≢◌, ◌∙◌, ℕ, Bool, List, [], Option, Result, Ok, Err, ap, inl, inr, subst}
 use Rattle.clap.specs.Values.{kind_of}
 use Rattle.clap.specs.declared.error.Error.{Error}
 use Rattle.clap.specs.declared.error.kind.ErrorKind.{ErrorKind}
@@ -85,9 +85,9 @@ shown_text k help text a b r other is p =
     (λ fs run q. (other, (text, q ∙ ap (λ (h : Bool). shown h text) is))) p
 
 -- the run of words that ask for this
-pub asked_finishes : (writes : List ℕ → List ℕ → Writing) (stored after : List ℕ → Stored) (words : List (List ℕ)) (a b : Sinks)
-    (status : ℕ) (q : PlainRequest) → meaning_of words ≡ asks q
-    → Finishes (IsAnswer writes stored after (meaning_of words)) (files_of (meaning_of words)) a b status
-    → Finishes (IsAskedRun writes stored after q) (asked_files q) a b status
-asked_finishes writes stored after words a b status q is p =
-    subst (λ (m : Meaning). Finishes (IsAnswer writes stored after m) (files_of m) a b status) is p
+pub asked_finishes : (writes : List ℕ → List ℕ → Writing) (stored after : List ℕ → Stored) (words : List (List ℕ))
+    (capacity : Option ℕ) (a b : Sinks) (status : ℕ) (q : PlainRequest) → meaning_of words ≡ asks q
+    → Finishes (IsAnswer writes stored after (meaning_of words)) (files_of (meaning_of words)) capacity a b status
+    → Finishes (IsAskedRun writes stored after q) (asked_files q) capacity a b status
+asked_finishes writes stored after words capacity a b status q is p =
+    subst (λ (m : Meaning). Finishes (IsAnswer writes stored after m) (files_of m) capacity a b status) is p

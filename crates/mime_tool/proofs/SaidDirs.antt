@@ -10,7 +10,6 @@ use Rattle.mime_text.specs.declared.merging.DirFiles.{DirFiles}
 use Rattle.mime_text.proofs.MagicLemmas.Laws.{no_fault}
 use Rattle.mime_tool.specs.FromTexts.{FirstRefused, IsFaultIn, IsFaultOfDirs, SayDirs, SaysDir}
 use Rattle.mime_tool.specs.declared.from_texts.AnswerFault.{AnswerFault}
-use Rattle.mime_tool.specs.declared.from_texts.AnswerFault.TheVariants as fault
 use Rattle.mime_tool.specs.declared.from_texts.DirBytes.{DirBytes}
 
 -- one more directory

@@ -12,20 +12,20 @@ use Rattle.mime_tool.specs.declared.stop.Stop.{Stop}
 use Rattle.mime_tool.specs.declared.stop.Stop.TheVariants as stop
 
 -- what the message on a fault calls it
-abbrev pub fault_name : CacheFault → List ℕ
-fault_name fault.Truncated = codes "truncated"
-fault_name (fault.Version major minor) = codes "version " ++ (decimal major ++ (codes "." ++ decimal minor))
-fault_name fault.TooLarge = codes "too large"
-fault_name (fault.OutOfRange at) = codes "out of range at " ++ decimal at
-fault_name (fault.LongText at) = codes "long text at " ++ decimal at
-fault_name fault.Spent = codes "budget spent"
-fault_name fault.TooDeep = codes "too deep"
-fault_name fault.OutOfMemory = codes "out of memory"
+abbrev pub cache_fault_name : CacheFault → List ℕ
+cache_fault_name fault.Truncated = codes "truncated"
+cache_fault_name (fault.Version major minor) = codes "version " ++ (decimal major ++ (codes "." ++ decimal minor))
+cache_fault_name fault.TooLarge = codes "too large"
+cache_fault_name (fault.OutOfRange at) = codes "out of range at " ++ decimal at
+cache_fault_name (fault.LongText at) = codes "long text at " ++ decimal at
+cache_fault_name fault.Spent = codes "budget spent"
+cache_fault_name fault.TooDeep = codes "too deep"
+cache_fault_name fault.OutOfMemory = codes "out of memory"
 
 -- what stops at a fault of the cache at this path: the message on it, or that memory ran out
-abbrev pub IsFaultStop : List ℕ → CacheFault → Stop → Type 0
-IsFaultStop path fault.OutOfMemory s = s ≡ stop.OutOfMemory
-IsFaultStop path f s = IsRefusal (refusal path (fault_name f)) s
+abbrev pub IsCacheFaultStop : List ℕ → CacheFault → Stop → Type 0
+IsCacheFaultStop path fault.OutOfMemory s = s ≡ stop.OutOfMemory
+IsCacheFaultStop path f s = IsRefusal (refusal path (cache_fault_name f)) s
 
 -- a fault for which a cache gives no answer: IsFault says why, and no cache that spells what is asked for and is packed has it
 pub record IsRefused (cache : List ℕ) (IsFault : CacheFault → Type 0) (IsAsked : PlainDatabase → Type 0)
@@ -37,13 +37,13 @@ pub record IsRefused (cache : List ℕ) (IsFault : CacheFault → Type 0) (IsAsk
 -- the run over a cache, up to the first fault: it is answered, or refused
 abbrev pub IsAnsweredOr : List ℕ → (CacheFault → Type 0) → (Run → Type 0) → Run → Type 0
 IsAnsweredOr path IsRefusedFor IsAnswered run =
-    IsAnswered run ⊎ ((f : CacheFault) × IsRefusedFor f × (run ≡ stopped (refusal path (fault_name f)) silent))
+    IsAnswered run ⊎ ((f : CacheFault) × IsRefusedFor f × (run ≡ stopped (refusal path (cache_fault_name f)) silent))
 
 -- something is given by the cache at this path, or it is refused, unless memory ran out
 abbrev pub GivesOrRefuses : {X : Type 0} → List ℕ → (CacheFault → Type 0) → (X → Type 0) → Result X Stop → Type 0
 GivesOrRefuses path IsRefusedFor IsGiven (Ok x) = IsGiven x
 GivesOrRefuses path IsRefusedFor IsGiven (Err (stop.Refused text)) =
-    (f : CacheFault) × IsRefusedFor f × (string_bytes text ≡ refusal path (fault_name f))
+    (f : CacheFault) × IsRefusedFor f × (string_bytes text ≡ refusal path (cache_fault_name f))
 GivesOrRefuses path IsRefusedFor IsGiven (Err stop.CannotWrite) = ⊥
 GivesOrRefuses path IsRefusedFor IsGiven (Err stop.OutOfMemory) = Unit {0}
 

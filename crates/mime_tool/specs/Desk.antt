@@ -9,10 +9,11 @@ use Rattle.mime_tool.specs.Stop.{message}
 use Rattle.mime_tool.specs.declared.stop.Stop.{Stop}
 use Rattle.mime_tool.specs.declared.stop.Stop.TheVariants as stop
 
--- what no part of the program changes: which references a desk has, and what is known of replacing its files
+-- what no part of the program changes: a desk's references, what is known of replacing files, and what standard error can hold
 pub record Setting : Type 0 where
   pub places : ℕ × ℕ × ℕ
   pub writes : List ℕ → List ℕ → Writing
+  pub capacity : Option ℕ
 
 -- what is known of a desk: what is stored, its setting, and what the sinks hold
 pub record State : Type 0 where

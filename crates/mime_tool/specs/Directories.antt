@@ -75,14 +75,14 @@ AreIcons text icons = icons ≡ plain_icons (icons_in text)
 -- ---- the file magic
 
 -- what the message on a fault calls it
-abbrev pub fault_name : MagicFaultKind → List ℕ
-fault_name kind.NoHeader = codes "no header"
-fault_name kind.Truncated = codes "truncated"
-fault_name kind.BadSection = codes "bad section"
-fault_name kind.BadNumber = codes "bad number"
-fault_name kind.BadWord = codes "bad word"
-fault_name kind.BadIndent = codes "bad indent"
-fault_name kind.TooDeep = codes "too deep"
+abbrev pub magic_fault_name : MagicFaultKind → List ℕ
+magic_fault_name kind.NoHeader = codes "no header"
+magic_fault_name kind.Truncated = codes "truncated"
+magic_fault_name kind.BadSection = codes "bad section"
+magic_fault_name kind.BadNumber = codes "bad number"
+magic_fault_name kind.BadWord = codes "bad word"
+magic_fault_name kind.BadIndent = codes "bad indent"
+magic_fault_name kind.TooDeep = codes "too deep"
 
 -- the message on a fault of this name at this offset
 abbrev pub faulty_at : List ℕ → List ℕ → ℕ → List ℕ
@@ -91,13 +91,13 @@ faulty_at path name at =
 
 -- the message on the first fault of a text of magic, which lies at this path
 abbrev pub faulty : List ℕ → MagicFault → List ℕ
-faulty path (fault.Malformed kind offset) = faulty_at path (fault_name kind) offset
+faulty path (fault.Malformed kind offset) = faulty_at path (magic_fault_name kind) offset
 faulty path fault.OutOfMemory = []
 
 -- what stops at a fault: its message, or that memory ran out
-abbrev pub IsFaultStop : List ℕ → MagicFault → Stop → Type 0
-IsFaultStop path (fault.Malformed kind offset) s = IsRefusal (faulty_at path (fault_name kind) offset) s
-IsFaultStop path fault.OutOfMemory s = s ≡ stop.OutOfMemory
+abbrev pub IsMagicFaultStop : List ℕ → MagicFault → Stop → Type 0
+IsMagicFaultStop path (fault.Malformed kind offset) s = IsRefusal (faulty_at path (magic_fault_name kind) offset) s
+IsMagicFaultStop path fault.OutOfMemory s = s ≡ stop.OutOfMemory
 
 -- a file magic of the code
 abbrev pub plain_magic : MagicFile → List PlainSection × List (List ℕ)

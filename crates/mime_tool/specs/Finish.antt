@@ -1,7 +1,7 @@
 -- How a run comes to its end.
 use Rattle.std.specs.Prelude.{◌≡◌, ◌⊎◌, ℕ, List, ◌++◌, Option}
 use Rattle.mime_tool.specs.Run.{Run, out_of_memory, silent}
-use Rattle.mime_tool.specs.Sink.{Wrote, WroteFront}
+use Rattle.mime_tool.specs.Sink.{Wrote, WroteFront, WroteMessage}
 
 -- both sinks, by the bytes that they hold where those are known
 pub record Sinks : Type 0 where
@@ -33,12 +33,12 @@ abbrev pub IsDone : (List (List ℕ) → Run → Type 0) → List (List ℕ) →
 IsDone IsRun files old new status =
     (run : Run) × IsRun files run × (status ≡ run.status) × Writes old new run
 
--- the run was cut short, and after it stands the message of that or a front of it
-abbrev pub IsCutAndSaid : (List (List ℕ) → Run → Type 0) → List (List ℕ) → Sinks → Sinks → Type 0
-IsCutAndSaid IsRun files old new =
-    (cut : Sinks) × IsCut IsRun files old cut × (new.out ≡ cut.out) × WroteFront cut.err new.err out_of_memory
+-- the run was cut short, and after it stands the message of that, or a front where standard error has no room for it
+abbrev pub IsCutAndSaid : (List (List ℕ) → Run → Type 0) → List (List ℕ) → Option ℕ → Sinks → Sinks → Type 0
+IsCutAndSaid IsRun files capacity old new =
+    (cut : Sinks) × IsCut IsRun files old cut × (new.out ≡ cut.out) × WroteMessage capacity cut.err new.err out_of_memory
 
--- the run is done; or the status is 4, and it was cut short
-abbrev pub Finishes : (List (List ℕ) → Run → Type 0) → List (List ℕ) → Sinks → Sinks → ℕ → Type 0
-Finishes IsRun files old new status =
-    IsDone IsRun files old new status ⊎ ((status ≡ 4) × IsCutAndSaid IsRun files old new)
+-- the run is done; or the status is 4, and it was cut short; capacity is what standard error holds at the most, where it tells
+abbrev pub Finishes : (List (List ℕ) → Run → Type 0) → List (List ℕ) → Option ℕ → Sinks → Sinks → ℕ → Type 0
+Finishes IsRun files capacity old new status =
+    IsDone IsRun files old new status ⊎ ((status ≡ 4) × IsCutAndSaid IsRun files capacity old new)

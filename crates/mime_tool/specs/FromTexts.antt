@@ -1,6 +1,6 @@
 -- What the texts of data directories say, and what an answer from them comes to.
-use Rattle.std.specs.Prelude.{◌≡◌, ◌⊎◌, ◌<◌, ◌≤◌, ℕ, zero, suc, List, [], ◌∷◌, length, Option, Some, None, IfSome}
-use Rattle.std.specs.Prelude.{Result, Ok, Err}
+use Rattle.std.specs.Prelude.{◌≡◌, ◌≢◌, ◌⊎◌, ◌<◌, ◌≤◌, ℕ, zero, suc, Bool, true, false, List, [], ◌∷◌, length, Option, Some, None}
+use Rattle.std.specs.Prelude.{IfSome, Result, Ok, Err, IfErr, OnOk, ⊤}
 use Rattle.mime_base.specs.Database.{PlainDatabase}
 use Rattle.mime_base.specs.Format.Room.{room}
 use Rattle.mime_base.specs.Format.Spells.{cache_limit}
@@ -8,6 +8,7 @@ use Rattle.mime_base.specs.declared.magic.host.Host.{Host}
 use Rattle.mime_base.specs.declared.meter.Meter.{Meter}
 use Rattle.mime_lookup.specs.Bounds.{bytes_max, nodes_max}
 use Rattle.mime_lookup.specs.CheckingOrder.{Chooses, read_of}
+use Rattle.mime_lookup.specs.Content.{Advances, GivesUp, Health, OfReader, Retries, Tally, broken, sound}
 use Rattle.mime_lookup.specs.declared.order.Order.{Order}
 use Rattle.mime_lookup.specs.declared.stopped.Cause.{Cause}
 use Rattle.mime_lookup.specs.declared.stopped.Cause.TheVariants as cause
@@ -86,10 +87,39 @@ abbrev pub ComesOver : PlainDatabase → List ℕ → Option (Option (List ℕ))
 ComesOver b name content host order (Ok answer) = IsAnswer b name content host order answer
 ComesOver b name content host order (Err e) = IsFaultOver b name e
 
+-- where a lookup stopped, it stopped so
+abbrev pub IfStopped : AnswerFault → (Stopped → Type 0) → Type 0
+IfStopped (fault.Lookup stopped) IsSo = IsSo stopped
+IfStopped e IsSo = ⊤
+
+-- a lookup took so many bytes: of a fault before it none, and where memory ran out how many isn't told
+abbrev pub TookBytes : (ℕ → Type 0) → Result OwnedAnswer AnswerFault → Type 0
+TookBytes Took (Ok answer) = Took answer.read
+TookBytes Took (Err (fault.Magic i f)) = Took 0
+TookBytes Took (Err (fault.Store f)) = Took 0
+TookBytes Took (Err (fault.Lookup stopped)) = Took stopped.read
+TookBytes Took (Err fault.OutOfMemory) = (read : ℕ) × Took read
+
+-- what becomes of the content's reader: an answer or a stop takes so many bytes of it, and a stop for a read is its fault
+pub record AsksReader {R : Type 0} (remaining : R → Option (List ℕ)) (tally : R → Option Tally) (health : R → Health)
+    (before after : Option R) (result : Result OwnedAnswer AnswerFault) : Type 0 where
+  pub gives_up : IfErr result (λ e. IfStopped e (λ stopped. stopped.cause ≡ cause.Read →
+      OfReader (λ old new. GivesUp (tally old) (tally new) 1000) ⊥ before after))
+  pub goes : OnOk result (OfReader (λ old new. Retries (tally old) (tally new) 1000) ⊤ before after)
+  pub fails : IfErr result (λ e. IfStopped e (λ stopped. stopped.cause ≡ cause.Read →
+      OfReader (λ old _. health old ≢ sound) ⊥ before after))
+  pub advances : TookBytes
+      (λ read. OfReader (λ old new. Advances (remaining old) (remaining new) read) (read ≡ 0) before after) result
+
+-- a reader whose reads all fail isn't asked where there is an answer, since the globs suffice; and is where a read stops it
+abbrev pub AsksOnly : {R : Type 0} → (R → Health) → Bool → Option R → Option R → Result OwnedAnswer AnswerFault → Type 0
+AsksOnly health suffice before after (Ok answer) = OfReader (λ old _. health old ≡ broken → suffice ≡ true) ⊤ before after
+AsksOnly health suffice before after (Err e) = IfStopped e (λ stopped. stopped.cause ≡ cause.Read → suffice ≡ false)
+
 -- a fault of this magic, unless memory ran out
-abbrev pub IsRefusal : {X : Type 0} → ℕ → MagicFault → Result X AnswerFault → Type 0
-IsRefusal i f (Ok x) = ⊥
-IsRefusal i f (Err e) = (e ≡ fault.Magic i f) ⊎ (e ≡ fault.OutOfMemory)
+abbrev pub IsMagicRefusal : {X : Type 0} → ℕ → MagicFault → Result X AnswerFault → Type 0
+IsMagicRefusal i f (Ok x) = ⊥
+IsMagicRefusal i f (Err e) = (e ≡ fault.Magic i f) ⊎ (e ≡ fault.OutOfMemory)
 
 -- ---- the parts of an answer
 

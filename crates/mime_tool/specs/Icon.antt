@@ -11,8 +11,8 @@ use Rattle.mime_tool.specs.Run.{Run, printed}
 use Rattle.mime_tool.specs.TypeNames.{IsRunOfTypes}
 
 -- `icon: NAME` and `generic: NAME`
-abbrev pub icon_lines : PlainIcons → List ℕ
-icon_lines icons = codes "icon: " ++ (icons.icon ++ (codes "\ngeneric: " ++ (icons.generic ++ codes "\n")))
+abbrev pub printed_icons : PlainIcons → List ℕ
+printed_icons icons = codes "icon: " ++ (icons.icon ++ (codes "\ngeneric: " ++ (icons.generic ++ codes "\n")))
 
 -- the icons of a type: those of the database that the cache spells, where it spells one
 abbrev pub AreIconsOf : List ℕ → List ℕ → PlainIcons → Type 0
@@ -24,7 +24,7 @@ RefusesIcons cache = IsRefused cache (IsIconFault cache) (λ _. ⊤)
 
 -- the icons are printed
 abbrev pub AreIconLines : List ℕ → List ℕ → Run → Type 0
-AreIconLines cache kind run = (icons : PlainIcons) × AreIconsOf cache kind icons × (run ≡ printed (icon_lines icons))
+AreIconLines cache kind run = (icons : PlainIcons) × AreIconsOf cache kind icons × (run ≡ printed (printed_icons icons))
 
 -- the run of `icon` over a cache that lies at this path
 abbrev pub IsIconOver : List ℕ → List ℕ → List ℕ → List (List ℕ) → Run → Type 0

@@ -1,5 +1,5 @@
 -- What sinks hold, and what they handed on.
-use Rattle.std.specs.Prelude.{◌≡◌, ◌⊎◌, ◌≤◌, ℕ, List, ◌++◌, Option, Some, None, Result, Ok, Err}
+use Rattle.std.specs.Prelude.{◌≡◌, ◌⊎◌, ◌≤◌, ℕ, List, ◌++◌, length, Option, Some, None, Result, Ok, Err}
 use Rattle.mime_tool.specs.declared.sink.SinkFault.{SinkFault}
 use Rattle.mime_tool.specs.declared.sink.SinkFault.TheVariants.{Failed, OutOfMemory}
 
@@ -13,6 +13,16 @@ abbrev pub WroteFront : Option (List ℕ) → Option (List ℕ) → List ℕ →
 WroteFront None new bs = Unit {0}
 WroteFront (Some xs) new bs =
     (front : List ℕ) × (rest : List ℕ) × (bs ≡ front ++ rest) × (new ≡ Some (xs ++ front))
+
+-- a known sink that holds so many bytes at the most, where that is told, has room for these
+abbrev pub HasRoom : Option ℕ → Option (List ℕ) → List ℕ → Type 0
+HasRoom None held bs = ⊥
+HasRoom (Some capacity) None bs = ⊥
+HasRoom (Some capacity) (Some xs) bs = length (xs ++ bs) ≤ capacity
+
+-- a message is written, or what it begins with where the sink has no room for all of it
+abbrev pub WroteMessage : Option ℕ → Option (List ℕ) → Option (List ℕ) → List ℕ → Type 0
+WroteMessage capacity old new bs = WroteFront old new bs × (HasRoom capacity old bs → Wrote old new bs)
 
 -- all the bytes are taken, or memory runs out in the middle of them, or the sink isn't known
 abbrev pub IsPut : Option (List ℕ) → Option (List ℕ) → Result (Unit {0}) SinkFault → List ℕ → Type 0

@@ -2,7 +2,7 @@
 use Rattle.std.specs.Prelude.{◌≡◌, ◌⊎◌, ℕ, List, [], Option, Some, Result, Ok, Err, codes, string_bytes}
 use Rattle.mime_base.specs.declared.memory.OutOfMemory.{OutOfMemory as NoMemory}
 use Rattle.mime_tool.specs.Run.{out_of_memory}
-use Rattle.mime_tool.specs.Sink.{Flush, Wrote, WroteFront}
+use Rattle.mime_tool.specs.Sink.{Flush, Wrote, WroteFront, WroteMessage}
 use Rattle.mime_tool.specs.declared.sink.SinkFault.{SinkFault}
 use Rattle.mime_tool.specs.declared.sink.SinkFault.TheVariants as fault
 use Rattle.mime_tool.specs.declared.stop.Stop.{Stop}
@@ -37,13 +37,14 @@ SaysStop stop.OutOfMemory old new (Err _) = new ≡ old
 SaysStop s old new r = Says old new r (message s)
 
 -- memory ran out in the middle of this message; then that is said
-abbrev pub SaysCut : Option (List ℕ) → Option (List ℕ) → List ℕ → Type 0
-SaysCut old new bs = (mid : Option (List ℕ)) × WroteFront old mid bs × WroteFront mid new out_of_memory
+abbrev pub SaysCut : Option ℕ → Option (List ℕ) → Option (List ℕ) → List ℕ → Type 0
+SaysCut capacity old new bs = (mid : Option (List ℕ)) × WroteFront old mid bs × WroteMessage capacity mid new out_of_memory
 
 -- the message is said and the status is 3; or memory ran out, and the status is 4
-abbrev pub TellsStop : Stop → Option (List ℕ) → Option (List ℕ) → ℕ → Type 0
-TellsStop stop.OutOfMemory old new status = (status ≡ 4) × WroteFront old new out_of_memory
-TellsStop s old new status = ((status ≡ 3) × Wrote old new (message s)) ⊎ ((status ≡ 4) × SaysCut old new (message s))
+abbrev pub TellsStop : Stop → Option ℕ → Option (List ℕ) → Option (List ℕ) → ℕ → Type 0
+TellsStop stop.OutOfMemory capacity old new status = (status ≡ 4) × WroteMessage capacity old new out_of_memory
+TellsStop s capacity old new status =
+    ((status ≡ 3) × Wrote old new (message s)) ⊎ ((status ≡ 4) × SaysCut capacity old new (message s))
 
 -- what a run came to is what it came to before the flush, unless memory ran out in that
 abbrev pub IsFlushed : Flush → Result ℕ Stop → Result ℕ Stop → Type 0

@@ -1,7 +1,7 @@
 //! What is said of a CACHE that gives no answer. This project's own.
 
 ghost use Rattle.std.specs.Prelude.{◌≡◌, IfOk, string_bytes};
-ghost use Rattle.mime_tool.specs.Cache.{IsFaultStop, fault_name};
+ghost use Rattle.mime_tool.specs.Cache.{IsCacheFaultStop, cache_fault_name};
 ghost use Rattle.mime_tool.specs.Run.{refusal};
 ghost use Rattle.mime_tool.specs.Stop.{IsRefusal};
 
@@ -12,7 +12,7 @@ use std::alloc::{AllocError, Global};
 
 /// The stop of a fault of the cache at this path.
 pub(crate) fn faulty(alloc: Global, path: &str, fault: CacheFault) -> Stop
-    ensures { IsFaultStop path.now fault result }
+    ensures { IsCacheFaultStop path.now fault result }
 {
     match fault {
         CacheFault::OutOfMemory => Stop::OutOfMemory,
@@ -22,7 +22,7 @@ pub(crate) fn faulty(alloc: Global, path: &str, fault: CacheFault) -> Stop
 
 /// The stop of a lookup that reads no content and stopped for this.
 pub(crate) fn stopped_for(alloc: Global, path: &str, cause: Cause) -> Stop
-    ensures fault { (fault : CacheFault) → cause ≡ Cause.Cache fault → IsFaultStop path.now fault result }
+    ensures fault { (fault : CacheFault) → cause ≡ Cause.Cache fault → IsCacheFaultStop path.now fault result }
     ensures memory { cause ≡ Cause.OutOfMemory → result ≡ Stop.OutOfMemory }
 {
     match cause {
@@ -32,7 +32,7 @@ pub(crate) fn stopped_for(alloc: Global, path: &str, cause: Cause) -> Stop
 }
 
 fn refused(alloc: Global, path: &str, fault: CacheFault) -> Stop
-    ensures { IsRefusal (refusal path.now (fault_name fault)) result }
+    ensures { IsRefusal (refusal path.now (cache_fault_name fault)) result }
 {
     match message_of(alloc, path, fault) {
         Ok(message) => Stop::Refused(message),
@@ -41,7 +41,7 @@ fn refused(alloc: Global, path: &str, fault: CacheFault) -> Stop
 }
 
 fn message_of(alloc: Global, path: &str, fault: CacheFault) -> Result<String, AllocError>
-    ensures { IfOk result (λ message. string_bytes message ≡ refusal path.now (fault_name fault)) }
+    ensures { IfOk result (λ message. string_bytes message ≡ refusal path.now (cache_fault_name fault)) }
 {
     let name = name_of(alloc, fault)?;
     format!(in alloc; "mimelook: {path}: {name}\n")
@@ -49,7 +49,7 @@ fn message_of(alloc: Global, path: &str, fault: CacheFault) -> Result<String, Al
 
 // What the message on a fault calls it.
 fn name_of(alloc: Global, fault: CacheFault) -> Result<String, AllocError>
-    ensures { IfOk result (λ name. string_bytes name ≡ fault_name fault) }
+    ensures { IfOk result (λ name. string_bytes name ≡ cache_fault_name fault) }
 {
     match fault {
         CacheFault::Truncated => format!(in alloc; "truncated"),

@@ -70,6 +70,7 @@ impl<F: Files, O: Sink, E: Sink> Desk for Streams<'_, '_, '_, F, O, E> {
       setting = record {
         places = (desk.files.ghost_name, desk.out.ghost_name, desk.err.ghost_name);
         writes = F.writes desk.files.now;
+        capacity = E.capacity desk.err.now;
       };
       sinks = record { out = O.holds desk.out.now; err = E.holds desk.err.now };
     } };

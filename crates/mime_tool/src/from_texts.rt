@@ -1,17 +1,19 @@
 //! From the bytes of data directories to the type of a file, with nothing stored between.
 
-ghost use Rattle.std.specs.Prelude.{◌≡◌, ◌⊎◌, ◌≤◌, ℕ, List, IfOk, IfErr};
+ghost use Rattle.std.specs.Prelude.{◌≡◌, ◌≢◌, ◌⊎◌, ◌≤◌, ℕ, List, IfOk, IfErr, OnOk, ⊤};
 ghost use Rattle.mime_base.specs.Database.{PlainDatabase, plain_database};
 ghost use Rattle.mime_base.specs.Database.Limits.{IsWithinLimits};
 ghost use Rattle.mime_base.specs.Format.Room.{room};
 ghost use Rattle.mime_base.specs.Format.Spells.{cache_limit};
-ghost use Rattle.mime_lookup.specs.Content.{known_content};
+ghost use Rattle.mime_lookup.specs.CheckingOrder.{globs_suffice};
+ghost use Rattle.mime_lookup.specs.Content.{Advances, GivesUp, OfReader, Retries, known_content, sound};
 ghost use Rattle.mime_text.specs.Merging.{plain_dir, plain_dirs};
 ghost use Rattle.mime_text.specs.declared.magic.fault.MagicFault.{MagicFault};
 ghost use Rattle.mime_tool.specs.Build.{IsCacheOf};
 ghost use Rattle.mime_tool.specs.Directories.{IsMagic, plain_magic};
-ghost use Rattle.mime_tool.specs.FromTexts.{ComesOver, FirstRefused, IsFaultIn, IsFaultOfDirs, IsRefusal, IsStoreFault};
-ghost use Rattle.mime_tool.specs.FromTexts.{SayDatabase, SayDirs, SaysDir, of_stopped, of_store};
+ghost use Rattle.mime_tool.specs.FromTexts.{AsksOnly, AsksReader, ComesOver, FirstRefused, IfStopped, IsFaultIn, IsFaultOfDirs};
+ghost use Rattle.mime_tool.specs.FromTexts.{IsMagicRefusal, IsStoreFault, SayDatabase, SayDirs, SaysDir, TookBytes};
+ghost use Rattle.mime_tool.specs.FromTexts.{of_stopped, of_store};
 ghost use Rattle.mime_tool.specs.declared.from_texts.AnswerFault.TheVariants as faults;
 
 use mime_base::{Counted, Database, Host, Meter, OutOfMemory, database_keeps_limits};
@@ -129,7 +131,8 @@ impl From<Stopped> for AnswerFault {
 /// The files are read and merged, a cache is written in memory, and the lookup goes over its bytes: what
 /// it visits, compares and reads keeps to the bounds of a lookup. Malformed lines are passed over.
 ///
-/// Want of memory is [`AnswerFault::OutOfMemory`], wherever it arose. This project's own.
+/// Want of memory is [`AnswerFault::OutOfMemory`], wherever it arose. A lookup stops for the content only where
+/// there is one and a read of it failed, or a 1,001st interruption came. This project's own.
 pub fn answer<R: Content>(
     alloc: Global,
     dirs: &[DirBytes<'_>],
@@ -142,7 +145,19 @@ pub fn answer<R: Content>(
     ensures accepted { (b : PlainDatabase) → SayDatabase dirs.now b →
         ComesOver b name.now (known_content R.remaining content.old) host order result }
     // Where some isn't.
-    ensures refused { (i : ℕ) (f : MagicFault) → FirstRefused dirs.now i f → IsRefusal i f result }
+    ensures refused { (i : ℕ) (f : MagicFault) → FirstRefused dirs.now i f → IsMagicRefusal i f result }
+
+    // What becomes of the content's reader.
+    ensures gives_up { IfErr result (λ fault. IfStopped fault (λ stopped. stopped.cause ≡ Cause.Read →
+        OfReader (λ before after. GivesUp (R.tally before) (R.tally after) 1000) ⊥ content.old content.new)) }
+    ensures goes { OnOk result (OfReader
+        (λ before after. Retries (R.tally before) (R.tally after) 1000) ⊤ content.old content.new) }
+    ensures fails { IfErr result (λ fault. IfStopped fault (λ stopped. stopped.cause ≡ Cause.Read →
+        OfReader (λ before _. R.health before ≢ sound) ⊥ content.old content.new)) }
+    ensures asked { (b : PlainDatabase) → SayDatabase dirs.now b →
+        AsksOnly R.health (globs_suffice b name.now order) content.old content.new result }
+    ensures advances { TookBytes (λ read. OfReader (λ before after. Advances (R.remaining before) (R.remaining after) read)
+        (read ≡ 0) content.old content.new) result }
 {
     let database = read_database(alloc, dirs)?;
     answer_over(alloc, &database, name, content, host, order)
@@ -211,8 +226,11 @@ fn answer_over<R: Content>(
     host: Host,
     order: Order,
 ) -> Result<OwnedAnswer, AnswerFault>
-    ensures { ComesOver (plain_database database.now) name.now (known_content R.remaining content.old)
+    ensures comes { ComesOver (plain_database database.now) name.now (known_content R.remaining content.old)
         host order result }
+    ensures reader { AsksReader R.remaining R.tally R.health content.old content.new result }
+    ensures asked { AsksOnly R.health (globs_suffice (plain_database database.now) name.now order)
+        content.old content.new result }
 {
     let cache = cache_of(alloc, database)?;
     database_keeps_limits(database);
@@ -237,8 +255,11 @@ fn answer_by<R: Content>(
     host: Host,
     order: Order,
 ) -> Result<OwnedAnswer, AnswerFault>
-    ensures { (b : PlainDatabase) → IsWithinLimits b → IsCacheOf b cache.now → room b ≤ cache_limit →
+    ensures comes { (b : PlainDatabase) → IsWithinLimits b → IsCacheOf b cache.now → room b ≤ cache_limit →
         ComesOver b name.now (known_content R.remaining content.old) host order result }
+    ensures reader { AsksReader R.remaining R.tally R.health content.old content.new result }
+    ensures asked { (b : PlainDatabase) → IsWithinLimits b → IsCacheOf b cache.now →
+        AsksOnly R.health (globs_suffice b name.now order) content.old content.new result }
 {
     let answer = look_up(alloc, Counted::new(cache), name, content, host, order)?;
     let kind = answer.kind.to_vec(alloc)?;

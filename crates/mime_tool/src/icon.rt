@@ -4,7 +4,7 @@ ghost use Rattle.std.specs.Prelude.{◌≡◌, []};
 ghost use Rattle.mime_lookup.specs.Icons.{plain_icons_of};
 ghost use Rattle.mime_tool.specs.Cache.{GivesOrRefuses, IsCacheCommand};
 ghost use Rattle.mime_tool.specs.Desk.{Does, Ends, Works};
-ghost use Rattle.mime_tool.specs.Icon.{AreIconsOf, IsIcon, IsIconOver, RefusesIcons, icon_lines};
+ghost use Rattle.mime_tool.specs.Icon.{AreIconsOf, IsIcon, IsIconOver, RefusesIcons, printed_icons};
 ghost use Rattle.mime_tool.specs.Run.{printed};
 
 use crate::cache::stopped_for;
@@ -57,7 +57,7 @@ fn ask(alloc: Global, path: &str, cache: &[u8], kind: &TypeName) -> Result<Icons
 }
 
 fn print_icons<D: Desk>(desk: &mut D, icon: &[u8], generic: &[u8]) -> Result<(), Stop>
-    ensures { Works (Does (printed (icon_lines (record { icon = icon.now; generic = generic.now }))))
+    ensures { Works (Does (printed (printed_icons (record { icon = icon.now; generic = generic.now }))))
         (D.state desk.old) (D.state desk.new) result }
 {
     desk.print(&[b"icon: ", icon, b"\ngeneric: ", generic, b"\n"])

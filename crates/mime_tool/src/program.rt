@@ -55,7 +55,7 @@ pub fn run<F: Files, O: Sink, E: Sink, S: AsStr>(
         → Finishes (IsAnswer (F.writes files.old) (F.tells files.old) (F.tells files.new)
         (meaning_of (map S.text words.now)))
         (files_of (meaning_of (map S.text words.now)))
-        (record { out = O.holds out.old; err = E.holds err.old })
+        (E.capacity err.old) (record { out = O.holds out.old; err = E.holds err.old })
         (record { out = O.holds out.new; err = E.holds err.new }) result }
 
     // `plain -d DIRS [--name-only] [--magic-first] FILE...`, with no word of the parser of command lines.
@@ -63,7 +63,7 @@ pub fn run<F: Files, O: Sink, E: Sink, S: AsStr>(
         → (dirs : List ℕ) (name_only magic_first : Bool) (names : List (List ℕ))
         → map S.text words.now ≡ plain_words dirs name_only magic_first names → AreUsual dirs names
         → Finishes (IsPlain (F.tells files.old) (parts dirs) name_only magic_first) names
-        (record { out = O.holds out.old; err = E.holds err.old })
+        (E.capacity err.old) (record { out = O.holds out.old; err = E.holds err.old })
         (record { out = O.holds out.new; err = E.holds err.new }) result }
 
     // `build -d DIRS -o FILE`, likewise.
@@ -71,14 +71,14 @@ pub fn run<F: Files, O: Sink, E: Sink, S: AsStr>(
         → (dirs file : List ℕ) → map S.text words.now ≡ build_words dirs file
         → is_option dirs ≡ false → is_option file ≡ false
         → Finishes (IsBuild (parts dirs) file (F.writes files.old) (F.tells files.old) (F.tells files.new)) []
-        (record { out = O.holds out.old; err = E.holds err.old })
+        (E.capacity err.old) (record { out = O.holds out.old; err = E.holds err.old })
         (record { out = O.holds out.new; err = E.holds err.new }) result }
 
     // `list -c CACHE`
     ensures list { is_some (O.holds out.old) ≡ true
         → (cache : List ℕ) → map S.text words.now ≡ list_words cache → is_option cache ≡ false
         → Finishes (IsList (F.tells files.old) cache) []
-        (record { out = O.holds out.old; err = E.holds err.old })
+        (E.capacity err.old) (record { out = O.holds out.old; err = E.holds err.old })
         (record { out = O.holds out.new; err = E.holds err.new }) result }
 
     // `isa -c CACHE TYPE BASE`
@@ -86,7 +86,7 @@ pub fn run<F: Files, O: Sink, E: Sink, S: AsStr>(
         → (cache kind base : List ℕ) → map S.text words.now ≡ is_a_words cache kind base
         → is_option cache ≡ false → is_option kind ≡ false → is_option base ≡ false
         → Finishes (IsIsA (F.tells files.old) cache kind base) []
-        (record { out = O.holds out.old; err = E.holds err.old })
+        (E.capacity err.old) (record { out = O.holds out.old; err = E.holds err.old })
         (record { out = O.holds out.new; err = E.holds err.new }) result }
 
     // `icon -c CACHE TYPE`
@@ -94,7 +94,7 @@ pub fn run<F: Files, O: Sink, E: Sink, S: AsStr>(
         → (cache kind : List ℕ) → map S.text words.now ≡ icon_words cache kind
         → is_option cache ≡ false → is_option kind ≡ false
         → Finishes (IsIcon (F.tells files.old) cache kind) []
-        (record { out = O.holds out.old; err = E.holds err.old })
+        (E.capacity err.old) (record { out = O.holds out.old; err = E.holds err.old })
         (record { out = O.holds out.new; err = E.holds err.new }) result }
 
     // `type -c CACHE [--name-only] [--cost] [--magic-first] FILE...`
@@ -102,7 +102,7 @@ pub fn run<F: Files, O: Sink, E: Sink, S: AsStr>(
         → (cache : List ℕ) (name_only cost magic_first : Bool) (names : List (List ℕ))
         → map S.text words.now ≡ type_words cache name_only cost magic_first names → AreUsual cache names
         → Finishes (IsType (F.tells files.old) cache name_only cost magic_first) names
-        (record { out = O.holds out.old; err = E.holds err.old })
+        (E.capacity err.old) (record { out = O.holds out.old; err = E.holds err.old })
         (record { out = O.holds out.new; err = E.holds err.new }) result }
 
     // What is left stored, however the run ends: all that was, but for what `build` replaces.
@@ -126,7 +126,7 @@ fn finish<F: Files, O: Sink, E: Sink, S: AsStr>(
         → Finishes (IsAnswer (F.writes files.old) (F.tells files.old) (F.tells files.new)
         (meaning_of (map S.text words.now)))
         (files_of (meaning_of (map S.text words.now)))
-        (record { out = O.holds out.old; err = E.holds err.old })
+        (E.capacity err.old) (record { out = O.holds out.old; err = E.holds err.old })
         (record { out = O.holds out.new; err = E.holds err.new }) result }
     ensures leaves { Leaves (meaning_of (map S.text words.now)) (F.tells files.old) (F.tells files.new) }
     ensures flushed { is_some (O.holds out.old) ≡ true → IsHandedOn result (O.flushed out.new) }
@@ -152,6 +152,7 @@ fn perform<F: Files, O: Sink, E: Sink, S: AsStr>(
         (files_of (meaning_of (map S.text words.now)))
         (record { out = O.holds out.old; err = E.holds err.old })
         (record { out = O.holds out.new; err = E.holds err.new }) result }
+    ensures capacity { E.capacity err.new ≡ E.capacity err.old }
     ensures leaves { Leaves (meaning_of (map S.text words.now)) (F.tells files.old) (F.tells files.new) }
 {
     let mut desk = Streams {

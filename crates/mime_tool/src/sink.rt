@@ -1,8 +1,8 @@
 //! Where output goes. This project's own.
 
-ghost use Rattle.std.specs.Prelude.{ℕ, List, Option, Some, None, Ok, []};
+ghost use Rattle.std.specs.Prelude.{◌≡◌, ℕ, List, Option, Some, None, Ok, IsOk, []};
 ghost use Rattle.std.specs.List.{flat_map};
-ghost use Rattle.mime_tool.specs.Sink.{Flush, Flushes, IsPut};
+ghost use Rattle.mime_tool.specs.Sink.{Flush, Flushes, HasRoom, IsPut};
 
 use std::alloc::AllocError;
 use thiserror::Error;
@@ -26,16 +26,23 @@ pub trait Sink {
     // The bytes that it took, where they are known. Such a sink fails only where memory runs out.
     ghost holds: { Self → Option (List ℕ) } = { λ _. None };
 
+    // How many bytes it holds at the most, where that is known. Memory runs out only past them.
+    ghost capacity: { Self → Option ℕ } = { λ _. None };
+
     // What the flush after the last bytes answered, if there was one.
     ghost flushed: { Self → Flush } = { λ _. None };
 
     /// Takes all the bytes.
     fn put(&mut self, bytes: &[u8]) -> Result<(), SinkFault>
-        ensures { IsPut (holds self.old) (holds self.new) result bytes.now };
+        ensures put { IsPut (holds self.old) (holds self.new) result bytes.now }
+        ensures room { HasRoom (capacity self.old) (holds self.old) bytes.now → IsOk result }
+        ensures capacity { capacity self.new ≡ capacity self.old };
 
     /// Hands on what it held back.
     fn flush(&mut self) -> Result<(), SinkFault>
         ensures kept { IsPut (holds self.old) (holds self.new) result [] }
+        ensures room { HasRoom (capacity self.old) (holds self.old) [] → IsOk result }
+        ensures capacity { capacity self.new ≡ capacity self.old }
         ensures flushed { Flushes (holds self.old) (flushed self.new) result };
 }
 
@@ -70,7 +77,9 @@ pub(crate) fn put_all<S: Sink>(sink: &mut S, pieces: &[&[u8]]) -> Result<(), Sin
 
 /// Puts the bytes, and flushes.
 pub(crate) fn put_now<S: Sink>(sink: &mut S, bytes: &[u8]) -> Result<(), SinkFault>
-    ensures { IsPut (S.holds sink.old) (S.holds sink.new) result bytes.now }
+    ensures put { IsPut (S.holds sink.old) (S.holds sink.new) result bytes.now }
+    ensures room { HasRoom (S.capacity sink.old) (S.holds sink.old) bytes.now → IsOk result }
+    ensures capacity { S.capacity sink.new ≡ S.capacity sink.old }
 {
     sink.put(bytes)?;
     sink.flush()

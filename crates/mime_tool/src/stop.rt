@@ -1,8 +1,9 @@
 //! Why a command stops, and what is said on standard error.
 
-ghost use Rattle.std.specs.Prelude.{◌≡◌};
+ghost use Rattle.std.specs.Prelude.{◌≡◌, IsOk};
 ghost use Rattle.mime_tool.specs.declared.stop.Stop.TheVariants.{OutOfMemory};
 ghost use Rattle.mime_tool.specs.Run.{cannot_read, cannot_write};
+ghost use Rattle.mime_tool.specs.Sink.{HasRoom};
 ghost use Rattle.mime_tool.specs.Stop.{IsRefusal, Says, SaysStop, TellsStop, stop_of};
 
 use crate::sink::{Sink, SinkFault, put_now};
@@ -78,7 +79,9 @@ pub(crate) fn unwritable(alloc: Global, path: &str) -> Stop
 
 /// Says it on standard error. A fault there is passed over, unless memory ran out.
 pub(crate) fn complain<E: Sink>(err: &mut E, text: &str) -> Result<(), OutOfMemory>
-    ensures { Says (E.holds err.old) (E.holds err.new) result text.now }
+    ensures says { Says (E.holds err.old) (E.holds err.new) result text.now }
+    ensures room { HasRoom (E.capacity err.old) (E.holds err.old) text.now → IsOk result }
+    ensures capacity { E.capacity err.new ≡ E.capacity err.old }
 {
     match put_now(err, text.as_bytes()) {
         Err(SinkFault::OutOfMemory) => Err(OutOfMemory),
@@ -89,7 +92,7 @@ pub(crate) fn complain<E: Sink>(err: &mut E, text: &str) -> Result<(), OutOfMemo
 
 /// Says why a command stopped, and gives the exit status.
 pub(crate) fn tell<E: Sink>(stop: &Stop, err: &mut E) -> u8
-    ensures { TellsStop stop.now (E.holds err.old) (E.holds err.new) result }
+    ensures { TellsStop stop.now (E.capacity err.old) (E.holds err.old) (E.holds err.new) result }
 {
     match say(stop, err) {
         Ok(()) => STOPPED,
@@ -102,7 +105,8 @@ pub(crate) fn tell<E: Sink>(stop: &Stop, err: &mut E) -> u8
 
 // Says it, unless memory ran out.
 fn say<E: Sink>(stop: &Stop, err: &mut E) -> Result<(), OutOfMemory>
-    ensures { SaysStop stop.now (E.holds err.old) (E.holds err.new) result }
+    ensures says { SaysStop stop.now (E.holds err.old) (E.holds err.new) result }
+    ensures capacity { E.capacity err.new ≡ E.capacity err.old }
 {
     match stop {
         Stop::Refused(message) => complain(err, message.as_str()),

@@ -9,8 +9,9 @@ use crate::files::{FileFault, Files};
 use crate::sink::{Sink, SinkFault};
 use mime_lookup::Untold;
 use std::alloc::Global;
-use std::fs::{File, OpenFile};
+use std::fs::{File, Metadata, OpenFile};
 use std::io::{ErrorKind, Read, Write};
+use std::os::unix::fs::FileTypeExt;
 use std::{fs, io, rt};
 
 /// The longest file that is read whole, in bytes.
@@ -27,6 +28,9 @@ const BLOCK: usize = 65_536;
 /// Of files that are read whole, one that doesn't exist is none; any other that can't be opened or
 /// read, a directory too, is [`FileFault::Failed`], and so is one of more than 4 GiB. A file that
 /// says that it is so long isn't read.
+///
+/// A pipe is [`FileFault::Failed`] too, and isn't opened: that may wait for a writer without end. A
+/// device is opened and read like a file: `/dev/null` is an empty one.
 #[derive(Drop)]
 pub struct SystemFiles<'r, R: rt::Files>(&'r R);
 
@@ -41,7 +45,7 @@ impl<R: rt::Files> Files for SystemFiles<'_, R> {
     type Reader = Untold<R::File>;
 
     fn whole(&mut self, alloc: Global, path: &str) -> Result<Option<Vec<u8>>, FileFault> {
-        match File::open(self.0, path) {
+        match open_file(self.0, path) {
             Ok(mut file) => Ok(Some(read_open(alloc, LONGEST_FILE, &mut file)?)),
             Err(error) => {
                 if error.kind() == ErrorKind::NotFound {
@@ -54,7 +58,7 @@ impl<R: rt::Files> Files for SystemFiles<'_, R> {
     }
 
     fn open(&mut self, _alloc: Global, path: &str) -> Result<Untold<R::File>, FileFault> {
-        match File::open(self.0, path) {
+        match open_file(self.0, path) {
             Ok(file) => Ok(Untold(file)),
             Err(error) => Err(file_fault(&error)),
         }
@@ -72,6 +76,21 @@ impl<R: rt::Files> Files for SystemFiles<'_, R> {
             Err(error) => Err(file_fault(&error)),
         }
     }
+}
+
+// Opens a file to be read. What the path leads to may change in between, so what was opened is looked at too.
+fn open_file<R: rt::Files>(rt: &R, path: &str) -> io::Result<R::File> {
+    refuse_pipe(&fs::metadata(rt, path)?)?;
+    let file = File::open(rt, path)?;
+    refuse_pipe(&file.metadata()?)?;
+    Ok(file)
+}
+
+fn refuse_pipe(metadata: &Metadata) -> io::Result<()> {
+    if metadata.file_type().is_fifo() {
+        return Err(io::Error::from(ErrorKind::Unsupported));
+    }
+    Ok(())
 }
 
 // Writes a file of `temp` that lasts, and renames it.

@@ -5,9 +5,10 @@ use std::fs::{Files, Metadata, OpenFile, OpenOptions};
 use std::io;
 use std::io::{ErrorKind, Read, Seek, SeekFrom, Write};
 
-/// Files of which each open fails so, or gives a file that is opened so.
+/// Files of which nothing can be asked, for this reason; or each of which fails to open so, or is opened so.
 #[derive(Clone, Copy)]
 pub enum Disk {
+    Hides(ErrorKind),
     Fails(ErrorKind),
     Gives(Opened),
 }
@@ -76,7 +77,7 @@ impl Files for Disk {
 
     fn open_file(&self, _how: &OpenOptions, _path: &str) -> io::Result<Opened> {
         match self {
-            Disk::Fails(kind) => Err(io::Error::from(*kind)),
+            Disk::Hides(kind) | Disk::Fails(kind) => Err(io::Error::from(*kind)),
             Disk::Gives(opened) => Ok(*opened),
         }
     }
@@ -86,7 +87,10 @@ impl Files for Disk {
     }
 
     fn metadata(&self, _path: &str) -> io::Result<Metadata> {
-        Err(unsupported())
+        match self {
+            Disk::Hides(kind) => Err(io::Error::from(*kind)),
+            Disk::Fails(_) | Disk::Gives(_) => Ok(Metadata::of_file(0)),
+        }
     }
 
     fn symlink_metadata(&self, _path: &str) -> io::Result<Metadata> {

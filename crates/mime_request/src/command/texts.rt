@@ -13,6 +13,8 @@ pub(crate) const MIMELOOK: HelpTexts<'static> = HelpTexts {
     usage: "mimelook <COMMAND>",
     after_help: "\
 Messages go to standard error. The --help of a command says more of its exit statuses.
+A pipe can't be opened or read, as FILE, cache or text file; nor can /dev/stdin if it
+is one.
 
 Exit status:
   0  what was asked for was done; or help or the version was printed
@@ -53,7 +55,7 @@ pub(crate) const PLAIN: HelpTexts<'static> = HelpTexts {
     after_help: "\
 Messages go to standard error. The files are DIR/mime/globs2, magic, aliases,
 subclasses, icons and generic-icons; a missing one counts as empty.
-A FILE that is not UTF-8 refuses the whole call.
+A FILE that is not UTF-8 refuses the whole call. A FILE that is a pipe can't be opened.
 
 Exit status:
   0  every FILE was answered; or help was printed
@@ -129,6 +131,7 @@ pub(crate) const TYPE: HelpTexts<'static> = HelpTexts {
     usage: "mimelook type -c CACHE [--name-only] [--cost] [--magic-first] FILE...",
     after_help: "\
 Messages go to standard error. A FILE that is not UTF-8 refuses the whole call.
+A FILE that is a pipe can't be opened, and a CACHE that is one can't be read.
 
 Exit status:
   0  every FILE was answered; or help was printed

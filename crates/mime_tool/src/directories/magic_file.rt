@@ -2,7 +2,8 @@
 
 ghost use Rattle.std.specs.Prelude.{◌≡◌, codes};
 ghost use Rattle.mime_tool.specs.Desk.{Works};
-ghost use Rattle.mime_tool.specs.Directories.{IsFaultStop, IsMagicAt, IsMagicOrFault, fault_name, faulty_at, path_of, plain_magic};
+ghost use Rattle.mime_tool.specs.Directories.{IsMagicAt, IsMagicFaultStop, IsMagicOrFault, faulty_at, magic_fault_name};
+ghost use Rattle.mime_tool.specs.Directories.{path_of, plain_magic};
 ghost use Rattle.mime_tool.specs.Finish.{Sinks};
 ghost use Rattle.mime_tool.specs.Loading.{Loads};
 ghost use Rattle.mime_tool.specs.Stop.{IsRefusal};
@@ -41,7 +42,7 @@ fn parse_magic(alloc: Global, path: &str, text: &[u8]) -> Result<MagicFile, Stop
 
 // The stop of a fault of `magic`.
 fn faulty(alloc: Global, path: &str, fault: MagicFault) -> Stop
-    ensures { IsFaultStop path.now fault result }
+    ensures { IsMagicFaultStop path.now fault result }
 {
     match fault {
         MagicFault::Malformed { kind, offset } => faulty_at(alloc, path, name_of(kind), offset),
@@ -51,7 +52,7 @@ fn faulty(alloc: Global, path: &str, fault: MagicFault) -> Stop
 
 // What the message on a fault calls it.
 fn name_of(kind: MagicFaultKind) -> &'static str
-    ensures { result.now ≡ fault_name kind }
+    ensures { result.now ≡ magic_fault_name kind }
 {
     match kind {
         MagicFaultKind::NoHeader => "no header",

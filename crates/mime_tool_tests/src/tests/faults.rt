@@ -1,6 +1,7 @@
 //! Files and sinks that fail.
 
-use crate::{Entry, FailingFiles, FailingSink, Shelf};
+use crate::{Entry, FailingFiles, FailingSink, Shelf, Slate};
+use arrayvec::ArrayVec;
 use mime_tool::{FileFault, SinkFault, run};
 use std::test::Fail;
 
@@ -49,6 +50,24 @@ fn names_what_files_fail_with(rt: HostRuntime) -> Result<(), Fail> {
         assert!(rt; out.is_empty());
         assert_eq!(rt; err.as_slice(), message.as_bytes());
     }
+    Ok(())
+}
+
+// Standard error is told of it whole where it has room for all of it, and isn't where it lacks one byte.
+#[test]
+fn says_out_of_memory_where_there_is_room(rt: HostRuntime) -> Result<(), Fail> {
+    let alloc = rt.alloc();
+    let mut files = FailingFiles(FileFault::OutOfMemory);
+    let mut out = Vec::new(alloc);
+    let mut just = Slate::<24>(ArrayVec::new());
+    let status = run(alloc, &WORDS, &mut files, &mut out, &mut just);
+    assert_eq!(rt; status, 4);
+    assert_eq!(rt; just.0.as_slice(), NO_MEMORY.as_bytes());
+    let mut less = Slate::<23>(ArrayVec::new());
+    let status = run(alloc, &WORDS, &mut files, &mut out, &mut less);
+    assert_eq!(rt; status, 4);
+    assert!(rt; less.0.is_empty());
+    assert!(rt; out.is_empty());
     Ok(())
 }
 

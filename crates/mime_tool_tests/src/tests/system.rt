@@ -38,14 +38,21 @@ fn opens_whatever_can_be_opened(rt: HostRuntime) -> Result<(), Fail> {
     Ok(())
 }
 
-// Opening looks at nothing but the opening.
+// Opening looks at what a file is and at the opening, and not at the size.
 #[test]
 fn names_what_opening_fails_with(rt: HostRuntime) -> Result<(), Fail> {
     let failed = Err(FileFault::Failed);
     let denied = ErrorKind::PermissionDenied;
     let memory = ErrorKind::OutOfMemory;
     let rows = [
-        ("missing", Disk::Fails(ErrorKind::NotFound), failed),
+        ("missing", Disk::Hides(ErrorKind::NotFound), failed),
+        ("gone since", Disk::Fails(ErrorKind::NotFound), failed),
+        ("hidden", Disk::Hides(denied), failed),
+        (
+            "no memory to look",
+            Disk::Hides(memory),
+            Err(FileFault::OutOfMemory),
+        ),
         ("denied", Disk::Fails(denied), failed),
         ("interrupted", Disk::Fails(ErrorKind::Interrupted), failed),
         (
@@ -53,7 +60,12 @@ fn names_what_opening_fails_with(rt: HostRuntime) -> Result<(), Fail> {
             Disk::Fails(memory),
             Err(FileFault::OutOfMemory),
         ),
-        ("no size", gives(Err(denied), None), Ok(())),
+        ("not to be looked at", gives(Err(denied), None), failed),
+        (
+            "no memory to look at it",
+            gives(Err(memory), None),
+            Err(FileFault::OutOfMemory),
+        ),
         (
             "too long to be read whole",
             gives(Ok(u64::MAX), None),
@@ -87,11 +99,21 @@ struct Whole {
     want: Result<bool, FileFault>,
 }
 
-const WHOLE: [Whole; 17] = [
+const WHOLE: [Whole; 19] = [
     Whole {
         name: "missing",
+        disk: Disk::Hides(ErrorKind::NotFound),
+        want: Ok(false),
+    },
+    Whole {
+        name: "gone since",
         disk: Disk::Fails(ErrorKind::NotFound),
         want: Ok(false),
+    },
+    Whole {
+        name: "hidden",
+        disk: Disk::Hides(ErrorKind::PermissionDenied),
+        want: FAILED,
     },
     Whole {
         name: "denied",

@@ -2,11 +2,13 @@ use Rattle.std.proofs.Common.{sym, subst}
 use Rattle.std.proofs.lemmas.Result.{err_from_is_err_and}
 use Rattle.mime_base.specs.Format.Packed.{Packed}
 use Rattle.mime_base.specs.Format.Spells.{Spells}
+use Rattle.mime_lookup.specs.CheckingOrder.{globs_suffice}
 use Rattle.mime_tool.proofs.AnswersOver.{answer_over, stopped_over}
+use Rattle.mime_tool.proofs.ContentReaders.{asks_stopped, reader_lost, reader_stopped}
 use Rattle.mime_tool.proofs.from_texts.answer_by.Goals as goal
 
-pub returns-in_err-answer : goal.returns-in_err-answer
-returns-in_err-answer g c = λ b limits is fits.
+pub returns-in_err-answer-clause-comes : goal.returns-in_err-answer-clause-comes
+returns-in_err-answer-clause-comes g c = λ b limits is fits.
     let e = err_from_is_err_and c.from_residual.result c.from_residual.ensures.1 in
     let at = sym c.new.ensures in
     let spells = subst (λ bytes. Spells bytes b) at is.spells in
@@ -15,8 +17,26 @@ returns-in_err-answer g c = λ b limits is fits.
     c.in_err-answer.ensures.too_long
     (c.in_err-answer.ensures.answers b limits spells packed) c.in_err-answer.ensures.bounds)
 
-pub returns : goal.returns
-returns g c = λ b limits is fits.
+pub returns-in_err-answer-clause-reader : goal.returns-in_err-answer-clause-reader
+returns-in_err-answer-clause-reader g c =
+    let e = err_from_is_err_and c.from_residual.result c.from_residual.ensures.1 in
+    rw (e.1, e.2) (reader_stopped g.R.Read.remaining g.R.Content.tally g.R.Content.health _ _ _
+    c.in_err-answer.ensures.gives_up c.in_err-answer.ensures.fails c.in_err-answer.ensures.advances)
+
+pub returns-in_err-answer-clause-asked : goal.returns-in_err-answer-clause-asked
+returns-in_err-answer-clause-asked g c = λ b limits is.
+    let e = err_from_is_err_and c.from_residual.result c.from_residual.ensures.1 in
+    let spells = subst (λ bytes. Spells bytes b) (sym c.new.ensures) is.spells in
+    rw (e.1, e.2) (asks_stopped g.R.Content.health (globs_suffice b c.args.name.now c.args.order) c.args.content.now c.args.content.now _
+    (c.in_err-answer.ensures.asked b limits spells))
+
+pub returns-in_err-kind-clause-reader : goal.returns-in_err-kind-clause-reader
+returns-in_err-kind-clause-reader g c =
+    let e = err_from_is_err_and c.from_residual-in_err-kind.result c.from_residual-in_err-kind.ensures.1 in
+    rw (e.1, e.2) (reader_lost g.R.Read.remaining g.R.Content.tally g.R.Content.health _ _ _ c.in_ok-answer.ensures.advances)
+
+pub returns-clause-comes : goal.returns-clause-comes
+returns-clause-comes g c = λ b limits is fits.
     let spells = subst (λ bytes. Spells bytes b) (sym c.new.ensures) is.spells in
     answer_over b c.args.name.now c.args.cache.now _ _ _ _ _ _ c.in_ok-kind.kind fits is.long c.new.ensures
     c.in_ok-answer.ensures.too_long (c.in_ok-answer.ensures.chosen b limits spells) (c.in_ok-answer.ensures.read b limits spells)

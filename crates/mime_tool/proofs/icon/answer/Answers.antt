@@ -3,7 +3,7 @@ use Rattle.std.proofs.lemmas.Result.{err_from_is_err_and}
 use Rattle.mime_lookup.specs.Icons.{plain_icons_of}
 use Rattle.mime_lookup.specs.declared.cached.icons.Icons.{Icons}
 use Rattle.mime_tool.specs.Cache.{IsAnsweredOr}
-use Rattle.mime_tool.specs.Icon.{AreIconLines, AreIconsOf, RefusesIcons, icon_lines}
+use Rattle.mime_tool.specs.Icon.{AreIconLines, AreIconsOf, RefusesIcons, printed_icons}
 use Rattle.mime_tool.specs.Run.{printed}
 use Rattle.mime_tool.proofs.Caches.{cache_refused}
 use Rattle.mime_tool.proofs.Desks.{ends_undone}
@@ -31,7 +31,7 @@ returns-in_err-print_icons g c =
       same_files = put.same_files;
       same_setting = put.same_setting;
       sinks = ends_undone (Unit {0}) (IsAnsweredOr c.args.path.now (RefusesIcons cache) (AreIconLines cache c.args.kind.now))
-          (printed (icon_lines icons)) _ _ _ (inl (icons, c.in_ok-icons.ensures, refl)) put.sinks;
+          (printed (printed_icons icons)) _ _ _ (inl (icons, c.in_ok-icons.ensures, refl)) put.sinks;
     })
 
 pub returns : goal.returns
@@ -41,5 +41,5 @@ returns g c =
     record {
       same_files = put.same_files;
       same_setting = put.same_setting;
-      sinks = (printed (icon_lines icons), inl (icons, c.in_ok-icons.ensures, refl), refl, refl, put.sinks);
+      sinks = (printed (printed_icons icons), inl (icons, c.in_ok-icons.ensures, refl), refl, refl, put.sinks);
     }

@@ -1,7 +1,8 @@
-use Rattle.std.proofs.Common.{map}
+use Rattle.std.proofs.Common.{Option, map, subst, ℕ}
 use Rattle.mime_request.specs.Request.{meaning_of}
 use Rattle.mime_tool.specs.Finish.{Sinks}
 use Rattle.mime_tool.specs.Program.{IsAnswer, files_of}
+use Rattle.mime_tool.specs.Stop.{TellsStop}
 use Rattle.mime_tool.proofs.Endings.{ends_known, finishes_done, finishes_told, handed_on, handed_on_told}
 use Rattle.mime_tool.proofs.program.finish.Goals as goal
 
@@ -16,7 +17,7 @@ returns-in-Ok-clause-answers g c = λ known.
     let ended = c.perform-ended.result in
     let flushed = c.in-Ok.ensures.flushed
     (ends_known (IsAnswer writes stored after m) (files_of m) a b ended c.perform-ended.ensures.ended known) in
-    finishes_done (IsAnswer writes stored after m) (files_of m) a b (g.O.Sink.holds c.flush_after.new.out)
+    finishes_done (IsAnswer writes stored after m) (files_of m) (g.E.Sink.capacity c.args.err.now) a b (g.O.Sink.holds c.flush_after.new.out)
     (g.O.Sink.flushed c.flush_after.new.out) ended c.in-Ok.status c.perform-ended.ensures.ended c.in-Ok.ensures.kept flushed
 
 pub returns-in-Ok-clause-flushed : goal.returns-in-Ok-clause-flushed
@@ -44,9 +45,12 @@ returns-in-Err-clause-answers g c = λ known.
     let ended = c.perform-ended.result in
     let flushed = c.in-Err.ensures.flushed
     (ends_known (IsAnswer writes stored after m) (files_of m) a b ended c.perform-ended.ensures.ended known) in
-    finishes_told (IsAnswer writes stored after m) (files_of m) a b o (g.E.Sink.holds c.tell.new.err)
+    let e = g.E.Sink.holds c.tell.new.err in
+    let told = subst (λ (capacity : Option ℕ). TellsStop c.in-Err.stop capacity b.err e c.tell.result)
+    c.perform-ended.ensures.capacity c.tell.ensures in
+    finishes_told (IsAnswer writes stored after m) (files_of m) (g.E.Sink.capacity c.args.err.now) a b o e
     (g.O.Sink.flushed c.flush_after.new.out) ended c.in-Err.stop c.tell.result c.perform-ended.ensures.ended known
-    c.in-Err.ensures.kept flushed c.tell.ensures
+    c.in-Err.ensures.kept flushed told
 
 pub returns-in-Err-clause-flushed : goal.returns-in-Err-clause-flushed
 returns-in-Err-clause-flushed g c = λ known.
@@ -59,6 +63,6 @@ returns-in-Err-clause-flushed g c = λ known.
     let ended = c.perform-ended.result in
     let flushed = c.in-Err.ensures.flushed
     (ends_known (IsAnswer writes stored after m) (files_of m) a b ended c.perform-ended.ensures.ended known) in
-    handed_on_told (g.O.Sink.flushed c.flush_after.new.out) ended c.in-Err.stop b.err
+    handed_on_told (g.O.Sink.flushed c.flush_after.new.out) ended c.in-Err.stop _ b.err
     (g.E.Sink.holds c.tell.new.err) c.tell.result flushed
     c.tell.ensures

@@ -11,4 +11,4 @@ returns-in_err-put g c =
     let lt : c.loop-piece.piece-index < length c.args.pieces.now = omega arith in
     let e = err_from_is_err_and c.from_residual.result c.from_residual.ensures.1 in
     rw (e.1, e.2) (takes_pieces (λ piece. piece.now) c.args.pieces.now c.loop-piece.piece-index no_piece _ _ _ _ lt c.loop-piece.invariant
-    c.in_err-put.ensures)
+    c.in_err-put.ensures.put)

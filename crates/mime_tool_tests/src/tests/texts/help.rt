@@ -23,6 +23,8 @@ Options:
   -V, --version  Print version
 
 Messages go to standard error. The --help of a command says more of its exit statuses.
+A pipe can't be opened or read, as FILE, cache or text file; nor can /dev/stdin if it
+is one.
 
 Exit status:
   0  what was asked for was done; or help or the version was printed
@@ -82,7 +84,7 @@ Options:
 
 Messages go to standard error. The files are DIR/mime/globs2, magic, aliases,
 subclasses, icons and generic-icons; a missing one counts as empty.
-A FILE that is not UTF-8 refuses the whole call.
+A FILE that is not UTF-8 refuses the whole call. A FILE that is a pipe can't be opened.
 
 Exit status:
   0  every FILE was answered; or help was printed

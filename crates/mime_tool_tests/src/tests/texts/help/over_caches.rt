@@ -99,6 +99,7 @@ Options:
   -h, --help         Print help
 
 Messages go to standard error. A FILE that is not UTF-8 refuses the whole call.
+A FILE that is a pipe can't be opened, and a CACHE that is one can't be read.
 
 Exit status:
   0  every FILE was answered; or help was printed
