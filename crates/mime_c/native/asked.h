@@ -21,11 +21,11 @@ static void check(bool holds, const char *what, int line) {
 
 #define CHECK(what) check((what), #what, __LINE__)
 
-static const uint8_t *bytes_of(const char *text) {
+static inline const uint8_t *bytes_of(const char *text) {
     return (const uint8_t *)text;
 }
 
-static bool is_text(mimelook_text text, const char *expected) {
+static inline bool is_text(mimelook_text text, const char *expected) {
     return text.length == strlen(expected) && memcmp(text.at, expected, text.length) == 0;
 }
 

@@ -1,15 +1,13 @@
 -- A front that is as long as is wanted gives the type of the whole content.
-use Rattle.std.proofs.Common.{◌≡◌, ◌⊎◌, ℕ, ◌≤◌, Bool, true, false, max, List, [], ◌∷◌, ◌++◌, length, Option, None, Some}
+use Rattle.std.proofs.Common.{◌≡◌, ◌⊎◌, ℕ, ◌≤◌, Bool, true, false, List, [], ◌∷◌, ◌++◌, length, Option, None, Some}
 use Rattle.std.proofs.Common.{MatchBool, cond, refl, sym, ap, subst, ◌∙◌, inl, inr, arith, append-nil}
-use Rattle.std.specs.Prelude.{bytes_eq}
-use Rattle.std.specs.List.{list_all}
 use Rattle.mime_base.specs.Database.{PlainDatabase, pairs_of}
 use Rattle.mime_base.specs.Database.Subclass.{Pairs}
 use Rattle.mime_base.specs.Magic.Extent.{extent}
 use Rattle.mime_base.specs.declared.magic.host.Host.TheVariants.{Little}
 use Rattle.mime_base.proofs.MagicLemmas.Fronts.{first_magic-front}
 use Rattle.mime_c.specs.Wanted.{IsEnough, wanted_of}
-use Rattle.mime_lookup.specs.CheckingOrder.{Chooses, are_one_type, before_globs, globs_suffice, of_high_priority, read_limit}
+use Rattle.mime_lookup.specs.CheckingOrder.{Chooses, are_one_type, before_globs, globs_suffice, read_limit}
 use Rattle.mime_lookup.specs.Choice.{ChoosesAmong, IsFirst, kept}
 use Rattle.mime_lookup.specs.Sniffing.{sniffed}
 use Rattle.mime_lookup.specs.declared.order.Order.{Order}

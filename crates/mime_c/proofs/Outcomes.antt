@@ -1,16 +1,12 @@
 -- What the outcome of a lookup over bytes says: its content is known, and its report keeps the promise.
-use Rattle.std.proofs.Common.{◌≡◌, ◌⊎◌, ℕ, ◌≤◌, List, length, Option, None, Some, Result, Ok, Err, refl, sym, ap, subst, inl, inr}
-use Rattle.std.specs.Option.{option_map}
-use denote.Bor.{Bor}
+use Rattle.std.proofs.Common.{◌≡◌, ℕ, List, Option, Result, Ok, Err, refl, ap, inl, inr}
 use Rattle.mime_base.specs.declared.meter.Meter.{Meter}
 use Rattle.mime_c.specs.Headline.{IsHeadline}
 use Rattle.mime_c.specs.LookUp.{IsLookUp, IsLookUpReport}
-use Rattle.mime_c.specs.Report.{IsStopReport, fault_report, meter_of, status_report}
+use Rattle.mime_c.specs.Report.{IsStopReport, fault_report, meter_of}
 use Rattle.mime_c.specs.Status.{out_of_memory}
 use Rattle.mime_c.specs.declared.look_up.Text.{Text}
 use Rattle.mime_c.specs.declared.report.Report.{Report}
-use Rattle.mime_lookup.specs.CheckingOrder.{Chooses}
-use Rattle.mime_lookup.specs.Content.{known_content}
 use Rattle.mime_lookup.specs.Headline.{StaysWithin}
 use Rattle.mime_lookup.specs.declared.answer.Answer.{Answer}
 use Rattle.mime_lookup.specs.declared.order.Order.{Order}

@@ -1,6 +1,6 @@
 -- What a lookup says of a reader, where the reader is bytes.
 use Rattle.std.proofs.Common.{◌≡◌, ◌⊎◌, ℕ, ◌≤◌, List, length, length-append, Option, None, Some, Result, Ok, Err, MatchResult}
-use Rattle.std.proofs.Common.{refl, ap, inl, inr, ⊎_elim, arith}
+use Rattle.std.proofs.Common.{refl, ap, inl, inr, arith}
 use Rattle.std.specs.Prelude.{◌≢◌, IfErr}
 use Rattle.std.specs.Option.{option_map}
 use denote.Bor.{Bor}

@@ -1,7 +1,7 @@
 -- What C gets of a call: a status, a fault's place, and what the call took.
 use Rattle.std.specs.Prelude.{◌≡◌, ℕ}
 use Rattle.mime_base.specs.declared.meter.Meter.{Meter}
-use Rattle.mime_c.specs.Status.{answered, long_text, name_too_long, out_of_memory, out_of_range, spent, too_deep, too_large}
+use Rattle.mime_c.specs.Status.{long_text, name_too_long, out_of_memory, out_of_range, spent, too_deep, too_large}
 use Rattle.mime_c.specs.Status.{truncated, version}
 use Rattle.mime_c.specs.declared.report.Report.{Report}
 use Rattle.mime_lookup.specs.declared.stopped.Cause.{Cause}

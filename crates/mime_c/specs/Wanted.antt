@@ -11,7 +11,7 @@ use Rattle.mime_c.specs.Report.{IsStopReport, status_report}
 use Rattle.mime_c.specs.Status.{answered}
 use Rattle.mime_c.specs.declared.report.Report.{Report}
 use Rattle.mime_lookup.specs.Bounds.{bytes_max, nodes_max, stated_extent}
-use Rattle.mime_lookup.specs.CheckingOrder.{Chooses, globs_suffice, read_limit, read_of}
+use Rattle.mime_lookup.specs.CheckingOrder.{Chooses, globs_suffice, read_limit}
 use Rattle.mime_lookup.specs.StepFaults.{IsLookUpFault}
 use Rattle.mime_lookup.specs.declared.order.Order.{Order}
 use Rattle.mime_lookup.specs.declared.stopped.Cause.TheVariants as cause
