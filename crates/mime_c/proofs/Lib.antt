@@ -1,0 +1,4 @@
+pub mod Outcomes
+pub mod Slices
+pub mod Fronts
+pub mod Wants

@@ -1,0 +1,87 @@
+//! The type of a name and a content.
+
+ghost use Rattle.std.specs.Prelude.{◌≡◌, ◌≢◌, IfErr, option_map};
+ghost use Rattle.mime_c.specs.Headline.{IsHeadline};
+ghost use Rattle.mime_c.specs.LookUp.{IsLookUp, IsLookedUp, given, order_of};
+
+use crate::report::{Report, answered, stop_report};
+use mime_base::{Counted, Host};
+use mime_lookup::{Answer, Cause, Order, Stopped, look_up};
+use std::alloc::Global;
+
+/// Bytes that lie in the caller's cache, or in the library.
+#[repr(C)]
+#[derive(Drop)]
+pub struct Text<'a> {
+    /// The bytes.
+    pub bytes: &'a [u8],
+}
+
+/// The type that the checking order gives to a name and a content, by a cache ("Recommended checking order").
+///
+/// `has_content` is false where the content is not available; then `content` is not looked at. `magic_first` lets content
+/// of a high priority decide before the globs. `kind` is the type: bytes of the cache, or one of three fixed types. Words
+/// of the content are read as on a machine whose numbers have the lowest byte first.
+#[unsafe(no_mangle)]
+pub extern "C" fn mimelook_look_up<'a>(
+    alloc: Global,
+    cache: &'a [u8],
+    name: &[u8],
+    content: &[u8],
+    has_content: bool,
+    magic_first: bool,
+    kind: &mut Text<'a>,
+) -> Report
+    ensures promises { IsLookedUp cache.now name.now (given has_content content.now) (order_of magic_first)
+        kind.old kind.new result }
+    ensures headline { IsHeadline cache.now name.now (given has_content content.now) (order_of magic_first)
+        kind.new.bytes.now result }
+{
+    let content = given(content, has_content);
+    match ask(alloc, cache, name, content, order_of(magic_first)) {
+        Ok(answer) => {
+            kind.bytes = answer.kind;
+            answered(answer.read, answer.meter)
+        }
+        Err(stopped) => stop_report(stopped),
+    }
+}
+
+// The lookup itself.
+fn ask<'a>(
+    alloc: Global,
+    cache: &'a [u8],
+    name: &[u8],
+    mut content: Option<&[u8]>,
+    order: Order,
+) -> Result<Answer<'a>, Stopped>
+    ensures promises { IsLookUp cache.entry.now name.now (option_map (λ bytes. bytes.now) content.entry) order result }
+    ensures readable { IfErr result (λ stopped. stopped.cause ≢ Cause.Read) }
+{
+    look_up(
+        alloc,
+        Counted::new(cache),
+        name,
+        &mut content,
+        Host::Little,
+        order,
+    )
+}
+
+/// A content, where it is available.
+pub(crate) fn given(content: &[u8], is_given: bool) -> Option<&[u8]>
+    ensures { option_map (λ bytes. bytes.now) result ≡ given is_given content.now }
+{
+    if is_given { Some(content) } else { None }
+}
+
+/// The order that a flag asks for.
+pub(crate) fn order_of(magic_first: bool) -> Order
+    ensures { result ≡ order_of magic_first }
+{
+    if magic_first {
+        Order::MagicFirst
+    } else {
+        Order::GlobsFirst
+    }
+}
