@@ -1,6 +1,6 @@
 -- What a look at the icons of a type promises over a cache of any bytes, and what C gets of it.
 use Rattle.std.specs.Prelude.{◌≡◌, ◌≢◌, ◌⊎◌, ◌++◌, ℕ, ◌<◌, ◌≤◌, true, false, List, length, drop, Result, Ok, Err}
-use Rattle.std.specs.Prelude.{IfErr, IfOk, MatchResult, OnOk}
+use Rattle.std.specs.Prelude.{IfErr, IfOk, IsErrAnd, MatchResult, OnOk}
 use Rattle.mime_base.specs.Database.{PlainDatabase}
 use Rattle.mime_base.specs.Names.{is_type_name}
 use Rattle.mime_c.specs.Report.{IsRefusal, IsStopReport, status_report}
@@ -14,6 +14,7 @@ use Rattle.mime_lookup.specs.StepFaults.{IsIconFault}
 use Rattle.mime_lookup.specs.declared.cached.icons.Icons.{Icons}
 use Rattle.mime_lookup.specs.declared.stopped.Cause.TheVariants as cause
 use Rattle.mime_lookup.specs.declared.stopped.Stopped.{Stopped}
+use Rattle.mime_view.specs.Opening.{IsOpenFault, Opens}
 use Rattle.mime_view.specs.declared.fault.CacheFault.{CacheFault}
 use Rattle.mime_view.specs.declared.fault.CacheFault.TheVariants as fault
 
@@ -21,6 +22,8 @@ use Rattle.mime_view.specs.declared.fault.CacheFault.TheVariants as fault
 pub record IsIcons (c kind : List ℕ) (result : Result Icons Stopped) : Type 0 where
   pub answer : (b : PlainDatabase) → SpellsIcons c b → IfOk result (λ icons. plain_icons_of icons ≡ icons_of b kind)
   pub lists : OnOk result (HasIconLists c)
+  pub opened : OnOk result (Opens c)
+  pub unopened : (e : CacheFault) → IsOpenFault c e → IsErrAnd result (λ stopped. stopped.cause ≡ cause.Cache e)
   pub need : (b : PlainDatabase) → SpellsIcons c b → length c ≤ 268435456 → IfErr result (λ stopped. stopped.cause ≡ cause.OutOfMemory)
   pub fault : IfErr result (λ stopped. (stopped.cause ≡ cause.OutOfMemory)
       ⊎ ((e : CacheFault) × (stopped.cause ≡ cause.Cache e) × (e ≢ fault.OutOfMemory) × IsIconFault c e))

@@ -1,6 +1,6 @@
 -- What a search for a subclass promises over a cache of any bytes, and what C gets of it.
 use Rattle.std.specs.Prelude.{◌≡◌, ◌≢◌, ◌⊎◌, ◌↔◌, ◌/◌, ℕ, ◌≤◌, Bool, true, false, IsTrue, List, length, Result, Ok, Err}
-use Rattle.std.specs.Prelude.{IfErr, IfOk, MatchResult}
+use Rattle.std.specs.Prelude.{IfErr, IfOk, IsErrAnd, MatchResult, OnOk}
 use Rattle.mime_base.specs.Database.{PlainDatabase, pairs_of}
 use Rattle.mime_base.specs.Database.Subclass.{IsA, resolved}
 use Rattle.mime_base.specs.Format.Packed.{Packed}
@@ -14,6 +14,7 @@ use Rattle.mime_lookup.specs.Spelling.{SpellsPairs}
 use Rattle.mime_lookup.specs.StepFaults.{IsLookUpFault}
 use Rattle.mime_lookup.specs.declared.stopped.Cause.TheVariants as cause
 use Rattle.mime_lookup.specs.declared.stopped.Stopped.{Stopped}
+use Rattle.mime_view.specs.Opening.{IsOpenFault, Opens}
 use Rattle.mime_view.specs.declared.fault.CacheFault.{CacheFault}
 use Rattle.mime_view.specs.declared.fault.CacheFault.TheVariants.{OutOfMemory, Spent}
 
@@ -21,6 +22,8 @@ use Rattle.mime_view.specs.declared.fault.CacheFault.TheVariants.{OutOfMemory, S
 pub record IsIsA (c kind base : List ℕ) (result : Result (Bool × Meter) Stopped) : Type 0 where
   pub answer : (b : PlainDatabase) → SpellsPairs c b → IfOk result
       (λ found. IsTrue found.0 ↔ IsA (pairs_of b) (resolved b.aliases kind) (resolved b.aliases base))
+  pub opened : OnOk result (Opens c)
+  pub unopened : (e : CacheFault) → IsOpenFault c e → IsErrAnd result (λ stopped. stopped.cause ≡ cause.Cache e)
   pub need : (b : PlainDatabase) → SpellsPairs c b → length c ≤ 268435456 → Packed c b →
       IfErr result (λ stopped. stopped.cause ≡ cause.OutOfMemory)
   pub fault : IfErr result (λ stopped. (stopped.cause ≡ cause.OutOfMemory)

@@ -1,6 +1,6 @@
 -- What a lookup of a name and a content promises over a cache of any bytes, and what C gets of it.
 use Rattle.std.specs.Prelude.{◌≡◌, ◌/◌, ℕ, ◌<◌, ◌≤◌, Bool, true, false, max, List, length, Option, None, Some, Result, Ok, Err}
-use Rattle.std.specs.Prelude.{IfErr, IfOk, MatchResult}
+use Rattle.std.specs.Prelude.{IfErr, IfOk, IsErrAnd, MatchResult, OnOk}
 use Rattle.mime_base.specs.Database.{PlainDatabase}
 use Rattle.mime_base.specs.Database.Limits.{IsWithinLimits}
 use Rattle.mime_base.specs.Format.Packed.{Packed}
@@ -21,6 +21,8 @@ use Rattle.mime_lookup.specs.declared.order.Order.TheVariants.{GlobsFirst, Magic
 use Rattle.mime_lookup.specs.declared.stopped.Cause.TheVariants as cause
 use Rattle.mime_lookup.specs.declared.stopped.Stopped.{Stopped}
 use Rattle.mime_view.specs.Hits.{near}
+use Rattle.mime_view.specs.Opening.{IsOpenFault, Opens}
+use Rattle.mime_view.specs.declared.fault.CacheFault.{CacheFault}
 use Rattle.mime_view.specs.declared.fault.CacheFault.TheVariants.{Spent}
 
 -- a content, where it is available
@@ -44,6 +46,9 @@ pub record IsLookUp (c name : List ℕ) (content : Option (List ℕ)) (order : O
       IfOk result (λ answer. Chooses b name content Little order answer.kind.now)
   pub read : (b : PlainDatabase) → IsWithinLimits b → Spells c b → IfOk result (λ answer. answer.read ≡ read_of b name content order)
   pub kind : IfOk result (λ answer. IsKind c answer.kind.now)
+  pub opened : OnOk result (Opens c)
+  pub unopened : length name ≤ 4096 → (e : CacheFault) → IsOpenFault c e →
+      IsErrAnd result (λ stopped. stopped.cause ≡ cause.Cache e)
   pub too_long : 4096 < length name →
       result ≡ Err (record { cause = cause.NameTooLong; read = 0; meter = record { nodes = 0; bytes = 0 } })
   pub fault : length name ≤ 4096 → IfErr result (λ stopped. IsStop (IsLookUpFault c) stopped.cause)
@@ -55,6 +60,7 @@ pub record IsLookUp (c name : List ℕ) (content : Option (List ℕ)) (order : O
   pub bounds : MatchResult result
       (λ answer. KeepsBounds (length name) c answer.read answer.meter)
       (λ stopped. KeepsBounds (length name) c stopped.read stopped.meter)
+  pub counted : IfOk result (λ answer. 1 ≤ answer.meter.nodes)
   pub spent : content ≡ None → IfErr result (λ stopped. stopped.cause ≡ cause.Cache Spent → length c / 4 ≤ stopped.meter.nodes)
   pub near : (b : PlainDatabase) → SpellsGlobs c b → length c ≤ 268435456 → GlobsDecide b name order (content ≡ None) →
       MatchResult result

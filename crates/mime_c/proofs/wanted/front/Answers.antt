@@ -3,13 +3,13 @@ use Rattle.std.proofs.lemmas.Result.{err_from_is_err_and}
 use Rattle.mime_base.specs.Format.Spells.{Spells}
 use Rattle.mime_lookup.specs.CheckingOrder.{read_limit}
 use Rattle.mime_lookup.specs.StepFaults.{of_magic}
-use Rattle.mime_lookup.proofs.OpenCaches.{never_refused}
+use Rattle.mime_lookup.proofs.OpenFaults.{header_without_fault}
 use Rattle.mime_view.specs.Opening.{IsOpenFault}
 use Rattle.mime_c.proofs.wanted.front.Goals as goal
 
 pub returns-in_err-cache-clause-spelled : goal.returns-in_err-cache-clause-spelled
 returns-in_err-cache-clause-spelled c = λ b spells.
-    absurd (never_refused c.args.cache.now spells.offsets spells.header spells.within c.in_err-cache.field-0.0
+    absurd (header_without_fault c.args.cache.now spells.offsets c.in_err-cache.field-0.0 spells.header spells.within
     (subst (λ (cache : List ℕ). IsOpenFault cache c.in_err-cache.field-0.0) c.new.ensures c.in_err-cache.ensures.opened))
 
 pub returns-in_err-extent-clause-spelled : goal.returns-in_err-extent-clause-spelled
