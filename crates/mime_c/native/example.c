@@ -52,8 +52,12 @@ static bool print_type(const uint8_t *cache, size_t length, const char *path) {
         report = mimelook_look_up(cache, length, name, name_length, front, size, wanted != 0, false, &type);
     }
     free(front);
-    if (!is_read || report.status != MIMELOOK_ANSWERED) {
-        fprintf(stderr, "%s: cannot read, or status %u\n", path, (unsigned)report.status);
+    if (!is_read) {
+        fprintf(stderr, "%s: cannot read\n", path);
+        return false;
+    }
+    if (report.status != MIMELOOK_ANSWERED) {
+        fprintf(stderr, "%s: status %u, offset %llu\n", path, (unsigned)report.status, (unsigned long long)report.at);
         return false;
     }
     printf("%s: %.*s\n", path, (int)type.length, (const char *)type.at);
