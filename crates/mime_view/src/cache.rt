@@ -92,6 +92,7 @@ impl<'a> Cache<'a> {
     pub fn open(counted: Counted<'a>, meter: &mut Meter) -> Result<Cache<'a>, CacheFault>
         ensures opened { MatchResult result
             (λ cache. (cache ≡ counted.entry) × Opens counted.entry) (IsOpenFault counted.entry) }
+        ensures counted { OnOk result (meter.new.nodes ≡ raised meter.old.nodes 1) }
         ensures nodes { meter.new.nodes ≤ meter.old.nodes + 1 }
         ensures rises { meter.old.nodes ≤ meter.new.nodes }
         ensures bytes { meter.new.bytes ≡ meter.old.bytes }
