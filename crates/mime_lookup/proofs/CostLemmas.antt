@@ -6,7 +6,7 @@ use Rattle.mime_base.specs.declared.meter.Meter.{Meter}
 use Rattle.mime_view.specs.Hits.{Charged}
 use Rattle.mime_view.specs.Magic.{Paid}
 use Rattle.mime_view.specs.declared.budget.Budget.{Budget}
-use Rattle.mime_lookup.specs.Costs.{Costs, ahead}
+use Rattle.mime_lookup.specs.Costs.{Costs, CostsAhead, ahead}
 
 -- so many nodes, each with at most 256 bytes, and nothing of the budget
 pub costs_nodes : (each value more : ℕ) (budget : Budget) (before after : Meter) → before.nodes ≤ after.nodes
@@ -106,33 +106,43 @@ costs_kept name value more kinds old new before hits after is count rises nodes 
       bytes = omega arith;
     }
 
--- What was kept back pays for the test whether the types are one type, and for the choice among them.
-module _ (each value more later kinds : ℕ) (old mid late new : Budget) (before hits tested sniffed after : Meter)
-    (first : Costs each value more old mid before (ahead kinds hits)) (starts : before.nodes ≤ hits.nodes)
-    (fair : raised before.nodes old.records ≤ hits.nodes + mid.records) (starts_bytes : before.bytes ≤ hits.bytes)
-    (same : tested.nodes ≡ hits.nodes) (rises : hits.bytes ≤ tested.bytes) (within : tested.bytes ≤ hits.bytes + 256 * kinds)
-  where
-    -- the test alone
-    pub costs_tested : Costs each value more old mid before tested
-    costs_tested = record {
-      records = first.records;
-      value_bytes = first.value_bytes;
-      rises = omega arith;
-      nodes = omega (arith, first.nodes);
-      fair = omega arith;
-      bytes_rise = omega arith;
-      bytes = omega (arith, first.bytes);
-    }
+-- what was kept back pays for the test whether the types are one type
+pub costs_tested : (each value more kinds : ℕ) (old new : Budget) (before hits tested : Meter)
+    → Costs each value more old new before (ahead kinds hits) → before.nodes ≤ hits.nodes
+    → raised before.nodes old.records ≤ hits.nodes + new.records → before.bytes ≤ hits.bytes → tested.nodes ≡ hits.nodes
+    → hits.bytes ≤ tested.bytes → tested.bytes ≤ hits.bytes + 256 * kinds → CostsAhead kinds each value more old new before tested
+costs_tested each value more kinds old new before hits tested first starts fair starts_bytes same rises within = record {
+  alone = record {
+    records = first.records;
+    value_bytes = first.value_bytes;
+    rises = omega arith;
+    nodes = omega (arith, first.nodes);
+    fair = omega arith;
+    bytes_rise = omega arith;
+    bytes = omega (arith, first.bytes);
+  };
+  nodes = omega (arith, first.nodes);
+  bytes = omega (arith, first.bytes);
+}
 
-    -- the test, another step, and the choice
-    pub costs_chosen : Costs each value later mid late tested sniffed → Costs each value (29 + 29 * kinds) late new sniffed after
-        → Costs each value (more + (later + 29)) old new before after
-    costs_chosen second third = record {
-      records = omega (arith, first.records, second.records, third.records);
-      value_bytes = omega (arith, first.value_bytes, second.value_bytes, third.value_bytes);
-      rises = omega arith;
+-- no type is left to choose among
+pub costs_alone : (each value more : ℕ) (old new : Budget) (before after : Meter) → Costs each value more old new before after
+    → CostsAhead 0 each value more old new before after
+costs_alone each value more old new before after is =
+    record { alone = is; nodes = omega (arith, is.nodes); bytes = omega (arith, is.bytes) }
+
+-- another step, and the choice
+pub costs_chosen : (each value more later kinds : ℕ) (old mid late new : Budget) (before tested sniffed after : Meter)
+    → CostsAhead kinds each value more old mid before tested → Costs each value later mid late tested sniffed
+    → Costs each value (29 + 29 * kinds) late new sniffed after → Costs each value (more + (later + 29)) old new before after
+costs_chosen each value more later kinds old mid late new before tested sniffed after first second third =
+    let alone = first.alone in
+    record {
+      records = omega (arith, alone.records, second.records, third.records);
+      value_bytes = omega (arith, alone.value_bytes, second.value_bytes, third.value_bytes);
+      rises = omega (arith, alone.rises, second.rises, third.rises);
       nodes = omega (arith, first.nodes, second.nodes, third.nodes);
-      fair = omega arith;
-      bytes_rise = omega arith;
+      fair = omega (arith, alone.fair, alone.rises, second.fair, second.rises, third.fair, third.rises);
+      bytes_rise = omega (arith, alone.bytes_rise, second.bytes_rise, third.bytes_rise);
       bytes = omega (arith, first.bytes, second.bytes, third.bytes);
     }

@@ -1,10 +1,9 @@
 -- What a lookup costs at most, and what it costs where the globs are asked first: the globs, the content and the choice.
-use Rattle.std.proofs.Common.{◌≡◌, ℕ, ◌+◌, ◌*◌, ◌≤◌, arith}
-use Rattle.mime_base.specs.Meter.{raised}
+use Rattle.std.proofs.Common.{ℕ, ◌+◌, ◌*◌, ◌≤◌, arith}
 use Rattle.mime_base.specs.declared.meter.Meter.{Meter}
 use Rattle.mime_view.specs.declared.budget.Budget.{Budget}
-use Rattle.mime_lookup.specs.Costs.{Costs, ahead, glob_cost, record_cost}
-use Rattle.mime_lookup.proofs.CostLemmas.{costs_chosen, costs_tested, costs_then, costs_wider}
+use Rattle.mime_lookup.specs.Costs.{Costs, CostsAhead, glob_cost, record_cost}
+use Rattle.mime_lookup.proofs.CostLemmas.{costs_chosen, costs_then, costs_wider}
 
 -- what a whole lookup costs at most
 abbrev pub CostsAll : ℕ → ℕ → Budget → Budget → Meter → Meter → Type 0
@@ -18,36 +17,23 @@ costs_less name read more old new before after less is =
     costs_wider (record_cost name) (record_cost name) (read + 1) (read + 1) more (glob_cost name + (2 + 29)) old new before after
     (omega arith) (omega arith) less is
 
--- the globs, where they give no answer
-pub costs_unkept_first : (name read : ℕ) (old new : Budget) (before after : Meter)
+-- the globs alone
+pub costs_globs : (name read : ℕ) (old new : Budget) (before after : Meter)
     → Costs (record_cost name) (read + 1) (glob_cost name) old new before after → CostsAll name read old new before after
-costs_unkept_first name read old new before after is = costs_less name read (glob_cost name) old new before after (omega arith) is
+costs_globs name read old new before after is = costs_less name read (glob_cost name) old new before after (omega arith) is
 
-module _ (name read kinds : ℕ) (old kept : Budget) (start hits tested : Meter)
-    (first : Costs (record_cost name) (read + 1) (glob_cost name) old kept start (ahead kinds hits))
-    (starts : start.nodes ≤ hits.nodes) (fair : raised start.nodes old.records ≤ hits.nodes + kept.records)
-    (starts_bytes : start.bytes ≤ hits.bytes) (same : tested.nodes ≡ hits.nodes) (rises : hits.bytes ≤ tested.bytes)
-    (within : tested.bytes ≤ hits.bytes + 256 * kinds)
+module _ (name read kinds : ℕ) (old kept : Budget) (start tested : Meter)
+    (globs : CostsAhead kinds (record_cost name) (read + 1) (glob_cost name) old kept start tested)
   where
-    -- the globs, where they give one type
-    globs_tested : Costs (record_cost name) (read + 1) (glob_cost name) old kept start tested
-    globs_tested =
-        costs_tested (record_cost name) (read + 1) (glob_cost name) 0 kinds old kept kept kept start hits tested tested tested
-        first starts fair starts_bytes same rises within
-
-    pub costs_one_type_first : CostsAll name read old kept start tested
-    costs_one_type_first = costs_less name read (glob_cost name) old kept start tested (omega arith) globs_tested
-
     -- the globs and the content
     pub costs_sniffed_then : (new : Budget) (after : Meter) → Costs (record_cost name) (read + 1) 2 kept new tested after
         → CostsAll name read old new start after
     costs_sniffed_then new after sniff =
         costs_less name read (glob_cost name + 2) old new start after (omega arith)
-        (costs_then (record_cost name) (read + 1) (glob_cost name) 2 old kept new start tested after globs_tested sniff)
+        (costs_then (record_cost name) (read + 1) (glob_cost name) 2 old kept new start tested after globs.alone sniff)
 
     -- the globs, the content and the choice
     pub costs_choice_then : (late new : Budget) (sniffed after : Meter) → Costs (record_cost name) (read + 1) 2 kept late tested sniffed
         → Costs (record_cost name) (read + 1) (29 + 29 * kinds) late new sniffed after → CostsAll name read old new start after
     costs_choice_then late new sniffed after sniff choice =
-        costs_chosen (record_cost name) (read + 1) (glob_cost name) 2 kinds old kept late new start hits tested sniffed after
-        first starts fair starts_bytes same rises within sniff choice
+        costs_chosen (record_cost name) (read + 1) (glob_cost name) 2 kinds old kept late new start tested sniffed after globs sniff choice

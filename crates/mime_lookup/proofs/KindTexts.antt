@@ -29,10 +29,10 @@ kind_short c kind (inl text) = text_short c kind text
 kind_short c kind (inr fixed) = All-contains (λ kind. length kind < 256) fixed_kinds kind fixed_short fixed
 
 -- the first of texts that are one type
-pub first_kind : (c : List ℕ) (kept : List (Bor (List ℕ))) (d : Bor (List ℕ)) → are_one_type (kinds_of kept) ≡ true →
-    All (IsCacheText c) (kinds_of kept) → IsKind c (get_or kept 0 d).now
-first_kind c [] d one all = absurd cc
-first_kind c (first ∷ more) d one all = inl (all 0 [] (omega arith))
+pub first_cache_text : (c : List ℕ) (kept : List (Bor (List ℕ))) (d : Bor (List ℕ)) → are_one_type (kinds_of kept) ≡ true →
+    All (IsCacheText c) (kinds_of kept) → IsCacheText c (get_or kept 0 d).now
+first_cache_text c [] d one all = absurd cc
+first_cache_text c (first ∷ more) d one all = all 0 [] (omega arith)
 
 -- a type that was chosen
 pub chosen_kind : (c kind : List ℕ) (kinds : List (List ℕ)) → All (IsCacheText c) kinds → IsKind c kind ⊎ Contains kinds kind → IsKind c kind

@@ -20,6 +20,7 @@ pub mod FoundFronts
 pub mod Stops
 pub mod KeptTypes
 pub mod Openings
+pub mod OpenFaults
 pub mod MediaTypes
 pub mod KindTexts
 pub mod StepStops
@@ -33,5 +34,5 @@ pub mod BoundLemmas
 pub mod GlobsCosts
 pub mod MagicCosts
 pub mod NearLemmas
-pub mod OpenCaches
+pub mod ShortTexts
 pub mod CauseLemmas

@@ -26,10 +26,10 @@ kept_few law b name kinds same =
 
 -- where the globs decide and give no one type, none is kept and no content is available
 pub none_kept : (b : PlainDatabase) (name : List ℕ) (order : Order) (NoContent : Type 0) (kinds : List (List ℕ))
-    → kinds ≡ kept (pairs_of b) b.rules name → are_one_type kinds ≡ false → GlobsDecide b name order NoContent
+    → kinds ≡ kept (pairs_of b) b.rules name → are_one_type (kept (pairs_of b) b.rules name) ≡ false → GlobsDecide b name order NoContent
     → (kinds ≡ []) × NoContent
 none_kept b name order NoContent kinds are conflict (inl one) =
-    let both : true ≡ false = sym one.0 ∙ sym (ap are_one_type are) ∙ conflict in
+    let both : true ≡ false = sym one.0 ∙ conflict in
     absurd cc
 none_kept b name order NoContent kinds are conflict (inr none) = (are ∙ none.0, none.1)
 

@@ -16,6 +16,13 @@ pub record Costs (each value more : ℕ) (old new : Budget) (before after : Mete
   pub bytes : after.bytes + each * new.records + value * new.value_bytes
       ≤ before.bytes + each * old.records + value * old.value_bytes + 256 * more
 
+-- The same, where an alias step and an expansion of each of so many types are paid for too: 29 nodes and 7,424 bytes each.
+pub record CostsAhead (kinds each value more : ℕ) (old new : Budget) (before after : Meter) : Type 0 where
+  pub alone : Costs each value more old new before after
+  pub nodes : after.nodes + 29 * kinds + 59 * new.records ≤ before.nodes + 59 * old.records + more
+  pub bytes : after.bytes + 7424 * kinds + each * new.records + value * new.value_bytes
+      ≤ before.bytes + each * old.records + value * old.value_bytes + 256 * more
+
 -- a meter after so many types more were tried: 29 nodes for each, and 32 times 256 bytes
 abbrev pub ahead : ℕ → Meter → Meter
 ahead kinds meter = record { nodes = meter.nodes + 29 * kinds; bytes = meter.bytes + 8192 * kinds }

@@ -3,7 +3,7 @@
 ghost use Rattle.std.specs.Prelude.{◌≡◌, ◌≢◌, ◌⊎◌, ℕ, ◌+◌, ◌*◌, ◌/◌, ◌<◌, ◌≤◌, List, max, length, IfOk, IfErr, OnOk, IfSome, MatchResult};
 ghost use Rattle.std.specs.Prelude.{All, Contains, true, false, ⊤, Ok, Some, None, []};
 ghost use Rattle.mime_base.specs.Cache.Texts.{text_at};
-ghost use Rattle.std.specs.Prelude.{IsOkAnd};
+ghost use Rattle.std.specs.Prelude.{IsErrAnd, IsOkAnd};
 ghost use Rattle.mime_base.specs.Cache.Bytes.{Stands};
 ghost use Rattle.mime_base.specs.Database.{PlainDatabase, pairs_of};
 ghost use Rattle.mime_base.specs.Database.Limits.{IsWithinLimits};
@@ -14,6 +14,7 @@ ghost use Rattle.mime_base.specs.Format.Packed.{Packed, matchlet_count, value_le
 ghost use Rattle.mime_base.specs.Format.Stored.{glob_rules, literal_rules};
 ghost use Rattle.mime_base.specs.Format.SuffixTree.{tree_size};
 ghost use Rattle.mime_view.specs.Hits.{near};
+ghost use Rattle.mime_view.specs.Opening.{IsOpenFault, Opens};
 ghost use Rattle.mime_lookup.specs.Affords.{Affords, rule_records};
 ghost use Rattle.mime_lookup.specs.Ancestry.{kinds_of};
 ghost use Rattle.mime_lookup.specs.Bounds.{KeepsBounds, near_max, stated_extent};
@@ -36,14 +37,14 @@ mod subclass;
 
 use crate::answer::Answer;
 use crate::cached::ancestry::first_of;
-use crate::cached::kept::kept_kinds;
+use crate::cached::kept::{Kept, keep};
 use crate::cached::sniff::{Finding, is_high, resolve, sniff_content};
 use crate::content::Content;
 use crate::limits::LONGEST_NAME;
 use crate::order::Order;
 use crate::stopped::{Cause, Stopped};
 pub use icons::{Icons, icon_of};
-use mime_base::{Counted, Host, Meter, same_name};
+use mime_base::{Counted, Host, Meter};
 use mime_view::{Budget, Cache, CacheFault};
 use std::alloc::Global;
 pub use subclass::is_a;
@@ -80,6 +81,9 @@ pub fn look_up<'a, R: Content>(
     ensures read { (b : PlainDatabase) → IsWithinLimits b → Spells cache.entry b → IfOk result
         (λ answer. IfSome (known_content R.remaining content.old) (λ known. answer.read ≡ read_of b name.now known order)) }
     ensures kind { IfOk result (λ answer. IsKind cache.entry answer.kind.now) }
+    ensures opened { OnOk result (Opens cache.entry) }
+    ensures refused { length name.now ≤ 4096 → (e : CacheFault) → IsOpenFault cache.entry e →
+        IsErrAnd result (λ stopped. stopped.cause ≡ Cause.Cache e) }
     ensures too_long { 4096 < length name.now → (content.new ≡ content.old) × (result ≡ Err (record {
       cause = Cause.NameTooLong;
       read = 0;
@@ -108,6 +112,7 @@ pub fn look_up<'a, R: Content>(
     ensures bounds { MatchResult result
         (λ answer. KeepsBounds (length name.now) cache.entry answer.read answer.meter)
         (λ stopped. KeepsBounds (length name.now) cache.entry stopped.read stopped.meter) }
+    ensures counted { IfOk result (λ answer. 1 ≤ answer.meter.nodes) }
     ensures spent { content.old ≡ None → IfErr result (λ stopped. stopped.cause ≡ Cause.Cache CacheFault.Spent
         → length cache.entry / 4 ≤ stopped.meter.nodes) }
     ensures near { (b : PlainDatabase) → SpellsGlobs cache.entry b → length cache.entry ≤ 268435456
@@ -132,6 +137,7 @@ pub fn look_up<'a, R: Content>(
 }
 
 // The type of a name and a content by the bytes of a cache, and how many bytes of the content were read.
+#[tactic(auto, using(crate::proofs::OpenFaults::opens_without_fault))]
 fn open_and_find<'a, R: Content>(
     alloc: Global,
     cache: Counted<'a>,
@@ -152,6 +158,8 @@ fn open_and_find<'a, R: Content>(
     ensures read { (b : PlainDatabase) → IsWithinLimits b → Spells cache.entry b → OnOk result
         (IfSome (known_content R.remaining content.old) (λ known. read.new ≡ read_of b name.now known order)) }
     ensures kind { IfOk result (λ kind. IsKind cache.entry kind.now) }
+    ensures opened { OnOk result (Opens cache.entry) }
+    ensures refused { (e : CacheFault) → IsOpenFault cache.entry e → IsErrAnd result (λ cause. cause ≡ Cause.Cache e) }
     ensures fault { IfErr result (IsStop (IsLookUpFault cache.entry)) }
     ensures answers { (b : PlainDatabase) → IsWithinLimits b → Spells cache.entry b → Packed cache.entry b →
         IfErr result (λ cause. (cause ≡ Cause.Read) ⊎ (cause ≡ Cause.OutOfMemory)) }
@@ -159,6 +167,7 @@ fn open_and_find<'a, R: Content>(
         content.old content.new read.new result }
     ensures asks { (b : PlainDatabase) → IsWithinLimits b → Spells cache.entry b →
         AsksUnless R.health (globs_suffice b name.now order) content.old content.new result }
+    ensures counted { OnOk result (1 ≤ meter.new.nodes) }
     ensures spent { content.old ≡ None → IfErr result
         (λ cause. cause ≡ Cause.Cache CacheFault.Spent → length cache.entry / 4 ≤ meter.new.nodes) }
     ensures near { (b : PlainDatabase) → SpellsGlobs cache.entry b → GlobsDecide b name.now order (content.old ≡ None) → IfOk result
@@ -232,13 +241,15 @@ fn globs_first<'a, R: Content>(
     ensures cost { Costs (record_cost (length name.now)) (read.new + 1) (glob_cost (length name.now) + (2 + 29))
         budget.old budget.new meter.old meter.new }
 {
-    let kept = kept_kinds(alloc, cache, name, meter, budget)?;
-    if are_one_type(&kept, meter) {
-        return Ok(kept[0]);
+    let kept = keep(alloc, cache, name, meter, budget)?;
+    match kept {
+        Kept::One(kind) => Ok(kind),
+        Kept::Others(kinds) => {
+            let finding = sniff_content(alloc, cache, content, host, read, meter, budget)?;
+            let kind = choose(alloc, cache, &kinds, finding, meter, budget)?;
+            Ok(kind)
+        }
     }
-    let finding = sniff_content(alloc, cache, content, host, read, meter, budget)?;
-    let kind = choose(alloc, cache, &kept, finding, meter, budget)?;
-    Ok(kind)
 }
 
 // The content is looked at first; magic of low priority decides only where the globs don't.
@@ -315,31 +326,14 @@ fn by_globs<'a>(
     ensures cost { (value : ℕ) → Costs (record_cost (length name.now)) value (glob_cost (length name.now) + 29)
         budget.old budget.new meter.old meter.new }
 {
-    let kept = kept_kinds(alloc, cache, name, meter, budget)?;
-    if are_one_type(&kept, meter) {
-        return Ok(kept[0]);
-    }
-    let kind = choose(alloc, cache, &kept, finding, meter, budget)?;
-    Ok(kind)
-}
-
-// Whether there are types, and all are one type.
-fn are_one_type(kinds: &[&[u8]], meter: &mut Meter) -> bool
-    ensures answer { result ≡ are_one_type (kinds_of kinds.now) }
-    ensures nodes { meter.new.nodes ≡ meter.old.nodes }
-    ensures rises { meter.old.bytes ≤ meter.new.bytes }
-    ensures bytes { All (λ kind. length kind < 256) (kinds_of kinds.now) →
-        meter.new.bytes ≤ meter.old.bytes + 256 * length kinds.now }
-{
-    let Some((first, more)) = kinds.split_first() else {
-        return false;
-    };
-    for kind in more {
-        if !same_name(*first, *kind, meter) {
-            return false;
+    let kept = keep(alloc, cache, name, meter, budget)?;
+    match kept {
+        Kept::One(kind) => Ok(kind),
+        Kept::Others(kinds) => {
+            let kind = choose(alloc, cache, &kinds, finding, meter, budget)?;
+            Ok(kind)
         }
     }
-    true
 }
 
 // What was found where no type is kept, else the first kept type that is it or a subclass of it, else the
@@ -360,7 +354,8 @@ fn choose<'a>(
     ensures base { kinds_of kept.now ≡ [] → (b : PlainDatabase) (offsets : Offsets) → HeaderAt (Stands cache.now) offsets →
         PairsAt (Stands cache.now) offsets.aliases b.aliases → IsOkAnd result
         (λ kind. kind.now ≡ resolved_finding b.aliases (plain_finding finding.entry)) }
-    ensures unspent { kinds_of kept.now ≡ [] → budget.new ≡ budget.old }
+    ensures unspent { kinds_of kept.now ≡ [] →
+        (budget.new ≡ budget.old) × (meter.new.nodes ≤ meter.old.nodes + 29) }
     ensures one { IfOk result (λ kind. IsKind cache.now kind.now ⊎ Contains (kinds_of kept.now) kind.now) }
     ensures need { (b : PlainDatabase) → SpellsMagic cache.now b → SpellsPairs cache.now b →
         length b.parents ≤ budget.old.records → IfErr result (λ e. e ≡ CacheFault.OutOfMemory) }

@@ -1,13 +1,14 @@
 //! The icons of a type, by a cache ("The mime.cache files").
 
 ghost use Rattle.std.specs.Prelude.{◌≡◌, ◌≢◌, ◌⊎◌, ℕ, ◌+◌, ◌*◌, ◌<◌, ◌≤◌, ◌==◌, length, map, option_map, position};
-ghost use Rattle.std.specs.Prelude.{IfErr, IfOk, IfSome, MatchResult, OnOk};
+ghost use Rattle.std.specs.Prelude.{IfErr, IfOk, IfSome, IsErrAnd, MatchResult, OnOk};
 ghost use Rattle.mime_base.specs.Database.{PlainDatabase};
 ghost use Rattle.mime_lookup.specs.Bounds.{KeepsBounds};
 ghost use Rattle.mime_lookup.specs.Icons.{HasIconLists, icons_of, plain_icons_of};
 ghost use Rattle.mime_lookup.specs.Icons.{before_slash, generic_of_media, hyphen_for_slash, name_or, with_hyphens};
 ghost use Rattle.mime_lookup.specs.Spelling.{SpellsIcons};
 ghost use Rattle.mime_lookup.specs.StepFaults.{IsIconFault};
+ghost use Rattle.mime_view.specs.Opening.{IsOpenFault, Opens};
 
 use crate::stopped::{Cause, Stopped};
 use mime_base::{Counted, Meter, OutOfMemory, TypeName};
@@ -34,6 +35,9 @@ pub struct Icons {
 pub fn icon_of<'a>(alloc: Global, cache: Counted<'a>, kind: &'a TypeName) -> Result<Icons, Stopped>
     ensures answer { (b : PlainDatabase) → SpellsIcons cache.entry b → IfOk result
         (λ icons. plain_icons_of icons ≡ icons_of b kind.entry.now) }
+    ensures opened { OnOk result (Opens cache.entry) }
+    ensures refused { (e : CacheFault) → IsOpenFault cache.entry e →
+        IsErrAnd result (λ stopped. stopped.cause ≡ Cause.Cache e) }
     ensures lists { OnOk result (HasIconLists cache.entry) }
     ensures need { (b : PlainDatabase) → SpellsIcons cache.entry b → length cache.entry ≤ 268435456 →
         IfErr result (λ stopped. stopped.cause ≡ Cause.OutOfMemory) }
@@ -59,6 +63,7 @@ pub fn icon_of<'a>(alloc: Global, cache: Counted<'a>, kind: &'a TypeName) -> Res
 }
 
 // The names of the icon and of the generic icon of a type.
+#[tactic(auto, using(crate::proofs::OpenFaults::opens_without_fault))]
 fn find_icons<'a>(
     alloc: Global,
     cache: Counted<'a>,
@@ -67,6 +72,8 @@ fn find_icons<'a>(
 ) -> Result<(Vec<u8>, Vec<u8>), CacheFault>
     ensures answer { (b : PlainDatabase) → SpellsIcons cache.entry b → IfOk result
         (λ icons. record { icon = icons.0.items; generic = icons.1.items } ≡ icons_of b kind.entry.now) }
+    ensures opened { OnOk result (Opens cache.entry) }
+    ensures refused { (e : CacheFault) → IsOpenFault cache.entry e → IsErrAnd result (λ fault. fault ≡ e) }
     ensures lists { OnOk result (HasIconLists cache.entry) }
     ensures need { (b : PlainDatabase) → SpellsIcons cache.entry b → length cache.entry ≤ 268435456 →
         IfErr result (λ e. e ≡ CacheFault.OutOfMemory) }

@@ -1,24 +1,68 @@
 //! The kept types of a name over a cache ("Recommended checking order").
 
-ghost use Rattle.std.specs.Prelude.{◌≡◌, ◌⊎◌, ℕ, ◌+◌, ◌*◌, ◌≤◌, All, List, Ok, length, IfErr, IfOk, MatchResult};
+ghost use Rattle.std.specs.Prelude.{◌≡◌, ◌⊎◌, ℕ, ◌+◌, ◌*◌, ◌<◌, ◌≤◌, All, List, Ok, length, IfErr, IfOk, MatchResult, OnOk};
 ghost use Rattle.mime_base.specs.Cache.Texts.{text_at};
 ghost use Rattle.mime_base.specs.Database.{PlainDatabase, pairs_of};
 ghost use Rattle.mime_base.specs.Format.Stored.{glob_rules, literal_rules};
 ghost use Rattle.mime_base.specs.Format.SuffixTree.{tree_size};
 ghost use Rattle.mime_base.specs.Meter.{raised};
 ghost use Rattle.mime_view.specs.Hits.{near};
+ghost use Rattle.mime_lookup.specs.Affords.{rule_records};
 ghost use Rattle.mime_lookup.specs.Ancestry.{kinds_of};
+ghost use Rattle.mime_lookup.specs.Bounds.{near_max};
+ghost use Rattle.mime_lookup.specs.Cached.{AreCacheTexts, IsKept, others_count};
+ghost use Rattle.mime_lookup.specs.CheckingOrder.{are_one_type};
 ghost use Rattle.mime_lookup.specs.Choice.{kept};
-ghost use Rattle.mime_lookup.specs.Costs.{Costs, ahead, glob_cost, record_cost};
+ghost use Rattle.mime_lookup.specs.Costs.{Costs, CostsAhead, ahead, glob_cost, record_cost};
 ghost use Rattle.mime_lookup.specs.Spelling.{SpellsGlobs};
 ghost use Rattle.mime_lookup.specs.StepFaults.{IsGlobsFault};
 
-use mime_base::Meter;
+use mime_base::{Meter, same_name};
 use mime_view::{Budget, Cache, CacheFault, kept_are_near};
 use std::alloc::Global;
 
-/// The types of the rules that are kept for a name, each after one alias step.
-pub fn kept_kinds<'a>(
+/// The types that are kept for a name.
+pub enum Kept<'a> {
+    /// All are this one type.
+    One(&'a [u8]),
+    /// There is none, or they differ.
+    Others(Vec<&'a [u8]>),
+}
+
+/// The types that are kept for a name, as one where all are one type.
+pub fn keep<'a>(
+    alloc: Global,
+    cache: &Cache<'a>,
+    name: &[u8],
+    meter: &mut Meter,
+    budget: &mut Budget,
+) -> Result<Kept<'a>, CacheFault>
+    requires short { length name.now ≤ 4096 }
+    ensures answer { (b : PlainDatabase) → SpellsGlobs cache.now b → IfOk result (IsKept (kept (pairs_of b) b.rules name.now)) }
+    ensures text { IfOk result (AreCacheTexts cache.now) }
+    ensures need { (b : PlainDatabase) → SpellsGlobs cache.now b → rule_records b ≤ budget.old.records →
+        IfErr result (λ e. e ≡ CacheFault.OutOfMemory) }
+    ensures fault { IfErr result (IsGlobsFault cache.now budget.new) }
+    ensures takes_within { (b : PlainDatabase) → SpellsGlobs cache.now b →
+        budget.old.records ≤ budget.new.records + rule_records b }
+    ensures value_bytes { budget.new.value_bytes ≡ budget.old.value_bytes }
+    ensures near { (b : PlainDatabase) → SpellsGlobs cache.now b → OnOk result
+        (meter.new.nodes + 29 < meter.old.nodes + near_max (length name.now) (near name.now b.rules)) }
+    ensures cost { (value : ℕ) → MatchResult result
+        (λ kept. CostsAhead (others_count kept) (record_cost (length name.now)) value (glob_cost (length name.now))
+        budget.old budget.new meter.old meter.new)
+        (λ _. Costs (record_cost (length name.now)) value (glob_cost (length name.now))
+        budget.old budget.new meter.old meter.new) }
+{
+    let kinds = kept_kinds(alloc, cache, name, meter, budget)?;
+    if are_one_type(&kinds, meter) {
+        return Ok(Kept::One(kinds[0]));
+    }
+    Ok(Kept::Others(kinds))
+}
+
+// The types of the rules that are kept for a name, each after one alias step.
+fn kept_kinds<'a>(
     alloc: Global,
     cache: &Cache<'a>,
     name: &[u8],
@@ -62,4 +106,23 @@ pub fn kept_kinds<'a>(
     }
     kept_are_near();
     Ok(kinds)
+}
+
+// Whether there are types, and all are one type.
+fn are_one_type(kinds: &[&[u8]], meter: &mut Meter) -> bool
+    ensures answer { result ≡ are_one_type (kinds_of kinds.now) }
+    ensures nodes { meter.new.nodes ≡ meter.old.nodes }
+    ensures rises { meter.old.bytes ≤ meter.new.bytes }
+    ensures bytes { All (λ kind. length kind < 256) (kinds_of kinds.now) →
+        meter.new.bytes ≤ meter.old.bytes + 256 * length kinds.now }
+{
+    let Some((first, more)) = kinds.split_first() else {
+        return false;
+    };
+    for kind in more {
+        if !same_name(*first, *kind, meter) {
+            return false;
+        }
+    }
+    true
 }

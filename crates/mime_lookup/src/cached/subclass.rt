@@ -1,6 +1,6 @@
 //! Whether a type is a subclass of another, by a cache ("Subclassing").
 
-ghost use Rattle.std.specs.Prelude.{◌≡◌, ◌≢◌, ◌⊎◌, ◌↔◌, ◌+◌, ◌*◌, ◌/◌, ◌≤◌, length, IfErr, IfOk, IsTrue, MatchResult};
+ghost use Rattle.std.specs.Prelude.{◌≡◌, ◌≢◌, ◌⊎◌, ◌↔◌, ◌+◌, ◌*◌, ◌/◌, ◌≤◌, length, IfErr, IfOk, IsErrAnd, IsTrue, MatchResult, OnOk};
 ghost use Rattle.mime_base.specs.Database.{PlainDatabase, pairs_of};
 ghost use Rattle.mime_base.specs.Database.Subclass.{IsA, resolved};
 ghost use Rattle.mime_base.specs.Format.Packed.{Packed};
@@ -8,6 +8,7 @@ ghost use Rattle.mime_lookup.specs.Bounds.{KeepsBounds};
 ghost use Rattle.mime_lookup.specs.Searching.{search_cost};
 ghost use Rattle.mime_lookup.specs.Spelling.{SpellsPairs};
 ghost use Rattle.mime_lookup.specs.StepFaults.{IsLookUpFault};
+ghost use Rattle.mime_view.specs.Opening.{IsOpenFault, Opens};
 
 use crate::cached::ancestry::leads_to;
 use crate::stopped::{Cause, Stopped};
@@ -28,6 +29,9 @@ pub fn is_a<'a>(
 ) -> Result<(bool, Meter), Stopped>
     ensures answer { (b : PlainDatabase) → SpellsPairs cache.entry b → IfOk result
         (λ found. IsTrue found.0 ↔ IsA (pairs_of b) (resolved b.aliases kind.entry.now) (resolved b.aliases base.entry.now)) }
+    ensures opened { OnOk result (Opens cache.entry) }
+    ensures refused { (e : CacheFault) → IsOpenFault cache.entry e →
+        IsErrAnd result (λ stopped. stopped.cause ≡ Cause.Cache e) }
     ensures need { (b : PlainDatabase) → SpellsPairs cache.entry b → length cache.entry ≤ 268435456 → Packed cache.entry b →
         IfErr result (λ stopped. stopped.cause ≡ Cause.OutOfMemory) }
     ensures fault { IfErr result (λ stopped. (stopped.cause ≡ Cause.OutOfMemory)
@@ -50,6 +54,7 @@ pub fn is_a<'a>(
 }
 
 // The same, with its fault alone.
+#[tactic(auto, using(crate::proofs::OpenFaults::opens_without_fault))]
 fn search<'a>(
     alloc: Global,
     cache: Counted<'a>,
@@ -60,6 +65,8 @@ fn search<'a>(
     requires base { length base.now ≤ 255 }
     ensures answer { (b : PlainDatabase) → SpellsPairs cache.entry b → IfOk result
         (λ is. IsTrue is ↔ IsA (pairs_of b) (resolved b.aliases kind.entry.now) (resolved b.aliases base.entry.now)) }
+    ensures opened { OnOk result (Opens cache.entry) }
+    ensures refused { (e : CacheFault) → IsOpenFault cache.entry e → IsErrAnd result (λ fault. fault ≡ e) }
     ensures need { (b : PlainDatabase) → SpellsPairs cache.entry b → length cache.entry ≤ 268435456 → Packed cache.entry b →
         IfErr result (λ e. e ≡ CacheFault.OutOfMemory) }
     ensures fault { IfErr result (IsLookUpFault cache.entry) }

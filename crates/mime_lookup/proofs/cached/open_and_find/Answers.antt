@@ -1,7 +1,11 @@
 use Rattle.std.proofs.Common.{◌≡◌, ◌/◌, ◌≤◌, length, arith}
 use Rattle.mime_lookup.proofs.BoundLemmas.{keeps_bounds}
-use Rattle.mime_lookup.proofs.Openings.{header_without_fault}
+use Rattle.mime_lookup.proofs.OpenFaults.{header_without_fault, on_ok, refused_for}
 use Rattle.mime_lookup.proofs.cached.open_and_find.Goals as goal
+
+pub returns-in_err-cache-clause-refused : goal.returns-in_err-cache-clause-refused
+returns-in_err-cache-clause-refused g c e fault =
+    refused_for c.args.cache _ e c.in_err-cache.ensures.opened fault c.from_residual.result c.from_residual.ensures.1
 
 pub returns-in_err-cache-clause-answers : goal.returns-in_err-cache-clause-answers
 returns-in_err-cache-clause-answers g c b within spells packed =
@@ -25,3 +29,17 @@ returns-in-MagicFirst-clause-bounds g c =
 pub returns-in_err-cache-clause-near_need : goal.returns-in_err-cache-clause-near_need
 returns-in_err-cache-clause-near_need g c b globs limit decide packed =
     absurd (header_without_fault c.args.cache globs.offsets _ globs.header limit c.in_err-cache.ensures.opened)
+
+pub returns-in-GlobsFirst-clause-opened : goal.returns-in-GlobsFirst-clause-opened
+returns-in-GlobsFirst-clause-opened g c = on_ok c.globs_first.result c.in_ok-cache.ensures.opened.1
+
+pub returns-in-MagicFirst-clause-opened : goal.returns-in-MagicFirst-clause-opened
+returns-in-MagicFirst-clause-opened g c = on_ok c.magic_first.result c.in_ok-cache.ensures.opened.1
+
+pub returns-in-GlobsFirst-clause-counted : goal.returns-in-GlobsFirst-clause-counted
+returns-in-GlobsFirst-clause-counted g c =
+    on_ok c.globs_first.result (omega (arith, c.in_ok-cache.ensures.counted, c.globs_first.ensures.cost.rises))
+
+pub returns-in-MagicFirst-clause-counted : goal.returns-in-MagicFirst-clause-counted
+returns-in-MagicFirst-clause-counted g c =
+    on_ok c.magic_first.result (omega (arith, c.in_ok-cache.ensures.counted, c.magic_first.ensures.cost.rises))

@@ -1,8 +1,12 @@
 use Rattle.std.proofs.Common.{ℕ, List, ap, ap₂, ◌∙◌}
 use Rattle.mime_lookup.specs.Icons.{PlainIcons, generic_of_media, icons_by, name_or, with_hyphens}
 use Rattle.mime_lookup.specs.Spelling.{SpellsIcons}
-use Rattle.mime_lookup.proofs.Openings.{header_without_fault}
+use Rattle.mime_lookup.proofs.OpenFaults.{header_without_fault, refused_with}
 use Rattle.mime_lookup.proofs.cached.icons.find_icons.Goals as goal
+
+pub returns-in_err-cache-clause-refused : goal.returns-in_err-cache-clause-refused
+returns-in_err-cache-clause-refused c = λ e fault.
+    refused_with c.args.cache _ e c.in_err-cache.ensures.opened fault c.from_residual.result c.from_residual.ensures.1
 
 pub returns-in_err-cache-clause-need : goal.returns-in_err-cache-clause-need
 returns-in_err-cache-clause-need c = λ b spelled limit.

@@ -1,8 +1,10 @@
-use Rattle.std.proofs.Common.{sym, ◌∙◌}
+use Rattle.std.proofs.Common.{ap, sym, ◌∙◌}
+use Rattle.mime_lookup.specs.Cached.{cause_of}
 use Rattle.mime_lookup.specs.StepFaults.{IsLookUpFault}
 use Rattle.mime_view.specs.declared.fault.CacheFault.TheVariants.{Spent}
 use Rattle.mime_lookup.proofs.CauseLemmas.{caused, says_fault}
-use Rattle.mime_lookup.proofs.OpenCaches.{is_type_name-short}
+use Rattle.mime_lookup.proofs.OpenFaults.{cause_of-open_fault}
+use Rattle.mime_lookup.proofs.ShortTexts.{is_type_name-short}
 use Rattle.mime_lookup.proofs.cached.subclass.is_a.Goals as goal
 
 pub search-requires : goal.search-requires
@@ -18,3 +20,7 @@ returns-in-Err-clause-fault c =
 pub returns-in-Err-clause-spent : goal.returns-in-Err-clause-spent
 returns-in-Err-clause-spent c = λ spent.
     c.in-Err.ensures.spent (says_fault c.in-Err.fault Spent (sym c.from.ensures ∙ spent))
+
+pub returns-in-Err-clause-refused : goal.returns-in-Err-clause-refused
+returns-in-Err-clause-refused c = λ e fault.
+    c.from.ensures ∙ ap cause_of (c.in-Err.ensures.refused e fault) ∙ cause_of-open_fault c.args.cache e fault

@@ -7,14 +7,19 @@ use Rattle.mime_view.specs.declared.budget.Budget.{Budget}
 use Rattle.mime_lookup.specs.Ancestry.{NoneLeadsTo}
 use Rattle.mime_lookup.specs.Spelling.{SpellsPairs}
 use Rattle.mime_lookup.specs.StepFaults.{IsLookUpFault, IsSearchFault, of_search}
-use Rattle.mime_lookup.proofs.OpenCaches.{never_refused, text_short}
+use Rattle.mime_lookup.proofs.OpenFaults.{header_without_fault, on_ok, refused_with}
+use Rattle.mime_lookup.proofs.ShortTexts.{text_short}
 use Rattle.mime_lookup.proofs.PairsLeft.{unmarked_most}
 use Rattle.mime_lookup.proofs.PlaceMarks.{marked-none}
 use Rattle.mime_lookup.proofs.cached.subclass.search.Goals as goal
 
+pub returns-in_err-cache-clause-refused : goal.returns-in_err-cache-clause-refused
+returns-in_err-cache-clause-refused c = λ e fault.
+    refused_with c.args.cache _ e c.in_err-cache.ensures.opened fault c.from_residual.result c.from_residual.ensures.1
+
 pub returns-in_err-cache-clause-need : goal.returns-in_err-cache-clause-need
 returns-in_err-cache-clause-need c = λ b spells small packed.
-    absurd (never_refused c.args.cache spells.offsets spells.header small _ c.in_err-cache.ensures.opened)
+    absurd (header_without_fault c.args.cache spells.offsets _ spells.header small c.in_err-cache.ensures.opened)
 
 pub returns-in_err-kind-clause-need : goal.returns-in_err-kind-clause-need
 returns-in_err-kind-clause-need c = λ b spells small packed.
@@ -76,3 +81,6 @@ pub returns-clause-fault : goal.returns-clause-fault
 returns-clause-fault c =
     IfErr-weaker c.leads_to.result (IsSearchFault c.in_ok-cache.cache c.leads_to.new.budget) (IsLookUpFault c.args.cache)
     (λ e is. rw (← c.in_ok-cache.ensures.opened.0) (of_search c.leads_to.new.budget is)) c.leads_to.ensures.fault
+
+pub returns-clause-opened : goal.returns-clause-opened
+returns-clause-opened c = on_ok c.leads_to.result c.in_ok-cache.ensures.opened.1

@@ -1,7 +1,7 @@
 use Rattle.std.proofs.Common.{◌≡◌, ◌+◌, ◌*◌, ◌<◌, ◌≤◌, All, length, drop, bytes_eq}
 use Rattle.std.specs.List.{list_all}
 use Rattle.mime_lookup.specs.Ancestry.{kinds_of}
-use Rattle.mime_lookup.proofs.cached.are_one_type.Given as goal
+use Rattle.mime_lookup.proofs.cached.kept.are_one_type.Given as goal
 
 abbrev pub invariant-loop-kind : goal.invariant-loop-kind
 invariant-loop-kind l = record {

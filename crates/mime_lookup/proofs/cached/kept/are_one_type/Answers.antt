@@ -5,7 +5,7 @@ use Rattle.std.proofs.lemmas.List.{drop_all}
 use Rattle.std.proofs.lemmas.Slice.Eq.{bytes_eq-Decides}
 use Rattle.mime_lookup.specs.Ancestry.{kinds_of}
 use Rattle.mime_lookup.specs.CheckingOrder.{are_one_type}
-use Rattle.mime_lookup.proofs.cached.are_one_type.Goals as goal
+use Rattle.mime_lookup.proofs.cached.kept.are_one_type.Goals as goal
 
 -- two tests of one fact
 decided : {P : Type 0} (r s : Bool) → (IsTrue r ↔ P) → (IsTrue s ↔ P) → r ≡ s
