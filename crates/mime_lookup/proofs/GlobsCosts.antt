@@ -18,22 +18,22 @@ costs_less name read more old new before after less is =
     (omega arith) (omega arith) less is
 
 -- the globs alone
-pub costs_globs : (name read : ℕ) (old new : Budget) (before after : Meter)
+pub costs_globs : (name read : ℕ) {old new : Budget} {before after : Meter}
     → Costs (record_cost name) (read + 1) (glob_cost name) old new before after → CostsAll name read old new before after
-costs_globs name read old new before after is = costs_less name read (glob_cost name) old new before after (omega arith) is
+costs_globs name read {old} {new} {before} {after} is = costs_less name read (glob_cost name) old new before after (omega arith) is
 
-module _ (name read kinds : ℕ) (old kept : Budget) (start tested : Meter)
+module _ (name read kinds : ℕ) {old kept : Budget} {start tested : Meter}
     (globs : CostsAhead kinds (record_cost name) (read + 1) (glob_cost name) old kept start tested)
   where
     -- the globs and the content
-    pub costs_sniffed_then : (new : Budget) (after : Meter) → Costs (record_cost name) (read + 1) 2 kept new tested after
+    pub costs_sniffed_then : {new : Budget} {after : Meter} → Costs (record_cost name) (read + 1) 2 kept new tested after
         → CostsAll name read old new start after
-    costs_sniffed_then new after sniff =
+    costs_sniffed_then {new} {after} sniff =
         costs_less name read (glob_cost name + 2) old new start after (omega arith)
         (costs_then (record_cost name) (read + 1) (glob_cost name) 2 old kept new start tested after globs.alone sniff)
 
     -- the globs, the content and the choice
-    pub costs_choice_then : (late new : Budget) (sniffed after : Meter) → Costs (record_cost name) (read + 1) 2 kept late tested sniffed
+    pub costs_choice_then : {late new : Budget} {sniffed after : Meter} → Costs (record_cost name) (read + 1) 2 kept late tested sniffed
         → Costs (record_cost name) (read + 1) (29 + 29 * kinds) late new sniffed after → CostsAll name read old new start after
-    costs_choice_then late new sniffed after sniff choice =
+    costs_choice_then {late} {new} {sniffed} {after} sniff choice =
         costs_chosen (record_cost name) (read + 1) (glob_cost name) 2 kinds old kept late new start tested sniffed after globs sniff choice

@@ -2,7 +2,7 @@
 use Rattle.std.proofs.Common.{◌≡◌, ◌⊎◌, ℕ, List, Result, Ok, Err, inl, inr, refl, subst, sym}
 use Rattle.std.specs.Prelude.{IfErr, IsErrAnd}
 use Rattle.mime_lookup.specs.Cached.{IsStop, cause_of}
-use Rattle.mime_lookup.specs.StepFaults.{IsAliasFault, IsLookUpFault, IsSearchFault, of_search}
+use Rattle.mime_lookup.specs.StepFaults.{IsAliasFault, IsLookUpFault, IsSearchFault, IsSniffFault, of_magic, of_search}
 use Rattle.mime_lookup.specs.declared.stopped.Cause.{Cause}
 use Rattle.mime_lookup.specs.declared.stopped.Cause.TheVariants as cause
 use Rattle.mime_view.specs.declared.budget.Budget.{Budget}
@@ -37,3 +37,10 @@ spent_fault fault.OutOfMemory same = absurd cc
 pub choice_fault : (c : List ℕ) (after : Budget) (e : CacheFault) → IsAliasFault c e ⊎ IsSearchFault c after e → IsLookUpFault c e
 choice_fault c after e (inl alias) = of_search after (inr (inl alias))
 choice_fault c after e (inr search) = of_search after search
+
+-- what a content is sniffed as was not found, and that is passed on
+pub sniff_stops : {X : Type 0} (c : List ℕ) (after : Budget) (stop : Cause) (result : Result X Cause)
+    → IsErrAnd result (λ passed. passed ≡ stop) → IsStop (IsSniffFault c after) stop → IfErr result (IsStop (IsLookUpFault c))
+sniff_stops c after stop result same is =
+    passed_on (IsStop (IsLookUpFault c)) stop result same
+    (stop_weaker (IsSniffFault c after) (IsLookUpFault c) stop (λ e fault. of_magic after fault) is)

@@ -21,11 +21,6 @@ returns-in_err-kept-clause-fault c =
     passed_on _ c.in_err-kept.field-0.0 c.from_residual.result c.from_residual.ensures.1
     (of_globs c.keep.new.budget c.in_err-kept.ensures.fault)
 
-pub returns-in_err-kept-clause-near_need : goal.returns-in_err-kept-clause-near_need
-returns-in_err-kept-clause-near_need c b globs decide enough =
-    passed_on _ c.in_err-kept.field-0.0 c.from_residual.result c.from_residual.ensures.1
-    (c.in_err-kept.ensures.need b globs enough)
-
 pub returns-in_err-kept-clause-cost : goal.returns-in_err-kept-clause-cost
 returns-in_err-kept-clause-cost c value =
     let cost = glob_cost (length c.args.name.now) in

@@ -1,13 +1,12 @@
 use Rattle.std.proofs.Common.{◌≡◌, ◌+◌, ◌*◌, ◌<◌, ◌≤◌, ℕ, true, false, List, length, inl, inr, ap, refl, arith, None}
 use Rattle.mime_base.specs.declared.meter.Meter.{Meter}
-use Rattle.mime_view.specs.declared.budget.Budget.{Budget}
 use Rattle.mime_base.specs.Database.{pairs_of}
 use Rattle.mime_lookup.specs.Ancestry.{kinds_of}
 use Rattle.mime_lookup.specs.Cached.{cause_of, plain_finding}
-use Rattle.mime_lookup.specs.Choice.{ChoosesAmong, kept}
+use Rattle.mime_lookup.specs.Choice.{kept}
 use Rattle.mime_lookup.specs.Costs.{record_cost}
 use Rattle.mime_lookup.specs.Finding.{resolved_finding}
-use Rattle.mime_lookup.specs.StepFaults.{IsLookUpFault, IsSniffFault, of_globs, of_magic}
+use Rattle.mime_lookup.specs.StepFaults.{IsLookUpFault, of_globs}
 use Rattle.mime_lookup.specs.declared.order.Order.TheVariants.{GlobsFirst}
 use Rattle.mime_lookup.proofs.Answering.{by_globs, by_globs_and_content, read_front, read_none, suffice}
 use Rattle.mime_lookup.proofs.GlobsCosts.{costs_choice_then, costs_globs, costs_sniffed_then}
@@ -17,7 +16,7 @@ use Rattle.mime_lookup.proofs.KindTexts.{chosen_kind}
 use Rattle.mime_lookup.proofs.ReadsLemmas.{asks_nothing, asks_stopped}
 use Rattle.mime_lookup.proofs.SpelledParts.{spelled_globs, spelled_magic, spelled_pairs}
 use Rattle.mime_lookup.proofs.Stops.{stops_by}
-use Rattle.mime_lookup.proofs.StepStops.{choice_fault, passed_on, stop_weaker}
+use Rattle.mime_lookup.proofs.StepStops.{choice_fault, passed_on, sniff_stops}
 use Rattle.mime_lookup.proofs.cached.globs_first.Goals as goal
 
 pub returns-in_err-kept-clause-fault : goal.returns-in_err-kept-clause-fault
@@ -25,15 +24,9 @@ returns-in_err-kept-clause-fault g c =
     stops_by (IsLookUpFault c.args.cache.now) c.in_err-kept.field-0.0 c.from_residual.result c.from_residual.ensures.1
     (of_globs c.keep.new.budget c.in_err-kept.ensures.fault)
 
-pub returns-in_err-kept-clause-near_need : goal.returns-in_err-kept-clause-near_need
-returns-in_err-kept-clause-near_need g c b globs decide enough =
-    passed_on _ (cause_of c.in_err-kept.field-0.0) c.from_residual.result c.from_residual.ensures.1
-    (ap cause_of (c.in_err-kept.ensures.need b globs enough))
-
 pub returns-in_err-kept-clause-cost : goal.returns-in_err-kept-clause-cost
 returns-in_err-kept-clause-cost g c =
-    costs_globs (length c.args.name.now) c.args.read.now c.args.budget.now c.keep.new.budget c.args.meter.now c.keep.new.meter
-    (c.in_err-kept.ensures.cost (c.args.read.now + 1))
+    costs_globs (length c.args.name.now) c.args.read.now (c.in_err-kept.ensures.cost (c.args.read.now + 1))
 
 pub returns-in-One-clause-chosen : goal.returns-in-One-clause-chosen
 returns-in-One-clause-chosen g c b within spells =
@@ -63,20 +56,17 @@ returns-in-One-clause-near g c b globs decide =
 
 pub returns-in-One-clause-cost : goal.returns-in-One-clause-cost
 returns-in-One-clause-cost g c =
-    costs_globs (length c.args.name.now) c.args.read.now c.args.budget.now c.keep.new.budget c.args.meter.now c.keep.new.meter
-    (c.in_ok-kept.ensures.cost (c.args.read.now + 1)).alone
+    costs_globs (length c.args.name.now) c.args.read.now (c.in_ok-kept.ensures.cost (c.args.read.now + 1)).alone
 
 pub returns-in_err-finding-in-Others-clause-fault : goal.returns-in_err-finding-in-Others-clause-fault
 returns-in_err-finding-in-Others-clause-fault g c =
-    passed_on _ c.in_err-finding-in-Others.field-0.0 c.from_residual-in_err-finding-in-Others.result c.from_residual-in_err-finding-in-Others.ensures.1
-    (stop_weaker (IsSniffFault c.args.cache.now c.sniff_content.new.budget) (IsLookUpFault c.args.cache.now) c.in_err-finding-in-Others.field-0.0
-    (λ e is. of_magic c.sniff_content.new.budget is) c.in_err-finding-in-Others.ensures.fault)
+    sniff_stops c.args.cache.now c.sniff_content.new.budget c.in_err-finding-in-Others.field-0.0 c.from_residual-in_err-finding-in-Others.result
+    c.from_residual-in_err-finding-in-Others.ensures.1 c.in_err-finding-in-Others.ensures.fault
 
 pub returns-in_err-finding-in-Others-clause-asks : goal.returns-in_err-finding-in-Others-clause-asks
 returns-in_err-finding-in-Others-clause-asks g c b within spells =
     let is = rw c.in-Others.is at (c.in_ok-kept.ensures.answer b (spelled_globs c.args.cache.now b within spells)) in
-    asks_stopped g.R.Content.health _ c.args.content.now c.sniff_content.new.content c.in_err-finding-in-Others.field-0.0
-    c.from_residual-in_err-finding-in-Others.result
+    asks_stopped g.R.Content.health _ c.args.content.now _ c.in_err-finding-in-Others.field-0.0 c.from_residual-in_err-finding-in-Others.result
     (suffice b c.args.name.now c.args.host GlobsFirst refl (kept (pairs_of b) b.rules c.args.name.now) refl false is.0)
     c.from_residual-in_err-finding-in-Others.ensures.1 c.in_err-finding-in-Others.ensures.asks
 
@@ -89,23 +79,20 @@ returns-in_err-finding-in-Others-clause-near_need g c b globs decide enough =
 
 pub returns-in_err-finding-in-Others-clause-cost : goal.returns-in_err-finding-in-Others-clause-cost
 returns-in_err-finding-in-Others-clause-cost g c =
-    costs_sniffed_then (length c.args.name.now) c.sniff_content.new.read (length c.in-Others.kinds.items) c.args.budget.now
-    c.keep.new.budget c.args.meter.now c.keep.new.meter
-    (rw c.in-Others.is at (c.in_ok-kept.ensures.cost (c.sniff_content.new.read + 1))) c.sniff_content.new.budget
-    c.sniff_content.new.meter (c.in_err-finding-in-Others.ensures.cost (record_cost (length c.args.name.now)) (omega arith))
+    costs_sniffed_then (length c.args.name.now) c.sniff_content.new.read (length c.in-Others.kinds.items)
+    (rw c.in-Others.is at (c.in_ok-kept.ensures.cost (c.sniff_content.new.read + 1)))
+    (c.in_err-finding-in-Others.ensures.cost (record_cost (length c.args.name.now)) (omega arith))
 
 pub returns-in_err-kind-in-Others-clause-fault : goal.returns-in_err-kind-in-Others-clause-fault
 returns-in_err-kind-in-Others-clause-fault g c =
     stops_by (IsLookUpFault c.args.cache.now) c.in_err-kind-in-Others.field-0.0 c.from_residual-in_err-kind-in-Others.result
-    c.from_residual-in_err-kind-in-Others.ensures.1
-    (choice_fault c.args.cache.now c.choose.new.budget c.in_err-kind-in-Others.field-0.0 c.in_err-kind-in-Others.ensures.fault)
+    c.from_residual-in_err-kind-in-Others.ensures.1 (choice_fault c.args.cache.now c.choose.new.budget _ c.in_err-kind-in-Others.ensures.fault)
 
 pub returns-in_err-kind-in-Others-clause-answers : goal.returns-in_err-kind-in-Others-clause-answers
 returns-in_err-kind-in-Others-clause-answers g c b within spells affords =
     let magic = spelled_magic c.args.cache.now b within spells in
     let globs = c.in_ok-kept.ensures.takes_within b (spelled_globs c.args.cache.now b within spells) in
-    let enough : length b.parents ≤ c.sniff_content.new.budget.records =
-    omega (arith, affords.records, globs, c.in_ok-finding-in-Others.ensures.takes_at_most b magic) in
+    let enough : length b.parents ≤ c.sniff_content.new.budget.records = omega (arith, affords.records, globs, c.in_ok-finding-in-Others.ensures.takes_at_most b magic) in
     passed_on _ (cause_of c.in_err-kind-in-Others.field-0.0) c.from_residual-in_err-kind-in-Others.result c.from_residual-in_err-kind-in-Others.ensures.1
     (inr (ap cause_of (c.in_err-kind-in-Others.ensures.need b magic (spelled_pairs c.args.cache.now b spells) enough)))
 
@@ -117,23 +104,19 @@ returns-in_err-kind-in-Others-clause-near_need g c b globs decide enough =
 
 pub returns-in_err-kind-in-Others-clause-cost : goal.returns-in_err-kind-in-Others-clause-cost
 returns-in_err-kind-in-Others-clause-cost g c =
-    let name = length c.args.name.now in
-    costs_choice_then name c.sniff_content.new.read (length c.in-Others.kinds.items) c.args.budget.now c.keep.new.budget c.args.meter.now
-    c.keep.new.meter (rw c.in-Others.is at (c.in_ok-kept.ensures.cost (c.sniff_content.new.read + 1))) c.sniff_content.new.budget
-    c.choose.new.budget c.sniff_content.new.meter c.choose.new.meter
-    (c.in_ok-finding-in-Others.ensures.cost (record_cost name) (omega arith))
-    (rw c.deref.ensures.value at (c.in_err-kind-in-Others.ensures.cost (record_cost name) (c.sniff_content.new.read + 1) (omega arith)))
+    costs_choice_then (length c.args.name.now) c.sniff_content.new.read (length c.in-Others.kinds.items)
+    (rw c.in-Others.is at (c.in_ok-kept.ensures.cost (c.sniff_content.new.read + 1)))
+    (c.in_ok-finding-in-Others.ensures.cost (record_cost (length c.args.name.now)) (omega arith))
+    (rw c.deref.ensures.value at (c.in_err-kind-in-Others.ensures.cost (record_cost (length c.args.name.now)) (c.sniff_content.new.read + 1) (omega arith)))
 
 pub returns-in_ok-kind-in-Others-clause-chosen : goal.returns-in_ok-kind-in-Others-clause-chosen
 returns-in_ok-kind-in-Others-clause-chosen g c b within spells =
     let is = rw c.in-Others.is at (c.in_ok-kept.ensures.answer b (spelled_globs c.args.cache.now b within spells)) in
     let magic = spelled_magic c.args.cache.now b within spells in
     let found = plain_finding c.in_ok-finding-in-Others.finding in
-    let chosen : ChoosesAmong (pairs_of b) (kinds_of c.in-Others.kinds.items) (resolved_finding b.aliases found) c.in_ok-kind-in-Others.kind.now =
-    rw c.deref.ensures.value at (c.in_ok-kind-in-Others.ensures.answer b magic (spelled_pairs c.args.cache.now b spells)) in
-    by_globs_and_content b c.args.name.now c.args.host GlobsFirst refl (kinds_of c.in-Others.kinds.items) is.1 _
-    (resolved_finding b.aliases found) c.in_ok-kind-in-Others.kind.now
-    (sniffed-where b c.args.host found _ (c.in_ok-finding-in-Others.ensures.found b magic)) chosen
+    by_globs_and_content b c.args.name.now c.args.host GlobsFirst refl _ is.1 _ (resolved_finding b.aliases found) c.in_ok-kind-in-Others.kind.now
+    (sniffed-where b c.args.host found _ (c.in_ok-finding-in-Others.ensures.found b magic))
+    (rw c.deref.ensures.value at (c.in_ok-kind-in-Others.ensures.answer b magic (spelled_pairs c.args.cache.now b spells)))
 
 pub returns-in_ok-kind-in-Others-clause-read : goal.returns-in_ok-kind-in-Others-clause-read
 returns-in_ok-kind-in-Others-clause-read g c b within spells =
@@ -149,23 +132,19 @@ returns-in_ok-kind-in-Others-clause-kind g c =
 pub returns-in_ok-kind-in-Others-clause-near : goal.returns-in_ok-kind-in-Others-clause-near
 returns-in_ok-kind-in-Others-clause-near g c b globs decide =
     let is = rw c.in-Others.is at (c.in_ok-kept.ensures.answer b globs) in
-    let kinds = kinds_of c.in-Others.kinds.items in
-    let none = none_kept b c.args.name.now GlobsFirst (c.args.content.now ≡ None) kinds is.1 is.0 decide in
+    let none = none_kept b c.args.name.now GlobsFirst (c.args.content.now ≡ None) (kinds_of c.in-Others.kinds.items) is.1 is.0 decide in
     let found = plain_finding c.in_ok-finding-in-Others.finding in
     let same = (c.in_ok-finding-in-Others.ensures.none none.1).0 in
     let base = (rw c.deref.ensures.value at c.in_ok-kind-in-Others.ensures.base) none.0 b globs.offsets globs.header globs.aliases in
     let unspent = (rw c.deref.ensures.value at c.in_ok-kind-in-Others.ensures.unspent) none.0 in (
-      by_globs_and_content b c.args.name.now c.args.host GlobsFirst refl kinds is.1 _ (resolved_finding b.aliases found)
-          c.in_ok-kind-in-Others.kind.now
+      by_globs_and_content b c.args.name.now c.args.host GlobsFirst refl _ is.1 _ (resolved_finding b.aliases found) c.in_ok-kind-in-Others.kind.now
           (sniffed-where b c.args.host found _ (rw none.1 (c.in_ok-finding-in-Others.ensures.unavailable none.1))) (rw none.0 base),
       omega (arith, unspent.1, ap (λ (meter : Meter). meter.nodes) same.1, c.in_ok-kept.ensures.near b globs),
     )
 
 pub returns-in_ok-kind-in-Others-clause-cost : goal.returns-in_ok-kind-in-Others-clause-cost
 returns-in_ok-kind-in-Others-clause-cost g c =
-    let name = length c.args.name.now in
-    costs_choice_then name c.sniff_content.new.read (length c.in-Others.kinds.items) c.args.budget.now c.keep.new.budget c.args.meter.now
-    c.keep.new.meter (rw c.in-Others.is at (c.in_ok-kept.ensures.cost (c.sniff_content.new.read + 1))) c.sniff_content.new.budget
-    c.choose.new.budget c.sniff_content.new.meter c.choose.new.meter
-    (c.in_ok-finding-in-Others.ensures.cost (record_cost name) (omega arith))
-    (rw c.deref.ensures.value at (c.in_ok-kind-in-Others.ensures.cost (record_cost name) (c.sniff_content.new.read + 1) (omega arith)))
+    costs_choice_then (length c.args.name.now) c.sniff_content.new.read (length c.in-Others.kinds.items)
+    (rw c.in-Others.is at (c.in_ok-kept.ensures.cost (c.sniff_content.new.read + 1)))
+    (c.in_ok-finding-in-Others.ensures.cost (record_cost (length c.args.name.now)) (omega arith))
+    (rw c.deref.ensures.value at (c.in_ok-kind-in-Others.ensures.cost (record_cost (length c.args.name.now)) (c.sniff_content.new.read + 1) (omega arith)))

@@ -4,7 +4,7 @@ use Rattle.mime_lookup.specs.Affords.{rule_records}
 use Rattle.mime_lookup.specs.Cached.{cause_of, plain_finding}
 use Rattle.mime_lookup.specs.Choice.{kept}
 use Rattle.mime_lookup.specs.Costs.{glob_cost, record_cost}
-use Rattle.mime_lookup.specs.StepFaults.{IsLookUpFault, IsSniffFault, of_magic}
+use Rattle.mime_lookup.specs.StepFaults.{IsLookUpFault}
 use Rattle.mime_lookup.specs.declared.order.Order.TheVariants.{MagicFirst}
 use Rattle.mime_lookup.proofs.Answering.{read_first, suffice_not}
 use Rattle.mime_lookup.proofs.MagicCosts.{costs_later, costs_resolved, costs_sniffed}
@@ -16,14 +16,13 @@ use Rattle.mime_lookup.proofs.NearLemmas.{decide_without}
 use Rattle.mime_lookup.proofs.ReadsLemmas.{asks_stopped}
 use Rattle.mime_lookup.proofs.SpelledParts.{spelled_magic}
 use Rattle.mime_lookup.proofs.Stops.{stops_by}
-use Rattle.mime_lookup.proofs.StepStops.{choice_fault, passed_on, spent_fault, stop_weaker}
+use Rattle.mime_lookup.proofs.StepStops.{choice_fault, passed_on, sniff_stops, spent_fault}
 use Rattle.mime_lookup.proofs.cached.magic_first.Goals as goal
 
 pub returns-in_err-finding-clause-fault : goal.returns-in_err-finding-clause-fault
 returns-in_err-finding-clause-fault g c =
-    passed_on _ c.in_err-finding.field-0.0 c.from_residual.result c.from_residual.ensures.1
-    (stop_weaker (IsSniffFault c.args.cache.now c.sniff_content.new.budget) (IsLookUpFault c.args.cache.now) c.in_err-finding.field-0.0
-    (λ e is. of_magic c.sniff_content.new.budget is) c.in_err-finding.ensures.fault)
+    sniff_stops c.args.cache.now c.sniff_content.new.budget c.in_err-finding.field-0.0 c.from_residual.result c.from_residual.ensures.1
+    c.in_err-finding.ensures.fault
 
 pub returns-in_err-finding-clause-asks : goal.returns-in_err-finding-clause-asks
 returns-in_err-finding-clause-asks g c b within spells =
