@@ -2,6 +2,7 @@
 pub mod Zeros
 pub mod Prefixes
 pub mod Eights
+pub mod ZeroLanes
 pub mod Numbers
 pub mod Standing
 pub mod TextsStand

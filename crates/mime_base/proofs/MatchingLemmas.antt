@@ -10,3 +10,4 @@ pub mod Ends
 pub mod Counts
 pub mod Lasts
 pub mod Endings
+pub mod Refused

@@ -31,6 +31,7 @@ use byteorder::{BigEndian, ByteOrder};
 use memchr::memchr;
 use std::cmp::Ordering;
 use std::marker::Model;
+use std::simd::prelude::*;
 
 /// The most bytes that a text has, its zero included.
 const TEXT_LIMIT: usize = 256;
@@ -280,12 +281,28 @@ fn front_at(bytes: &[u8], at: u64) -> &[u8]
     &rest[..TEXT_LIMIT.min(rest.len())]
 }
 
-/// Where the first zero of the bytes stands.
+/// Where the first zero of the bytes stands. Most texts end within 32 bytes.
 fn first_zero(bytes: &[u8]) -> Option<usize>
     ensures { MatchOption result (before_zero bytes.now ≡ bytes.now)
         (λ end. (end < length bytes.now) × (before_zero bytes.now ≡ take end bytes.now)) }
 {
+    if 32 <= bytes.len() {
+        let end = end_of_front(bytes);
+        if end < 32 {
+            return Some(end);
+        }
+    }
     memchr(0, bytes)
+}
+
+/// Where the first zero of the first 32 bytes stands. Where none does, it is 32 or more.
+#[inline]
+fn end_of_front(bytes: &[u8]) -> usize
+    requires { 32 ≤ length bytes.now }
+    ensures { result < 32 → before_zero bytes.now ≡ take result bytes.now }
+{
+    let zeros = u8x32::from_slice(bytes).simd_eq(u8x32::splat(0));
+    zeros.to_bitmask().trailing_zeros() as usize
 }
 
 /// Why these bytes, which have no zero, are no text.

@@ -48,6 +48,7 @@ pub use magic::holding::{line_matches, some_line_matches};
 pub use magic::host::Host;
 pub use magic::matchlet::Matchlet;
 pub use magic::textual::looks_textual;
+pub use matching::elements::begins_otherwise;
 pub use matching::folding::fold;
 pub use matching::glob_matches;
 pub use memory::OutOfMemory;

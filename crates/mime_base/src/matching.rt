@@ -23,9 +23,12 @@ ghost use Rattle.mime_base.specs.Matching.Matches.{least_tests, matches, rule_ma
 ghost use Rattle.mime_base.specs.Meter.{raised};
 
 use crate::matching::attempt::{Halt, Reach, attempt};
-use crate::matching::elements::{after_element, begins_otherwise, count_endless, is_literal_text};
+use crate::matching::elements::{
+    after_element, begins_otherwise, count_endless, first_itself, is_literal_text,
+};
 use crate::matching::folding::{as_compared, common_compared};
 use crate::meter::Meter;
+use memchr::memchr;
 
 /// Whether a pattern matches a name: both as they are, or both folded.
 ///
@@ -170,6 +173,9 @@ fn slide<'a>(pattern: &'a [u8], endless: usize, cased: bool, name: &[u8]) -> Rea
     let mut start = 0;
     let mut tests: u64 = 0;
     loop {
+        let refused = count_refused(pattern, cased, &name[start..]);
+        start += refused;
+        tests = tests.saturating_add(refused as u64);
         let tried = attempt(pattern, endless, cased, &name[start..]);
         tests = tests.saturating_add(tried.tests);
         match tried.halt {
@@ -180,6 +186,26 @@ fn slide<'a>(pattern: &'a [u8], endless: usize, cased: bool, name: &[u8]) -> Rea
                 ..tried
             },
         }
+    }
+}
+
+/// How many places of a name refuse the byte that a pattern begins with, up to the first that doesn't. Where
+/// that byte may be compared as another, none is passed over.
+fn count_refused(pattern: &[u8], cased: bool, name: &[u8]) -> usize
+    ensures same { matches (any_bytes ∷ elements (compared cased pattern.now)) (compared cased name.now)
+        ≡ matches (any_bytes ∷ elements (compared cased pattern.now)) (compared cased (drop result name.now)) }
+    ensures tests { has_star (elements (compared cased pattern.now)) ≡ true →
+        tests_of (any_bytes ∷ elements (compared cased pattern.now)) (compared cased name.now)
+        ≡ result + tests_of (any_bytes ∷ elements (compared cased pattern.now)) (compared cased (drop result name.now)) }
+    ensures within { result ≤ length name.now }
+    ensures most { result ≤ result * length pattern.now }
+{
+    let Some(first) = first_itself(pattern) else {
+        return 0;
+    };
+    match memchr(first, name) {
+        Some(place) => place,
+        None => name.len(),
     }
 }
 

@@ -15,7 +15,7 @@ use crate::budget::Budget;
 use crate::fault::CacheFault;
 use crate::hits::Hits;
 use crate::list::count_at;
-use mime_base::{Counted, Meter, class_of_bytes, glob_matches, rank_of};
+use mime_base::{Counted, Meter, begins_otherwise, class_of_bytes, glob_matches, rank_of};
 
 /// Offers the rules of the glob list at `at` that match a name.
 pub fn glob_list_hits(
@@ -49,7 +49,8 @@ pub fn glob_list_hits(
 
 /// Offers the rule of the entry at `at` if it matches a name.
 ///
-/// It takes a record of the budget. Where a hit of its rank would not be kept, the pattern isn't tried.
+/// It takes a record of the budget. A pattern that begins otherwise than the name is refused by that one test.
+/// Where a hit of its rank would not be kept, the pattern isn't tried.
 fn take_glob(
     counted: &Counted<'_>,
     at: u64,
@@ -73,6 +74,10 @@ fn take_glob(
     let [text, kind, flags] = counted.cards::<3>(at, meter)?;
     let pattern = counted.text_at(u64::from(text), meter)?;
     let cased = flags / 256 % 2 == 1;
+    if begins_otherwise(pattern, cased, name) {
+        meter.add_bytes(1);
+        return Ok(());
+    }
     let rank = rank_of(
         class_of_bytes(pattern),
         (flags % 256) as u8,

@@ -1,16 +1,17 @@
 //! What is kept of the hits that the lists of a cache offer.
 
-ghost use Rattle.std.specs.Prelude.{◌≡◌, ℕ, ◌+◌, ◌≤◌, nat_le, List, [], ◌∷◌, length, map, Ok, OnOk, OnErr, IfErr};
+ghost use Rattle.std.specs.Prelude.{◌≡◌, ℕ, ◌+◌, ◌≤◌, nat_le, List, [], ◌∷◌, ◌++◌, length, map, Ok, OnOk, OnErr, IfErr};
 ghost use Rattle.std.specs.List.{list_all};
 ghost use Rattle.mime_base.specs.Cache.Texts.{text_at};
-ghost use Rattle.mime_base.specs.Kept.{rank_of_rule};
+ghost use Rattle.mime_base.specs.Kept.{best, rank_of_rule};
 ghost use Rattle.mime_base.specs.Meter.{raised};
 ghost use Rattle.mime_base.specs.declared.database.rule.GlobRule.{GlobRule};
 ghost use Rattle.mime_view.specs.Hits.{admits, Charged, KeptAreNear, Offers, extra_visits, visits};
 
 use crate::budget::Budget;
 use crate::fault::CacheFault;
-use mime_base::{Best, Meter};
+use mime_base::Meter;
+use smallvec::SmallVec;
 use std::alloc::Global;
 use std::marker::Model;
 
@@ -69,18 +70,24 @@ impl Case {
     }
 }
 
-/// The hits that are kept, each the offset of its type.
+/// How many hits are kept with no allocation.
+const FEW: usize = 4;
+
+/// The hits that are kept, each the offset of its type, and their rank.
 #[derive(Drop)]
 pub struct Hits {
-    best: Best<u32>,
+    rank: u32,
+    kinds: SmallVec<u32, FEW>,
 }
 
 impl Model for Hits {
-    ghost use Rattle.std.specs.Prelude.{ℕ, List};
+    ghost use Rattle.std.specs.Prelude.{◌≡◌, ℕ, List, [], map};
 
     ghost Value = { List (ℕ × ℕ) };
 
-    ghost view = { λ hits. hits.best };
+    ghost view = { λ hits. map (λ kind. (hits.rank, kind)) hits.kinds.items };
+
+    ghost invariant = { λ hits. hits.kinds.items ≡ [] → hits.rank ≡ 0 };
 }
 
 impl Hits {
@@ -89,7 +96,8 @@ impl Hits {
         ensures { result ≡ [] }
     {
         Hits {
-            best: Best::new(alloc),
+            rank: 0,
+            kinds: SmallVec::new(alloc),
         }
     }
 
@@ -97,7 +105,7 @@ impl Hits {
     pub fn wants(&self, rank: u32) -> bool
         ensures { result ≡ list_all (λ hit. nat_le hit.0 rank) self.now }
     {
-        self.best.wants(rank)
+        self.rank <= rank
     }
 
     /// Offers a hit.
@@ -107,16 +115,34 @@ impl Hits {
         ensures one_more { length self.new ≤ length self.old + 1 }
         ensures fault { IfErr result (λ e. e ≡ CacheFault.OutOfMemory) }
     {
-        self.best.offer(rank, kind)?;
+        self.keep(rank, kind)?;
+        Ok(())
+    }
+
+    /// Keeps a hit unless one that is kept has a greater rank, and drops those of a lesser one.
+    fn keep(&mut self, rank: u32, kind: u32) -> Result<(), CacheFault>
+        ensures kept { (offers : List (ℕ × ℕ)) → self.old ≡ best offers →
+            OnOk result (self.new ≡ best (offers ++ (rank, kind) ∷ [])) }
+        ensures one_more { length self.new ≤ length self.old + 1 }
+        ensures fault { IfErr result (λ e. e ≡ CacheFault.OutOfMemory) }
+    {
+        if rank < self.rank {
+            return Ok(());
+        }
+        if rank > self.rank {
+            self.kinds.clear();
+            self.rank = 0;
+        }
+        self.kinds.push(kind)?;
+        self.rank = rank;
         Ok(())
     }
 
     /// The offsets of the types of the hits, in their order.
-    pub fn into_kinds(self) -> Vec<u32>
-        ensures { result.items ≡ map (λ hit. hit.1) self }
+    pub fn kinds(&self) -> &[u32]
+        ensures { result.now ≡ map (λ hit. hit.1) self.now }
     {
-        let Hits { best } = self;
-        best.into_items()
+        self.kinds.as_slice()
     }
 }
 

@@ -30,9 +30,9 @@ pub fn read_kinds<'a>(
     ensures bytes_rise { meter.old.bytes ≤ meter.new.bytes }
     ensures bytes { meter.new.bytes ≤ meter.old.bytes + 256 * length hits }
 {
-    let kinds = hits.into_kinds();
+    let kinds = hits.kinds();
     let mut texts = Vec::with_capacity(alloc, kinds.len())?;
-    for kind in &kinds {
+    for kind in kinds {
         let text = counted.text_at(u64::from(*kind), meter)?;
         texts.push(text)?;
     }

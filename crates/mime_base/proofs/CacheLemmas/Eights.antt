@@ -59,7 +59,7 @@ map-same : (ms : List Bool) → map (λ m. m) ms ≡ ms
 map-same [] = refl
 map-same (m ∷ ms) = ap (λ ms. m ∷ ms) (map-same ms)
 
-first-place : (ms : List Bool) (places : ℕ) → length ms ≤ 64 → places ≡ mask_l ms % 2 ^ 64 → 0 < places →
+pub first-place : (ms : List Bool) (places : ℕ) → length ms ≤ 64 → places ≡ mask_l ms % 2 ^ 64 → 0 < places →
     count_trailing_zeros 64 places ≡ prefix_len (λ m. not m) ms
 first-place ms places short is some =
     let whole : places ≡ mask_l (map (λ m. m) ms) = is ∙ mask_l-mod ms 64 short ∙ ap mask_l (sym (map-same ms)) in

@@ -5,6 +5,10 @@ use Rattle.std.proofs.Common.{◌≡◌, ℕ, ◌+◌, ◌-◌, ◌*◌, ◌<◌
 pub next-paid : (p start tests more next : ℕ) → tests ≤ start * p → more ≤ p → start < next → tests + more ≤ next * p
 next-paid p start tests more next h k l = grind arith
 
+-- so are places that are passed over, by a pattern that is not empty
+pub passed-paid : (p start tests passed : ℕ) → tests ≤ start * p → passed ≤ passed * p → tests + passed ≤ (start + passed) * p
+passed-paid p start tests passed h k = grind arith
+
 -- the last attempt is paid by the end of the name
 pub last-paid : (p n start tests more : ℕ) → tests ≤ start * p → more ≤ p → start ≤ n → tests + more ≤ p * (n + 1)
 last-paid p n start tests more h k l = grind arith

@@ -5,12 +5,13 @@
 //! an element reads that element alone: how many of the pattern's last bytes have no `]` is known, and
 //! for a `[` among them no end of a set is sought.
 
-ghost use Rattle.std.specs.Prelude.{◌≡◌, true, Bool, ◌∷◌, [], ◌+◌, ◌<◌, ◌==◌, IsNone, IfSome, IsTrue, None, is_some, drop};
-ghost use Rattle.std.specs.Prelude.{length, position};
+ghost use Rattle.std.specs.Prelude.{◌≡◌, true, Bool, ◌∷◌, [], ◌+◌, ◌<◌, ◌==◌, IsNone, IfSome, IsTrue, None, false, is_some, drop};
+ghost use Rattle.std.specs.Prelude.{List, ℕ, length, position};
 ghost use Rattle.mime_base.specs.Matching.Attempt.{refuses};
 ghost use Rattle.mime_base.specs.Matching.Elements.{HasNoEnd, IsSet, admits, elements, end_of_set, in_ranges, is_literal_text};
 ghost use Rattle.mime_base.specs.Matching.Elements.{is_negated, is_special, one_byte, ranges, width_after};
 ghost use Rattle.mime_base.specs.Matching.Folding.{compared, compared_byte};
+ghost use Rattle.mime_base.specs.Matching.Matches.{rule_matches};
 
 use crate::matching::folding::as_compared;
 use memchr::memrchr;
@@ -186,8 +187,10 @@ fn is_special(byte: u8) -> bool
     byte == b'*' || byte == b'?' || byte == b'[' || byte == b'\\'
 }
 
-/// Whether a pattern begins with a byte that stands for itself, and a name with another.
+/// Whether a pattern begins with a byte that stands for itself, and a name with another: then it doesn't
+/// match. This is the first test of [`crate::glob_matches`], which counts it.
 pub fn begins_otherwise(pattern: &[u8], cased: bool, name: &[u8]) -> bool
+    ensures other { IsTrue result → rule_matches pattern.now cased name.now ≡ false }
     ensures refused { IsTrue result
         → refuses (elements (compared cased pattern.now)) (compared cased name.now) ≡ true }
     ensures some { IsTrue result → 0 < length pattern.now }
@@ -199,4 +202,16 @@ pub fn begins_otherwise(pattern: &[u8], cased: bool, name: &[u8]) -> bool
         return false;
     };
     !is_special(*first) && as_compared(cased, *first) != as_compared(cased, *byte)
+}
+
+/// The byte that a pattern begins with, if it stands for itself and folding makes it of no other byte.
+pub fn first_itself(pattern: &[u8]) -> Option<u8>
+    ensures refused { IfSome result (λ first. (cased : Bool) (byte : ℕ) (rest : List ℕ) → (byte == first) ≡ false →
+        refuses (elements (compared cased pattern.now)) (compared cased (byte ∷ rest)) ≡ true) }
+    ensures some { IfSome result (λ first. 0 < length pattern.now) }
+{
+    match pattern.split_first() {
+        Some((first, _after)) if *first < b'A' && !is_special(*first) => Some(*first),
+        _ => None,
+    }
 }

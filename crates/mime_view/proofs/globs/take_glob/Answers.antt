@@ -1,4 +1,6 @@
-use Rattle.std.proofs.Common.{arith, length, sym, ◌∙◌}
+use Rattle.std.proofs.Common.{ap, arith, length, refl, sym, ◌∙◌}
+use Rattle.mime_base.specs.Kept.{class_of}
+use Rattle.mime_base.specs.declared.meter.Meter.{Meter}
 use Rattle.mime_view.proofs.GlobEntries.{entry_charged, entry_states, offers_match, offers_other, offers_unwanted, text_short}
 use Rattle.mime_view.proofs.OffersLemmas.{kept_unwanted}
 use Rattle.mime_view.proofs.globs.take_glob.Goals as goal
@@ -7,6 +9,22 @@ use Rattle.mime_view.proofs.globs.take_glob.Goals.{else-wants-via-then-wants+els
 pub overflow_cast-pattern : goal.overflow_cast-pattern
 overflow_cast-pattern c =
     omega (arith, text_short c.args.counted.now c.from.result c.in_ok-pattern.pattern.now c.in_ok-pattern.ensures.text)
+
+pub returns-then-begins_otherwise-clause-answer : goal.returns-then-begins_otherwise-clause-answer
+returns-then-begins_otherwise-clause-answer c = λ rule fits reads.
+    let states = entry_states c.args.counted.now c.args.at c.args.name.now rule c.in_ok-pattern.pattern.now
+    (class_of c.in_ok-pattern.pattern.now) c.in_ok-text.field-0 c.from.result c.in_ok-text.ensures.numbers.1 c.from.ensures
+    c.in_ok-pattern.ensures.text refl fits reads in
+    offers_other c.args.counted.now c.args.name.now rule c.args.hits.now
+    (sym states.its_matches ∙ c.begins_otherwise.ensures.other c.if-begins_otherwise.true)
+
+pub returns-then-begins_otherwise-clause-cost : goal.returns-then-begins_otherwise-clause-cost
+returns-then-begins_otherwise-clause-cost c =
+    let nodes = ap (λ (meter : Meter). meter.nodes) c.add_bytes.ensures.added in
+    let bytes = ap (λ (meter : Meter). meter.bytes) c.add_bytes.ensures.added in
+    entry_charged (length c.args.name.now) 0 c.text_at.new.meter.bytes c.args.budget.now c.take_record.new.self c.args.meter.now
+    c.add_bytes.new.self c.in_ok-take_record.ensures.taken c.take_record.ensures.value_bytes (omega (arith, nodes, bytes)) (omega (arith, nodes, bytes)) (omega (arith, nodes, bytes))
+    (omega (arith, nodes, bytes)) (omega (arith, nodes, bytes)) (omega (arith, nodes, bytes)) (omega (arith, nodes, bytes))
 
 pub returns-in_ok-offer-clause-answer : goal.returns-in_ok-offer-clause-answer
 returns-in_ok-offer-clause-answer c = λ rule fits reads.

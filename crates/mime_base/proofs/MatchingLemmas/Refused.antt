@@ -1,0 +1,62 @@
+-- Places of a name that refuse the byte that a pattern begins with.
+use Rattle.std.proofs.Common.{◌≡◌, ℕ, zero, suc, ◌+◌, ◌*◌, ◌<◌, ◌≤◌, ◌==◌, Bool, true, false, true≢false, inl, List, ◌∷◌}
+use Rattle.std.proofs.Common.{length, length-drop, drop, drop-cons, get_or, refl, sym, ap, subst, ◌∙◌, arith, eq-eqb}
+use Rattle.std.proofs.lemmas.Bool.{eqb-true, false_from_ne_true}
+use Rattle.std.proofs.lemmas.List.{drop-drop}
+use Rattle.mime_base.specs.Matching.Attempt.{refuses}
+use Rattle.mime_base.specs.Matching.Count.{has_star, tests_of}
+use Rattle.mime_base.specs.Matching.Elements.{Element, any_bytes, elements, is_special}
+use Rattle.mime_base.specs.Matching.Folding.{compared, compared_byte}
+use Rattle.mime_base.specs.Matching.Matches.{matches}
+use Rattle.mime_base.proofs.MatchingLemmas.Endings.{other-refused}
+use Rattle.mime_base.proofs.MatchingLemmas.Sets.{compared_byte-mark}
+use Rattle.mime_base.proofs.MatchingLemmas.Slides.{refused-from, tests-next}
+
+-- a byte that stands for itself, and that folding makes of no other, refuses every other byte
+pub itself-refuses : (pattern : List ℕ) (first : ℕ) (after : List ℕ) → pattern ≡ first ∷ after → is_special first ≡ false → first < 65 →
+    (cased : Bool) (byte : ℕ) (rest : List ℕ) → (byte == first) ≡ false →
+    refuses (elements (compared cased pattern)) (compared cased (byte ∷ rest)) ≡ true
+itself-refuses pattern first after is plain low cased byte rest differs =
+    let same : compared_byte cased first ≡ first =
+    eqb-true _ _ (compared_byte-mark cased first first (inl low) ∙ eq-eqb first first refl) in
+    let other : (compared_byte cased byte == first) ≡ false = compared_byte-mark cased byte first (inl low) ∙ differs in
+    other-refused cased pattern first after is plain (byte ∷ rest) byte rest refl
+    (false_from_ne_true _ (λ e. true≢false (sym (eq-eqb _ _ (sym (eqb-true _ _ e) ∙ same)) ∙ other)))
+
+module _ (cased : Bool) (es : List Element) (name : List ℕ) (first : ℕ)
+    (refusing : (byte : ℕ) (rest : List ℕ) → (byte == first) ≡ false → refuses es (compared cased (byte ∷ rest)) ≡ true) where
+  -- the elements after a star are left to the places after those of other bytes, each of which takes one test
+  pub passed-over : (n : ℕ) → n ≤ length name → ((k : ℕ) → k < n → (get_or name k 0 == first) ≡ true → ⊥) →
+      (matches (any_bytes ∷ es) (compared cased name) ≡ matches (any_bytes ∷ es) (compared cased (drop n name)))
+      × (has_star es ≡ true → tests_of (any_bytes ∷ es) (compared cased name)
+      ≡ n + tests_of (any_bytes ∷ es) (compared cased (drop n name)))
+  passed-over zero within others = (refl, λ star. omega arith)
+  passed-over (suc n) within others =
+      let before = passed-over n (omega arith) (λ k l. others k (omega arith)) in
+      let byte : drop n name ≡ get_or name n 0 ∷ drop (suc n) name = drop-cons name n 0 (omega arith) in
+      let goes : refuses es (compared cased (drop n name)) ≡ true =
+      subst (λ (text : List ℕ). refuses es (compared cased text) ≡ true) (sym byte)
+      (refusing (get_or name n 0) (drop (suc n) name) (false_from_ne_true _ (others n (omega arith)))) in
+      let e : n + 1 ≡ suc n = omega arith in (
+        before.0 ∙ (refused-from cased es name n 0 es goes).1
+            ∙ ap (λ (k : ℕ). matches (any_bytes ∷ es) (compared cased (drop k name))) e,
+        λ star. (let next = tests-next cased es name n 0 es star goes in
+            let there : tests_of (any_bytes ∷ es) (compared cased (drop (n + 1) name))
+            ≡ tests_of (any_bytes ∷ es) (compared cased (drop (suc n) name)) =
+            ap (λ (k : ℕ). tests_of (any_bytes ∷ es) (compared cased (drop k name))) e in
+            omega (arith, before.1 star, next, there)),
+      )
+
+-- the same from a place on, which are no more than there are
+pub passed-within : (name : List ℕ) (start n : ℕ) → start ≤ length name → n ≤ length (drop start name) → start + n ≤ length name
+passed-within name start n within l = omega (arith, length-drop start name)
+
+-- they leave the elements to the places after them, and each takes one test
+module _ (cased : Bool) (es : List Element) (name : List ℕ) (start n : ℕ) where
+  pub passed-same : matches (any_bytes ∷ es) (compared cased (drop start name)) ≡ matches (any_bytes ∷ es) (compared cased (drop n (drop start name)))
+      → matches (any_bytes ∷ es) (compared cased (drop start name)) ≡ matches (any_bytes ∷ es) (compared cased (drop (start + n) name))
+  passed-same same = same ∙ ap (λ (text : List ℕ). matches (any_bytes ∷ es) (compared cased text)) (drop-drop n start name)
+
+  pub passed-tests : tests_of (any_bytes ∷ es) (compared cased (drop start name)) ≡ n + tests_of (any_bytes ∷ es) (compared cased (drop n (drop start name)))
+      → tests_of (any_bytes ∷ es) (compared cased (drop start name)) ≡ n + tests_of (any_bytes ∷ es) (compared cased (drop (start + n) name))
+  passed-tests made = made ∙ ap (λ (text : List ℕ). n + tests_of (any_bytes ∷ es) (compared cased text)) (drop-drop n start name)
