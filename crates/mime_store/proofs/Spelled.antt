@@ -1,6 +1,6 @@
 -- The parts of a database, once they are written, are its cache, and take what it takes.
-use Rattle.std.proofs.Common.{◌≡◌, ℕ, ◌+◌, ◌≤◌, List, map, refl, ap, ◌∙◌, ◌<◌}
-use Rattle.std.proofs.Common.{◌↔◌, arith, IsTrue, MatchOption, Option, None, Some, is_some}
+use Rattle.std.proofs.Common.{◌≡◌, ℕ, ◌+◌, List, map, ap, ◌∙◌}
+use Rattle.std.proofs.Common.{arith}
 use Rattle.std.proofs.lemmas.List.Sorted.{sum_by-IsPermutation}
 use Rattle.mime_base.specs.Database.{plain_database}
 use Rattle.mime_base.specs.Format.Magic.{IsSection, MagicAt}
@@ -95,9 +95,3 @@ parts_room-is parts runs b are h =
       pairs_room-sorted _ _ are.icons,
       pairs_room-sorted _ _ are.generic_icons,
     )
-
--- room is left just where all fits
-pub fits_is : (taken : Option ℕ) (size whole left : ℕ) → size ≡ whole
-    → MatchOption taken (left < size) (λ rest. rest + size ≡ left) → IsTrue (is_some taken) ↔ (whole ≤ left)
-fits_is None size whole left e m = (λ t. absurd (cc), λ le. absurd (omega (arith, e, m, le)))
-fits_is (Some rest) size whole left e m = (λ t. omega (arith, e, m), λ le. refl)

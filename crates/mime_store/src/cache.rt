@@ -3,7 +3,7 @@
 //! It is written from the bottom: what a record points to stands before the record, so that each offset is
 //! known when it is written. The 40 bytes of the header are kept free first and written last.
 
-ghost use Rattle.std.specs.Prelude.{◌≡◌, ◌↔◌, ◌+◌, ◌^◌, ◌<◌, ◌≤◌, length, map, min, IfErr, IfOk, IsTrue, MatchOption};
+ghost use Rattle.std.specs.Prelude.{◌≡◌, ◌+◌, ◌^◌, ◌<◌, ◌≤◌, length, map, min, IfErr, IfOk, MatchOption};
 ghost use Rattle.mime_base.specs.Database.{plain_database};
 ghost use Rattle.mime_base.specs.Format.Packed.{Packed};
 ghost use Rattle.mime_base.specs.Format.Room.{room};
@@ -59,10 +59,10 @@ pub fn write_cache(alloc: Global, database: &Database, limit: usize) -> Result<V
 {
     let parts = parts_of(alloc, database)?;
     let runs = runs(alloc, &parts.parents)?;
-    if !fits(lesser(limit, CACHE_LIMIT), database, &parts, &runs) {
+    let Some(size) = size_within(lesser(limit, CACHE_LIMIT), database, &parts, &runs) else {
         return Err(StoreFault::TooLarge);
-    }
-    let cache = write_parts(alloc, database, &parts, &runs)?;
+    };
+    let cache = write_parts(alloc, size, database, &parts, &runs)?;
     Ok(cache)
 }
 
@@ -72,14 +72,21 @@ fn lesser(left: usize, right: usize) -> usize
     if left < right { left } else { right }
 }
 
-/// Whether a database takes at most so many bytes.
-fn fits(limit: usize, database: &Database, parts: &Parts<'_>, runs: &[Run<'_, '_>]) -> bool
+/// How many bytes a database takes, where they are at most so many.
+fn size_within(
+    limit: usize,
+    database: &Database,
+    parts: &Parts<'_>,
+    runs: &[Run<'_, '_>],
+) -> Option<usize>
     requires parts { AreParts parts.now database.now }
     requires runs { AreRuns (map plain_run runs.now) (map pair_texts parts.now.parents.items) }
     requires small { limit < 2 ^ 32 }
-    ensures { IsTrue result ↔ (room (plain_database database.now) ≤ limit) }
+    ensures { MatchOption result (limit < room (plain_database database.now))
+        (λ size. (size ≡ room (plain_database database.now)) × (size ≤ limit)) }
 {
-    take_room(limit, database, parts, runs).is_some()
+    let left = take_room(limit, database, parts, runs)?;
+    Some(limit - left)
 }
 
 fn take_room(
@@ -103,10 +110,11 @@ fn take_room(
     take_pairs(left, &parts.generic_icons)
 }
 
-/// The parts, and then the header in the place that was kept for it.
+/// The parts, and then the header in the place that was kept for it; they are `size` bytes.
 #[tactic(auto, using(crate::proofs::Written::grew_length, crate::proofs::Spelling::kept_length))]
 fn write_parts(
     alloc: Global,
+    size: usize,
     database: &Database,
     parts: &Parts<'_>,
     runs: &[Run<'_, '_>],
@@ -119,7 +127,7 @@ fn write_parts(
     ensures no_namespaces { IfOk result (λ cache. HasNoNamespaces cache.items) }
     ensures long { IfOk result (λ cache. length cache.items ≡ room (plain_database database.now)) }
 {
-    let mut out = Vec::new(alloc);
+    let mut out = Vec::with_capacity(alloc, size)?;
     append_zeros(&mut out, HEADER_LENGTH)?;
     let aliases = write_pairs(alloc, &mut out, &parts.aliases)?;
     let parents = write_parents(alloc, &mut out, runs)?;

@@ -11,7 +11,7 @@ write_pairs-requires-2-clause-room c =
     rw c.deref-6.ensures.value (omega (
       arith,
       c.requires.room,
-      kept_length _ _ c.new-out.ensures.items c.in_ok-append_zeros.ensures,
+      kept_length _ _ c.in_ok-out.ensures.items c.in_ok-append_zeros.ensures,
       grew_length _ _ _ (rw c.deref.ensures.value at c.in_ok-aliases.ensures.grew),
       grew_length _ _ _ c.in_ok-parents.ensures.grew,
       grew_length _ _ _ (rw c.deref-2.ensures.value at c.in_ok-literals.ensures.grew),
@@ -26,7 +26,7 @@ write_pairs-requires-3-clause-room c =
     rw c.deref-7.ensures.value (omega (
       arith,
       c.requires.room,
-      kept_length _ _ c.new-out.ensures.items c.in_ok-append_zeros.ensures,
+      kept_length _ _ c.in_ok-out.ensures.items c.in_ok-append_zeros.ensures,
       grew_length _ _ _ (rw c.deref.ensures.value at c.in_ok-aliases.ensures.grew),
       grew_length _ _ _ c.in_ok-parents.ensures.grew,
       grew_length _ _ _ (rw c.deref-2.ensures.value at c.in_ok-literals.ensures.grew),
@@ -54,7 +54,7 @@ returns-clause-long c =
       generic_icons = c.in_ok-generic_icons.generic_icons;
     }) (omega (
       arith,
-      kept_length _ _ c.new-out.ensures.items c.in_ok-append_zeros.ensures,
+      kept_length _ _ c.in_ok-out.ensures.items c.in_ok-append_zeros.ensures,
       grew_length _ _ _ (rw c.deref.ensures.value at c.in_ok-aliases.ensures.grew),
       grew_length _ _ _ c.in_ok-parents.ensures.grew,
       grew_length _ _ _ (rw c.deref-2.ensures.value at c.in_ok-literals.ensures.grew),
@@ -67,7 +67,7 @@ returns-clause-long c =
     )) c.patch.ensures.after ∙ omega (
       arith,
       parts_room-is c.args.parts.now c.args.runs.now c.args.database.now c.requires.parts c.requires.runs,
-      kept_length _ _ c.new-out.ensures.items c.in_ok-append_zeros.ensures,
+      kept_length _ _ c.in_ok-out.ensures.items c.in_ok-append_zeros.ensures,
       grew_length _ _ _ (rw c.deref.ensures.value at c.in_ok-aliases.ensures.grew),
       grew_length _ _ _ c.in_ok-parents.ensures.grew,
       grew_length _ _ _ (rw c.deref-2.ensures.value at c.in_ok-literals.ensures.grew),
