@@ -16,6 +16,7 @@ use memchr::memchr;
 ///
 /// It adds, of each window up to and with the first that equals, the bytes up to and with the first
 /// that differs.
+#[inline]
 pub fn value_in_range(
     value: &[u8],
     mask: &[u8],
@@ -42,6 +43,7 @@ pub fn value_in_range(
 }
 
 /// Whether the window at one of the offsets from `start` up to `end` equals a value under its mask.
+#[inline]
 fn value_in_windows(
     value: &[u8],
     mask: &[u8],
@@ -60,7 +62,34 @@ fn value_in_windows(
     ensures bytes { meter.new.bytes ≡ raised meter.old.bytes
         (compared_from (line_from 0 0 word value.now (Some mask.now)) host content.now start (end - start)) }
 {
-    let mut at = next_window(value, mask, word, host, content, start, end, meter);
+    let first = next_window(value, mask, word, host, content, start, end, meter);
+    if first == end {
+        return false;
+    }
+    value_from(value, mask, word, host, content, first, end, meter)
+}
+
+/// The same, where the first window may equal the value. Few ranges have one that may.
+#[inline(never)]
+fn value_from(
+    value: &[u8],
+    mask: &[u8],
+    word: u32,
+    host: Host,
+    content: &[u8],
+    start: usize,
+    end: usize,
+    meter: &mut Meter,
+) -> bool
+    requires order { start ≤ end }
+    requires inside { end + length value.now ≤ length content.now + 1 }
+    ensures equal { result ≡ equals_from (line_from 0 0 word value.now (Some mask.now))
+        host content.now start (end - start) }
+    ensures nodes { meter.new.nodes ≡ meter.old.nodes }
+    ensures bytes { meter.new.bytes ≡ raised meter.old.bytes
+        (compared_from (line_from 0 0 word value.now (Some mask.now)) host content.now start (end - start)) }
+{
+    let mut at = start;
     while at < end {
         let window = &content[at..at + value.len()];
         if value_is(value, mask, word, host, window, meter) {
