@@ -119,7 +119,7 @@ fn shared_by_eight(front: &[u8], key: &[u8]) -> usize
 {
     let room = front.len().min(key.len());
     let start = shared_by_sixteen(front, key);
-    if room - start < 8 {
+    if room - start < 8 || start % 16 != 0 {
         return start;
     }
     start + shared_of_eight(&front[start..], &key[start..])

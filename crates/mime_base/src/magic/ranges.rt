@@ -1,6 +1,6 @@
 //! Values that are sought at the offsets of a range ("The magic files").
 
-ghost use Rattle.std.specs.Prelude.{◌≡◌, ◌≢◌, ℕ, ◌+◌, ◌-◌, ◌^◌, ◌<◌, ◌≤◌, length, min, slice_index, Some};
+ghost use Rattle.std.specs.Prelude.{◌≡◌, ◌≢◌, ℕ, ◌+◌, ◌-◌, ◌^◌, ◌<◌, ◌≤◌, length, min, slice_index, true, false, Some};
 ghost use Rattle.mime_base.specs.Magic.Holds.{equals_from};
 ghost use Rattle.mime_base.specs.Magic.{line_from};
 ghost use Rattle.mime_base.specs.Magic.Masking.{equal_bytes, window_equals};
@@ -38,8 +38,35 @@ pub fn value_in_range(
     if content.len() < value.len() || content.len() - value.len() < start {
         return false;
     }
+    if range == 1 && first_byte_differs(value, mask, word, host, content, start) {
+        meter.add_bytes(1);
+        return false;
+    }
     let end = (start + range).min(content.len() - value.len() + 1);
     value_in_windows(value, mask, word, host, content, start, end, meter)
+}
+
+/// Whether already the first byte of the window at an offset is not the value's, where that alone tells.
+#[inline]
+fn first_byte_differs(
+    value: &[u8],
+    mask: &[u8],
+    word: u32,
+    host: Host,
+    content: &[u8],
+    at: usize,
+) -> bool
+    requires inside { at + length value.now ≤ length content.now }
+    ensures equal { result ≡ true →
+        equals_from (line_from 0 0 word value.now (Some mask.now)) host content.now at 1 ≡ false }
+    ensures counted { result ≡ true →
+        compared_from (line_from 0 0 word value.now (Some mask.now)) host content.now at 1 ≡ 1 }
+{
+    let group = group_of(word, host, value.len());
+    if !mask.is_empty() || value.is_empty() || group != 1 {
+        return false;
+    }
+    content[at] != value[0]
 }
 
 /// Whether the window at one of the offsets from `start` up to `end` equals a value under its mask.
