@@ -68,7 +68,6 @@ fn see_line(
 
 /// Whether one of the `count` lines from `first` on holds, with its children.
 #[cycle(sniffing)]
-#[inline(always)]
 fn some_line_holds(
     counted: &Counted<'_>,
     first: u64,
@@ -101,38 +100,9 @@ fn some_line_holds(
     Ok(false)
 }
 
-/// The same of the children of a line, by a call of its own.
-#[cycle(sniffing)]
-#[inline(never)]
-fn some_child_holds(
-    counted: &Counted<'_>,
-    first: u64,
-    count: u64,
-    level: u32,
-    content: &[u8],
-    host: Host,
-    meter: &mut Meter,
-    budget: &mut Budget,
-) -> Result<bool, CacheFault>
-    requires level { level ≤ 63 }
-    requires limit { length counted.now ≤ 2 ^ 28 }
-    requires fits { LiesBlock counted.now first 32 count }
-    ensures answer { (lines : Forest) → width lines ≡ count → ReadsLines counted.now first lines →
-        IfOk result (λ holds. holds ≡ some_holds lines content.now host) }
-    ensures need { (lines : Forest) (levels : ℕ) → width lines ≡ count → ReadsLines counted.now first lines →
-        levels + level ≡ 64 → are_allowed levels lines ≡ true → line_count lines ≤ budget.old.records →
-        forest_value_length lines ≤ budget.old.value_bytes → IsOk result }
-    ensures takes { (lines : Forest) → width lines ≡ count → ReadsLines counted.now first lines →
-        Takes (line_count lines) (forest_value_length lines) budget.old budget.new }
-    ensures fault { IfErr result (IsLinesFault counted.now budget.new) }
-    ensures cost { Paid (length content.now) 0 0 budget.old budget.new meter.old meter.new }
-{
-    some_line_holds(counted, first, count, level, content, host, meter, budget)
-}
-
 /// Whether the line at `at` holds, with its children.
 #[cycle(sniffing)]
-#[inline(always)]
+#[inline]
 fn line_holds(
     counted: &Counted<'_>,
     at: u64,
@@ -170,7 +140,7 @@ fn line_holds(
         return Err(CacheFault::TooDeep);
     }
     check_block(counted, first, 32, count)?;
-    some_child_holds(
+    some_line_holds(
         counted,
         first,
         count,
