@@ -79,6 +79,7 @@ impl<'a> Counted<'a> {
 
     /// The `N` CARD32s of the record at `at`, or [`ByteFault::OutOfRange`] where it does not lie in
     /// the cache. It adds one node, also before a fault.
+    #[inline]
     pub fn cards<const N: usize>(&self, at: u64, meter: &mut Meter) -> Result<[u32; N], ByteFault>
         requires { N ≤ 10 }
         ensures numbers { IfOk result
@@ -127,6 +128,7 @@ impl<'a> Counted<'a> {
     /// The faults are those of [`Counted::text_at`], where neither a zero nor a difference comes
     /// first. It adds the text's bytes up to and with the first difference or the zero, at most 256.
     #[tactic(auto, unfolding(crate::specs::Cache::Texts::text_at, crate::specs::Cache::Texts::order_at, crate::specs::Cache::Texts::order_cost))]
+    #[inline]
     pub fn compare_text(
         &self,
         at: u64,
@@ -198,6 +200,7 @@ impl<'a> Counted<'a> {
     /// The numbers are as [`Counted::cards`] gives them. It answers, refuses and adds what
     /// [`Counted::value_equals`] does of each window that lies in the content, up to and with the first
     /// that equals: where none lies there, no value is needed and nothing added.
+    #[inline]
     pub fn value_in_range(
         &self,
         value: StatedValue,
@@ -242,6 +245,7 @@ impl<'a> Counted<'a> {
 }
 
 /// So many bytes at an offset.
+#[inline]
 fn bytes_at(bytes: &[u8], at: u64, size: u64) -> Result<&[u8], ByteFault>
     ensures given { IfOk result
         (λ given. (at + size ≤ length bytes.now) × (given.now ≡ value_at bytes.now at size)) }
@@ -256,6 +260,7 @@ fn bytes_at(bytes: &[u8], at: u64, size: u64) -> Result<&[u8], ByteFault>
 }
 
 /// A mask of so many bytes at an offset; at the offset 0 there is none.
+#[inline]
 fn optional_mask(bytes: &[u8], at: u64, size: u64) -> Result<&[u8], ByteFault>
     ensures given { IfOk result (λ given. given.now ≡ optional_mask bytes.now at size) }
     ensures lies { OnOk result (0 < at → at + size ≤ length bytes.now) }
@@ -270,6 +275,7 @@ fn optional_mask(bytes: &[u8], at: u64, size: u64) -> Result<&[u8], ByteFault>
 }
 
 /// The bytes at an offset among which a text has its zero.
+#[inline]
 fn front_at(bytes: &[u8], at: u64) -> &[u8]
     ensures front { result.now ≡ front 256 bytes.now at }
     ensures limit { length result.now ≤ 256 }

@@ -21,6 +21,7 @@ impl Meter {
     }
 
     /// Counts one record.
+    #[inline]
     pub fn add_node(&mut self)
         ensures added { self.new ≡ record self.old { nodes = raised self.old.nodes 1 } }
         ensures rises { self.old.nodes ≤ self.new.nodes }
@@ -29,6 +30,7 @@ impl Meter {
     }
 
     /// Counts bytes or tests.
+    #[inline]
     pub fn add_bytes(&mut self, count: u64)
         ensures added { self.new ≡ record self.old { bytes = raised self.old.bytes count } }
         ensures rises { self.old.bytes ≤ self.new.bytes }

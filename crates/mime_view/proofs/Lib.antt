@@ -1,3 +1,5 @@
+mod OneText
+mod AddedPlaces
 mod Halving
 mod Places
 mod Lookups

@@ -22,6 +22,11 @@ has_place places place = list_any (λ other. is_eq (nat_cmp place other)) places
 abbrev pub with_place : List ℕ → ℕ → List ℕ
 with_place places place = insert_key nat_cmp places place
 
+-- a place, if there is one, and others
+abbrev pub with_first : Option ℕ → List ℕ → List ℕ
+with_first None others = others
+with_first (Some place) others = with_place others place
+
 -- whether what was read is this text
 abbrev pub is_text : List ℕ → Result (List ℕ) ByteFault → Bool
 is_text kind (Ok text) = bytes_eq text kind

@@ -29,6 +29,7 @@ impl Budget {
     }
 
     /// Takes a record.
+    #[inline]
     pub(crate) fn take_record(&mut self) -> Result<(), CacheFault>
         ensures taken { OnOk result (self.new.records + 1 ≡ self.old.records) }
         ensures spent { IfErr result (λ e. (e ≡ CacheFault.Spent) × (self.old.records ≡ 0) × (self.new.records ≡ 0)) }
@@ -42,6 +43,7 @@ impl Budget {
     }
 
     /// Takes so many value bytes.
+    #[inline]
     pub(crate) fn take_value_bytes(&mut self, count: u64) -> Result<(), CacheFault>
         ensures taken { OnOk result (self.new.value_bytes + count ≡ self.old.value_bytes) }
         ensures spent { IfErr result (λ e. (e ≡ CacheFault.Spent) × (self.old.value_bytes < count)

@@ -7,9 +7,8 @@ ghost use Rattle.mime_view.specs.Lists.{HasText, IsListFault, IsTextFault, LiesL
 
 use crate::fault::CacheFault;
 use crate::list::count_at;
-use crate::search::first_not_less;
+use crate::search::seek;
 use mime_base::{Counted, Meter};
-use std::cmp::Ordering;
 
 /// An entry of a list.
 #[derive(Clone, Copy)]
@@ -43,16 +42,13 @@ pub fn find_entry(
 {
     let count = count_at(counted, at, 8, meter)?;
     let first = at + 4;
-    let place = first_not_less(counted, first, count, 8, key, meter)?;
-    if place == count {
-        return Ok(None);
-    }
-    let [name, target] = counted.cards::<2>(first + 8 * place, meter)?;
-    match counted.compare_text(u64::from(name), key, meter)? {
-        Ordering::Equal => Ok(Some(Entry {
-            place: place as u32,
+    let sought = seek(counted, first, count, 8, key, meter)?;
+    if sought.equal {
+        let [_, target] = counted.cards::<2>(first + 8 * sought.place, meter)?;
+        return Ok(Some(Entry {
+            place: sought.place as u32,
             target,
-        })),
-        _ => Ok(None),
+        }));
     }
+    Ok(None)
 }

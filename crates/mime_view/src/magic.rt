@@ -29,6 +29,7 @@ struct Seen {
 }
 
 /// Takes the record and the value of the line at `at`, and compares the value.
+#[inline]
 fn see_line(
     counted: &Counted<'_>,
     at: u64,
@@ -101,6 +102,7 @@ fn some_line_holds(
 
 /// Whether the line at `at` holds, with its children.
 #[cycle(sniffing)]
+#[inline]
 fn line_holds(
     counted: &Counted<'_>,
     at: u64,
@@ -151,6 +153,7 @@ fn line_holds(
 }
 
 /// The type and the priority of the section at `at`, if one of its lines holds.
+#[inline]
 fn take_section<'a>(
     counted: &Counted<'a>,
     at: u64,
@@ -221,6 +224,7 @@ pub fn sniff<'a>(
 }
 
 /// Refuses records that don't lie in the cache. No records lie anywhere.
+#[inline]
 pub fn check_block(
     counted: &Counted<'_>,
     first: u64,

@@ -10,18 +10,23 @@ use std::marker::Model;
 
 /// A set of places of entries of the parent list.
 ///
-/// It is a tree, and not a table, since a cache could choose places whose hashes are equal.
+/// The first that is added takes no memory. The others are in a tree, and not in a table, since a cache could
+/// choose places whose hashes are equal.
 #[derive(Drop)]
 pub struct Marks {
-    places: BTreeSet<u32>,
+    first: Option<u32>,
+    others: BTreeSet<u32>,
 }
 
 impl Model for Marks {
-    ghost use Rattle.std.specs.Prelude.{ℕ, List};
+    ghost use Rattle.std.specs.Prelude.{◌≡◌, ℕ, List, [], MatchOption};
+    ghost use Rattle.mime_view.specs.Parents.{with_first};
 
     ghost Value = { List ℕ };
 
-    ghost view = { λ marks. marks.places.keys };
+    ghost view = { λ marks. with_first marks.first marks.others.keys };
+
+    ghost invariant = { λ marks. MatchOption marks.first (marks.others.keys ≡ []) (λ place. Unit {0}) };
 }
 
 impl Marks {
@@ -30,7 +35,8 @@ impl Marks {
         ensures { result ≡ [] }
     {
         Marks {
-            places: BTreeSet::new(alloc),
+            first: None,
+            others: BTreeSet::new(alloc),
         }
     }
 
@@ -38,7 +44,10 @@ impl Marks {
     pub fn contains(&self, place: u32) -> bool
         ensures { result ≡ has_place self.now place }
     {
-        self.places.contains(&place)
+        match self.first {
+            Some(first) => place == first || self.others.contains(&place),
+            None => false,
+        }
     }
 
     /// Adds a place.
@@ -47,7 +56,12 @@ impl Marks {
         ensures unchanged { OnErr result (self.new ≡ self.old) }
         ensures fault { IfErr result (λ e. e ≡ CacheFault.OutOfMemory) }
     {
-        self.places.insert(place)?;
+        match self.first {
+            Some(_) => {
+                self.others.insert(place)?;
+            }
+            None => self.first = Some(place),
+        }
         Ok(())
     }
 }

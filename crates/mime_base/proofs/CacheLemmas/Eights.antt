@@ -9,7 +9,7 @@ use Rattle.std.specs.Cmp.Lexicographic.{slice_cmp}
 use Rattle.std.specs.declared.cmp.Ordering.TheVariants.{Equal}
 use Rattle.std.proofs.lemmas.Bool.{eqb-true}
 use Rattle.std.proofs.lemmas.List.Sums.{common_prefix_len-le}
-use Rattle.std.proofs.lemmas.Simd.{length-zip2, mask_l-mod, trailing_mask_l}
+use Rattle.std.proofs.lemmas.Simd.{leading_from_mask_l, length-zip2, mask_l-mod, trailing_mask_l}
 use lib.Bits.{bit_or}
 use lib.Count.{count_trailing_zeros}
 use Rattle.mime_base.specs.Cache.Texts.{before_zero, shared}
@@ -115,10 +115,19 @@ stop_lanes-length (suc n) (x ∷ xs) [] long as_long = absurd (omega arith)
 stop_lanes-length (suc n) (x ∷ xs) (y ∷ ys) long as_long = ap suc (stop_lanes-length n xs ys (omega arith) (omega arith))
 
 -- the lowest place where lanes differ or one is zero is that of the first byte that differs or is zero
-pub shared-found : (xs ys : List ℕ) (places : ℕ) → length xs ≡ 8 → length ys ≡ 8 →
-    places ≡ mask_l (stop_lanes 8 xs ys) % 2 ^ 64 → 0 < places →
-    (count_trailing_zeros 64 places ≡ shared xs ys) × (count_trailing_zeros 64 places ≤ 8)
-shared-found xs ys places long as_long is some =
-    let size = stop_lanes-length 8 xs ys long as_long in
-    let found = first-place (stop_lanes 8 xs ys) places (omega (arith, size)) is some ∙ lanes-shared 8 xs ys long as_long in
+pub shared-found : (n : ℕ) (xs ys : List ℕ) (places : ℕ) → n ≤ 64 → length xs ≡ n → length ys ≡ n →
+    places ≡ mask_l (stop_lanes n xs ys) % 2 ^ 64 → 0 < places →
+    (count_trailing_zeros 64 places ≡ shared xs ys) × (count_trailing_zeros 64 places ≤ n)
+shared-found n xs ys places few long as_long is some =
+    let size = stop_lanes-length n xs ys long as_long in
+    let found = first-place (stop_lanes n xs ys) places (omega (arith, size, few)) is some ∙ lanes-shared n xs ys long as_long in
     (found, omega (arith, found, (common_prefix_len-le nat_eq (before_zero xs) ys).1, as_long))
+
+-- where no lane stops, all bytes are equal and not zero
+pub shared-all : (n : ℕ) (xs ys : List ℕ) (places : ℕ) → n ≤ 64 → length xs ≡ n → length ys ≡ n →
+    places ≡ mask_l (stop_lanes n xs ys) % 2 ^ 64 → places ≡ 0 → n ≡ shared xs ys
+shared-all n xs ys places few long as_long is none =
+    let size = stop_lanes-length n xs ys long as_long in
+    let stops : mask_l (map (λ m. m) (stop_lanes n xs ys)) ≡ 0 =
+    ap mask_l (map-same (stop_lanes n xs ys)) ∙ sym (mask_l-mod (stop_lanes n xs ys) 64 (omega (arith, size, few))) ∙ sym is ∙ none in
+    sym size ∙ sym (leading_from_mask_l (λ m. m) (stop_lanes n xs ys) stops) ∙ lanes-shared n xs ys long as_long

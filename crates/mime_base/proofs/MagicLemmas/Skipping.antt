@@ -12,8 +12,8 @@ use Rattle.mime_base.specs.Magic.Mirrored.{mirrored}
 use Rattle.mime_base.specs.Magic.Ranges.{compared_from}
 use Rattle.mime_base.specs.Magic.{PlainLine, line_from}
 use Rattle.mime_base.specs.declared.magic.host.Host.{Host}
-use Rattle.mime_base.proofs.MagicLemmas.HoldingLines.{equals_from-passed}
-use Rattle.mime_base.proofs.MagicLemmas.Ranges.{compared_from-passed, window_cost}
+use Rattle.mime_base.proofs.MagicLemmas.HoldingLines.{equals_from-none, equals_from-passed}
+use Rattle.mime_base.proofs.MagicLemmas.Ranges.{compared_from-none, compared_from-passed, window_cost}
 use Rattle.mime_base.proofs.MagicLemmas.Windows.{counted, stops}
 
 -- all bits of a byte
@@ -92,6 +92,16 @@ module _ (value : List ℕ) (word : ℕ) (host : Host) (content : List ℕ) (som
       passed_over at passed (end - (at + passed)) (end - at) (omega arith) (omega arith)
       (λ i below e. differ i below
       (get_or-take (end - at) (drop at content) i 0 (omega arith) ∙ get_or-drop at content i 0 ∙ e))
+
+  -- one such window
+  pub other_byte : (at : ℕ) → at + length value ≤ length content → (get_or content at 0 ≡ get_or value 0 0 → ⊥)
+      → (equals_from own host content at 1 ≡ false) × (compared_from own host content at 1 ≡ 1)
+  other_byte at inside other =
+      let place : at + 0 ≡ at = omega arith in
+      let told = passed_over at 1 0 1 refl (omega arith) (λ i below e.
+      let first : at + i ≡ at = omega arith in
+      other (ap (λ (j : ℕ). get_or content j 0) (sym first) ∙ e)) in
+      (told.0 ∙ equals_from-none own host content (at + 1), omega (arith, told.1, compared_from-none own host content (at + 1)))
 
 -- a list of no length
 pub without_bytes : (bytes : List ℕ) → length bytes ≡ 0 → bytes ≡ []

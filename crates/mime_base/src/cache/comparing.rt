@@ -80,6 +80,7 @@ fn common_of_eight(left: &[u8], right: &[u8]) -> usize
 
 /// How what stands in the front, up to its first zero, compares with a key, and how many bytes were
 /// looked at: none tells, where all of them are equal to the key's and none is zero.
+#[inline]
 pub fn compare_front(front: &[u8], key: &[u8]) -> (Option<Ordering>, usize)
     ensures order { result.0 ≡ (if nat_lt (shared front.now key.now) (length front.now)
         then Some (slice_cmp nat_cmp (before_zero front.now) key.now) else None) }
@@ -106,7 +107,9 @@ pub fn compare_front(front: &[u8], key: &[u8]) -> (Option<Ordering>, usize)
     }
 }
 
-/// How many bytes are equal and none of them zero, eight at a time: fewer where the last are no eight.
+/// How many bytes are equal and none of them zero, sixteen at a time and then eight: fewer where the last are
+/// no eight.
+#[inline]
 fn shared_by_eight(front: &[u8], key: &[u8]) -> usize
     ensures shared { result + shared (drop result front.now) (drop result key.now) ≡ shared front.now key.now }
     ensures order { slice_cmp nat_cmp (before_zero (drop result front.now)) (drop result key.now)
@@ -115,11 +118,28 @@ fn shared_by_eight(front: &[u8], key: &[u8]) -> usize
     ensures key { result ≤ length key.now }
 {
     let room = front.len().min(key.len());
+    let start = shared_by_sixteen(front, key);
+    if room - start < 8 || start % 16 != 0 {
+        return start;
+    }
+    start + shared_of_eight(&front[start..], &key[start..])
+}
+
+/// The same, sixteen at a time.
+#[inline]
+fn shared_by_sixteen(front: &[u8], key: &[u8]) -> usize
+    ensures shared { result + shared (drop result front.now) (drop result key.now) ≡ shared front.now key.now }
+    ensures order { slice_cmp nat_cmp (before_zero (drop result front.now)) (drop result key.now)
+        ≡ slice_cmp nat_cmp (before_zero front.now) key.now }
+    ensures front { result ≤ length front.now }
+    ensures key { result ≤ length key.now }
+{
+    let room = front.len().min(key.len());
     let mut start = 0;
-    while 8 <= room - start {
-        let equal = shared_of_eight(&front[start..], &key[start..]);
+    while 16 <= room - start {
+        let equal = shared_of_sixteen(&front[start..], &key[start..]);
         start += equal;
-        if equal < 8 {
+        if equal < 16 {
             return start;
         }
     }
@@ -139,6 +159,24 @@ fn shared_of_eight(front: &[u8], key: &[u8]) -> usize
     let places = stop.to_bitmask();
     if places == 0 {
         8
+    } else {
+        places.trailing_zeros() as usize
+    }
+}
+
+/// How many of the first sixteen bytes are equal, from the front, and none of them zero.
+#[inline]
+fn shared_of_sixteen(front: &[u8], key: &[u8]) -> usize
+    requires front { 16 ≤ length front.now }
+    requires key { 16 ≤ length key.now }
+    ensures shared { result ≡ shared (take 16 front.now) (take 16 key.now) }
+    ensures most { result ≤ 16 }
+{
+    let bytes = u8x16::from_slice(front);
+    let stop = bytes.simd_ne(u8x16::from_slice(key)) | bytes.simd_eq(u8x16::splat(0));
+    let places = stop.to_bitmask();
+    if places == 0 {
+        16
     } else {
         places.trailing_zeros() as usize
     }

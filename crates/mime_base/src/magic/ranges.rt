@@ -1,6 +1,6 @@
 //! Values that are sought at the offsets of a range ("The magic files").
 
-ghost use Rattle.std.specs.Prelude.{◌≡◌, ◌≢◌, ℕ, ◌+◌, ◌-◌, ◌^◌, ◌<◌, ◌≤◌, length, min, slice_index, Some};
+ghost use Rattle.std.specs.Prelude.{◌≡◌, ◌≢◌, ℕ, ◌+◌, ◌-◌, ◌^◌, ◌<◌, ◌≤◌, length, min, slice_index, true, false, Some};
 ghost use Rattle.mime_base.specs.Magic.Holds.{equals_from};
 ghost use Rattle.mime_base.specs.Magic.{line_from};
 ghost use Rattle.mime_base.specs.Magic.Masking.{equal_bytes, window_equals};
@@ -16,6 +16,7 @@ use memchr::memchr;
 ///
 /// It adds, of each window up to and with the first that equals, the bytes up to and with the first
 /// that differs.
+#[inline]
 pub fn value_in_range(
     value: &[u8],
     mask: &[u8],
@@ -37,11 +38,39 @@ pub fn value_in_range(
     if content.len() < value.len() || content.len() - value.len() < start {
         return false;
     }
+    if range == 1 && first_byte_differs(value, mask, word, host, content, start) {
+        meter.add_bytes(1);
+        return false;
+    }
     let end = (start + range).min(content.len() - value.len() + 1);
     value_in_windows(value, mask, word, host, content, start, end, meter)
 }
 
+/// Whether already the first byte of the window at an offset is not the value's, where that alone tells.
+#[inline]
+fn first_byte_differs(
+    value: &[u8],
+    mask: &[u8],
+    word: u32,
+    host: Host,
+    content: &[u8],
+    at: usize,
+) -> bool
+    requires inside { at + length value.now ≤ length content.now }
+    ensures equal { result ≡ true →
+        equals_from (line_from 0 0 word value.now (Some mask.now)) host content.now at 1 ≡ false }
+    ensures counted { result ≡ true →
+        compared_from (line_from 0 0 word value.now (Some mask.now)) host content.now at 1 ≡ 1 }
+{
+    let group = group_of(word, host, value.len());
+    if !mask.is_empty() || value.is_empty() || group != 1 {
+        return false;
+    }
+    content[at] != value[0]
+}
+
 /// Whether the window at one of the offsets from `start` up to `end` equals a value under its mask.
+#[inline]
 fn value_in_windows(
     value: &[u8],
     mask: &[u8],
@@ -60,7 +89,34 @@ fn value_in_windows(
     ensures bytes { meter.new.bytes ≡ raised meter.old.bytes
         (compared_from (line_from 0 0 word value.now (Some mask.now)) host content.now start (end - start)) }
 {
-    let mut at = next_window(value, mask, word, host, content, start, end, meter);
+    let first = next_window(value, mask, word, host, content, start, end, meter);
+    if first == end {
+        return false;
+    }
+    value_from(value, mask, word, host, content, first, end, meter)
+}
+
+/// The same, where the first window may equal the value. Few ranges have one that may.
+#[inline(never)]
+fn value_from(
+    value: &[u8],
+    mask: &[u8],
+    word: u32,
+    host: Host,
+    content: &[u8],
+    start: usize,
+    end: usize,
+    meter: &mut Meter,
+) -> bool
+    requires order { start ≤ end }
+    requires inside { end + length value.now ≤ length content.now + 1 }
+    ensures equal { result ≡ equals_from (line_from 0 0 word value.now (Some mask.now))
+        host content.now start (end - start) }
+    ensures nodes { meter.new.nodes ≡ meter.old.nodes }
+    ensures bytes { meter.new.bytes ≡ raised meter.old.bytes
+        (compared_from (line_from 0 0 word value.now (Some mask.now)) host content.now start (end - start)) }
+{
+    let mut at = start;
     while at < end {
         let window = &content[at..at + value.len()];
         if value_is(value, mask, word, host, window, meter) {

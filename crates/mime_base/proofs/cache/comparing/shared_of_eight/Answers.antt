@@ -7,6 +7,6 @@ pub returns-else-places-eq0 : goal.returns-else-places-eq0
 returns-else-places-eq0 c =
     let xs = take 8 c.args.front.now in
     let ys = take 8 c.args.key.now in
-    let found = shared-found xs ys _ (length-take-le 8 c.args.front.now c.requires.front) (length-take-le 8 c.args.key.now c.requires.key)
+    let found = shared-found 8 xs ys _ (omega arith) (length-take-le 8 c.args.front.now c.requires.front) (length-take-le 8 c.args.key.now c.requires.key)
     refl (omega (arith, c.if-places-eq0.false)) in
     record { shared = found.0; most = found.1 }

@@ -1,5 +1,9 @@
-use Rattle.std.proofs.Common.{ℕ, ◌+◌, ◌-◌, ◌<◌, length, Some, sym, ◌∙◌, arith}
+use Rattle.std.proofs.Common.{◌≡◌, ℕ, ◌+◌, ◌-◌, ◌<◌, length, Some, sym, ap, ◌∙◌, arith}
 use Rattle.mime_base.specs.Magic.{line_from}
+use Rattle.mime_base.specs.Magic.Holds.{equals_from}
+use Rattle.mime_base.specs.Magic.Ranges.{compared_from}
+use Rattle.mime_base.specs.Meter.{raised}
+use Rattle.mime_base.specs.declared.meter.Meter.{Meter}
 use Rattle.mime_base.proofs.MagicLemmas.HoldingLines.{equals_from-outside}
 use Rattle.mime_base.proofs.MagicLemmas.Ranges.{compared_from-anywhere, compared_from-outside, compared_from-room}
 use Rattle.mime_base.proofs.MagicLemmas.Ranges.{equals_from-anywhere, equals_from-room}
@@ -36,3 +40,24 @@ returns-clause-bytes c =
     ∙ compared_from-anywhere c.args.start c.args.range c.args.word c.args.value.now (Some c.args.mask.now) c.args.host
     c.args.content.now c.args.start n in
     omega (arith, fewer, c.value_in_windows.ensures.bytes)
+
+pub returns-then-first_byte_differs-clause-equal : goal.returns-then-first_byte_differs-clause-equal
+returns-then-first_byte_differs-clause-equal c =
+    let own = line_from c.args.start c.args.range c.args.word c.args.value.now (Some c.args.mask.now) in
+    let one : c.args.range ≡ 1 = omega arith in
+    sym (ap (equals_from own c.args.host c.args.content.now c.args.start) one
+    ∙ equals_from-anywhere c.args.start c.args.range c.args.word c.args.value.now (Some c.args.mask.now) c.args.host
+    c.args.content.now c.args.start 1
+    ∙ c.first_byte_differs.ensures.equal c.if-first_byte_differs.true)
+
+pub returns-then-first_byte_differs-clause-bytes : goal.returns-then-first_byte_differs-clause-bytes
+returns-then-first_byte_differs-clause-bytes c =
+    let own = line_from c.args.start c.args.range c.args.word c.args.value.now (Some c.args.mask.now) in
+    let one : c.args.range ≡ 1 = omega arith in
+    let single = ap (compared_from own c.args.host c.args.content.now c.args.start) one
+    ∙ compared_from-anywhere c.args.start c.args.range c.args.word c.args.value.now (Some c.args.mask.now) c.args.host
+    c.args.content.now c.args.start 1
+    ∙ c.first_byte_differs.ensures.counted c.if-first_byte_differs.true in
+    let added : c.add_bytes.new.self.bytes ≡ raised c.args.meter.now.bytes 1 =
+    ap (λ (m : Meter). m.bytes) c.add_bytes.ensures.added in
+    added ∙ ap (raised c.args.meter.now.bytes) (sym single)

@@ -1,8 +1,8 @@
-use Rattle.std.proofs.Common.{◌-◌, ◌≡◌, ℕ, ◌+◌, ◌*◌, ◌^◌, ◌<◌, ◌≤◌, List, Less, nat_cmp}
+use Rattle.std.proofs.Common.{◌-◌, ◌≡◌, ℕ, ◌+◌, ◌*◌, ◌^◌, ◌<◌, ◌≤◌, List, Less, nat_cmp, true, false}
 use Rattle.std.specs.Prelude.{◌≢◌}
 use Rattle.std.specs.Cmp.Lexicographic.{slice_cmp}
 use Rattle.mime_view.specs.Lists.{HasText}
-use Rattle.mime_view.proofs.search.first_not_less.Given as goal
+use Rattle.mime_view.proofs.search.seek.Given as goal
 
 abbrev pub invariant-loop-low : goal.invariant-loop-low
 invariant-loop-low l = record {
@@ -10,6 +10,8 @@ invariant-loop-low l = record {
   within : l.high ≤ l.count;
   before : (i : ℕ) (text : List ℕ) → i + 1 ≡ l.low → HasText l.counted l.first l.size i text → slice_cmp nat_cmp text l.key ≡ Less;
   after : (text : List ℕ) → l.high < l.count → HasText l.counted l.first l.size l.high text → slice_cmp nat_cmp text l.key ≢ Less;
+  equal : l.equal ≡ true → (l.high < l.count) × HasText l.counted l.first l.size l.high l.key;
+  other : l.equal ≡ false → (text : List ℕ) → l.high < l.count → HasText l.counted l.first l.size l.high text → text ≢ l.key;
   rises : l.initial.meter.nodes ≤ l.meter.nodes;
   bytes_rise : l.initial.meter.bytes ≤ l.meter.bytes;
   probes :

@@ -3,7 +3,7 @@ use Rattle.mime_base.specs.Magic.Holds.{equals_from}
 use Rattle.mime_base.specs.Magic.{line_from}
 use Rattle.mime_base.specs.Magic.Ranges.{compared_from}
 use Rattle.mime_base.specs.Meter.{raised}
-use Rattle.mime_base.proofs.magic.ranges.value_in_windows.Given as goal
+use Rattle.mime_base.proofs.magic.ranges.value_from.Given as goal
 
 abbrev pub invariant-loop-at : goal.invariant-loop-at
 invariant-loop-at l = record {

@@ -2,7 +2,7 @@ use Rattle.std.proofs.Common.{◌≡◌, ◌+◌, ◌-◌, ◌≤◌, length, dr
 use Rattle.std.specs.Ordering.{nat_cmp}
 use Rattle.std.specs.Cmp.Lexicographic.{slice_cmp}
 use Rattle.mime_base.specs.Cache.Texts.{before_zero, shared}
-use Rattle.mime_base.proofs.cache.comparing.shared_by_eight.Given as goal
+use Rattle.mime_base.proofs.cache.comparing.shared_by_sixteen.Given as goal
 
 abbrev pub invariant-loop-start : goal.invariant-loop-start
 invariant-loop-start l = record {

@@ -1,9 +1,12 @@
-use Rattle.std.proofs.Common.{◌≡◌, ℕ, ◌+◌, ◌-◌, ◌*◌, ◌/◌, arith, ◌∙◌, ap, get_or}
+use Rattle.std.proofs.Common.{◌≡◌, ℕ, ◌+◌, ◌-◌, ◌*◌, ◌/◌, Equal, nat_cmp, true≢false, arith, ◌∙◌, sym, ap, get_or}
+use Rattle.std.specs.Cmp.Lexicographic.{slice_cmp}
+use Rattle.mime_view.proofs.EqualTexts.{equal_text}
 use Rattle.mime_base.specs.Cache.Bytes.{field}
 use Rattle.mime_base.specs.Cache.Texts.{text_at}
 use Rattle.mime_view.proofs.Halving.{count_small, halved, few}
+use Rattle.mime_view.proofs.OneText.{same_text}
 use Rattle.mime_view.proofs.Places.{splits-found, key_at}
-use Rattle.mime_view.proofs.search.first_not_less.Goals as goal
+use Rattle.mime_view.proofs.search.seek.Goals as goal
 
 pub returns-in_err-compare_text-clause-answers : goal.returns-in_err-compare_text-clause-answers
 returns-in_err-compare_text-clause-answers c = λ stand.
@@ -48,6 +51,35 @@ loop-low-preserved-in-Less c =
           let order = c.in_ok-compare_text.ensures.text text (ap (text_at c.args.counted.now) at ∙ stands) in
           cc (order, c.in-Less.is);
       after = c.loop-low.invariant.after;
+      equal = c.loop-low.invariant.equal;
+      other = c.loop-low.invariant.other;
+      rises = omega arith;
+      bytes_rise = omega arith;
+      probes = (p + 1, omega arith, halved p wide _ _ c.loop-low.invariant.probes.2 (omega arith), omega arith, omega arith);
+    }
+
+pub loop-low-preserved-in-Equal : goal.loop-low-preserved-in-Equal
+loop-low-preserved-in-Equal c =
+    let middle : ℕ = (c.loop-low.low + c.loop-low.high) / 2 in
+    let p : ℕ = c.loop-low.invariant.probes.0 in
+    let wide : ℕ = c.loop-low.high - c.loop-low.low in
+    let small = count_small c.args.first c.args.size c.args.count _ c.requires.size c.requires.fits c.requires.limit in
+    let early = few p wide c.args.count c.loop-low.invariant.probes.2 (omega arith) small in
+    let at : c.from.result ≡ field c.args.counted.now (c.args.first + c.args.size * middle) 0 =
+    c.from.ensures ∙ ap (λ xs. get_or xs 0 0) c.in_ok-text.ensures.numbers.1 in
+    record {
+      order = omega arith;
+      within = omega arith;
+      before = c.loop-low.invariant.before;
+      after = λ text h stands less.
+          let order = c.in_ok-compare_text.ensures.text text (ap (text_at c.args.counted.now) at ∙ stands) in
+          cc (order, less, c.in-Equal.is);
+      equal = λ yes. (
+        omega arith,
+        ap (text_at c.args.counted.now) (sym at)
+            ∙ equal_text c.args.counted.now c.from.result c.args.key.now (cc (c.in_ok-compare_text.ensures.order, c.in-Equal.is)),
+      );
+      other = λ no. absurd (true≢false no);
       rises = omega arith;
       bytes_rise = omega arith;
       probes = (p + 1, omega arith, halved p wide _ _ c.loop-low.invariant.probes.2 (omega arith), omega arith, omega arith);
@@ -60,15 +92,20 @@ loop-low-preserved c =
     let wide : ℕ = c.loop-low.high - c.loop-low.low in
     let small = count_small c.args.first c.args.size c.args.count _ c.requires.size c.requires.fits c.requires.limit in
     let early = few p wide c.args.count c.loop-low.invariant.probes.2 (omega arith) small in
+    let at : c.from.result ≡ field c.args.counted.now (c.args.first + c.args.size * middle) 0 =
+    c.from.ensures ∙ ap (λ xs. get_or xs 0 0) c.in_ok-text.ensures.numbers.1 in
     record {
       order = omega arith;
       within = omega arith;
       before = c.loop-low.invariant.before;
       after = λ text h stands less.
-          let at : c.from.result ≡ field c.args.counted.now (c.args.first + c.args.size * middle) 0 =
-          c.from.ensures ∙ ap (λ xs. get_or xs 0 0) c.in_ok-text.ensures.numbers.1 in
           let order = c.in_ok-compare_text.ensures.text text (ap (text_at c.args.counted.now) at ∙ stands) in
-          c.in_default.not-Less (cc (order, less));
+          cc (order, less, c.in-Greater.is);
+      equal = λ yes. absurd (true≢false (sym yes));
+      other = λ no text h stands same.
+          let order = c.in_ok-compare_text.ensures.text text (ap (text_at c.args.counted.now) at ∙ stands) in
+          let alike : slice_cmp nat_cmp text c.args.key.now ≡ Equal = same_text text c.args.key.now same in
+          cc (order, alike, c.in-Greater.is);
       rises = omega arith;
       bytes_rise = omega arith;
       probes = (p + 1, omega arith, halved p wide _ _ c.loop-low.invariant.probes.2 (omega arith), omega arith, omega arith);
