@@ -14,7 +14,7 @@ pub mod attempt;
 pub mod elements;
 pub mod folding;
 
-ghost use Rattle.std.specs.Prelude.{◌≡◌, true, false, Bool, ◌+◌, ◌-◌, ◌*◌, ◌<◌, ◌≤◌, ◌↔◌, ◌∷◌, length, drop, IsTrue, IfSome, IsNone};
+ghost use Rattle.std.specs.Prelude.{◌≡◌, true, false, ◌+◌, ◌-◌, ◌*◌, ◌<◌, ◌≤◌, ◌↔◌, ◌∷◌, length, drop, IsTrue, IfSome, IsNone};
 ghost use Rattle.mime_base.specs.Matching.Attempt.{decided, owed, tests_after};
 ghost use Rattle.mime_base.specs.Matching.Count.{has_star, rule_tests, tests_of};
 ghost use Rattle.mime_base.specs.Matching.Elements.{any_bytes, elements, is_literal_text, HasNoEnd};

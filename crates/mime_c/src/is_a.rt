@@ -1,6 +1,5 @@
 //! Whether a type is a subclass of another.
 
-ghost use Rattle.std.specs.Prelude.{◌≡◌};
 ghost use Rattle.mime_c.specs.IsA.{IsAsked, IsSearched};
 
 use crate::report::{Report, answered, status_report, stop_report};

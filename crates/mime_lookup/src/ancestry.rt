@@ -5,7 +5,7 @@
 //! no type is expanded twice. The places of all pairs are found once, so a search goes through the
 //! pairs of the types that it meets, and no others.
 
-ghost use Rattle.std.specs.Prelude.{◌≡◌, ◌↔◌, ◌+◌, false, List, ℕ, IfOk, OnOk, IsTrue};
+ghost use Rattle.std.specs.Prelude.{◌≡◌, ◌↔◌, ◌+◌, false, IfOk, OnOk, IsTrue};
 ghost use Rattle.std.specs.VecDeque.{deque_len};
 ghost use Rattle.mime_base.specs.Database.{pairs_of, plain_database};
 ghost use Rattle.mime_base.specs.Database.PlainPairs.{plain_pairs};

@@ -1,8 +1,7 @@
 //! Lookup over the bytes of a cache, whatever they are.
 
-ghost use Rattle.std.specs.Prelude.{◌≡◌, ◌≢◌, ◌⊎◌, ℕ, ◌+◌, ◌*◌, ◌/◌, ◌<◌, ◌≤◌, List, max, length, IfOk, IfErr, OnOk, IfSome, MatchResult};
-ghost use Rattle.std.specs.Prelude.{All, Contains, true, false, ⊤, Ok, Some, None, []};
-ghost use Rattle.mime_base.specs.Cache.Texts.{text_at};
+ghost use Rattle.std.specs.Prelude.{◌≡◌, ◌≢◌, ◌⊎◌, ℕ, ◌+◌, ◌*◌, ◌/◌, ◌<◌, ◌≤◌, max, length, IfOk, IfErr, OnOk, IfSome, MatchResult};
+ghost use Rattle.std.specs.Prelude.{Contains, true, false, ⊤, Ok, Some, None, []};
 ghost use Rattle.std.specs.Prelude.{IsErrAnd, IsOkAnd};
 ghost use Rattle.mime_base.specs.Cache.Bytes.{Stands};
 ghost use Rattle.mime_base.specs.Database.{PlainDatabase, pairs_of};
@@ -10,24 +9,22 @@ ghost use Rattle.mime_base.specs.Database.Limits.{IsWithinLimits};
 ghost use Rattle.mime_base.specs.Format.Spells.{Spells};
 ghost use Rattle.mime_base.specs.Format.Header.{HeaderAt, Offsets};
 ghost use Rattle.mime_base.specs.Format.Pairs.{PairsAt};
-ghost use Rattle.mime_base.specs.Format.Packed.{Packed, matchlet_count, value_length};
-ghost use Rattle.mime_base.specs.Format.Stored.{glob_rules, literal_rules};
-ghost use Rattle.mime_base.specs.Format.SuffixTree.{tree_size};
+ghost use Rattle.mime_base.specs.Format.Packed.{Packed};
 ghost use Rattle.mime_view.specs.Hits.{near};
 ghost use Rattle.mime_view.specs.Opening.{IsOpenFault, Opens};
 ghost use Rattle.mime_lookup.specs.Affords.{Affords, rule_records};
 ghost use Rattle.mime_lookup.specs.Ancestry.{kinds_of};
 ghost use Rattle.mime_lookup.specs.Bounds.{KeepsBounds, near_max, stated_extent};
 ghost use Rattle.mime_lookup.specs.Cached.{IsFinding, IsKind, IsStop, plain_finding};
-ghost use Rattle.mime_lookup.specs.CheckingOrder.{Chooses, GlobsDecide, are_one_type, globs_suffice, read_limit, read_of};
+ghost use Rattle.mime_lookup.specs.CheckingOrder.{Chooses, GlobsDecide, globs_suffice, read_of};
 ghost use Rattle.mime_lookup.specs.Choice.{ChoosesAmong, kept};
 ghost use Rattle.mime_lookup.specs.Content.{Advances, GivesUp, Retries, OfReader, broken, known_content, sound};
-ghost use Rattle.mime_lookup.specs.Costs.{Costs, ahead, glob_cost, record_cost};
-ghost use Rattle.mime_lookup.specs.Finding.{PlainFinding, found_in, is_high, resolved_finding};
+ghost use Rattle.mime_lookup.specs.Costs.{Costs, glob_cost, record_cost};
+ghost use Rattle.mime_lookup.specs.Finding.{is_high, resolved_finding};
 ghost use Rattle.mime_lookup.specs.Headline.{IsHeadline};
 ghost use Rattle.mime_lookup.specs.Reads.{AsksUnless, Reads};
 ghost use Rattle.mime_lookup.specs.Spelling.{SpellsGlobs, SpellsMagic, SpellsPairs};
-ghost use Rattle.mime_lookup.specs.StepFaults.{IsAliasFault, IsGlobsFault, IsLookUpFault, IsSearchFault, IsSniffFault};
+ghost use Rattle.mime_lookup.specs.StepFaults.{IsAliasFault, IsLookUpFault, IsSearchFault};
 
 mod ancestry;
 mod icons;

@@ -5,7 +5,7 @@
 //! tells, and so does a [`Script`](crate::Script); [`Untold`] makes a content that tells nothing of
 //! any reader.
 
-ghost use Rattle.std.specs.Prelude.{◌≡◌, ℕ, Option, None, Some, IfErr, IsOk};
+ghost use Rattle.std.specs.Prelude.{Option, None, Some};
 ghost use Rattle.std.specs.Io.{ReadsAtMost};
 ghost use Rattle.std.specs.Io.KnownBytes.{ReadConsumes};
 ghost use Rattle.mime_lookup.specs.Content.{Counts, Health, KeepsHealth, Tally, untold};

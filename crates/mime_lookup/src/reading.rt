@@ -1,6 +1,6 @@
 //! How the front of a content is read.
 
-ghost use Rattle.std.specs.Prelude.{◌≡◌, ◌≢◌, ◌⊎◌, ◌+◌, ◌-◌, ◌<◌, ◌≤◌, List, ℕ, length, [], OnOk, OnErr, IfErr, IfOk, IsOk, IsErr, take};
+ghost use Rattle.std.specs.Prelude.{◌≡◌, ◌≢◌, ◌⊎◌, ◌+◌, ◌-◌, ◌<◌, ◌≤◌, length, OnOk, OnErr, IfErr, IfOk, IsOk, IsErr};
 ghost use Rattle.std.specs.Io.KnownBytes.{Consumes, IsAtEnd, ReadConsumes};
 ghost use Rattle.mime_lookup.specs.Content.{Advances, GivesUp, Retries, Interrupts, broken, sound};
 

@@ -1,10 +1,9 @@
 //! The literal list and the glob list.
 
-ghost use Rattle.std.specs.Prelude.{◌≡◌, ◌+◌, ◌^◌, ◌<◌, ◌≤◌, length, map, OnOk, IfOk};
+ghost use Rattle.std.specs.Prelude.{◌+◌, ◌^◌, ◌<◌, ◌≤◌, length, map, OnOk, IfOk};
 ghost use Rattle.mime_base.specs.Format.Records.{ListAt};
-ghost use Rattle.mime_base.specs.Format.Room.{rules_room, text_room};
+ghost use Rattle.mime_base.specs.Format.Room.{rules_room};
 ghost use Rattle.mime_base.specs.Format.Rules.{IsRule};
-ghost use Rattle.mime_base.specs.Format.Stored.{stored_text};
 ghost use Rattle.mime_store.specs.Views.{rule_of, rule_texts_room};
 ghost use Rattle.mime_store.specs.Written.{Grew, Written};
 

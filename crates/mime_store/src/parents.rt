@@ -1,12 +1,12 @@
 //! The parent list: each type that has a parent once, with all its parents.
 
-ghost use Rattle.std.specs.Prelude.{◌≡◌, ◌+◌, ◌^◌, ◌<◌, ◌≤◌, length, map, take, drop, OnOk, IfOk};
+ghost use Rattle.std.specs.Prelude.{◌+◌, ◌^◌, ◌<◌, ◌≤◌, length, map, take, drop, OnOk, IfOk};
 ghost use Rattle.std.specs.List.Sorted.{IsSortedBy};
 ghost use Rattle.mime_base.specs.Format.Parents.{IsName};
 ghost use Rattle.mime_base.specs.Format.Records.{ListAt};
 ghost use Rattle.mime_base.specs.Format.Sorted.{text_lt};
 ghost use Rattle.mime_store.specs.Runs.{AreRuns, EndsRun, IsRun, OfKind, plain_run, run_parts_room, runs_room, second_text, seconds_room};
-ghost use Rattle.mime_store.specs.Views.{first_text, pair_texts};
+ghost use Rattle.mime_store.specs.Views.{pair_texts};
 ghost use Rattle.mime_store.specs.Written.{Grew, Written};
 
 use crate::bytes::{append_list, append_text};

@@ -1,6 +1,6 @@
 //! Rules with what a cache stores of them, and the list that each stands in.
 
-ghost use Rattle.std.specs.Prelude.{◌≡◌, IfOk, OnOk, map, length};
+ghost use Rattle.std.specs.Prelude.{◌≡◌, IfOk, OnOk, map};
 ghost use Rattle.mime_base.specs.Matching.Folding.{compared};
 ghost use Rattle.mime_base.specs.Format.Sorted.{IsSortedByText};
 ghost use Rattle.mime_base.specs.Format.Stored.{glob_rules, is_in_globs, is_in_literals, is_in_tree, literal_rules};

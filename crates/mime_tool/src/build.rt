@@ -2,7 +2,6 @@
 //!
 //! That the cache takes the place of a file whole, by way of a file beside it, is this project's own.
 
-ghost use Rattle.std.specs.Prelude.{IfOk, ◌≡◌, string_bytes};
 ghost use Rattle.clap.specs.Walk.{texts};
 ghost use Rattle.mime_base.specs.Database.{plain_database};
 ghost use Rattle.mime_tool.specs.Build.{Builds, BuildsOver, GivesCache, too_large};

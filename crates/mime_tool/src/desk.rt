@@ -1,10 +1,9 @@
 //! What a command works with: memory, files, standard output and standard error. This project's own.
 
-ghost use Rattle.std.specs.Prelude.{◌≡◌, IfOk};
 ghost use Rattle.std.specs.List.{flat_map};
 ghost use Rattle.mime_tool.specs.Desk.{Does, OpensFile, ReadsWhole, ReplacesFile, State, Works};
 ghost use Rattle.mime_tool.specs.Files.{IsBytesOf, IsTextOf};
-ghost use Rattle.mime_tool.specs.Run.{cannot_read, printed, refusal, said};
+ghost use Rattle.mime_tool.specs.Run.{printed, refusal, said};
 
 use crate::files::{FileFault, Files};
 use crate::sink::{Sink, put_all};

@@ -1,6 +1,6 @@
 //! From the bytes of data directories to the type of a file, with nothing stored between.
 
-ghost use Rattle.std.specs.Prelude.{◌≡◌, ◌≢◌, ◌⊎◌, ◌≤◌, ℕ, List, IfOk, IfErr, OnOk, ⊤};
+ghost use Rattle.std.specs.Prelude.{◌≡◌, ◌≢◌, ◌≤◌, ℕ, IfOk, IfErr, OnOk, ⊤};
 ghost use Rattle.mime_base.specs.Database.{PlainDatabase, plain_database};
 ghost use Rattle.mime_base.specs.Database.Limits.{IsWithinLimits};
 ghost use Rattle.mime_base.specs.Format.Room.{room};

@@ -1,6 +1,6 @@
 //! The command `icon`: the icons of a type, from a cache.
 
-ghost use Rattle.std.specs.Prelude.{◌≡◌, []};
+ghost use Rattle.std.specs.Prelude.{[]};
 ghost use Rattle.mime_lookup.specs.Icons.{plain_icons_of};
 ghost use Rattle.mime_tool.specs.Cache.{GivesOrRefuses, IsCacheCommand};
 ghost use Rattle.mime_tool.specs.Desk.{Does, Ends, Works};

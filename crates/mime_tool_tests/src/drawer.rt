@@ -1,6 +1,5 @@
 //! Files in memory of which one can be replaced, and which tell that.
 
-ghost use Rattle.std.specs.Prelude.{◌≡◌};
 ghost use Rattle.mime_tool_tests.specs.Drawer.{stored_in, writes_of};
 ghost use Rattle.mime_tool_tests.specs.Shelf.{stored_at};
 

@@ -1,6 +1,6 @@
 //! The icons of a type, by a cache ("The mime.cache files").
 
-ghost use Rattle.std.specs.Prelude.{◌≡◌, ◌≢◌, ◌⊎◌, ℕ, ◌+◌, ◌*◌, ◌<◌, ◌≤◌, ◌==◌, length, map, option_map, position};
+ghost use Rattle.std.specs.Prelude.{◌≡◌, ◌≢◌, ◌⊎◌, ◌+◌, ◌*◌, ◌<◌, ◌≤◌, ◌==◌, length, option_map, position};
 ghost use Rattle.std.specs.Prelude.{IfErr, IfOk, IfSome, IsErrAnd, MatchResult, OnOk};
 ghost use Rattle.mime_base.specs.Database.{PlainDatabase};
 ghost use Rattle.mime_lookup.specs.Bounds.{KeepsBounds};

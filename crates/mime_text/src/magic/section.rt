@@ -2,7 +2,7 @@
 
 ghost use Rattle.std.specs.Prelude.{◌≡◌, length};
 ghost use Rattle.mime_text.specs.Magic.Entries.{plain_entry, plain_entries, plain_flat_section, slice_bytes};
-ghost use Rattle.mime_text.specs.Magic.Reading.{Agrees, AgreesIfMemory, after_prefix, entry_at, head_at, head_of, kind_of, lines_at};
+ghost use Rattle.mime_text.specs.Magic.Reading.{AgreesIfMemory, after_prefix, entry_at, head_at, head_of, kind_of, lines_at};
 ghost use Rattle.mime_text.specs.Magic.Reading.{marker_at, section_at, starts_line};
 
 use super::entry::{Entry, FlatSection, Role};

@@ -1,6 +1,6 @@
 //! A whole text of `magic`: nothing, or a header and sections.
 
-ghost use Rattle.std.specs.Prelude.{◌≡◌, IfOk, List, Ok, length};
+ghost use Rattle.std.specs.Prelude.{Ok, length};
 ghost use Rattle.mime_text.specs.Magic.Entries.{plain_flat_sections};
 ghost use Rattle.mime_text.specs.Magic.Reading.{AgreesIfMemory, sections_at, whole};
 

@@ -3,7 +3,7 @@
 //! Marks are found first, with keys that borrow from the entries; then the entries are moved. So no
 //! text is copied.
 
-ghost use Rattle.std.specs.Prelude.{◌≡◌, ◌+◌, ◌++◌, [], ◌∷◌, IfOk, OnOk, List, ℕ, length, map, not};
+ghost use Rattle.std.specs.Prelude.{◌≡◌, [], IfOk, OnOk, List, ℕ, length, map, not};
 ghost use Rattle.std.specs.List.{list_any};
 ghost use Rattle.mime_base.specs.Database.PlainPairs.{is_same_pair};
 ghost use Rattle.mime_text.specs.Merging.{has_same_key, marks, once, picked, with_new_key};

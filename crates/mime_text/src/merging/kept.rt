@@ -1,6 +1,6 @@
 //! What markers leave of rules and sections.
 
-ghost use Rattle.std.specs.Prelude.{◌≡◌, ◌++◌, [], OnOk, ℕ, List, Bool};
+ghost use Rattle.std.specs.Prelude.{◌≡◌, ◌++◌, [], OnOk, ℕ, List};
 ghost use Rattle.mime_text.specs.Merging.{with_kinds, without};
 
 use super::types::Types;
