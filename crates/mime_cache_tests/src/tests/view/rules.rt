@@ -123,8 +123,8 @@ fn rules_of_the_sample(rt: HostRuntime) -> Result<(), CacheFault> {
     for list in &LISTS {
         let cache = with(list.at, list.bytes);
         let (rules, left) = rules_of(rt.alloc(), &cache);
-        assert_eq!(rt; left, list.left, "{}", list.name);
         are_listed(&rt, list.name, &rules?, list.rows);
+        assert_eq!(rt; left, list.left, "{}", list.name);
     }
     Ok(())
 }
