@@ -4,3 +4,4 @@ pub mod MagicLemmas
 pub mod CacheLemmas
 mod DatabaseLemmas
 pub mod FormatLemmas
+mod NameLemmas

@@ -3,17 +3,25 @@
 //! That a type is `MEDIA/SUBTYPE` and that a pattern is a glob is the public specification's ("Directory
 //! layout" and "The glob files"). The limits on their bytes and lengths are this project's own.
 
-ghost use Rattle.std.specs.Prelude.{◌≡◌, ◌<◌, true, false, length, MatchResult};
+ghost use Rattle.std.specs.Prelude.{◌≡◌, ◌<◌, ◌≤◌, true, false, length, take, MatchResult};
 ghost use Rattle.std.specs.List.{list_all};
 ghost use Rattle.mime_base.specs.Names.{has_inner_slash, is_icon_byte, is_icon_name, is_name_byte, is_pattern};
 ghost use Rattle.mime_base.specs.Names.{is_pattern_byte, is_type_name};
 
+use smallvec::SmallVec;
 use std::alloc::Global;
 use std::marker::Model;
+use std::simd::prelude::*;
 use thiserror::Error;
 
 /// The longest type name, pattern and icon name, in bytes.
 const LONGEST: usize = 255;
+
+/// Type names and icon names of so many bytes need no allocation.
+const SHORT_NAME: usize = 24;
+
+/// Patterns of so many bytes need no allocation.
+const SHORT_PATTERN: usize = 16;
 
 /// The shortest type name, in bytes.
 const SHORTEST_TYPE_NAME: usize = 3;
@@ -46,7 +54,7 @@ pub enum NameFault {
 /// its bytes is a space, a control byte below it, or a colon.
 #[derive(Debug, Drop)]
 pub struct TypeName {
-    text: Vec<u8>,
+    text: SmallVec<u8, SHORT_NAME>,
 }
 
 impl Model for TypeName {
@@ -70,7 +78,7 @@ impl TypeName {
         if !is_type_name(bytes) {
             return Err(NameFault::BadType);
         }
-        match Vec::from_slice(alloc, bytes) {
+        match SmallVec::from_slice(alloc, bytes) {
             Ok(text) => Ok(TypeName { text }),
             Err(_) => Err(NameFault::OutOfMemory),
         }
@@ -95,7 +103,7 @@ impl TypeName {
 /// It has 1 to 255 bytes, none of which is a zero byte, a newline or a colon.
 #[derive(Debug, Drop)]
 pub struct Pattern {
-    glob: Vec<u8>,
+    glob: SmallVec<u8, SHORT_PATTERN>,
 }
 
 impl Model for Pattern {
@@ -119,7 +127,7 @@ impl Pattern {
         if !is_pattern(bytes) {
             return Err(NameFault::BadPattern);
         }
-        match Vec::from_slice(alloc, bytes) {
+        match SmallVec::from_slice(alloc, bytes) {
             Ok(glob) => Ok(Pattern { glob }),
             Err(_) => Err(NameFault::OutOfMemory),
         }
@@ -139,7 +147,7 @@ impl Pattern {
 /// It has 1 to 255 bytes, none of which is a zero byte or a newline.
 #[derive(Debug, Drop)]
 pub struct IconName {
-    name: Vec<u8>,
+    name: SmallVec<u8, SHORT_NAME>,
 }
 
 impl Model for IconName {
@@ -164,7 +172,7 @@ impl IconName {
         if !is_icon_name(bytes) {
             return Err(NameFault::BadIcon);
         }
-        match Vec::from_slice(alloc, bytes) {
+        match SmallVec::from_slice(alloc, bytes) {
             Ok(name) => Ok(IconName { name }),
             Err(_) => Err(NameFault::OutOfMemory),
         }
@@ -182,7 +190,33 @@ impl IconName {
 fn are_name_bytes(bytes: &[u8]) -> bool
     ensures { result ≡ list_all is_name_byte bytes.now }
 {
+    let mut rest = bytes;
+    while 16 <= rest.len() {
+        if !are_sixteen_name_bytes(rest) {
+            return false;
+        }
+        rest = &rest[16..];
+    }
+    are_last_name_bytes(rest)
+}
+
+/// The same of the last bytes, one at a time.
+#[inline]
+fn are_last_name_bytes(bytes: &[u8]) -> bool
+    ensures { result ≡ list_all is_name_byte bytes.now }
+{
     bytes.iter().all(|byte| *byte > b' ' && *byte != b':')
+}
+
+/// Whether the first sixteen bytes may stand in a type name.
+#[inline]
+fn are_sixteen_name_bytes(bytes: &[u8]) -> bool
+    requires { 16 ≤ length bytes.now }
+    ensures { result ≡ list_all is_name_byte (take 16 bytes.now) }
+{
+    let front = u8x16::from_slice(bytes);
+    let wrong = front.simd_le(u8x16::splat(b' ')) | front.simd_eq(u8x16::splat(b':'));
+    wrong.to_bitmask() == 0
 }
 
 fn has_inner_slash(bytes: &[u8]) -> bool
