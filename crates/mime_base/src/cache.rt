@@ -97,6 +97,22 @@ impl<'a> Counted<'a> {
         Ok(numbers)
     }
 
+    /// The same of a record that is known to lie in the cache.
+    #[inline]
+    pub fn cards_within<const N: usize>(&self, at: u64, meter: &mut Meter) -> [u32; N]
+        requires most { N ≤ 10 }
+        requires inside { at + 4 * N ≤ length self.now }
+        ensures numbers { result ≡ fields self.now at N }
+        ensures nodes { meter.new.nodes ≡ raised meter.old.nodes 1 }
+        ensures rises { meter.old.nodes ≤ meter.new.nodes }
+        ensures bytes { meter.new.bytes ≡ meter.old.bytes }
+    {
+        meter.add_node();
+        let mut numbers = [0; N];
+        BigEndian::read_u32_into(bytes_within(self.bytes, at, 4 * N as u64), &mut numbers);
+        numbers
+    }
+
     /// The text at `at`, without its zero.
     ///
     /// [`ByteFault::LongText`] where 256 bytes hold no zero, [`ByteFault::OutOfRange`] where the cache
@@ -257,6 +273,15 @@ fn bytes_at(bytes: &[u8], at: u64, size: u64) -> Result<&[u8], ByteFault>
         return Err(ByteFault::OutOfRange(at));
     }
     Ok(&bytes[at as usize..(at + size) as usize])
+}
+
+/// So many bytes at an offset, which lie there.
+#[inline]
+fn bytes_within(bytes: &[u8], at: u64, size: u64) -> &[u8]
+    requires { at + size ≤ length bytes.now }
+    ensures { result.now ≡ value_at bytes.now at size }
+{
+    &bytes[at as usize..(at + size) as usize]
 }
 
 /// A mask of so many bytes at an offset; at the offset 0 there is none.

@@ -1,10 +1,10 @@
 -- How the elements of a pattern go along a name from its front, one byte each, and what is left to decide then.
-use Rattle.std.specs.Prelude.{◌≡◌, ℕ, zero, suc, ◌+◌, ◌-◌, ◌<◌, ◌≤◌, Bool, true, false, not, Option, Some, None, List}
+use Rattle.std.specs.Prelude.{◌≡◌, ℕ, zero, suc, ◌+◌, ◌-◌, ◌<◌, ◌≤◌, Bool, true, false, not, ◌&&◌, Option, Some, None, List}
 use Rattle.std.specs.Prelude.{[], ◌∷◌, length, min, IsTrue}
-use Rattle.mime_base.specs.Matching.Elements.{Element, any_bytes, one, admits, elements, singles, HasNoEnd}
+use Rattle.mime_base.specs.Matching.Elements.{Element, any_bytes, one, admits, elements, singles, is_special, HasNoEnd}
 use Rattle.mime_base.specs.Matching.Count.{tests_of}
 use Rattle.mime_base.specs.Matching.Matches.{matches}
-use Rattle.mime_base.specs.Matching.Folding.{compared}
+use Rattle.mime_base.specs.Matching.Folding.{agrees, compared}
 use Rattle.mime_base.specs.declared.matching.attempt.Step.{Step}
 use Rattle.mime_base.specs.declared.matching.attempt.Step.TheVariants.{Passes, Halts}
 use Rattle.mime_base.specs.declared.matching.attempt.Halt.{Halt}
@@ -22,6 +22,12 @@ refuses (one element ∷ _) (b ∷ _) = not (admits element b)
 refuses (one element ∷ _) [] = false
 refuses (any_bytes ∷ _) name = false
 refuses [] name = false
+
+-- a pattern begins with a byte that stands for itself, and the name with one that is compared as another
+abbrev pub begins_otherwise : Bool → List ℕ → List ℕ → Bool
+begins_otherwise cased (first ∷ _) (byte ∷ _) = not (is_special first) && not (agrees cased (first, byte))
+begins_otherwise cased (first ∷ _) [] = false
+begins_otherwise cased [] name = false
 
 -- why elements go no further; after a `*` stand the last
 abbrev pub HaltsAt : Halt → List Element → List ℕ → List Element → Type 0

@@ -32,7 +32,11 @@ pub fn class_of_bytes(text: &[u8]) -> Class
     ensures { result ≡ class_of text.now }
 {
     match text {
-        [b'*', rest @ ..] if is_literal_text(rest) => Class::Suffix,
+        [b'*', rest @ ..] => if is_literal_text(rest) {
+            Class::Suffix
+        } else {
+            Class::Full
+        },
         _ => if is_literal_text(text) {
             Class::Literal
         } else {

@@ -7,7 +7,7 @@
 
 ghost use Rattle.std.specs.Prelude.{◌≡◌, true, Bool, ◌∷◌, [], ◌+◌, ◌<◌, ◌==◌, IsNone, IfSome, IsTrue, None, false, is_some, drop};
 ghost use Rattle.std.specs.Prelude.{List, ℕ, length, position};
-ghost use Rattle.mime_base.specs.Matching.Attempt.{refuses};
+ghost use Rattle.mime_base.specs.Matching.Attempt.{begins_otherwise, refuses};
 ghost use Rattle.mime_base.specs.Matching.Elements.{HasNoEnd, IsSet, admits, elements, end_of_set, in_ranges, is_literal_text};
 ghost use Rattle.mime_base.specs.Matching.Elements.{is_negated, is_special, one_byte, ranges, width_after};
 ghost use Rattle.mime_base.specs.Matching.Folding.{compared, compared_byte};
@@ -189,7 +189,9 @@ fn is_special(byte: u8) -> bool
 
 /// Whether a pattern begins with a byte that stands for itself, and a name with another: then it doesn't
 /// match. This is the first test of [`crate::glob_matches`], which counts it.
+#[inline]
 pub fn begins_otherwise(pattern: &[u8], cased: bool, name: &[u8]) -> bool
+    ensures exact { result ≡ begins_otherwise cased pattern.now name.now }
     ensures other { IsTrue result → rule_matches pattern.now cased name.now ≡ false }
     ensures refused { IsTrue result
         → refuses (elements (compared cased pattern.now)) (compared cased name.now) ≡ true }
