@@ -71,6 +71,7 @@ impl<'a> Counted<'a> {
     }
 
     /// How many bytes the cache has. It adds nothing.
+    #[inline]
     pub fn length(&self) -> u64
         ensures { result ≡ length self.now }
     {
@@ -90,11 +91,29 @@ impl<'a> Counted<'a> {
         ensures rises { meter.old.nodes ≤ meter.new.nodes }
         ensures bytes { meter.new.bytes ≡ meter.old.bytes }
     {
+        let length = self.length();
+        if length < at || length - at < 4 * N as u64 {
+            meter.add_node();
+            return Err(ByteFault::OutOfRange(at));
+        }
+        Ok(self.cards_within(at, meter))
+    }
+
+    /// The same of a record that is known to lie in the cache.
+    #[inline]
+    pub fn cards_within<const N: usize>(&self, at: u64, meter: &mut Meter) -> [u32; N]
+        requires most { N ≤ 10 }
+        requires inside { at + 4 * N ≤ length self.now }
+        ensures numbers { result ≡ fields self.now at N }
+        ensures nodes { meter.new.nodes ≡ raised meter.old.nodes 1 }
+        ensures rises { meter.old.nodes ≤ meter.new.nodes }
+        ensures bytes { meter.new.bytes ≡ meter.old.bytes }
+    {
         meter.add_node();
-        let record = bytes_at(self.bytes, at, 4 * N as u64)?;
+        let start = at as usize;
         let mut numbers = [0; N];
-        BigEndian::read_u32_into(record, &mut numbers);
-        Ok(numbers)
+        BigEndian::read_u32_into(&self.bytes[start..start + 4 * N], &mut numbers);
+        numbers
     }
 
     /// The text at `at`, without its zero.
