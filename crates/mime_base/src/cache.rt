@@ -71,6 +71,7 @@ impl<'a> Counted<'a> {
     }
 
     /// How many bytes the cache has. It adds nothing.
+    #[inline]
     pub fn length(&self) -> u64
         ensures { result ≡ length self.now }
     {
@@ -90,11 +91,12 @@ impl<'a> Counted<'a> {
         ensures rises { meter.old.nodes ≤ meter.new.nodes }
         ensures bytes { meter.new.bytes ≡ meter.old.bytes }
     {
-        meter.add_node();
-        let record = bytes_at(self.bytes, at, 4 * N as u64)?;
-        let mut numbers = [0; N];
-        BigEndian::read_u32_into(record, &mut numbers);
-        Ok(numbers)
+        let length = self.length();
+        if length < at || length - at < 4 * N as u64 {
+            meter.add_node();
+            return Err(ByteFault::OutOfRange(at));
+        }
+        Ok(self.cards_within(at, meter))
     }
 
     /// The same of a record that is known to lie in the cache.
@@ -108,8 +110,9 @@ impl<'a> Counted<'a> {
         ensures bytes { meter.new.bytes ≡ meter.old.bytes }
     {
         meter.add_node();
+        let start = at as usize;
         let mut numbers = [0; N];
-        BigEndian::read_u32_into(bytes_within(self.bytes, at, 4 * N as u64), &mut numbers);
+        BigEndian::read_u32_into(&self.bytes[start..start + 4 * N], &mut numbers);
         numbers
     }
 
@@ -273,15 +276,6 @@ fn bytes_at(bytes: &[u8], at: u64, size: u64) -> Result<&[u8], ByteFault>
         return Err(ByteFault::OutOfRange(at));
     }
     Ok(&bytes[at as usize..(at + size) as usize])
-}
-
-/// So many bytes at an offset, which lie there.
-#[inline]
-fn bytes_within(bytes: &[u8], at: u64, size: u64) -> &[u8]
-    requires { at + size ≤ length bytes.now }
-    ensures { result.now ≡ value_at bytes.now at size }
-{
-    &bytes[at as usize..(at + size) as usize]
 }
 
 /// A mask of so many bytes at an offset; at the offset 0 there is none.

@@ -79,9 +79,44 @@ fn common_of_eight(left: &[u8], right: &[u8]) -> usize
 }
 
 /// How what stands in the front, up to its first zero, compares with a key, and how many bytes were
-/// looked at: none tells, where all of them are equal to the key's and none is zero.
+/// looked at: none tells, where all of them are equal to the key's and none is zero. The first byte or the
+/// first sixteen tell mostly.
 #[inline]
 pub fn compare_front(front: &[u8], key: &[u8]) -> (Option<Ordering>, usize)
+    ensures order { result.0 ≡ (if nat_lt (shared front.now key.now) (length front.now)
+        then Some (slice_cmp nat_cmp (before_zero front.now) key.now) else None) }
+    ensures count { result.1 ≡ min (shared front.now key.now + 1) (length front.now) }
+{
+    let start = shared_of_first(front, key);
+    if start < front.len() && start < key.len() {
+        let byte = front[start];
+        if byte == 0 {
+            return (Some(Ordering::Less), start + 1);
+        }
+        if byte != key[start] {
+            return (Some(byte.cmp(&key[start])), start + 1);
+        }
+    }
+    compare_all(front, key)
+}
+
+/// How many of the first sixteen bytes are equal and none of them zero, where there are so many, and else 0.
+#[inline]
+fn shared_of_first(front: &[u8], key: &[u8]) -> usize
+    ensures shared { result + shared (drop result front.now) (drop result key.now) ≡ shared front.now key.now }
+    ensures order { slice_cmp nat_cmp (before_zero (drop result front.now)) (drop result key.now)
+        ≡ slice_cmp nat_cmp (before_zero front.now) key.now }
+    ensures front { result ≤ length front.now }
+    ensures key { result ≤ length key.now }
+{
+    if front.len() < 16 || key.len() < 16 {
+        return 0;
+    }
+    shared_of_sixteen(front, key)
+}
+
+/// The same, of fronts and keys of any length.
+fn compare_all(front: &[u8], key: &[u8]) -> (Option<Ordering>, usize)
     ensures order { result.0 ≡ (if nat_lt (shared front.now key.now) (length front.now)
         then Some (slice_cmp nat_cmp (before_zero front.now) key.now) else None) }
     ensures count { result.1 ≡ min (shared front.now key.now + 1) (length front.now) }
