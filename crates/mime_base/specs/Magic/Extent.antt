@@ -23,6 +23,6 @@ abbrev pub extent : PlainDatabase → ℕ
 extent b = sections_extent b.sections
 
 -- a value of 2 bytes from the offsets 4 to 6 reaches the offset 9, with a shorter child
-masked_range : forest_extent (line (line_from 4 3 1 (codes "ab") None)
+reaches_nine : forest_extent (line (line_from 4 3 1 (codes "ab") None)
     (line (line_from 0 1 1 (codes "x") None) bare bare) bare) ≡ 9
-masked_range = refl
+reaches_nine = refl
