@@ -5,7 +5,7 @@
 typedef unsigned long length;
 
 /* The calls, by their numbers in the system. */
-enum { READ = 0, WRITE = 1, OPEN = 2, CLOSE = 3, FSYNC = 74, RENAME = 82, STATX = 332 };
+enum { READ = 0, WRITE = 1, OPEN = 2, CLOSE = 3, FSYNC = 74, RENAME = 82, UNLINK = 87, STATX = 332 };
 
 extern long syscall(long number, ...);
 extern int *__errno_location(void);
@@ -83,6 +83,10 @@ int fsync(int descriptor) { return (int)(is_failed(FSYNC) ? fail() : told("fsync
 
 int rename(const char *from, const char *to) {
     return (int)(is_failed(RENAME) ? fail() : told_path("rename", from, syscall(RENAME, from, to)));
+}
+
+int unlink(const char *path) {
+    return (int)(is_failed(UNLINK) ? fail() : told_path("unlink", path, syscall(UNLINK, path)));
 }
 
 /* What is to be closed is closed, also where that fails. */
