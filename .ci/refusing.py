@@ -1,17 +1,22 @@
-"""A library that refuses an allocation of a program (`refusing.c`), and how many allocations a run makes."""
+"""Libraries that let a call of a program fail (`refusing.c`, `failing.c`), and how many allocations a run makes."""
 import os
 import subprocess
 
 TOP = os.path.dirname(os.path.dirname(os.path.abspath(__file__)))
 
 
-def refusing(folder):
-    """The library that refuses an allocation, compiled by the toolchain's clang."""
+def preloaded(folder, name):
+    """The library of this name, compiled by the toolchain's clang."""
     kit = os.path.dirname(subprocess.run(["rt", "doc"], capture_output=True, text=True, check=True).stdout.strip())
-    made = f"{folder}/refusing.so"
-    words = ["-O1", "-shared", "-fPIC", "-nostdlib", "-fuse-ld=lld", "-o", made, f"{TOP}/.ci/refusing.c"]
+    made = f"{folder}/{name}.so"
+    words = ["-O1", "-shared", "-fPIC", "-nostdlib", "-fuse-ld=lld", "-o", made, f"{TOP}/.ci/{name}.c"]
     subprocess.run([f"{kit}/toolchain/bin/clang", *words], check=True)
     return made
+
+
+def refusing(folder):
+    """The library that refuses an allocation."""
+    return preloaded(folder, "refusing")
 
 
 def allocations(program, words, folder, library):

@@ -93,12 +93,28 @@ fn refuse_pipe(metadata: &Metadata) -> io::Result<()> {
     Ok(())
 }
 
-// Writes a file of `temp` that lasts, and renames it.
+// Writes a new file of `temp` that lasts, and renames it. What stood there is removed, and never written to: a pipe would be
+// waited for, and a link lead to another file.
 fn replace_by<R: rt::Files>(rt: &R, temp: &str, path: &str, bytes: &[u8]) -> io::Result<()> {
-    let mut file = File::create(rt, temp)?;
+    remove_left(rt, temp)?;
+    let mut file = File::create_new(rt, temp)?;
     file.write_all(bytes)?;
     file.sync_all()?;
     fs::rename(rt, temp, path)
+}
+
+// Removes what stands at a path, if anything does.
+fn remove_left<R: rt::Files>(rt: &R, path: &str) -> io::Result<()> {
+    match fs::remove_file(rt, path) {
+        Ok(()) => Ok(()),
+        Err(error) => {
+            if error.kind() == ErrorKind::NotFound {
+                Ok(())
+            } else {
+                Err(error)
+            }
+        }
+    }
 }
 
 // All the bytes of an open file, at most `limit`. A file that says that it is longer isn't read.

@@ -106,7 +106,10 @@ impl Files for Disk {
     }
 
     fn remove_file(&self, _path: &str) -> io::Result<()> {
-        Err(unsupported())
+        match self {
+            Disk::Hides(kind) | Disk::Fails(kind) => Err(io::Error::from(*kind)),
+            Disk::Gives(_) => Ok(()),
+        }
     }
 
     fn create_dir(&self, _path: &str) -> io::Result<()> {

@@ -2,6 +2,7 @@
 
 mod answers;
 mod cost;
+mod failing;
 mod faults;
 mod files;
 mod sample;
