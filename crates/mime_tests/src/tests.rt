@@ -1,3 +1,4 @@
 mod base;
+mod checked;
 mod request;
 mod text;

@@ -1,5 +1,6 @@
 //! Matches and counts of worked rows, with counts that were made by hand, and what is folded.
 
+use crate::tests::checked::alike;
 use mime_base::{Meter, fold, glob_matches};
 use std::process::Abort;
 use std::test::Fail;
@@ -7,7 +8,7 @@ use std::test::Fail;
 #[test]
 fn folds_the_capitals_of_ascii(rt: HostRuntime) -> Result<(), Fail> {
     let text = fold(rt.alloc(), b"Ab\xC3\x84")?;
-    assert_eq!(rt; text.as_slice(), b"ab\xC3\x84".as_slice());
+    alike(&rt, "folded", text.as_slice(), b"ab\xC3\x84");
     Ok(())
 }
 
@@ -18,23 +19,24 @@ type Row = (&'static str, &'static [u8], &'static [u8], bool);
 fn are_matched(rt: &impl Abort, cased: bool, rows: &[Row]) {
     for (row, pattern, name, matches) in rows {
         let found = glob_matches(pattern, cased, name, &mut Meter::new());
-        assert_eq!(rt; found, *matches, "{row}");
+        alike(rt, row, found, *matches);
     }
 }
 
+const ELEMENTS: [Row; 8] = [
+    ("a negated set takes another byte", b"[!a-c]x", b"dx", true),
+    ("and none of its own", b"[!a-c]x", b"bx", false),
+    ("an end is a member where it is first", b"[]]", b"]", true),
+    ("a dash is a member where it is last", b"[a-]", b"-", true),
+    ("a bracket without an end", b"a[b", b"a[b", true),
+    ("an escaped star", b"x\\*", b"x*", true),
+    ("is no star", b"x\\*", b"xy", false),
+    ("a backslash at the end", b"a\\", b"a\\", true),
+];
+
 #[test]
 fn glob_elements(rt: HostRuntime) {
-    let rows: [Row; 8] = [
-        ("a negated set takes another byte", b"[!a-c]x", b"dx", true),
-        ("and none of its own", b"[!a-c]x", b"bx", false),
-        ("an end is a member where it is first", b"[]]", b"]", true),
-        ("a dash is a member where it is last", b"[a-]", b"-", true),
-        ("a bracket without an end", b"a[b", b"a[b", true),
-        ("an escaped star", b"x\\*", b"x*", true),
-        ("is no star", b"x\\*", b"xy", false),
-        ("a backslash at the end", b"a\\", b"a\\", true),
-    ];
-    are_matched(&rt, true, &rows);
+    are_matched(&rt, true, &ELEMENTS);
 }
 
 #[test]
@@ -215,7 +217,7 @@ const MISMATCHES: [MatchCount; 13] = [
 fn counts(rt: HostRuntime) {
     for row in MATCHES.iter().chain(&MISMATCHES) {
         let counted = count(row.pattern, row.file);
-        assert_eq!(rt; counted, (row.matches, Some(row.tests)), "{}", row.name);
+        alike(&rt, row.name, counted, (row.matches, Some(row.tests)));
     }
 }
 
@@ -248,6 +250,6 @@ fn counts_of_a_long_name(rt: HostRuntime) {
         ("252 brackets without an end", &many, &brackets, 253 * 3845),
     ];
     for (row, pattern, name, tests) in rows {
-        assert_eq!(rt; count(pattern, name), (false, Some(tests)), "{row}");
+        alike(&rt, row, count(pattern, name), (false, Some(tests)));
     }
 }

@@ -1,6 +1,7 @@
 //! What the words of the commands over a cache ask for.
 
-use mime_request::request_of;
+use crate::tests::checked::alike;
+use mime_request::{Request, request_of};
 use std::alloc::Global;
 use std::process::Abort;
 use std::test::Fail;
@@ -156,15 +157,22 @@ const TYPES: [Asked; 10] = [
     },
 ];
 
+/// The request of words, as `Debug` writes it, or what is said of them.
+fn answer_to(alloc: Global, words: &[&str]) -> Result<String, Fail> {
+    Ok(match request_of(alloc, words) {
+        Ok(request) => shown(alloc, &request)?,
+        Err(error) => error.to_string(alloc)?,
+    })
+}
+
+fn shown(alloc: Global, request: &Request) -> Result<String, Fail> {
+    Ok(format!(in alloc; "{request:?}")?)
+}
+
 fn asks(rt: &impl Abort, alloc: Global, rows: &[Asked]) -> Result<(), Fail> {
     for row in rows {
-        match request_of(alloc, row.words) {
-            Ok(request) => {
-                let found = format!(in alloc; "{request:?}")?;
-                assert_eq!(rt; found.as_str(), row.request, "{}", row.name);
-            }
-            Err(error) => assert!(rt; false, "{}: {error}", row.name),
-        }
+        let found = answer_to(alloc, row.words)?;
+        alike(rt, row.name, found.as_str(), row.request);
     }
     Ok(())
 }

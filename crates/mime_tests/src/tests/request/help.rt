@@ -2,8 +2,10 @@
 //!
 //! The tests of the program hold each help whole.
 
+use crate::tests::checked::alike;
 use clap::error::ErrorKind;
 use mime_request::request_of;
+use std::alloc::Global;
 use std::test::Fail;
 
 const OF_MIMELOOK: &str = "Tells the MIME types of files";
@@ -82,17 +84,20 @@ const HELPS: [Help; 10] = [
     },
 ];
 
+/// The kind of error that answers words, and its text; or none, if they are a request.
+fn answered(alloc: Global, words: &[&str]) -> Result<Option<(ErrorKind, String)>, Fail> {
+    Ok(match request_of(alloc, words) {
+        Ok(_) => None,
+        Err(error) => Some((error.kind(), error.to_string(alloc)?)),
+    })
+}
+
 #[test]
 fn shows_the_help_of_a_command(rt: HostRuntime) -> Result<(), Fail> {
     for row in &HELPS {
-        match request_of(rt.alloc(), row.words) {
-            Ok(request) => assert!(rt; false, "{}: {request:?}", row.name),
-            Err(error) => {
-                assert_eq!(rt; error.kind(), ErrorKind::DisplayHelp, "{}", row.name);
-                let text = error.to_string(rt.alloc())?;
-                assert_eq!(rt; text.lines().next(), Some(row.first_line), "{}", row.name);
-            }
-        }
+        let (kind, text) = answered(rt.alloc(), row.words)?.ok_or("a request")?;
+        alike(&rt, row.name, kind, ErrorKind::DisplayHelp);
+        alike(&rt, row.name, text.lines().next(), Some(row.first_line));
     }
     Ok(())
 }

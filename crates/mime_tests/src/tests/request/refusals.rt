@@ -4,6 +4,7 @@
 
 mod over_caches;
 
+use crate::tests::checked::alike;
 use clap::error::ErrorKind;
 use mime_request::request_of;
 use std::alloc::Global;
@@ -140,12 +141,14 @@ const REFUSED: [Refused; 24] = [
     },
 ];
 
+/// The kind of error that answers words, or none, if they are a request.
+fn kind_of(alloc: Global, words: &[&str]) -> Option<ErrorKind> {
+    request_of(alloc, words).err().map(|error| error.kind())
+}
+
 fn are_refused(rt: &impl Abort, alloc: Global, rows: &[Refused]) {
     for row in rows {
-        match request_of(alloc, row.words) {
-            Ok(request) => assert!(rt; false, "{}: {request:?}", row.name),
-            Err(error) => assert_eq!(rt; error.kind(), row.kind, "{}", row.name),
-        }
+        alike(rt, row.name, kind_of(alloc, row.words), Some(row.kind));
     }
 }
 
@@ -193,16 +196,19 @@ const MISTAKES: [Mistake; 2] = [
     },
 ];
 
+/// The text that answers words, or none, if they are a request.
+fn text_of(alloc: Global, words: &[&str]) -> Result<Option<String>, Fail> {
+    Ok(match request_of(alloc, words) {
+        Ok(_) => None,
+        Err(error) => Some(error.to_string(alloc)?),
+    })
+}
+
 #[test]
 fn says_what_is_wrong(rt: HostRuntime) -> Result<(), Fail> {
-    let alloc = rt.alloc();
     for row in &MISTAKES {
-        match request_of(alloc, row.words) {
-            Ok(request) => assert!(rt; false, "{}: {request:?}", row.name),
-            Err(error) => {
-                assert_eq!(rt; error.to_string(alloc)?.as_str(), row.text, "{}", row.name)
-            }
-        }
+        let text = text_of(rt.alloc(), row.words)?.ok_or("a request")?;
+        alike(&rt, row.name, text.as_str(), row.text);
     }
     Ok(())
 }

@@ -1,7 +1,8 @@
 //! What words ask for: a cache that is built, or the types of files.
 
+use clap::Error;
 use mime_request::{Request, request_of};
-use std::test::Fail;
+use std::process::Abort;
 
 #[derive(Clone, Copy)]
 struct Built {
@@ -56,19 +57,34 @@ const BUILT: [Built; 7] = [
     },
 ];
 
+/// Whether a request is the one of a row.
+fn is_built(row: &Built, request: &Request<'_>) -> bool {
+    match request {
+        Request::Build { directories, file } => {
+            directories.as_slice() == row.directories && *file == row.file
+        }
+        _ => false,
+    }
+}
+
+/// A request is the one that is wanted, or the test fails.
+fn is_wanted(rt: &impl Abort, name: &str, request: &Request<'_>, wanted: bool) {
+    assert!(rt; wanted, "{name}: {request:?}");
+}
+
+/// Words are refused that ask for something.
+fn is_refused(rt: &impl Abort, name: &str, error: &Error) {
+    assert!(rt; false, "{name}: {error}");
+}
+
 #[test]
-fn asks_for_a_cache(rt: HostRuntime) -> Result<(), Fail> {
-    for row in BUILT {
+fn asks_for_a_cache(rt: HostRuntime) {
+    for row in &BUILT {
         match request_of(rt.alloc(), row.words) {
-            Ok(Request::Build { directories, file }) => {
-                let found = (directories.as_slice(), file);
-                assert_eq!(rt; found, (row.directories, row.file), "{}", row.name);
-            }
-            Ok(request) => assert!(rt; false, "{}: {request:?}", row.name),
-            Err(error) => assert!(rt; false, "{}: {error}", row.name),
+            Ok(request) => is_wanted(&rt, row.name, &request, is_built(row, &request)),
+            Err(error) => is_refused(&rt, row.name, &error),
         }
     }
-    Ok(())
 }
 
 #[derive(Clone, Copy)]
@@ -204,30 +220,30 @@ const ASKED: [Asked; 15] = [
     },
 ];
 
+/// Whether a request is the one of a row.
+fn is_asked(row: &Asked, request: &Request<'_>) -> bool {
+    match request {
+        Request::Plain {
+            directories,
+            name_only,
+            magic_first,
+            files,
+        } => {
+            directories.as_slice() == row.directories
+                && *name_only == row.name_only
+                && *magic_first == row.magic_first
+                && files.as_slice() == row.files
+        }
+        _ => false,
+    }
+}
+
 #[test]
-fn asks_for_files(rt: HostRuntime) -> Result<(), Fail> {
-    for row in ASKED {
+fn asks_for_files(rt: HostRuntime) {
+    for row in &ASKED {
         match request_of(rt.alloc(), row.words) {
-            Ok(
-                Request::Plain {
-                    directories,
-                    name_only,
-                    magic_first,
-                    files,
-                },
-            ) => {
-                let found = (
-                    directories.as_slice(),
-                    name_only,
-                    magic_first,
-                    files.as_slice(),
-                );
-                let wanted = (row.directories, row.name_only, row.magic_first, row.files);
-                assert_eq!(rt; found, wanted, "{}", row.name);
-            }
-            Ok(request) => assert!(rt; false, "{}: {request:?}", row.name),
-            Err(error) => assert!(rt; false, "{}: {error}", row.name),
+            Ok(request) => is_wanted(&rt, row.name, &request, is_asked(row, &request)),
+            Err(error) => is_refused(&rt, row.name, &error),
         }
     }
-    Ok(())
 }

@@ -1,7 +1,10 @@
 //! Rules and markers of `globs2`.
 
 use super::are_names;
-use mime_text::read_globs2;
+use crate::tests::checked::alike;
+use mime_base::GlobRule;
+use mime_text::{GlobsFile, read_globs2};
+use std::process::Abort;
 use std::test::Fail;
 
 struct Row {
@@ -57,23 +60,27 @@ const ROWS: [Row; 6] = [
     },
 ];
 
+/// Whether rules have these weights, types, patterns and flags.
+fn are_rules(rules: &[GlobRule], want: &[(u8, &[u8], &[u8], bool)]) -> bool {
+    let mut same = rules.len() == want.len();
+    for (rule, want) in rules.iter().zip(want) {
+        same = same && rule.weight == want.0 && rule.cased == want.3;
+        same = same && rule.kind.bytes() == want.1 && rule.pattern.bytes() == want.2;
+    }
+    same
+}
+
+fn is_read(rt: &impl Abort, row: &Row, file: &GlobsFile) {
+    alike(rt, row.name, are_rules(&file.rules, row.rules), true);
+    alike(rt, row.name, are_names(&file.deleted, row.deleted), true);
+    alike(rt, row.name, file.skipped.as_slice(), row.skipped);
+}
+
 #[test]
 fn rows(rt: HostRuntime) -> Result<(), Fail> {
     for row in &ROWS {
-        let name = row.name;
         let file = read_globs2(rt.alloc(), row.text)?;
-        assert_eq!(rt; file.rules.len(), row.rules.len(), "{name}");
-        for (rule, want) in file.rules.iter().zip(row.rules) {
-            let fields = (
-                rule.weight,
-                rule.kind.bytes(),
-                rule.pattern.bytes(),
-                rule.cased,
-            );
-            assert_eq!(rt; fields, *want, "{name}");
-        }
-        assert!(rt; are_names(&file.deleted, row.deleted), "{name}");
-        assert_eq!(rt; file.skipped.as_slice(), row.skipped, "{name}");
+        is_read(&rt, row, &file);
     }
     Ok(())
 }

@@ -1,15 +1,21 @@
 //! What `magic` is read as: the lines that are kept, and the types of markers.
 
 use super::are_names;
-use mime_base::Matchlet;
-use mime_text::read_magic;
+use crate::tests::checked::alike;
+use mime_base::{Matchlet, Section};
+use mime_text::{MagicFile, read_magic};
+use std::process::Abort;
+use std::slice::Iter;
 use std::test::Fail;
+
+/// The value of a line, and those of its children.
+type Line = (&'static [u8], &'static [&'static [u8]]);
 
 struct Row {
     name: &'static str,
     text: &'static [u8],
     /// The value of each line of indent 0, and those of its children.
-    lines: &'static [(&'static [u8], &'static [&'static [u8]])],
+    lines: &'static [Line],
     deleted: &'static [&'static [u8]],
 }
 
@@ -85,39 +91,62 @@ fn is_line(line: &Matchlet, value: &[u8], children: &[&[u8]]) -> bool {
     same
 }
 
+/// Whether lines are the next ones that are wanted.
+fn are_next(lines: &[Matchlet], wanted: &mut Iter<'_, Line>) -> bool {
+    let mut same = true;
+    for line in lines {
+        same = match wanted.next() {
+            Some((value, children)) => same && is_line(line, *value, *children),
+            None => false,
+        };
+    }
+    same
+}
+
+fn is_read(rt: &impl Abort, row: &Row, file: &MagicFile) {
+    let mut wanted = row.lines.iter();
+    for section in &file.sections {
+        alike(rt, row.name, are_next(&section.lines, &mut wanted), true);
+    }
+    alike(rt, row.name, wanted.next().is_none(), true);
+    alike(rt, row.name, are_names(&file.deleted, row.deleted), true);
+}
+
 #[test]
 fn rows(rt: HostRuntime) -> Result<(), Fail> {
     for row in &ROWS {
-        let name = row.name;
         let file = read_magic(rt.alloc(), row.text)?;
-        let mut wanted = row.lines.iter();
-        for section in &file.sections {
-            for line in &section.lines {
-                let (value, children) = wanted.next().ok_or("a line too much")?;
-                assert!(rt; is_line(line, *value, *children), "{name}: {value:?}");
-            }
-        }
-        assert!(rt; wanted.next().is_none(), "{name}");
-        assert!(rt; are_names(&file.deleted, row.deleted), "{name}");
+        is_read(&rt, row, &file);
     }
     Ok(())
+}
+
+/// A line has a start, a range, a word, a value and a mask.
+fn has_all_parts(rt: &impl Abort, line: &Matchlet) {
+    alike(rt, "start", line.start, 4);
+    alike(rt, "range", line.range, 3);
+    alike(rt, "word", line.word, 2);
+    alike(rt, "value", line.value.as_slice(), b"ab");
+    let mask = line.mask.as_ref().map(|mask| mask.as_slice());
+    alike(rt, "mask", mask, Some(b"\xdf\xff"));
+}
+
+fn is_section(rt: &impl Abort, section: &Section) {
+    alike(rt, "priority", section.priority, 80);
+    alike(rt, "type", section.kind.bytes(), b"t/a");
+    alike(rt, "lines", section.lines.len(), 1);
+    for line in &section.lines {
+        has_all_parts(rt, line);
+    }
 }
 
 #[test]
 fn line_of_all_parts(rt: HostRuntime) -> Result<(), Fail> {
     let text = b"MIME-Magic\x00\n[0080:t/a]\n>4=\x00\x02ab&\xdf\xff~2+3\n";
     let file = read_magic(rt.alloc(), text)?;
-    assert_eq!(rt; file.sections.len(), 1);
+    alike(&rt, "sections", file.sections.len(), 1);
     for section in &file.sections {
-        assert_eq!(rt; section.priority, 80);
-        assert_eq!(rt; section.kind.bytes(), b"t/a".as_slice());
-        assert_eq!(rt; section.lines.len(), 1);
-        for line in &section.lines {
-            assert_eq!(rt; (line.start, line.range, line.word), (4, 3, 2));
-            assert_eq!(rt; line.value.as_slice(), b"ab".as_slice());
-            let mask = line.mask.as_ref().ok_or("no mask")?;
-            assert_eq!(rt; mask.as_slice(), b"\xdf\xff".as_slice());
-        }
+        is_section(&rt, section);
     }
     Ok(())
 }

@@ -1,6 +1,9 @@
 //! Why a text of `magic` is refused, and where.
 
+use crate::tests::checked::alike;
 use mime_text::{MagicFault, MagicFaultKind, read_magic};
+use std::alloc::Global;
+use std::process::Abort;
 use std::test::Fail;
 
 struct Row {
@@ -84,45 +87,74 @@ const ROWS: [Row; 10] = [
     },
 ];
 
-#[test]
-fn rows(rt: HostRuntime) -> Result<(), Fail> {
-    for row in &ROWS {
-        let fault = read_magic(rt.alloc(), row.text).err().ok_or("no fault")?;
-        let wanted = MagicFault::Malformed {
-            kind: row.kind,
-            offset: row.offset,
-        };
-        assert_eq!(rt; fault, wanted, "{}", row.name);
-        let message = fault.to_string(rt.alloc())?;
-        assert_eq!(rt; message.as_str(), row.message, "{}", row.name);
-    }
+/// A text is refused for this fault, which is told so.
+fn is_refused(
+    rt: &impl Abort,
+    alloc: Global,
+    name: &str,
+    text: &[u8],
+    (kind, offset): (MagicFaultKind, u64),
+    message: &str,
+) -> Result<(), Fail> {
+    let fault = read_magic(alloc, text).err().ok_or("no fault")?;
+    let wanted = MagicFault::Malformed { kind, offset };
+    alike(rt, name, fault, wanted);
+    is_told(rt, alloc, name, fault, message)
+}
+
+fn is_told(
+    rt: &impl Abort,
+    alloc: Global,
+    name: &str,
+    fault: MagicFault,
+    text: &str,
+) -> Result<(), Fail> {
+    let message = fault.to_string(alloc)?;
+    alike(rt, name, message.as_str(), text);
     Ok(())
 }
 
 #[test]
-fn levels(rt: HostRuntime) -> Result<(), Fail> {
-    let mut text = Vec::from_slice(rt.alloc(), b"MIME-Magic\x00\n[50:t/a]\n")?;
+fn rows(rt: HostRuntime) -> Result<(), Fail> {
+    for row in &ROWS {
+        let fault = (row.kind, row.offset);
+        is_refused(&rt, rt.alloc(), row.name, row.text, fault, row.message)?;
+    }
+    Ok(())
+}
+
+/// A line of each of the levels 0 to 63.
+fn all_levels(alloc: Global) -> Result<Vec<u8>, Fail> {
+    let mut text = Vec::from_slice(alloc, b"MIME-Magic\x00\n[50:t/a]\n")?;
     for indent in 0..64u8 {
         text.push(b'0' + indent / 10)?;
         text.push(b'0' + indent % 10)?;
         text.extend_from_slice(b">0=\x00\x01a\n")?;
     }
-    let file = read_magic(rt.alloc(), &text)?;
-    assert_eq!(rt; file.sections.len(), 1);
+    Ok(text)
+}
+
+#[test]
+fn levels(rt: HostRuntime) -> Result<(), Fail> {
+    let alloc = rt.alloc();
+    let mut text = all_levels(alloc)?;
+    let file = read_magic(alloc, &text)?;
+    alike(&rt, "sections", file.sections.len(), 1);
     text.extend_from_slice(b"64>0=\x00\x01a\n")?;
-    let fault = read_magic(rt.alloc(), &text).err().ok_or("no fault")?;
-    let wanted = MagicFault::Malformed {
-        kind: MagicFaultKind::TooDeep,
-        offset: 597,
-    };
-    assert_eq!(rt; fault, wanted);
-    assert_eq!(rt;
-        fault.to_string(rt.alloc())?.as_str(),
-        "magic too deep at 597"
-    );
-    assert_eq!(rt;
-        MagicFault::OutOfMemory.to_string(rt.alloc())?.as_str(),
-        "out of memory"
-    );
-    Ok(())
+    let fault = (MagicFaultKind::TooDeep, 597);
+    is_refused(
+        &rt,
+        alloc,
+        "level 64",
+        &text,
+        fault,
+        "magic too deep at 597",
+    )?;
+    is_told(
+        &rt,
+        alloc,
+        "memory",
+        MagicFault::OutOfMemory,
+        "out of memory",
+    )
 }
