@@ -1,12 +1,12 @@
 -- What stands after a front, and after the row up to a newline.
 use Rattle.std.proofs.Common.{◌≡◌, ℕ, zero, suc, ◌+◌, ◌<◌, true, false, eqb, List, [], ◌∷◌, ◌++◌, length, take, drop, get_or, Option, Some}
-use Rattle.std.proofs.Common.{None, MatchOption, Result, Ok, Err, refl, sym, ap, subst, ◌∙◌, eq-eqb, arith, inl, inr}
-use Rattle.std.specs.Prelude.{◌≢◌}
-use Rattle.std.proofs.lemmas.Bool.{eqb-true, eqb-false, ne_eqb, cases_Bool, cond-true, cond-false}
+use Rattle.std.proofs.Common.{None, MatchOption, Result, Ok, Err, refl, sym, ap, subst, ◌∙◌, ◌==◌, ◌||◌, eq-eqb, true≢false, arith, inl, inr}
+use Rattle.std.specs.Prelude.{◌≢◌, slice_index}
+use Rattle.std.proofs.lemmas.Bool.{and_from, eqb-true, eqb-false, lt-ltb, ne_eqb, cases_Bool, cond-true, cond-false}
 use Rattle.memchr.specs.Find.{IsFirstByte, is_byte}
 use Rattle.mime_text.specs.declared.magic.fault.Fault.{Fault}
 use Rattle.mime_text.specs.declared.magic.fault.MagicFaultKind.TheVariants.{Truncated}
-use Rattle.mime_text.specs.Magic.Reading.{◌>>=◌, fault_at, after_prefix, unsized, short, sized, or_else, marker_at, row_at}
+use Rattle.mime_text.specs.Magic.Reading.{◌>>=◌, fault_at, after_prefix, unsized, short, sized, or_else, marker_at, may_be_marker, row_at}
 use Rattle.mime_text.specs.Magic.Text.{NoNewline}
 use Rattle.mime_text.proofs.MagicLemmas.Steps.{bind_ok, bind_on, chosen, ok_is}
 
@@ -46,6 +46,19 @@ unfolding marker_at
 marker_last bytes a b =
     ap (λ (o : Option (List ℕ)). or_else o (or_else (after_prefix short bytes) (after_prefix sized bytes))) a
     ∙ ap (λ (o : Option (List ℕ)). or_else o (after_prefix sized bytes)) b
+
+-- the bytes of a marker have the fourth byte or the fifth of one
+no_marker : (bytes : List ℕ) → may_be_marker bytes ≡ false → 4 < length bytes →
+    ((slice_index bytes 3 == 95) || (slice_index bytes 4 == 11)) ≡ true → ⊥
+no_marker bytes other long is = true≢false (sym (and_from _ _ (lt-ltb 4 (length bytes) long) is) ∙ other)
+
+-- none stands where neither byte is
+pub marker_none : (bytes : List ℕ) → may_be_marker bytes ≡ false → marker_at bytes ≡ None
+marker_none bytes other =
+    marker_last bytes
+    (after_prefix_is unsized bytes None (λ rest e. no_marker (unsized ++ rest) (rw e at other) (omega arith) refl))
+    (after_prefix_is short bytes None (λ rest e. no_marker (short ++ rest) (rw e at other) (omega arith) refl))
+    ∙ after_prefix_is sized bytes None (λ rest e. no_marker (sized ++ rest) (rw e at other) (omega arith) refl)
 
 -- ---- rows
 

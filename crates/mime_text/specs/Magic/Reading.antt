@@ -1,6 +1,6 @@
 -- Reading a text of magic from front to back, up to its first fault, which carries how many bytes are left at its place.
 use Rattle.std.specs.Prelude.{◌≡◌, ℕ, zero, suc, ◌+◌, ◌-◌, ◌*◌, Bool, ◌&&◌, ◌||◌, ◌==◌, nat_lt, nat_le, if◌then◌else◌, List, [], ◌∷◌, ◌++◌}
-use Rattle.std.specs.Prelude.{codes, length, take, drop, slice_index_or, Option, Some, None, Result, Ok, Err}
+use Rattle.std.specs.Prelude.{codes, length, take, drop, slice_index, slice_index_or, Option, Some, None, Result, Ok, Err}
 use Rattle.mime_base.specs.Magic.{PlainLine, line_from, fits_word}
 use Rattle.mime_base.specs.Names.{is_type_name}
 use Rattle.mime_text.specs.declared.magic.fault.Fault.{Fault}
@@ -182,6 +182,10 @@ or_else None other = other
 -- the bytes after a deletion marker, where they begin with one
 unfoldable pub marker_at : List ℕ → Option (List ℕ)
 marker_at bytes = or_else (after_prefix unsized bytes) (or_else (after_prefix short bytes) (after_prefix sized bytes))
+
+-- whether the fourth byte is an underscore (95), or the fifth is 11, as in each marker
+abbrev pub may_be_marker : List ℕ → Bool
+may_be_marker bytes = nat_lt 4 (length bytes) && ((slice_index bytes 3 == 95) || (slice_index bytes 4 == 11))
 
 -- a marker where one was found, else the line
 abbrev pub marked : Option (List ℕ) → Result (PlainEntry × List ℕ) Fault → Result (PlainEntry × List ℕ) Fault

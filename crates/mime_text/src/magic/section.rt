@@ -3,7 +3,7 @@
 ghost use Rattle.std.specs.Prelude.{◌≡◌, length};
 ghost use Rattle.mime_text.specs.Magic.Entries.{plain_entry, plain_entries, plain_flat_section, slice_bytes};
 ghost use Rattle.mime_text.specs.Magic.Reading.{AgreesIfMemory, after_prefix, entry_at, head_at, head_of, kind_of, lines_at};
-ghost use Rattle.mime_text.specs.Magic.Reading.{marker_at, section_at, starts_line};
+ghost use Rattle.mime_text.specs.Magic.Reading.{marker_at, may_be_marker, section_at, starts_line};
 
 use super::entry::{Entry, FlatSection, Role};
 use super::fault::{Fault, MagicFaultKind, ReadError, fault_at};
@@ -24,6 +24,9 @@ pub fn after_prefix<'a>(prefix: &[u8], bytes: &'a [u8]) -> Option<&'a [u8]>
 fn marker(bytes: &[u8]) -> Option<&[u8]>
     ensures { slice_bytes result ≡ marker_at bytes.now }
 {
+    if !may_be_marker(bytes) {
+        return None;
+    }
     if let Some(rest) = after_prefix(b">0=__NOMAGIC__\n", bytes) {
         return Some(rest);
     }
@@ -31,6 +34,13 @@ fn marker(bytes: &[u8]) -> Option<&[u8]>
         return Some(rest);
     }
     after_prefix(b">0=\x00\x0b__NOMAGIC__\n", bytes)
+}
+
+/// Whether the fourth byte or the fifth is one that a deletion marker has there.
+fn may_be_marker(bytes: &[u8]) -> bool
+    ensures { result ≡ may_be_marker bytes.now }
+{
+    4 < bytes.len() && (bytes[3] == b'_' || bytes[4] == 11)
 }
 
 /// A marker, or a line whose indent may be at most `limit`.
