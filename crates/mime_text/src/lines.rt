@@ -9,11 +9,10 @@ pub mod icons;
 mod names;
 pub mod pairs;
 
-ghost use Rattle.std.specs.Prelude.{◌≡◌, ◌==◌, ◌<◌, ◌∷◌, length, IfSome};
-ghost use Rattle.std.specs.List.{position};
-ghost use Rattle.mime_text.specs.Lines.{fields_left, line_fields, is_passed, lines};
-ghost use Rattle.mime_text.specs.Magic.Entries.{slice_bytes};
+ghost use Rattle.std.specs.Prelude.{◌≡◌, ◌<◌, ◌∷◌, length, slice_index};
+ghost use Rattle.mime_text.specs.Lines.{line_fields, is_passed, lines};
 
+use bstr::{ByteSlice, Split};
 use memchr::memchr;
 use std::marker::Model;
 
@@ -81,68 +80,10 @@ pub fn is_passed(line: &[u8]) -> bool
     }
 }
 
-/// The fields of a line that are left, first to last.
-#[derive(Drop)]
-pub struct LineFields<'a> {
-    rest: Option<&'a [u8]>,
-    separator: u8,
-}
-
-impl<'a> Model for LineFields<'a> {
-    ghost use Rattle.std.specs.Prelude.{ℕ, List};
-    ghost use Rattle.mime_text.specs.Lines.{fields_left};
-    ghost use Rattle.mime_text.specs.Magic.Entries.{slice_bytes};
-
-    ghost Value = { List (List ℕ) };
-
-    ghost view = { λ s. fields_left s.separator (slice_bytes s.rest) };
-}
-
-impl<'a> Iterator for LineFields<'a> {
-    ghost use Rattle.std.specs.Iterator.{YieldsFirstRef, item_count};
-
-    type Item = &'a [u8];
-
-    ghost next_gives = { YieldsFirstRef (λ left. left) };
-
-    ghost remaining = { item_count (λ left. left) };
-
-    fn next(&mut self) -> Option<&'a [u8]> {
-        let Some(line) = self.rest else {
-            return None;
-        };
-        let (field, rest) = cut_field(line, self.separator);
-        self.rest = rest;
-        Some(field)
-    }
-}
-
 /// The fields of a line, which stand between the separators.
-pub fn fields(line: &[u8], separator: u8) -> LineFields<'_>
-    ensures { result ≡ line_fields separator line.now }
+pub fn fields<'a, 's>(line: &'a [u8], separator: &'s [u8]) -> Split<'a, 's>
+    requires { length separator.now ≡ 1 }
+    ensures { result ≡ line_fields (slice_index separator.now 0) line.now }
 {
-    LineFields {
-        rest: Some(line),
-        separator,
-    }
-}
-
-/// The first field of a line, and the bytes after its separator, if it has one.
-#[inline]
-fn cut_field(line: &[u8], separator: u8) -> (&[u8], Option<&[u8]>)
-    ensures { line_fields separator line.now ≡ result.0.now ∷ fields_left separator (slice_bytes result.1) }
-{
-    match first_place(line, separator) {
-        Some(end) => (&line[..end], Some(&line[end + 1..])),
-        None => (line, None),
-    }
-}
-
-/// The first place of a byte.
-#[inline]
-fn first_place(line: &[u8], wanted: u8) -> Option<usize>
-    ensures place { result ≡ position (λ b. b == wanted) line.now }
-    ensures within { IfSome result (λ place. place < length line.now) }
-{
-    line.iter().position(|byte| *byte == wanted)
+    line.split_str(separator)
 }
