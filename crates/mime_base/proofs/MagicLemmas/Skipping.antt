@@ -12,6 +12,7 @@ use Rattle.mime_base.specs.Magic.Mirrored.{mirrored}
 use Rattle.mime_base.specs.Magic.Ranges.{compared_from}
 use Rattle.mime_base.specs.Magic.{PlainLine, line_from}
 use Rattle.mime_base.specs.declared.magic.host.Host.{Host}
+use Rattle.mime_base.specs.declared.magic.host.Host.TheVariants.{Little, Big}
 use Rattle.mime_base.proofs.MagicLemmas.HoldingLines.{equals_from-none, equals_from-passed}
 use Rattle.mime_base.proofs.MagicLemmas.Ranges.{compared_from-none, compared_from-passed, window_cost}
 use Rattle.mime_base.proofs.MagicLemmas.Windows.{counted, stops}
@@ -102,6 +103,11 @@ module _ (value : List ℕ) (word : ℕ) (host : Host) (content : List ℕ) (som
       let first : at + i ≡ at = omega arith in
       other (ap (λ (j : ℕ). get_or content j 0) (sym first) ∙ e)) in
       (told.0 ∙ equals_from-none own host content (at + 1), omega (arith, told.1, compared_from-none own host content (at + 1)))
+
+-- a word of one byte reverses nothing
+pub word_of_one : (word : ℕ) (host : Host) (size : ℕ) → word ≡ 1 → group_of word host size ≡ 1
+word_of_one word Little size one = rw one refl
+word_of_one word Big size one = refl
 
 -- a list of no length
 pub without_bytes : (bytes : List ℕ) → length bytes ≡ 0 → bytes ≡ []

@@ -38,7 +38,7 @@ pub fn value_in_range(
     if content.len() < value.len() || content.len() - value.len() < start {
         return false;
     }
-    if range == 1 && first_byte_differs(value, mask, word, host, content, start) {
+    if range == 1 && first_byte_differs(value, mask, word, content, start) {
         meter.add_bytes(1);
         return false;
     }
@@ -48,29 +48,22 @@ pub fn value_in_range(
 
 /// Whether already the first byte of the window at an offset is not the value's, where that alone tells.
 #[inline]
-fn first_byte_differs(
-    value: &[u8],
-    mask: &[u8],
-    word: u32,
-    host: Host,
-    content: &[u8],
-    at: usize,
-) -> bool
+fn first_byte_differs(value: &[u8], mask: &[u8], word: u32, content: &[u8], at: usize) -> bool
     requires inside { at + length value.now ≤ length content.now }
-    ensures equal { result ≡ true →
+    ensures equal { result ≡ true → (host : Host) →
         equals_from (line_from 0 0 word value.now (Some mask.now)) host content.now at 1 ≡ false }
-    ensures counted { result ≡ true →
+    ensures counted { result ≡ true → (host : Host) →
         compared_from (line_from 0 0 word value.now (Some mask.now)) host content.now at 1 ≡ 1 }
 {
-    let group = group_of(word, host, value.len());
-    if !mask.is_empty() || value.is_empty() || group != 1 {
+    if !mask.is_empty() || value.is_empty() || word != 1 {
         return false;
     }
     content[at] != value[0]
 }
 
-/// Whether the window at one of the offsets from `start` up to `end` equals a value under its mask.
-#[inline]
+/// Whether the window at one of the offsets from `start` up to `end` equals a value under its mask. Of most lines the one
+/// window differs in its first byte already.
+#[inline(never)]
 fn value_in_windows(
     value: &[u8],
     mask: &[u8],
@@ -96,8 +89,8 @@ fn value_in_windows(
     value_from(value, mask, word, host, content, first, end, meter)
 }
 
-/// The same, where the first window may equal the value. Few ranges have one that may.
-#[inline(never)]
+/// The same, where the first window may equal the value.
+#[inline]
 fn value_from(
     value: &[u8],
     mask: &[u8],

@@ -48,7 +48,7 @@ returns-then-first_byte_differs-clause-equal c =
     sym (ap (equals_from own c.args.host c.args.content.now c.args.start) one
     ∙ equals_from-anywhere c.args.start c.args.range c.args.word c.args.value.now (Some c.args.mask.now) c.args.host
     c.args.content.now c.args.start 1
-    ∙ c.first_byte_differs.ensures.equal c.if-first_byte_differs.true)
+    ∙ c.first_byte_differs.ensures.equal c.if-first_byte_differs.true c.args.host)
 
 pub returns-then-first_byte_differs-clause-bytes : goal.returns-then-first_byte_differs-clause-bytes
 returns-then-first_byte_differs-clause-bytes c =
@@ -57,7 +57,7 @@ returns-then-first_byte_differs-clause-bytes c =
     let single = ap (compared_from own c.args.host c.args.content.now c.args.start) one
     ∙ compared_from-anywhere c.args.start c.args.range c.args.word c.args.value.now (Some c.args.mask.now) c.args.host
     c.args.content.now c.args.start 1
-    ∙ c.first_byte_differs.ensures.counted c.if-first_byte_differs.true in
+    ∙ c.first_byte_differs.ensures.counted c.if-first_byte_differs.true c.args.host in
     let added : c.add_bytes.new.self.bytes ≡ raised c.args.meter.now.bytes 1 =
     ap (λ (m : Meter). m.bytes) c.add_bytes.ensures.added in
     added ∙ ap (raised c.args.meter.now.bytes) (sym single)
