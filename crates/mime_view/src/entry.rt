@@ -44,7 +44,7 @@ pub fn find_entry(
     let first = at + 4;
     let sought = seek(counted, first, count, 8, key, meter)?;
     if sought.equal {
-        let [_, target] = counted.cards::<2>(first + 8 * sought.place, meter)?;
+        let [_, target] = counted.cards_within::<2>(first + 8 * sought.place, meter);
         return Ok(Some(Entry {
             place: sought.place as u32,
             target,

@@ -134,7 +134,7 @@ fn take_text<'a>(
     ensures bytes { meter.new.bytes + 256 * budget.new.records ≤ meter.old.bytes + 256 * budget.old.records }
 {
     budget.take_record()?;
-    let [name] = counted.cards::<1>(at, meter)?;
+    let [name] = counted.cards_within::<1>(at, meter);
     let text = counted.text_at(u64::from(name), meter)?;
     Ok(text)
 }

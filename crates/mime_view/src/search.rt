@@ -75,7 +75,7 @@ pub fn seek(
     let mut equal = false;
     while low < high {
         let middle = (low + high) / 2;
-        let [text] = counted.cards::<1>(first + size * middle, meter)?;
+        let [text] = counted.cards_within::<1>(first + size * middle, meter);
         match counted.compare_text(u64::from(text), key, meter)? {
             Ordering::Less => low = middle + 1,
             Ordering::Equal => {

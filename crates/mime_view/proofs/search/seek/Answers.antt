@@ -13,7 +13,7 @@ returns-in_err-compare_text-clause-answers c = λ stand.
     let middle : ℕ = (c.loop-low.low + c.loop-low.high) / 2 in
     let t = stand middle (omega arith) in
     let at : c.from.result ≡ field c.args.counted.now (c.args.first + c.args.size * middle) 0 =
-    c.from.ensures ∙ ap (λ xs. get_or xs 0 0) c.in_ok-text.ensures.numbers.1 in
+    c.from.ensures ∙ ap (λ xs. get_or xs 0 0) c.cards_within.ensures.numbers in
     let order = c.in_err-compare_text.ensures.text t.0 (ap (text_at c.args.counted.now) at ∙ t.1) in
     absurd (cc order)
 
@@ -22,7 +22,7 @@ returns-in_err-compare_text-clause-answer c = λ keys n stand sorted.
     let middle : ℕ = (c.loop-low.low + c.loop-low.high) / 2 in
     let text = key_at c.args.counted.now c.args.first c.args.size keys middle stand (omega arith) in
     let at : c.from.result ≡ field c.args.counted.now (c.args.first + c.args.size * middle) 0 =
-    c.from.ensures ∙ ap (λ xs. get_or xs 0 0) c.in_ok-text.ensures.numbers.1 in
+    c.from.ensures ∙ ap (λ xs. get_or xs 0 0) c.cards_within.ensures.numbers in
     let order = c.in_err-compare_text.ensures.text _ (ap (text_at c.args.counted.now) at ∙ text) in
     absurd (cc order)
 
@@ -46,7 +46,7 @@ loop-low-preserved-in-Less c =
       before = λ i text e stands.
           let m : middle ≡ i = omega arith in
           let read : c.from.result ≡ field c.args.counted.now (c.args.first + c.args.size * middle) 0 =
-          c.from.ensures ∙ ap (λ xs. get_or xs 0 0) c.in_ok-text.ensures.numbers.1 in
+          c.from.ensures ∙ ap (λ xs. get_or xs 0 0) c.cards_within.ensures.numbers in
           let at = read ∙ ap (λ (j : ℕ). field c.args.counted.now (c.args.first + c.args.size * j) 0) m in
           let order = c.in_ok-compare_text.ensures.text text (ap (text_at c.args.counted.now) at ∙ stands) in
           cc (order, c.in-Less.is);
@@ -66,7 +66,7 @@ loop-low-preserved-in-Equal c =
     let small = count_small c.args.first c.args.size c.args.count _ c.requires.size c.requires.fits c.requires.limit in
     let early = few p wide c.args.count c.loop-low.invariant.probes.2 (omega arith) small in
     let at : c.from.result ≡ field c.args.counted.now (c.args.first + c.args.size * middle) 0 =
-    c.from.ensures ∙ ap (λ xs. get_or xs 0 0) c.in_ok-text.ensures.numbers.1 in
+    c.from.ensures ∙ ap (λ xs. get_or xs 0 0) c.cards_within.ensures.numbers in
     record {
       order = omega arith;
       within = omega arith;
@@ -93,7 +93,7 @@ loop-low-preserved c =
     let small = count_small c.args.first c.args.size c.args.count _ c.requires.size c.requires.fits c.requires.limit in
     let early = few p wide c.args.count c.loop-low.invariant.probes.2 (omega arith) small in
     let at : c.from.result ≡ field c.args.counted.now (c.args.first + c.args.size * middle) 0 =
-    c.from.ensures ∙ ap (λ xs. get_or xs 0 0) c.in_ok-text.ensures.numbers.1 in
+    c.from.ensures ∙ ap (λ xs. get_or xs 0 0) c.cards_within.ensures.numbers in
     record {
       order = omega arith;
       within = omega arith;
