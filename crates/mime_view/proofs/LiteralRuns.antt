@@ -8,7 +8,7 @@ use Rattle.std.proofs.lemmas.List.{append-nil}
 use Rattle.std.proofs.lemmas.List.Elements.{All-head, All-tail, filter-append}
 use Rattle.mime_base.specs.Format.Stored.{stored_text}
 use Rattle.mime_base.specs.declared.database.rule.GlobRule.{GlobRule}
-use Rattle.mime_view.specs.Hits.{Offers, admits, visits}
+use Rattle.mime_view.specs.Hits.{Offers, takes_rule, visits}
 use Rattle.mime_view.specs.Literals.{AreRun, IsLiteral, ReadsRule, ReadsRules, of_text, run_visits, taken}
 use Rattle.mime_view.specs.declared.hits.Case.{Case}
 use Rattle.mime_view.proofs.OffersLemmas.{offers_append, offers_none}
@@ -19,7 +19,7 @@ Kept = List (ℕ × ℕ)
 
 -- those of some rules that a search takes
 abbrev admitted : Case → List GlobRule → List GlobRule
-admitted case rules = filter (λ rule. admits case rule.cased) rules
+admitted case rules = filter (λ rule. takes_rule case rule.cased) rules
 
 -- what is left of a run from the place i on, and what was offered of it
 pub record Left (c : List ℕ) (first start count : ℕ) (case : Case) (key : List ℕ) (rules : List GlobRule) (old : Kept) (r0 i : ℕ)
@@ -108,7 +108,7 @@ module _ (c : List ℕ) (first start count : ℕ) (case : Case) (key : List ℕ)
               all = all;
               literal = λ ok. All-tail IsLiteral rule rest (subst (All IsLiteral) e (is.literal ok));
               offers = λ ok. subst (λ (xs : List GlobRule). Offers c xs old now')
-                  (sym (filter-append (λ other. admits case other.cased) is.done (of_text key (rule ∷ []))))
+                  (sym (filter-append (λ other. takes_rule case other.cased) is.done (of_text key (rule ∷ []))))
                   (offers_append c (admitted case is.done) (taken case key (rule ∷ [])) old now now' (is.offers ok) (offers ok));
               records = rw more (omega (arith, is.records));
             };
@@ -117,7 +117,7 @@ module _ (c : List ℕ) (first start count : ℕ) (case : Case) (key : List ℕ)
             let whole : of_text key rules ≡ is.done ++ of_text key (rule ∷ []) =
             all ∙ ap (λ more. (is.done ++ of_text key (rule ∷ [])) ++ more) none ∙ append-nil (is.done ++ of_text key (rule ∷ [])) in
             subst (λ (xs : List GlobRule). Offers c xs old now')
-            (sym (filter-append (λ other. admits case other.cased) is.done (of_text key (rule ∷ []))) ∙ ap (admitted case) (sym whole))
+            (sym (filter-append (λ other. takes_rule case other.cased) is.done (of_text key (rule ∷ []))) ∙ ap (admitted case) (sym whole))
             (offers_append c (admitted case is.done) (taken case key (rule ∷ [])) old now now' (is.offers ok) offers);
       }
 

@@ -8,7 +8,7 @@ use Rattle.mime_base.specs.Kept.{class_of}
 use Rattle.mime_base.specs.declared.database.rule.GlobRule.{GlobRule}
 use Rattle.mime_base.specs.declared.kept.class.Class.{Class}
 use Rattle.mime_base.specs.declared.kept.class.Class.TheVariants.{Full, Literal, Suffix}
-use Rattle.mime_view.specs.Hits.{admits}
+use Rattle.mime_view.specs.Hits.{takes_rule}
 use Rattle.mime_view.specs.declared.hits.Case.{Case}
 use Rattle.mime_view.specs.declared.hits.Case.TheVariants.{Both, Exact, Folded}
 use Rattle.mime_view.proofs.FilterSteps.{filter-alike}
@@ -33,11 +33,11 @@ ranked-alike n first rest ranked test =
 
 -- the tests of the places: the literal list and the tree, as a search takes their rules, and the glob list
 abbrev pub in_literals : Case → Class → ℕ → Bool → Bool
-in_literals case class size cased = is_literal_class class && admits case cased
+in_literals case class size cased = is_literal_class class && takes_rule case cased
 
 -- that of the tree
 abbrev pub in_tree : Case → Class → ℕ → Bool → Bool
-in_tree case class size cased = is_suffix_class class && not (size == 1) && admits case cased
+in_tree case class size cased = is_suffix_class class && not (size == 1) && takes_rule case cased
 
 -- that of the glob list
 abbrev pub in_globs : Class → ℕ → Bool → Bool

@@ -10,7 +10,7 @@ use Rattle.mime_base.specs.Kept.{FitsRank, hits, rank_of_rule}
 use Rattle.mime_base.specs.Matching.Folding.{compared}
 use Rattle.mime_base.specs.Matching.Matches.{rule_matches}
 use Rattle.mime_base.specs.declared.database.rule.GlobRule.{GlobRule}
-use Rattle.mime_view.specs.Hits.{admits, glob_list_hits, literal_hits, tree_hits}
+use Rattle.mime_view.specs.Hits.{takes_rule, glob_list_hits, literal_hits, tree_hits}
 use Rattle.mime_view.specs.declared.hits.Case.{Case}
 use Rattle.mime_view.proofs.FilterSteps.{filters-agree, filters-swap}
 use Rattle.mime_view.proofs.PathFronts.{Lengthens-fronts, by_keys-level, filter-by_keys, is_among}
@@ -44,7 +44,7 @@ ranked-level n (first ∷ rest) ranked =
 
 -- the key of a search or a walk is the name as each rule that it takes compares it
 abbrev pub Serves : Case → List ℕ → List ℕ → Type 0
-Serves case name key = (cased : Bool) → admits case cased ≡ true → compared cased name ≡ key
+Serves case name key = (cased : Bool) → takes_rule case cased ≡ true → compared cased name ≡ key
 
 -- a rule that is taken from its place is found where it matches: by its key first, or last
 
@@ -89,11 +89,11 @@ module _ (n : ℕ) (rules : List GlobRule) (name : List ℕ) where
 
   module _ (case : Case) (key : List ℕ) (serves : Serves case name key) where
     abbrev is_taken : GlobRule → Bool
-    is_taken rule = admits case rule.cased
+    is_taken rule = takes_rule case rule.cased
 
     -- what a search of the literal list offers
     pub literal_part : of_rank n (literal_hits case key rules)
-        ≡ filter (λ rule. is_in_literals rule && admits case rule.cased) (of_rank n (hits rules name))
+        ≡ filter (λ rule. is_in_literals rule && takes_rule case rule.cased) (of_rank n (hits rules name))
     literal_part =
         let found = λ (rule : GlobRule) (is : is_in_literals rule ≡ true) (taken : is_taken rule ≡ true).
         ap (bytes_eq (stored_text rule)) (sym (serves rule.cased taken)) ∙ literal-found rule name is in
@@ -103,7 +103,7 @@ module _ (n : ℕ) (rules : List GlobRule) (name : List ℕ) where
 
     -- what a walk of the tree offers
     pub tree_part : All FitsRank rules → of_rank n (tree_hits case key rules)
-        ≡ filter (λ rule. is_in_tree rule && admits case rule.cased) (of_rank n (hits rules name))
+        ≡ filter (λ rule. is_in_tree rule && takes_rule case rule.cased) (of_rank n (hits rules name))
     tree_part fits =
         let path = reverse key in
         let taken = filter is_taken (tree_rules rules) in

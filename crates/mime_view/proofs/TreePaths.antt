@@ -11,7 +11,7 @@ use Rattle.mime_base.specs.Format.SuffixTree.{SuffixTreeAt}
 use Rattle.mime_base.specs.Format.Tree.{Tree, bare, leaves_at}
 use Rattle.mime_base.specs.Kept.{FitsRank}
 use Rattle.mime_base.specs.declared.database.rule.GlobRule.{GlobRule}
-use Rattle.mime_view.specs.Hits.{Offers, admits, tree_hits, tree_visits, visits}
+use Rattle.mime_view.specs.Hits.{Offers, takes_rule, tree_hits, tree_visits, visits}
 use Rattle.mime_view.specs.SuffixTree.{IsSuffixRule, ReadsBlock, admitted, below_character, scan_visits}
 use Rattle.mime_view.specs.declared.hits.Case.{Case}
 use Rattle.mime_view.specs.declared.suffixes.Block.{Block}
@@ -85,7 +85,7 @@ offers_both : (c : List ℕ) (case : Case) (below : Tree) (rest : List ℕ) (old
     → Offers c (admitted case (leaves_at [] below ++ leaves_along rest below)) old new
 offers_both c case below rest old mid new first then =
     subst (λ (met : List GlobRule). Offers c met old new)
-    (sym (filter-append (λ (rule : GlobRule). admits case rule.cased) (leaves_at [] below) (leaves_along rest below)))
+    (sym (filter-append (λ (rule : GlobRule). takes_rule case rule.cased) (leaves_at [] below) (leaves_along rest below)))
     (offers_append c _ _ old mid new first then)
 
 -- the next character of what is left

@@ -6,7 +6,7 @@ use Rattle.std.proofs.lemmas.List.Elements.{All-head, All-tail, filter-append}
 use Rattle.mime_base.specs.Cache.Bytes.{field}
 use Rattle.mime_base.specs.Format.Tree.{InOrder, Tree, bare, leaf, leaves_at, node, width}
 use Rattle.mime_base.specs.declared.database.rule.GlobRule.{GlobRule}
-use Rattle.mime_view.specs.Hits.{Offers, admits, visits}
+use Rattle.mime_view.specs.Hits.{Offers, takes_rule, visits}
 use Rattle.mime_view.specs.SuffixTree.{IsSuffixRule, ReadsLeaf, ReadsTree, admitted, scan_visits}
 use Rattle.mime_view.specs.declared.hits.Case.{Case}
 use Rattle.mime_view.specs.declared.suffixes.Block.{Block}
@@ -89,7 +89,7 @@ next_leaf c block case long tree h0 r0 i h r l zero left =
         suffixes = λ all. All-tail (IsSuffixRule long) rule (leaves_at [] rest) (suffixes all);
         offers = λ all h'' then. offers all h''
             (subst (λ (rules : List GlobRule). Offers c rules h h'')
-            (sym (filter-append (λ (r : GlobRule). admits case r.cased) (rule ∷ []) (leaves_at [] rest)))
+            (sym (filter-append (λ (r : GlobRule). takes_rule case r.cased) (rule ∷ []) (leaves_at [] rest)))
             (offers_append c (admitted case (rule ∷ [])) (admitted case (leaves_at [] rest)) h h' h'' (offered all) then));
         records = omega arith;
       };

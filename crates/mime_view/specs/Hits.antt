@@ -17,10 +17,10 @@ use Rattle.mime_view.specs.declared.hits.Case.{Case}
 use Rattle.mime_view.specs.declared.hits.Case.TheVariants.{Both, Exact, Folded}
 
 -- whether a search takes a rule with or without the case-sensitive flag
-abbrev pub admits : Case → Bool → Bool
-admits Exact cased = cased
-admits Folded cased = not cased
-admits Both cased = true
+abbrev pub takes_rule : Case → Bool → Bool
+takes_rule Exact cased = cased
+takes_rule Folded cased = not cased
+takes_rule Both cased = true
 
 -- how many visits more a visit stands for: that of the other search where one serves both
 abbrev pub extra_visits : Case → ℕ
@@ -50,7 +50,7 @@ Offers c rules old new = (before : List GlobRule) → AreKept c old before → A
 
 -- the literal rules of a text that a search for it takes
 abbrev pub literal_hits : Case → List ℕ → List GlobRule → List GlobRule
-literal_hits case key rules = filter (λ rule. admits case rule.cased) (with_key stored_text key (literal_rules rules))
+literal_hits case key rules = filter (λ rule. takes_rule case rule.cased) (with_key stored_text key (literal_rules rules))
 
 -- how many entries of the literal list a search for a text visits: those of the text, and the one after them
 abbrev pub literal_visits : List ℕ → List GlobRule → ℕ
@@ -64,7 +64,7 @@ ending_rules name rules =
 
 -- those that a walk along the name takes
 abbrev pub tree_hits : Case → List ℕ → List GlobRule → List GlobRule
-tree_hits case name rules = filter (λ rule. admits case rule.cased) (ending_rules name rules)
+tree_hits case name rules = filter (λ rule. takes_rule case rule.cased) (ending_rules name rules)
 
 -- how many records of the tree a walk along the name visits at most: leaves, and on each level the one after them
 abbrev pub tree_visits : List ℕ → List GlobRule → ℕ

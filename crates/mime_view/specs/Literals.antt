@@ -7,7 +7,7 @@ use Rattle.mime_base.specs.Format.Stored.{stored_text, weight_and_flags}
 use Rattle.mime_base.specs.Kept.{FitsRank, class_of}
 use Rattle.mime_base.specs.declared.database.rule.GlobRule.{GlobRule}
 use Rattle.mime_base.specs.declared.kept.class.Class.TheVariants.{Literal}
-use Rattle.mime_view.specs.Hits.{admits}
+use Rattle.mime_view.specs.Hits.{takes_rule}
 use Rattle.mime_view.specs.declared.hits.Case.{Case}
 
 -- the entry at `at` is that of a rule
@@ -36,7 +36,7 @@ AreRun key (rule ∷ rules) = (bytes_eq (stored_text rule) key ≡ false → of_
 
 -- of the rules of a text, those that a search takes
 abbrev pub taken : Case → List ℕ → List GlobRule → List GlobRule
-taken case key rules = filter (λ rule. admits case rule.cased) (of_text key rules)
+taken case key rules = filter (λ rule. takes_rule case rule.cased) (of_text key rules)
 
 -- how many entries a search for a text visits: those of the text, and the one after them
 abbrev pub run_visits : List ℕ → List GlobRule → ℕ

@@ -7,7 +7,7 @@ use Rattle.mime_base.specs.Format.Tree.{InOrder, Tree, bare, leaf, node, width}
 use Rattle.mime_base.specs.Kept.{class_of}
 use Rattle.mime_base.specs.declared.database.rule.GlobRule.{GlobRule}
 use Rattle.mime_base.specs.declared.kept.class.Class.TheVariants.{Suffix}
-use Rattle.mime_view.specs.Hits.{admits}
+use Rattle.mime_view.specs.Hits.{takes_rule}
 use Rattle.mime_view.specs.Magic.{IsBlockFault, LiesBlock}
 use Rattle.mime_view.specs.declared.fault.CacheFault.{CacheFault}
 use Rattle.mime_view.specs.declared.fault.CacheFault.TheVariants.{OutOfRange}
@@ -59,7 +59,7 @@ scan_visits (node character below rest) = 1
 
 -- those of some rules that a search takes
 abbrev pub admitted : Case → List GlobRule → List GlobRule
-admitted case rules = filter (λ rule. admits case rule.cased) rules
+admitted case rules = filter (λ rule. takes_rule case rule.cased) rules
 
 -- a rule of the class Suffix with so long a pattern and a weight of 8 bits
 pub record IsSuffixRule (long : ℕ) (rule : GlobRule) : Type 0 where

@@ -71,7 +71,7 @@ fn take_glob(
     ensures cost { Charged (256 * (length name.now + 2)) 0 budget.old budget.new meter.old meter.new }
 {
     budget.take_record()?;
-    let [text, kind, flags] = counted.cards::<3>(at, meter)?;
+    let [text, kind, flags] = counted.cards_within::<3>(at, meter);
     let pattern = counted.text_at(u64::from(text), meter)?;
     let cased = flags / 256 % 2 == 1;
     if begins_otherwise(pattern, cased, name) {

@@ -6,7 +6,7 @@ ghost use Rattle.mime_base.specs.Cache.Texts.{text_at};
 ghost use Rattle.mime_base.specs.Kept.{best, rank_of_rule};
 ghost use Rattle.mime_base.specs.Meter.{raised};
 ghost use Rattle.mime_base.specs.declared.database.rule.GlobRule.{GlobRule};
-ghost use Rattle.mime_view.specs.Hits.{admits, Charged, KeptAreNear, Offers, extra_visits, visits};
+ghost use Rattle.mime_view.specs.Hits.{takes_rule, Charged, KeptAreNear, Offers, extra_visits, visits};
 
 use crate::budget::Budget;
 use crate::fault::CacheFault;
@@ -28,8 +28,8 @@ pub enum Case {
 
 impl Case {
     /// Whether a rule with this flag is taken.
-    pub fn admits(self, cased: bool) -> bool
-        ensures { result ≡ admits self cased }
+    pub fn takes_rule(self, cased: bool) -> bool
+        ensures { result ≡ takes_rule self cased }
     {
         match self {
             Case::Exact => cased,

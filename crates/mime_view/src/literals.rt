@@ -9,7 +9,7 @@ ghost use Rattle.mime_base.specs.Format.Rules.{LiteralsAt};
 ghost use Rattle.mime_base.specs.Format.Stored.{stored_text, weight_and_flags};
 ghost use Rattle.mime_base.specs.Kept.{FitsRank};
 ghost use Rattle.mime_base.specs.declared.database.rule.GlobRule.{GlobRule};
-ghost use Rattle.mime_view.specs.Hits.{Charged, Offers, admits, literal_hits, literal_visits, visits};
+ghost use Rattle.mime_view.specs.Hits.{Charged, Offers, takes_rule, literal_hits, literal_visits, visits};
 ghost use Rattle.mime_view.specs.Lists.{IsListFault, IsTextFault};
 ghost use Rattle.mime_view.specs.Literals.{AreRun, IsLiteral, ReadsRule, ReadsRules, run_visits, taken};
 
@@ -117,7 +117,7 @@ fn visit_entry(
     ensures cost { Charged 256 0 budget.old budget.new meter.old meter.new }
 {
     case.take_records(meter, budget)?;
-    let [text, kind, flags] = counted.cards::<3>(at, meter)?;
+    let [text, kind, flags] = counted.cards_within::<3>(at, meter);
     match counted.compare_text(u64::from(text), key, meter)? {
         Ordering::Equal => {
             offer_entry(flags, kind, key.len() as u16, case, hits)?;
@@ -137,12 +137,12 @@ fn offer_entry(
 ) -> Result<(), CacheFault>
     ensures answer { (c : List ℕ) (rule : GlobRule) → IsLiteral rule → length rule.pattern ≡ size →
         flags ≡ weight_and_flags rule → text_at c kind ≡ Ok rule.kind →
-        OnOk result (Offers c (filter (λ rule. admits case rule.cased) (rule ∷ [])) hits.old hits.new) }
+        OnOk result (Offers c (filter (λ rule. takes_rule case rule.cased) (rule ∷ [])) hits.old hits.new) }
     ensures one_more { length hits.new ≤ length hits.old + 1 }
     ensures fault { IfErr result (λ e. e ≡ CacheFault.OutOfMemory) }
 {
     let cased = flags / CASED % 2 == 1;
-    if !case.admits(cased) {
+    if !case.takes_rule(cased) {
         return Ok(());
     }
     let weight = (flags % CASED) as u8;

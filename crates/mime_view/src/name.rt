@@ -104,7 +104,12 @@ fn kept_hits(
 fn has_capitals(name: &[u8]) -> bool
     ensures { result ≡ has_capitals name.now }
 {
-    name.iter().any(|byte| b'A' <= *byte && *byte <= b'Z')
+    // It doesn't end at the first, so that many bytes are looked at in one step.
+    let mut found = false;
+    for byte in name {
+        found |= b'A' <= *byte && *byte <= b'Z';
+    }
+    found
 }
 
 /// Offers the rules that match a name which folding leaves alone.

@@ -11,6 +11,7 @@ ghost use Rattle.mime_base.specs.Cache.Bytes.{field, Stands};
 ghost use Rattle.mime_base.specs.Format.SuffixTree.{SuffixTreeAt};
 ghost use Rattle.mime_base.specs.Format.Tree.{Tree, leaves_at};
 ghost use Rattle.mime_base.specs.Kept.{FitsRank};
+ghost use Rattle.mime_base.specs.Meter.{raised};
 ghost use Rattle.mime_base.specs.declared.database.rule.GlobRule.{GlobRule};
 ghost use Rattle.mime_view.specs.Hits.{Charged, Offers, tree_hits, tree_visits, visits};
 ghost use Rattle.mime_view.specs.Magic.{IsBlockFault, LiesBlock};
@@ -168,11 +169,11 @@ fn block_below(
     if byte == 0 {
         return Ok(None);
     }
-    let place = first_not_below(counted, block, byte, meter)?;
+    let place = first_not_below(counted, block, byte, meter);
     if place == block.count {
         return Ok(None);
     }
-    let [character, count, first] = counted.cards::<3>(block.first + 12 * place, meter)?;
+    let [character, count, first] = counted.cards_within::<3>(block.first + 12 * place, meter);
     if character != u32::from(byte) {
         return Ok(None);
     }
@@ -180,32 +181,29 @@ fn block_below(
 }
 
 /// The place of the first sibling whose character is not less than the byte.
-fn first_not_below(
-    counted: &Counted<'_>,
-    block: Block,
-    byte: u8,
-    meter: &mut Meter,
-) -> Result<u64, CacheFault>
+fn first_not_below(counted: &Counted<'_>, block: Block, byte: u8, meter: &mut Meter) -> u64
     requires limit { length counted.now ≤ 2 ^ 28 }
     requires lies { LiesBlock counted.now block.first 12 block.count }
-    ensures place { IfOk result (IsCharacterPlace counted.now block byte) }
-    ensures given { IsOk result }
+    ensures place { IsCharacterPlace counted.now block byte result }
     ensures rises { meter.old.nodes ≤ meter.new.nodes }
+    ensures some { 0 < block.count → raised meter.old.nodes 1 ≤ meter.new.nodes }
     ensures nodes { meter.new.nodes ≤ meter.old.nodes + 26 }
     ensures bytes { meter.new.bytes ≡ meter.old.bytes }
 {
+    let mut counts = *meter;
     let mut low = 0;
     let mut high = block.count;
     while low < high {
         let middle = (low + high) / 2;
-        let [character] = counted.cards::<1>(block.first + 12 * middle, meter)?;
+        let [character] = counted.cards_within::<1>(block.first + 12 * middle, &mut counts);
         if character < u32::from(byte) {
             low = middle + 1;
         } else {
             high = middle;
         }
     }
-    Ok(low)
+    *meter = counts;
+    low
 }
 
 /// Offers the leaves of a block, as rules with patterns of this length. They stand first.
@@ -264,13 +262,13 @@ fn offer_leaf(
     ensures cost { Charged 256 0 budget.old budget.new meter.old meter.new }
 {
     case.take_records(meter, budget)?;
-    let [character, kind, flags] = counted.cards::<3>(at, meter)?;
+    let [character, kind, flags] = counted.cards_within::<3>(at, meter);
     if character != 0 {
         return Ok(false);
     }
     let weight = (flags % 0x100) as u8;
     let cased = flags / 0x100 % 2 == 1;
-    if case.admits(cased) {
+    if case.takes_rule(cased) {
         hits.offer(rank_of(Class::Suffix, weight, pattern_length, cased), kind)?;
     }
     Ok(true)

@@ -13,7 +13,7 @@ overflow_cast-pattern c =
 pub returns-then-begins_otherwise-clause-answer : goal.returns-then-begins_otherwise-clause-answer
 returns-then-begins_otherwise-clause-answer c = λ rule fits reads.
     let states = entry_states c.args.counted.now c.args.at c.args.name.now rule c.in_ok-pattern.pattern.now
-    (class_of c.in_ok-pattern.pattern.now) c.in_ok-text.field-0 c.from.result c.in_ok-text.ensures.numbers.1 c.from.ensures
+    (class_of c.in_ok-pattern.pattern.now) c.cards_within.result c.from.result c.cards_within.ensures.numbers c.from.ensures
     c.in_ok-pattern.ensures.text refl fits reads in
     offers_other c.args.counted.now c.args.name.now rule c.args.hits.now
     (sym states.its_matches ∙ c.begins_otherwise.ensures.other c.if-begins_otherwise.true)
@@ -29,7 +29,7 @@ returns-then-begins_otherwise-clause-cost c =
 pub returns-in_ok-offer-clause-answer : goal.returns-in_ok-offer-clause-answer
 returns-in_ok-offer-clause-answer c = λ rule fits reads.
     let states = entry_states c.args.counted.now c.args.at c.args.name.now rule c.in_ok-pattern.pattern.now c.class_of_bytes.result
-    c.in_ok-text.field-0 c.from.result c.in_ok-text.ensures.numbers.1 c.from.ensures c.in_ok-pattern.ensures.text
+    c.cards_within.result c.from.result c.cards_within.ensures.numbers c.from.ensures c.in_ok-pattern.ensures.text
     c.class_of_bytes.ensures fits reads in
     offers_match c.args.counted.now c.args.name.now rule c.args.hits.now c.offer.new.self
     (sym states.its_matches ∙ sym c.glob_matches.ensures.answer ∙ c.if-glob_matches.true)
@@ -38,7 +38,7 @@ returns-in_ok-offer-clause-answer c = λ rule fits reads.
 pub returns-else-wants-clause-answer : goal.returns-else-wants-clause-answer
 returns-else-wants-clause-answer c = λ rule fits reads.
     let states = entry_states c.args.counted.now c.args.at c.args.name.now rule c.in_ok-pattern.pattern.now c.class_of_bytes.result
-    c.in_ok-text.field-0 c.from.result c.in_ok-text.ensures.numbers.1 c.from.ensures c.in_ok-pattern.ensures.text
+    c.cards_within.result c.from.result c.cards_within.ensures.numbers c.from.ensures c.in_ok-pattern.ensures.text
     c.class_of_bytes.ensures fits reads in
     elim c.else-wants.branch [
       | else-wants-via-then-wants+else-glob_matches w ↦ offers_other c.args.counted.now c.args.name.now rule c.args.hits.now

@@ -3,7 +3,7 @@ use Rattle.std.specs.Prelude.{OnOk}
 use Rattle.std.proofs.Math.Nat.{mul-le-mul_left}
 use Rattle.mime_base.specs.Cache.Bytes.{field}
 use Rattle.mime_base.specs.declared.database.rule.GlobRule.{GlobRule}
-use Rattle.mime_view.specs.Hits.{Offers, admits, visits}
+use Rattle.mime_view.specs.Hits.{Offers, takes_rule, visits}
 use Rattle.mime_view.proofs.LiteralEntries.{texts_of}
 use Rattle.mime_view.proofs.LiteralPlaces.{placed, searched}
 use Rattle.mime_view.proofs.Places.{keys_have_texts}
@@ -29,7 +29,7 @@ returns-clause-answer c = λ rules fits stand.
     let p = placed c.args.counted.now c.args.at rules stand c.in_ok-count.count c.in_ok-count.ensures.count.0
     c.args.key.now c.in_ok-start.start splits in
     subst (λ (xs : List GlobRule). OnOk c.scan_entries.result
-    (Offers c.args.counted.now (filter (λ rule. admits c.args.case rule.cased) xs) c.args.hits.now c.scan_entries.new.hits))
+    (Offers c.args.counted.now (filter (λ rule. takes_rule c.args.case rule.cased) xs) c.args.hits.now c.scan_entries.new.hits))
     p.same (c.scan_entries.ensures.answer p.rest p.size p.reads p.run (p.literal fits))
 
 pub returns-clause-need : goal.returns-clause-need

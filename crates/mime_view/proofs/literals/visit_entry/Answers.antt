@@ -11,16 +11,16 @@ use Rattle.mime_view.proofs.literals.visit_entry.Goals as goal
 pub returns-in_ok-offer_entry-in-Equal-clause-same : goal.returns-in_ok-offer_entry-in-Equal-clause-same
 returns-in_ok-offer_entry-in-Equal-clause-same c = λ rule reads.
     let at : c.from.result ≡ field c.args.counted.now c.args.at 0 =
-    c.from.ensures ∙ ap (λ xs. get_or xs 0 0) c.in_ok-text.ensures.numbers.1 in
+    c.from.ensures ∙ ap (λ xs. get_or xs 0 0) c.cards_within.ensures.numbers in
     let order = c.in_ok-compare_text.ensures.text _ (ap (text_at c.args.counted.now) at ∙ reads.text) in
     sym (equal_texts (stored_text rule) c.args.key.now (cc (order, c.in-Equal.is)))
 
 pub returns-in_ok-offer_entry-in-Equal-clause-answer : goal.returns-in_ok-offer_entry-in-Equal-clause-answer
 returns-in_ok-offer_entry-in-Equal-clause-answer c = λ rule reads is.
     let at : c.from.result ≡ field c.args.counted.now c.args.at 0 =
-    c.from.ensures ∙ ap (λ xs. get_or xs 0 0) c.in_ok-text.ensures.numbers.1 in
-    let kind = ap (λ xs. get_or xs 1 0) c.in_ok-text.ensures.numbers.1 in
-    let flags = ap (λ xs. get_or xs 2 0) c.in_ok-text.ensures.numbers.1 in
+    c.from.ensures ∙ ap (λ xs. get_or xs 0 0) c.cards_within.ensures.numbers in
+    let kind = ap (λ xs. get_or xs 1 0) c.cards_within.ensures.numbers in
+    let flags = ap (λ xs. get_or xs 2 0) c.cards_within.ensures.numbers in
     let order = c.in_ok-compare_text.ensures.text _ (ap (text_at c.args.counted.now) at ∙ reads.text) in
     let same : bytes_eq (stored_text rule) c.args.key.now ≡ true =
     equal_texts (stored_text rule) c.args.key.now (cc (order, c.in-Equal.is)) in
@@ -30,14 +30,14 @@ returns-in_ok-offer_entry-in-Equal-clause-answer c = λ rule reads is.
 pub returns-in_default-clause-same : goal.returns-in_default-clause-same
 returns-in_default-clause-same c = λ rule reads.
     let at : c.from.result ≡ field c.args.counted.now c.args.at 0 =
-    c.from.ensures ∙ ap (λ xs. get_or xs 0 0) c.in_ok-text.ensures.numbers.1 in
+    c.from.ensures ∙ ap (λ xs. get_or xs 0 0) c.cards_within.ensures.numbers in
     let order = c.in_ok-compare_text.ensures.text _ (ap (text_at c.args.counted.now) at ∙ reads.text) in
     sym (other_texts (stored_text rule) c.args.key.now (λ e. c.in_default.not-Equal (cc (order, e))))
 
 pub returns-in_default-clause-answer : goal.returns-in_default-clause-answer
 returns-in_default-clause-answer c = λ rule reads is.
     let at : c.from.result ≡ field c.args.counted.now c.args.at 0 =
-    c.from.ensures ∙ ap (λ xs. get_or xs 0 0) c.in_ok-text.ensures.numbers.1 in
+    c.from.ensures ∙ ap (λ xs. get_or xs 0 0) c.cards_within.ensures.numbers in
     let order = c.in_ok-compare_text.ensures.text _ (ap (text_at c.args.counted.now) at ∙ reads.text) in
     let other : bytes_eq (stored_text rule) c.args.key.now ≡ false =
     other_texts (stored_text rule) c.args.key.now (λ e. c.in_default.not-Equal (cc (order, e))) in

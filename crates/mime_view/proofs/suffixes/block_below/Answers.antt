@@ -8,30 +8,30 @@ returns-then-byte-eq0-clause-below c = λ tree reads.
 
 pub returns-then-place-block-clause-below : goal.returns-then-place-block-clause-below
 returns-then-place-block-clause-below c = λ tree reads.
-    none_below c.args.counted.now c.args.block c.args.byte c.in_ok-place.place tree (omega (arith, c.if-byte-eq0.false)) reads
-    c.in_ok-place.ensures.place (λ within is. omega (arith, c.if-place-block.true))
+    none_below c.args.counted.now c.args.block c.args.byte c.first_not_below-place.result tree (omega (arith, c.if-byte-eq0.false)) reads
+    c.first_not_below-place.ensures.place (λ within is. omega (arith, c.if-place-block.true))
 
 pub returns-then-character-from-clause-below : goal.returns-then-character-from-clause-below
 returns-then-character-from-clause-below c = λ tree reads.
-    let read = ap (λ xs. get_or xs 0 0) c.in_ok-character.ensures.numbers.1 in
-    none_below c.args.counted.now c.args.block c.args.byte c.in_ok-place.place tree (omega (arith, c.if-byte-eq0.false)) reads
-    c.in_ok-place.ensures.place (λ within is. c.if-character-from.true (read ∙ is ∙ sym c.from.ensures))
+    let read = ap (λ xs. get_or xs 0 0) c.cards_within.ensures.numbers in
+    none_below c.args.counted.now c.args.block c.args.byte c.first_not_below-place.result tree (omega (arith, c.if-byte-eq0.false)) reads
+    c.first_not_below-place.ensures.place (λ within is. c.if-character-from.true (read ∙ is ∙ sym c.from.ensures))
 
 pub returns-in_err-block_of-clause-given : goal.returns-in_err-block_of-clause-given
 returns-in_err-block_of-clause-given c = λ tree reads.
-    let same = sym (ap (λ xs. get_or xs 0 0) c.in_ok-character.ensures.numbers.1) ∙ c.if-character-from.false ∙ c.from.ensures in
-    let node = node_below c.args.counted.now c.args.block c.args.byte c.in_ok-place.place tree (omega (arith, c.if-byte-eq0.false)) reads
-    c.in_ok-place.ensures.place c.if-place-block.false same in
-    let count = ap (λ xs. get_or xs 1 0) c.in_ok-character.ensures.numbers.1 in
-    let first = ap (λ xs. get_or xs 2 0) c.in_ok-character.ensures.numbers.1 in
+    let same = sym (ap (λ xs. get_or xs 0 0) c.cards_within.ensures.numbers) ∙ c.if-character-from.false ∙ c.from.ensures in
+    let node = node_below c.args.counted.now c.args.block c.args.byte c.first_not_below-place.result tree (omega (arith, c.if-byte-eq0.false)) reads
+    c.first_not_below-place.ensures.place c.if-place-block.false same in
+    let count = ap (λ xs. get_or xs 1 0) c.cards_within.ensures.numbers in
+    let first = ap (λ xs. get_or xs 2 0) c.cards_within.ensures.numbers in
     let lies = node.block.inside (omega (arith, count, node.count, c.in_err-block_of.ensures.fault.some)) in
     absurd (omega (arith, lies, count, first, node.count, c.in_err-block_of.ensures.fault.outside))
 
 pub returns-clause-below : goal.returns-clause-below
 returns-clause-below c = λ tree reads.
-    let same = sym (ap (λ xs. get_or xs 0 0) c.in_ok-character.ensures.numbers.1) ∙ c.if-character-from.false ∙ c.from.ensures in
-    let node = node_below c.args.counted.now c.args.block c.args.byte c.in_ok-place.place tree (omega (arith, c.if-byte-eq0.false)) reads
-    c.in_ok-place.ensures.place c.if-place-block.false same in
+    let same = sym (ap (λ xs. get_or xs 0 0) c.cards_within.ensures.numbers) ∙ c.if-character-from.false ∙ c.from.ensures in
+    let node = node_below c.args.counted.now c.args.block c.args.byte c.first_not_below-place.result tree (omega (arith, c.if-byte-eq0.false)) reads
+    c.first_not_below-place.ensures.place c.if-place-block.false same in
     block_read c.args.counted.now _ c.in_ok-block_of.field-0 _
-    (c.in_ok-block_of.ensures.block.0 ∙ ap (λ xs. get_or xs 2 0) c.in_ok-character.ensures.numbers.1)
-    (c.in_ok-block_of.ensures.block.1 ∙ ap (λ xs. get_or xs 1 0) c.in_ok-character.ensures.numbers.1) node
+    (c.in_ok-block_of.ensures.block.0 ∙ ap (λ xs. get_or xs 2 0) c.cards_within.ensures.numbers)
+    (c.in_ok-block_of.ensures.block.1 ∙ ap (λ xs. get_or xs 1 0) c.cards_within.ensures.numbers) node

@@ -11,7 +11,7 @@ loop-low-preserved-then-character-from c =
     let fits = c.requires.lies.inside (omega arith) in
     let small = count_small c.args.block.first 12 c.args.block.count _ (omega arith) fits c.requires.limit in
     let early = few p wide c.args.block.count c.loop-low.invariant.probes.2 (omega arith) small in
-    let read = ap (λ xs. get_or xs 0 0) c.in_ok-character.ensures.numbers.1 in
+    let read = ap (λ xs. get_or xs 0 0) c.cards_within.ensures.numbers in
     record {
       order = omega arith;
       within = c.loop-low.invariant.within;
@@ -21,8 +21,9 @@ loop-low-preserved-then-character-from c =
           omega (arith, read, c.from.ensures, c.if-character-from.true) in
           subst (λ (k : ℕ). field c.args.counted.now (c.args.block.first + 12 * k) 0 < c.args.byte) m less;
       after = c.loop-low.invariant.after;
+      seen = λ some. omega arith;
       rises = omega arith;
-      bytes = c.in_ok-character.ensures.bytes ∙ c.loop-low.invariant.bytes;
+      bytes = c.cards_within.ensures.bytes ∙ c.loop-low.invariant.bytes;
       probes = (p + 1, omega arith, halved p wide _ _ c.loop-low.invariant.probes.2 (omega arith), omega arith);
     }
 
@@ -34,13 +35,14 @@ loop-low-preserved c =
     let fits = c.requires.lies.inside (omega arith) in
     let small = count_small c.args.block.first 12 c.args.block.count _ (omega arith) fits c.requires.limit in
     let early = few p wide c.args.block.count c.loop-low.invariant.probes.2 (omega arith) small in
-    let read = ap (λ xs. get_or xs 0 0) c.in_ok-character.ensures.numbers.1 in
+    let read = ap (λ xs. get_or xs 0 0) c.cards_within.ensures.numbers in
     record {
       order = omega arith;
       within = omega arith;
       before = c.loop-low.invariant.before;
       after = λ some. omega (arith, read, c.from.ensures, c.if-character-from.false);
+      seen = λ some. omega arith;
       rises = omega arith;
-      bytes = c.in_ok-character.ensures.bytes ∙ c.loop-low.invariant.bytes;
+      bytes = c.cards_within.ensures.bytes ∙ c.loop-low.invariant.bytes;
       probes = (p + 1, omega arith, halved p wide _ _ c.loop-low.invariant.probes.2 (omega arith), omega arith);
     }
