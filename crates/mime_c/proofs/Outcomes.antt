@@ -4,7 +4,7 @@ use Rattle.mime_base.specs.declared.meter.Meter.{Meter}
 use Rattle.mime_c.specs.Headline.{IsHeadline}
 use Rattle.mime_c.specs.LookUp.{IsLookUp, IsLookUpReport}
 use Rattle.mime_c.specs.Report.{IsStopReport, fault_report, meter_of}
-use Rattle.mime_c.specs.Status.{out_of_memory}
+use Rattle.mime_c.specs.Status.{status_out_of_memory}
 use Rattle.mime_c.specs.declared.look_up.Text.{Text}
 use Rattle.mime_c.specs.declared.report.Report.{Report}
 use Rattle.mime_lookup.specs.Headline.{StaysWithin}
@@ -48,7 +48,7 @@ stop_within c name cause.Read read meter told is within = absurd is
 
 -- memory that was refused is told so
 refused : (stop : Cause) (read : ℕ) (meter : Meter) (told : Report) → stop ≡ cause.OutOfMemory → IsStopReport stop read meter told →
-    told.status ≡ out_of_memory
+    told.status ≡ status_out_of_memory
 refused cause.OutOfMemory read meter told same is = ap (λ (r : Report). r.status) is
 refused cause.NameTooLong read meter told same is = absurd cc
 refused (cause.Cache e) read meter told same is = absurd cc

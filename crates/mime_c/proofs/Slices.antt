@@ -8,10 +8,12 @@ use Rattle.mime_base.specs.Database.{PlainDatabase}
 use Rattle.mime_c.specs.LookUp.{size_of}
 use Rattle.mime_lookup.specs.CheckingOrder.{GlobsDecide}
 use Rattle.mime_lookup.specs.Content.{Advances, OfReader, known_content, sound}
+use Rattle.mime_lookup.specs.Spent.{IsUsedUp, UsesUp}
 use Rattle.mime_lookup.specs.declared.answer.Answer.{Answer}
 use Rattle.mime_lookup.specs.declared.order.Order.{Order}
 use Rattle.mime_lookup.specs.declared.stopped.Cause.TheVariants as cause
 use Rattle.mime_lookup.specs.declared.stopped.Stopped.{Stopped}
+use Rattle.mime_view.specs.declared.budget.Budget.{Budget}
 
 -- the content of bytes
 abbrev pub content_of : Option (Bor (List ℕ)) → Option (List ℕ)
@@ -72,3 +74,16 @@ pub decides : (b : PlainDatabase) (name : List ℕ) (order : Order) (P Q : Type 
 decides b name order P Q f (inl (one, inl first)) = inl (one, inl first)
 decides b name order P Q f (inl (one, inr none)) = inl (one, inr (f none))
 decides b name order P Q f (inr (silent, none)) = inr (silent, f none)
+
+-- a budget that is used up is so too where there is content for a weaker reason
+used_up_where : {P Q : Type 0} (c : List ℕ) (left : Budget) → (Q → P) → IsUsedUp c P left → IsUsedUp c Q left
+used_up_where c left weaker (inl none) = inl none
+used_up_where c left weaker (inr line) = inr ((λ q. line.0 (weaker q)), line.1, line.2)
+
+pub uses_up_where : {P Q : Type 0} {c : List ℕ} {nodes : ℕ} → (Q → P) → UsesUp c P nodes → UsesUp c Q nodes
+uses_up_where {P} {Q} {c} {nodes} weaker is = record {
+  left = is.left;
+  records = is.records;
+  value_bytes = is.value_bytes;
+  used_up = used_up_where c is.left weaker is.used_up;
+}

@@ -13,13 +13,13 @@ use Rattle.mime_lookup.specs.Cached.{IsStop}
 use Rattle.mime_lookup.specs.CheckingOrder.{globs_suffice, read_limit}
 use Rattle.mime_lookup.specs.Content.{Advances, OfReader, broken}
 use Rattle.mime_lookup.specs.StepFaults.{IsLookUpFault}
-use Rattle.mime_lookup.specs.declared.answer.Answer.{Answer}
 use Rattle.mime_lookup.specs.declared.order.Order.{Order}
 use Rattle.mime_lookup.specs.declared.stopped.Cause.TheVariants as cause
 use Rattle.mime_lookup.specs.declared.stopped.Stopped.{Stopped}
 use Rattle.mime_view.specs.declared.fault.CacheFault.{CacheFault}
 use Rattle.mime_view.specs.declared.fault.CacheFault.TheVariants as fault
 use Rattle.mime_c.proofs.Fronts.{enough}
+use Rattle.mime_c.proofs.LongNames.{no_number, too_long}
 
 -- what holds where every read fails
 pub of_broken : {U : Type 0} (before : U) (after : Option U) (P : Type 0) →
@@ -33,37 +33,6 @@ pub nothing_read : {U : Type 0} (before : U) (after : Option U) (read : ℕ) →
 nothing_read before None read is = absurd is
 nothing_read before (Some after) read is =
     omega (arith, ap (λ (bytes : List ℕ). length bytes) is.1, length-append is.0 [], is.2)
-
--- a lookup that stopped
-abbrev stop : Stopped → Result Answer Stopped
-stop stopped = Err stopped
-
--- no number is given
-abbrev no_number : Stopped → Result (ℕ × Meter) Stopped
-no_number stopped = Err stopped
-
--- a stop for the length of the name
-abbrev pub too_long : Stopped
-too_long = record { cause = cause.NameTooLong; read = 0; meter = record { nodes = 0; bytes = 0 } }
-
--- how a lookup stopped, where it did
-stop_in : Result Answer Stopped → Stopped
-stop_in (Ok answer) = too_long
-stop_in (Err stopped) = stopped
-
--- equal lookups stopped equally
-pub same_stop : (stopped other : Stopped) → stop stopped ≡ stop other → stopped ≡ other
-unfolding stop_in
-same_stop stopped other is = ap stop_in is
-
--- an answer is no stop
-pub ok_is_no_stop : (answer : Answer) (stopped : Stopped) → Ok answer ≡ stop stopped → ⊥
-ok_is_no_stop answer stopped is = absurd cc
-
--- what stopped at a read is not stopped for its name
-pub read_is_short : (stopped : Stopped) → stopped.cause ≡ cause.Read → stop stopped ≡ stop too_long → ⊥
-read_is_short stopped read long =
-    let same : stopped.cause ≡ cause.NameTooLong = ap (λ (s : Stopped). s.cause) (same_stop stopped too_long long) in absurd cc
 
 -- the bounds of a lookup that read nothing
 wider : (n : ℕ) (c : List ℕ) (read : ℕ) (meter : Meter) → read ≡ 0 → KeepsBounds n c read meter → KeepsWantedBounds n (length c) meter

@@ -6,7 +6,7 @@ use Rattle.mime_base.specs.Format.Packed.{Packed}
 use Rattle.mime_base.specs.Format.Spells.{Spells}
 use Rattle.mime_base.specs.declared.magic.host.Host.TheVariants.{Little}
 use Rattle.mime_c.specs.Report.{meter_of}
-use Rattle.mime_c.specs.Status.{answered, out_of_memory}
+use Rattle.mime_c.specs.Status.{status_answered, status_out_of_memory}
 use Rattle.mime_c.specs.declared.report.Report.{Report}
 use Rattle.mime_lookup.specs.CheckingOrder.{Chooses}
 use Rattle.mime_lookup.specs.Headline.{StaysWithin}
@@ -17,4 +17,4 @@ use Rattle.mime_lookup.specs.declared.order.Order.{Order}
 pub record IsHeadline (c name : List ℕ) (content : Option (List ℕ)) (order : Order) (kind : List ℕ) (told : Report) : Type 0 where
   pub any_bytes : StaysWithin c name told.read (meter_of told)
   pub written : (b : PlainDatabase) → IsWithinLimits b → Spells c b → Packed c b → length name ≤ 4096 →
-      ((told.status ≡ answered) × Chooses b name content Little order kind) ⊎ (told.status ≡ out_of_memory)
+      ((told.status ≡ status_answered) × Chooses b name content Little order kind) ⊎ (told.status ≡ status_out_of_memory)

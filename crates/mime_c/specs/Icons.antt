@@ -3,8 +3,8 @@ use Rattle.std.specs.Prelude.{◌≡◌, ◌≢◌, ◌⊎◌, ◌++◌, ℕ, �
 use Rattle.std.specs.Prelude.{IfErr, IfOk, IsErrAnd, MatchResult, OnOk}
 use Rattle.mime_base.specs.Database.{PlainDatabase}
 use Rattle.mime_base.specs.Names.{is_type_name}
-use Rattle.mime_c.specs.Report.{IsRefusal, IsStopReport, status_report}
-use Rattle.mime_c.specs.Status.{answered, not_a_type, out_of_memory, short_buffer}
+use Rattle.mime_c.specs.Report.{IsStatusAlone, IsStopReport, status_report}
+use Rattle.mime_c.specs.Status.{status_answered, status_not_a_type, status_out_of_memory, status_short_buffer}
 use Rattle.mime_c.specs.declared.icons.IconLengths.{IconLengths}
 use Rattle.mime_c.specs.declared.report.Report.{Report}
 use Rattle.mime_lookup.specs.Bounds.{KeepsBounds}
@@ -57,8 +57,8 @@ AreLong icons before =
 -- the names go out where there is room for both; else all stays, and so it does where there are none
 abbrev pub IsIconsReport : Result Icons Stopped → Buffers → Buffers → Report → Type 0
 IsIconsReport (Ok icons) before after told =
-    (AreLong icons before × (after ≡ with_icons icons before) × (told ≡ status_report answered 0 icons.meter))
-    ⊎ (AreShort icons before × (after ≡ before) × (told ≡ status_report short_buffer 0 icons.meter))
+    (AreLong icons before × (after ≡ with_icons icons before) × (told ≡ status_report status_answered 0 icons.meter))
+    ⊎ (AreShort icons before × (after ≡ before) × (told ≡ status_report status_short_buffer 0 icons.meter))
 IsIconsReport (Err stopped) before after told = (after ≡ before) × IsStopReport stopped.cause stopped.read stopped.meter told
 
 -- what C gets of a type name
@@ -69,6 +69,6 @@ pub record IsFoundIcons (c kind : List ℕ) (before after : Buffers) (told : Rep
 
 -- what C gets: of a type name its icons or why there are none; else that it is none; or memory was refused
 pub data IsAskedIcons (c kind : List ℕ) (before after : Buffers) (told : Report) : Type 0 where
-  no_type : is_type_name kind ≡ false → after ≡ before → IsRefusal not_a_type told → IsAskedIcons c kind before after told
-  no_memory : is_type_name kind ≡ true → after ≡ before → IsRefusal out_of_memory told → IsAskedIcons c kind before after told
+  no_type : is_type_name kind ≡ false → after ≡ before → IsStatusAlone status_not_a_type told → IsAskedIcons c kind before after told
+  no_memory : is_type_name kind ≡ true → after ≡ before → IsStatusAlone status_out_of_memory told → IsAskedIcons c kind before after told
   found : is_type_name kind ≡ true → IsFoundIcons c kind before after told → IsAskedIcons c kind before after told

@@ -1,13 +1,13 @@
 -- What a search for a subclass promises over a cache of any bytes, and what C gets of it.
-use Rattle.std.specs.Prelude.{◌≡◌, ◌≢◌, ◌⊎◌, ◌↔◌, ◌/◌, ℕ, ◌≤◌, Bool, true, false, IsTrue, List, length, Result, Ok, Err}
+use Rattle.std.specs.Prelude.{◌≡◌, ◌≢◌, ◌⊎◌, ◌↔◌, ◌/◌, ℕ, ◌<◌, ◌≤◌, Bool, true, false, IsTrue, List, length, Result, Ok, Err}
 use Rattle.std.specs.Prelude.{IfErr, IfOk, IsErrAnd, MatchResult, OnOk}
 use Rattle.mime_base.specs.Database.{PlainDatabase, pairs_of}
 use Rattle.mime_base.specs.Database.Subclass.{IsA, resolved}
 use Rattle.mime_base.specs.Format.Packed.{Packed}
 use Rattle.mime_base.specs.Names.{is_type_name}
 use Rattle.mime_base.specs.declared.meter.Meter.{Meter}
-use Rattle.mime_c.specs.Report.{IsRefusal, IsStopReport, status_report}
-use Rattle.mime_c.specs.Status.{answered, not_a_type, out_of_memory}
+use Rattle.mime_c.specs.Report.{IsStatusAlone, IsStopReport, status_report}
+use Rattle.mime_c.specs.Status.{status_answered, status_not_a_type, status_out_of_memory}
 use Rattle.mime_c.specs.declared.report.Report.{Report}
 use Rattle.mime_lookup.specs.Bounds.{KeepsBounds}
 use Rattle.mime_lookup.specs.Spelling.{SpellsPairs}
@@ -29,12 +29,12 @@ pub record IsIsA (c kind base : List ℕ) (result : Result (Bool × Meter) Stopp
   pub fault : IfErr result (λ stopped. (stopped.cause ≡ cause.OutOfMemory)
       ⊎ ((e : CacheFault) × (stopped.cause ≡ cause.Cache e) × (e ≢ OutOfMemory) × IsLookUpFault c e))
   pub read : IfErr result (λ stopped. stopped.read ≡ 0)
-  pub spent : IfErr result (λ stopped. stopped.cause ≡ cause.Cache Spent → length c / 4 ≤ stopped.meter.nodes)
+  pub spent : IfErr result (λ stopped. stopped.cause ≡ cause.Cache Spent → length c / 4 < stopped.meter.nodes)
   pub bounds : MatchResult result (λ found. KeepsBounds 0 c 0 found.1) (λ stopped. KeepsBounds 0 c 0 stopped.meter)
 
 -- an answer goes out; where the search stopped, what was there stays
 abbrev pub IsIsAReport : Result (Bool × Meter) Stopped → Bool → Bool → Report → Type 0
-IsIsAReport (Ok found) before after told = (after ≡ found.0) × (told ≡ status_report answered 0 found.1)
+IsIsAReport (Ok found) before after told = (after ≡ found.0) × (told ≡ status_report status_answered 0 found.1)
 IsIsAReport (Err stopped) before after told = (after ≡ before) × IsStopReport stopped.cause stopped.read stopped.meter told
 
 -- what C gets of two type names
@@ -45,8 +45,8 @@ pub record IsSearched (c kind base : List ℕ) (before after : Bool) (told : Rep
 
 -- what C gets: of two type names an answer or why there is none; else that one of them is none; or memory was refused
 pub data IsAsked (c kind base : List ℕ) (before after : Bool) (told : Report) : Type 0 where
-  no_type : (is_type_name kind ≡ false) ⊎ (is_type_name base ≡ false) → after ≡ before → IsRefusal not_a_type told
+  no_type : (is_type_name kind ≡ false) ⊎ (is_type_name base ≡ false) → after ≡ before → IsStatusAlone status_not_a_type told
       → IsAsked c kind base before after told
-  no_memory : is_type_name kind ≡ true → after ≡ before → IsRefusal out_of_memory told → IsAsked c kind base before after told
+  no_memory : is_type_name kind ≡ true → after ≡ before → IsStatusAlone status_out_of_memory told → IsAsked c kind base before after told
   searched : is_type_name kind ≡ true → is_type_name base ≡ true → IsSearched c kind base before after told
       → IsAsked c kind base before after told

@@ -1,5 +1,5 @@
 -- What a lookup of a name and a content promises over a cache of any bytes, and what C gets of it.
-use Rattle.std.specs.Prelude.{◌≡◌, ◌/◌, ℕ, ◌<◌, ◌≤◌, Bool, true, false, max, List, length, Option, None, Some, Result, Ok, Err}
+use Rattle.std.specs.Prelude.{◌≡◌, ℕ, ◌<◌, ◌≤◌, Bool, true, false, max, List, length, Option, None, Some, Result, Ok, Err}
 use Rattle.std.specs.Prelude.{IfErr, IfOk, IsErrAnd, MatchResult, OnOk}
 use Rattle.mime_base.specs.Database.{PlainDatabase}
 use Rattle.mime_base.specs.Database.Limits.{IsWithinLimits}
@@ -7,13 +7,14 @@ use Rattle.mime_base.specs.Format.Packed.{Packed}
 use Rattle.mime_base.specs.Format.Spells.{Spells}
 use Rattle.mime_base.specs.declared.magic.host.Host.TheVariants.{Little}
 use Rattle.mime_c.specs.Report.{IsStopReport, status_report}
-use Rattle.mime_c.specs.Status.{answered}
+use Rattle.mime_c.specs.Status.{status_answered}
 use Rattle.mime_c.specs.declared.look_up.Text.{Text}
 use Rattle.mime_c.specs.declared.report.Report.{Report}
 use Rattle.mime_lookup.specs.Bounds.{KeepsBounds, near_max, stated_extent}
 use Rattle.mime_lookup.specs.Cached.{IsKind, IsStop}
 use Rattle.mime_lookup.specs.CheckingOrder.{Chooses, GlobsDecide, read_of}
 use Rattle.mime_lookup.specs.Spelling.{SpellsGlobs}
+use Rattle.mime_lookup.specs.Spent.{UsesUp}
 use Rattle.mime_lookup.specs.StepFaults.{IsLookUpFault}
 use Rattle.mime_lookup.specs.declared.answer.Answer.{Answer}
 use Rattle.mime_lookup.specs.declared.order.Order.{Order}
@@ -26,14 +27,14 @@ use Rattle.mime_view.specs.declared.fault.CacheFault.{CacheFault}
 use Rattle.mime_view.specs.declared.fault.CacheFault.TheVariants.{Spent}
 
 -- a content, where it is available
-abbrev pub given : Bool → List ℕ → Option (List ℕ)
-given true content = Some content
-given false content = None
+abbrev pub available_content : Bool → List ℕ → Option (List ℕ)
+available_content true content = Some content
+available_content false content = None
 
 -- the order that a flag asks for
-abbrev pub order_of : Bool → Order
-order_of true = MagicFirst
-order_of false = GlobsFirst
+abbrev pub order_by_flag : Bool → Order
+order_by_flag true = MagicFirst
+order_by_flag false = GlobsFirst
 
 -- how many bytes can be read
 abbrev pub size_of : Option (List ℕ) → ℕ
@@ -61,7 +62,7 @@ pub record IsLookUp (c name : List ℕ) (content : Option (List ℕ)) (order : O
       (λ answer. KeepsBounds (length name) c answer.read answer.meter)
       (λ stopped. KeepsBounds (length name) c stopped.read stopped.meter)
   pub counted : IfOk result (λ answer. 1 ≤ answer.meter.nodes)
-  pub spent : content ≡ None → IfErr result (λ stopped. stopped.cause ≡ cause.Cache Spent → length c / 4 ≤ stopped.meter.nodes)
+  pub spent : IfErr result (λ stopped. stopped.cause ≡ cause.Cache Spent → UsesUp c (content ≡ None) stopped.meter.nodes)
   pub near : (b : PlainDatabase) → SpellsGlobs c b → length c ≤ 268435456 → GlobsDecide b name order (content ≡ None) →
       MatchResult result
       (λ answer. Chooses b name content Little order answer.kind.now × (answer.meter.nodes ≤ near_max (length name) (near name b.rules)))
@@ -70,7 +71,7 @@ pub record IsLookUp (c name : List ℕ) (content : Option (List ℕ)) (order : O
 -- an answer's type goes out; where a lookup stopped, what was there stays
 abbrev pub IsLookUpReport : Result Answer Stopped → Text → Text → Report → Type 0
 IsLookUpReport (Ok answer) before after told =
-    (after.bytes.now ≡ answer.kind.now) × (told ≡ status_report answered answer.read answer.meter)
+    (after.bytes.now ≡ answer.kind.now) × (told ≡ status_report status_answered answer.read answer.meter)
 IsLookUpReport (Err stopped) before after told = (after ≡ before) × IsStopReport stopped.cause stopped.read stopped.meter told
 
 -- what C gets of a name and a content

@@ -8,7 +8,7 @@ use Rattle.mime_base.specs.Format.Spells.{Spells}
 use Rattle.mime_base.specs.declared.magic.host.Host.TheVariants.{Little}
 use Rattle.mime_base.specs.declared.meter.Meter.{Meter}
 use Rattle.mime_c.specs.Report.{IsStopReport, status_report}
-use Rattle.mime_c.specs.Status.{answered}
+use Rattle.mime_c.specs.Status.{status_answered}
 use Rattle.mime_c.specs.declared.report.Report.{Report}
 use Rattle.mime_lookup.specs.Bounds.{bytes_max, nodes_max, stated_extent}
 use Rattle.mime_lookup.specs.CheckingOrder.{Chooses, globs_suffice, read_limit}
@@ -57,7 +57,7 @@ pub record IsWanting (c name : List ℕ) (order : Order) (result : Result (ℕ �
 
 -- the number goes out; where there is none, what was there stays
 abbrev pub IsWantedReport : Result (ℕ × Meter) Stopped → ℕ → ℕ → Report → Type 0
-IsWantedReport (Ok found) before after told = (after ≡ found.0) × (told ≡ status_report answered 0 found.1)
+IsWantedReport (Ok found) before after told = (after ≡ found.0) × (told ≡ status_report status_answered 0 found.1)
 IsWantedReport (Err stopped) before after told = (after ≡ before) × IsStopReport stopped.cause stopped.read stopped.meter told
 
 -- what C gets of a name

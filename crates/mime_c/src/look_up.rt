@@ -2,7 +2,7 @@
 
 ghost use Rattle.std.specs.Prelude.{◌≡◌, ◌≢◌, IfErr, option_map};
 ghost use Rattle.mime_c.specs.Headline.{IsHeadline};
-ghost use Rattle.mime_c.specs.LookUp.{IsLookUp, IsLookedUp, given, order_of};
+ghost use Rattle.mime_c.specs.LookUp.{IsLookUp, IsLookedUp, available_content, order_by_flag};
 
 use crate::report::{Report, answered, stop_report};
 use mime_base::{Counted, Host};
@@ -32,13 +32,13 @@ pub extern "C" fn mimelook_look_up<'a>(
     magic_first: bool,
     kind: &mut Text<'a>,
 ) -> Report
-    ensures promises { IsLookedUp cache.now name.now (given has_content content.now) (order_of magic_first)
+    ensures promises { IsLookedUp cache.now name.now (available_content has_content content.now) (order_by_flag magic_first)
         kind.old kind.new result }
-    ensures headline { IsHeadline cache.now name.now (given has_content content.now) (order_of magic_first)
+    ensures headline { IsHeadline cache.now name.now (available_content has_content content.now) (order_by_flag magic_first)
         kind.new.bytes.now result }
 {
-    let content = given(content, has_content);
-    match ask(alloc, cache, name, content, order_of(magic_first)) {
+    let content = available_content(content, has_content);
+    match ask(alloc, cache, name, content, order_by_flag(magic_first)) {
         Ok(answer) => {
             kind.bytes = answer.kind;
             answered(answer.read, answer.meter)
@@ -69,15 +69,15 @@ fn ask<'a>(
 }
 
 /// A content, where it is available.
-pub(crate) fn given(content: &[u8], is_given: bool) -> Option<&[u8]>
-    ensures { option_map (λ bytes. bytes.now) result ≡ given is_given content.now }
+pub(crate) fn available_content(content: &[u8], is_given: bool) -> Option<&[u8]>
+    ensures { option_map (λ bytes. bytes.now) result ≡ available_content is_given content.now }
 {
     if is_given { Some(content) } else { None }
 }
 
 /// The order that a flag asks for.
-pub(crate) fn order_of(magic_first: bool) -> Order
-    ensures { result ≡ order_of magic_first }
+pub(crate) fn order_by_flag(magic_first: bool) -> Order
+    ensures { result ≡ order_by_flag magic_first }
 {
     if magic_first {
         Order::MagicFirst

@@ -2,7 +2,7 @@
 
 ghost use Rattle.std.specs.Prelude.{◌≡◌, ◌⊎◌, MatchResult, true, false};
 ghost use Rattle.mime_base.specs.Names.{is_type_name};
-ghost use Rattle.mime_c.specs.Status.{not_a_type, out_of_memory};
+ghost use Rattle.mime_c.specs.Status.{status_not_a_type, status_out_of_memory};
 
 use crate::status::{NOT_A_TYPE, OUT_OF_MEMORY};
 use mime_base::{NameFault, TypeName};
@@ -11,8 +11,8 @@ use std::alloc::Global;
 /// The bytes as a type name, or the status that says why there is none.
 pub fn type_name(alloc: Global, bytes: &[u8]) -> Result<TypeName, u32>
     ensures { MatchResult result (λ name. (is_type_name bytes.now ≡ true) × (name ≡ bytes.now))
-        (λ status. ((status ≡ not_a_type) × (is_type_name bytes.now ≡ false))
-        ⊎ ((status ≡ out_of_memory) × (is_type_name bytes.now ≡ true))) }
+        (λ status. ((status ≡ status_not_a_type) × (is_type_name bytes.now ≡ false))
+        ⊎ ((status ≡ status_out_of_memory) × (is_type_name bytes.now ≡ true))) }
 {
     match TypeName::new(alloc, bytes) {
         Ok(name) => Ok(name),

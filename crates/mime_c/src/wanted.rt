@@ -3,13 +3,13 @@
 ghost use Rattle.std.specs.Prelude.{◌≡◌, ◌≢◌, ◌⊎◌, ◌+◌, ◌≤◌, max, IfErr, IfOk, IsOkAnd, MatchResult};
 ghost use Rattle.mime_base.specs.Database.{PlainDatabase};
 ghost use Rattle.mime_base.specs.Format.Spells.{Spells};
-ghost use Rattle.mime_c.specs.LookUp.{order_of};
+ghost use Rattle.mime_c.specs.LookUp.{order_by_flag};
 ghost use Rattle.mime_c.specs.Wanted.{IsAskedWanted, IsWanting};
 ghost use Rattle.mime_lookup.specs.Bounds.{stated_extent};
 ghost use Rattle.mime_lookup.specs.CheckingOrder.{read_limit};
 ghost use Rattle.mime_lookup.specs.StepFaults.{IsLookUpFault};
 
-use crate::look_up::order_of;
+use crate::look_up::order_by_flag;
 use crate::report::{Report, answered, stop_report};
 use mime_base::{Counted, Host, Meter};
 use mime_lookup::{Cause, Content, Order, ReadFault, Stopped, look_up};
@@ -57,9 +57,9 @@ pub extern "C" fn mimelook_wanted(
     magic_first: bool,
     wanted: &mut u64,
 ) -> Report
-    ensures promises { IsAskedWanted cache.now name.now (order_of magic_first) wanted.old wanted.new result }
+    ensures promises { IsAskedWanted cache.now name.now (order_by_flag magic_first) wanted.old wanted.new result }
 {
-    match find(alloc, cache, name, order_of(magic_first)) {
+    match find(alloc, cache, name, order_by_flag(magic_first)) {
         Ok((size, meter)) => {
             *wanted = size;
             answered(0, meter)

@@ -35,6 +35,7 @@ first_cache_text c [] d one all = absurd cc
 first_cache_text c (first ∷ more) d one all = all 0 [] (omega arith)
 
 -- a type that was chosen
-pub chosen_kind : (c kind : List ℕ) (kinds : List (List ℕ)) → All (IsCacheText c) kinds → IsKind c kind ⊎ Contains kinds kind → IsKind c kind
+pub chosen_kind : (c kind : List ℕ) (kinds : List (List ℕ)) → All (IsCacheText c) kinds →
+    IsKind c kind ⊎ Contains kinds kind → IsKind c kind
 chosen_kind c kind kinds all (inl is) = is
 chosen_kind c kind kinds all (inr one) = inl (All-contains (IsCacheText c) kinds kind all one)

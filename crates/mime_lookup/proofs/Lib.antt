@@ -36,3 +36,6 @@ pub mod MagicCosts
 pub mod NearLemmas
 pub mod ShortTexts
 pub mod CauseLemmas
+pub mod PlacedFaults
+pub mod UsedUp
+pub mod GlobsFirst

@@ -10,7 +10,8 @@ use Rattle.mime_lookup.specs.Ancestry.{is_one_of, kinds_of}
 use Rattle.mime_lookup.proofs.PairSteps.{is_one_of-here, is_one_of-nil, is_one_of-past}
 
 -- a set of marks has a type
-pub marked-any : (keys : List (Bor (List ℕ))) (kind : List ℕ) → is_one_of (kinds_of keys) kind ≡ list_any (λ key. bytes_eq kind key.now) keys
+pub marked-any : (keys : List (Bor (List ℕ))) (kind : List ℕ) →
+    is_one_of (kinds_of keys) kind ≡ list_any (λ key. bytes_eq kind key.now) keys
 marked-any [] kind = is_one_of-nil kind
 marked-any (key ∷ keys) kind =
     ⊎_elim
@@ -34,4 +35,5 @@ marked-any (key ∷ keys) kind =
 pub mark-more : (keys : List (Bor (List ℕ))) (kind : Bor (List ℕ)) → is_one_of (kinds_of keys) kind.now ≡ false →
     kinds_of (cond (list_any (λ key. bytes_eq kind.now key.now) keys) keys (keys ++ kind ∷ [])) ≡ kinds_of keys ++ kind.now ∷ []
 mark-more keys kind new =
-    ap kinds_of (cond-false _ keys (keys ++ kind ∷ []) (sym (marked-any keys kind.now) ∙ new)) ∙ map-append (λ text. text.now) keys (kind ∷ [])
+    ap kinds_of (cond-false _ keys (keys ++ kind ∷ []) (sym (marked-any keys kind.now) ∙ new))
+    ∙ map-append (λ text. text.now) keys (kind ∷ [])

@@ -84,7 +84,8 @@ module _ (c : List ℕ) (given e : CacheFault) (is : IsOpenFault c given) (other
   same_fault = one_fault c given e (one_of_three c given is) (one_of_three c e other)
 
   -- as itself
-  pub refused_with : {X : Type 0} (result : Result X CacheFault) → IsErrAnd result (λ fault. fault ≡ given) → IsErrAnd result (λ fault. fault ≡ e)
+  pub refused_with : {X : Type 0} (result : Result X CacheFault) → IsErrAnd result (λ fault. fault ≡ given) →
+      IsErrAnd result (λ fault. fault ≡ e)
   refused_with (Ok x) passed = absurd passed
   refused_with (Err fault) passed = passed ∙ same_fault
 

@@ -8,7 +8,8 @@ use Rattle.mime_lookup.proofs.CostLemmas.{costs_then, costs_wider}
 
 -- a candidate more
 pub costs_next : (i : ℕ) (old mid new : Budget) (before between after : Meter)
-    → Costs search_cost 0 (29 * i) old mid before between → Costs search_cost 0 29 mid new between after → Costs search_cost 0 (29 * (i + 1)) old new before after
+    → Costs search_cost 0 (29 * i) old mid before between → Costs search_cost 0 29 mid new between after
+    → Costs search_cost 0 (29 * (i + 1)) old new before after
 costs_next i old mid new before between after first second =
     costs_wider search_cost search_cost 0 0 (29 * i + 29) (29 * (i + 1)) old new before after (omega arith) (omega arith)
     (omega arith)

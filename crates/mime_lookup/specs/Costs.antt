@@ -34,3 +34,8 @@ record_cost name = 256 * (name + 64)
 -- the nodes that a search for the types of a name adds besides its records
 abbrev pub glob_cost : ℕ → ℕ
 glob_cost name = 29 * (2 * name + 2) + 1
+
+-- what a whole lookup costs at most, for a name of so many bytes and so many bytes of content that were read
+abbrev pub CostsLookUp : ℕ → ℕ → Budget → Budget → Meter → Meter → Type 0
+CostsLookUp name read old new before after =
+    Costs (record_cost name) (read + 1) (glob_cost name + (2 + 29)) old new before after

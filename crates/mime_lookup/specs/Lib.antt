@@ -16,3 +16,5 @@ pub mod Icons
 pub mod Affords
 pub mod Searching
 pub mod Headline
+pub mod Spent
+pub mod Orders

@@ -1,7 +1,7 @@
 //! Lookup over the bytes of a cache, whatever they are.
 
-ghost use Rattle.std.specs.Prelude.{◌≡◌, ◌≢◌, ◌⊎◌, ℕ, ◌+◌, ◌*◌, ◌/◌, ◌<◌, ◌≤◌, max, length, IfOk, IfErr, OnOk, IfSome, MatchResult};
-ghost use Rattle.std.specs.Prelude.{Contains, true, false, ⊤, Ok, Some, None, []};
+ghost use Rattle.std.specs.Prelude.{◌≡◌, ◌≢◌, ◌⊎◌, ℕ, ◌+◌, ◌*◌, ◌<◌, ◌≤◌, max, length, IfOk, IfErr, OnOk, IfSome, MatchResult};
+ghost use Rattle.std.specs.Prelude.{Contains, true, false, ⊤, Ok, None, []};
 ghost use Rattle.std.specs.Prelude.{IsErrAnd, IsOkAnd};
 ghost use Rattle.mime_base.specs.Cache.Bytes.{Stands};
 ghost use Rattle.mime_base.specs.Database.{PlainDatabase, pairs_of};
@@ -12,18 +12,21 @@ ghost use Rattle.mime_base.specs.Format.Pairs.{PairsAt};
 ghost use Rattle.mime_base.specs.Format.Packed.{Packed};
 ghost use Rattle.mime_view.specs.Hits.{near};
 ghost use Rattle.mime_view.specs.Opening.{IsOpenFault, Opens};
-ghost use Rattle.mime_lookup.specs.Affords.{Affords, rule_records};
+ghost use Rattle.mime_lookup.specs.Affords.{rule_records};
 ghost use Rattle.mime_lookup.specs.Ancestry.{kinds_of};
 ghost use Rattle.mime_lookup.specs.Bounds.{KeepsBounds, near_max, stated_extent};
 ghost use Rattle.mime_lookup.specs.Cached.{IsFinding, IsKind, IsStop, plain_finding};
 ghost use Rattle.mime_lookup.specs.CheckingOrder.{Chooses, GlobsDecide, globs_suffice, read_of};
 ghost use Rattle.mime_lookup.specs.Choice.{ChoosesAmong, kept};
 ghost use Rattle.mime_lookup.specs.Content.{Advances, GivesUp, Retries, OfReader, broken, known_content, sound};
-ghost use Rattle.mime_lookup.specs.Costs.{Costs, glob_cost, record_cost};
+ghost use Rattle.mime_lookup.specs.Costs.{Costs, CostsLookUp, glob_cost, record_cost};
 ghost use Rattle.mime_lookup.specs.Finding.{is_high, resolved_finding};
 ghost use Rattle.mime_lookup.specs.Headline.{IsHeadline};
-ghost use Rattle.mime_lookup.specs.Reads.{AsksUnless, Reads};
+ghost use Rattle.mime_lookup.specs.Orders.{AnswersNear, AnswersWhereAfforded, AsksWhereSpelled};
+ghost use Rattle.mime_lookup.specs.Orders.{ChoosesNear, ChoosesWhereSpelled, ReadsWhereSpelled};
+ghost use Rattle.mime_lookup.specs.Reads.{Reads};
 ghost use Rattle.mime_lookup.specs.Spelling.{SpellsGlobs, SpellsMagic, SpellsPairs};
+ghost use Rattle.mime_lookup.specs.Spent.{IsUsedUp, UsesUp};
 ghost use Rattle.mime_lookup.specs.StepFaults.{IsAliasFault, IsLookUpFault, IsSearchFault};
 
 mod ancestry;
@@ -110,8 +113,8 @@ pub fn look_up<'a, R: Content>(
         (λ answer. KeepsBounds (length name.now) cache.entry answer.read answer.meter)
         (λ stopped. KeepsBounds (length name.now) cache.entry stopped.read stopped.meter) }
     ensures counted { IfOk result (λ answer. 1 ≤ answer.meter.nodes) }
-    ensures spent { content.old ≡ None → IfErr result (λ stopped. stopped.cause ≡ Cause.Cache CacheFault.Spent
-        → length cache.entry / 4 ≤ stopped.meter.nodes) }
+    ensures spent { IfErr result (λ stopped. stopped.cause ≡ Cause.Cache CacheFault.Spent
+        → UsesUp cache.entry (content.old ≡ None) stopped.meter.nodes) }
     ensures near { (b : PlainDatabase) → SpellsGlobs cache.entry b → length cache.entry ≤ 268435456
         → GlobsDecide b name.now order (content.old ≡ None) → MatchResult result
         (λ answer. IfSome (known_content R.remaining content.old)
@@ -149,11 +152,8 @@ fn open_and_find<'a, R: Content>(
     requires short { length name.now ≤ 4096 }
     requires nodes { meter.old.nodes ≡ 0 }
     requires bytes { meter.old.bytes ≡ 0 }
-    ensures chosen { (b : PlainDatabase) → IsWithinLimits b → Spells cache.entry b → IfOk result
-        (λ kind. IfSome (known_content R.remaining content.old)
-        (λ known. Chooses b name.now known host order kind.now)) }
-    ensures read { (b : PlainDatabase) → IsWithinLimits b → Spells cache.entry b → OnOk result
-        (IfSome (known_content R.remaining content.old) (λ known. read.new ≡ read_of b name.now known order)) }
+    ensures chosen { ChoosesWhereSpelled cache.entry name.now (known_content R.remaining content.old) host order result }
+    ensures read { ReadsWhereSpelled cache.entry name.now (known_content R.remaining content.old) order read.new result }
     ensures kind { IfOk result (λ kind. IsKind cache.entry kind.now) }
     ensures opened { OnOk result (Opens cache.entry) }
     ensures refused { (e : CacheFault) → IsOpenFault cache.entry e → IsErrAnd result (λ cause. cause ≡ Cause.Cache e) }
@@ -162,11 +162,10 @@ fn open_and_find<'a, R: Content>(
         IfErr result (λ cause. (cause ≡ Cause.Read) ⊎ (cause ≡ Cause.OutOfMemory)) }
     ensures reader { Reads R.remaining R.tally R.health (max 128 (stated_extent cache.entry))
         content.old content.new read.new result }
-    ensures asks { (b : PlainDatabase) → IsWithinLimits b → Spells cache.entry b →
-        AsksUnless R.health (globs_suffice b name.now order) content.old content.new result }
+    ensures asks { AsksWhereSpelled R.health cache.entry name.now order content.old content.new result }
     ensures counted { OnOk result (1 ≤ meter.new.nodes) }
-    ensures spent { content.old ≡ None → IfErr result
-        (λ cause. cause ≡ Cause.Cache CacheFault.Spent → length cache.entry / 4 ≤ meter.new.nodes) }
+    ensures spent { IfErr result (λ cause. cause ≡ Cause.Cache CacheFault.Spent
+        → UsesUp cache.entry (content.old ≡ None) meter.new.nodes) }
     ensures near { (b : PlainDatabase) → SpellsGlobs cache.entry b → GlobsDecide b name.now order (content.old ≡ None) → IfOk result
         (λ kind. IfSome (known_content R.remaining content.old) (λ known. Chooses b name.now known host order kind.now)
         × (meter.new.nodes ≤ near_max (length name.now) (near name.now b.rules))) }
@@ -214,29 +213,19 @@ fn globs_first<'a, R: Content>(
 ) -> Result<&'a [u8], Cause>
     requires none { read.old ≡ 0 }
     requires short { length name.now ≤ 4096 }
-    ensures chosen { (b : PlainDatabase) → IsWithinLimits b → Spells cache.now b → IfOk result
-        (λ kind. IfSome (known_content R.remaining content.old)
-        (λ known. Chooses b name.now known host Order.GlobsFirst kind.now)) }
-    ensures read { (b : PlainDatabase) → IsWithinLimits b → Spells cache.now b → OnOk result
-        (IfSome (known_content R.remaining content.old) (λ known. read.new ≡ read_of b name.now known Order.GlobsFirst)) }
+    ensures chosen { ChoosesWhereSpelled cache.now name.now (known_content R.remaining content.old) host Order.GlobsFirst result }
+    ensures read { ReadsWhereSpelled cache.now name.now (known_content R.remaining content.old) Order.GlobsFirst read.new result }
     ensures kind { IfOk result (λ kind. IsKind cache.now kind.now) }
     ensures fault { IfErr result (IsStop (IsLookUpFault cache.now)) }
-    ensures answers { (b : PlainDatabase) → IsWithinLimits b → Spells cache.now b → Affords b budget.old →
-        IfErr result (λ cause. (cause ≡ Cause.Read) ⊎ (cause ≡ Cause.OutOfMemory)) }
-    ensures reader { Reads R.remaining R.tally R.health (max 128 (stated_extent cache.now))
-        content.old content.new read.new result }
-    ensures asks { (b : PlainDatabase) → IsWithinLimits b → Spells cache.now b →
-        AsksUnless R.health (globs_suffice b name.now Order.GlobsFirst) content.old content.new result }
-    ensures spent { content.old ≡ None → IfErr result
-        (λ cause. cause ≡ Cause.Cache CacheFault.Spent → budget.new.records ≡ 0) }
-    ensures near { (b : PlainDatabase) → SpellsGlobs cache.now b → GlobsDecide b name.now Order.GlobsFirst (content.old ≡ None) →
-        IfOk result (λ kind. IfSome (known_content R.remaining content.old)
-        (λ known. Chooses b name.now known host Order.GlobsFirst kind.now)
-        × (meter.new.nodes < meter.old.nodes + near_max (length name.now) (near name.now b.rules))) }
-    ensures near_need { (b : PlainDatabase) → SpellsGlobs cache.now b → GlobsDecide b name.now Order.GlobsFirst (content.old ≡ None) →
-        rule_records b ≤ budget.old.records → IfErr result (λ cause. cause ≡ Cause.OutOfMemory) }
-    ensures cost { Costs (record_cost (length name.now)) (read.new + 1) (glob_cost (length name.now) + (2 + 29))
-        budget.old budget.new meter.old meter.new }
+    ensures answers { AnswersWhereAfforded cache.now budget.old result }
+    ensures reader { Reads R.remaining R.tally R.health (max 128 (stated_extent cache.now)) content.old content.new read.new result }
+    ensures asks { AsksWhereSpelled R.health cache.now name.now Order.GlobsFirst content.old content.new result }
+    ensures spent { IfErr result (λ cause. cause ≡ Cause.Cache CacheFault.Spent
+        → IsUsedUp cache.now (content.old ≡ None) budget.new) }
+    ensures near { ChoosesNear cache.now name.now (known_content R.remaining content.old) host Order.GlobsFirst
+        (content.old ≡ None) meter.old.nodes meter.new.nodes result }
+    ensures near_need { AnswersNear cache.now name.now Order.GlobsFirst (content.old ≡ None) budget.old result }
+    ensures cost { CostsLookUp (length name.now) read.new budget.old budget.new meter.old meter.new }
 {
     let kept = keep(alloc, cache, name, meter, budget)?;
     match kept {
@@ -262,29 +251,19 @@ fn magic_first<'a, R: Content>(
 ) -> Result<&'a [u8], Cause>
     requires none { read.old ≡ 0 }
     requires short { length name.now ≤ 4096 }
-    ensures chosen { (b : PlainDatabase) → IsWithinLimits b → Spells cache.now b → IfOk result
-        (λ kind. IfSome (known_content R.remaining content.old)
-        (λ known. Chooses b name.now known host Order.MagicFirst kind.now)) }
-    ensures read { (b : PlainDatabase) → IsWithinLimits b → Spells cache.now b → OnOk result
-        (IfSome (known_content R.remaining content.old) (λ known. read.new ≡ read_of b name.now known Order.MagicFirst)) }
+    ensures chosen { ChoosesWhereSpelled cache.now name.now (known_content R.remaining content.old) host Order.MagicFirst result }
+    ensures read { ReadsWhereSpelled cache.now name.now (known_content R.remaining content.old) Order.MagicFirst read.new result }
     ensures kind { IfOk result (λ kind. IsKind cache.now kind.now) }
     ensures fault { IfErr result (IsStop (IsLookUpFault cache.now)) }
-    ensures answers { (b : PlainDatabase) → IsWithinLimits b → Spells cache.now b → Affords b budget.old →
-        IfErr result (λ cause. (cause ≡ Cause.Read) ⊎ (cause ≡ Cause.OutOfMemory)) }
-    ensures reader { Reads R.remaining R.tally R.health (max 128 (stated_extent cache.now))
-        content.old content.new read.new result }
-    ensures asks { (b : PlainDatabase) → IsWithinLimits b → Spells cache.now b →
-        AsksUnless R.health (globs_suffice b name.now Order.MagicFirst) content.old content.new result }
-    ensures spent { content.old ≡ None → IfErr result
-        (λ cause. cause ≡ Cause.Cache CacheFault.Spent → budget.new.records ≡ 0) }
-    ensures near { (b : PlainDatabase) → SpellsGlobs cache.now b → GlobsDecide b name.now Order.MagicFirst (content.old ≡ None) →
-        IfOk result (λ kind. IfSome (known_content R.remaining content.old)
-        (λ known. Chooses b name.now known host Order.MagicFirst kind.now)
-        × (meter.new.nodes < meter.old.nodes + near_max (length name.now) (near name.now b.rules))) }
-    ensures near_need { (b : PlainDatabase) → SpellsGlobs cache.now b → GlobsDecide b name.now Order.MagicFirst (content.old ≡ None) →
-        rule_records b ≤ budget.old.records → IfErr result (λ cause. cause ≡ Cause.OutOfMemory) }
-    ensures cost { Costs (record_cost (length name.now)) (read.new + 1) (glob_cost (length name.now) + (2 + 29))
-        budget.old budget.new meter.old meter.new }
+    ensures answers { AnswersWhereAfforded cache.now budget.old result }
+    ensures reader { Reads R.remaining R.tally R.health (max 128 (stated_extent cache.now)) content.old content.new read.new result }
+    ensures asks { AsksWhereSpelled R.health cache.now name.now Order.MagicFirst content.old content.new result }
+    ensures spent { IfErr result (λ cause. cause ≡ Cause.Cache CacheFault.Spent
+        → IsUsedUp cache.now (content.old ≡ None) budget.new) }
+    ensures near { ChoosesNear cache.now name.now (known_content R.remaining content.old) host Order.MagicFirst
+        (content.old ≡ None) meter.old.nodes meter.new.nodes result }
+    ensures near_need { AnswersNear cache.now name.now Order.MagicFirst (content.old ≡ None) budget.old result }
+    ensures cost { CostsLookUp (length name.now) read.new budget.old budget.new meter.old meter.new }
 {
     let finding = sniff_content(alloc, cache, content, host, read, meter, budget)?;
     if is_high(finding) {

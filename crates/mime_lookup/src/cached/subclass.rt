@@ -1,6 +1,6 @@
 //! Whether a type is a subclass of another, by a cache ("Subclassing").
 
-ghost use Rattle.std.specs.Prelude.{◌≡◌, ◌≢◌, ◌⊎◌, ◌↔◌, ◌+◌, ◌*◌, ◌/◌, ◌≤◌, length, IfErr, IfOk, IsErrAnd, IsTrue, MatchResult, OnOk};
+ghost use Rattle.std.specs.Prelude.{◌≡◌, ◌≢◌, ◌⊎◌, ◌↔◌, ◌+◌, ◌*◌, ◌/◌, ◌<◌, ◌≤◌, length, IfErr, IfOk, IsErrAnd, IsTrue, MatchResult, OnOk};
 ghost use Rattle.mime_base.specs.Database.{PlainDatabase, pairs_of};
 ghost use Rattle.mime_base.specs.Database.Subclass.{IsA, resolved};
 ghost use Rattle.mime_base.specs.Format.Packed.{Packed};
@@ -38,7 +38,7 @@ pub fn is_a<'a>(
         ⊎ ((e : CacheFault) × (stopped.cause ≡ Cause.Cache e) × (e ≢ CacheFault.OutOfMemory) × IsLookUpFault cache.entry e)) }
     ensures read { IfErr result (λ stopped. stopped.read ≡ 0) }
     ensures spent { IfErr result (λ stopped. stopped.cause ≡ Cause.Cache CacheFault.Spent
-        → length cache.entry / 4 ≤ stopped.meter.nodes) }
+        → length cache.entry / 4 < stopped.meter.nodes) }
     ensures bounds { MatchResult result
         (λ found. KeepsBounds 0 cache.entry 0 found.1) (λ stopped. KeepsBounds 0 cache.entry 0 stopped.meter) }
 {
@@ -70,7 +70,7 @@ fn search<'a>(
     ensures need { (b : PlainDatabase) → SpellsPairs cache.entry b → length cache.entry ≤ 268435456 → Packed cache.entry b →
         IfErr result (λ e. e ≡ CacheFault.OutOfMemory) }
     ensures fault { IfErr result (IsLookUpFault cache.entry) }
-    ensures spent { IfErr result (λ e. e ≡ CacheFault.Spent → length cache.entry / 4 ≤ meter.new.nodes) }
+    ensures spent { IfErr result (λ e. e ≡ CacheFault.Spent → length cache.entry / 4 < meter.new.nodes) }
     ensures nodes { meter.new.nodes ≤ meter.old.nodes + 88 + 59 * (length cache.entry / 4) }
     ensures bytes { meter.new.bytes ≤ meter.old.bytes + 22528 + search_cost * (length cache.entry / 4) }
 {

@@ -8,6 +8,15 @@ returns-in-Err c =
     record {
       outcome = Err c.in-Err.stopped;
       promised = subst (λ (cache : List ℕ). IsIcons cache c.args.kind.now (Err c.in-Err.stopped)) c.new.ensures
-          (record { answer = is.answer; lists = is.lists; opened = is.opened; unopened = is.refused; need = is.need; fault = is.fault; read = is.read; bounds = is.bounds });
+          (record {
+            answer = is.answer;
+            lists = is.lists;
+            opened = is.opened;
+            unopened = is.refused;
+            need = is.need;
+            fault = is.fault;
+            read = is.read;
+            bounds = is.bounds;
+          });
       told_so = (refl, c.stop_report.ensures);
     }

@@ -8,6 +8,15 @@ returns-in-Err c =
     record {
       outcome = Err c.in-Err.stopped;
       promised = subst (λ (cache : List ℕ). IsIsA cache c.args.kind.now c.args.base.now (Err c.in-Err.stopped)) c.new.ensures
-          (record { answer = is.answer; opened = is.opened; unopened = is.refused; need = is.need; fault = is.fault; read = is.read; spent = is.spent; bounds = is.bounds });
+          (record {
+            answer = is.answer;
+            opened = is.opened;
+            unopened = is.refused;
+            need = is.need;
+            fault = is.fault;
+            read = is.read;
+            spent = is.spent;
+            bounds = is.bounds;
+          });
       told_so = (refl, c.stop_report.ensures);
     }

@@ -1,7 +1,8 @@
 use Rattle.std.proofs.Common.{◌≡◌, ℕ, List, Option, None, subst}
+use Rattle.std.proofs.lemmas.Result.{IfErr-weaker}
 use denote.Bor.{Bor}
 use Rattle.mime_c.specs.LookUp.{IsLookUp}
-use Rattle.mime_c.proofs.Slices.{content_of, decides, known, never_read, none_of, refused, there}
+use Rattle.mime_c.proofs.Slices.{content_of, decides, known, never_read, none_of, refused, there, uses_up_where}
 use Rattle.mime_c.proofs.look_up.ask.Goals as goal
 
 pub returns-clause-promises : goal.returns-clause-promises
@@ -22,9 +23,10 @@ returns-clause-promises c =
       there = there content c.look_up.new.content c.look_up.result is.advances;
       bounds = is.bounds;
       counted = is.counted;
-      spent = λ none. is.spent (none_of content none);
+      spent = IfErr-weaker c.look_up.result _ _
+          (λ stopped used spent. uses_up_where (none_of content) (used spent)) is.spent;
       near = λ b globs limit decide.
-          rw (known content) at (is.near b globs limit (decides b c.args.name.now c.args.order (◌≡◌ {A = Option (List ℕ)} (content_of content) None)
-          (◌≡◌ {A = Option (Bor (List ℕ))} content None)
+          rw (known content) at (is.near b globs limit (decides b c.args.name.now c.args.order
+          (◌≡◌ {A = Option (List ℕ)} (content_of content) None) (◌≡◌ {A = Option (Bor (List ℕ))} content None)
           (none_of content) decide));
     })

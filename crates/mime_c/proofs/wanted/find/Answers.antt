@@ -1,7 +1,8 @@
 use Rattle.std.proofs.Common.{◌≡◌, ℕ, List, true, length, Ok, Err, sym, subst}
 use Rattle.mime_base.specs.Format.Spells.{Spells}
 use Rattle.mime_c.specs.Wanted.{IsWanting}
-use Rattle.mime_c.proofs.Wants.{by_front, by_globs, by_stop, nothing_read, of_broken, ok_is_no_stop, read_is_short, same_stop, too_long}
+use Rattle.mime_c.proofs.LongNames.{ok_is_no_stop, read_is_short, same_stop, too_long}
+use Rattle.mime_c.proofs.Wants.{by_front, by_globs, by_stop, nothing_read, of_broken}
 use Rattle.mime_lookup.specs.Bounds.{KeepsBounds}
 use Rattle.mime_lookup.specs.CheckingOrder.{globs_suffice}
 use Rattle.mime_c.proofs.wanted.find.Goals as goal

@@ -54,7 +54,8 @@ returns-in-One-clause-cost c value =
 
 pub returns-in_err-kind-in-Others-clause-fault : goal.returns-in_err-kind-in-Others-clause-fault
 returns-in_err-kind-in-Others-clause-fault c =
-    passed_on _ c.in_err-kind-in-Others.field-0.0 c.from_residual-in_err-kind-in-Others.result c.from_residual-in_err-kind-in-Others.ensures.1
+    passed_on _ c.in_err-kind-in-Others.field-0.0 c.from_residual-in_err-kind-in-Others.result
+    c.from_residual-in_err-kind-in-Others.ensures.1
     (choice_fault c.args.cache.now c.choose.new.budget c.in_err-kind-in-Others.field-0.0 c.in_err-kind-in-Others.ensures.fault)
 
 pub returns-in_err-kind-in-Others-clause-near_need : goal.returns-in_err-kind-in-Others-clause-near_need
@@ -79,8 +80,8 @@ returns-in_ok-kind-in-Others-clause-answer c b within spells =
 
 pub returns-in_ok-kind-in-Others-clause-kind : goal.returns-in_ok-kind-in-Others-clause-kind
 returns-in_ok-kind-in-Others-clause-kind c =
-    chosen_kind c.args.cache.now c.in_ok-kind-in-Others.kind.now (kinds_of c.in-Others.kinds.items) (rw c.in-Others.is at c.in_ok-kept.ensures.text)
-    (rw c.deref.ensures.value at c.in_ok-kind-in-Others.ensures.one)
+    chosen_kind c.args.cache.now c.in_ok-kind-in-Others.kind.now (kinds_of c.in-Others.kinds.items)
+    (rw c.in-Others.is at c.in_ok-kept.ensures.text) (rw c.deref.ensures.value at c.in_ok-kind-in-Others.ensures.one)
 
 pub returns-in_ok-kind-in-Others-clause-near : goal.returns-in_ok-kind-in-Others-clause-near
 returns-in_ok-kind-in-Others-clause-near c b globs decide =

@@ -16,14 +16,16 @@ returns-in_err-kinds-clause-need c b globs enough =
 pub returns-then-are_one_type-clause-answer : goal.returns-then-are_one_type-clause-answer
 returns-then-are_one_type-clause-answer c b globs =
     let items = c.in_ok-kinds.kinds.items in
-    let one : are_one_type (kinds_of items) ≡ true = rw c.deref.ensures.value at (sym c.are_one_type.ensures.answer ∙ c.if-are_one_type.true) in
+    let one : are_one_type (kinds_of items) ≡ true =
+    rw c.deref.ensures.value at (sym c.are_one_type.ensures.answer ∙ c.if-are_one_type.true) in
     rw (← c.in_ok-kinds.ensures.answer b globs)
     (one, ap (λ (text : Bor (List ℕ)). text.now) c.index.ensures ∙ first_text items c.index.result.now one)
 
 pub returns-then-are_one_type-clause-text : goal.returns-then-are_one_type-clause-text
 returns-then-are_one_type-clause-text c =
     let items = c.in_ok-kinds.kinds.items in
-    let one : are_one_type (kinds_of items) ≡ true = rw c.deref.ensures.value at (sym c.are_one_type.ensures.answer ∙ c.if-are_one_type.true) in
+    let one : are_one_type (kinds_of items) ≡ true =
+    rw c.deref.ensures.value at (sym c.are_one_type.ensures.answer ∙ c.if-are_one_type.true) in
     rw c.index.ensures (first_cache_text c.args.cache.now items c.index.result.now one c.in_ok-kinds.ensures.text)
 
 pub returns-then-are_one_type-clause-near : goal.returns-then-are_one_type-clause-near
@@ -37,7 +39,8 @@ returns-then-are_one_type-clause-cost c value =
     let kept = c.in_ok-kinds.ensures in
     let short = texts_short c.args.cache.now (kinds_of c.in_ok-kinds.kinds.items) kept.text in
     let tested = c.are_one_type.ensures in
-    costs_alone (record_cost name) value (glob_cost name) c.args.budget.now c.kept_kinds.new.budget c.args.meter.now c.are_one_type.new.meter
+    costs_alone (record_cost name) value (glob_cost name) c.args.budget.now c.kept_kinds.new.budget c.args.meter.now
+    c.are_one_type.new.meter
     (costs_tested (record_cost name) value (glob_cost name) (length c.in_ok-kinds.kinds.items) c.args.budget.now c.kept_kinds.new.budget
     c.args.meter.now c.kept_kinds.new.meter c.are_one_type.new.meter (kept.cost value) kept.rises kept.fair kept.bytes_rise tested.nodes
     tested.rises ((rw c.deref.ensures.value at tested.bytes) short)).alone

@@ -1,0 +1,126 @@
+-- Which faults say that a lookup used up what it may take of a cache, and what is left then.
+use Rattle.std.proofs.Common.{◌≡◌, ◌∙◌, ◌⊎◌, ℕ, ◌/◌, ◌≤◌, List, Result, length, inl, inr, sym, ap, subst, arith}
+use Rattle.std.specs.Prelude.{IfErr, IsErrAnd}
+use Rattle.mime_base.specs.Cache.Bytes.{field}
+use Rattle.mime_base.specs.declared.meter.Meter.{Meter}
+use Rattle.mime_lookup.specs.Cached.{IsStop, cause_of}
+use Rattle.mime_lookup.specs.Costs.{Costs}
+use Rattle.mime_lookup.specs.Spent.{IsUsedUp, UsesUp}
+use Rattle.mime_lookup.specs.StepFaults.{IsAliasFault, IsGlobsFault, IsSearchFault, IsSniffFault}
+use Rattle.mime_lookup.specs.declared.stopped.Cause.{Cause}
+use Rattle.mime_lookup.specs.declared.stopped.Cause.TheVariants as cause
+use Rattle.mime_lookup.proofs.PlacedFaults.{no_alias, no_byte, no_memory, no_place, no_text, no_tree}
+use Rattle.mime_lookup.proofs.StepStops.{passed_on, spent_fault}
+use Rattle.mime_view.specs.Magic.{IsLineFault, IsMagicFault}
+use Rattle.mime_view.specs.Parents.{IsParentsFault, IsTextsFault, parents_at}
+use Rattle.mime_view.specs.declared.budget.Budget.{Budget}
+use Rattle.mime_view.specs.declared.fault.CacheFault.{CacheFault}
+use Rattle.mime_view.specs.declared.fault.CacheFault.TheVariants.{OutOfMemory, Spent, TooDeep}
+
+-- the search for the types of a name does only where no record is left
+globs_spent : (c : List ℕ) (left : Budget) (e : CacheFault) → IsGlobsFault c left e → e ≡ Spent → left.records ≡ 0
+globs_spent c left e (inl (inl list)) same = absurd (no_place (field c 0 3) (sym list.is ∙ same))
+globs_spent c left e (inl (inr (inl tree))) same = absurd (no_tree c (field c 0 4) e tree same)
+globs_spent c left e (inl (inr (inr (inl list)))) same = absurd (no_place (field c 0 5) (sym list.is ∙ same))
+globs_spent c left e (inl (inr (inr (inr (inl text))))) same = absurd (no_text c e text same)
+globs_spent c left e (inl (inr (inr (inr (inr (inl spent)))))) same = spent.1
+globs_spent c left e (inl (inr (inr (inr (inr (inr memory)))))) same = absurd (no_memory e memory same)
+globs_spent c left e (inr alias) same = absurd (no_alias c e alias same)
+
+-- and so does the search for a subclass
+texts_spent : (c : List ℕ) (at before after : ℕ) (e : CacheFault) → IsTextsFault c at before after e → e ≡ Spent → after ≡ 0
+texts_spent c at before after e (inl list) same = absurd (no_place at (sym list.is ∙ same))
+texts_spent c at before after e (inr (inl named)) same = absurd (no_byte named.fault (sym named.is ∙ same))
+texts_spent c at before after e (inr (inr (inl spent))) same = spent.none_left
+texts_spent c at before after e (inr (inr (inr memory))) same = absurd (no_memory e memory same)
+
+parents_spent : (c : List ℕ) (at : ℕ) (marks kind : List ℕ) (before after : ℕ) (e : CacheFault)
+    → IsParentsFault c at marks kind before after e → e ≡ Spent → after ≡ 0
+parents_spent c at marks kind before after e (inl list) same = absurd (no_place at (sym list.is ∙ same))
+parents_spent c at marks kind before after e (inr (inl text)) same = absurd (no_text c e text same)
+parents_spent c at marks kind before after e (inr (inr entry)) same =
+    texts_spent c (parents_at c at entry.place) before after e entry.fault same
+
+choice_spent : (c : List ℕ) (left : Budget) (e : CacheFault) → IsAliasFault c e ⊎ IsSearchFault c left e → e ≡ Spent
+    → left.records ≡ 0
+choice_spent c left e (inl alias) same = absurd (no_alias c e alias same)
+choice_spent c left e (inr (inl some)) same =
+    parents_spent c (field c 0 2) some.marks some.kind some.before left.records e some.fault same
+choice_spent c left e (inr (inr (inl alias))) same = absurd (no_alias c e alias same)
+choice_spent c left e (inr (inr (inr memory))) same = absurd (no_memory e memory same)
+
+-- that a stop says that it is used up means so
+abbrev pub SaysUsedUp : List ℕ → Budget → Type 0 → Cause → Type 0
+SaysUsedUp c left NoContent stop = stop ≡ cause.Cache Spent → IsUsedUp c NoContent left
+
+-- the fault that a cause tells
+abbrev fault_in : Cause → CacheFault
+fault_in cause.NameTooLong = OutOfMemory
+fault_in (cause.Cache e) = e
+fault_in cause.Read = OutOfMemory
+fault_in cause.OutOfMemory = OutOfMemory
+
+-- magic does where no record is left, or fewer value bytes than a line states
+module _ (c : List ℕ) (left : Budget) (NoContent : Type 0) (content : NoContent → ⊥) where
+  line_spent : (r : ℕ) (e : CacheFault) → IsLineFault c r left e → e ≡ Spent → IsUsedUp c NoContent left
+  line_spent r e (inl value) same = absurd (no_place _ (sym value.is ∙ same))
+  line_spent r e (inr (inl block)) same = absurd (no_place _ (sym block.is ∙ same))
+  line_spent r e (inr (inr (inl (is, inl records)))) same = inl records
+  line_spent r e (inr (inr (inl (is, inr value)))) same = inr (content, r, value)
+  line_spent r e (inr (inr (inr deep))) same =
+      let both : TooDeep ≡ Spent = sym deep.0 ∙ same in
+      absurd cc
+
+  magic_spent : (at : ℕ) (e : CacheFault) → IsMagicFault c at left e → e ≡ Spent → IsUsedUp c NoContent left
+  magic_spent at e (inl head) same = absurd (no_place at (sym head.1 ∙ same))
+  magic_spent at e (inr (inl block)) same = absurd (no_place _ (sym block.is ∙ same))
+  magic_spent at e (inr (inr (inl block))) same = absurd (no_place _ (sym block.1.is ∙ same))
+  magic_spent at e (inr (inr (inr (inl spent)))) same = inl spent.1
+  magic_spent at e (inr (inr (inr (inr (inl lines))))) same = line_spent lines.0 e lines.1 same
+  magic_spent at e (inr (inr (inr (inr (inr text))))) same = absurd (no_text c e text same)
+
+  sniff_fault_spent : (e : CacheFault) → IsSniffFault c left e → e ≡ Spent → IsUsedUp c NoContent left
+  sniff_fault_spent e (inl head) same = absurd (no_place (field c 0 6) (sym head.1 ∙ same))
+  sniff_fault_spent e (inr magic) same = magic_spent (field c 0 6) e magic same
+
+  sniff_spent : (stop : Cause) → IsStop (IsSniffFault c left) stop → SaysUsedUp c left NoContent stop
+  sniff_spent stop (inl read) same =
+      let both : cause.Read ≡ cause.Cache Spent = sym read ∙ same in
+      absurd cc
+  sniff_spent stop (inr (inl memory)) same =
+      let both : cause.OutOfMemory ≡ cause.Cache Spent = sym memory ∙ same in
+      absurd cc
+  sniff_spent stop (inr (inr other)) same =
+      sniff_fault_spent other.0 other.3 (ap fault_in (sym other.1 ∙ same))
+
+  pub sniff_used_up : {X : Type 0} (stop : Cause) (result : Result X Cause) → IsErrAnd result (λ passed. passed ≡ stop)
+      → IsStop (IsSniffFault c left) stop → IfErr result (SaysUsedUp c left NoContent)
+  sniff_used_up stop result same fault = passed_on (SaysUsedUp c left NoContent) stop result same (sniff_spent stop fault)
+
+-- a step stopped for a fault, which is passed on
+pub passed_spent : {X : Type 0} (c : List ℕ) (left : Budget) (NoContent : Type 0) (e : CacheFault) (result : Result X Cause)
+    → IsErrAnd result (λ stop. stop ≡ cause_of e) → (e ≡ Spent → left.records ≡ 0) → IfErr result (SaysUsedUp c left NoContent)
+passed_spent c left NoContent e result same spent =
+    passed_on (SaysUsedUp c left NoContent) (cause_of e) result same (λ is. inl (spent (spent_fault e is)))
+
+pub globs_used_up : {X : Type 0} (c : List ℕ) (left : Budget) (NoContent : Type 0) (e : CacheFault) (result : Result X Cause)
+    → IsErrAnd result (λ stop. stop ≡ cause_of e) → IsGlobsFault c left e → IfErr result (SaysUsedUp c left NoContent)
+globs_used_up c left NoContent e result same fault = passed_spent c left NoContent e result same (globs_spent c left e fault)
+
+pub choice_used_up : {X : Type 0} (c : List ℕ) (left : Budget) (NoContent : Type 0) (e : CacheFault) (result : Result X Cause)
+    → IsErrAnd result (λ stop. stop ≡ cause_of e) → IsAliasFault c e ⊎ IsSearchFault c left e
+    → IfErr result (SaysUsedUp c left NoContent)
+choice_used_up c left NoContent e result same fault = passed_spent c left NoContent e result same (choice_spent c left e fault)
+
+-- what was left of a cache's own budget, after the header and all steps
+pub uses_up : (c cache : List ℕ) (NoContent : Type 0) (each value more : ℕ) (old left : Budget) (before after : Meter)
+    → cache ≡ c → length c ≤ 268435456 → old.records ≡ length cache / 4 → old.value_bytes ≡ length cache → 1 ≤ before.nodes
+    → Costs each value more old left before after → IsUsedUp cache NoContent left → UsesUp c NoContent after.nodes
+uses_up c cache NoContent each value more old left before after same limit records value_bytes one cost used =
+    let size : length cache ≡ length c = ap length same in
+    record {
+      left = left;
+      records = omega (arith, cost.fair, one, records, size, limit);
+      value_bytes = omega (arith, cost.value_bytes, value_bytes, size);
+      used_up = subst (λ (bytes : List ℕ). IsUsedUp bytes NoContent left) same used;
+    }
