@@ -5,6 +5,7 @@ mod directories;
 mod faults;
 mod files;
 mod from_texts;
+mod ran;
 mod rows;
 mod system;
 mod texts;

@@ -1,10 +1,12 @@
 //! What `build` stores, and what it says.
 
+use crate::tests::ran::{Said, alike, says};
 use crate::{Drawer, Entry, FailingDrawer, Shelf};
 use mime_base::{Database, GlobRule, Pattern, TypeName};
 use mime_store::write_cache;
-use mime_tool::{FileFault, Files, run};
+use mime_tool::{FileFault, Files};
 use std::alloc::Global;
+use std::process::Abort;
 use std::test::Fail;
 
 // The text files of the directories, in the order in which they are read.
@@ -52,85 +54,135 @@ fn rule(alloc: Global, weight: u8, kind: &[u8], pattern: &[u8]) -> Result<GlobRu
     })
 }
 
+const RULES: [(u8, &[u8], &[u8]); 2] = [(50, b"t/a", b"*.a"), (60, b"t/b", b"*.b")];
+
+// The rules of both directories.
+fn rules_of_both(alloc: Global) -> Result<Vec<GlobRule>, Fail> {
+    let mut rules = Vec::new(alloc);
+    for (weight, kind, pattern) in RULES {
+        let rule = rule(alloc, weight, kind, pattern)?;
+        rules.push(rule)?;
+    }
+    Ok(rules)
+}
+
 // The cache of the rules of both directories.
 fn cache_of_both(alloc: Global) -> Result<Vec<u8>, Fail> {
-    let mut rules = Vec::new(alloc);
-    rules.push(rule(alloc, 50, b"t/a", b"*.a")?)?;
-    rules.push(rule(alloc, 60, b"t/b", b"*.b")?)?;
+    let rules = rules_of_both(alloc)?;
     let database = Database::of_rules(alloc, rules);
     Ok(write_cache(alloc, &database, 1_024)?)
 }
 
+/// What files store at a path.
+fn stored<F: Files>(alloc: Global, files: &mut F, path: &str) -> Result<Option<Vec<u8>>, Fail> {
+    Ok(files.whole(alloc, path)?)
+}
+
+/// What was stored at `/c` is the cache of both directories, and nothing is left beside it.
+fn is_stored(rt: &impl Abort, alloc: Global, files: &mut Drawer<'_>) -> Result<(), Fail> {
+    let cache = stored(alloc, files, "/c")?.ok_or("nothing was stored")?;
+    alike(rt, "version 1.2", cache.starts_with(b"\0\x01\0\x02"), true);
+    alike(rt, "the cache", cache, cache_of_both(alloc)?);
+    alike(rt, "/c.new", stored(alloc, files, "/c.new")?, None);
+    Ok(())
+}
+
 #[test]
 fn stores_the_cache_of_the_database(rt: HostRuntime) -> Result<(), Fail> {
-    let alloc = rt.alloc();
+    let wanted = Said {
+        status: 0,
+        out: "",
+        err: IGNORED,
+    };
     let mut files = drawer();
-    let mut out = Vec::new(alloc);
-    let mut err = Vec::new(alloc);
-    let status = run(alloc, &WORDS, &mut files, &mut out, &mut err);
-    assert_eq!(rt; status, 0);
-    assert!(rt; out.is_empty());
-    assert_eq!(rt; str::from_utf8(err.as_slice())?, IGNORED);
-    let stored = files.whole(alloc, "/c")?.ok_or("nothing was stored")?;
-    // Version 1.2.
-    assert!(rt; stored.as_slice().starts_with(b"\0\x01\0\x02"));
-    assert_eq!(rt; stored.as_slice(), cache_of_both(alloc)?.as_slice());
-    assert!(rt; files.whole(alloc, "/c.new")?.is_none());
+    says(
+        &rt,
+        rt.alloc(),
+        "both directories",
+        &WORDS,
+        &mut files,
+        wanted,
+    )?;
+    is_stored(&rt, rt.alloc(), &mut files)
+}
+
+/// Nothing is stored at `/f`.
+fn is_not_stored(rt: &impl Abort, alloc: Global, files: &mut Drawer<'_>) -> Result<(), Fail> {
+    alike(rt, "/f", stored(alloc, files, "/f")?, None);
     Ok(())
 }
 
 #[test]
 fn says_what_cannot_be_written(rt: HostRuntime) -> Result<(), Fail> {
-    let alloc = rt.alloc();
-    let mut files = drawer();
-    let mut out = Vec::new(alloc);
-    let mut err = Vec::new(alloc);
+    let wanted = Said {
+        status: 3,
+        out: "",
+        err: "mimelook: /f: cannot write\n",
+    };
     let words = ["build", "-d", "/e", "-o", "/f"];
-    let status = run(alloc, &words, &mut files, &mut out, &mut err);
-    assert_eq!(rt; status, 3);
-    assert!(rt; out.is_empty());
-    assert_eq!(rt;
-        str::from_utf8(err.as_slice())?,
-        "mimelook: /f: cannot write\n"
-    );
-    assert!(rt; files.whole(alloc, "/f")?.is_none());
+    let mut files = drawer();
+    says(&rt, rt.alloc(), "another file", &words, &mut files, wanted)?;
+    is_not_stored(&rt, rt.alloc(), &mut files)
+}
+
+/// Of these files a call fails: the run ends as is wanted, and the file stays.
+fn leaves_the_file(
+    rt: &impl Abort,
+    alloc: Global,
+    at: &str,
+    files: &mut FailingDrawer<'_>,
+    wanted: Said<'_>,
+) -> Result<(), Fail> {
+    says(rt, alloc, at, &WORDS, files, wanted)?;
+    let cache = stored(alloc, &mut files.drawer, "/c")?.ok_or("the file is gone")?;
+    alike(rt, at, cache.as_slice(), b"old");
     Ok(())
 }
 
-// So many calls are met, and then one fails.
+/// What is said of the call that fails after so many.
+fn unmet(alloc: Global, calls: usize) -> Result<String, Fail> {
+    Ok(match DATA.get(calls) {
+        Some(path) => format!(in alloc; "mimelook: {path}: cannot read\n")?,
+        None => format!(in alloc; "mimelook: /c: cannot write\n")?,
+    })
+}
+
+/// So many calls are met, and then one fails so: this is said, after what is said of an ignored line.
+fn is_left(
+    rt: &impl Abort,
+    alloc: Global,
+    calls: usize,
+    (fault, status): (FileFault, u8),
+    message: &str,
+) -> Result<(), Fail> {
+    let ignored = if calls == 0 { "" } else { IGNORED };
+    let said = format!(in alloc; "{ignored}{message}")?;
+    let wanted = Said {
+        status,
+        out: "",
+        err: said.as_str(),
+    };
+    let at = format!(in alloc; "at {calls}")?;
+    let mut files = FailingDrawer {
+        drawer: drawer(),
+        calls,
+        fault,
+    };
+    leaves_the_file(rt, alloc, at.as_str(), &mut files, wanted)
+}
+
+/// So many calls are met, and then one fails, for each reason.
+fn is_left_at(rt: &impl Abort, alloc: Global, calls: usize) -> Result<(), Fail> {
+    let memory = (FileFault::OutOfMemory, 4);
+    is_left(rt, alloc, calls, memory, "mimelook: out of memory\n")?;
+    let message = unmet(alloc, calls)?;
+    is_left(rt, alloc, calls, (FileFault::Failed, 3), &message)
+}
+
 #[test]
 fn leaves_the_file_where_a_call_fails(rt: HostRuntime) -> Result<(), Fail> {
-    let alloc = rt.alloc();
     for calls in 0..=DATA.len() {
-        let unmet = match DATA.get(calls) {
-            Some(path) => format!(in alloc; "mimelook: {path}: cannot read\n")?,
-            None => format!(in alloc; "mimelook: /c: cannot write\n")?,
-        };
-        let faults = [
-            (FileFault::Failed, 3, unmet.as_str()),
-            (FileFault::OutOfMemory, 4, "mimelook: out of memory\n"),
-        ];
-        for (fault, want, message) in faults {
-            let ignored = if calls == 0 { "" } else { IGNORED };
-            let said = format!(in alloc; "{ignored}{message}")?;
-            let mut files = FailingDrawer {
-                drawer: drawer(),
-                calls,
-                fault,
-            };
-            let mut out = Vec::new(alloc);
-            let mut err = Vec::new(alloc);
-            let status = run(alloc, &WORDS, &mut files, &mut out, &mut err);
-            assert_eq!(rt; status, want, "at {calls}");
-            assert!(rt; out.is_empty(), "at {calls}");
-            assert_eq!(rt;
-                str::from_utf8(err.as_slice())?,
-                said.as_str(),
-                "at {calls}"
-            );
-            let stored = files.drawer.whole(alloc, "/c")?.ok_or("the file is gone")?;
-            assert_eq!(rt; stored.as_slice(), b"old".as_slice(), "at {calls}");
-        }
+        is_left_at(&rt, rt.alloc(), calls)?;
     }
     Ok(())
 }

@@ -7,8 +7,8 @@ mod faults;
 mod files;
 mod sample;
 
-use crate::{Entry, Shelf};
-use mime_tool::run;
+use crate::Entry;
+use crate::tests::ran::{Said, says_over};
 use sample::SAMPLE;
 use std::alloc::Global;
 use std::process::Abort;
@@ -59,16 +59,18 @@ fn are_answered(rt: &impl Abort, alloc: Global, rows: &[Row]) -> Result<(), Fail
 /// A row is answered by its texts.
 fn is_answered(rt: &impl Abort, alloc: Global, row: &Row) -> Result<(), Fail> {
     let cache = bytes_of(alloc, &row.cache)?;
-    let entries = entries_beside(cache.as_slice());
-    let mut files = Shelf { entries: &entries };
-    let mut out = Vec::new(alloc);
-    let mut err = Vec::new(alloc);
-    let status = run(alloc, row.words, &mut files, &mut out, &mut err);
-    let name = row.name;
-    assert_eq!(rt; str::from_utf8(err.as_slice())?, row.err, "{name}");
-    assert_eq!(rt; str::from_utf8(out.as_slice())?, row.out, "{name}");
-    assert_eq!(rt; status, row.status, "{name}");
-    Ok(())
+    is_answered_over(rt, alloc, row, cache.as_slice())
+}
+
+/// A row is answered by its texts over this cache.
+fn is_answered_over(rt: &impl Abort, alloc: Global, row: &Row, cache: &[u8]) -> Result<(), Fail> {
+    let wanted = Said {
+        status: row.status,
+        out: row.out,
+        err: row.err,
+    };
+    let entries = entries_beside(cache);
+    says_over(rt, alloc, row.name, row.words, &entries, wanted)
 }
 
 /// The cache, and the files beside it.

@@ -1,7 +1,9 @@
 //! What is printed for files that are opened.
 
-use crate::{Entry, Shelf};
-use mime_tool::run;
+use crate::Entry;
+use crate::tests::ran::{Said, says_over};
+use std::alloc::Global;
+use std::process::Abort;
 use std::test::Fail;
 
 struct Row {
@@ -11,6 +13,19 @@ struct Row {
     status: u8,
     out: &'static str,
     err: &'static str,
+}
+
+/// Each row is answered by its texts.
+fn are_answered(rt: &impl Abort, alloc: Global, rows: &[Row]) -> Result<(), Fail> {
+    for row in rows {
+        let wanted = Said {
+            status: row.status,
+            out: row.out,
+            err: row.err,
+        };
+        says_over(rt, alloc, row.name, row.words, row.entries, wanted)?;
+    }
+    Ok(())
 }
 
 // 127 bytes `a`, and a zero byte.
@@ -74,19 +89,7 @@ const BY_CONTENT: [Row; 3] = [
 
 #[test]
 fn answers_by_content(rt: HostRuntime) -> Result<(), Fail> {
-    for row in &BY_CONTENT {
-        let mut files = Shelf {
-            entries: row.entries,
-        };
-        let mut out = Vec::new(rt.alloc());
-        let mut err = Vec::new(rt.alloc());
-        let status = run(rt.alloc(), row.words, &mut files, &mut out, &mut err);
-        let name = row.name;
-        assert_eq!(rt; status, row.status, "{name}");
-        assert_eq!(rt; str::from_utf8(out.as_slice())?, row.out, "{name}");
-        assert_eq!(rt; str::from_utf8(err.as_slice())?, row.err, "{name}");
-    }
-    Ok(())
+    are_answered(&rt, rt.alloc(), &BY_CONTENT)
 }
 
 const IN_ORDER: [Row; 4] = [
@@ -154,19 +157,7 @@ const IN_ORDER: [Row; 4] = [
 
 #[test]
 fn asks_globs_or_magic_first(rt: HostRuntime) -> Result<(), Fail> {
-    for row in &IN_ORDER {
-        let mut files = Shelf {
-            entries: row.entries,
-        };
-        let mut out = Vec::new(rt.alloc());
-        let mut err = Vec::new(rt.alloc());
-        let status = run(rt.alloc(), row.words, &mut files, &mut out, &mut err);
-        let name = row.name;
-        assert_eq!(rt; status, row.status, "{name}");
-        assert_eq!(rt; str::from_utf8(out.as_slice())?, row.out, "{name}");
-        assert_eq!(rt; str::from_utf8(err.as_slice())?, row.err, "{name}");
-    }
-    Ok(())
+    are_answered(&rt, rt.alloc(), &IN_ORDER)
 }
 
 const OF_DIRECTORIES: [Row; 2] = [
@@ -196,19 +187,7 @@ const OF_DIRECTORIES: [Row; 2] = [
 
 #[test]
 fn prefers_the_first_directory(rt: HostRuntime) -> Result<(), Fail> {
-    for row in &OF_DIRECTORIES {
-        let mut files = Shelf {
-            entries: row.entries,
-        };
-        let mut out = Vec::new(rt.alloc());
-        let mut err = Vec::new(rt.alloc());
-        let status = run(rt.alloc(), row.words, &mut files, &mut out, &mut err);
-        let name = row.name;
-        assert_eq!(rt; status, row.status, "{name}");
-        assert_eq!(rt; str::from_utf8(out.as_slice())?, row.out, "{name}");
-        assert_eq!(rt; str::from_utf8(err.as_slice())?, row.err, "{name}");
-    }
-    Ok(())
+    are_answered(&rt, rt.alloc(), &OF_DIRECTORIES)
 }
 
 const WITHOUT_A_LINE: [Row; 5] = [
@@ -277,42 +256,30 @@ const WITHOUT_A_LINE: [Row; 5] = [
 
 #[test]
 fn says_why_a_file_has_no_line(rt: HostRuntime) -> Result<(), Fail> {
-    for row in &WITHOUT_A_LINE {
-        let mut files = Shelf {
-            entries: row.entries,
-        };
-        let mut out = Vec::new(rt.alloc());
-        let mut err = Vec::new(rt.alloc());
-        let status = run(rt.alloc(), row.words, &mut files, &mut out, &mut err);
-        let name = row.name;
-        assert_eq!(rt; status, row.status, "{name}");
-        assert_eq!(rt; str::from_utf8(out.as_slice())?, row.out, "{name}");
-        assert_eq!(rt; str::from_utf8(err.as_slice())?, row.err, "{name}");
-    }
-    Ok(())
+    are_answered(&rt, rt.alloc(), &WITHOUT_A_LINE)
 }
 
-// What is said of a file whose name is too long, by what is stored there.
+/// A file whose name is too long is refused for what is stored there, if that can't be opened, and else for its name.
+fn is_refused(rt: &impl Abort, alloc: Global, opens: bool, why: &str) -> Result<(), Fail> {
+    let long = "a".repeat(alloc, 4_097)?;
+    let message = format!(in alloc; "mimelook: {long}: {why}\n")?;
+    let wanted = Said {
+        status: 1,
+        out: "",
+        err: message.as_str(),
+    };
+    let words = ["plain", "-d", "", long.as_str()];
+    let entry = if opens {
+        Entry::Unreadable
+    } else {
+        Entry::Closed
+    };
+    let entries = [(long.as_str(), entry)];
+    says_over(rt, alloc, why, &words, &entries, wanted)
+}
+
 #[test]
 fn opens_before_it_looks_at_the_name(rt: HostRuntime) -> Result<(), Fail> {
-    let alloc = rt.alloc();
-    let long = "a".repeat(alloc, 4_097)?;
-    for (opens, why) in [(false, "cannot open"), (true, "name too long")] {
-        let entry = if opens {
-            Entry::Unreadable
-        } else {
-            Entry::Closed
-        };
-        let entries = [(long.as_str(), entry)];
-        let mut files = Shelf { entries: &entries };
-        let mut out = Vec::new(alloc);
-        let mut err = Vec::new(alloc);
-        let words = ["plain", "-d", "", long.as_str()];
-        let status = run(alloc, &words, &mut files, &mut out, &mut err);
-        let message = format!(in alloc; "mimelook: {long}: {why}\n")?;
-        assert_eq!(rt; status, 1, "{why}");
-        assert!(rt; out.is_empty(), "{why}");
-        assert_eq!(rt; str::from_utf8(err.as_slice())?, message.as_str());
-    }
-    Ok(())
+    is_refused(&rt, rt.alloc(), false, "cannot open")?;
+    is_refused(&rt, rt.alloc(), true, "name too long")
 }

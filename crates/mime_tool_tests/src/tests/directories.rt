@@ -1,8 +1,12 @@
 //! What is said of the files of data directories.
 
-use crate::{Entry, Shelf};
-use mime_tool::run;
+use crate::Entry;
+use crate::tests::ran::{Said, says_over};
+use std::alloc::Global;
+use std::process::Abort;
 use std::test::Fail;
+
+const WORDS: [&str; 5] = ["plain", "--name-only", "-d", "/b", "x.a"];
 
 struct Row {
     name: &'static str,
@@ -78,17 +82,12 @@ const WRONG: [Row; 4] = [
 #[test]
 fn says_what_is_wrong_with_a_directory(rt: HostRuntime) -> Result<(), Fail> {
     for row in &WRONG {
-        let mut files = Shelf {
-            entries: row.entries,
+        let wanted = Said {
+            status: row.status,
+            out: row.out,
+            err: row.err,
         };
-        let mut out = Vec::new(rt.alloc());
-        let mut err = Vec::new(rt.alloc());
-        let words = ["plain", "--name-only", "-d", "/b", "x.a"];
-        let status = run(rt.alloc(), &words, &mut files, &mut out, &mut err);
-        let name = row.name;
-        assert_eq!(rt; status, row.status, "{name}");
-        assert_eq!(rt; str::from_utf8(out.as_slice())?, row.out, "{name}");
-        assert_eq!(rt; str::from_utf8(err.as_slice())?, row.err, "{name}");
+        says_over(&rt, rt.alloc(), row.name, &WORDS, row.entries, wanted)?;
     }
     Ok(())
 }
@@ -103,22 +102,24 @@ const FAULTS: [(&[u8], &str); 6] = [
     (b"[50:t/a]\n>0=\0\x01a\n2>0=\0\x01a\n", "bad indent at 28"),
 ];
 
+/// A directory whose magic is these bytes is refused for this fault.
+fn is_refused(rt: &impl Abort, alloc: Global, magic: &[u8], fault: &str) -> Result<(), Fail> {
+    let line = format!(in alloc; "mimelook: /b/mime/magic: magic {fault}\n")?;
+    let wanted = Said {
+        status: 3,
+        out: "",
+        err: line.as_str(),
+    };
+    let entries = [("/b/mime/magic", Entry::Bytes(magic))];
+    says_over(rt, alloc, fault, &WORDS, &entries, wanted)
+}
+
 #[test]
 fn names_faults_of_magic(rt: HostRuntime) -> Result<(), Fail> {
-    let alloc = rt.alloc();
     for (text, fault) in FAULTS {
-        let mut magic = b"MIME-Magic\0\n".to_vec(alloc)?;
+        let mut magic = b"MIME-Magic\0\n".to_vec(rt.alloc())?;
         magic.extend_from_slice(text)?;
-        let entries = [("/b/mime/magic", Entry::Bytes(magic.as_slice()))];
-        let mut files = Shelf { entries: &entries };
-        let mut out = Vec::new(alloc);
-        let mut err = Vec::new(alloc);
-        let words = ["plain", "--name-only", "-d", "/b", "x.a"];
-        let status = run(alloc, &words, &mut files, &mut out, &mut err);
-        let line = format!(in alloc; "mimelook: /b/mime/magic: magic {fault}\n")?;
-        assert_eq!(rt; status, 3, "{fault}");
-        assert!(rt; out.is_empty(), "{fault}");
-        assert_eq!(rt; str::from_utf8(err.as_slice())?, line.as_str(), "{fault}");
+        is_refused(&rt, rt.alloc(), magic.as_slice(), fault)?;
     }
     Ok(())
 }
@@ -133,14 +134,5 @@ fn names_the_first_line_that_is_too_deep(rt: HostRuntime) -> Result<(), Fail> {
         let line = format!(in alloc; "{indent}>0=\0\x01a\n")?;
         magic.extend_from_slice(line.as_bytes())?;
     }
-    let entries = [("/b/mime/magic", Entry::Bytes(magic.as_slice()))];
-    let mut files = Shelf { entries: &entries };
-    let mut out = Vec::new(alloc);
-    let mut err = Vec::new(alloc);
-    let words = ["plain", "--name-only", "-d", "/b", "x.a"];
-    let status = run(alloc, &words, &mut files, &mut out, &mut err);
-    let want = "mimelook: /b/mime/magic: magic too deep at 587\n";
-    assert_eq!(rt; status, 3);
-    assert_eq!(rt; str::from_utf8(err.as_slice())?, want);
-    Ok(())
+    is_refused(&rt, alloc, magic.as_slice(), "too deep at 587")
 }

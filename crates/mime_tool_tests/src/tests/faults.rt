@@ -1,11 +1,17 @@
 //! Files and sinks that fail.
 
+use crate::tests::ran::{Said, alike, ran, says, shows};
 use crate::{Entry, FailingFiles, FailingSink, Shelf, Slate};
 use arrayvec::ArrayVec;
-use mime_tool::{FileFault, SinkFault, run};
+use mime_tool::{FileFault, Sink, SinkFault};
+use std::alloc::Global;
+use std::process::Abort;
 use std::test::Fail;
 
-const GLOBS: &[u8] = b"50:t/a:*.a\nnothing\n";
+const ENTRIES: &[(&str, Entry<'static>)] = &[(
+    "/s/mime/globs2",
+    Entry::Bytes(b"50:t/a:*.a\nnothing\n"),
+)];
 
 const WORDS: [&str; 7] = ["plain", "--name-only", "-d", "/s", "x.a", "y", "z.a"];
 
@@ -35,40 +41,47 @@ const NO_MEMORY: &str = "mimelook: out of memory\n";
 
 #[test]
 fn names_what_files_fail_with(rt: HostRuntime) -> Result<(), Fail> {
-    let alloc = rt.alloc();
-    let unreadable = "mimelook: /s/mime/globs2: cannot read\n";
-    let faults = [
-        (FileFault::Failed, 3, unreadable),
-        (FileFault::OutOfMemory, 4, NO_MEMORY),
-    ];
-    for (fault, want, message) in faults {
-        let mut files = FailingFiles(fault);
-        let mut out = Vec::new(alloc);
-        let mut err = Vec::new(alloc);
-        let status = run(alloc, &WORDS, &mut files, &mut out, &mut err);
-        assert_eq!(rt; status, want);
-        assert!(rt; out.is_empty());
-        assert_eq!(rt; err.as_slice(), message.as_bytes());
-    }
-    Ok(())
+    let unreadable = Said {
+        status: 3,
+        out: "",
+        err: "mimelook: /s/mime/globs2: cannot read\n",
+    };
+    let mut files = FailingFiles(FileFault::Failed);
+    says(&rt, rt.alloc(), "failed", &WORDS, &mut files, unreadable)?;
+    let out_of_memory = Said {
+        status: 4,
+        out: "",
+        err: NO_MEMORY,
+    };
+    let mut files = FailingFiles(FileFault::OutOfMemory);
+    says(
+        &rt,
+        rt.alloc(),
+        "no memory",
+        &WORDS,
+        &mut files,
+        out_of_memory,
+    )
+}
+
+/// A run is out of memory, and prints nothing.
+fn is_out_of_memory<E: Sink>(rt: &impl Abort, alloc: Global, err: &mut E) {
+    let mut out = Vec::new(alloc);
+    let mut files = FailingFiles(FileFault::OutOfMemory);
+    let status = ran(alloc, &WORDS, &mut files, &mut out, err);
+    alike(rt, "status", status, 4);
+    alike(rt, "printed", out.is_empty(), true);
 }
 
 // Standard error is told of it whole where it has room for all of it, and isn't where it lacks one byte.
 #[test]
-fn says_out_of_memory_where_there_is_room(rt: HostRuntime) -> Result<(), Fail> {
-    let alloc = rt.alloc();
-    let mut files = FailingFiles(FileFault::OutOfMemory);
-    let mut out = Vec::new(alloc);
+fn says_out_of_memory_where_there_is_room(rt: HostRuntime) {
     let mut just = Slate::<24>(ArrayVec::new());
-    let status = run(alloc, &WORDS, &mut files, &mut out, &mut just);
-    assert_eq!(rt; status, 4);
-    assert_eq!(rt; just.0.as_slice(), NO_MEMORY.as_bytes());
+    is_out_of_memory(&rt, rt.alloc(), &mut just);
+    alike(&rt, "24 bytes", just.0.as_slice(), NO_MEMORY.as_bytes());
     let mut less = Slate::<23>(ArrayVec::new());
-    let status = run(alloc, &WORDS, &mut files, &mut out, &mut less);
-    assert_eq!(rt; status, 4);
-    assert!(rt; less.0.is_empty());
-    assert!(rt; out.is_empty());
-    Ok(())
+    is_out_of_memory(&rt, rt.alloc(), &mut less);
+    alike(&rt, "23 bytes", less.0.as_slice(), b"");
 }
 
 /// Faults of standard output, how many calls meet one, and how the run stops then.
@@ -111,78 +124,145 @@ const FAULTS: [Row; 4] = [
     },
 ];
 
-// The first calls are met, then one fails, or all of them from there on. What was put before it
-// stays, whole, and is flushed where the sink lets it.
+/// A run's status, what standard output took and how much of it was flushed, and what was said.
+#[derive(Clone, Copy)]
+struct Taken<'a> {
+    status: u8,
+    out: &'a str,
+    flushed: usize,
+    err: &'a str,
+}
+
+/// A run over the rules, with these streams, ends so.
+fn is_taken(
+    rt: &impl Abort,
+    alloc: Global,
+    name: &str,
+    words: &[&str],
+    streams: (FailingSink, FailingSink),
+    wanted: Taken<'_>,
+) {
+    let mut files = Shelf { entries: ENTRIES };
+    let (mut out, mut err) = streams;
+    let status = ran(alloc, words, &mut files, &mut out, &mut err);
+    alike(rt, name, status, wanted.status);
+    shows(rt, name, out.taken.as_slice(), wanted.out);
+    shows(rt, name, err.taken.as_slice(), wanted.err);
+    alike(rt, name, out.flushed, wanted.flushed);
+}
+
+/// A sink of which no call fails.
+fn sound(alloc: Global) -> FailingSink {
+    FailingSink::new(alloc, 0, 0, SinkFault::Failed)
+}
+
+/// The first calls are met, then one fails, or all of them from there on. What was put before it stays, whole, and is
+/// flushed where the sink lets it.
+fn stops(rt: &impl Abort, alloc: Global, row: &Row, calls: usize, put: &str) -> Result<(), Fail> {
+    let at = format!(in alloc; "{} at {calls}", row.name)?;
+    let said = format!(in alloc; "{IGNORED}{}", row.message)?;
+    let is_flushed = row.times == 1 && calls < PIECES.len();
+    let wanted = Taken {
+        status: row.status,
+        out: put,
+        flushed: if is_flushed { put.len() } else { 0 },
+        err: said.as_str(),
+    };
+    let out = FailingSink::new(alloc, calls, row.times, row.fault);
+    is_taken(rt, alloc, at.as_str(), &WORDS, (out, sound(alloc)), wanted);
+    Ok(())
+}
+
+/// A run stops at each call in turn.
+fn stops_at_each(rt: &impl Abort, alloc: Global, row: &Row) -> Result<(), Fail> {
+    let mut put = String::new(alloc);
+    for calls in 0..=PIECES.len() {
+        stops(rt, alloc, row, calls, &put)?;
+        put.push_str(PIECES.get(calls).unwrap_or(&""))?;
+    }
+    alike(rt, row.name, put.as_str(), OUTPUT);
+    Ok(())
+}
+
 #[test]
 fn stops_at_each_failing_write(rt: HostRuntime) -> Result<(), Fail> {
-    let alloc = rt.alloc();
-    let entries = [("/s/mime/globs2", Entry::Bytes(GLOBS))];
     for row in &FAULTS {
-        let said = format!(in alloc; "{IGNORED}{}", row.message)?;
-        let mut put = String::new(alloc);
-        for calls in 0..=PIECES.len() {
-            let at = format!(in alloc; "{} at {calls}", row.name)?;
-            let mut files = Shelf { entries: &entries };
-            let mut out = FailingSink::new(alloc, calls, row.times, row.fault);
-            let mut err = Vec::new(alloc);
-            let status = run(alloc, &WORDS, &mut files, &mut out, &mut err);
-            let is_flushed = row.times == 1 && calls < PIECES.len();
-            let flushed = if is_flushed { put.len() } else { 0 };
-            assert_eq!(rt; status, row.status, "{at}");
-            assert_eq!(rt; str::from_utf8(out.taken.as_slice())?, put.as_str(), "{at}");
-            assert_eq!(rt; str::from_utf8(err.as_slice())?, said.as_str(), "{at}");
-            assert_eq!(rt; out.flushed, flushed, "{at}");
-            put.push_str(PIECES.get(calls).unwrap_or(&""))?;
-        }
-        assert_eq!(rt; put.as_str(), OUTPUT, "{}", row.name);
+        stops_at_each(&rt, rt.alloc(), row)?;
     }
     Ok(())
 }
 
 #[test]
-fn flushes_all_lines(rt: HostRuntime) -> Result<(), Fail> {
-    let alloc = rt.alloc();
-    let entries = [("/s/mime/globs2", Entry::Bytes(GLOBS))];
-    let mut files = Shelf { entries: &entries };
-    let mut out = FailingSink::new(alloc, 0, 0, SinkFault::Failed);
-    let mut err = Vec::new(alloc);
-    let status = run(alloc, &WORDS, &mut files, &mut out, &mut err);
-    assert_eq!(rt; status, 0);
-    assert_eq!(rt; str::from_utf8(out.taken.as_slice())?, OUTPUT);
-    assert_eq!(rt; out.flushed, OUTPUT.len());
-    assert_eq!(rt; str::from_utf8(err.as_slice())?, IGNORED);
-    Ok(())
+fn flushes_all_lines(rt: HostRuntime) {
+    let wanted = Taken {
+        status: 0,
+        out: OUTPUT,
+        flushed: OUTPUT.len(),
+        err: IGNORED,
+    };
+    let streams = (sound(rt.alloc()), sound(rt.alloc()));
+    is_taken(&rt, rt.alloc(), "no fault", &WORDS, streams, wanted);
+}
+
+/// A fault of standard error after so many calls, and what is printed and said then.
+struct Message {
+    name: &'static str,
+    fault: SinkFault,
+    calls: usize,
+    status: u8,
+    out: &'static str,
+    err: &'static str,
 }
 
 // A message is two calls: its bytes, and a flush.
+const MESSAGES: [Message; 4] = [
+    Message {
+        name: "a fault of the bytes",
+        fault: SinkFault::Failed,
+        calls: 0,
+        status: 0,
+        out: OUTPUT,
+        err: "",
+    },
+    Message {
+        name: "a fault of the flush",
+        fault: SinkFault::Failed,
+        calls: 1,
+        status: 0,
+        out: OUTPUT,
+        err: IGNORED,
+    },
+    Message {
+        name: "no memory for the bytes",
+        fault: SinkFault::OutOfMemory,
+        calls: 0,
+        status: 4,
+        out: "",
+        err: "",
+    },
+    Message {
+        name: "no memory for the flush",
+        fault: SinkFault::OutOfMemory,
+        calls: 1,
+        status: 4,
+        out: "",
+        err: IGNORED,
+    },
+];
+
 #[test]
-fn passes_over_faults_of_messages(rt: HostRuntime) -> Result<(), Fail> {
+fn passes_over_faults_of_messages(rt: HostRuntime) {
     let alloc = rt.alloc();
-    let entries = [("/s/mime/globs2", Entry::Bytes(GLOBS))];
-    let rows = [
-        (SinkFault::Failed, 0, 0, OUTPUT, ""),
-        (SinkFault::Failed, 1, 0, OUTPUT, IGNORED),
-        (SinkFault::OutOfMemory, 0, 4, "", ""),
-        (SinkFault::OutOfMemory, 1, 4, "", IGNORED),
-    ];
-    for (fault, calls, want, printed, said) in rows {
-        let mut files = Shelf { entries: &entries };
-        let mut out = Vec::new(alloc);
-        let mut err = FailingSink::new(alloc, calls, usize::MAX, fault);
-        let status = run(alloc, &WORDS, &mut files, &mut out, &mut err);
-        assert_eq!(rt; status, want, "{fault:?} at {calls}");
-        assert_eq!(rt;
-            str::from_utf8(out.as_slice())?,
-            printed,
-            "{fault:?} at {calls}"
-        );
-        assert_eq!(rt;
-            str::from_utf8(err.taken.as_slice())?,
-            said,
-            "{fault:?} at {calls}"
-        );
+    for row in &MESSAGES {
+        let wanted = Taken {
+            status: row.status,
+            out: row.out,
+            flushed: row.out.len(),
+            err: row.err,
+        };
+        let err = FailingSink::new(alloc, row.calls, usize::MAX, row.fault);
+        is_taken(&rt, alloc, row.name, &WORDS, (sound(alloc), err), wanted);
     }
-    Ok(())
 }
 
 // Memory runs out at the message on the second file: the line of the first one is flushed.
@@ -190,15 +270,15 @@ fn passes_over_faults_of_messages(rt: HostRuntime) -> Result<(), Fail> {
 fn flushes_what_was_printed_before_memory_ran_out(rt: HostRuntime) -> Result<(), Fail> {
     let alloc = rt.alloc();
     let long = "a".repeat(alloc, 4_097)?;
-    let words = ["plain", "--name-only", "-d", "", "x", long.as_str(), "y"];
     let line = "x: application/octet-stream\n";
-    let mut files = Shelf { entries: &[] };
-    let mut out = FailingSink::new(alloc, 0, 0, SinkFault::Failed);
-    let mut err = FailingSink::new(alloc, 0, 1, SinkFault::OutOfMemory);
-    let status = run(alloc, &words, &mut files, &mut out, &mut err);
-    assert_eq!(rt; status, 4);
-    assert_eq!(rt; str::from_utf8(out.taken.as_slice())?, line);
-    assert_eq!(rt; out.flushed, line.len());
-    assert_eq!(rt; str::from_utf8(err.taken.as_slice())?, NO_MEMORY);
+    let wanted = Taken {
+        status: 4,
+        out: line,
+        flushed: line.len(),
+        err: NO_MEMORY,
+    };
+    let words = ["plain", "--name-only", "-d", "", "x", long.as_str(), "y"];
+    let err = FailingSink::new(alloc, 0, 1, SinkFault::OutOfMemory);
+    is_taken(&rt, alloc, "no memory", &words, (sound(alloc), err), wanted);
     Ok(())
 }

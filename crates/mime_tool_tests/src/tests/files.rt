@@ -1,7 +1,10 @@
 //! Files of which each call fails in turn.
 
+use crate::tests::ran::{Said, says};
 use crate::{Entry, FailingShelf, Shelf};
-use mime_tool::{FileFault, run};
+use mime_tool::FileFault;
+use std::alloc::Global;
+use std::process::Abort;
 use std::test::Fail;
 
 // The text files of a directory, in the order in which they are read.
@@ -37,26 +40,52 @@ fn failing(calls: usize, fault: FileFault) -> FailingShelf<'static> {
     }
 }
 
+/// After so many calls that are met one fails so, and the run ends as is wanted.
+fn fails(
+    rt: &impl Abort,
+    alloc: Global,
+    name: &str,
+    calls: usize,
+    fault: FileFault,
+    wanted: Said<'_>,
+) -> Result<(), Fail> {
+    says(rt, alloc, name, &WORDS, &mut failing(calls, fault), wanted)
+}
+
+/// A run that ends with this status and says so, after it printed some lines.
+fn said<'a>(status: u8, out: &'a str, err: &'a str) -> Said<'a> {
+    Said { status, out, err }
+}
+
 #[test]
 fn stops_where_the_data_cannot_be_read(rt: HostRuntime) -> Result<(), Fail> {
     let alloc = rt.alloc();
     for (calls, name) in DATA.iter().enumerate() {
         let unreadable = format!(in alloc; "mimelook: /s/mime/{name}: cannot read\n")?;
-        let faults = [
-            (FileFault::Failed, 3, unreadable.as_str()),
-            (FileFault::OutOfMemory, 4, NO_MEMORY),
-        ];
-        for (fault, want, message) in faults {
-            let mut files = failing(calls, fault);
-            let mut out = Vec::new(alloc);
-            let mut err = Vec::new(alloc);
-            let status = run(alloc, &WORDS, &mut files, &mut out, &mut err);
-            assert_eq!(rt; status, want, "{name}");
-            assert!(rt; out.is_empty(), "{name}");
-            assert_eq!(rt; str::from_utf8(err.as_slice())?, message, "{name}");
-        }
+        let failed = said(3, "", unreadable.as_str());
+        fails(&rt, alloc, name, calls, FileFault::Failed, failed)?;
+        let out_of_memory = said(4, "", NO_MEMORY);
+        fails(
+            &rt,
+            alloc,
+            name,
+            calls,
+            FileFault::OutOfMemory,
+            out_of_memory,
+        )?;
     }
     Ok(())
+}
+
+/// The lines of the output less one of them.
+fn lines_without(alloc: Global, at: usize) -> Result<String, Fail> {
+    let mut lines = String::new(alloc);
+    for (other, line) in LINES.iter().enumerate() {
+        if other != at {
+            lines.push_str(line)?;
+        }
+    }
+    Ok(lines)
 }
 
 // What was printed is the run's output less the line of the file.
@@ -64,20 +93,10 @@ fn stops_where_the_data_cannot_be_read(rt: HostRuntime) -> Result<(), Fail> {
 fn goes_on_after_a_file_that_cannot_be_opened(rt: HostRuntime) -> Result<(), Fail> {
     let alloc = rt.alloc();
     for (at, name) in NAMES.iter().enumerate() {
-        let mut lines = String::new(alloc);
-        for (other, line) in LINES.iter().enumerate() {
-            if other != at {
-                lines.push_str(line)?;
-            }
-        }
+        let lines = lines_without(alloc, at)?;
         let message = format!(in alloc; "mimelook: {name}: cannot open\n")?;
-        let mut files = failing(DATA.len() + at, FileFault::Failed);
-        let mut out = Vec::new(alloc);
-        let mut err = Vec::new(alloc);
-        let status = run(alloc, &WORDS, &mut files, &mut out, &mut err);
-        assert_eq!(rt; status, 1, "{name}");
-        assert_eq!(rt; str::from_utf8(out.as_slice())?, lines.as_str(), "{name}");
-        assert_eq!(rt; str::from_utf8(err.as_slice())?, message.as_str(), "{name}");
+        let wanted = said(1, lines.as_str(), message.as_str());
+        fails(&rt, alloc, name, DATA.len() + at, FileFault::Failed, wanted)?;
     }
     Ok(())
 }
@@ -88,19 +107,18 @@ fn stops_where_there_is_no_memory_to_open(rt: HostRuntime) -> Result<(), Fail> {
     let alloc = rt.alloc();
     let mut lines = String::new(alloc);
     for (at, line) in LINES.iter().enumerate() {
-        let mut files = failing(DATA.len() + at, FileFault::OutOfMemory);
-        let mut out = Vec::new(alloc);
-        let mut err = Vec::new(alloc);
-        let status = run(alloc, &WORDS, &mut files, &mut out, &mut err);
-        assert_eq!(rt; status, 4, "{line}");
-        assert_eq!(rt; str::from_utf8(out.as_slice())?, lines.as_str(), "{line}");
-        assert_eq!(rt; str::from_utf8(err.as_slice())?, NO_MEMORY, "{line}");
+        let wanted = said(4, lines.as_str(), NO_MEMORY);
+        fails(
+            &rt,
+            alloc,
+            line,
+            DATA.len() + at,
+            FileFault::OutOfMemory,
+            wanted,
+        )?;
         lines.push_str(line)?;
     }
-    let mut files = failing(DATA.len() + LINES.len(), FileFault::OutOfMemory);
-    let mut out = Vec::new(alloc);
-    let mut err = Vec::new(alloc);
-    assert_eq!(rt; run(alloc, &WORDS, &mut files, &mut out, &mut err), 0);
-    assert_eq!(rt; str::from_utf8(out.as_slice())?, lines.as_str());
-    Ok(())
+    let wanted = said(0, lines.as_str(), "");
+    let calls = DATA.len() + LINES.len();
+    fails(&rt, alloc, "no call", calls, FileFault::OutOfMemory, wanted)
 }

@@ -1,5 +1,6 @@
 //! Types by the bytes of directories, with nothing stored between.
 
+use crate::tests::ran::alike;
 use mime_base::{Host, Meter};
 use mime_lookup::{Cause, Order, Stopped};
 use mime_text::{MagicFault, MagicFaultKind};
@@ -78,9 +79,10 @@ fn is_answered(
     kind: &[u8],
     read: u64,
 ) -> Result<(), Fail> {
+    let name = str::from_utf8(kind)?;
     let found = type_of(alloc, dirs, file, content)?;
-    assert_eq!(rt; found.kind.as_slice(), kind);
-    assert_eq!(rt; found.read, read);
+    alike(rt, name, found.kind.as_slice(), kind);
+    alike(rt, name, found.read, read);
     Ok(())
 }
 
@@ -159,7 +161,8 @@ fn a_refused_magic_is_named(rt: HostRuntime) {
         kind: MagicFaultKind::NoHeader,
         offset: 0,
     };
-    assert_eq!(rt; found.err(), Some(AnswerFault::Magic(1, fault)));
+    let wanted = Some(AnswerFault::Magic(1, fault));
+    alike(&rt, "the second magic", found.err(), wanted);
 }
 
 /// A name one byte past the limit.
@@ -173,5 +176,6 @@ fn a_name_may_be_too_long(rt: HostRuntime) {
         read: 0,
         meter: Meter::new(),
     };
-    assert_eq!(rt; found.err(), Some(AnswerFault::Lookup(stopped)));
+    let wanted = Some(AnswerFault::Lookup(stopped));
+    alike(&rt, "4,097 bytes", found.err(), wanted);
 }

@@ -1,7 +1,9 @@
 //! What is printed for rules and names.
 
-use crate::{Entry, Shelf};
-use mime_tool::run;
+use crate::Entry;
+use crate::tests::ran::{Said, says_over};
+use std::alloc::Global;
+use std::process::Abort;
 use std::test::Fail;
 
 struct Row {
@@ -65,16 +67,17 @@ const PRINTED: [Row; 5] = [
 fn prints_each_row(rt: HostRuntime) -> Result<(), Fail> {
     for row in &PRINTED {
         let entries = [("/s/mime/globs2", row.globs.unwrap_or(Entry::Unreadable))];
-        let mut files = Shelf {
-            entries: if row.globs.is_some() { &entries } else { &[] },
+        let stored = if row.globs.is_some() {
+            &entries[..]
+        } else {
+            &[]
         };
-        let mut out = Vec::new(rt.alloc());
-        let mut err = Vec::new(rt.alloc());
-        let status = run(rt.alloc(), row.words, &mut files, &mut out, &mut err);
-        let name = row.name;
-        assert_eq!(rt; status, row.status, "{name}");
-        assert_eq!(rt; str::from_utf8(out.as_slice())?, row.out, "{name}");
-        assert_eq!(rt; str::from_utf8(err.as_slice())?, row.err, "{name}");
+        let wanted = Said {
+            status: row.status,
+            out: row.out,
+            err: row.err,
+        };
+        says_over(&rt, rt.alloc(), row.name, row.words, stored, wanted)?;
     }
     Ok(())
 }
@@ -103,22 +106,51 @@ const CASES: &str = "50:text/x-c++src:*.C:cs\n50:text/x-csrc:*.c\n";
 
 const NOTES: &str = "50:application/msword:*.doc\n50:text/x-notes:*.doc\n";
 
+/// By these rules a file's name has this type.
+fn is_answered(
+    rt: &impl Abort,
+    alloc: Global,
+    globs: &str,
+    file: &str,
+    kind: &str,
+) -> Result<(), Fail> {
+    let line = format!(in alloc; "{file}: {kind}\n")?;
+    let wanted = Said {
+        status: 0,
+        out: line.as_str(),
+        err: "",
+    };
+    let words = ["plain", "--name-only", "-d", "/s", file];
+    let entries = [("/s/mime/globs2", Entry::Bytes(globs.as_bytes()))];
+    says_over(rt, alloc, file, &words, &entries, wanted)
+}
+
 #[test]
 fn answers_by_the_kept_rules(rt: HostRuntime) -> Result<(), Fail> {
-    let alloc = rt.alloc();
     for (globs, file, kind) in KEPT {
-        let entries = [("/s/mime/globs2", Entry::Bytes(globs.as_bytes()))];
-        let mut files = Shelf { entries: &entries };
-        let mut out = Vec::new(alloc);
-        let mut err = Vec::new(alloc);
-        let words = ["plain", "--name-only", "-d", "/s", file];
-        let status = run(alloc, &words, &mut files, &mut out, &mut err);
-        let line = format!(in alloc; "{file}: {kind}\n")?;
-        assert_eq!(rt; status, 0, "at {file}");
-        assert_eq!(rt; out.as_slice(), line.as_bytes(), "at {file}");
-        assert!(rt; err.is_empty(), "at {file}");
+        is_answered(&rt, rt.alloc(), globs, file, kind)?;
     }
     Ok(())
+}
+
+/// The longest name and one that is longer but for its directory have a type; the other is refused.
+fn is_passed_over(
+    rt: &impl Abort,
+    alloc: Global,
+    longest: &str,
+    longer: &str,
+    deep: &str,
+) -> Result<(), Fail> {
+    let line = format!(in alloc; "{longest}: t/any\n{deep}: t/any\n")?;
+    let message = format!(in alloc; "mimelook: {longer}: name too long\n")?;
+    let wanted = Said {
+        status: 1,
+        out: line.as_str(),
+        err: message.as_str(),
+    };
+    let words = ["plain", "--name-only", "-d", "/s", longest, longer, deep];
+    let entries = [("/s/mime/globs2", Entry::Bytes(b"50:t/any:*"))];
+    says_over(rt, alloc, "long names", &words, &entries, wanted)
 }
 
 #[test]
@@ -127,24 +159,5 @@ fn passes_over_names_that_are_too_long(rt: HostRuntime) -> Result<(), Fail> {
     let longest = "a".repeat(alloc, 4_096)?;
     let longer = "a".repeat(alloc, 4_097)?;
     let deep = "a/".repeat(alloc, 4_097)?;
-    let line = format!(in alloc; "{longest}: t/any\n{deep}: t/any\n")?;
-    let message = format!(in alloc; "mimelook: {longer}: name too long\n")?;
-    let entries = [("/s/mime/globs2", Entry::Bytes(b"50:t/any:*"))];
-    let mut files = Shelf { entries: &entries };
-    let mut out = Vec::new(alloc);
-    let mut err = Vec::new(alloc);
-    let words = [
-        "plain",
-        "--name-only",
-        "-d",
-        "/s",
-        longest.as_str(),
-        longer.as_str(),
-        deep.as_str(),
-    ];
-    let status = run(alloc, &words, &mut files, &mut out, &mut err);
-    assert_eq!(rt; status, 1);
-    assert_eq!(rt; out.as_slice(), line.as_bytes());
-    assert_eq!(rt; err.as_slice(), message.as_bytes());
-    Ok(())
+    is_passed_over(&rt, alloc, &longest, &longer, &deep)
 }

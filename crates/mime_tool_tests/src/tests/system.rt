@@ -1,28 +1,32 @@
 //! Real files, and files, readers and writers that fail.
 
+use crate::tests::ran::alike;
 use crate::{Disk, Opened, Script, Step};
 use mime_tool::{FileFault, Files, Sink, SinkFault, Stream, SystemFiles, read_whole};
 use std::io::ErrorKind;
 use std::test::Fail;
 
+/// The whole of a file of the system, of which nothing is known.
+fn read_at(rt: &HostRuntime, path: &str) -> Result<Option<Vec<u8>>, FileFault> {
+    SystemFiles::new(rt).whole(rt.alloc(), path)
+}
+
 #[test]
 fn tells_missing_files_from_unreadable_ones(rt: HostRuntime) -> Result<(), Fail> {
-    let mut files = SystemFiles::new(&rt);
-    let empty = files.whole(rt.alloc(), "/dev/null")?;
-    assert!(rt; empty.is_some_and(|bytes| bytes.is_empty()));
-    let system = files.whole(rt.alloc(), "/proc/sys/kernel/ostype")?;
-    assert_eq!(rt; system.ok_or("no file")?.as_slice(), b"Linux\n".as_slice());
-    let missing = files.whole(rt.alloc(), "/dev/no-such-file")?;
-    assert!(rt; missing.is_none());
+    let empty = read_at(&rt, "/dev/null")?.ok_or("no file")?;
+    alike(&rt, "/dev/null", empty.as_slice(), b"");
+    let system = read_at(&rt, "/proc/sys/kernel/ostype")?.ok_or("no file")?;
+    alike(&rt, "ostype", system.as_slice(), b"Linux\n");
+    let missing = read_at(&rt, "/dev/no-such-file");
+    alike(&rt, "no-such-file", missing, Ok(None));
     for path in ["/", "/dev/null/below"] {
-        let fault = files.whole(rt.alloc(), path).err();
-        assert_eq!(rt; fault, Some(FileFault::Failed), "at {path:?}");
+        alike(&rt, path, read_at(&rt, path), Err(FileFault::Failed));
     }
     Ok(())
 }
 
 #[test]
-fn opens_whatever_can_be_opened(rt: HostRuntime) -> Result<(), Fail> {
+fn opens_whatever_can_be_opened(rt: HostRuntime) {
     let mut files = SystemFiles::new(&rt);
     let failed = Err(FileFault::Failed);
     let rows = [
@@ -33,14 +37,13 @@ fn opens_whatever_can_be_opened(rt: HostRuntime) -> Result<(), Fail> {
     ];
     for (path, want) in rows {
         let opened = files.open(rt.alloc(), path).map(|_| ());
-        assert_eq!(rt; opened, want, "at {path:?}");
+        alike(&rt, path, opened, want);
     }
-    Ok(())
 }
 
 // Opening looks at what a file is and at the opening, and not at the size.
 #[test]
-fn names_what_opening_fails_with(rt: HostRuntime) -> Result<(), Fail> {
+fn names_what_opening_fails_with(rt: HostRuntime) {
     let failed = Err(FileFault::Failed);
     let denied = ErrorKind::PermissionDenied;
     let memory = ErrorKind::OutOfMemory;
@@ -75,9 +78,8 @@ fn names_what_opening_fails_with(rt: HostRuntime) -> Result<(), Fail> {
     ];
     for (name, disk, want) in rows {
         let opened = SystemFiles::new(&disk).open(rt.alloc(), "a").map(|_| ());
-        assert_eq!(rt; opened, want, "{name}");
+        alike(&rt, name, opened, want);
     }
-    Ok(())
 }
 
 fn gives(size: Result<u64, ErrorKind>, read: Option<ErrorKind>) -> Disk {
@@ -231,12 +233,12 @@ const WHOLE: [Whole; 19] = [
 ];
 
 #[test]
-fn names_what_the_system_fails_with(rt: HostRuntime) -> Result<(), Fail> {
+fn names_what_the_system_fails_with(rt: HostRuntime) {
     for row in &WHOLE {
         let whole = SystemFiles::new(&row.disk).whole(rt.alloc(), "a");
-        assert_eq!(rt; whole.map(|file| file.is_some()), row.want, "{}", row.name);
+        let is_there = whole.map(|file| file.is_some());
+        alike(&rt, row.name, is_there, row.want);
     }
-    Ok(())
 }
 
 const INTERRUPTED: ErrorKind = ErrorKind::Interrupted;
@@ -291,14 +293,14 @@ const READS: [(&str, &[Step], Result<usize, FileFault>); 9] = [
 ];
 
 #[test]
-fn reads_whole_files_up_to_their_limits(rt: HostRuntime) -> Result<(), Fail> {
+fn reads_whole_files_up_to_their_limits(rt: HostRuntime) {
     for (name, steps, want) in READS {
         let read = read_whole(rt.alloc(), 9, &mut Script::new(steps));
-        assert_eq!(rt; read.map(|bytes| bytes.len()), want, "{name}");
+        alike(&rt, name, read.map(|bytes| bytes.len()), want);
     }
     let read = read_whole(rt.alloc(), 0, &mut Script::new(&[Step::Bytes(1)]));
-    assert_eq!(rt; read.map(|bytes| bytes.len()), Err(FileFault::Failed));
-    Ok(())
+    let length = read.map(|bytes| bytes.len());
+    alike(&rt, "a limit of 0", length, Err(FileFault::Failed));
 }
 
 // A stream that is given two bytes.
@@ -348,21 +350,22 @@ const FLUSHES: [(&str, &[Step], Result<(), SinkFault>); 4] = [
 ];
 
 #[test]
-fn passes_on_each_failure_of_a_stream(rt: HostRuntime) -> Result<(), Fail> {
+fn passes_on_each_failure_of_a_stream(rt: HostRuntime) {
     for (name, steps, want) in PUTS {
-        assert_eq!(rt; Stream(Script::new(steps)).put(b"hi"), want, "put: {name}");
+        let mut stream = Stream(Script::new(steps));
+        alike(&rt, name, stream.put(b"hi"), want);
     }
     for (name, steps, want) in FLUSHES {
-        assert_eq!(rt; Stream(Script::new(steps)).flush(), want, "flush: {name}");
+        let mut stream = Stream(Script::new(steps));
+        alike(&rt, name, stream.flush(), want);
     }
     let mut full = Stream(Script::new(&[Step::Faults(1, ErrorKind::StorageFull)]));
-    assert_eq!(rt; full.flush(), Err(SinkFault::Failed));
-    assert_eq!(rt; full.flush(), Ok(()));
-    Ok(())
+    alike(&rt, "a full disk", full.flush(), Err(SinkFault::Failed));
+    alike(&rt, "what is flushed again", full.flush(), Ok(()));
 }
 
 #[test]
-fn names_what_replacing_fails_with(rt: HostRuntime) -> Result<(), Fail> {
+fn names_what_replacing_fails_with(rt: HostRuntime) {
     let denied = ErrorKind::PermissionDenied;
     let rows = [
         ("denied", Disk::Fails(denied), FileFault::Failed),
@@ -376,10 +379,9 @@ fn names_what_replacing_fails_with(rt: HostRuntime) -> Result<(), Fail> {
     for (name, disk, want) in rows {
         let mut files = SystemFiles::new(&disk);
         let fault = files.replace(rt.alloc(), "c.new", "c", b"x").err();
-        assert_eq!(rt; fault, Some(want), "{name}");
+        alike(&rt, name, fault, Some(want));
     }
     let mut files = SystemFiles::new(&rt);
     let fault = files.replace(rt.alloc(), "/proc/c.new", "/proc/c", b"x");
-    assert_eq!(rt; fault, Err(FileFault::Failed));
-    Ok(())
+    alike(&rt, "/proc/c", fault, Err(FileFault::Failed));
 }

@@ -3,9 +3,10 @@
 mod help;
 mod mistakes;
 
-use crate::Shelf;
-use mime_tool::{FileFault, SinkFault, run};
+use crate::tests::ran::{Said, alike, says_over};
+use mime_tool::{FileFault, SinkFault};
 use std::alloc::Global;
+use std::fmt::Display;
 use std::process::Abort;
 use std::test::Fail;
 
@@ -44,35 +45,32 @@ fn said<'a>(name: &'a str, words: &'a [&'a str], err: &'a str) -> Row<'a> {
 /// Each row is answered by its texts, without a file.
 fn are_answered(rt: &impl Abort, alloc: Global, rows: &[Row<'_>]) -> Result<(), Fail> {
     for row in rows {
-        let mut files = Shelf { entries: &[] };
-        let mut out = Vec::new(alloc);
-        let mut err = Vec::new(alloc);
-        let status = run(alloc, row.words, &mut files, &mut out, &mut err);
-        let name = row.name;
-        assert_eq!(rt; status, row.status, "{name}");
-        assert_eq!(rt; str::from_utf8(out.as_slice())?, row.out, "{name}");
-        assert_eq!(rt; str::from_utf8(err.as_slice())?, row.err, "{name}");
+        let wanted = Said {
+            status: row.status,
+            out: row.out,
+            err: row.err,
+        };
+        says_over(rt, alloc, row.name, row.words, &[], wanted)?;
     }
+    Ok(())
+}
+
+/// An error is told so.
+fn is_told(
+    rt: &impl Abort,
+    alloc: Global,
+    error: impl Display + Drop,
+    text: &str,
+) -> Result<(), Fail> {
+    let told = format!(in alloc; "{error}")?;
+    alike(rt, text, told.as_str(), text);
     Ok(())
 }
 
 #[test]
 fn names_public_errors(rt: HostRuntime) -> Result<(), Fail> {
-    let alloc = rt.alloc();
-    let texts = [
-        (format!(in alloc; "{}", FileFault::Failed)?, "cannot read"),
-        (
-            format!(in alloc; "{}", FileFault::OutOfMemory)?,
-            "out of memory",
-        ),
-        (format!(in alloc; "{}", SinkFault::Failed)?, "cannot write"),
-        (
-            format!(in alloc; "{}", SinkFault::OutOfMemory)?,
-            "out of memory",
-        ),
-    ];
-    for (text, want) in &texts {
-        assert_eq!(rt; text.as_str(), *want);
-    }
-    Ok(())
+    is_told(&rt, rt.alloc(), FileFault::Failed, "cannot read")?;
+    is_told(&rt, rt.alloc(), FileFault::OutOfMemory, "out of memory")?;
+    is_told(&rt, rt.alloc(), SinkFault::Failed, "cannot write")?;
+    is_told(&rt, rt.alloc(), SinkFault::OutOfMemory, "out of memory")
 }

@@ -1,32 +1,43 @@
 //! The cost that `type` tells.
 
+use crate::tests::ran::{alike, ran};
 use crate::{Entry, Shelf};
 use mime_base::Database;
 use mime_store::write_cache;
-use mime_tool::run;
+use std::alloc::Global;
 use std::test::Fail;
+
+/// What is printed behind the type of the name `a` over a cache of no rule: records and bytes.
+fn told(out: &str) -> Option<(&str, &str)> {
+    let cost = out.strip_prefix("a: application/octet-stream nodes=")?;
+    cost.strip_suffix(" read=0\n")?.split_once(" bytes=")
+}
+
+/// The cache of no rule, of 88 bytes.
+fn of_no_rule(alloc: Global) -> Result<Vec<u8>, Fail> {
+    let database = Database::of_rules(alloc, Vec::new(alloc));
+    Ok(write_cache(alloc, &database, 88)?)
+}
+
+/// Whether digits spell a number that is no greater than this.
+fn is_within(digits: &str, most: u64) -> bool {
+    digits.parse::<u64>().is_ok_and(|number| number <= most)
+}
 
 // The cost of a name of one byte over the 88 bytes of the cache of no rule.
 #[test]
 fn tells_the_cost_within_the_bounds(rt: HostRuntime) -> Result<(), Fail> {
     let alloc = rt.alloc();
-    let database = Database::of_rules(alloc, Vec::new(alloc));
-    let cache = write_cache(alloc, &database, 88)?;
+    let cache = of_no_rule(alloc)?;
     let entries = [("/c", Entry::Bytes(cache.as_slice()))];
     let mut files = Shelf { entries: &entries };
-    let mut out = Vec::new(alloc);
-    let mut err = Vec::new(alloc);
+    let (mut out, mut err) = (Vec::new(alloc), Vec::new(alloc));
     let words = ["type", "-c", "/c", "--name-only", "--cost", "a"];
-    let status = run(alloc, &words, &mut files, &mut out, &mut err);
-    assert_eq!(rt; status, 0);
-    assert!(rt; err.is_empty());
-    let told = str::from_utf8(out.as_slice())?
-        .strip_prefix("a: application/octet-stream nodes=")
-        .ok_or("no nodes")?
-        .strip_suffix(" read=0\n")
-        .ok_or("no bytes read")?;
-    let (nodes, bytes) = told.split_once(" bytes=").ok_or("no bytes")?;
-    assert!(rt; nodes.parse::<u64>()? <= 1_600);
-    assert!(rt; bytes.parse::<u64>()? <= 421_080);
+    let status = ran(alloc, &words, &mut files, &mut out, &mut err);
+    alike(&rt, "status", status, 0);
+    alike(&rt, "said", err.as_slice(), b"");
+    let (nodes, bytes) = told(str::from_utf8(out.as_slice())?).ok_or("no cost")?;
+    alike(&rt, nodes, is_within(nodes, 1_600), true);
+    alike(&rt, bytes, is_within(bytes, 421_080), true);
     Ok(())
 }

@@ -1,8 +1,8 @@
 //! Files that have no line, and lookups that stop at a cache.
 
 use super::{Cache, ROW, Row, WHOLE, are_answered};
-use crate::{Entry, Shelf};
-use mime_tool::run;
+use crate::Entry;
+use crate::tests::ran::{Said, says_over};
 use std::test::Fail;
 
 const FILES: [Row; 2] = [
@@ -37,15 +37,13 @@ fn passes_over_files_without_an_answer(rt: HostRuntime) -> Result<(), Fail> {
 fn a_name_too_long_is_passed_over(rt: HostRuntime) -> Result<(), Fail> {
     let alloc = rt.alloc();
     let longer = "a".repeat(alloc, 4_097)?;
-    let entries = [("/c", Entry::Bytes(b"cut"))];
-    let mut files = Shelf { entries: &entries };
-    let mut out = Vec::new(alloc);
-    let mut err = Vec::new(alloc);
-    let words = ["type", "-c", "/c", "--name-only", longer.as_str(), "x"];
-    let status = run(alloc, &words, &mut files, &mut out, &mut err);
     let said = format!(in alloc; "mimelook: {longer}: name too long\nmimelook: /c: truncated\n")?;
-    assert_eq!(rt; status, 3);
-    assert!(rt; out.is_empty());
-    assert_eq!(rt; str::from_utf8(err.as_slice())?, said.as_str());
-    Ok(())
+    let wanted = Said {
+        status: 3,
+        out: "",
+        err: said.as_str(),
+    };
+    let words = ["type", "-c", "/c", "--name-only", longer.as_str(), "x"];
+    let entries = [("/c", Entry::Bytes(b"cut"))];
+    says_over(&rt, alloc, "a long name", &words, &entries, wanted)
 }

@@ -1,0 +1,70 @@
+//! Runs of the program, and values that have to be alike.
+
+use crate::{Entry, Shelf};
+use mime_tool::{Files, Sink, run};
+use std::alloc::Global;
+use std::fmt::Debug;
+use std::process::Abort;
+use std::test::Fail;
+
+/// What was found is what is wanted; else the test fails with this name and both.
+pub fn alike<T: PartialEq + Debug + Drop>(rt: &impl Abort, name: &str, found: T, wanted: T) {
+    assert_eq!(rt; found, wanted, "{name}");
+}
+
+/// A run, of which nothing is known.
+pub fn ran<F: Files, O: Sink, E: Sink>(
+    alloc: Global,
+    words: &[&str],
+    files: &mut F,
+    out: &mut O,
+    err: &mut E,
+) -> u8 {
+    run(alloc, words, files, out, err)
+}
+
+/// A run's status, and what it prints and says.
+#[derive(Clone, Copy)]
+pub struct Said<'a> {
+    pub status: u8,
+    pub out: &'a str,
+    pub err: &'a str,
+}
+
+/// A run over these files has this status and both texts.
+pub fn says<F: Files>(
+    rt: &impl Abort,
+    alloc: Global,
+    name: &str,
+    words: &[&str],
+    files: &mut F,
+    wanted: Said<'_>,
+) -> Result<(), Fail> {
+    let mut out = Vec::new(alloc);
+    let mut err = Vec::new(alloc);
+    let status = ran(alloc, words, files, &mut out, &mut err);
+    alike(rt, name, status, wanted.status);
+    alike(rt, name, str::from_utf8(out.as_slice())?, wanted.out);
+    alike(rt, name, str::from_utf8(err.as_slice())?, wanted.err);
+    Ok(())
+}
+
+/// The same over a shelf.
+pub fn says_over(
+    rt: &impl Abort,
+    alloc: Global,
+    name: &str,
+    words: &[&str],
+    entries: &[(&str, Entry<'_>)],
+    wanted: Said<'_>,
+) -> Result<(), Fail> {
+    says(rt, alloc, name, words, &mut Shelf { entries }, wanted)
+}
+
+/// Bytes that were printed are this text.
+pub fn shows(rt: &impl Abort, name: &str, bytes: &[u8], text: &str) {
+    match str::from_utf8(bytes) {
+        Ok(found) => alike(rt, name, found, text),
+        Err(_) => alike(rt, name, bytes, text.as_bytes()),
+    }
+}
