@@ -1,4 +1,5 @@
 mod base;
+mod checked;
 mod lookup;
 mod sample;
 mod store;

@@ -11,6 +11,7 @@ mod pieces;
 mod reads;
 mod sample;
 
+use crate::tests::checked::alike;
 use crate::tests::lookup::cached::look_up_in;
 use crate::tests::lookup::pieces::{is_answered_in_pieces, is_interrupted, is_refused_by_failures};
 use crate::tests::texts::{Texts, dirs_of, merged};
@@ -59,10 +60,15 @@ fn are_answered_alike<R: Content + Drop>(
     } = *asked;
     let (mut of_lists, mut of_cache) = contents;
     let found = look_up_plain(alloc, database, file, &mut of_lists, host, order);
-    assert_eq!(rt; outcome_of(found), outcome, "{name}, {order:?}");
+    alike(rt, name, (order, outcome_of(found)), (order, outcome));
     let cache = write_cache(alloc, database, usize::MAX)?;
     let found = look_up_in(rt, alloc, &cache, file, &mut of_cache, host, order);
-    assert_eq!(rt; found, outcome, "{name}, {order:?}, by the cache");
+    alike(
+        rt,
+        name,
+        ("by the cache", order, found),
+        ("by the cache", order, outcome),
+    );
     Ok(())
 }
 
@@ -105,7 +111,17 @@ fn is_answered_from_texts(rt: &impl Abort, alloc: Global, row: &Row) -> Result<(
     let dirs = dirs_of(alloc, row.dirs)?;
     let mut content = row.content;
     let found = answer(alloc, &dirs, row.file, &mut content, row.host, row.order)?;
-    assert_eq!(rt; found.kind.as_slice(), row.kind, "{}, from texts", row.name);
-    assert_eq!(rt; found.read, row.read, "{}, from texts", row.name);
+    alike(
+        rt,
+        row.name,
+        ("from texts", found.kind.as_slice()),
+        ("from texts", row.kind),
+    );
+    alike(
+        rt,
+        row.name,
+        ("from texts", found.read),
+        ("from texts", row.read),
+    );
     Ok(())
 }

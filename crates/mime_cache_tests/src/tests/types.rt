@@ -3,6 +3,7 @@
 //! The sample's header has the offset of the icons at 32 and that of the generic icons at 36. The parents
 //! of `t/g`, its one type that has any, stand at 64.
 
+use crate::tests::checked::alike;
 use crate::tests::sample::{SAMPLE, SAMPLE_TEXTS};
 use crate::tests::texts::{Texts, merged};
 use mime_base::{Counted, TypeName};
@@ -66,7 +67,8 @@ const OF_THE_SAMPLE: [IconRow; 3] = [
 #[test]
 fn icons_that_stand_in(rt: HostRuntime) -> Result<(), Fail> {
     for row in &OF_THE_SAMPLE {
-        assert!(rt; has_icons(rt.alloc(), &SAMPLE, row)?, "{:?}", row.kind);
+        let same = has_icons(rt.alloc(), &SAMPLE, row)?;
+        alike(&rt, "icons", (row.kind, same), (row.kind, true));
     }
     Ok(())
 }
@@ -94,7 +96,8 @@ fn icons_that_are_named(rt: HostRuntime) -> Result<(), Fail> {
     let database = merged(rt.alloc(), &[WITH_ICONS])?;
     let bytes = write_cache(rt.alloc(), &database, 1024)?;
     for row in &WRITTEN {
-        assert!(rt; has_icons(rt.alloc(), &bytes, row)?, "{:?}", row.kind);
+        let same = has_icons(rt.alloc(), &bytes, row)?;
+        alike(&rt, "icons", (row.kind, same), (row.kind, true));
     }
     Ok(())
 }
@@ -113,7 +116,7 @@ fn icons_of_damaged_caches(rt: HostRuntime) -> Result<(), Fail> {
         let bytes = damaged(at);
         let icons = icon_of(rt.alloc(), Counted::new(&bytes), &kind);
         let stop = icons.err().map(|stopped| (stopped.cause, stopped.read));
-        assert_eq!(rt; stop, Some((Cause::Cache(fault), 0)), "{name}");
+        alike(&rt, name, stop, Some((Cause::Cache(fault), 0)));
     }
     Ok(())
 }
@@ -145,11 +148,8 @@ fn subclasses_of_the_sample(rt: HostRuntime) -> Result<(), Fail> {
         (b"inode/directory", b"application/octet-stream", false),
     ];
     for (kind, base, is) in rows {
-        assert_eq!(rt;
-            leads(rt.alloc(), &SAMPLE, kind, base)?,
-            Ok(is),
-            "{kind:?} {base:?}"
-        );
+        let found = leads(rt.alloc(), &SAMPLE, kind, base)?;
+        alike(&rt, "is a", (kind, base, found), (kind, base, Ok(is)));
     }
     Ok(())
 }
@@ -169,7 +169,7 @@ fn subclasses_by_damaged_caches(rt: HostRuntime) -> Result<(), Fail> {
     ];
     for (name, at, fault) in rows {
         let found = leads(rt.alloc(), &damaged(at), b"t/g", b"t/z")?;
-        assert_eq!(rt; found, Err(Cause::Cache(fault)), "{name}");
+        alike(&rt, name, found, Err(Cause::Cache(fault)));
     }
     Ok(())
 }

@@ -5,9 +5,11 @@ mod parents;
 mod rules;
 mod sniffing;
 
+use crate::tests::checked::alike;
 use crate::tests::sample::SAMPLE;
 use mime_base::{Counted, Meter};
 use mime_view::{Budget, Cache, CacheFault};
+use std::process::Abort;
 use std::test::Fail;
 
 /// A header of this version whose offsets are 0.
@@ -32,8 +34,8 @@ fn openings(rt: HostRuntime) {
     for (name, bytes, fault, nodes) in rows {
         let mut meter = Meter::new();
         let opened = Cache::open(Counted::new(bytes), &mut meter);
-        assert_eq!(rt; opened.err(), fault, "{name}");
-        assert_eq!(rt; (meter.nodes, meter.bytes), (nodes, 0), "{name}");
+        alike(&rt, name, opened.err(), fault);
+        alike(&rt, name, (meter.nodes, meter.bytes), (nodes, 0));
     }
 }
 
@@ -51,7 +53,7 @@ fn faults_are_told(rt: HostRuntime) -> Result<(), Fail> {
     ];
     for (fault, text) in rows {
         let told = format!(in rt.alloc(); "{fault}")?;
-        assert_eq!(rt; told.as_str(), text);
+        alike(&rt, text, told.as_str(), text);
     }
     Ok(())
 }
@@ -65,24 +67,51 @@ const ALIASES: [(&[u8], &[u8]); 5] = [
     (b"", b""),
 ];
 
+/// The budget of the sample, of which calls that only search take nothing.
+const WHOLE: Budget = Budget {
+    records: 60,
+    value_bytes: 240,
+};
+
+/// Types stand for others, and nothing is taken of the budget.
+fn are_aliases(rt: &impl Abort, cache: &Cache<'_>) {
+    let mut meter = Meter::new();
+    let mut budget = Budget::of(cache);
+    for (kind, name) in ALIASES {
+        let given = cache.unalias(kind, &mut meter, &mut budget);
+        alike(rt, "alias", (kind, given), (kind, Ok(name)));
+    }
+    alike(rt, "what the aliases leave", budget, WHOLE);
+}
+
+/// The icons of a type, and nothing is taken of the budget.
+fn has_no_icons(rt: &impl Abort, cache: &Cache<'_>, kind: &[u8]) {
+    let mut meter = Meter::new();
+    let mut budget = Budget::of(cache);
+    let icon = cache.icon(kind, &mut meter, &mut budget);
+    alike(rt, "icon", icon, Ok(None));
+    let icon = cache.generic_icon(kind, &mut meter, &mut budget);
+    alike(rt, "generic icon", icon, Ok(None));
+    alike(rt, "what the icons leave", budget, WHOLE);
+}
+
+/// How much is read of contents, and nothing is taken of the budget.
+fn has_extent(rt: &impl Abort, cache: &Cache<'_>, extent: u32) {
+    let mut meter = Meter::new();
+    let mut budget = Budget::of(cache);
+    let read = cache.extent(&mut meter, &mut budget);
+    alike(rt, "extent", read, Ok(extent));
+    alike(rt, "what the extent leaves", budget, WHOLE);
+}
+
 #[test]
 fn names_of_the_sample(rt: HostRuntime) -> Result<(), Fail> {
     let mut meter = Meter::new();
     let cache = Cache::open(Counted::new(&SAMPLE), &mut meter)?;
-    let mut budget = Budget::of(&cache);
-    let whole = Budget {
-        records: 60,
-        value_bytes: 240,
-    };
-    assert_eq!(rt; budget, whole);
-    for (kind, name) in ALIASES {
-        let given = cache.unalias(kind, &mut meter, &mut budget)?;
-        assert_eq!(rt; given, name, "{kind:?}");
-    }
-    assert_eq!(rt; cache.icon(b"t/g", &mut meter, &mut budget)?, None);
-    assert_eq!(rt; cache.generic_icon(b"t/g", &mut meter, &mut budget)?, None);
-    assert_eq!(rt; cache.extent(&mut meter, &mut budget)?, 3);
-    assert_eq!(rt; budget, whole);
+    alike(&rt, "budget", Budget::of(&cache), WHOLE);
+    are_aliases(&rt, &cache);
+    has_no_icons(&rt, &cache, b"t/g");
+    has_extent(&rt, &cache, 3);
     Ok(())
 }
 
@@ -182,7 +211,7 @@ fn damaged_lists(rt: HostRuntime) -> Result<(), Fail> {
             None => Ok(true),
             Some(fault) => Err(fault),
         };
-        assert_eq!(rt; asked(&row.call, &cache), wanted, "{}", row.name);
+        alike(&rt, row.name, asked(&row.call, &cache), wanted);
     }
     Ok(())
 }

@@ -1,7 +1,11 @@
 //! The numbers of caches, by the tables of their records.
 
+ghost use Rattle.std.specs.Prelude.{◌≤◌};
+
+use crate::tests::checked::alike;
 use crate::tests::sample::{SAMPLE, SELF_CHILD};
 use mime_base::{ByteFault, Counted, Meter};
+use std::process::Abort;
 
 /// A record of [`SAMPLE`] and its numbers.
 struct Record<const N: usize> {
@@ -104,75 +108,127 @@ const TRIPLES: [Record<3>; 6] = [
     },
 ];
 
+/// Records have these numbers, of which one is read in each.
+fn are_read<const N: usize>(
+    rt: &impl Abort,
+    cache: &Counted<'_>,
+    meter: &mut Meter,
+    rows: &[Record<N>],
+)
+    requires { N ≤ 10 }
+{
+    for row in rows {
+        let numbers = cache.cards::<N>(row.at, meter);
+        alike(rt, row.name, numbers, Ok(row.numbers));
+    }
+}
+
+const HEADER: [Record<10>; 1] = [Record {
+    name: "header",
+    at: 0,
+    numbers: [65538, 40, 52, 72, 88, 144, 148, 208, 212, 216],
+}];
+
+const SECTION: [Record<4>; 1] = [Record {
+    name: "section",
+    at: 160,
+    numbers: [40, 220, 1, 176],
+}];
+
+const LINE: [Record<8>; 1] = [Record {
+    name: "line",
+    at: 176,
+    numbers: [0, 1, 1, 2, 236, 0, 0, 0],
+}];
+
 #[test]
 fn sample_records(rt: HostRuntime) {
     let sample = Counted::new(&SAMPLE);
     let mut meter = Meter::new();
-    assert_eq!(rt; sample.length(), 240);
-    assert_eq!(rt;
-        sample.cards::<10>(0, &mut meter),
-        Ok([65538, 40, 52, 72, 88, 144, 148, 208, 212, 216])
-    );
-    for row in &COUNTS {
-        let numbers = sample.cards::<1>(row.at, &mut meter);
-        assert_eq!(rt; numbers, Ok(row.numbers), "{}", row.name);
-    }
-    for row in &PAIRS {
-        let numbers = sample.cards::<2>(row.at, &mut meter);
-        assert_eq!(rt; numbers, Ok(row.numbers), "{}", row.name);
-    }
-    for row in &TRIPLES {
-        let numbers = sample.cards::<3>(row.at, &mut meter);
-        assert_eq!(rt; numbers, Ok(row.numbers), "{}", row.name);
-    }
-    assert_eq!(rt; sample.cards::<4>(160, &mut meter), Ok([40, 220, 1, 176]));
-    assert_eq!(rt;
-        sample.cards::<8>(176, &mut meter),
-        Ok([0, 1, 1, 2, 236, 0, 0, 0])
-    );
-    assert_eq!(rt;
-        meter,
-        Meter {
-            nodes: 20,
-            bytes: 0
-        }
-    );
+    alike(&rt, "length", sample.length(), 240);
+    are_read(&rt, &sample, &mut meter, &HEADER);
+    are_read(&rt, &sample, &mut meter, &COUNTS);
+    are_read(&rt, &sample, &mut meter, &PAIRS);
+    are_read(&rt, &sample, &mut meter, &TRIPLES);
+    are_read(&rt, &sample, &mut meter, &SECTION);
+    are_read(&rt, &sample, &mut meter, &LINE);
+    alike(&rt, "nodes", (meter.nodes, meter.bytes), (20, 0));
+}
+
+const SELF_HEADER: [Record<10>; 1] = [Record {
+    name: "header",
+    at: 0,
+    numbers: [65538, 40, 40, 40, 40, 40, 48, 40, 40, 40],
+}];
+
+const SELF_MAGIC: [Record<3>; 1] = [Record {
+    name: "the head of the magic list",
+    at: 48,
+    numbers: [1, 128, 60],
+}];
+
+const SELF_SECTION: [Record<4>; 1] = [Record {
+    name: "section",
+    at: 60,
+    numbers: [50, 108, 1, 76],
+}];
+
+const SELF_LINE: [Record<8>; 1] = [Record {
+    name: "line",
+    at: 76,
+    numbers: [0, 1, 1, 0, 108, 0, 1, 76],
+}];
+
+/// The text at an offset is this one.
+fn is_text(rt: &impl Abort, cache: &Counted<'_>, meter: &mut Meter, at: u64, text: &[u8]) {
+    alike(rt, "text", cache.text_at(at, meter), Ok(text));
 }
 
 #[test]
 fn self_child_records(rt: HostRuntime) {
     let cache = Counted::new(&SELF_CHILD);
     let mut meter = Meter::new();
-    assert_eq!(rt;
-        cache.cards::<10>(0, &mut meter),
-        Ok([65538, 40, 40, 40, 40, 40, 48, 40, 40, 40])
-    );
-    assert_eq!(rt; cache.cards::<3>(48, &mut meter), Ok([1, 128, 60]));
-    assert_eq!(rt; cache.cards::<4>(60, &mut meter), Ok([50, 108, 1, 76]));
-    assert_eq!(rt;
-        cache.cards::<8>(76, &mut meter),
-        Ok([0, 1, 1, 0, 108, 0, 1, 76])
-    );
-    assert_eq!(rt; cache.text_at(108, &mut meter), Ok(b"a/b" as &[u8]));
-    assert_eq!(rt; meter, Meter { nodes: 4, bytes: 4 });
+    are_read(&rt, &cache, &mut meter, &SELF_HEADER);
+    are_read(&rt, &cache, &mut meter, &SELF_MAGIC);
+    are_read(&rt, &cache, &mut meter, &SELF_SECTION);
+    are_read(&rt, &cache, &mut meter, &SELF_LINE);
+    is_text(&rt, &cache, &mut meter, 108, b"a/b");
+    alike(&rt, "nodes and bytes", (meter.nodes, meter.bytes), (4, 4));
 }
+
+const LAST: [Record<1>; 1] = [Record {
+    name: "the last number",
+    at: 236,
+    numbers: [0x1f8b_0000],
+}];
+
+const NONE: [Record<0>; 1] = [Record {
+    name: "no number",
+    at: 240,
+    numbers: [],
+}];
+
+const PAST: [u64; 5] = [237, 240, 241, u64::MAX - 3, u64::MAX];
 
 #[test]
 fn numbers_at_the_end(rt: HostRuntime) {
     let sample = Counted::new(&SAMPLE);
     let mut meter = Meter::new();
-    assert_eq!(rt; sample.cards::<1>(236, &mut meter), Ok([0x1f8b_0000]));
-    assert_eq!(rt; sample.cards::<0>(240, &mut meter), Ok([]));
-    for at in [237, 240, 241, u64::MAX - 3, u64::MAX] {
+    are_read(&rt, &sample, &mut meter, &LAST);
+    are_read(&rt, &sample, &mut meter, &NONE);
+    for at in PAST {
         let fault = ByteFault::OutOfRange(at);
-        assert_eq!(rt;
-            sample.cards::<1>(at, &mut meter),
-            Err(fault),
-            "number at {at}"
-        );
+        let numbers = sample.cards::<1>(at, &mut meter);
+        alike(&rt, "past the end", numbers, Err(fault));
     }
-    assert_eq!(rt; meter, Meter { nodes: 7, bytes: 0 });
+    alike(&rt, "nodes", (meter.nodes, meter.bytes), (7, 0));
 }
+
+const ALIASES: [Record<1>; 1] = [Record {
+    name: "aliases",
+    at: 40,
+    numbers: [1],
+}];
 
 #[test]
 fn sums_stop_at_the_greatest_number(rt: HostRuntime) {
@@ -181,7 +237,8 @@ fn sums_stop_at_the_greatest_number(rt: HostRuntime) {
         nodes: u64::MAX,
         bytes: u64::MAX - 2,
     };
-    assert_eq!(rt; sample.cards::<1>(40, &mut meter), Ok([1]));
-    assert_eq!(rt; sample.text_at(220, &mut meter), Ok(b"t/g" as &[u8]));
-    assert_eq!(rt; (meter.nodes, meter.bytes), (u64::MAX, u64::MAX));
+    are_read(&rt, &sample, &mut meter, &ALIASES);
+    is_text(&rt, &sample, &mut meter, 220, b"t/g");
+    let greatest = (u64::MAX, u64::MAX);
+    alike(&rt, "the greatest", (meter.nodes, meter.bytes), greatest);
 }

@@ -1,5 +1,6 @@
 //! Values of a cache at the offsets of a range, and what is counted on the way.
 
+use crate::tests::checked::alike;
 use crate::tests::sample::SAMPLE;
 use mime_base::{ByteFault, Counted, Host, Meter, StatedValue};
 
@@ -115,18 +116,11 @@ const OUTSIDE: StatedValue = StatedValue {
 fn values_in_ranges(rt: HostRuntime) {
     let sample = Counted::new(&SAMPLE);
     for row in &RANGES {
-        let Range {
-            name,
-            content,
-            start,
-            range,
-            equal,
-            bytes,
-        } = *row;
-        let mut meter = Meter::new();
-        let answer = sample.value_in_range(GZIP, start, range, content, Host::Little, &mut meter);
-        assert_eq!(rt; answer, Ok(equal), "{name}");
-        assert_eq!(rt; meter, Meter { nodes: 0, bytes }, "{name}");
+        let (host, mut meter) = (Host::Little, Meter::new());
+        let (start, range) = (row.start, row.range);
+        let answer = sample.value_in_range(GZIP, start, range, row.content, host, &mut meter);
+        alike(&rt, row.name, answer, Ok(row.equal));
+        alike(&rt, row.name, (meter.nodes, meter.bytes), (0, row.bytes));
     }
 }
 
@@ -135,8 +129,8 @@ fn a_value_is_needed_by_a_window(rt: HostRuntime) {
     let sample = Counted::new(&SAMPLE);
     let mut meter = Meter::new();
     let answer = sample.value_in_range(OUTSIDE, 0, 1, b"ab", Host::Little, &mut meter);
-    assert_eq!(rt; answer, Err(ByteFault::OutOfRange(239)));
+    alike(&rt, "needed", answer, Err(ByteFault::OutOfRange(239)));
     let unneeded = sample.value_in_range(OUTSIDE, 0, 1, b"a", Host::Little, &mut meter);
-    assert_eq!(rt; unneeded, Ok(false));
-    assert_eq!(rt; meter, Meter::new());
+    alike(&rt, "not needed", unneeded, Ok(false));
+    alike(&rt, "nothing", (meter.nodes, meter.bytes), (0, 0));
 }

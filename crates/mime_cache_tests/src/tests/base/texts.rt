@@ -1,51 +1,91 @@
 //! The texts of caches, up to the longest, and names that are compared.
 
+use crate::tests::checked::alike;
 use crate::tests::sample::SAMPLE;
 use mime_base::{ByteFault, Counted, Meter, same_name};
 use std::cmp::Ordering;
+use std::process::Abort;
+
+/// Texts stand at offsets, and so many bytes are read for each.
+fn are_read(rt: &impl Abort, cache: Counted<'_>, rows: &[Text]) {
+    for row in rows {
+        let mut meter = Meter::new();
+        let text = cache.text_at(row.at, &mut meter);
+        alike(rt, row.name, text, row.text);
+        alike(rt, row.name, (meter.nodes, meter.bytes), (0, row.bytes));
+    }
+}
+
+const OF_SAMPLE: [Text; 6] = [
+    Text {
+        name: "t/g",
+        at: 220,
+        text: Ok(b"t/g"),
+        bytes: 4,
+    },
+    Text {
+        name: "t/m",
+        at: 224,
+        text: Ok(b"t/m"),
+        bytes: 4,
+    },
+    Text {
+        name: "t/h",
+        at: 228,
+        text: Ok(b"t/h"),
+        bytes: 4,
+    },
+    Text {
+        name: "mk",
+        at: 232,
+        text: Ok(b"mk"),
+        bytes: 3,
+    },
+    Text {
+        name: "1F 8B",
+        at: 236,
+        text: Ok(b"\x1f\x8b"),
+        bytes: 3,
+    },
+    Text {
+        name: "the last byte",
+        at: 239,
+        text: Ok(b""),
+        bytes: 1,
+    },
+];
 
 #[test]
 fn sample_texts(rt: HostRuntime) {
-    let sample = Counted::new(&SAMPLE);
-    for (at, text, bytes) in [
-        (220, b"t/g" as &[u8], 4),
-        (224, b"t/m", 4),
-        (228, b"t/h", 4),
-        (232, b"mk", 3),
-        (236, b"\x1f\x8b", 3),
-        (239, b"", 1),
-    ] {
-        let mut meter = Meter::new();
-        assert_eq!(rt; sample.text_at(at, &mut meter), Ok(text), "text at {at}");
-        assert_eq!(rt; meter, Meter { nodes: 0, bytes }, "bytes at {at}");
-    }
+    are_read(&rt, Counted::new(&SAMPLE), &OF_SAMPLE);
 }
+
+/// The text `t/m` of the sample against a key: the order, and how many bytes are read.
+const KEYS: [(&[u8], Ordering, u64); 13] = [
+    (b"", Ordering::Greater, 1),
+    (b"t", Ordering::Greater, 2),
+    (b"t/", Ordering::Greater, 3),
+    (b"t/g", Ordering::Greater, 3),
+    (b"t/m", Ordering::Equal, 4),
+    (b"t/m\0", Ordering::Less, 4),
+    (b"t/m\0x", Ordering::Less, 4),
+    (b"t/ma", Ordering::Less, 4),
+    (b"t/n", Ordering::Less, 3),
+    (b"s/m", Ordering::Greater, 1),
+    (b"u", Ordering::Less, 1),
+    (b"\xff", Ordering::Less, 1),
+    (b"\0", Ordering::Greater, 1),
+];
 
 #[test]
 fn orders_of_a_text(rt: HostRuntime) {
     let sample = Counted::new(&SAMPLE);
-    for (key, order, bytes) in [
-        (b"" as &[u8], Ordering::Greater, 1),
-        (b"t", Ordering::Greater, 2),
-        (b"t/", Ordering::Greater, 3),
-        (b"t/g", Ordering::Greater, 3),
-        (b"t/m", Ordering::Equal, 4),
-        (b"t/m\0", Ordering::Less, 4),
-        (b"t/m\0x", Ordering::Less, 4),
-        (b"t/ma", Ordering::Less, 4),
-        (b"t/n", Ordering::Less, 3),
-        (b"s/m", Ordering::Greater, 1),
-        (b"u", Ordering::Less, 1),
-        (b"\xff", Ordering::Less, 1),
-        (b"\0", Ordering::Greater, 1),
-    ] {
+    for (key, order, bytes) in KEYS {
         let mut meter = Meter::new();
-        assert_eq!(rt;
-            sample.compare_text(224, key, &mut meter),
-            Ok(order),
-            "against {key:?}"
-        );
-        assert_eq!(rt; meter, Meter { nodes: 0, bytes }, "against {key:?}");
+        let found = sample.compare_text(224, key, &mut meter);
+        alike(&rt, "against a key", (key, found), (key, Ok(order)));
+        let counted = (meter.nodes, meter.bytes);
+        alike(&rt, "against a key", (key, counted), (key, (0, bytes)));
     }
 }
 
@@ -103,11 +143,7 @@ const TEXTS: [Text; 5] = [
 fn longest_texts(rt: HostRuntime) {
     let bytes = texts_of_letters();
     let cache = Counted::new(&bytes);
-    for row in &TEXTS {
-        let mut meter = Meter::new();
-        assert_eq!(rt; cache.text_at(row.at, &mut meter), row.text, "{}", row.name);
-        assert_eq!(rt; (meter.nodes, meter.bytes), (0, row.bytes), "{}", row.name);
-    }
+    are_read(&rt, cache, &TEXTS);
 }
 
 /// How the text at an offset among the letters compares with a key, and how many bytes are read.
@@ -178,44 +214,45 @@ fn orders_of_the_longest_texts(rt: HostRuntime) {
     for row in &ORDERS {
         let mut meter = Meter::new();
         let order = cache.compare_text(row.at, row.key, &mut meter);
-        assert_eq!(rt; order, row.order, "{}", row.name);
-        assert_eq!(rt; (meter.nodes, meter.bytes), (0, row.bytes), "{}", row.name);
+        alike(&rt, row.name, order, row.order);
+        alike(&rt, row.name, (meter.nodes, meter.bytes), (0, row.bytes));
     }
 }
+
+/// Where no text of the sample stands.
+const PAST: [u64; 3] = [240, 241, u64::MAX];
 
 #[test]
 fn texts_past_the_end(rt: HostRuntime) {
     let sample = Counted::new(&SAMPLE);
     let mut meter = Meter::new();
-    for at in [240, 241, u64::MAX] {
+    for at in PAST {
         let fault = ByteFault::OutOfRange(at);
-        assert_eq!(rt; sample.text_at(at, &mut meter), Err(fault), "text at {at}");
-        for key in [b"t/m" as &[u8], b""] {
-            assert_eq!(rt;
-                sample.compare_text(at, key, &mut meter),
-                Err(fault),
-                "order at {at} against {key:?}"
-            );
-        }
+        alike(&rt, "text", sample.text_at(at, &mut meter), Err(fault));
+        let order = sample.compare_text(at, b"t/m", &mut meter);
+        alike(&rt, "against t/m", order, Err(fault));
+        let order = sample.compare_text(at, b"", &mut meter);
+        alike(&rt, "against no byte", order, Err(fault));
     }
-    assert_eq!(rt; meter, Meter { nodes: 0, bytes: 0 });
+    alike(&rt, "nothing", (meter.nodes, meter.bytes), (0, 0));
 }
+
+/// Two names, whether they are the same, and how many bytes are read.
+const NAMES: [(&[u8], &[u8], bool, u64); 5] = [
+    (b"", b"", true, 1),
+    (b"t/m", b"t/m", true, 4),
+    (b"t/m", b"t/", false, 3),
+    (b"t/m", b"t/ma", false, 4),
+    (b"t/m", b"s/m", false, 1),
+];
 
 #[test]
 fn names_compared(rt: HostRuntime) {
-    for (left, right, same, bytes) in [
-        (b"" as &[u8], b"" as &[u8], true, 1),
-        (b"t/m", b"t/m", true, 4),
-        (b"t/m", b"t/", false, 3),
-        (b"t/m", b"t/ma", false, 4),
-        (b"t/m", b"s/m", false, 1),
-    ] {
+    for (left, right, same, bytes) in NAMES {
         let mut meter = Meter::new();
-        assert_eq!(rt;
-            same_name(left, right, &mut meter),
-            same,
-            "{left:?} and {right:?}"
-        );
-        assert_eq!(rt; meter, Meter { nodes: 0, bytes }, "{left:?} and {right:?}");
+        let found = same_name(left, right, &mut meter);
+        let counted = (found, meter.nodes, meter.bytes);
+        let names = (left, right);
+        alike(&rt, "names", (names, counted), (names, (same, 0, bytes)));
     }
 }

@@ -1,25 +1,29 @@
 //! Windows of a content against values of a cache.
 
+use crate::tests::checked::alike;
 use crate::tests::sample::{SAMPLE, SELF_CHILD};
 use mime_base::{ByteFault, Counted, Host, Meter};
+use std::process::Abort;
 
 /// A value of four bytes at 4 and a mask at 8.
 const MASKED: [u8; 12] = [
     0xee, 0xee, 0xee, 0xee, 0x12, 0x34, 0x56, 0x78, 0xff, 0xf0, 0x0f, 0xff,
 ];
 
+const OF_SAMPLE: [(&str, &[u8], bool, u64); 3] = [
+    ("equal", b"\x1f\x8b", true, 2),
+    ("the last byte differs", b"\x1f\x8a", false, 2),
+    ("the first byte differs", b"\x1e\x8b", false, 1),
+];
+
 #[test]
 fn sample_value(rt: HostRuntime) {
     let sample = Counted::new(&SAMPLE);
-    for (row, window, equal, bytes) in [
-        ("equal", b"\x1f\x8b", true, 2),
-        ("the last byte differs", b"\x1f\x8a", false, 2),
-        ("the first byte differs", b"\x1e\x8b", false, 1),
-    ] {
+    for (name, window, equal, bytes) in OF_SAMPLE {
         let mut meter = Meter::new();
         let answer = sample.value_equals(236, 0, 2, 1, window, Host::Little, &mut meter);
-        assert_eq!(rt; answer, Ok(equal), "{row}");
-        assert_eq!(rt; meter, Meter { nodes: 0, bytes }, "{row}");
+        alike(&rt, name, answer, Ok(equal));
+        alike(&rt, name, (meter.nodes, meter.bytes), (0, bytes));
     }
 }
 
@@ -28,8 +32,8 @@ fn a_value_of_no_bytes_lies_anywhere(rt: HostRuntime) {
     let cache = Counted::new(&SELF_CHILD);
     let mut meter = Meter::new();
     let answer = cache.value_equals(u64::MAX, u64::MAX, 0, 1, &[], Host::Little, &mut meter);
-    assert_eq!(rt; answer, Ok(true));
-    assert_eq!(rt; meter, Meter { nodes: 0, bytes: 0 });
+    alike(&rt, "no bytes", answer, Ok(true));
+    alike(&rt, "nothing", (meter.nodes, meter.bytes), (0, 0));
 }
 
 /// A window of two bytes against a value at the end of [`SAMPLE`].
@@ -123,8 +127,8 @@ fn values_at_the_end(rt: HostRuntime) {
             Host::Big,
             &mut meter,
         );
-        assert_eq!(rt; answer, row.answer, "{}", row.name);
-        assert_eq!(rt; (meter.nodes, meter.bytes), (0, row.bytes), "{}", row.name);
+        alike(&rt, row.name, answer, row.answer);
+        alike(&rt, row.name, (meter.nodes, meter.bytes), (0, row.bytes));
     }
 }
 
@@ -205,45 +209,45 @@ const WORDS: [Words; 6] = [
     },
 ];
 
-#[test]
-fn words_and_masks(rt: HostRuntime) {
-    let cache = Counted::new(&MASKED);
-    for row in &WORDS {
-        let name = row.name;
-        for asked in row.asked {
-            let (word, host) = *asked;
-            for i in 0..6 {
-                let mut meter = Meter::new();
-                let answer = cache.value_equals(
-                    4,
-                    row.mask_at,
-                    4,
-                    word,
-                    &WINDOWS[i],
-                    host,
-                    &mut meter,
-                );
-                let wanted = (Ok(row.equal[i]), row.bytes[i]);
-                assert_eq!(rt;
-                    (answer, meter.bytes),
-                    wanted,
-                    "{name}: word {word}, window {i}"
-                );
-            }
-        }
+/// The windows are answered so with a word and a host.
+fn are_equal(rt: &impl Abort, cache: &Counted<'_>, row: &Words, (word, host): (u32, Host)) {
+    for i in 0..6 {
+        let mut meter = Meter::new();
+        let (mask_at, window) = (row.mask_at, &WINDOWS[i]);
+        let answer = cache.value_equals(4, mask_at, 4, word, window, host, &mut meter);
+        let found = (word, i, answer, meter.bytes);
+        alike(
+            rt,
+            row.name,
+            found,
+            (word, i, Ok(row.equal[i]), row.bytes[i]),
+        );
     }
 }
 
 #[test]
+fn words_and_masks(rt: HostRuntime) {
+    let cache = Counted::new(&MASKED);
+    for row in &WORDS {
+        for asked in row.asked {
+            are_equal(&rt, &cache, row, *asked);
+        }
+    }
+}
+
+/// A word, a window of six bytes, and whether it equals the value of six bytes.
+const UNDIVIDED: [(u32, &[u8], bool); 3] = [
+    (2, &[0x34, 0x12, 0x78, 0x56, 0xf0, 0xff], true),
+    (4, &[0x12, 0x34, 0x56, 0x78, 0xff, 0xf0], true),
+    (4, &[0x78, 0x56, 0x34, 0x12, 0xff, 0xf0], false),
+];
+
+#[test]
 fn words_that_do_not_divide(rt: HostRuntime) {
     let cache = Counted::new(&MASKED);
-    for (word, window, equal) in [
-        (2, [0x34, 0x12, 0x78, 0x56, 0xf0, 0xff], true),
-        (4, [0x12, 0x34, 0x56, 0x78, 0xff, 0xf0], true),
-        (4, [0x78, 0x56, 0x34, 0x12, 0xff, 0xf0], false),
-    ] {
+    for (word, window, equal) in UNDIVIDED {
         let mut meter = Meter::new();
-        let answer = cache.value_equals(4, 0, 6, word, &window, Host::Little, &mut meter);
-        assert_eq!(rt; answer, Ok(equal), "word {word}");
+        let answer = cache.value_equals(4, 0, 6, word, window, Host::Little, &mut meter);
+        alike(&rt, "a window", (window, answer), (window, Ok(equal)));
     }
 }

@@ -1,10 +1,12 @@
 //! Types of names without content, over glob rules alone.
 
 use super::{Asked, are_answered_alike};
+use crate::tests::checked::alike;
 use crate::tests::texts::of_rules;
 use mime_base::{Database, Host, Meter, glob_matches};
 use mime_lookup::{Answer, Cause, Order, Stopped, look_up_plain};
 use std::alloc::Global;
+use std::process::Abort;
 use std::test::Fail;
 
 struct Row {
@@ -131,9 +133,9 @@ fn name_too_long(rt: HostRuntime) -> Result<(), Fail> {
         read: 0,
         meter: Meter::new(),
     };
-    assert_eq!(rt; refused, Some(too_long));
+    alike(&rt, "4,097 bytes", refused, Some(too_long));
     let answer = look_up_name(rt.alloc(), &database, &name[1..])?;
-    assert_eq!(rt; answer.kind, b"application/octet-stream".as_slice());
+    alike(&rt, "4,096 bytes", answer.kind, b"application/octet-stream");
     Ok(())
 }
 
@@ -145,24 +147,32 @@ fn counts_what_matching_counts(rt: HostRuntime) -> Result<(), Fail> {
         glob_matches(rule.pattern.bytes(), rule.cased, b"Data.tar.gz", &mut meter);
     }
     let answer = look_up_name(rt.alloc(), &database, b"Data.tar.gz")?;
-    assert_eq!(rt; answer.meter, meter);
-    assert_ne!(rt; answer.meter, Meter::new());
+    alike(&rt, "counted", answer.meter, meter);
+    alike(
+        &rt,
+        "nothing is counted",
+        answer.meter == Meter::new(),
+        false,
+    );
+    Ok(())
+}
+
+/// A cause is told so, and what stopped for it too.
+fn is_told(rt: &impl Abort, alloc: Global, cause: Cause, text: &str) -> Result<(), Fail> {
+    let stopped = Stopped {
+        cause,
+        read: 0,
+        meter: Meter::new(),
+    };
+    let told = format!(in alloc; "{cause}")?;
+    alike(rt, text, told.as_str(), text);
+    let told = format!(in alloc; "{stopped}")?;
+    alike(rt, text, told.as_str(), text);
     Ok(())
 }
 
 #[test]
 fn texts_of_causes(rt: HostRuntime) -> Result<(), Fail> {
-    for (cause, text) in [
-        (Cause::NameTooLong, "name too long"),
-        (Cause::OutOfMemory, "out of memory"),
-    ] {
-        let stopped = Stopped {
-            cause,
-            read: 0,
-            meter: Meter::new(),
-        };
-        assert_eq!(rt; format!(in rt.alloc(); "{cause}")?.as_str(), text);
-        assert_eq!(rt; format!(in rt.alloc(); "{stopped}")?.as_str(), text);
-    }
-    Ok(())
+    is_told(&rt, rt.alloc(), Cause::NameTooLong, "name too long")?;
+    is_told(&rt, rt.alloc(), Cause::OutOfMemory, "out of memory")
 }

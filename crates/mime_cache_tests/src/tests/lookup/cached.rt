@@ -9,6 +9,7 @@ mod orders;
 mod readers;
 
 use super::{Outcome, outcome_of};
+use crate::tests::checked::alike;
 use mime_base::{Counted, Host, Meter};
 use mime_lookup::{Answer, Content, Order, Stopped, look_up};
 use std::alloc::Global;
@@ -44,7 +45,7 @@ fn is_answered(rt: &impl Abort, alloc: Global, row: &Row<'_>) {
         host,
         row.order,
     );
-    assert_eq!(rt; found, row.outcome, "{}, {:?}", row.name, row.order);
+    alike(rt, row.name, (row.order, found), (row.order, row.outcome));
 }
 
 /// The outcome of a lookup over the bytes of a cache.
@@ -64,8 +65,11 @@ pub fn look_up_in<'a, R: Content>(
         short(cache.len() as u64),
         short(read),
     );
-    assert!(rt; u128::from(meter.nodes) <= nodes, "{} nodes", meter.nodes);
-    assert!(rt; u128::from(meter.bytes) <= bytes, "{} bytes", meter.bytes);
+    let within = (
+        u128::from(meter.nodes) <= nodes,
+        u128::from(meter.bytes) <= bytes,
+    );
+    alike(rt, "bounds", (meter, within), (meter, (true, true)));
     outcome_of(found)
 }
 

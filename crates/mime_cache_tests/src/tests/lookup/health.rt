@@ -6,7 +6,8 @@ ghost use Rattle.mime_base.specs.Database.Limits.{IsWithinLimits};
 ghost use Rattle.mime_base.specs.Format.Spells.{Spells};
 ghost use Rattle.mime_lookup.specs.CheckingOrder.{globs_suffice};
 
-use super::outcome_of;
+use super::{Outcome, outcome_of};
+use crate::tests::checked::alike;
 use crate::tests::texts::of_rules;
 use mime_base::{Counted, Database, Host};
 use mime_lookup::{Answer, Cause, Content, Order, ReadFault, Stopped, look_up, look_up_plain};
@@ -14,6 +15,7 @@ use mime_store::write_cache;
 use std::alloc::Global;
 use std::io;
 use std::io::{ErrorKind, Read};
+use std::process::Abort;
 use std::test::Fail;
 
 /// A content each read of which fails.
@@ -101,25 +103,60 @@ fn look_up_broken_in<'a>(
     look_up(alloc, cache, name, &mut content, Host::Little, order)
 }
 
+/// What bytes of a text give to a name, by the lists and by the cache.
+fn are_read(rt: &impl Abort, alloc: Global, database: &Database, cache: &[u8]) {
+    let text = Ok((&b"text/plain"[..], 3));
+    let found = look_up_bytes(alloc, database, b"x", b"hi\n");
+    alike(rt, "a text", outcome_of(found), text);
+    let found = look_up_bytes_in(alloc, Counted::new(cache), b"x", b"hi\n");
+    alike(rt, "a text, by the cache", outcome_of(found), text);
+}
+
+/// A name whose content can't be read, and its outcome.
+struct Unread {
+    name: &'static str,
+    file: &'static [u8],
+    order: Order,
+    outcome: Outcome<'static>,
+}
+
+const UNREAD: [Unread; 3] = [
+    Unread {
+        name: "one type of the globs",
+        file: b"mk",
+        order: Order::GlobsFirst,
+        outcome: Ok((b"t/m", 0)),
+    },
+    Unread {
+        name: "magic first",
+        file: b"mk",
+        order: Order::MagicFirst,
+        outcome: Err((Cause::Read, 0)),
+    },
+    Unread {
+        name: "no type of the globs",
+        file: b"x",
+        order: Order::GlobsFirst,
+        outcome: Err((Cause::Read, 0)),
+    },
+];
+
+/// A row has its outcome by the lists and by the cache.
+fn is_unread(rt: &impl Abort, alloc: Global, database: &Database, cache: &[u8], row: &Unread) {
+    let found = look_up_broken(alloc, database, row.file, row.order);
+    alike(rt, row.name, outcome_of(found), row.outcome);
+    let found = look_up_broken_in(alloc, Counted::new(cache), row.file, row.order);
+    alike(rt, row.name, outcome_of(found), row.outcome);
+}
+
 #[test]
 fn contents_that_tell_their_health(rt: HostRuntime) -> Result<(), Fail> {
     let alloc = rt.alloc();
     let database = of_rules(alloc, b"50:t/m:mk\n")?;
     let cache = write_cache(alloc, &database, usize::MAX)?;
-    let text = Ok((&b"text/plain"[..], 3));
-    let found = look_up_bytes(alloc, &database, b"x", b"hi\n");
-    assert_eq!(rt; outcome_of(found), text);
-    let found = look_up_bytes_in(alloc, Counted::new(&cache), b"x", b"hi\n");
-    assert_eq!(rt; outcome_of(found), text, "by the cache");
-    for (name, order, outcome) in [
-        (&b"mk"[..], Order::GlobsFirst, Ok((&b"t/m"[..], 0))),
-        (b"mk", Order::MagicFirst, Err((Cause::Read, 0))),
-        (b"x", Order::GlobsFirst, Err((Cause::Read, 0))),
-    ] {
-        let found = look_up_broken(alloc, &database, name, order);
-        assert_eq!(rt; outcome_of(found), outcome);
-        let found = look_up_broken_in(alloc, Counted::new(&cache), name, order);
-        assert_eq!(rt; outcome_of(found), outcome, "by the cache");
+    are_read(&rt, alloc, &database, &cache);
+    for row in &UNREAD {
+        is_unread(&rt, alloc, &database, &cache, row);
     }
     Ok(())
 }

@@ -2,6 +2,7 @@
 
 use super::cached::look_up_in;
 use super::{Asked, Outcome, are_answered_alike, outcome_of};
+use crate::tests::checked::alike;
 use mime_base::Database;
 use mime_lookup::{Cause, Script, Step, look_up_plain};
 use mime_store::write_cache;
@@ -97,9 +98,19 @@ pub fn is_refused_by_failures(
 fn is_failure_or_answer(rt: &impl Abort, asked: &Asked<'_>, found: Outcome<'_>, before: usize) {
     let is_enough = asked.outcome.is_ok_and(|(_, read)| read <= before as u64);
     if found.is_ok() && is_enough {
-        assert_eq!(rt; found, asked.outcome, "{}, before a failure", asked.name);
+        alike(
+            rt,
+            asked.name,
+            ("before a failure", found),
+            ("before a failure", asked.outcome),
+        );
     } else {
         let failed = Err((Cause::Read, before as u64));
-        assert_eq!(rt; found, failed, "{}, at a failure", asked.name);
+        alike(
+            rt,
+            asked.name,
+            ("at a failure", found),
+            ("at a failure", failed),
+        );
     }
 }

@@ -3,10 +3,13 @@
 
 use super::cached::look_up_in;
 use super::{Asked, Outcome, are_answered_alike, outcome_of};
+use crate::tests::checked::alike;
 use crate::tests::texts::of_rules;
 use mime_base::Host;
 use mime_lookup::{Cause, Order, Script, Step, Untold, look_up_plain};
 use mime_store::write_cache;
+use std::alloc::Global;
+use std::process::Abort;
 use std::test::Fail;
 
 struct Row {
@@ -127,24 +130,34 @@ const ROWS: [Row; 12] = [
     },
 ];
 
+/// A row is answered by its outcome, whether its content tells its failures or not.
+fn is_answered(rt: &impl Abort, alloc: Global, row: &Row) -> Result<(), Fail> {
+    let database = of_rules(alloc, row.globs2)?;
+    let asked = Asked {
+        name: row.name,
+        file: row.file,
+        host: Host::Little,
+        order: row.order,
+        outcome: row.outcome,
+    };
+    let told = row.content.map(Script::new);
+    are_answered_alike(rt, alloc, &database, &asked, (told, told))?;
+    let untold = (told.map(Untold), told.map(Untold));
+    are_answered_alike(rt, alloc, &database, &asked, untold)
+}
+
 #[test]
 fn rows(rt: HostRuntime) -> Result<(), Fail> {
-    let alloc = rt.alloc();
     for row in &ROWS {
-        let database = of_rules(alloc, row.globs2)?;
-        let asked = Asked {
-            name: row.name,
-            file: row.file,
-            host: Host::Little,
-            order: row.order,
-            outcome: row.outcome,
-        };
-        let told = row.content.map(Script::new);
-        are_answered_alike(&rt, alloc, &database, &asked, (told, told))?;
-        let untold = (told.map(Untold), told.map(Untold));
-        are_answered_alike(&rt, alloc, &database, &asked, untold)?;
+        is_answered(&rt, rt.alloc(), row)?;
     }
     Ok(())
+}
+
+/// A slice that is read to its end has this outcome.
+fn is_at_its_end(rt: &impl Abort, name: &str, found: Outcome<'_>, rest: Option<&[u8]>) {
+    alike(rt, name, found, Ok((b"text/plain", 3)));
+    alike(rt, name, rest.map(|bytes| bytes.len()), Some(0));
 }
 
 #[test]
@@ -154,12 +167,10 @@ fn a_slice(rt: HostRuntime) -> Result<(), Fail> {
     let database = of_rules(alloc, b"")?;
     let mut content = Some(&b"hi\n"[..]);
     let found = look_up_plain(alloc, &database, b"a", &mut content, host, order);
-    assert_eq!(rt; outcome_of(found), Ok((&b"text/plain"[..], 3)));
-    assert_eq!(rt; content.map(|rest| rest.len()), Some(0));
+    is_at_its_end(&rt, "by the lists", outcome_of(found), content);
     let cache = write_cache(alloc, &database, usize::MAX)?;
     let mut content = Some(&b"hi\n"[..]);
     let found = look_up_in(&rt, alloc, &cache, b"a", &mut content, host, order);
-    assert_eq!(rt; found, Ok((&b"text/plain"[..], 3)));
-    assert_eq!(rt; content.map(|rest| rest.len()), Some(0));
+    is_at_its_end(&rt, "by the cache", found, content);
     Ok(())
 }

@@ -1,13 +1,17 @@
 //! Many rules of one ending, and texts of the greatest length. The numbers are sums of the terms of
 //! `room`.
 
+use crate::tests::checked::alike;
 use crate::tests::texts::{EMPTY, Texts, merged};
 use mime_base::{Counted, Meter};
 use mime_store::{StoreFault, write_cache};
-use mime_view::{Budget, Cache};
+use mime_view::{Budget, Cache, CacheFault};
 use std::alloc::Global;
 use std::process::Abort;
 use std::test::Fail;
+
+/// An icon and a generic icon.
+type Icons<'a> = (Option<&'a [u8]>, Option<&'a [u8]>);
 
 /// The cache of a directory, which fits in so many bytes and in no less.
 fn cache_of(
@@ -18,9 +22,9 @@ fn cache_of(
 ) -> Result<Vec<u8>, Fail> {
     let database = merged(alloc, &[texts])?;
     let refused = write_cache(alloc, &database, size.saturating_sub(1)).err();
-    assert_eq!(rt; refused, Some(StoreFault::TooLarge));
+    alike(rt, "one byte less", refused, Some(StoreFault::TooLarge));
     let bytes = write_cache(alloc, &database, size)?;
-    assert_eq!(rt; bytes.len(), size);
+    alike(rt, "size", bytes.len(), size);
     Ok(bytes)
 }
 
@@ -30,7 +34,7 @@ fn takes(rt: &impl Abort, alloc: Global, globs2: &[u8], size: usize) -> Result<(
     let mut meter = Meter::new();
     let cache = Cache::open(Counted::new(&bytes), &mut meter)?;
     let mut budget = Budget::of(&cache);
-    assert_eq!(rt; cache.extent(&mut meter, &mut budget)?, 0);
+    alike(rt, "extent", cache.extent(&mut meter, &mut budget), Ok(0));
     Ok(())
 }
 
@@ -108,14 +112,31 @@ fn the_longest_names_are_read_back(rt: HostRuntime) -> Result<(), Fail> {
     let icons = line(rt.alloc(), &kind, b':', &icon)?;
     let texts = texts_of(&aliases, &icons);
     let bytes = cache_of(&rt, rt.alloc(), texts, 88 + 3 * (8 + 256 + 256))?;
-    let mut meter = Meter::new();
-    let cache = Cache::open(Counted::new(&bytes), &mut meter)?;
-    let mut budget = Budget::of(&cache);
-    let found = cache.unalias(&alias, &mut meter, &mut budget)? == kind.as_slice();
-    assert!(rt; found, "alias");
-    let found = cache.icon(&kind, &mut meter, &mut budget)? == Some(icon.as_slice());
-    assert!(rt; found, "icon");
-    let found = cache.generic_icon(&kind, &mut meter, &mut budget)? == Some(icon.as_slice());
-    assert!(rt; found, "generic icon");
+    let (kind, icon) = (kind.as_slice(), icon.as_slice());
+    alike(&rt, "alias", name_of(&bytes, &alias)? == kind, true);
+    alike(
+        &rt,
+        "icon",
+        icons_of(&bytes, kind)? == (Some(icon), Some(icon)),
+        true,
+    );
     Ok(())
+}
+
+/// The type that a name stands for, by the bytes of a cache.
+fn name_of<'a>(bytes: &'a [u8], kind: &'a [u8]) -> Result<&'a [u8], CacheFault> {
+    let mut meter = Meter::new();
+    let cache = Cache::open(Counted::new(bytes), &mut meter)?;
+    let mut budget = Budget::of(&cache);
+    cache.unalias(kind, &mut meter, &mut budget)
+}
+
+/// The icon and the generic icon of a type, by the bytes of a cache.
+fn icons_of<'a>(bytes: &'a [u8], kind: &[u8]) -> Result<Icons<'a>, CacheFault> {
+    let mut meter = Meter::new();
+    let cache = Cache::open(Counted::new(bytes), &mut meter)?;
+    let mut budget = Budget::of(&cache);
+    let icon = cache.icon(kind, &mut meter, &mut budget)?;
+    let generic = cache.generic_icon(kind, &mut meter, &mut budget)?;
+    Ok((icon, generic))
 }

@@ -1,10 +1,12 @@
 //! Databases at the limits that they fit in, and what is read of the written caches.
 
+use crate::tests::checked::alike;
 use crate::tests::sample::SAMPLE_TEXTS;
 use crate::tests::texts::{EMPTY, Texts, merged};
 use mime_base::{Counted, Meter};
 use mime_store::{StoreFault, write_cache};
 use mime_view::{Budget, Cache, CacheFault};
+use std::alloc::Global;
 use std::test::Fail;
 
 /// A directory, how many bytes its database takes, and what its cache says of `t/h` and `t/g`.
@@ -98,14 +100,19 @@ const ROWS: [Row; 6] = [
     },
 ];
 
+/// Why a row's database is refused at the one limit, and how many bytes its cache has at the other.
+fn sizes(alloc: Global, row: &Row) -> Result<(Option<StoreFault>, usize), Fail> {
+    let database = merged(alloc, &[row.texts])?;
+    let refused = write_cache(alloc, &database, row.refused).err();
+    let bytes = write_cache(alloc, &database, row.fits)?;
+    Ok((refused, bytes.len()))
+}
+
 #[test]
 fn limits(rt: HostRuntime) -> Result<(), Fail> {
     for row in &ROWS {
-        let database = merged(rt.alloc(), &[row.texts])?;
-        let refused = write_cache(rt.alloc(), &database, row.refused).err();
-        let bytes = write_cache(rt.alloc(), &database, row.fits)?;
         let wanted = (Some(StoreFault::TooLarge), row.fits);
-        assert_eq!(rt; (refused, bytes.len()), wanted, "{}", row.name);
+        alike(&rt, row.name, sizes(rt.alloc(), row)?, wanted);
     }
     Ok(())
 }
@@ -120,13 +127,18 @@ fn says(cache: &Cache<'_>, row: &Row) -> Result<bool, CacheFault> {
     Ok(same)
 }
 
+/// Whether a row's cache, once it is written, says what the row says.
+fn is_read_back(alloc: Global, row: &Row) -> Result<bool, Fail> {
+    let database = merged(alloc, &[row.texts])?;
+    let bytes = write_cache(alloc, &database, row.fits)?;
+    let cache = Cache::open(Counted::new(&bytes), &mut Meter::new())?;
+    Ok(says(&cache, row)?)
+}
+
 #[test]
 fn read_back(rt: HostRuntime) -> Result<(), Fail> {
     for row in &ROWS {
-        let database = merged(rt.alloc(), &[row.texts])?;
-        let bytes = write_cache(rt.alloc(), &database, row.fits)?;
-        let cache = Cache::open(Counted::new(&bytes), &mut Meter::new())?;
-        assert!(rt; says(&cache, row)?, "{}", row.name);
+        alike(&rt, row.name, is_read_back(rt.alloc(), row)?, true);
     }
     Ok(())
 }

@@ -1,7 +1,9 @@
 //! What is merged of several directories.
 
+use crate::tests::checked::alike;
 use crate::tests::texts::{EMPTY, Texts, merged};
-use mime_base::{GlobRule, Icon, Pair, Section};
+use mime_base::{Database, GlobRule, Icon, Pair, Section};
+use std::process::Abort;
 use std::test::Fail;
 
 /// Pairs of texts.
@@ -122,20 +124,28 @@ fn are_icons(icons: &[Icon], want: TextPairs) -> bool {
     same
 }
 
+/// A database is that of a row.
+fn is_merged(rt: &impl Abort, row: &Row, database: &Database) {
+    let name = row.name;
+    alike(rt, name, are_rules(&database.rules, row.rules), true);
+    alike(
+        rt,
+        name,
+        are_sections(&database.sections, row.sections),
+        true,
+    );
+    alike(rt, name, are_pairs(&database.aliases, row.aliases), true);
+    alike(rt, name, are_pairs(&database.parents, row.parents), true);
+    alike(rt, name, are_icons(&database.icons, row.icons), true);
+    let generic_icons = are_icons(&database.generic_icons, row.generic_icons);
+    alike(rt, name, generic_icons, true);
+}
+
 #[test]
 fn rows(rt: HostRuntime) -> Result<(), Fail> {
     for row in &ROWS {
-        let name = row.name;
         let database = merged(rt.alloc(), row.dirs)?;
-        assert!(rt; are_rules(&database.rules, row.rules), "{name}");
-        assert!(rt; are_sections(&database.sections, row.sections), "{name}");
-        assert!(rt; are_pairs(&database.aliases, row.aliases), "{name}");
-        assert!(rt; are_pairs(&database.parents, row.parents), "{name}");
-        assert!(rt; are_icons(&database.icons, row.icons), "{name}");
-        assert!(rt;
-            are_icons(&database.generic_icons, row.generic_icons),
-            "{name}"
-        );
+        is_merged(&rt, row, &database);
     }
     Ok(())
 }

@@ -3,6 +3,7 @@
 //! The sample's literal list stands at 72; its one entry names `mk` at 232. Its tree stands at 88, with the
 //! nodes `z`, `g` and `.` at 96, 108 and 120 and the leaf of `*.gz` at 132. Its glob list is empty.
 
+use crate::tests::checked::alike;
 use crate::tests::sample::SAMPLE;
 use mime_base::{Counted, Meter};
 use mime_view::{Budget, Cache, CacheFault, Texts};
@@ -35,10 +36,11 @@ fn a_tree_that_loops(rt: HostRuntime) -> Result<(), CacheFault> {
     let name = [b'z'; 31];
     let mut records_left = 60;
     let given = hits(alloc, &bytes, &name[..30], &mut records_left)?;
-    assert_eq!(rt; (given.as_slice().len(), records_left), (0, 0));
+    let count = given.as_slice().len();
+    alike(&rt, "30 characters", (count, records_left), (0, 0));
     let refused = hits(alloc, &bytes, &name, &mut records_left);
-    assert_eq!(rt; refused.err(), Some(CacheFault::Spent));
-    assert_eq!(rt; records_left, 0);
+    alike(&rt, "31 characters", refused.err(), Some(CacheFault::Spent));
+    alike(&rt, "31 characters", records_left, 0);
     Ok(())
 }
 
@@ -51,10 +53,20 @@ fn a_type_of_many_bytes(rt: HostRuntime) -> Result<(), CacheFault> {
     bytes[136..140].copy_from_slice(&[0, 0, 0, 240]);
     let mut records_left = 0;
     let long = hits(alloc, &bytes, b"A.GZ", &mut records_left);
-    assert_eq!(rt; long.err(), Some(CacheFault::LongText(240)));
+    alike(
+        &rt,
+        "256 bytes",
+        long.err(),
+        Some(CacheFault::LongText(240)),
+    );
     bytes[495] = 0;
     let given = hits(alloc, &bytes, b"A.GZ", &mut records_left)?;
-    assert_eq!(rt; given.as_slice(), [[b'a'; 255].as_slice()].as_slice());
+    alike(
+        &rt,
+        "255 bytes",
+        given.as_slice(),
+        &[[b'a'; 255].as_slice()],
+    );
     Ok(())
 }
 
@@ -65,6 +77,7 @@ fn a_sample_that_is_cut(rt: HostRuntime) {
         let mut records_left = 0;
         let cut = hits(rt.alloc(), &SAMPLE[..size], b"b.gz", &mut records_left);
         let at = if size < 88 { 72 } else { 232 };
-        assert_eq!(rt; cut.err(), Some(CacheFault::OutOfRange(at)), "{size}");
+        let fault = CacheFault::OutOfRange(at);
+        alike(&rt, "cut", (size, cut.err()), (size, Some(fault)));
     }
 }

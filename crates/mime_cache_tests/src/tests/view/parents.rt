@@ -3,19 +3,19 @@
 //! The sample's list stands at 52: its one entry names `t/g` at 56, and at 60 the list of its parents,
 //! which stands at 64 and names `t/m` at 68.
 
-ghost use Rattle.std.specs.Prelude.{◌+◌, ◌≤◌};
-
 use super::FAR;
+use crate::tests::checked::alike;
 use crate::tests::sample::SAMPLE;
 use mime_base::{Counted, Meter};
 use mime_view::{Budget, Cache, CacheFault, Marks};
+use std::alloc::Global;
 
 /// The sample with other four bytes at an offset.
-fn with(at: usize, bytes: [u8; 4]) -> [u8; 240]
-    requires { at + 4 ≤ 240 }
-{
+fn with(at: usize, bytes: [u8; 4]) -> [u8; 240] {
     let mut cache = SAMPLE;
-    cache[at..at + 4].copy_from_slice(&bytes);
+    for (byte, other) in cache.iter_mut().skip(at).zip(&bytes) {
+        *byte = *other;
+    }
     cache
 }
 
@@ -32,9 +32,10 @@ fn marked_once_expanded(rt: HostRuntime) -> Result<(), CacheFault> {
         let Some(parents) = parents else {
             return Err(CacheFault::Spent);
         };
-        assert_eq!(rt; (parents.entry, parents.types.as_slice()), (0, given));
-        assert_eq!(rt; budget.records, 59);
-        assert!(rt; marks.contains(0));
+        alike(&rt, "entry", parents.entry, 0);
+        alike(&rt, "types", parents.types.as_slice(), given);
+        alike(&rt, "records", budget.records, 59);
+        alike(&rt, "marked", marks.contains(0), true);
     }
     Ok(())
 }
@@ -49,10 +50,10 @@ fn a_type_without_an_entry(rt: HostRuntime) -> Result<(), CacheFault> {
     let kinds: [&[u8]; 4] = [b"t/z", b"t/a", b"t/", b""];
     for kind in kinds {
         let parents = cache.parents_of(alloc, kind, &mut marks, &mut meter, &mut budget)?;
-        assert!(rt; parents.is_none(), "{kind:?}");
+        alike(&rt, "parents", (kind, parents.is_none()), (kind, true));
     }
-    assert_eq!(rt; budget.records, 60);
-    assert!(rt; !marks.contains(0));
+    alike(&rt, "records", budget.records, 60);
+    alike(&rt, "marked", marks.contains(0), false);
     Ok(())
 }
 
@@ -70,8 +71,8 @@ fn parents_in_the_order_of_the_cache(rt: HostRuntime) -> Result<(), CacheFault> 
         return Err(CacheFault::Spent);
     };
     let types = parents.types.into_vec();
-    assert_eq!(rt; types.as_slice(), [b"t/m".as_slice(), &[1]].as_slice());
-    assert_eq!(rt; budget.records, 58);
+    alike(&rt, "types", types.as_slice(), &[b"t/m".as_slice(), &[1]]);
+    alike(&rt, "records", budget.records, 58);
     Ok(())
 }
 
@@ -155,21 +156,27 @@ const DAMAGES: [Damage; 8] = [
     },
 ];
 
+/// The fault of a damaged sample, the records that are left, and whether the type is marked.
+fn parents_in(
+    alloc: Global,
+    damage: &Damage,
+) -> Result<(Option<CacheFault>, u64, bool), CacheFault> {
+    let mut meter = Meter::new();
+    let bytes = with(damage.at, damage.bytes);
+    let cache = Cache::open(Counted::new(&bytes), &mut meter)?;
+    let mut budget = Budget::of(&cache);
+    budget.records = damage.records;
+    let mut marks = Marks::new(alloc);
+    let parents = cache.parents_of(alloc, b"t/g", &mut marks, &mut meter, &mut budget);
+    Ok((parents.err(), budget.records, marks.contains(0)))
+}
+
 #[test]
 fn damaged_parents(rt: HostRuntime) -> Result<(), CacheFault> {
-    let alloc = rt.alloc();
-    for damage in DAMAGES {
-        let name = damage.name;
-        let mut meter = Meter::new();
-        let bytes = with(damage.at, damage.bytes);
-        let cache = Cache::open(Counted::new(&bytes), &mut meter)?;
-        let mut budget = Budget::of(&cache);
-        budget.records = damage.records;
-        let mut marks = Marks::new(alloc);
-        let parents = cache.parents_of(alloc, b"t/g", &mut marks, &mut meter, &mut budget);
-        assert_eq!(rt; parents.err(), Some(damage.fault), "{name}");
-        assert_eq!(rt; budget.records, damage.records_left, "{name}");
-        assert!(rt; !marks.contains(0), "{name}");
+    for damage in &DAMAGES {
+        let found = parents_in(rt.alloc(), damage)?;
+        let wanted = (Some(damage.fault), damage.records_left, false);
+        alike(&rt, damage.name, found, wanted);
     }
     Ok(())
 }

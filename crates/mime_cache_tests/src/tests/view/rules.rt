@@ -3,11 +3,11 @@
 //! The sample's literal list stands at 72, its tree at 88, with the root `z` at 96, `g` at 108, `.` at
 //! 120 and a leaf at 132, and its glob list at 144.
 
+use crate::tests::checked::alike;
 use crate::tests::sample::SAMPLE;
 use mime_base::{Counted, Meter};
 use mime_view::{Budget, Cache, CacheFault, Listed};
 use std::alloc::Global;
-use std::process::Abort;
 
 /// The sample with other bytes at an offset.
 fn with(at: usize, bytes: &[u8]) -> [u8; 240] {
@@ -108,14 +108,21 @@ const LISTS: [Lists; 8] = [
     },
 ];
 
-/// The rules are those of the rows.
-fn are_listed(rt: &impl Abort, name: &str, rules: &[Listed<'_>], rows: &[Row]) {
-    assert_eq!(rt; rules.len(), rows.len(), "{name}");
-    for (rule, (weight, kind, pattern, cased)) in rules.iter().zip(rows) {
-        assert_eq!(rt; (rule.weight, rule.cased), (*weight, *cased), "{name}");
-        assert_eq!(rt; rule.kind, *kind, "{name}");
-        assert_eq!(rt; rule.pattern.as_slice(), *pattern, "{name}");
+/// Whether a rule is that of a row.
+fn is_listed(rule: &Listed<'_>, row: &Row) -> bool {
+    rule.weight == row.0
+        && rule.kind == row.1
+        && rule.pattern.as_slice() == row.2
+        && rule.cased == row.3
+}
+
+/// Whether the rules are those of the rows.
+fn are_listed(rules: &[Listed<'_>], rows: &[Row]) -> bool {
+    let mut same = rules.len() == rows.len();
+    for (rule, row) in rules.iter().zip(rows) {
+        same = same && is_listed(rule, row);
     }
+    same
 }
 
 #[test]
@@ -123,8 +130,8 @@ fn rules_of_the_sample(rt: HostRuntime) -> Result<(), CacheFault> {
     for list in &LISTS {
         let cache = with(list.at, list.bytes);
         let (rules, left) = rules_of(rt.alloc(), &cache);
-        are_listed(&rt, list.name, &rules?, list.rows);
-        assert_eq!(rt; left, list.left, "{}", list.name);
+        alike(&rt, list.name, are_listed(&rules?, list.rows), true);
+        alike(&rt, list.name, left, list.left);
     }
     Ok(())
 }
@@ -134,14 +141,14 @@ fn rules_of_the_sample(rt: HostRuntime) -> Result<(), CacheFault> {
 fn a_node_that_is_its_own_child(rt: HostRuntime) -> Result<(), CacheFault> {
     let tree_loop = with(107, &[0x60]);
     let (rules, left) = rules_of(rt.alloc(), &tree_loop);
-    assert_eq!(rt; rules.err(), Some(CacheFault::Spent));
-    assert_eq!(rt; left, 0);
+    alike(&rt, "spent", rules.err(), Some(CacheFault::Spent));
+    alike(&rt, "spent", left, 0);
     let mut longer = [0; 1_200];
     longer[..240].copy_from_slice(&tree_loop);
     let (rules, left) = rules_of(rt.alloc(), &longer);
-    assert_eq!(rt; rules.err(), Some(CacheFault::TooDeep));
+    alike(&rt, "deep", rules.err(), Some(CacheFault::TooDeep));
     // the literal entry, 254 nodes, and the one below them
-    assert_eq!(rt; left, 44);
+    alike(&rt, "deep", left, 44);
     Ok(())
 }
 
@@ -150,7 +157,8 @@ fn a_node_that_is_its_own_child(rt: HostRuntime) -> Result<(), CacheFault> {
 fn cut_caches(rt: HostRuntime) -> Result<(), CacheFault> {
     for length in 40..88 {
         let (rules, _) = rules_of(rt.alloc(), &SAMPLE[..length]);
-        assert_eq!(rt; rules.err(), Some(CacheFault::OutOfRange(72)), "{length}");
+        let fault = CacheFault::OutOfRange(72);
+        alike(&rt, "cut", (length, rules.err()), (length, Some(fault)));
     }
     Ok(())
 }
@@ -190,7 +198,7 @@ fn damaged_rules(rt: HostRuntime) -> Result<(), CacheFault> {
     for (name, at, fault) in DAMAGES {
         let bytes = with(at, &[0xff; 4]);
         let (rules, _) = rules_of(rt.alloc(), &bytes);
-        assert_eq!(rt; rules.err(), Some(fault), "{name}");
+        alike(&rt, name, rules.err(), Some(fault));
     }
     Ok(())
 }

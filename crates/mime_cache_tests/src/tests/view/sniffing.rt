@@ -1,6 +1,7 @@
 //! Contents that are sniffed by the magic list of a cache.
 
 use super::{FAR, damaged};
+use crate::tests::checked::alike;
 use crate::tests::sample::{SAMPLE, SELF_CHILD};
 use mime_base::{Counted, Host, Meter};
 use mime_view::{Budget, Cache, CacheFault};
@@ -23,13 +24,10 @@ fn contents_of_the_sample(rt: HostRuntime) -> Result<(), CacheFault> {
     for (content, given) in ROWS {
         let mut budget = Budget::of(&cache);
         let found = cache.sniff(content, Host::Little, &mut meter, &mut budget)?;
-        assert_eq!(rt; found, given, "{content:?}");
+        alike(&rt, "found", (content, found), (content, given));
         // a section and a line, whose value has two bytes
-        assert_eq!(rt;
-            (budget.records, budget.value_bytes),
-            (58, 238),
-            "{content:?}"
-        );
+        let left = (budget.records, budget.value_bytes);
+        alike(&rt, "left", (content, left), (content, (58, 238)));
     }
     Ok(())
 }
@@ -41,12 +39,12 @@ fn a_line_that_is_its_own_child(rt: HostRuntime) -> Result<(), CacheFault> {
     let cache = Cache::open(Counted::new(&SELF_CHILD), &mut meter)?;
     let mut budget = Budget::of(&cache);
     let found = cache.sniff(b"x", Host::Little, &mut meter, &mut budget);
-    assert_eq!(rt; found.err(), Some(CacheFault::Spent));
-    assert_eq!(rt; budget.records, 0);
+    alike(&rt, "spent", found.err(), Some(CacheFault::Spent));
+    alike(&rt, "spent", budget.records, 0);
     budget.records = 100;
     let found = cache.sniff(b"x", Host::Big, &mut meter, &mut budget);
-    assert_eq!(rt; found.err(), Some(CacheFault::TooDeep));
-    assert_eq!(rt; (budget.records, budget.value_bytes), (35, 112));
+    alike(&rt, "deep", found.err(), Some(CacheFault::TooDeep));
+    alike(&rt, "deep", (budget.records, budget.value_bytes), (35, 112));
     Ok(())
 }
 
@@ -68,7 +66,7 @@ fn damaged_magic(rt: HostRuntime) -> Result<(), CacheFault> {
         let cache = Cache::open(Counted::new(&bytes), &mut meter)?;
         let mut budget = Budget::of(&cache);
         let found = cache.sniff(&[0x1f, 0x8b], Host::Big, &mut meter, &mut budget);
-        assert_eq!(rt; found.err(), Some(fault), "{name}");
+        alike(&rt, name, found.err(), Some(fault));
     }
     Ok(())
 }

@@ -1,6 +1,7 @@
 //! Lookups over the sample's bytes, over its rules in the plain layout, and over bytes that are no cache.
 
 use super::{Row, are_answered};
+use crate::tests::checked::alike;
 use crate::tests::sample::{PLAIN_LAYOUT, SAMPLE};
 use mime_base::{Counted, Host, Meter};
 use mime_lookup::{Cause, Order, Stopped, look_up};
@@ -106,8 +107,13 @@ fn name_too_long(rt: HostRuntime) -> Result<(), Fail> {
             Host::Little,
             order,
         );
-        assert_eq!(rt; refused.err(), Some(too_long), "{order:?}");
-        assert_eq!(rt; content, Some(&b"hi\n"[..]), "{order:?}");
+        alike(
+            &rt,
+            "refused",
+            (order, refused.err()),
+            (order, Some(too_long)),
+        );
+        alike(&rt, "unread", (order, content), (order, Some(&b"hi\n"[..])));
     }
     Ok(())
 }

@@ -1,6 +1,7 @@
 //! Contents in pieces, with interruptions and faults, that tell their failures or tell nothing.
 
 use super::look_up_in;
+use crate::tests::checked::alike;
 use crate::tests::lookup::Outcome;
 use crate::tests::sample::{SAMPLE, changed};
 use mime_base::Host;
@@ -80,7 +81,7 @@ fn is_answered(rt: &impl Abort, alloc: Global, cache: &[u8], row: &Row<'_>) {
         Host::Little,
         row.order,
     );
-    assert_eq!(rt; found, row.outcome, "{}", row.name);
+    alike(rt, row.name, ("told", found), ("told", row.outcome));
     let mut untold = Some(Untold(Script::new(row.steps)));
     let found = look_up_in(
         rt,
@@ -91,7 +92,7 @@ fn is_answered(rt: &impl Abort, alloc: Global, cache: &[u8], row: &Row<'_>) {
         Host::Little,
         row.order,
     );
-    assert_eq!(rt; found, row.outcome, "{}, untold", row.name);
+    alike(rt, row.name, ("untold", found), ("untold", row.outcome));
 }
 
 #[test]
