@@ -3,7 +3,7 @@ use Rattle.std.proofs.Common.{◌≡◌, ℕ, ◌+◌, cond, eqb, List, [], ◌�
 use Rattle.std.proofs.Common.{ap, subst, ◌∙◌, append_assoc, arith}
 use Rattle.std.proofs.lemmas.List.{append-nil}
 use Rattle.mime_base.specs.Format.Records.{CardsAt, RecordsAt, Standing}
-use Rattle.mime_base.specs.Format.Tree.{InOrder, Tree, TreeAt, bare, leaf, leaf_count, leaves_at, node, node_count, width}
+use Rattle.mime_base.specs.Format.Tree.{InOrder, Tree, TreeAt, bare, leaf, leaf_count, leaves_at, node, node_count, sibling_count}
 use Rattle.mime_store.specs.Endings.{IsSibling, Sibling}
 use Rattle.mime_store.specs.Endings.{a_leaf, a_node, as_tree, leaves_of, next_byte}
 use Rattle.mime_store.specs.Endings.{sibling_leaves, sibling_nodes}
@@ -37,10 +37,10 @@ tree_from_records S at (a_node byte below ∷ xs) h =
     let is = h.2 in
     (is.0, subst (CardsAt S at) is.1 h.1, is.2, tree_from_records S (at + 12) xs h.3)
 
-pub width-as_tree : (xs : List Sibling) → width (as_tree xs) ≡ length xs
-width-as_tree [] = refl
-width-as_tree (a_leaf rule ∷ xs) = omega (arith, width-as_tree xs)
-width-as_tree (a_node byte below ∷ xs) = omega (arith, width-as_tree xs)
+pub sibling_count-as_tree : (xs : List Sibling) → sibling_count (as_tree xs) ≡ length xs
+sibling_count-as_tree [] = refl
+sibling_count-as_tree (a_leaf rule ∷ xs) = omega (arith, sibling_count-as_tree xs)
+sibling_count-as_tree (a_node byte below ∷ xs) = omega (arith, sibling_count-as_tree xs)
 
 pub nodes-push : (xs : List Sibling) (x : Sibling) → node_count (as_tree (xs ++ x ∷ [])) ≡ node_count (as_tree xs) + sibling_nodes x
 nodes-push [] (a_leaf rule) = refl

@@ -10,7 +10,7 @@ use Rattle.mime_store.specs.Endings.{nodes, pick}
 use Rattle.mime_store.specs.Written.{Grew, Written}
 use Rattle.mime_store.proofs.Records.{RecordsIn, records_are, records_push, records_stand}
 use Rattle.mime_store.proofs.Written.{grew_none, grew_on, grew_to, written_more}
-use Rattle.mime_store.proofs.Siblings.{sibling_keeps, sibling_sized, tree_from_records, width-as_tree, nodes-push}
+use Rattle.mime_store.proofs.Siblings.{sibling_keeps, sibling_sized, tree_from_records, sibling_count-as_tree, nodes-push}
 use Rattle.mime_store.proofs.Siblings.{leaf_count-push, leaves-push, last_byte, last_byte-push, order-push}
 
 -- the siblings so far are in order, and some path stands before the rest
@@ -96,7 +96,7 @@ sofar_all old now new rows size count first es s g c =
     (sibling_keeps (Written now) (Written new) (written_more now new size g)) rows s.siblings s.gathered) c.small c.stand in
     record {
       tree = as_tree s.siblings;
-      counted = width-as_tree s.siblings ∙ s.counted;
+      counted = sibling_count-as_tree s.siblings ∙ s.counted;
       stand = tree_from_records (Written new) first s.siblings stand;
       leaves = λ path. sym (append-nil (leaves_at path (as_tree s.siblings))) ∙ s.leaves path;
       size = omega (arith, z);

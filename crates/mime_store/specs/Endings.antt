@@ -6,7 +6,7 @@ use Rattle.mime_base.specs.Format.Room.{text_room}
 use Rattle.mime_base.specs.Format.Sorted.{with_key}
 use Rattle.mime_base.specs.Format.Stored.{reversed_ending, weight_and_flags}
 use Rattle.mime_base.specs.Format.SuffixTree.{front_count}
-use Rattle.mime_base.specs.Format.Tree.{InOrder, Tree, TreeAt, bare, leaf, leaf_count, leaves_at, node, node_count, width}
+use Rattle.mime_base.specs.Format.Tree.{InOrder, Tree, TreeAt, bare, leaf, leaf_count, leaves_at, node, node_count, sibling_count}
 use Rattle.mime_base.specs.declared.database.rule.GlobRule.{GlobRule}
 use Rattle.mime_store.specs.Paths.{NoZero}
 use Rattle.mime_store.specs.Written.{Grew, Written}
@@ -66,7 +66,7 @@ as_tree (a_node byte below ∷ siblings) = node byte below (as_tree siblings)
 -- the numbers of a sibling's record
 abbrev pub IsSibling : Standing → Sibling → List ℕ → Type 0
 IsSibling S (a_leaf rule) row = (kind : ℕ) × (row ≡ 0 ∷ kind ∷ weight_and_flags rule ∷ []) × TextAt S kind rule.kind
-IsSibling S (a_node byte below) row = (first : ℕ) × (row ≡ byte ∷ width below ∷ first ∷ []) × TreeAt S first below
+IsSibling S (a_node byte below) row = (first : ℕ) × (row ≡ byte ∷ sibling_count below ∷ first ∷ []) × TreeAt S first below
 
 -- how many nodes there are at it and below it, leaves included
 abbrev pub sibling_nodes : Sibling → ℕ
@@ -114,7 +114,7 @@ first_byte (x ∷ xs) = x
 -- siblings stand there whose leaves are those of the entries
 pub record IsBlock (S : Standing) (count first : ℕ) (es : List Entry) : Type 0 where
   pub tree : Tree
-  pub counted : width tree ≡ count
+  pub counted : sibling_count tree ≡ count
   pub stand : TreeAt S first tree
   pub leaves : (path : List ℕ) → leaves_at path tree ≡ pick path es
   pub size : node_count tree ≡ nodes [] es
@@ -164,7 +164,7 @@ pub record AreEndings (es : List Entry) (rules : List GlobRule) : Type 0 where
 pub record TreeOf (S : Standing) (at : ℕ) (es : List Entry) : Type 0 where
   pub tree : Tree
   pub first : ℕ
-  pub head : CardsAt S at (width tree ∷ first ∷ [])
+  pub head : CardsAt S at (sibling_count tree ∷ first ∷ [])
   pub stand : TreeAt S first tree
   pub ordered : InOrder 0 tree
   pub leaves : (path : List ℕ) → leaves_at path tree ≡ pick path es

@@ -2,7 +2,7 @@
 use Rattle.std.proofs.Common.{◌≡◌, ℕ, ◌+◌, ◌<◌, ◌≤◌, List, [], ◌∷◌, ◌++◌, length, refl, sym, ap, ◌∙◌, arith}
 use Rattle.std.proofs.lemmas.List.{append-nil}
 use Rattle.mime_base.specs.Cache.Bytes.{field}
-use Rattle.mime_base.specs.Format.Tree.{Tree, bare, leaf, node, node_count, width}
+use Rattle.mime_base.specs.Format.Tree.{Tree, bare, leaf, node, node_count, sibling_count}
 use Rattle.mime_base.specs.declared.database.rule.GlobRule.{GlobRule}
 use Rattle.mime_view.specs.Listing.Reads.{ReadsLeaf, ReadsListedTree, rules_of}
 use Rattle.mime_view.specs.Magic.{LiesBlock}
@@ -15,13 +15,13 @@ pub record IsLeaf (c : List ℕ) (at : ℕ) (ending : List ℕ) (one : Tree) : T
   pub size : node_count one ≡ 1
 
 -- without a sibling there is no rule and no node
-none_after : (rest : Tree) → width rest ≡ 0 → (rules_of rest ≡ []) × (node_count rest ≡ 0)
+none_after : (rest : Tree) → sibling_count rest ≡ 0 → (rules_of rest ≡ []) × (node_count rest ≡ 0)
 none_after bare none = (refl, refl)
 none_after (leaf rule rest) none = absurd (omega arith)
 none_after (node character below rest) none = absurd (omega arith)
 
 -- such a sibling is read as a leaf
-pub leaf_read : (c : List ℕ) (at : ℕ) (ending : List ℕ) (one : Tree) → width one ≡ 1 → ReadsListedTree c at ending one → field c at 0 ≡ 0
+pub leaf_read : (c : List ℕ) (at : ℕ) (ending : List ℕ) (one : Tree) → sibling_count one ≡ 1 → ReadsListedTree c at ending one → field c at 0 ≡ 0
     → IsLeaf c at ending one
 leaf_read c at ending bare alone reads zero = absurd (omega arith)
 leaf_read c at ending (leaf rule rest) alone reads zero =
@@ -38,14 +38,14 @@ pub record IsParent (c : List ℕ) (at : ℕ) (ending : List ℕ) (one : Tree) :
   pub below : Tree
   pub byte : field c at 0 < 256
   pub depth : length ending < 254
-  pub count : width below ≡ field c at 1
+  pub count : sibling_count below ≡ field c at 1
   pub block : LiesBlock c (field c at 2) 12 (field c at 1)
   pub reads : ReadsListedTree c (field c at 2) (field c at 0 ∷ ending) below
   pub alone : rules_of one ≡ rules_of below
   pub size : node_count one ≡ 1 + node_count below
 
 -- and any other as a node
-pub node_read : (c : List ℕ) (at : ℕ) (ending : List ℕ) (one : Tree) → width one ≡ 1 → ReadsListedTree c at ending one → 0 < field c at 0
+pub node_read : (c : List ℕ) (at : ℕ) (ending : List ℕ) (one : Tree) → sibling_count one ≡ 1 → ReadsListedTree c at ending one → 0 < field c at 0
     → IsParent c at ending one
 node_read c at ending bare alone reads some = absurd (omega arith)
 node_read c at ending (leaf rule rest) alone reads some = absurd (omega (arith, reads.0))
@@ -62,7 +62,7 @@ node_read c at ending (node character below rest) alone reads some =
     }
 
 -- a sibling is at least one node
-pub some_node : (one : Tree) → width one ≡ 1 → 1 ≤ node_count one
+pub some_node : (one : Tree) → sibling_count one ≡ 1 → 1 ≤ node_count one
 some_node bare alone = absurd (omega arith)
 some_node (leaf rule rest) alone = omega arith
 some_node (node character below rest) alone = omega arith
@@ -70,13 +70,13 @@ some_node (node character below rest) alone = omega arith
 -- what is below a node, by its numbers and the ending that has grown
 pub record IsBelow (c : List ℕ) (first count : ℕ) (grown : List ℕ) (one : Tree) : Type 0 where
   pub below : Tree
-  pub wide : width below ≡ count
+  pub wide : sibling_count below ≡ count
   pub reads : ReadsListedTree c first grown below
   pub alone : rules_of one ≡ rules_of below
   pub size : node_count one ≡ 1 + node_count below
 
 -- by these numbers what is below it is read
-pub below_read : (c : List ℕ) (at : ℕ) (ending : List ℕ) (one : Tree) (character count first : ℕ) (grown : List ℕ) → width one ≡ 1
+pub below_read : (c : List ℕ) (at : ℕ) (ending : List ℕ) (one : Tree) (character count first : ℕ) (grown : List ℕ) → sibling_count one ≡ 1
     → ReadsListedTree c at ending one → 0 < character → character ≡ field c at 0 → count ≡ field c at 1 → first ≡ field c at 2
     → grown ≡ character ∷ ending → IsBelow c first count grown one
 below_read c at ending one character count first grown alone reads some is0 is1 is2 grew =

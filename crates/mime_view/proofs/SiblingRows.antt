@@ -2,7 +2,7 @@
 use Rattle.std.proofs.Common.{◌≡◌, ℕ, ◌+◌, ◌*◌, ◌<◌, ◌≤◌, List, [], ◌∷◌, ◌++◌, append_assoc, refl, sym, ap, ◌∙◌, arith}
 use Rattle.std.specs.Prelude.{map}
 use Rattle.std.proofs.lemmas.List.{append-nil, map-append}
-use Rattle.mime_base.specs.Format.Tree.{Tree, bare, leaf, node, node_count, width}
+use Rattle.mime_base.specs.Format.Tree.{Tree, bare, leaf, node, node_count, sibling_count}
 use Rattle.mime_view.specs.Listing.{PlainListed, listed_rule}
 use Rattle.mime_view.specs.Listing.Reads.{ReadsListedTree, rules_of}
 
@@ -10,7 +10,7 @@ use Rattle.mime_view.specs.Listing.Reads.{ReadsListedTree, rules_of}
 pub record Left (c : List ℕ) (first count : ℕ) (ending : List ℕ) (tree : Tree) (old : List PlainListed) (r0 i : ℕ)
     (now : List PlainListed) (r : ℕ) : Type 0 where
   pub rest : Tree
-  pub size : width rest + i ≡ count
+  pub size : sibling_count rest + i ≡ count
   pub reads : ReadsListedTree c (first + 12 * i) ending rest
   pub listed : now ++ map listed_rule (rules_of rest) ≡ old ++ map listed_rule (rules_of tree)
   pub records : r0 + node_count rest ≤ r + node_count tree
@@ -19,7 +19,7 @@ pub record Left (c : List ℕ) (first count : ℕ) (ending : List ℕ) (tree : T
 pub record Next (c : List ℕ) (first count : ℕ) (ending : List ℕ) (tree : Tree) (old : List PlainListed) (r0 i : ℕ)
     (now : List PlainListed) (r : ℕ) : Type 0 where
   pub one : Tree
-  pub alone : width one ≡ 1
+  pub alone : sibling_count one ≡ 1
   pub reads : ReadsListedTree c (first + 12 * i) ending one
   pub records : r0 + node_count one ≤ r + node_count tree
   pub later : (new : List PlainListed) (r' : ℕ) → new ≡ now ++ map listed_rule (rules_of one) → r ≤ r' + node_count one
@@ -27,7 +27,7 @@ pub record Next (c : List ℕ) (first count : ℕ) (ending : List ℕ) (tree : T
 
 -- of some siblings that are left, the first is the next one
 next_of : (c : List ℕ) (first count : ℕ) (ending : List ℕ) (tree : Tree) (old : List PlainListed) (r0 i : ℕ) (now : List PlainListed)
-    (r : ℕ) (rest : Tree) → i < count → width rest + i ≡ count → ReadsListedTree c (first + 12 * i) ending rest
+    (r : ℕ) (rest : Tree) → i < count → sibling_count rest + i ≡ count → ReadsListedTree c (first + 12 * i) ending rest
     → now ++ map listed_rule (rules_of rest) ≡ old ++ map listed_rule (rules_of tree) → r0 + node_count rest ≤ r + node_count tree
     → Next c first count ending tree old r0 i now r
 next_of c first count ending tree old r0 i now r bare l size reads listed records = absurd (omega arith)
@@ -71,7 +71,7 @@ next c first count ending tree old r0 i now r l left =
     next_of c first count ending tree old r0 i now r left.rest l left.size left.reads left.listed left.records
 
 -- where no sibling is left, no rule is added
-nothing : (rest : Tree) (now : List PlainListed) → width rest ≡ 0 → now ++ map listed_rule (rules_of rest) ≡ now
+nothing : (rest : Tree) (now : List PlainListed) → sibling_count rest ≡ 0 → now ++ map listed_rule (rules_of rest) ≡ now
 nothing bare now none = append-nil now
 nothing (leaf rule rest) now none = absurd (omega arith)
 nothing (node character below rest) now none = absurd (omega arith)
@@ -85,7 +85,7 @@ none_left c first count ending tree old r0 i now r l left =
     sym (nothing left.rest now (omega arith)) ∙ left.listed
 
 -- at first all are left
-pub all_left : (c : List ℕ) (first count : ℕ) (ending : List ℕ) (tree : Tree) (now : List PlainListed) (r : ℕ) → width tree ≡ count
+pub all_left : (c : List ℕ) (first count : ℕ) (ending : List ℕ) (tree : Tree) (now : List PlainListed) (r : ℕ) → sibling_count tree ≡ count
     → ReadsListedTree c first ending tree → Left c first count ending tree now r 0 now r
 all_left c first count ending tree now r size reads = record {
   rest = tree;

@@ -3,7 +3,7 @@ use Rattle.std.proofs.Common.{◌≡◌, ℕ, zero, suc, ◌+◌, ◌*◌, ◌<�
 use Rattle.std.proofs.Math.Arith.{lt_of_le-ne}
 use Rattle.std.proofs.lemmas.Bool.{eqb-true, false_from_ne_true}
 use Rattle.mime_base.specs.Cache.Bytes.{field}
-use Rattle.mime_base.specs.Format.Tree.{InOrder, Tree, bare, leaf, node, width}
+use Rattle.mime_base.specs.Format.Tree.{InOrder, Tree, bare, leaf, node, sibling_count}
 use Rattle.mime_view.specs.Magic.{LiesBlock}
 use Rattle.mime_view.specs.SuffixTree.{IsCharacterPlace, ReadsBlock, ReadsTree, below_character}
 use Rattle.mime_view.specs.declared.suffixes.Block.{Block}
@@ -13,7 +13,7 @@ apart : (a b : ℕ) → (a ≡ b → ⊥) → (a == b) ≡ false
 apart a b differ = false_from_ne_true (a == b) (λ is. differ (eqb-true a b is))
 
 -- after a character each sibling has a greater one
-above : (c : List ℕ) (at before : ℕ) (tree : Tree) (i : ℕ) → 0 < before → InOrder before tree → ReadsTree c at tree → i < width tree
+above : (c : List ℕ) (at before : ℕ) (tree : Tree) (i : ℕ) → 0 < before → InOrder before tree → ReadsTree c at tree → i < sibling_count tree
     → before < field c (at + 12 * i) 0
 above c at before bare i some order reads l = absurd (omega arith)
 above c at before (leaf rule rest) i some order reads l = absurd (omega (arith, order.0))
@@ -41,7 +41,7 @@ before_shifted c at b place less i is =
 
 -- the character of a node before a place
 lesser : (c : List ℕ) (at b character place : ℕ) (rest : Tree) → 0 < character → field c at 0 ≡ character
-    → InOrder character rest → ReadsTree c (at + 12) rest → place ≤ width rest
+    → InOrder character rest → ReadsTree c (at + 12) rest → place ≤ sibling_count rest
     → ((i : ℕ) → i + 1 ≡ suc place → field c (at + 12 * i) 0 < b) → character < b
 lesser c at b character zero rest some here order reads within less =
     let e : at + 12 * 0 ≡ at = omega arith in
@@ -54,8 +54,8 @@ lesser c at b character (suc place) rest some here order reads within less =
 
 -- where the sibling before a place has a lesser character and the one at it a greater one, no sibling has it
 pub below_character-none : (c : List ℕ) (at b place before : ℕ) (tree : Tree) → 0 < b → InOrder before tree → ReadsTree c at tree
-    → place ≤ width tree → ((i : ℕ) → i + 1 ≡ place → field c (at + 12 * i) 0 < b)
-    → (place < width tree → b < field c (at + 12 * place) 0) → below_character b tree ≡ bare
+    → place ≤ sibling_count tree → ((i : ℕ) → i + 1 ≡ place → field c (at + 12 * i) 0 < b)
+    → (place < sibling_count tree → b < field c (at + 12 * place) 0) → below_character b tree ≡ bare
 below_character-none c at b place before bare some order reads within less greater = refl
 below_character-none c at b zero before (leaf rule rest) some order reads within less greater =
     let e : at + 12 * 0 ≡ at = omega arith in
@@ -78,14 +78,14 @@ below_character-none c at b (suc place) before (node character below rest) some 
 
 -- the record at `at` is that of a node with these siblings below it
 pub record ReadsNode (c : List ℕ) (at : ℕ) (below : Tree) : Type 0 where
-  pub count : field c at 1 ≡ width below
-  pub block : LiesBlock c (field c at 2) 12 (width below)
+  pub count : field c at 1 ≡ sibling_count below
+  pub block : LiesBlock c (field c at 2) 12 (sibling_count below)
   pub siblings : ReadsTree c (field c at 2) below
   pub ordered : InOrder 0 below
 
 -- the sibling of a character is the only one
 pub below_character-found : (c : List ℕ) (at b place before : ℕ) (tree : Tree) → 0 < b → InOrder before tree → ReadsTree c at tree
-    → place < width tree → field c (at + 12 * place) 0 ≡ b → ReadsNode c (at + 12 * place) (below_character b tree)
+    → place < sibling_count tree → field c (at + 12 * place) 0 ≡ b → ReadsNode c (at + 12 * place) (below_character b tree)
 below_character-found c at b place before bare some order reads within is = absurd (omega arith)
 below_character-found c at b zero before (leaf rule rest) some order reads within is =
     let e : at + 12 * 0 ≡ at = omega arith in

@@ -4,7 +4,7 @@ use Rattle.std.proofs.Common.{List, [], ◌∷◌, refl, sym, subst, ◌∙◌, 
 use Rattle.std.proofs.lemmas.Bool.{eqb-true}
 use Rattle.std.proofs.lemmas.List.Elements.{All-head, All-tail, filter-append}
 use Rattle.mime_base.specs.Cache.Bytes.{field}
-use Rattle.mime_base.specs.Format.Tree.{InOrder, Tree, bare, leaf, leaves_at, node, width}
+use Rattle.mime_base.specs.Format.Tree.{InOrder, Tree, bare, leaf, leaves_at, node, sibling_count}
 use Rattle.mime_base.specs.declared.database.rule.GlobRule.{GlobRule}
 use Rattle.mime_view.specs.Hits.{Offers, takes_rule, visits}
 use Rattle.mime_view.specs.SuffixTree.{IsSuffixRule, ReadsLeaf, ReadsTree, admitted, scan_visits}
@@ -37,7 +37,7 @@ OffersWithRest c case long tree h0 rest h =
 pub record ScanLeft (c : List ℕ) (block : Block) (case : Case) (long : ℕ) (tree : Tree) (h0 : Kept) (r0 i : ℕ) (h : Kept) (r : ℕ)
     : Type 0 where
   pub rest : Tree
-  pub size : width rest + i ≡ block.count
+  pub size : sibling_count rest + i ≡ block.count
   pub siblings : ReadsTree c (block.first + 12 * i) rest
   pub ordered : InOrder 0 rest
   pub suffixes : All (IsSuffixRule long) (leaves_at [] tree) → All (IsSuffixRule long) (leaves_at [] rest)
@@ -49,7 +49,7 @@ pub visit_left : (c : List ℕ) (block : Block) (case : Case) (long : ℕ) (tree
     → i < block.count → ScanLeft c block case long tree h0 r0 i h r → r0 + visits case ≤ r + visits case * scan_visits tree
 visit_left c block case long tree h0 r0 i h r l left = by_rest left.rest left.size left.records
   where
-    by_rest : (rest : Tree) → width rest + i ≡ block.count → r0 + visits case * scan_visits rest ≤ r + visits case * scan_visits tree
+    by_rest : (rest : Tree) → sibling_count rest + i ≡ block.count → r0 + visits case * scan_visits rest ≤ r + visits case * scan_visits tree
         → r0 + visits case ≤ r + visits case * scan_visits tree
     by_rest bare size records = absurd (omega arith)
     by_rest (leaf rule rest) size records = omega arith
@@ -72,7 +72,7 @@ pub next_leaf : (c : List ℕ) (block : Block) (case : Case) (long : ℕ) (tree 
 next_leaf c block case long tree h0 r0 i h r l zero left =
     by_rest left.rest left.size left.siblings left.ordered left.suffixes left.offers left.records
   where
-    by_rest : (rest : Tree) → width rest + i ≡ block.count → ReadsTree c (block.first + 12 * i) rest → InOrder 0 rest
+    by_rest : (rest : Tree) → sibling_count rest + i ≡ block.count → ReadsTree c (block.first + 12 * i) rest → InOrder 0 rest
         → (All (IsSuffixRule long) (leaves_at [] tree) → All (IsSuffixRule long) (leaves_at [] rest))
         → OffersWithRest c case long tree h0 rest h
         → r0 + visits case * scan_visits rest ≤ r + visits case * scan_visits tree → NextLeaf c block case long tree h0 r0 i h r
@@ -117,7 +117,7 @@ pub none_left : (c : List ℕ) (block : Block) (case : Case) (long : ℕ) (tree 
     → block.count ≤ i → ScanLeft c block case long tree h0 r0 i h r → OffersLeaves c case long tree h0 h
 none_left c block case long tree h0 r0 i h r l left = by_rest left.rest left.size left.offers
   where
-    by_rest : (rest : Tree) → width rest + i ≡ block.count
+    by_rest : (rest : Tree) → sibling_count rest + i ≡ block.count
         → OffersWithRest c case long tree h0 rest h → OffersLeaves c case long tree h0 h
     by_rest bare size offers = λ all. offers all h (offers_none c h)
     by_rest (leaf rule rest) size offers = absurd (omega arith)

@@ -6,7 +6,7 @@ use Rattle.mime_base.specs.Cache.Bytes.{Stands, field, fields}
 use Rattle.mime_base.specs.Format.Sorted.{with_key}
 use Rattle.mime_base.specs.Format.Stored.{reversed_ending, tree_rules, weight_and_flags}
 use Rattle.mime_base.specs.Format.SuffixTree.{SuffixTreeAt, fronts}
-use Rattle.mime_base.specs.Format.Tree.{Tree, TreeAt, bare, leaf, leaves_at, node, width}
+use Rattle.mime_base.specs.Format.Tree.{Tree, TreeAt, bare, leaf, leaves_at, node, sibling_count}
 use Rattle.mime_base.specs.declared.database.rule.GlobRule.{GlobRule}
 use Rattle.mime_view.specs.Hits.{ending_rules, tree_visits}
 use Rattle.mime_view.specs.Magic.{LiesBlock}
@@ -16,17 +16,17 @@ use Rattle.mime_view.proofs.Records.{first_read, numbers_read, record_inside, se
 use Rattle.mime_view.proofs.TreeWalks.{flat_map-same, leaves_along, walk_few, walk_visits, walk_within}
 
 -- siblings lie in the cache
-pub siblings_inside : (c : List ℕ) (at : ℕ) (tree : Tree) → TreeAt (Stands c) at tree → 0 < width tree → at + 12 * width tree ≤ length c
+pub siblings_inside : (c : List ℕ) (at : ℕ) (tree : Tree) → TreeAt (Stands c) at tree → 0 < sibling_count tree → at + 12 * sibling_count tree ≤ length c
 siblings_inside c at bare stand some = absurd (omega arith)
 siblings_inside c at (leaf rule rest) (kind, here, text, later) some =
     let inside : at + 4 * 3 ≤ length c = record_inside c at (0 ∷ kind ∷ weight_and_flags rule ∷ []) here in
-    elim (cases_lt 0 (width rest)) [
+    elim (cases_lt 0 (sibling_count rest)) [
       | inl more ↦ let rest_inside = siblings_inside c (at + 12) rest later more in (omega arith)
       | inr none ↦ (omega arith)
     ]
 siblings_inside c at (node character below rest) (first, here, under, later) some =
-    let inside : at + 4 * 3 ≤ length c = record_inside c at (character ∷ width below ∷ first ∷ []) here in
-    elim (cases_lt 0 (width rest)) [
+    let inside : at + 4 * 3 ≤ length c = record_inside c at (character ∷ sibling_count below ∷ first ∷ []) here in
+    elim (cases_lt 0 (sibling_count rest)) [
       | inl more ↦ let rest_inside = siblings_inside c (at + 12) rest later more in (omega arith)
       | inr none ↦ (omega arith)
     ]
@@ -43,8 +43,8 @@ tree_read c at (leaf rule rest) (kind, here, text, later) =
       tree_read c (at + 12) rest later,
     )
 tree_read c at (node character below rest) (first, here, under, later) =
-    let numbers = numbers_read c at (character ∷ width below ∷ first ∷ []) here in
-    let number : (i : ℕ) → get_or (fields c at 3) i 0 ≡ get_or (character ∷ width below ∷ first ∷ []) i 0 =
+    let numbers = numbers_read c at (character ∷ sibling_count below ∷ first ∷ []) here in
+    let number : (i : ℕ) → get_or (fields c at 3) i 0 ≡ get_or (character ∷ sibling_count below ∷ first ∷ []) i 0 =
     λ i. ap (λ (ns : List ℕ). get_or ns i 0) numbers in
     let at_first : field c at 2 ≡ first = number 2 in (
       number 0,
@@ -57,15 +57,15 @@ tree_read c at (node character below rest) (first, here, under, later) =
 -- the head of a tree lies in the cache
 pub head_inside : (c : List ℕ) (at : ℕ) (rules : List GlobRule) → SuffixTreeAt (Stands c) at rules → at + 8 ≤ length c
 head_inside c at rules stand =
-    let inside : at + 4 * 2 ≤ length c = record_inside c at (width stand.tree ∷ stand.first ∷ []) stand.head in
+    let inside : at + 4 * 2 ≤ length c = record_inside c at (sibling_count stand.tree ∷ stand.first ∷ []) stand.head in
     omega arith
 
 -- so do its roots
 pub roots_inside : (c : List ℕ) (at : ℕ) (rules : List GlobRule) → SuffixTreeAt (Stands c) at rules
     → LiesBlock c (field c at 1) 12 (field c at 0)
 roots_inside c at rules stand =
-    let count = first_read c at (width stand.tree) (stand.first ∷ []) stand.head in
-    let first = second_read c at (width stand.tree) stand.first [] stand.head in
+    let count = first_read c at (sibling_count stand.tree) (stand.first ∷ []) stand.head in
+    let first = second_read c at (sibling_count stand.tree) stand.first [] stand.head in
     record {
       inside = λ some.
           let inside = siblings_inside c stand.first stand.tree stand.stand (omega (arith, count)) in
@@ -76,9 +76,9 @@ roots_inside c at rules stand =
 pub roots_read : (c : List ℕ) (at : ℕ) (rules : List GlobRule) (block : Block) → block.first ≡ field c at 1 → block.count ≡ field c at 0
     → (stand : SuffixTreeAt (Stands c) at rules) → ReadsBlock c block stand.tree
 roots_read c at rules block first count stand =
-    let at_first : block.first ≡ stand.first = first ∙ second_read c at (width stand.tree) stand.first [] stand.head in
+    let at_first : block.first ≡ stand.first = first ∙ second_read c at (sibling_count stand.tree) stand.first [] stand.head in
     record {
-      size = sym (count ∙ first_read c at (width stand.tree) (stand.first ∷ []) stand.head);
+      size = sym (count ∙ first_read c at (sibling_count stand.tree) (stand.first ∷ []) stand.head);
       siblings = rw at_first (tree_read c stand.first stand.tree stand.stand);
       ordered = stand.ordered;
     }

@@ -8,30 +8,30 @@ use Rattle.std.proofs.lemmas.List.Elements.{All-cons, All-head, All-nil, All-tai
 use Rattle.mime_base.specs.Cache.Bytes.{Stands, field, fields}
 use Rattle.mime_base.specs.Cache.Texts.{text_at}
 use Rattle.mime_base.specs.Format.Stored.{weight_and_flags}
-use Rattle.mime_base.specs.Format.Tree.{InOrder, Tree, TreeAt, bare, leaf, node, width}
+use Rattle.mime_base.specs.Format.Tree.{InOrder, Tree, TreeAt, bare, leaf, node, sibling_count}
 use Rattle.mime_view.specs.Listing.Reads.{ReadsListedTree}
 use Rattle.mime_view.proofs.Records.{numbers_read, record_inside, text_read}
 use Rattle.mime_view.proofs.TreeLeaves.{Leaf, leaves, length-leaves, path_of, rule_of, under}
 use Rattle.mime_view.proofs.EndedRules.{IsEnded}
 
 -- siblings lie in the cache
-tree_inside : (c : List ℕ) (at : ℕ) (tree : Tree) → at ≤ length c → TreeAt (Stands c) at tree → at + 12 * width tree ≤ length c
+tree_inside : (c : List ℕ) (at : ℕ) (tree : Tree) → at ≤ length c → TreeAt (Stands c) at tree → at + 12 * sibling_count tree ≤ length c
 tree_inside c at bare low stand = omega arith
 tree_inside c at (leaf rule rest) low (kind, here, text, later) =
     let inside : at + 4 * 3 ≤ length c = record_inside c at (0 ∷ kind ∷ weight_and_flags rule ∷ []) here in
     omega (arith, tree_inside c (at + 12) rest (omega arith) later)
 tree_inside c at (node character below rest) low (first, here, inner, later) =
-    let inside : at + 4 * 3 ≤ length c = record_inside c at (character ∷ width below ∷ first ∷ []) here in
+    let inside : at + 4 * 3 ≤ length c = record_inside c at (character ∷ sibling_count below ∷ first ∷ []) here in
     omega (arith, tree_inside c (at + 12) rest (omega arith) later)
 
 -- also where their offset is not known to lie there
-pub siblings_inside : (c : List ℕ) (at : ℕ) (tree : Tree) → TreeAt (Stands c) at tree → 0 < width tree → at + 12 * width tree ≤ length c
+pub siblings_inside : (c : List ℕ) (at : ℕ) (tree : Tree) → TreeAt (Stands c) at tree → 0 < sibling_count tree → at + 12 * sibling_count tree ≤ length c
 siblings_inside c at bare stand some = absurd (omega arith)
 siblings_inside c at (leaf rule rest) stand some =
     let inside : at + 4 * 3 ≤ length c = record_inside c at (0 ∷ stand.0 ∷ weight_and_flags rule ∷ []) stand.1 in
     tree_inside c at (leaf rule rest) (omega arith) stand
 siblings_inside c at (node character below rest) stand some =
-    let inside : at + 4 * 3 ≤ length c = record_inside c at (character ∷ width below ∷ stand.0 ∷ []) stand.1 in
+    let inside : at + 4 * 3 ≤ length c = record_inside c at (character ∷ sibling_count below ∷ stand.0 ∷ []) stand.1 in
     tree_inside c at (node character below rest) (omega arith) stand
 
 -- what holds of all leaves holds of those of a part
@@ -108,8 +108,8 @@ tree_read c at ending before (leaf rule rest) (kind, here, text, later) order al
       tree_read c (at + 12) ending before rest later order.1 (All-tail (GoesOn ending) ([], rule) (leaves rest) all),
     )
 tree_read c at ending before (node character below rest) (first, here, inner, later) order all =
-    let read = numbers_read c at (character ∷ width below ∷ first ∷ []) here in
-    let number : (i : ℕ) → get_or (fields c at 3) i 0 ≡ get_or (character ∷ width below ∷ first ∷ []) i 0 =
+    let read = numbers_read c at (character ∷ sibling_count below ∷ first ∷ []) here in
+    let number : (i : ℕ) → get_or (fields c at 3) i 0 ≡ get_or (character ∷ sibling_count below ∷ first ∷ []) i 0 =
     λ i. ap (λ (ns : List ℕ). get_or ns i 0) read in
     let at_first : field c at 2 ≡ first = number 2 in
     let under_all = All-under (GoesOn ending) character (leaves below)

@@ -3,7 +3,7 @@ use Rattle.std.specs.Prelude.{◌≡◌, ◌⊎◌, ℕ, ◌+◌, ◌*◌, ◌<�
 use Rattle.mime_base.specs.Cache.Bytes.{field}
 use Rattle.mime_base.specs.Cache.Texts.{text_at}
 use Rattle.mime_base.specs.Format.Stored.{weight_and_flags}
-use Rattle.mime_base.specs.Format.Tree.{InOrder, Tree, bare, leaf, node, width}
+use Rattle.mime_base.specs.Format.Tree.{InOrder, Tree, bare, leaf, node, sibling_count}
 use Rattle.mime_base.specs.Kept.{class_of}
 use Rattle.mime_base.specs.declared.database.rule.GlobRule.{GlobRule}
 use Rattle.mime_base.specs.declared.kept.class.Class.TheVariants.{Suffix}
@@ -25,12 +25,12 @@ abbrev pub ReadsTree : List ℕ → ℕ → Tree → Type 0
 ReadsTree c at bare = Unit {0}
 ReadsTree c at (leaf rule rest) = ReadsLeaf c at rule × ReadsTree c (at + 12) rest
 ReadsTree c at (node character below rest) =
-    (field c at 0 ≡ character) × (field c at 1 ≡ width below) × LiesBlock c (field c at 2) 12 (width below)
+    (field c at 0 ≡ character) × (field c at 1 ≡ sibling_count below) × LiesBlock c (field c at 2) 12 (sibling_count below)
     × ReadsTree c (field c at 2) below × ReadsTree c (at + 12) rest
 
 -- a block is of these siblings, in the order of the format
 pub record ReadsBlock (c : List ℕ) (block : Block) (tree : Tree) : Type 0 where
-  pub size : width tree ≡ block.count
+  pub size : sibling_count tree ≡ block.count
   pub siblings : ReadsTree c block.first tree
   pub ordered : InOrder 0 tree
 

@@ -5,7 +5,7 @@ use Rattle.std.specs.Set.{distinct_count}
 use Rattle.mime_base.specs.Format.Records.{CardsAt, Standing}
 use Rattle.mime_base.specs.Format.Sorted.{with_key}
 use Rattle.mime_base.specs.Format.Stored.{reversed_ending, tree_rules}
-use Rattle.mime_base.specs.Format.Tree.{InOrder, Tree, TreeAt, leaves_at, node_count, width}
+use Rattle.mime_base.specs.Format.Tree.{InOrder, Tree, TreeAt, leaves_at, node_count, sibling_count}
 use Rattle.mime_base.specs.declared.database.rule.GlobRule.{GlobRule}
 
 -- the non-empty fronts of a path: of a reversed text, these are its non-empty endings reversed
@@ -25,7 +25,7 @@ tree_size rules = length (tree_rules rules) + front_count (map reversed_ending (
 pub record SuffixTreeAt (S : Standing) (at : ℕ) (rules : List GlobRule) : Type 0 where
   pub tree : Tree
   pub first : ℕ
-  pub head : CardsAt S at (width tree ∷ first ∷ [])
+  pub head : CardsAt S at (sibling_count tree ∷ first ∷ [])
   pub stand : TreeAt S first tree
   pub ordered : InOrder 0 tree
   pub leaves : (path : List ℕ) → leaves_at path tree ≡ with_key reversed_ending path (tree_rules rules)

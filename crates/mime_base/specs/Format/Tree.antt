@@ -11,10 +11,10 @@ pub data Tree : Type 0 where
   node : ℕ → Tree → Tree → Tree
 
 -- how many siblings there are
-abbrev pub width : Tree → ℕ
-width bare = 0
-width (leaf rule rest) = 1 + width rest
-width (node character below rest) = 1 + width rest
+abbrev pub sibling_count : Tree → ℕ
+sibling_count bare = 0
+sibling_count (leaf rule rest) = 1 + sibling_count rest
+sibling_count (node character below rest) = 1 + sibling_count rest
 
 -- how many nodes there are at all depths, leaves included
 abbrev pub node_count : Tree → ℕ
@@ -36,7 +36,7 @@ TreeAt S at (leaf rule rest) =
     (kind : ℕ) × CardsAt S at (0 ∷ kind ∷ weight_and_flags rule ∷ []) × TextAt S kind rule.kind
     × TreeAt S (at + 12) rest
 TreeAt S at (node character below rest) =
-    (first : ℕ) × CardsAt S at (character ∷ width below ∷ first ∷ []) × TreeAt S first below × TreeAt S (at + 12) rest
+    (first : ℕ) × CardsAt S at (character ∷ sibling_count below ∷ first ∷ []) × TreeAt S first below × TreeAt S (at + 12) rest
 
 -- the rules of the leaves at the end of a path of characters, in their order
 abbrev pub leaves_at : List ℕ → Tree → List GlobRule

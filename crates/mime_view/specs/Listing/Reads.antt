@@ -3,7 +3,7 @@ use Rattle.std.specs.Prelude.{◌≡◌, ℕ, ◌+◌, ◌*◌, ◌<◌, ◌≤�
 use Rattle.mime_base.specs.Cache.Bytes.{field}
 use Rattle.mime_base.specs.Cache.Texts.{text_at}
 use Rattle.mime_base.specs.Format.Stored.{stored_text, weight_and_flags}
-use Rattle.mime_base.specs.Format.Tree.{Tree, bare, leaf, node, width}
+use Rattle.mime_base.specs.Format.Tree.{Tree, bare, leaf, node, sibling_count}
 use Rattle.mime_base.specs.declared.database.rule.GlobRule.{GlobRule}
 use Rattle.mime_view.specs.Magic.{LiesBlock}
 
@@ -46,12 +46,12 @@ ReadsListedTree c at ending (leaf rule rest) =
     (field c at 0 ≡ 0) × ReadsLeaf c at ending rule × ReadsListedTree c (at + 12) ending rest
 ReadsListedTree c at ending (node character below rest) =
     (field c at 0 ≡ character) × (0 < character) × (character < 256) × (length ending < 254)
-    × (field c at 1 ≡ width below) × LiesBlock c (field c at 2) 12 (width below)
+    × (field c at 1 ≡ sibling_count below) × LiesBlock c (field c at 2) 12 (sibling_count below)
     × ReadsListedTree c (field c at 2) (character ∷ ending) below × ReadsListedTree c (at + 12) ending rest
 
 -- the tree at `at` is this one
 pub record ReadsSuffixTree (c : List ℕ) (at : ℕ) (tree : Tree) : Type 0 where
   pub head : at + 8 ≤ length c
-  pub count : field c at 0 ≡ width tree
-  pub block : LiesBlock c (field c at 1) 12 (width tree)
+  pub count : field c at 0 ≡ sibling_count tree
+  pub block : LiesBlock c (field c at 1) 12 (sibling_count tree)
   pub siblings : ReadsListedTree c (field c at 1) [] tree

@@ -5,7 +5,7 @@
 
 ghost use Rattle.std.specs.Prelude.{◌≡◌, ◌⊎◌, ℕ, ◌+◌, ◌*◌, ◌^◌, ◌<◌, ◌≤◌, [], ◌∷◌, ◌++◌, All, length, map, OnOk, IfErr};
 ghost use Rattle.mime_base.specs.Cache.Bytes.{field};
-ghost use Rattle.mime_base.specs.Format.Tree.{Tree, node_count, width};
+ghost use Rattle.mime_base.specs.Format.Tree.{Tree, node_count, sibling_count};
 ghost use Rattle.mime_base.specs.declared.database.rule.GlobRule.{GlobRule};
 ghost use Rattle.mime_view.specs.Listing.{IsListed, Lists, listed_rule};
 ghost use Rattle.mime_view.specs.Listing.Faults.{IsSiblingsFault, IsListedTreeFault};
@@ -79,13 +79,13 @@ fn add_siblings<'a>(
     requires limit { length counted.now ≤ 2 ^ 28 }
     requires fits { LiesBlock counted.now first 12 count }
     requires depth { length ending.old ≤ 254 }
-    ensures answer { (tree : Tree) → width tree ≡ count → ReadsListedTree counted.now first ending.old tree →
+    ensures answer { (tree : Tree) → sibling_count tree ≡ count → ReadsListedTree counted.now first ending.old tree →
         OnOk result (listing.new ≡ listing.old ++ map listed_rule (rules_of tree)) }
     ensures ending_stays { OnOk result (ending.new ≡ ending.old) }
     ensures text { All (IsListed counted.now) listing.old → All (IsListed counted.now) listing.new }
-    ensures need { (tree : Tree) → width tree ≡ count → ReadsListedTree counted.now first ending.old tree →
+    ensures need { (tree : Tree) → sibling_count tree ≡ count → ReadsListedTree counted.now first ending.old tree →
         node_count tree ≤ budget.old.records → IfErr result (λ e. e ≡ CacheFault.OutOfMemory) }
-    ensures takes_at_most { (tree : Tree) → width tree ≡ count → ReadsListedTree counted.now first ending.old tree →
+    ensures takes_at_most { (tree : Tree) → sibling_count tree ≡ count → ReadsListedTree counted.now first ending.old tree →
         budget.old.records ≤ budget.new.records + node_count tree }
     ensures fault { IfErr result (IsSiblingsFault counted.now first count (length ending.old) budget.new.records) }
     ensures cost { Lists 0 budget.old budget.new meter.old meter.new }
@@ -112,13 +112,13 @@ fn add_sibling<'a>(
     requires limit { length counted.now ≤ 2 ^ 28 }
     requires inside { at + 12 ≤ length counted.now }
     requires depth { length ending.old ≤ 254 }
-    ensures answer { (tree : Tree) → width tree ≡ 1 → ReadsListedTree counted.now at ending.old tree →
+    ensures answer { (tree : Tree) → sibling_count tree ≡ 1 → ReadsListedTree counted.now at ending.old tree →
         OnOk result (listing.new ≡ listing.old ++ map listed_rule (rules_of tree)) }
     ensures ending_stays { OnOk result (ending.new ≡ ending.old) }
     ensures text { All (IsListed counted.now) listing.old → All (IsListed counted.now) listing.new }
-    ensures need { (tree : Tree) → width tree ≡ 1 → ReadsListedTree counted.now at ending.old tree →
+    ensures need { (tree : Tree) → sibling_count tree ≡ 1 → ReadsListedTree counted.now at ending.old tree →
         node_count tree ≤ budget.old.records → IfErr result (λ e. e ≡ CacheFault.OutOfMemory) }
-    ensures takes_at_most { (tree : Tree) → width tree ≡ 1 → ReadsListedTree counted.now at ending.old tree →
+    ensures takes_at_most { (tree : Tree) → sibling_count tree ≡ 1 → ReadsListedTree counted.now at ending.old tree →
         budget.old.records ≤ budget.new.records + node_count tree }
     ensures fault { IfErr result (IsSiblingsFault counted.now at 1 (length ending.old) budget.new.records) }
     ensures cost { Lists 0 budget.old budget.new meter.old meter.new }

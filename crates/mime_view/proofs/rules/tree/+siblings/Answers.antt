@@ -84,9 +84,9 @@ add_siblings-returns-in_err-add_sibling-clause-text t c = λ all. c.add_sibling.
 
 pub add_siblings-returns-in_err-add_sibling-clause-need :
     goal.add_siblings-returns-in_err-add_sibling-clause-need
-add_siblings-returns-in_err-add_sibling-clause-need t c = λ tree width reads enough.
+add_siblings-returns-in_err-add_sibling-clause-need t c = λ tree sibling_count reads enough.
     let n = next c.args.counted.now c.args.first c.args.count c.args.ending.now tree _ _ c.loop-i.i _ _ c.loop-i-test.true
-    (c.loop-i.invariant.left tree width reads) in
+    (c.loop-i.invariant.left tree sibling_count reads) in
     let here = subst (λ (e : List ℕ). ReadsListedTree c.args.counted.now (c.args.first + 12 * c.loop-i.i) e n.one)
     (sym c.loop-i.invariant.ending) n.reads in
     let p = err_from_is_err_and c.from_residual.result c.from_residual.ensures.1 in
@@ -94,18 +94,18 @@ add_siblings-returns-in_err-add_sibling-clause-need t c = λ tree width reads en
 
 pub add_siblings-returns-in_err-add_sibling-clause-takes_at_most :
     goal.add_siblings-returns-in_err-add_sibling-clause-takes_at_most
-add_siblings-returns-in_err-add_sibling-clause-takes_at_most t c = λ tree width reads.
+add_siblings-returns-in_err-add_sibling-clause-takes_at_most t c = λ tree sibling_count reads.
     let n = next c.args.counted.now c.args.first c.args.count c.args.ending.now tree _ _ c.loop-i.i _ _ c.loop-i-test.true
-    (c.loop-i.invariant.left tree width reads) in
+    (c.loop-i.invariant.left tree sibling_count reads) in
     let here = subst (λ (e : List ℕ). ReadsListedTree c.args.counted.now (c.args.first + 12 * c.loop-i.i) e n.one)
     (sym c.loop-i.invariant.ending) n.reads in
     omega (arith, n.records, c.add_sibling.ensures.takes_at_most n.one n.alone here)
 
 pub add_siblings-loop-i-preserved : goal.add_siblings-loop-i-preserved
 add_siblings-loop-i-preserved t c = record {
-  left = λ tree width reads.
+  left = λ tree sibling_count reads.
       let n = next c.args.counted.now c.args.first c.args.count c.args.ending.now tree _ _ c.loop-i.i _ _ c.loop-i-test.true
-      (c.loop-i.invariant.left tree width reads) in
+      (c.loop-i.invariant.left tree sibling_count reads) in
       let here = subst (λ (e : List ℕ). ReadsListedTree c.args.counted.now (c.args.first + 12 * c.loop-i.i) e n.one)
       (sym c.loop-i.invariant.ending) n.reads in
       n.later _ _ (c.in_ok-add_sibling.ensures.answer n.one n.alone here) (c.add_sibling.ensures.takes_at_most n.one n.alone here);
@@ -115,9 +115,9 @@ add_siblings-loop-i-preserved t c = record {
 }
 
 pub add_siblings-returns-clause-answer : goal.add_siblings-returns-clause-answer
-add_siblings-returns-clause-answer t c = λ tree width reads.
+add_siblings-returns-clause-answer t c = λ tree sibling_count reads.
     none_left c.args.counted.now c.args.first c.args.count c.args.ending.now tree _ _ c.loop-i.i _ _ c.loop-i-test.false
-    (c.loop-i.invariant.left tree width reads)
+    (c.loop-i.invariant.left tree sibling_count reads)
 
 pub add_sibling-returns-then-length-eq-DEEPEST-clause-fault :
     goal.add_sibling-returns-then-length-eq-DEEPEST-clause-fault

@@ -1,6 +1,6 @@
 use Rattle.std.proofs.Common.{◌≡◌, ◌+◌, ◌-◌, ◌*◌, length}
 use Rattle.std.specs.Prelude.{All}
-use Rattle.mime_base.specs.Format.Tree.{Tree, width}
+use Rattle.mime_base.specs.Format.Tree.{Tree, sibling_count}
 use Rattle.mime_view.specs.Listing.{IsListed, Lists}
 use Rattle.mime_view.specs.Listing.Reads.{ReadsListedTree}
 use Rattle.mime_view.proofs.SiblingRows.{Left}
@@ -14,7 +14,7 @@ decreases-add_siblings l = 2 * (254 - length l.ending.now) + 1
 
 abbrev pub invariant-add_siblings-loop-i : goal.invariant-add_siblings-loop-i
 invariant-add_siblings-loop-i l = record {
-  left : (tree : Tree) → width tree ≡ l.count → ReadsListedTree l.counted l.first l.initial.ending tree
+  left : (tree : Tree) → sibling_count tree ≡ l.count → ReadsListedTree l.counted l.first l.initial.ending tree
       → Left l.counted l.first l.count l.initial.ending tree l.initial.listing l.initial.budget.records l.i l.listing l.budget.records;
   ending : l.ending ≡ l.initial.ending;
   text : All (IsListed l.counted) l.initial.listing → All (IsListed l.counted) l.listing;
