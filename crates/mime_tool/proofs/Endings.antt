@@ -65,7 +65,8 @@ cut_said P files capacity a b o e (inr p) kept said =
 -- the message of a refusal was said, or memory ran out
 refused_said : (P : List (List ℕ) → Run → Type 0) (files : List (List ℕ)) (capacity : Option ℕ) (a b : Sinks) (o e : Option (List ℕ)) (text : List ℕ)
     (status : ℕ) (run : Run) → P files (stopped text run) → Writes a b run → Wrote b.out o []
-    → ((status ≡ 3) × Wrote b.err e text) ⊎ ((status ≡ 4) × SaysCut capacity b.err e text) → Finishes P files capacity a (record { out = o; err = e }) status
+    → ((status ≡ 3) × Wrote b.err e text) ⊎ ((status ≡ 4) × SaysCut capacity b.err e text)
+    → Finishes P files capacity a (record { out = o; err = e }) status
 refused_said P files capacity a b o e text status run is w kept (inl t) =
     inl (stopped text run, is, t.0, (wrote_kept a.out b.out o run.out w.0 kept, wrote-append a.err b.err e run.err text w.1 t.1))
 refused_said P files capacity a b o e text status run is w kept (inr t) =

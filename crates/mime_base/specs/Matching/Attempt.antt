@@ -1,5 +1,5 @@
 -- How the elements of a pattern go along a name from its front, one byte each, and what is left to decide then.
-use Rattle.std.specs.Prelude.{◌≡◌, ℕ, zero, suc, ◌+◌, ◌-◌, ◌<◌, ◌≤◌, Bool, true, false, not, ◌&&◌, Option, Some, None, List}
+use Rattle.std.specs.Prelude.{◌≡◌, ℕ, zero, suc, ◌+◌, ◌-◌, ◌<◌, ◌≤◌, Bool, true, false, not, ◌&&◌, nat_lt, if◌then◌else◌, Option, Some, None, List}
 use Rattle.std.specs.Prelude.{[], ◌∷◌, length, min, IsTrue}
 use Rattle.mime_base.specs.Matching.Elements.{Element, any_bytes, one, admits, elements, singles, is_special, HasNoEnd}
 use Rattle.mime_base.specs.Matching.Count.{tests_of}
@@ -28,6 +28,11 @@ abbrev pub begins_otherwise : Bool → List ℕ → List ℕ → Bool
 begins_otherwise cased (first ∷ _) (byte ∷ _) = not (is_special first) && not (agrees cased (first, byte))
 begins_otherwise cased (first ∷ _) [] = false
 begins_otherwise cased [] name = false
+
+-- the byte that a pattern begins with, where it is below the letters and stands for itself
+abbrev pub first_itself : List ℕ → Option ℕ
+first_itself [] = None
+first_itself (first ∷ _) = if nat_lt first 65 && not (is_special first) then Some first else None
 
 -- why elements go no further; after a `*` stand the last
 abbrev pub HaltsAt : Halt → List Element → List ℕ → List Element → Type 0

@@ -7,7 +7,7 @@
 
 ghost use Rattle.std.specs.Prelude.{◌≡◌, true, Bool, ◌∷◌, [], ◌+◌, ◌<◌, ◌==◌, IsNone, IfSome, IsTrue, None, false, is_some, drop};
 ghost use Rattle.std.specs.Prelude.{List, ℕ, length, position};
-ghost use Rattle.mime_base.specs.Matching.Attempt.{begins_otherwise, refuses};
+ghost use Rattle.mime_base.specs.Matching.Attempt.{begins_otherwise, first_itself, refuses};
 ghost use Rattle.mime_base.specs.Matching.Elements.{HasNoEnd, IsSet, admits, elements, end_of_set, in_ranges, is_literal_text};
 ghost use Rattle.mime_base.specs.Matching.Elements.{is_negated, is_special, one_byte, ranges, width_after};
 ghost use Rattle.mime_base.specs.Matching.Folding.{compared, compared_byte};
@@ -208,6 +208,7 @@ pub fn begins_otherwise(pattern: &[u8], cased: bool, name: &[u8]) -> bool
 
 /// The byte that a pattern begins with, if it stands for itself and folding makes it of no other byte.
 pub fn first_itself(pattern: &[u8]) -> Option<u8>
+    ensures exact { result ≡ first_itself pattern.now }
     ensures refused { IfSome result (λ first. (cased : Bool) (byte : ℕ) (rest : List ℕ) → (byte == first) ≡ false →
         refuses (elements (compared cased pattern.now)) (compared cased (byte ∷ rest)) ≡ true) }
     ensures some { IfSome result (λ first. 0 < length pattern.now) }
