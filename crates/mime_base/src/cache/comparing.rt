@@ -1,6 +1,7 @@
 //! Comparisons of bytes that tell how far they looked.
 
-ghost use Rattle.std.specs.Prelude.{◌≡◌, ◌↔◌, ◌+◌, ◌<◌, ◌≤◌, nat_eq, nat_lt, length, take, drop, min, IfSome, Some, None, if◌then◌else◌, IsTrue};
+ghost use Rattle.std.specs.Prelude.{◌≡◌, ◌↔◌, ◌+◌, ◌<◌, ◌≤◌, nat_eq, nat_lt, length, take, drop, min};
+ghost use Rattle.std.specs.Prelude.{IfSome, Some, None, if◌then◌else◌, IsTrue};
 ghost use Rattle.std.specs.List.{common_prefix_len};
 ghost use Rattle.std.specs.Ordering.{nat_cmp};
 ghost use Rattle.std.specs.Cmp.Lexicographic.{slice_cmp};
@@ -128,7 +129,7 @@ fn shared_of_first(front: &[u8], key: &[u8]) -> usize
     shared_of_sixteen(front, key)
 }
 
-/// How a text, of which these are the bytes and what is behind it, compares with a key, if their first bytes differ.
+/// How the text at the front of these bytes compares with a key, if their first bytes differ.
 #[inline]
 pub fn first_byte_order(rest: &[u8], key: &[u8]) -> Option<Ordering>
     ensures { IfSome result (λ order. (shared (take 256 rest.now) key.now ≡ 0) × (0 < length (take 256 rest.now))
