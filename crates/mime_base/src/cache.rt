@@ -9,8 +9,9 @@ pub mod byte_laws;
 pub mod comparing;
 pub mod stated_value;
 
-ghost use Rattle.std.specs.Prelude.{◌≡◌, true, false, ℕ, ◌+◌, ◌*◌, ◌<◌, ◌≤◌, List, length, take, min, Ok, Err};
-ghost use Rattle.std.specs.Prelude.{if◌then◌else◌, IfOk, IfErr, IsOkAnd, OnOk, OnErr, MatchOption, MatchResult};
+ghost use Rattle.std.specs.Prelude.{◌≡◌, true, false, ℕ, ◌+◌, ◌*◌, ◌<◌, ◌≤◌, List, [], length, take, drop, min, Ok, Err};
+ghost use Rattle.std.specs.Prelude.{if◌then◌else◌, IfOk, IfErr, IfSome, IsNone, IsOkAnd, OnOk, OnErr, MatchOption};
+ghost use Rattle.std.specs.Prelude.{MatchResult};
 ghost use Rattle.std.specs.Ordering.{nat_cmp};
 ghost use Rattle.std.specs.Cmp.Lexicographic.{slice_cmp};
 ghost use Rattle.mime_base.specs.Cache.Bytes.{both_lie, fields, lies, optional_mask, value_at};
@@ -21,7 +22,7 @@ ghost use Rattle.mime_base.specs.Meter.{raised};
 ghost use Rattle.mime_base.specs.Cache.Texts.{before_zero, front, order_at, order_cost, text_at, text_cost, unended};
 
 use crate::cache::byte_fault::ByteFault;
-use crate::cache::comparing::compare_front;
+use crate::cache::comparing::{compare_front, first_byte_order};
 use crate::cache::stated_value::StatedValue;
 use crate::magic::host::Host;
 use crate::magic::masking::equal_bytes;
@@ -129,7 +130,14 @@ impl<'a> Counted<'a> {
         ensures limit { text_cost self.now at ≤ 256 }
         ensures rises { meter.old.bytes ≤ meter.new.bytes }
     {
-        let front = front_at(self.bytes, at);
+        let Some(rest) = bytes_from(self.bytes, at) else {
+            return Err(ByteFault::OutOfRange(at));
+        };
+        if let Some(end) = early_zero(rest) {
+            meter.add_bytes(end as u64 + 1);
+            return Ok(&rest[..end]);
+        }
+        let front = front_of(rest);
         match first_zero(front) {
             Some(end) => {
                 meter.add_bytes(end as u64 + 1);
@@ -147,7 +155,7 @@ impl<'a> Counted<'a> {
     /// The faults are those of [`Counted::text_at`], where neither a zero nor a difference comes
     /// first. It adds the text's bytes up to and with the first difference or the zero, at most 256.
     #[tactic(auto, unfolding(crate::specs::Cache::Texts::text_at, crate::specs::Cache::Texts::order_at, crate::specs::Cache::Texts::order_cost))]
-    #[inline]
+    #[inline(always)]
     pub fn compare_text(
         &self,
         at: u64,
@@ -164,7 +172,15 @@ impl<'a> Counted<'a> {
         ensures limit { order_cost self.now at key.now ≤ 256 }
         ensures rises { meter.old.bytes ≤ meter.new.bytes }
     {
-        let front = front_at(self.bytes, at);
+        let Some(rest) = bytes_from(self.bytes, at) else {
+            meter.add_bytes(0);
+            return Err(ByteFault::OutOfRange(at));
+        };
+        if let Some(order) = first_byte_order(rest, key) {
+            meter.add_bytes(1);
+            return Ok(order);
+        }
+        let front = front_of(rest);
         let (order, count) = compare_front(front, key);
         meter.add_bytes(count as u64);
         match order {
@@ -293,31 +309,38 @@ fn optional_mask(bytes: &[u8], at: u64, size: u64) -> Result<&[u8], ByteFault>
     Ok(mask)
 }
 
-/// The bytes at an offset among which a text has its zero.
+/// The bytes from an offset on, if any stand there.
 #[inline]
-fn front_at(bytes: &[u8], at: u64) -> &[u8]
-    ensures front { result.now ≡ front 256 bytes.now at }
-    ensures limit { length result.now ≤ 256 }
+fn bytes_from(bytes: &[u8], at: u64) -> Option<&[u8]>
+    ensures none { IsNone result → front 256 bytes.now at ≡ [] }
+    ensures rest { IfSome result (λ rest. rest.now ≡ drop at bytes.now) }
 {
     if bytes.len() as u64 <= at {
-        return &[];
+        return None;
     }
-    let rest = &bytes[at as usize..];
+    Some(&bytes[at as usize..])
+}
+
+/// Those of the bytes from an offset on among which a text has its zero.
+#[inline]
+fn front_of(rest: &[u8]) -> &[u8]
+    ensures front { result.now ≡ take 256 rest.now }
+    ensures limit { length result.now ≤ 256 }
+{
     &rest[..TEXT_LIMIT.min(rest.len())]
 }
 
-/// Where the first zero of the bytes stands. Most texts end within 32 bytes.
-fn first_zero(bytes: &[u8]) -> Option<usize>
-    ensures { MatchOption result (before_zero bytes.now ≡ bytes.now)
-        (λ end. (end < length bytes.now) × (before_zero bytes.now ≡ take end bytes.now)) }
+/// Where the first zero of the bytes stands, if it is one of the first 32: most texts end so early.
+#[inline]
+fn early_zero(bytes: &[u8]) -> Option<usize>
+    ensures { IfSome result (λ end. (end < length bytes.now) × (end < length (take 256 bytes.now))
+        × (before_zero (take 256 bytes.now) ≡ take end bytes.now)) }
 {
-    if 32 <= bytes.len() {
-        let end = end_of_front(bytes);
-        if end < 32 {
-            return Some(end);
-        }
+    if bytes.len() < 32 {
+        return None;
     }
-    memchr(0, bytes)
+    let end = end_of_front(bytes);
+    if end < 32 { Some(end) } else { None }
 }
 
 /// Where the first zero of the first 32 bytes stands. Where none does, it is 32 or more.
@@ -328,6 +351,14 @@ fn end_of_front(bytes: &[u8]) -> usize
 {
     let zeros = u8x32::from_slice(bytes).simd_eq(u8x32::splat(0));
     zeros.to_bitmask().trailing_zeros() as usize
+}
+
+/// Where the first zero of the bytes stands.
+fn first_zero(bytes: &[u8]) -> Option<usize>
+    ensures { MatchOption result (before_zero bytes.now ≡ bytes.now)
+        (λ end. (end < length bytes.now) × (before_zero bytes.now ≡ take end bytes.now)) }
+{
+    memchr(0, bytes)
 }
 
 /// Why these bytes, which have no zero, are no text.

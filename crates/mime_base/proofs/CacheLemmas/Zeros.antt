@@ -1,11 +1,11 @@
 -- What stands before the first zero of bytes.
 use Rattle.std.proofs.Common.{◌≡◌, ℕ, zero, suc, ◌<◌, ◌≤◌, ◌==◌, nat_eq, nat_lt, Bool, true, false, cond, List, [], ◌∷◌}
-use Rattle.std.proofs.Common.{length, get_or, take, Ordering, Err, Option, Some, None, refl, arith}
+use Rattle.std.proofs.Common.{length, get_or, take, Ordering, Err, Option, Some, None, refl, ap, arith}
 use Rattle.std.specs.Prelude.{MatchOption}
 use Rattle.memchr.specs.Find.{IsFirstByte, is_byte}
 use Rattle.std.proofs.lemmas.Bool.{le-ltb, ltb-false}
 use Rattle.std.proofs.lemmas.List.Sums.{common_prefix_len-le}
-use Rattle.mime_base.specs.Cache.Texts.{before_zero, shared, text_in, unended}
+use Rattle.mime_base.specs.Cache.Texts.{before_zero, front, order_cost, shared, text_in, unended}
 
 not_true : (test : Bool) → (test ≡ true → ⊥) → test ≡ false
 not_true true differs = absurd (differs refl)
@@ -38,6 +38,27 @@ first_zero-is bytes None none = before_zero-all bytes (λ k l. none k (omega ari
 first_zero-is bytes (Some i) first =
     (first.0.high, before_zero-take bytes i first.0.high (λ k l. first.0.before k (omega arith) l) first.1)
 
+-- what stands before an early zero, of the front alone
+pub before_zero-early : (m k : ℕ) (bytes : List ℕ) → before_zero bytes ≡ take k bytes → k < length bytes → k < m
+    → before_zero (take m bytes) ≡ take k bytes
+before_zero-early zero k bytes is within l = absurd (omega arith)
+before_zero-early (suc m) k [] is within l = absurd (omega arith)
+before_zero-early (suc m) zero (b ∷ bytes) is within l = step (b == 0) is
+  where
+    step : (ends : Bool) → cond ends [] (b ∷ before_zero bytes) ≡ [] → cond ends [] (b ∷ before_zero (take m bytes)) ≡ []
+    step true h = refl
+    step false h = absurd cc
+before_zero-early (suc m) (suc k) (b ∷ bytes) is within l =
+    step (b == 0) (λ rest. before_zero-early m k bytes rest (omega arith) (omega arith)) is
+  where
+    step : (ends : Bool) → (before_zero bytes ≡ take k bytes → before_zero (take m bytes) ≡ take k bytes)
+        → cond ends [] (b ∷ before_zero bytes) ≡ b ∷ take k bytes
+        → cond ends [] (b ∷ before_zero (take m bytes)) ≡ b ∷ take k bytes
+    step true early h = absurd cc
+    step false early h =
+        let rest : before_zero bytes ≡ take k bytes = cc in
+        ap (λ (xs : List ℕ). b ∷ xs) (early rest)
+
 -- what stands before the first zero is no longer
 pub length-before_zero : (bytes : List ℕ) → length (before_zero bytes) ≤ length bytes
 length-before_zero [] = omega arith
@@ -61,3 +82,8 @@ text_in-untold room at bytes key order e =
     let untold = told (nat_lt (shared bytes key) (length bytes)) order e in
     let whole = ltb-false (shared bytes key) (length bytes) untold in
     rw (le-ltb (length (before_zero bytes)) (length bytes) (omega arith)) refl
+
+-- where no byte stands, none is looked at
+pub order_cost-none : (c : List ℕ) (at : ℕ) (key : List ℕ) → front 256 c at ≡ [] → order_cost c at key ≡ 0
+unfolding order_cost
+order_cost-none c at key none = rw none (omega arith)

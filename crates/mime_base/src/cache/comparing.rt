@@ -1,6 +1,7 @@
 //! Comparisons of bytes that tell how far they looked.
 
-ghost use Rattle.std.specs.Prelude.{◌≡◌, ◌↔◌, ◌+◌, ◌≤◌, nat_eq, nat_lt, length, take, drop, min, Some, None, if◌then◌else◌, IsTrue};
+ghost use Rattle.std.specs.Prelude.{◌≡◌, ◌↔◌, ◌+◌, ◌<◌, ◌≤◌, nat_eq, nat_lt, length, take, drop, min};
+ghost use Rattle.std.specs.Prelude.{IfSome, Some, None, if◌then◌else◌, IsTrue};
 ghost use Rattle.std.specs.List.{common_prefix_len};
 ghost use Rattle.std.specs.Ordering.{nat_cmp};
 ghost use Rattle.std.specs.Cmp.Lexicographic.{slice_cmp};
@@ -87,32 +88,63 @@ pub fn compare_front(front: &[u8], key: &[u8]) -> (Option<Ordering>, usize)
         then Some (slice_cmp nat_cmp (before_zero front.now) key.now) else None) }
     ensures count { result.1 ≡ min (shared front.now key.now + 1) (length front.now) }
 {
-    let start = shared_of_first(front, key);
-    if start < front.len() && start < key.len() {
-        let byte = front[start];
-        if byte == 0 {
-            return (Some(Ordering::Less), start + 1);
-        }
-        if byte != key[start] {
-            return (Some(byte.cmp(&key[start])), start + 1);
-        }
+    if let Some((order, count)) = compare_sixteen(front, key) {
+        return (Some(order), count);
     }
     compare_all(front, key)
 }
 
-/// How many of the first sixteen bytes are equal and none of them zero, where there are so many, and else 0.
+/// The order that the first sixteen bytes tell, where there are so many and they tell, and how many were looked at.
+#[inline]
+fn compare_sixteen(front: &[u8], key: &[u8]) -> Option<(Ordering, usize)>
+    ensures { IfSome result (λ told. (told.1 ≡ shared front.now key.now + 1) × (told.1 ≤ length front.now)
+        × (told.0 ≡ slice_cmp nat_cmp (before_zero front.now) key.now)) }
+{
+    if front.len() < 16 || key.len() < 16 {
+        return None;
+    }
+    let start = shared_of_first(front, key);
+    if 16 <= start {
+        return None;
+    }
+    let byte = front[start];
+    if byte == 0 {
+        return Some((Ordering::Less, start + 1));
+    }
+    if byte != key[start] {
+        return Some((byte.cmp(&key[start]), start + 1));
+    }
+    None
+}
+
+/// How many of the first sixteen bytes are equal and none of them zero.
 #[inline]
 fn shared_of_first(front: &[u8], key: &[u8]) -> usize
+    requires front { 16 ≤ length front.now }
+    requires key { 16 ≤ length key.now }
     ensures shared { result + shared (drop result front.now) (drop result key.now) ≡ shared front.now key.now }
     ensures order { slice_cmp nat_cmp (before_zero (drop result front.now)) (drop result key.now)
         ≡ slice_cmp nat_cmp (before_zero front.now) key.now }
-    ensures front { result ≤ length front.now }
-    ensures key { result ≤ length key.now }
 {
-    if front.len() < 16 || key.len() < 16 {
-        return 0;
-    }
     shared_of_sixteen(front, key)
+}
+
+/// How the text at the front of these bytes compares with a key, if their first bytes differ.
+#[inline]
+pub fn first_byte_order(rest: &[u8], key: &[u8]) -> Option<Ordering>
+    ensures { IfSome result (λ order. (shared (take 256 rest.now) key.now ≡ 0) × (0 < length (take 256 rest.now))
+        × (order ≡ slice_cmp nat_cmp (before_zero (take 256 rest.now)) key.now)) }
+{
+    let Some((byte, _later)) = rest.split_first() else {
+        return None;
+    };
+    let Some((wanted, _others)) = key.split_first() else {
+        return None;
+    };
+    if *byte == *wanted {
+        return None;
+    }
+    Some(byte.cmp(wanted))
 }
 
 /// The same, of fronts and keys of any length.
