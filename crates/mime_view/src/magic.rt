@@ -29,7 +29,7 @@ struct Seen {
 }
 
 /// Takes the record and the value of the line at `at`, and compares the value.
-#[inline]
+#[inline(always)]
 fn see_line(
     counted: &Counted<'_>,
     at: u64,
@@ -50,7 +50,9 @@ fn see_line(
     ensures cost { Paid (length content.now) 0 0 budget.old budget.new meter.old meter.new }
 {
     budget.take_record()?;
-    let [start, range, word, size, at, mask_at, count, first] = counted.cards::<8>(at, meter)?;
+    let [start, range, word, size, at, mask_at, count, first] = counted.cards_within::<8>(
+        at, meter,
+    );
     budget.take_value_bytes(u64::from(size))?;
     let value = StatedValue {
         at,
@@ -68,6 +70,7 @@ fn see_line(
 
 /// Whether one of the `count` lines from `first` on holds, with its children.
 #[cycle(sniffing)]
+#[inline(always)]
 fn some_line_holds(
     counted: &Counted<'_>,
     first: u64,
@@ -102,7 +105,7 @@ fn some_line_holds(
 
 /// Whether the line at `at` holds, with its children.
 #[cycle(sniffing)]
-#[inline]
+#[inline(always)]
 fn line_holds(
     counted: &Counted<'_>,
     at: u64,
@@ -140,7 +143,7 @@ fn line_holds(
         return Err(CacheFault::TooDeep);
     }
     check_block(counted, first, 32, count)?;
-    some_line_holds(
+    some_child_holds(
         counted,
         first,
         count,
@@ -150,6 +153,36 @@ fn line_holds(
         meter,
         budget,
     )
+}
+
+/// Whether one of the `count` children from `first` on holds. Few lines come to their children, and a call of its own
+/// lets the loop over the lines of a section be part of the loop over sections.
+#[cycle(sniffing)]
+#[inline(never)]
+fn some_child_holds(
+    counted: &Counted<'_>,
+    first: u64,
+    count: u64,
+    level: u32,
+    content: &[u8],
+    host: Host,
+    meter: &mut Meter,
+    budget: &mut Budget,
+) -> Result<bool, CacheFault>
+    requires level { level ≤ 63 }
+    requires limit { length counted.now ≤ 2 ^ 28 }
+    requires fits { LiesBlock counted.now first 32 count }
+    ensures answer { (lines : Forest) → width lines ≡ count → ReadsLines counted.now first lines →
+        IfOk result (λ holds. holds ≡ some_holds lines content.now host) }
+    ensures need { (lines : Forest) (levels : ℕ) → width lines ≡ count → ReadsLines counted.now first lines →
+        levels + level ≡ 64 → are_allowed levels lines ≡ true → line_count lines ≤ budget.old.records →
+        forest_value_length lines ≤ budget.old.value_bytes → IsOk result }
+    ensures takes { (lines : Forest) → width lines ≡ count → ReadsLines counted.now first lines →
+        Takes (line_count lines) (forest_value_length lines) budget.old budget.new }
+    ensures fault { IfErr result (IsLinesFault counted.now budget.new) }
+    ensures cost { Paid (length content.now) 0 0 budget.old budget.new meter.old meter.new }
+{
+    some_line_holds(counted, first, count, level, content, host, meter, budget)
 }
 
 /// The type and the priority of the section at `at`, if one of its lines holds.
@@ -177,7 +210,7 @@ fn take_section<'a>(
     ensures cost { Paid (length content.now) 256 0 budget.old budget.new meter.old meter.new }
 {
     budget.take_record()?;
-    let [priority, kind, count, first] = counted.cards::<4>(at, meter)?;
+    let [priority, kind, count, first] = counted.cards_within::<4>(at, meter);
     let count = u64::from(count);
     let first = u64::from(first);
     check_block(counted, first, 32, count)?;

@@ -28,8 +28,8 @@ line_holds-returns-clause-answer t c = λ own children reads.
     (sym (c.in_ok-equals.ensures.answer own reads.own_line) ∙ c.if-not-equals.false)
     (omega (arith, reads.count, c.in_ok-equals.ensures.count.0)) in
     let below = subst (λ (n : ℕ). ReadsLines c.args.counted.now n children) (sym c.in_ok-equals.ensures.first.0) reads.below in
-    subst (λ (b : Bool). IfOk c.some_line_holds.result (λ holds. holds ≡ b)) (sym some)
-    (c.some_line_holds.ensures.answer children (omega (arith, reads.count, c.in_ok-equals.ensures.count.0)) below)
+    subst (λ (b : Bool). IfOk c.some_child_holds.result (λ holds. holds ≡ b)) (sym some)
+    (c.some_child_holds.ensures.answer children (omega (arith, reads.count, c.in_ok-equals.ensures.count.0)) below)
 
 pub some_line_holds-returns-in_err-line_holds-clause-need : goal.some_line_holds-returns-in_err-line_holds-clause-need
 some_line_holds-returns-in_err-line_holds-clause-need t c = λ lines levels width reads depth allowed records bytes.

@@ -6,10 +6,13 @@ use Rattle.mime_view.proofs.LineRows.{Left}
 use Rattle.mime_view.proofs.magic.+sniffing.Given as goal
 
 abbrev pub decreases-line_holds : goal.decreases-line_holds
-decreases-line_holds l = 2 * (64 - l.level)
+decreases-line_holds l = 3 * (64 - l.level)
 
 abbrev pub decreases-some_line_holds : goal.decreases-some_line_holds
-decreases-some_line_holds l = 2 * (64 - l.level) + 1
+decreases-some_line_holds l = 3 * (64 - l.level) + 1
+
+abbrev pub decreases-some_child_holds : goal.decreases-some_child_holds
+decreases-some_child_holds l = 3 * (64 - l.level) + 2
 
 abbrev pub invariant-some_line_holds-loop-i : goal.invariant-some_line_holds-loop-i
 invariant-some_line_holds-loop-i l = record {

@@ -4,8 +4,8 @@ use Rattle.mime_view.proofs.magic.see_line.Goals as goal
 
 pub returns-clause-answer : goal.returns-clause-answer
 returns-clause-answer c = λ own reads.
-    line_stated c.args.counted.now c.args.at own c.in_ok-start.field-0 c.args.host c.args.content.now c.in_ok-equals.equals
-    c.in_ok-start.ensures.numbers.1 reads c.in_ok-equals.ensures.equal
+    line_stated c.args.counted.now c.args.at own c.cards_within.result c.args.host c.args.content.now c.in_ok-equals.equals
+    c.cards_within.ensures.numbers reads c.in_ok-equals.ensures.equal
 
 pub returns-clause-cost : goal.returns-clause-cost
 returns-clause-cost c =
