@@ -1,6 +1,6 @@
 //! Texts of a cache. This project's own.
 
-ghost use Rattle.std.specs.Prelude.{◌≡◌, [], ◌∷◌, map};
+ghost use Rattle.std.specs.Prelude.{◌≡◌, ◌<◌, [], ◌∷◌, length, map, slice_set};
 
 use std::alloc::Global;
 use std::marker::Model;
@@ -63,6 +63,16 @@ impl<'a> Texts<'a> {
         match &self.held {
             Held::One(text) => slice::from_ref(text),
             Held::Many(texts) => texts,
+        }
+    }
+    /// Puts a text in the place of another, counted from 0. It takes no memory.
+    pub fn replace(&mut self, place: usize, text: &'a [u8])
+        requires { place < length self.old }
+        ensures { self.new ≡ slice_set self.old place text.entry.now }
+    {
+        match &mut self.held {
+            Held::One(one) => *one = text,
+            Held::Many(texts) => texts[place] = text,
         }
     }
 }
