@@ -1,5 +1,5 @@
 -- What a step of a lookup over a cache costs, put together from what its parts cost.
-use Rattle.std.proofs.Common.{◌≡◌, ℕ, ◌+◌, ◌-◌, ◌*◌, ◌≤◌, refl, arith, ap}
+use Rattle.std.proofs.Common.{◌≡◌, ℕ, ◌+◌, ◌-◌, ◌*◌, ◌≤◌, arith, ap}
 use Rattle.std.proofs.Math.Nat.{mul-le-mul_left}
 use Rattle.mime_base.specs.Meter.{raised}
 use Rattle.mime_base.specs.declared.meter.Meter.{Meter}

@@ -2,26 +2,23 @@
 use Rattle.std.proofs.Common.{◌≡◌, ◌∙◌, ℕ, ◌≤◌, true, false, List, [], length, inl, inr, ap, sym, refl, arith}
 use Rattle.std.specs.Prelude.{⊤}
 use Rattle.std.proofs.lemmas.List.{length-map}
-use denote.Bor.{Bor}
 use Rattle.mime_base.specs.Database.{PlainDatabase, pairs_of}
 use Rattle.mime_base.specs.Database.Subclass.{resolved}
 use Rattle.mime_base.specs.Kept.{kept_rules}
 use Rattle.mime_base.specs.declared.database.rule.GlobRule.{GlobRule}
 use Rattle.mime_view.specs.Hits.{KeptAreNear, near}
-use Rattle.mime_lookup.specs.Ancestry.{kinds_of}
 use Rattle.mime_lookup.specs.CheckingOrder.{GlobsDecide, are_one_type}
 use Rattle.mime_lookup.specs.Choice.{kept}
 use Rattle.mime_lookup.specs.declared.order.Order.{Order}
 use Rattle.mime_lookup.specs.declared.order.Order.TheVariants.{GlobsFirst, MagicFirst}
 
 -- no more types are kept than rules are near the name
-pub kept_few : KeptAreNear → (b : PlainDatabase) (name : List ℕ) (kinds : List (Bor (List ℕ)))
-    → kinds_of kinds ≡ kept (pairs_of b) b.rules name → length kinds ≤ near name b.rules
+pub kept_few : KeptAreNear → (b : PlainDatabase) (name : List ℕ) (kinds : List (List ℕ))
+    → kinds ≡ kept (pairs_of b) b.rules name → length kinds ≤ near name b.rules
 unfolding kept
 kept_few law b name kinds same =
     let size : length kinds ≡ length (kept_rules b.rules name) =
-    sym (length-map kinds (λ (text : Bor (List ℕ)). text.now)) ∙ ap length same
-    ∙ length-map (kept_rules b.rules name) (λ (rule : GlobRule). resolved b.aliases rule.kind) in
+    ap length same ∙ length-map (kept_rules b.rules name) (λ (rule : GlobRule). resolved b.aliases rule.kind) in
     omega (arith, size, law name b.rules)
 
 -- where the globs decide and give no one type, none is kept and no content is available

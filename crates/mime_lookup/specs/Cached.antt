@@ -2,7 +2,6 @@
 use Rattle.std.specs.Prelude.{◌≡◌, ◌≢◌, ◌⊎◌, ℕ, true, false, List, ◌∷◌, [], length, get_or, All, Contains, Ok, codes}
 use Rattle.mime_base.specs.Cache.Texts.{text_at}
 use Rattle.mime_lookup.specs.Finding.{PlainFinding, by_magic, fixed}
-use Rattle.mime_lookup.specs.Ancestry.{kinds_of}
 use Rattle.mime_lookup.specs.CheckingOrder.{are_one_type}
 use Rattle.mime_lookup.specs.declared.cached.kept.Kept.{Kept}
 use Rattle.mime_lookup.specs.declared.cached.kept.Kept.TheVariants as kept
@@ -38,17 +37,17 @@ IsFinding c (finding.Fixed kind) = Contains fixed_kinds kind.now
 -- what is kept of these types: the one that all are, or all of them
 abbrev pub IsKept : List (List ℕ) → Kept → Type 0
 IsKept kinds (kept.One kind) = (are_one_type kinds ≡ true) × (kind.now ≡ get_or kinds 0 [])
-IsKept kinds (kept.Others others) = (are_one_type kinds ≡ false) × (kinds_of others.items ≡ kinds)
+IsKept kinds (kept.Others others) = (are_one_type kinds ≡ false) × (others ≡ kinds)
 
 -- texts of the cache
 abbrev pub AreCacheTexts : List ℕ → Kept → Type 0
 AreCacheTexts c (kept.One kind) = IsCacheText c kind.now
-AreCacheTexts c (kept.Others others) = All (IsCacheText c) (kinds_of others.items)
+AreCacheTexts c (kept.Others others) = All (IsCacheText c) others
 
 -- how many types are left to choose among
 abbrev pub others_count : Kept → ℕ
 others_count (kept.One kind) = 0
-others_count (kept.Others others) = length others.items
+others_count (kept.Others others) = length others
 
 -- a read failed, an allocation was refused, or the cache has such a fault
 abbrev pub IsStop : (CacheFault → Type 0) → Cause → Type 0

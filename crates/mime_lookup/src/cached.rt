@@ -232,7 +232,7 @@ fn globs_first<'a, R: Content>(
         Kept::One(kind) => Ok(kind),
         Kept::Others(kinds) => {
             let finding = sniff_content(alloc, cache, content, host, read, meter, budget)?;
-            let kind = choose(alloc, cache, &kinds, finding, meter, budget)?;
+            let kind = choose(alloc, cache, kinds.as_slice(), finding, meter, budget)?;
             Ok(kind)
         }
     }
@@ -306,7 +306,7 @@ fn by_globs<'a>(
     match kept {
         Kept::One(kind) => Ok(kind),
         Kept::Others(kinds) => {
-            let kind = choose(alloc, cache, &kinds, finding, meter, budget)?;
+            let kind = choose(alloc, cache, kinds.as_slice(), finding, meter, budget)?;
             Ok(kind)
         }
     }

@@ -36,6 +36,13 @@ AreTexts-pushed c places i place before after text l is pushed are here =
     let all : map view after ≡ map view before ++ text.now ∷ [] = ap (map view) pushed ∙ map-append view before (text ∷ []) in
     rw (more, all) (AreTexts-more c (take i places) (map view before) place text.now are here)
 
+-- the text at one offset
+pub AreTexts-one : (c places : List ℕ) (place : ℕ) (text : List ℕ) → length places ≡ 1 → place ≡ get_or places 0 0
+    → text_at c place ≡ Ok text → AreTexts c places (text ∷ [])
+AreTexts-one c [] place text one is here = absurd (omega (arith, one))
+AreTexts-one c (first ∷ []) place text one is here = (rw is at here, tt)
+AreTexts-one c (first ∷ (second ∷ more)) place text one is here = absurd (omega (arith, one))
+
 -- each is a text of the cache
 pub AreTexts-all : (c places : List ℕ) (texts : List (List ℕ)) → AreTexts c places texts
     → All (λ text. (at : ℕ) × (text_at c at ≡ Ok text)) texts

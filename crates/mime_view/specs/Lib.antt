@@ -2,6 +2,7 @@ pub mod Faults
 pub mod Hits
 pub mod Opening
 pub mod Lists
+pub mod Texts
 pub mod Pairs
 pub mod Parents
 pub mod Magic

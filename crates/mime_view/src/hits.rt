@@ -38,7 +38,8 @@ impl Case {
         }
     }
 
-    /// Takes the records of a visit, and counts here what the other search would visit.
+    /// Takes the records of a visit, or those that are left where they are too few, and counts here what the
+    /// other search would visit.
     pub fn take_records(self, meter: &mut Meter, budget: &mut Budget) -> Result<(), CacheFault>
         ensures taken { OnOk result (budget.new.records + visits self ≡ budget.old.records) }
         ensures nodes { OnOk result (meter.new.nodes ≡ raised meter.old.nodes (extra_visits self)) }
@@ -49,12 +50,14 @@ impl Case {
         ensures rises { meter.old.nodes ≤ meter.new.nodes }
         ensures bytes { meter.new.bytes ≡ meter.old.bytes }
     {
-        budget.take_record()?;
         let extra = self.extra_visits();
-        meter.nodes = meter.nodes.saturating_add(extra);
-        if extra == 1 {
-            budget.take_record()?;
+        if budget.records <= extra {
+            meter.nodes = meter.nodes.saturating_add(budget.records);
+            budget.records = 0;
+            return Err(CacheFault::Spent);
         }
+        budget.records -= 1 + extra;
+        meter.nodes = meter.nodes.saturating_add(extra);
         Ok(())
     }
 

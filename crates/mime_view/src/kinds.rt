@@ -31,6 +31,10 @@ pub fn read_kinds<'a>(
     ensures bytes { meter.new.bytes ≤ meter.old.bytes + 256 * length hits }
 {
     let kinds = hits.kinds();
+    if kinds.len() == 1 {
+        let text = counted.text_at(u64::from(kinds[0]), meter)?;
+        return Ok(Texts::one(text));
+    }
     let mut texts = Vec::with_capacity(alloc, kinds.len())?;
     for kind in kinds {
         let text = counted.text_at(u64::from(*kind), meter)?;

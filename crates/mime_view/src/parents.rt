@@ -103,6 +103,10 @@ fn take_texts<'a>(
 {
     let count = count_at(counted, at, 4, meter)?;
     let first = at + 4;
+    if count == 1 {
+        let text = take_text(counted, first, meter, budget)?;
+        return Ok(Texts::one(text));
+    }
     let mut texts = Vec::new(alloc);
     for i in 0..count {
         let text = take_text(counted, first + 4 * i, meter, budget)?;

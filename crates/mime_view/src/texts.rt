@@ -1,22 +1,31 @@
 //! Texts of a cache. This project's own.
 
-ghost use Rattle.std.specs.Prelude.{◌≡◌, [], map};
+ghost use Rattle.std.specs.Prelude.{◌≡◌, ◌<◌, [], ◌∷◌, length, map, slice_set};
 
 use std::alloc::Global;
 use std::marker::Model;
+use std::slice;
 
 /// Texts of a cache, in their order. They borrow from the cache alone.
 #[derive(Drop)]
 pub struct Texts<'a> {
-    texts: Vec<&'a [u8]>,
+    held: Held<'a>,
+}
+
+/// One text, which takes no memory, or a list.
+#[derive(Drop)]
+enum Held<'a> {
+    One(&'a [u8]),
+    Many(Vec<&'a [u8]>),
 }
 
 impl<'a> Model for Texts<'a> {
-    ghost use Rattle.std.specs.Prelude.{ℕ, List, map};
+    ghost use Rattle.std.specs.Prelude.{ℕ, List};
+    ghost use Rattle.mime_view.specs.Texts.{held_texts};
 
     ghost Value = { List (List ℕ) };
 
-    ghost view = { λ list. map (λ text. text.now) list.texts.items };
+    ghost view = { λ texts. held_texts texts.held };
 }
 
 impl<'a> Texts<'a> {
@@ -25,7 +34,16 @@ impl<'a> Texts<'a> {
         ensures { result ≡ [] }
     {
         Texts {
-            texts: Vec::new(alloc),
+            held: Held::Many(Vec::new(alloc)),
+        }
+    }
+
+    /// One text. It takes no memory.
+    pub(crate) fn one(text: &'a [u8]) -> Texts<'a>
+        ensures { result ≡ text.entry.now ∷ [] }
+    {
+        Texts {
+            held: Held::One(text),
         }
     }
 
@@ -33,21 +51,28 @@ impl<'a> Texts<'a> {
     pub(crate) fn of(texts: Vec<&'a [u8]>) -> Texts<'a>
         ensures { result ≡ map (λ text. text.now) texts.entry.items }
     {
-        Texts { texts }
+        Texts {
+            held: Held::Many(texts),
+        }
     }
 
     /// The texts as a slice.
     pub fn as_slice(&self) -> &[&'a [u8]]
         ensures { map (λ text. text.now) result.now ≡ self.now }
     {
-        &self.texts
+        match &self.held {
+            Held::One(text) => slice::from_ref(text),
+            Held::Many(texts) => texts,
+        }
     }
-
-    /// The list of the texts. It takes no memory.
-    pub fn into_vec(self) -> Vec<&'a [u8]>
-        ensures { map (λ text. text.now) result.items ≡ self.entry }
+    /// Puts a text in the place of another, counted from 0. It takes no memory.
+    pub fn replace(&mut self, place: usize, text: &'a [u8])
+        requires { place < length self.old }
+        ensures { self.new ≡ slice_set self.old place text.entry.now }
     {
-        let Texts { texts } = self;
-        texts
+        match &mut self.held {
+            Held::One(one) => *one = text,
+            Held::Many(texts) => texts[place] = text,
+        }
     }
 }

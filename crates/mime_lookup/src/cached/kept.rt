@@ -18,7 +18,7 @@ ghost use Rattle.mime_lookup.specs.Spelling.{SpellsGlobs};
 ghost use Rattle.mime_lookup.specs.StepFaults.{IsGlobsFault};
 
 use mime_base::{Meter, same_name};
-use mime_view::{Budget, Cache, CacheFault, kept_are_near};
+use mime_view::{Budget, Cache, CacheFault, Texts, kept_are_near};
 use std::alloc::Global;
 
 /// The types that are kept for a name.
@@ -26,7 +26,7 @@ pub enum Kept<'a> {
     /// All are this one type.
     One(&'a [u8]),
     /// There is none, or they differ.
-    Others(Vec<&'a [u8]>),
+    Others(Texts<'a>),
 }
 
 /// The types that are kept for a name, as one where all are one type.
@@ -55,8 +55,9 @@ pub fn keep<'a>(
         budget.old budget.new meter.old meter.new) }
 {
     let kinds = kept_kinds(alloc, cache, name, meter, budget)?;
-    if are_one_type(&kinds, meter) {
-        return Ok(Kept::One(kinds[0]));
+    let types = kinds.as_slice();
+    if are_one_type(types, meter) {
+        return Ok(Kept::One(types[0]));
     }
     Ok(Kept::Others(kinds))
 }
@@ -68,13 +69,13 @@ fn kept_kinds<'a>(
     name: &[u8],
     meter: &mut Meter,
     budget: &mut Budget,
-) -> Result<Vec<&'a [u8]>, CacheFault>
+) -> Result<Texts<'a>, CacheFault>
     requires short { length name.now ≤ 4096 }
     ensures answer { (b : PlainDatabase) → SpellsGlobs cache.now b → IfOk result
-        (λ kinds. kinds_of kinds.items ≡ kept (pairs_of b) b.rules name.now) }
+        (λ kinds. kinds ≡ kept (pairs_of b) b.rules name.now) }
     ensures few { (b : PlainDatabase) → SpellsGlobs cache.now b → IfOk result
-        (λ kinds. length kinds.items ≤ near name.now b.rules) }
-    ensures text { IfOk result (λ kinds. All (λ kind. (at : ℕ) × (text_at cache.now at ≡ Ok kind)) (kinds_of kinds.items)) }
+        (λ kinds. length kinds ≤ near name.now b.rules) }
+    ensures text { IfOk result (λ kinds. All (λ kind. (at : ℕ) × (text_at cache.now at ≡ Ok kind)) kinds) }
     ensures need { (b : PlainDatabase) → SpellsGlobs cache.now b →
         (2 * length (literal_rules b.rules) + 2 * tree_size b.rules + length (glob_rules b.rules) ≤ budget.old.records)
         ⊎ (2 * near name.now b.rules + 2 * length name.now + 2 ≤ budget.old.records) →
@@ -87,22 +88,22 @@ fn kept_kinds<'a>(
     ensures value_bytes { budget.new.value_bytes ≡ budget.old.value_bytes }
     ensures nodes { MatchResult result
         (λ kinds. meter.new.nodes + budget.new.records
-        ≤ meter.old.nodes + budget.old.records + glob_cost (length name.now) + 29 * length kinds.items)
+        ≤ meter.old.nodes + budget.old.records + glob_cost (length name.now) + 29 * length kinds)
         (λ _. meter.new.nodes + budget.new.records
         ≤ meter.old.nodes + budget.old.records + glob_cost (length name.now) + 29 * budget.old.records) }
     ensures cost { (value : ℕ) → MatchResult result
         (λ kinds. Costs (record_cost (length name.now)) value (glob_cost (length name.now))
-        budget.old budget.new meter.old (ahead (length kinds.items) meter.new))
+        budget.old budget.new meter.old (ahead (length kinds) meter.new))
         (λ _. Costs (record_cost (length name.now)) value (glob_cost (length name.now))
         budget.old budget.new meter.old meter.new) }
     ensures rises { meter.old.nodes ≤ meter.new.nodes }
     ensures fair { raised meter.old.nodes budget.old.records ≤ meter.new.nodes + budget.new.records }
     ensures bytes_rise { meter.old.bytes ≤ meter.new.bytes }
 {
-    let hits = cache.glob_hits(alloc, name, meter, budget)?;
-    let mut kinds = Vec::new(alloc);
-    for kind in hits.as_slice() {
-        kinds.push(cache.unalias(*kind, meter, budget)?)?;
+    let mut kinds = cache.glob_hits(alloc, name, meter, budget)?;
+    for place in 0..kinds.as_slice().len() {
+        let kind = cache.unalias(kinds.as_slice()[place], meter, budget)?;
+        kinds.replace(place, kind);
     }
     kept_are_near();
     Ok(kinds)

@@ -70,7 +70,7 @@ fn parents_in_the_order_of_the_cache(rt: HostRuntime) -> Result<(), CacheFault> 
     let Some(parents) = parents else {
         return Err(CacheFault::Spent);
     };
-    let types = parents.types.into_vec();
+    let types = parents.types;
     alike(&rt, "types", types.as_slice(), &[b"t/m".as_slice(), &[1]]);
     alike(&rt, "records", budget.records, 58);
     Ok(())

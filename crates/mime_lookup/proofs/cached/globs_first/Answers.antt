@@ -1,12 +1,12 @@
-use Rattle.std.proofs.Common.{◌≡◌, ◌+◌, ◌*◌, ◌<◌, ◌≤◌, ℕ, true, false, List, length, inl, inr, ap, arith, None}
+use Rattle.std.proofs.Common.{◌≡◌, ◌+◌, ◌≤◌, true, false, length, inl, inr, ap, arith, None}
 use Rattle.mime_base.specs.declared.meter.Meter.{Meter}
-use Rattle.mime_lookup.specs.Ancestry.{kinds_of}
 use Rattle.mime_lookup.specs.Cached.{cause_of, plain_finding}
 use Rattle.mime_lookup.specs.StepFaults.{IsLookUpFault, of_globs}
 use Rattle.mime_lookup.specs.declared.order.Order.TheVariants.{GlobsFirst}
 use Rattle.mime_lookup.proofs.GlobsCosts.{costs_choice_then, costs_globs, costs_sniffed_then}
 use Rattle.mime_lookup.proofs.GlobsFirst.{alone, alone_reads, content_reads, enough, with_content}
 use Rattle.mime_lookup.proofs.NearLemmas.{none_kept}
+use Rattle.mime_lookup.proofs.KeptTypes.{texts_count}
 use Rattle.mime_lookup.proofs.KindTexts.{chosen_kind}
 use Rattle.mime_lookup.proofs.ReadsLemmas.{asks_nothing, asks_stopped}
 use Rattle.mime_lookup.proofs.SpelledParts.{spelled_globs, spelled_magic, spelled_pairs}
@@ -87,7 +87,7 @@ returns-in_err-finding-in-Others-clause-near_need g c b globs decide enough =
 
 pub returns-in_err-finding-in-Others-clause-cost : goal.returns-in_err-finding-in-Others-clause-cost
 returns-in_err-finding-in-Others-clause-cost g c =
-    costs_sniffed_then (length c.args.name.now) c.sniff_content.new.read (length c.in-Others.kinds.items)
+    costs_sniffed_then (length c.args.name.now) c.sniff_content.new.read (length c.in-Others.kinds)
     (rw c.in-Others.is at (c.in_ok-kept.ensures.cost (c.sniff_content.new.read + 1))) c.in_err-finding-in-Others.ensures.cost
 
 pub returns-in_err-kind-in-Others-clause-fault : goal.returns-in_err-kind-in-Others-clause-fault
@@ -115,13 +115,13 @@ pub returns-in_err-kind-in-Others-clause-near_need : goal.returns-in_err-kind-in
 returns-in_err-kind-in-Others-clause-near_need g c b globs decide enough =
     let is = rw c.in-Others.is at (c.in_ok-kept.ensures.answer b globs) in
     let none = none_kept b c.args.name.now GlobsFirst (c.args.content.now ≡ None) _ is.1 is.0 decide in
-    absurd ((rw c.deref.ensures.value at c.in_err-kind-in-Others.ensures.base) none.0 b globs.offsets globs.header globs.aliases)
+    absurd ((rw c.as_slice.ensures at c.in_err-kind-in-Others.ensures.base) none.0 b globs.offsets globs.header globs.aliases)
 
 pub returns-in_err-kind-in-Others-clause-cost : goal.returns-in_err-kind-in-Others-clause-cost
 returns-in_err-kind-in-Others-clause-cost g c =
-    costs_choice_then (length c.args.name.now) c.sniff_content.new.read (length c.in-Others.kinds.items)
+    costs_choice_then (length c.args.name.now) c.sniff_content.new.read (length c.in-Others.kinds)
     (rw c.in-Others.is at (c.in_ok-kept.ensures.cost (c.sniff_content.new.read + 1))) c.in_ok-finding-in-Others.ensures.cost
-    (rw c.deref.ensures.value at c.in_err-kind-in-Others.ensures.cost)
+    (rw (texts_count c.as_slice.result.now c.in-Others.kinds c.as_slice.ensures) at c.in_err-kind-in-Others.ensures.cost)
 
 pub returns-in_ok-kind-in-Others-clause-chosen : goal.returns-in_ok-kind-in-Others-clause-chosen
 returns-in_ok-kind-in-Others-clause-chosen g c b within spells =
@@ -129,7 +129,7 @@ returns-in_ok-kind-in-Others-clause-chosen g c b within spells =
     let magic = spelled_magic c.args.cache.now b within spells in
     with_content b c.args.name.now c.args.host (plain_finding c.in_ok-finding-in-Others.finding) _ _ c.in_ok-kind-in-Others.kind.now is.1
     (c.in_ok-finding-in-Others.ensures.found b magic)
-    (rw c.deref.ensures.value at (c.in_ok-kind-in-Others.ensures.answer b magic (spelled_pairs c.args.cache.now b spells)))
+    (rw c.as_slice.ensures at (c.in_ok-kind-in-Others.ensures.answer b magic (spelled_pairs c.args.cache.now b spells)))
 
 pub returns-in_ok-kind-in-Others-clause-read : goal.returns-in_ok-kind-in-Others-clause-read
 returns-in_ok-kind-in-Others-clause-read g c b within spells =
@@ -139,17 +139,17 @@ returns-in_ok-kind-in-Others-clause-read g c b within spells =
 
 pub returns-in_ok-kind-in-Others-clause-kind : goal.returns-in_ok-kind-in-Others-clause-kind
 returns-in_ok-kind-in-Others-clause-kind g c =
-    chosen_kind c.args.cache.now c.in_ok-kind-in-Others.kind.now (kinds_of c.in-Others.kinds.items)
-    (rw c.in-Others.is at c.in_ok-kept.ensures.text) (rw c.deref.ensures.value at c.in_ok-kind-in-Others.ensures.one)
+    chosen_kind c.args.cache.now c.in_ok-kind-in-Others.kind.now c.in-Others.kinds
+    (rw c.in-Others.is at c.in_ok-kept.ensures.text) (rw c.as_slice.ensures at c.in_ok-kind-in-Others.ensures.one)
 
 pub returns-in_ok-kind-in-Others-clause-near : goal.returns-in_ok-kind-in-Others-clause-near
 returns-in_ok-kind-in-Others-clause-near g c b globs decide =
     let is = rw c.in-Others.is at (c.in_ok-kept.ensures.answer b globs) in
-    let none = none_kept b c.args.name.now GlobsFirst (c.args.content.now ≡ None) (kinds_of c.in-Others.kinds.items) is.1 is.0 decide in
+    let none = none_kept b c.args.name.now GlobsFirst (c.args.content.now ≡ None) c.in-Others.kinds is.1 is.0 decide in
     let found = plain_finding c.in_ok-finding-in-Others.finding in
     let same = (c.in_ok-finding-in-Others.ensures.none none.1).0 in
-    let base = (rw c.deref.ensures.value at c.in_ok-kind-in-Others.ensures.base) none.0 b globs.offsets globs.header globs.aliases in
-    let unspent = (rw c.deref.ensures.value at c.in_ok-kind-in-Others.ensures.unspent) none.0 in (
+    let base = (rw c.as_slice.ensures at c.in_ok-kind-in-Others.ensures.base) none.0 b globs.offsets globs.header globs.aliases in
+    let unspent = (rw c.as_slice.ensures at c.in_ok-kind-in-Others.ensures.unspent) none.0 in (
       with_content b c.args.name.now c.args.host found _ _ c.in_ok-kind-in-Others.kind.now is.1
           (rw none.1 (c.in_ok-finding-in-Others.ensures.unavailable none.1)) (rw none.0 base),
       omega (arith, unspent.1, ap (λ (meter : Meter). meter.nodes) same.1, c.in_ok-kept.ensures.near b globs),
@@ -157,6 +157,6 @@ returns-in_ok-kind-in-Others-clause-near g c b globs decide =
 
 pub returns-in_ok-kind-in-Others-clause-cost : goal.returns-in_ok-kind-in-Others-clause-cost
 returns-in_ok-kind-in-Others-clause-cost g c =
-    costs_choice_then (length c.args.name.now) c.sniff_content.new.read (length c.in-Others.kinds.items)
+    costs_choice_then (length c.args.name.now) c.sniff_content.new.read (length c.in-Others.kinds)
     (rw c.in-Others.is at (c.in_ok-kept.ensures.cost (c.sniff_content.new.read + 1))) c.in_ok-finding-in-Others.ensures.cost
-    (rw c.deref.ensures.value at c.in_ok-kind-in-Others.ensures.cost)
+    (rw (texts_count c.as_slice.result.now c.in-Others.kinds c.as_slice.ensures) at c.in_ok-kind-in-Others.ensures.cost)

@@ -1,4 +1,4 @@
-use Rattle.std.proofs.Common.{◌≡◌, ◌∙◌, ◌+◌, ◌*◌, ◌<◌, ◌≤◌, ℕ, true, false, List, length, inl, inr, ap, sym, arith, None}
+use Rattle.std.proofs.Common.{◌≡◌, ◌∙◌, ◌+◌, ◌≤◌, true, false, length, inl, inr, ap, sym, arith, None}
 use Rattle.mime_base.specs.declared.meter.Meter.{Meter}
 use Rattle.mime_lookup.specs.Affords.{rule_records}
 use Rattle.mime_lookup.specs.Cached.{cause_of, plain_finding}

@@ -1,4 +1,4 @@
-use Rattle.std.proofs.Common.{◌≡◌, ◌/◌, ◌≤◌, None, length, arith}
+use Rattle.std.proofs.Common.{◌≡◌, None, length, arith}
 use Rattle.std.proofs.lemmas.Result.{IfErr-weaker}
 use Rattle.mime_lookup.proofs.BoundLemmas.{keeps_bounds}
 use Rattle.mime_lookup.specs.Cached.{cause_of}

@@ -1,5 +1,5 @@
-use Rattle.std.proofs.Common.{◌≡◌, ◌↔◌, Bool, true, false, IsTrue, [], ◌+◌, ◌*◌, ◌<◌, ◌≤◌, suc, ◌&&◌, All}
-use Rattle.std.proofs.Common.{length, map, ap, sym, subst, ◌∙◌, drop-cons, add-one, refl, bytes_eq, drop, arith}
+use Rattle.std.proofs.Common.{◌≡◌, ◌↔◌, Bool, true, false, IsTrue, [], ◌<◌, suc, ◌&&◌, All}
+use Rattle.std.proofs.Common.{length, ap, sym, subst, ◌∙◌, drop-cons, add-one, refl, bytes_eq, drop, arith}
 use Rattle.std.specs.List.{list_all}
 use Rattle.std.proofs.lemmas.Bool.{and_left}
 use Rattle.std.proofs.lemmas.List.{drop_all}

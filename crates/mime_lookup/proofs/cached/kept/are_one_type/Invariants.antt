@@ -1,4 +1,4 @@
-use Rattle.std.proofs.Common.{◌≡◌, ◌+◌, ◌*◌, ◌<◌, ◌≤◌, All, length, drop, bytes_eq}
+use Rattle.std.proofs.Common.{◌≡◌, ◌+◌, ◌*◌, ◌<◌, ◌≤◌, length, drop, bytes_eq}
 use Rattle.std.specs.List.{list_all}
 use Rattle.mime_lookup.specs.Ancestry.{kinds_of}
 use Rattle.mime_lookup.proofs.cached.kept.are_one_type.Given as goal

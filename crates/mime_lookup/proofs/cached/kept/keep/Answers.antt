@@ -1,10 +1,10 @@
-use Rattle.std.proofs.Common.{◌≡◌, ◌∙◌, ℕ, true, false, List, length, inl, ap, sym, refl, arith}
-use denote.Bor.{Bor}
+use Rattle.std.proofs.Common.{◌≡◌, ◌∙◌, true, false, length, inl, sym, refl, arith}
 use Rattle.mime_lookup.specs.Ancestry.{kinds_of}
 use Rattle.mime_lookup.specs.CheckingOrder.{are_one_type}
 use Rattle.mime_lookup.specs.Costs.{glob_cost, record_cost}
 use Rattle.mime_lookup.proofs.Answering.{first_text}
 use Rattle.mime_lookup.proofs.CostLemmas.{costs_alone, costs_tested}
+use Rattle.mime_lookup.proofs.KeptTypes.{texts_count}
 use Rattle.mime_lookup.proofs.KindTexts.{first_cache_text, texts_short}
 use Rattle.mime_lookup.proofs.StepStops.{passed_on}
 use Rattle.mime_lookup.proofs.cached.kept.keep.Goals as goal
@@ -15,18 +15,16 @@ returns-in_err-kinds-clause-need c b globs enough =
 
 pub returns-then-are_one_type-clause-answer : goal.returns-then-are_one_type-clause-answer
 returns-then-are_one_type-clause-answer c b globs =
-    let items = c.in_ok-kinds.kinds.items in
-    let one : are_one_type (kinds_of items) ≡ true =
-    rw c.deref.ensures.value at (sym c.are_one_type.ensures.answer ∙ c.if-are_one_type.true) in
-    rw (← c.in_ok-kinds.ensures.answer b globs)
-    (one, ap (λ (text : Bor (List ℕ)). text.now) c.index.ensures ∙ first_text items c.index.result.now one)
+    let items = c.as_slice-types.result.now in
+    let one : are_one_type (kinds_of items) ≡ true = sym c.are_one_type.ensures.answer ∙ c.if-are_one_type.true in
+    let same = c.as_slice-types.ensures ∙ c.in_ok-kinds.ensures.answer b globs in
+    rw (← same) (one, first_text items _ one)
 
 pub returns-then-are_one_type-clause-text : goal.returns-then-are_one_type-clause-text
 returns-then-are_one_type-clause-text c =
-    let items = c.in_ok-kinds.kinds.items in
-    let one : are_one_type (kinds_of items) ≡ true =
-    rw c.deref.ensures.value at (sym c.are_one_type.ensures.answer ∙ c.if-are_one_type.true) in
-    rw c.index.ensures (first_cache_text c.args.cache.now items c.index.result.now one c.in_ok-kinds.ensures.text)
+    let items = c.as_slice-types.result.now in
+    let one : are_one_type (kinds_of items) ≡ true = sym c.are_one_type.ensures.answer ∙ c.if-are_one_type.true in
+    first_cache_text c.args.cache.now items _ one (rw (sym c.as_slice-types.ensures) at c.in_ok-kinds.ensures.text)
 
 pub returns-then-are_one_type-clause-near : goal.returns-then-are_one_type-clause-near
 returns-then-are_one_type-clause-near c b globs =
@@ -37,18 +35,19 @@ pub returns-then-are_one_type-clause-cost : goal.returns-then-are_one_type-claus
 returns-then-are_one_type-clause-cost c value =
     let name = length c.args.name.now in
     let kept = c.in_ok-kinds.ensures in
-    let short = texts_short c.args.cache.now (kinds_of c.in_ok-kinds.kinds.items) kept.text in
+    let short = texts_short c.args.cache.now c.in_ok-kinds.kinds kept.text in
     let tested = c.are_one_type.ensures in
+    let size = texts_count c.as_slice-types.result.now c.in_ok-kinds.kinds c.as_slice-types.ensures in
     costs_alone (record_cost name) value (glob_cost name) c.args.budget.now c.kept_kinds.new.budget c.args.meter.now
     c.are_one_type.new.meter
-    (costs_tested (record_cost name) value (glob_cost name) (length c.in_ok-kinds.kinds.items) c.args.budget.now c.kept_kinds.new.budget
+    (costs_tested (record_cost name) value (glob_cost name) (length c.in_ok-kinds.kinds) c.args.budget.now c.kept_kinds.new.budget
     c.args.meter.now c.kept_kinds.new.meter c.are_one_type.new.meter (kept.cost value) kept.rises kept.fair kept.bytes_rise tested.nodes
-    tested.rises ((rw c.deref.ensures.value at tested.bytes) short)).alone
+    tested.rises ((rw (c.as_slice-types.ensures, size) at tested.bytes) short)).alone
 
 pub returns-clause-answer : goal.returns-clause-answer
 returns-clause-answer c b globs =
-    let conflict : are_one_type (kinds_of c.in_ok-kinds.kinds.items) ≡ false =
-    rw c.deref.ensures.value at (sym c.are_one_type.ensures.answer ∙ c.if-are_one_type.false) in
+    let conflict : are_one_type c.in_ok-kinds.kinds ≡ false =
+    rw c.as_slice-types.ensures at (sym c.are_one_type.ensures.answer ∙ c.if-are_one_type.false) in
     rw (← c.in_ok-kinds.ensures.answer b globs) (conflict, refl)
 
 pub returns-clause-near : goal.returns-clause-near
@@ -60,8 +59,9 @@ pub returns-clause-cost : goal.returns-clause-cost
 returns-clause-cost c value =
     let name = length c.args.name.now in
     let kept = c.in_ok-kinds.ensures in
-    let short = texts_short c.args.cache.now (kinds_of c.in_ok-kinds.kinds.items) kept.text in
+    let short = texts_short c.args.cache.now c.in_ok-kinds.kinds kept.text in
     let tested = c.are_one_type.ensures in
-    costs_tested (record_cost name) value (glob_cost name) (length c.in_ok-kinds.kinds.items) c.args.budget.now c.kept_kinds.new.budget
+    let size = texts_count c.as_slice-types.result.now c.in_ok-kinds.kinds c.as_slice-types.ensures in
+    costs_tested (record_cost name) value (glob_cost name) (length c.in_ok-kinds.kinds) c.args.budget.now c.kept_kinds.new.budget
     c.args.meter.now c.kept_kinds.new.meter c.are_one_type.new.meter (kept.cost value) kept.rises kept.fair kept.bytes_rise tested.nodes
-    tested.rises ((rw c.deref.ensures.value at tested.bytes) short)
+    tested.rises ((rw (c.as_slice-types.ensures, size) at tested.bytes) short)

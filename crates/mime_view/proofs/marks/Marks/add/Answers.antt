@@ -1,4 +1,4 @@
-use Rattle.std.proofs.Common.{◌≡◌, Some, sym, ap, ◌∙◌}
+use Rattle.std.proofs.Common.{◌≡◌, sym, ap, ◌∙◌}
 use Rattle.mime_view.specs.Parents.{with_first, with_place}
 use Rattle.mime_view.proofs.AddedPlaces.{with_place-swapped}
 use Rattle.mime_view.proofs.marks.Marks.add.Goals as goal
