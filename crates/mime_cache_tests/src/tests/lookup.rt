@@ -14,7 +14,7 @@ mod sample;
 use crate::tests::checked::alike;
 use crate::tests::lookup::cached::look_up_in;
 use crate::tests::lookup::pieces::{is_answered_in_pieces, is_interrupted, is_refused_by_failures};
-use crate::tests::texts::{Texts, dirs_of, merged};
+use crate::tests::texts::{Texts, merged};
 use mime_base::{Database, Host};
 use mime_lookup::{Answer, Cause, Content, Order, Stopped, look_up_plain};
 use mime_store::write_cache;
@@ -59,17 +59,29 @@ fn are_answered_alike<R: Content + Drop>(
         outcome,
     } = *asked;
     let (mut of_lists, mut of_cache) = contents;
-    let found = look_up_plain(alloc, database, file, &mut of_lists, host, order);
-    alike(rt, name, (order, outcome_of(found)), (order, outcome));
+    let found = look_up_lists(alloc, database, file, &mut of_lists, host, order);
+    is_outcome(rt, name, "by the lists", found, outcome);
     let cache = write_cache(alloc, database, usize::MAX)?;
     let found = look_up_in(rt, alloc, &cache, file, &mut of_cache, host, order);
-    alike(
-        rt,
-        name,
-        ("by the cache", order, found),
-        ("by the cache", order, outcome),
-    );
+    is_outcome(rt, name, "by the cache", found, outcome);
     Ok(())
+}
+
+/// The outcome of a lookup by the lists of a database, of which nothing is known.
+fn look_up_lists<'a, R: Content>(
+    alloc: Global,
+    database: &'a Database,
+    file: &[u8],
+    content: &mut Option<R>,
+    host: Host,
+    order: Order,
+) -> Outcome<'a> {
+    outcome_of(look_up_plain(alloc, database, file, content, host, order))
+}
+
+/// What was found this way is what is wanted.
+fn is_outcome(rt: &impl Abort, name: &str, way: &str, found: Outcome<'_>, wanted: Outcome<'_>) {
+    alike(rt, name, (way, found), (way, wanted));
 }
 
 /// A name in these directories, a content, and the type and how much was read of it.
@@ -87,41 +99,47 @@ struct Row {
 /// Each row is answered by its type.
 fn are_answered(rt: &impl Abort, alloc: Global, rows: &[Row]) -> Result<(), Fail> {
     for row in rows {
-        let database = merged(alloc, row.dirs)?;
-        let asked = Asked {
-            name: row.name,
-            file: row.file,
-            host: row.host,
-            order: row.order,
-            outcome: Ok((row.kind, row.read)),
-        };
-        are_answered_alike(rt, alloc, &database, &asked, (row.content, row.content))?;
+        is_answered(rt, alloc, row)?;
         is_answered_from_texts(rt, alloc, row)?;
-        if let Some(content) = row.content {
-            is_answered_in_pieces(rt, alloc, &database, &asked, content)?;
-            is_interrupted(rt, alloc, &database, &asked, content)?;
-            is_refused_by_failures(rt, alloc, &database, &asked, content)?;
-        }
     }
     Ok(())
 }
 
+/// A row is answered by its type, by the lists and by the cache.
+fn is_answered(rt: &impl Abort, alloc: Global, row: &Row) -> Result<(), Fail> {
+    let database = merged(alloc, row.dirs)?;
+    let asked = Asked {
+        name: row.name,
+        file: row.file,
+        host: row.host,
+        order: row.order,
+        outcome: Ok((row.kind, row.read)),
+    };
+    are_answered_alike(rt, alloc, &database, &asked, (row.content, row.content))?;
+    match row.content {
+        Some(content) => is_answered_by_reads(rt, alloc, &database, &asked, content),
+        None => Ok(()),
+    }
+}
+
+/// The content comes in pieces, with interruptions and failures.
+fn is_answered_by_reads(
+    rt: &impl Abort,
+    alloc: Global,
+    database: &Database,
+    asked: &Asked<'_>,
+    content: &[u8],
+) -> Result<(), Fail> {
+    is_answered_in_pieces(rt, alloc, database, asked, content)?;
+    is_interrupted(rt, alloc, database, asked, content)?;
+    is_refused_by_failures(rt, alloc, database, asked, content)
+}
+
 /// A row is answered by its type from the texts of its directories in one run.
 fn is_answered_from_texts(rt: &impl Abort, alloc: Global, row: &Row) -> Result<(), Fail> {
-    let dirs = dirs_of(alloc, row.dirs)?;
-    let mut content = row.content;
-    let found = answer(alloc, &dirs, row.file, &mut content, row.host, row.order)?;
-    alike(
-        rt,
-        row.name,
-        ("from texts", found.kind.as_slice()),
-        ("from texts", row.kind),
-    );
-    alike(
-        rt,
-        row.name,
-        ("from texts", found.read),
-        ("from texts", row.read),
-    );
+    let (file, mut content) = (row.file, row.content);
+    let found = answer(alloc, row.dirs, file, &mut content, row.host, row.order)?;
+    let given = ("from texts", found.kind.as_slice(), found.read);
+    alike(rt, row.name, given, ("from texts", row.kind, row.read));
     Ok(())
 }

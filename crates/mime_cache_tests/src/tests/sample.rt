@@ -61,6 +61,25 @@ pub const SELF_CHILD: [u8; 112] = [
     0x00, 0x00, 0x00, 0x00, 0x00, 0x00, 0x00, 0x01, 0x00, 0x00, 0x00, 0x4c, 0x61, 0x2f, 0x62, 0x00,
 ];
 
+/// Writes bytes at an offset, as many as a cache has room for.
+pub fn write_at(cache: &mut [u8], at: usize, bytes: &[u8]) {
+    for (byte, other) in cache.iter_mut().skip(at).zip(bytes) {
+        *byte = *other;
+    }
+}
+
+/// The sample with other bytes at an offset.
+pub fn with(at: usize, bytes: &[u8]) -> [u8; 240] {
+    let mut cache = SAMPLE;
+    write_at(&mut cache, at, bytes);
+    cache
+}
+
+/// The sample with the four bytes at an offset all ones.
+pub fn damaged(at: usize) -> [u8; 240] {
+    with(at, &[0xff; 4])
+}
+
 /// A cache with another number at an offset.
 pub fn changed<const SIZE: usize>(mut cache: [u8; SIZE], at: usize, number: u32) -> [u8; SIZE]
     requires { at + 4 ≤ SIZE }

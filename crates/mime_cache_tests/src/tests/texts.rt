@@ -2,20 +2,9 @@
 
 use mime_base::Database;
 use mime_text::{DirFiles, merge, read_globs2, read_icons, read_magic, read_pairs};
-use mime_tool::DirBytes;
+pub use mime_tool::DirBytes as Texts;
 use std::alloc::Global;
 use std::test::Fail;
-
-/// The texts of a directory's files.
-#[derive(Clone, Copy)]
-pub struct Texts<'a> {
-    pub globs2: &'a [u8],
-    pub magic: &'a [u8],
-    pub aliases: &'a [u8],
-    pub subclasses: &'a [u8],
-    pub icons: &'a [u8],
-    pub generic_icons: &'a [u8],
-}
 
 /// A directory whose files are empty.
 pub const EMPTY: Texts<'static> = Texts {
@@ -45,22 +34,6 @@ fn read(alloc: Global, texts: &Texts<'_>) -> Result<DirFiles, Fail> {
         icons: read_icons(alloc, texts.icons)?,
         generic_icons: read_icons(alloc, texts.generic_icons)?,
     })
-}
-
-/// The texts of directories, as they are given to a lookup that reads them.
-pub fn dirs_of<'a>(alloc: Global, dirs: &[Texts<'a>]) -> Result<Vec<DirBytes<'a>>, Fail> {
-    let mut given = Vec::new(alloc);
-    for texts in dirs {
-        given.push(DirBytes {
-            globs2: texts.globs2,
-            magic: texts.magic,
-            aliases: texts.aliases,
-            subclasses: texts.subclasses,
-            icons: texts.icons,
-            generic_icons: texts.generic_icons,
-        })?;
-    }
-    Ok(given)
 }
 
 /// The database of the rules of `globs2` alone.

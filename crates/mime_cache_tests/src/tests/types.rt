@@ -4,10 +4,10 @@
 //! of `t/g`, its one type that has any, stand at 64.
 
 use crate::tests::checked::alike;
-use crate::tests::sample::{SAMPLE, SAMPLE_TEXTS};
+use crate::tests::sample::{SAMPLE, SAMPLE_TEXTS, damaged};
 use crate::tests::texts::{Texts, merged};
 use mime_base::{Counted, TypeName};
-use mime_lookup::{Cause, Stopped, icon_of, is_a};
+use mime_lookup::{Cause, Icons, icon_of, is_a};
 use mime_store::write_cache;
 use mime_view::CacheFault;
 use std::alloc::Global;
@@ -23,15 +23,6 @@ const WITH_ICONS: Texts<'static> = Texts {
 /// The fault of four bytes that are all ones and are taken for an offset.
 const FAR: CacheFault = CacheFault::OutOfRange(4_294_967_295);
 
-/// The sample with the four bytes at an offset all ones.
-fn damaged(at: usize) -> [u8; 240] {
-    let mut bytes = SAMPLE;
-    for byte in bytes.iter_mut().skip(at).take(4) {
-        *byte = 0xff;
-    }
-    bytes
-}
-
 /// A type, and its icons.
 struct IconRow {
     kind: &'static [u8],
@@ -39,11 +30,16 @@ struct IconRow {
     generic: &'static [u8],
 }
 
+/// Whether icons are those of a row.
+fn are_icons(icons: &Icons, row: &IconRow) -> bool {
+    icons.icon.as_slice() == row.icon && icons.generic.as_slice() == row.generic
+}
+
 /// Whether the icons of a type are those of a row.
 fn has_icons(alloc: Global, cache: &[u8], row: &IconRow) -> Result<bool, Fail> {
     let kind = TypeName::new(alloc, row.kind)?;
     let icons = icon_of(alloc, Counted::new(cache), &kind)?;
-    Ok(icons.icon.as_slice() == row.icon && icons.generic.as_slice() == row.generic)
+    Ok(are_icons(&icons, row))
 }
 
 const OF_THE_SAMPLE: [IconRow; 3] = [
@@ -130,9 +126,19 @@ fn leads(
 ) -> Result<Result<bool, Cause>, Fail> {
     let kind = TypeName::new(alloc, kind)?;
     let base = TypeName::new(alloc, base)?;
-    match is_a(alloc, Counted::new(cache), &kind, &base) {
-        Ok((found, _meter)) => Ok(Ok(found)),
-        Err(Stopped { cause, .. }) => Ok(Err(cause)),
+    Ok(leads_from(alloc, cache, &kind, &base))
+}
+
+/// The same of types.
+fn leads_from(
+    alloc: Global,
+    cache: &[u8],
+    kind: &TypeName,
+    base: &TypeName,
+) -> Result<bool, Cause> {
+    match is_a(alloc, Counted::new(cache), kind, base) {
+        Ok((found, _meter)) => Ok(found),
+        Err(stopped) => Err(stopped.cause),
     }
 }
 

@@ -6,7 +6,7 @@ mod rules;
 mod sniffing;
 
 use crate::tests::checked::alike;
-use crate::tests::sample::SAMPLE;
+use crate::tests::sample::{SAMPLE, damaged};
 use mime_base::{Counted, Meter};
 use mime_view::{Budget, Cache, CacheFault};
 use std::process::Abort;
@@ -178,15 +178,6 @@ const DAMAGES: [Damage; 7] = [
         fault: Some(FAR),
     },
 ];
-
-/// The sample with the four bytes at an offset all ones.
-fn damaged(at: usize) -> [u8; 240] {
-    let mut bytes = SAMPLE;
-    for byte in bytes.iter_mut().skip(at).take(4) {
-        *byte = 0xff;
-    }
-    bytes
-}
 
 /// Whether a call gives what it gives of the sample, or why not.
 fn asked(call: &Call, cache: &Cache<'_>) -> Result<bool, CacheFault> {

@@ -81,9 +81,26 @@ fn stored<F: Files>(alloc: Global, files: &mut F, path: &str) -> Result<Option<V
 /// What was stored at `/c` is the cache of both directories, and nothing is left beside it.
 fn is_stored(rt: &impl Abort, alloc: Global, files: &mut Drawer<'_>) -> Result<(), Fail> {
     let cache = stored(alloc, files, "/c")?.ok_or("nothing was stored")?;
+    is_of_both(rt, alloc, &cache)?;
+    is_not_stored(rt, alloc, files, "/c.new")
+}
+
+/// These bytes are the cache of both directories.
+fn is_of_both(rt: &impl Abort, alloc: Global, cache: &[u8]) -> Result<(), Fail> {
+    let wanted = cache_of_both(alloc)?;
     alike(rt, "version 1.2", cache.starts_with(b"\0\x01\0\x02"), true);
-    alike(rt, "the cache", cache, cache_of_both(alloc)?);
-    alike(rt, "/c.new", stored(alloc, files, "/c.new")?, None);
+    alike(rt, "the cache", cache, wanted.as_slice());
+    Ok(())
+}
+
+/// Nothing is stored at a path.
+fn is_not_stored(
+    rt: &impl Abort,
+    alloc: Global,
+    files: &mut Drawer<'_>,
+    path: &str,
+) -> Result<(), Fail> {
+    alike(rt, path, stored(alloc, files, path)?, None);
     Ok(())
 }
 
@@ -106,12 +123,6 @@ fn stores_the_cache_of_the_database(rt: HostRuntime) -> Result<(), Fail> {
     is_stored(&rt, rt.alloc(), &mut files)
 }
 
-/// Nothing is stored at `/f`.
-fn is_not_stored(rt: &impl Abort, alloc: Global, files: &mut Drawer<'_>) -> Result<(), Fail> {
-    alike(rt, "/f", stored(alloc, files, "/f")?, None);
-    Ok(())
-}
-
 #[test]
 fn says_what_cannot_be_written(rt: HostRuntime) -> Result<(), Fail> {
     let wanted = Said {
@@ -122,18 +133,23 @@ fn says_what_cannot_be_written(rt: HostRuntime) -> Result<(), Fail> {
     let words = ["build", "-d", "/e", "-o", "/f"];
     let mut files = drawer();
     says(&rt, rt.alloc(), "another file", &words, &mut files, wanted)?;
-    is_not_stored(&rt, rt.alloc(), &mut files)
+    is_not_stored(&rt, rt.alloc(), &mut files, "/f")
 }
 
-/// Of these files a call fails: the run ends as is wanted, and the file stays.
+/// So many calls are met, and then one fails so: the run ends as is wanted, and the file stays.
 fn leaves_the_file(
     rt: &impl Abort,
     alloc: Global,
     at: &str,
-    files: &mut FailingDrawer<'_>,
+    (calls, fault): (usize, FileFault),
     wanted: Said<'_>,
 ) -> Result<(), Fail> {
-    says(rt, alloc, at, &WORDS, files, wanted)?;
+    let mut files = FailingDrawer {
+        drawer: drawer(),
+        calls,
+        fault,
+    };
+    says(rt, alloc, at, &WORDS, &mut files, wanted)?;
     let cache = stored(alloc, &mut files.drawer, "/c")?.ok_or("the file is gone")?;
     alike(rt, at, cache.as_slice(), b"old");
     Ok(())
@@ -163,12 +179,7 @@ fn is_left(
         err: said.as_str(),
     };
     let at = format!(in alloc; "at {calls}")?;
-    let mut files = FailingDrawer {
-        drawer: drawer(),
-        calls,
-        fault,
-    };
-    leaves_the_file(rt, alloc, at.as_str(), &mut files, wanted)
+    leaves_the_file(rt, alloc, at.as_str(), (calls, fault), wanted)
 }
 
 /// So many calls are met, and then one fails, for each reason.

@@ -84,14 +84,20 @@ fn entries_beside<'a>(cache: &'a [u8]) -> [(&'a str, Entry<'a>); 5] {
     ]
 }
 
+/// The sample with one byte changed, unless it is the first.
+fn changed(at: usize, byte: u8) -> [u8; 240] {
+    let mut cache = SAMPLE;
+    if 0 < at && at < 240 {
+        cache[at] = byte;
+    }
+    cache
+}
+
+const ZEROS: [u8; 960] = [0; 960];
+
 fn bytes_of(alloc: Global, cache: &Cache) -> Result<Vec<u8>, Fail> {
-    let mut bytes = Vec::new(alloc);
-    for (at, byte) in SAMPLE.iter().enumerate().take(cache.length) {
-        let is_changed = cache.at != 0 && at == cache.at;
-        bytes.push(if is_changed { cache.byte } else { *byte })?;
-    }
-    for _ in 0..cache.zeros {
-        bytes.push(0)?;
-    }
+    let sample = changed(cache.at, cache.byte);
+    let mut bytes = sample[..cache.length.min(240)].to_vec(alloc)?;
+    bytes.extend_from_slice(&ZEROS[..cache.zeros.min(960)])?;
     Ok(bytes)
 }

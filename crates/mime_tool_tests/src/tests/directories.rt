@@ -79,15 +79,20 @@ const WRONG: [Row; 4] = [
     },
 ];
 
+/// A row is answered by its texts.
+fn is_said(rt: &impl Abort, alloc: Global, row: &Row) -> Result<(), Fail> {
+    let wanted = Said {
+        status: row.status,
+        out: row.out,
+        err: row.err,
+    };
+    says_over(rt, alloc, row.name, &WORDS, row.entries, wanted)
+}
+
 #[test]
 fn says_what_is_wrong_with_a_directory(rt: HostRuntime) -> Result<(), Fail> {
     for row in &WRONG {
-        let wanted = Said {
-            status: row.status,
-            out: row.out,
-            err: row.err,
-        };
-        says_over(&rt, rt.alloc(), row.name, &WORDS, row.entries, wanted)?;
+        is_said(&rt, rt.alloc(), row)?;
     }
     Ok(())
 }
@@ -114,25 +119,35 @@ fn is_refused(rt: &impl Abort, alloc: Global, magic: &[u8], fault: &str) -> Resu
     says_over(rt, alloc, fault, &WORDS, &entries, wanted)
 }
 
+/// The header, and then this text.
+fn magic_of(alloc: Global, text: &[u8]) -> Result<Vec<u8>, Fail> {
+    let mut magic = b"MIME-Magic\0\n".to_vec(alloc)?;
+    magic.extend_from_slice(text)?;
+    Ok(magic)
+}
+
 #[test]
 fn names_faults_of_magic(rt: HostRuntime) -> Result<(), Fail> {
     for (text, fault) in FAULTS {
-        let mut magic = b"MIME-Magic\0\n".to_vec(rt.alloc())?;
-        magic.extend_from_slice(text)?;
-        is_refused(&rt, rt.alloc(), magic.as_slice(), fault)?;
+        let magic = magic_of(rt.alloc(), text)?;
+        is_refused(&rt, rt.alloc(), &magic, fault)?;
     }
     Ok(())
 }
 
-// Lines with indents from 0 to 64, of which the last is too deep: it begins after the header, the head
-// of the section, 10 lines of 8 bytes and 54 of 9.
-#[test]
-fn names_the_first_line_that_is_too_deep(rt: HostRuntime) -> Result<(), Fail> {
-    let alloc = rt.alloc();
-    let mut magic = b"MIME-Magic\0\n[50:t/a]\n".to_vec(alloc)?;
+/// A section whose lines have indents from 0 to 64.
+fn too_deep(alloc: Global) -> Result<Vec<u8>, Fail> {
+    let mut magic = magic_of(alloc, b"[50:t/a]\n")?;
     for indent in 0..65 {
         let line = format!(in alloc; "{indent}>0=\0\x01a\n")?;
         magic.extend_from_slice(line.as_bytes())?;
     }
-    is_refused(&rt, alloc, magic.as_slice(), "too deep at 587")
+    Ok(magic)
+}
+
+// The last line is too deep: it begins after the header, the head of the section, 10 lines of 8 bytes and 54 of 9.
+#[test]
+fn names_the_first_line_that_is_too_deep(rt: HostRuntime) -> Result<(), Fail> {
+    let magic = too_deep(rt.alloc())?;
+    is_refused(&rt, rt.alloc(), &magic, "too deep at 587")
 }

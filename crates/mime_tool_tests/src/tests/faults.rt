@@ -1,7 +1,7 @@
 //! Files and sinks that fail.
 
-use crate::tests::ran::{Said, alike, ran, says, shows};
-use crate::{Entry, FailingFiles, FailingSink, Shelf, Slate};
+use crate::tests::ran::{Said, Taken, alike, is_taken_over, ran, says, sound};
+use crate::{Entry, FailingFiles, FailingSink, Slate};
 use arrayvec::ArrayVec;
 use mime_tool::{FileFault, Sink, SinkFault};
 use std::alloc::Global;
@@ -39,29 +39,30 @@ const CANNOT_WRITE: &str = "mimelook: cannot write output\n";
 
 const NO_MEMORY: &str = "mimelook: out of memory\n";
 
+const CANNOT_READ: Said<'static> = Said {
+    status: 3,
+    out: "",
+    err: "mimelook: /s/mime/globs2: cannot read\n",
+};
+
+const OUT_OF_MEMORY: Said<'static> = Said {
+    status: 4,
+    out: "",
+    err: NO_MEMORY,
+};
+
+const OF_FILES: [(&str, FileFault, Said<'static>); 2] = [
+    ("failed", FileFault::Failed, CANNOT_READ),
+    ("no memory", FileFault::OutOfMemory, OUT_OF_MEMORY),
+];
+
 #[test]
 fn names_what_files_fail_with(rt: HostRuntime) -> Result<(), Fail> {
-    let unreadable = Said {
-        status: 3,
-        out: "",
-        err: "mimelook: /s/mime/globs2: cannot read\n",
-    };
-    let mut files = FailingFiles(FileFault::Failed);
-    says(&rt, rt.alloc(), "failed", &WORDS, &mut files, unreadable)?;
-    let out_of_memory = Said {
-        status: 4,
-        out: "",
-        err: NO_MEMORY,
-    };
-    let mut files = FailingFiles(FileFault::OutOfMemory);
-    says(
-        &rt,
-        rt.alloc(),
-        "no memory",
-        &WORDS,
-        &mut files,
-        out_of_memory,
-    )
+    for (name, fault, wanted) in OF_FILES {
+        let mut files = FailingFiles(fault);
+        says(&rt, rt.alloc(), name, &WORDS, &mut files, wanted)?;
+    }
+    Ok(())
 }
 
 /// A run is out of memory, and prints nothing.
@@ -124,15 +125,6 @@ const FAULTS: [Row; 4] = [
     },
 ];
 
-/// A run's status, what standard output took and how much of it was flushed, and what was said.
-#[derive(Clone, Copy)]
-struct Taken<'a> {
-    status: u8,
-    out: &'a str,
-    flushed: usize,
-    err: &'a str,
-}
-
 /// A run over the rules, with these streams, ends so.
 fn is_taken(
     rt: &impl Abort,
@@ -142,18 +134,7 @@ fn is_taken(
     streams: (FailingSink, FailingSink),
     wanted: Taken<'_>,
 ) {
-    let mut files = Shelf { entries: ENTRIES };
-    let (mut out, mut err) = streams;
-    let status = ran(alloc, words, &mut files, &mut out, &mut err);
-    alike(rt, name, status, wanted.status);
-    shows(rt, name, out.taken.as_slice(), wanted.out);
-    shows(rt, name, err.taken.as_slice(), wanted.err);
-    alike(rt, name, out.flushed, wanted.flushed);
-}
-
-/// A sink of which no call fails.
-fn sound(alloc: Global) -> FailingSink {
-    FailingSink::new(alloc, 0, 0, SinkFault::Failed)
+    is_taken_over(rt, alloc, name, words, ENTRIES, streams, wanted);
 }
 
 /// The first calls are met, then one fails, or all of them from there on. What was put before it stays, whole, and is

@@ -57,22 +57,30 @@ fn said<'a>(status: u8, out: &'a str, err: &'a str) -> Said<'a> {
     Said { status, out, err }
 }
 
+/// A text file can't be read.
+fn is_unreadable(rt: &impl Abort, alloc: Global, name: &str, calls: usize) -> Result<(), Fail> {
+    let unreadable = format!(in alloc; "mimelook: /s/mime/{name}: cannot read\n")?;
+    let wanted = said(3, "", unreadable.as_str());
+    fails(rt, alloc, name, calls, FileFault::Failed, wanted)
+}
+
+/// There is no memory for a call, after these lines.
+fn has_no_memory(
+    rt: &impl Abort,
+    alloc: Global,
+    name: &str,
+    calls: usize,
+    lines: &str,
+) -> Result<(), Fail> {
+    let wanted = said(4, lines, NO_MEMORY);
+    fails(rt, alloc, name, calls, FileFault::OutOfMemory, wanted)
+}
+
 #[test]
 fn stops_where_the_data_cannot_be_read(rt: HostRuntime) -> Result<(), Fail> {
-    let alloc = rt.alloc();
     for (calls, name) in DATA.iter().enumerate() {
-        let unreadable = format!(in alloc; "mimelook: /s/mime/{name}: cannot read\n")?;
-        let failed = said(3, "", unreadable.as_str());
-        fails(&rt, alloc, name, calls, FileFault::Failed, failed)?;
-        let out_of_memory = said(4, "", NO_MEMORY);
-        fails(
-            &rt,
-            alloc,
-            name,
-            calls,
-            FileFault::OutOfMemory,
-            out_of_memory,
-        )?;
+        is_unreadable(&rt, rt.alloc(), name, calls)?;
+        has_no_memory(&rt, rt.alloc(), name, calls, "")?;
     }
     Ok(())
 }
@@ -88,37 +96,36 @@ fn lines_without(alloc: Global, at: usize) -> Result<String, Fail> {
     Ok(lines)
 }
 
-// What was printed is the run's output less the line of the file.
+/// What was printed is the run's output less the line of the file.
+fn is_passed_over(rt: &impl Abort, alloc: Global, name: &str, at: usize) -> Result<(), Fail> {
+    let lines = lines_without(alloc, at)?;
+    let message = format!(in alloc; "mimelook: {name}: cannot open\n")?;
+    let wanted = said(1, lines.as_str(), message.as_str());
+    let calls = DATA.len().saturating_add(at);
+    fails(rt, alloc, name, calls, FileFault::Failed, wanted)
+}
+
 #[test]
 fn goes_on_after_a_file_that_cannot_be_opened(rt: HostRuntime) -> Result<(), Fail> {
-    let alloc = rt.alloc();
     for (at, name) in NAMES.iter().enumerate() {
-        let lines = lines_without(alloc, at)?;
-        let message = format!(in alloc; "mimelook: {name}: cannot open\n")?;
-        let wanted = said(1, lines.as_str(), message.as_str());
-        fails(&rt, alloc, name, DATA.len() + at, FileFault::Failed, wanted)?;
+        is_passed_over(&rt, rt.alloc(), name, at)?;
     }
     Ok(())
+}
+
+/// No call fails, and these lines are printed.
+fn is_printed(rt: &impl Abort, alloc: Global, lines: &str) -> Result<(), Fail> {
+    let (calls, wanted) = (DATA.len() + LINES.len(), said(0, lines, ""));
+    fails(rt, alloc, "no call", calls, FileFault::OutOfMemory, wanted)
 }
 
 // The lines before the file stay.
 #[test]
 fn stops_where_there_is_no_memory_to_open(rt: HostRuntime) -> Result<(), Fail> {
-    let alloc = rt.alloc();
-    let mut lines = String::new(alloc);
+    let mut lines = String::new(rt.alloc());
     for (at, line) in LINES.iter().enumerate() {
-        let wanted = said(4, lines.as_str(), NO_MEMORY);
-        fails(
-            &rt,
-            alloc,
-            line,
-            DATA.len() + at,
-            FileFault::OutOfMemory,
-            wanted,
-        )?;
+        has_no_memory(&rt, rt.alloc(), line, DATA.len() + at, &lines)?;
         lines.push_str(line)?;
     }
-    let wanted = said(0, lines.as_str(), "");
-    let calls = DATA.len() + LINES.len();
-    fails(&rt, alloc, "no call", calls, FileFault::OutOfMemory, wanted)
+    is_printed(&rt, rt.alloc(), &lines)
 }

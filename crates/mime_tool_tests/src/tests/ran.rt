@@ -1,7 +1,7 @@
 //! Runs of the program, and values that have to be alike.
 
-use crate::{Entry, Shelf};
-use mime_tool::{Files, Sink, run};
+use crate::{Entry, FailingSink, Shelf};
+use mime_tool::{Files, Sink, SinkFault, run};
 use std::alloc::Global;
 use std::fmt::Debug;
 use std::process::Abort;
@@ -61,8 +61,40 @@ pub fn says_over(
     says(rt, alloc, name, words, &mut Shelf { entries }, wanted)
 }
 
+/// A run's status, what standard output took and how much of it was flushed, and what was said.
+#[derive(Clone, Copy)]
+pub struct Taken<'a> {
+    pub status: u8,
+    pub out: &'a str,
+    pub flushed: usize,
+    pub err: &'a str,
+}
+
+/// A run over a shelf, with these streams, ends so.
+pub fn is_taken_over(
+    rt: &impl Abort,
+    alloc: Global,
+    name: &str,
+    words: &[&str],
+    entries: &[(&str, Entry<'_>)],
+    streams: (FailingSink, FailingSink),
+    wanted: Taken<'_>,
+) {
+    let (mut out, mut err) = streams;
+    let status = ran(alloc, words, &mut Shelf { entries }, &mut out, &mut err);
+    alike(rt, name, status, wanted.status);
+    shows(rt, name, out.taken.as_slice(), wanted.out);
+    shows(rt, name, err.taken.as_slice(), wanted.err);
+    alike(rt, name, out.flushed, wanted.flushed);
+}
+
+/// A sink of which no call fails.
+pub fn sound(alloc: Global) -> FailingSink {
+    FailingSink::new(alloc, 0, 0, SinkFault::Failed)
+}
+
 /// Bytes that were printed are this text.
-pub fn shows(rt: &impl Abort, name: &str, bytes: &[u8], text: &str) {
+fn shows(rt: &impl Abort, name: &str, bytes: &[u8], text: &str) {
     match str::from_utf8(bytes) {
         Ok(found) => alike(rt, name, found, text),
         Err(_) => alike(rt, name, bytes, text.as_bytes()),

@@ -3,7 +3,9 @@
 use crate::tests::ran::alike;
 use crate::{Disk, Opened, Script, Step};
 use mime_tool::{FileFault, Files, Sink, SinkFault, Stream, SystemFiles, read_whole};
+use std::alloc::Global;
 use std::io::ErrorKind;
+use std::process::Abort;
 use std::test::Fail;
 
 /// The whole of a file of the system, of which nothing is known.
@@ -13,10 +15,11 @@ fn read_at(rt: &HostRuntime, path: &str) -> Result<Option<Vec<u8>>, FileFault> {
 
 #[test]
 fn tells_missing_files_from_unreadable_ones(rt: HostRuntime) -> Result<(), Fail> {
-    let empty = read_at(&rt, "/dev/null")?.ok_or("no file")?;
-    alike(&rt, "/dev/null", empty.as_slice(), b"");
-    let system = read_at(&rt, "/proc/sys/kernel/ostype")?.ok_or("no file")?;
-    alike(&rt, "ostype", system.as_slice(), b"Linux\n");
+    let linux = b"Linux\n".to_vec(rt.alloc())?;
+    let system = read_at(&rt, "/proc/sys/kernel/ostype");
+    alike(&rt, "ostype", system, Ok(Some(linux)));
+    let empty = read_at(&rt, "/dev/null");
+    alike(&rt, "/dev/null", empty, Ok(Some(Vec::new(rt.alloc()))));
     let missing = read_at(&rt, "/dev/no-such-file");
     alike(&rt, "no-such-file", missing, Ok(None));
     for path in ["/", "/dev/null/below"] {
@@ -25,65 +28,74 @@ fn tells_missing_files_from_unreadable_ones(rt: HostRuntime) -> Result<(), Fail>
     Ok(())
 }
 
+/// A path of the system, or files that fail or give so, and what opening comes to.
+type Opening<T> = (T, Result<(), FileFault>);
+
+const REFUSED: Result<(), FileFault> = Err(FileFault::Failed);
+
+const NO_ROOM: Result<(), FileFault> = Err(FileFault::OutOfMemory);
+
+const PATHS: [Opening<&str>; 4] = [
+    ("/dev/null", Ok(())),
+    ("/", Ok(())),
+    ("/dev/no-such-file", REFUSED),
+    ("/dev/null/below", REFUSED),
+];
+
 #[test]
 fn opens_whatever_can_be_opened(rt: HostRuntime) {
     let mut files = SystemFiles::new(&rt);
-    let failed = Err(FileFault::Failed);
-    let rows = [
-        ("/dev/null", Ok(())),
-        ("/", Ok(())),
-        ("/dev/no-such-file", failed),
-        ("/dev/null/below", failed),
-    ];
-    for (path, want) in rows {
+    for (path, want) in PATHS {
         let opened = files.open(rt.alloc(), path).map(|_| ());
         alike(&rt, path, opened, want);
     }
 }
 
+const DENIED: ErrorKind = ErrorKind::PermissionDenied;
+
+const MEMORY: ErrorKind = ErrorKind::OutOfMemory;
+
+const DISKS: [(&str, Opening<Disk>); 11] = [
+    ("missing", (Disk::Hides(ErrorKind::NotFound), REFUSED)),
+    ("gone since", (Disk::Fails(ErrorKind::NotFound), REFUSED)),
+    ("hidden", (Disk::Hides(DENIED), REFUSED)),
+    ("no memory to look", (Disk::Hides(MEMORY), NO_ROOM)),
+    ("denied", (Disk::Fails(DENIED), REFUSED)),
+    ("interrupted", (Disk::Fails(INTERRUPTED), REFUSED)),
+    ("no memory", (Disk::Fails(MEMORY), NO_ROOM)),
+    ("not to be looked at", (UNKNOWN, REFUSED)),
+    ("no memory to look at it", (UNKNOWABLE, NO_ROOM)),
+    ("too long to be read whole", (ENDLESS, Ok(()))),
+    ("unreadable", (UNREADABLE, Ok(()))),
+];
+
+const UNKNOWN: Disk = Disk::Gives(Opened {
+    size: Err(DENIED),
+    read: None,
+});
+
+const UNKNOWABLE: Disk = Disk::Gives(Opened {
+    size: Err(MEMORY),
+    read: None,
+});
+
+const ENDLESS: Disk = Disk::Gives(Opened {
+    size: Ok(u64::MAX),
+    read: None,
+});
+
+const UNREADABLE: Disk = Disk::Gives(Opened {
+    size: Ok(1),
+    read: Some(MEMORY),
+});
+
 // Opening looks at what a file is and at the opening, and not at the size.
 #[test]
 fn names_what_opening_fails_with(rt: HostRuntime) {
-    let failed = Err(FileFault::Failed);
-    let denied = ErrorKind::PermissionDenied;
-    let memory = ErrorKind::OutOfMemory;
-    let rows = [
-        ("missing", Disk::Hides(ErrorKind::NotFound), failed),
-        ("gone since", Disk::Fails(ErrorKind::NotFound), failed),
-        ("hidden", Disk::Hides(denied), failed),
-        (
-            "no memory to look",
-            Disk::Hides(memory),
-            Err(FileFault::OutOfMemory),
-        ),
-        ("denied", Disk::Fails(denied), failed),
-        ("interrupted", Disk::Fails(ErrorKind::Interrupted), failed),
-        (
-            "no memory",
-            Disk::Fails(memory),
-            Err(FileFault::OutOfMemory),
-        ),
-        ("not to be looked at", gives(Err(denied), None), failed),
-        (
-            "no memory to look at it",
-            gives(Err(memory), None),
-            Err(FileFault::OutOfMemory),
-        ),
-        (
-            "too long to be read whole",
-            gives(Ok(u64::MAX), None),
-            Ok(()),
-        ),
-        ("unreadable", gives(Ok(1), Some(memory)), Ok(())),
-    ];
-    for (name, disk, want) in rows {
+    for (name, (disk, want)) in DISKS {
         let opened = SystemFiles::new(&disk).open(rt.alloc(), "a").map(|_| ());
         alike(&rt, name, opened, want);
     }
-}
-
-fn gives(size: Result<u64, ErrorKind>, read: Option<ErrorKind>) -> Disk {
-    Disk::Gives(Opened { size, read })
 }
 
 // The longest file that is read whole, in bytes.
@@ -243,27 +255,39 @@ fn names_what_the_system_fails_with(rt: HostRuntime) {
 
 const INTERRUPTED: ErrorKind = ErrorKind::Interrupted;
 
-// A reader that is read with a limit of 9 bytes.
-const READS: [(&str, &[Step], Result<usize, FileFault>); 9] = [
-    ("nothing", &[], Ok(0)),
-    ("up to the limit", &[Step::Bytes(9)], Ok(9)),
+/// A limit in bytes, what a reader meets, and how many bytes are read, or the fault.
+type Reading = (
+    &'static str,
+    usize,
+    &'static [Step],
+    Result<usize, FileFault>,
+);
+
+const READS: [Reading; 10] = [
+    ("a limit of 0", 0, &[Step::Bytes(1)], Err(FileFault::Failed)),
+    ("nothing", 9, &[], Ok(0)),
+    ("up to the limit", 9, &[Step::Bytes(9)], Ok(9)),
     (
         "one past the limit",
+        9,
         &[Step::Bytes(10)],
         Err(FileFault::Failed),
     ),
     (
         "as many interruptions as are tried again",
+        9,
         &[Step::Faults(1_000, INTERRUPTED), Step::Bytes(2)],
         Ok(2),
     ),
     (
         "one interruption more",
+        9,
         &[Step::Faults(1_001, INTERRUPTED)],
         Err(FileFault::Failed),
     ),
     (
         "one more, in two parts",
+        9,
         &[
             Step::Faults(600, INTERRUPTED),
             Step::Bytes(2),
@@ -273,6 +297,7 @@ const READS: [(&str, &[Step], Result<usize, FileFault>); 9] = [
     ),
     (
         "a fault in the middle",
+        9,
         &[
             Step::Bytes(2),
             Step::Faults(1, ErrorKind::PermissionDenied),
@@ -282,11 +307,13 @@ const READS: [(&str, &[Step], Result<usize, FileFault>); 9] = [
     ),
     (
         "a fault at the limit",
+        9,
         &[Step::Bytes(9), Step::Faults(1, ErrorKind::Other)],
         Err(FileFault::Failed),
     ),
     (
         "no memory",
+        9,
         &[Step::Bytes(2), Step::Faults(1, ErrorKind::OutOfMemory)],
         Err(FileFault::OutOfMemory),
     ),
@@ -294,13 +321,10 @@ const READS: [(&str, &[Step], Result<usize, FileFault>); 9] = [
 
 #[test]
 fn reads_whole_files_up_to_their_limits(rt: HostRuntime) {
-    for (name, steps, want) in READS {
-        let read = read_whole(rt.alloc(), 9, &mut Script::new(steps));
+    for (name, limit, steps, want) in READS {
+        let read = read_whole(rt.alloc(), limit, &mut Script::new(steps));
         alike(&rt, name, read.map(|bytes| bytes.len()), want);
     }
-    let read = read_whole(rt.alloc(), 0, &mut Script::new(&[Step::Bytes(1)]));
-    let length = read.map(|bytes| bytes.len());
-    alike(&rt, "a limit of 0", length, Err(FileFault::Failed));
 }
 
 // A stream that is given two bytes.
@@ -349,38 +373,57 @@ const FLUSHES: [(&str, &[Step], Result<(), SinkFault>); 4] = [
     ),
 ];
 
-#[test]
-fn passes_on_each_failure_of_a_stream(rt: HostRuntime) {
+/// Two bytes are put on streams of these steps.
+fn are_put(rt: &impl Abort) {
     for (name, steps, want) in PUTS {
         let mut stream = Stream(Script::new(steps));
-        alike(&rt, name, stream.put(b"hi"), want);
+        alike(rt, name, stream.put(b"hi"), want);
     }
+}
+
+/// Streams of these steps are flushed.
+fn are_flushed(rt: &impl Abort) {
     for (name, steps, want) in FLUSHES {
         let mut stream = Stream(Script::new(steps));
-        alike(&rt, name, stream.flush(), want);
+        alike(rt, name, stream.flush(), want);
     }
-    let mut full = Stream(Script::new(&[Step::Faults(1, ErrorKind::StorageFull)]));
+}
+
+const FULL_ONCE: &[Step] = &[Step::Faults(1, ErrorKind::StorageFull)];
+
+#[test]
+fn passes_on_each_failure_of_a_stream(rt: HostRuntime) {
+    are_put(&rt);
+    are_flushed(&rt);
+    let mut full = Stream(Script::new(FULL_ONCE));
     alike(&rt, "a full disk", full.flush(), Err(SinkFault::Failed));
     alike(&rt, "what is flushed again", full.flush(), Ok(()));
 }
 
+/// Files that fail or give so, and the fault of replacing one.
+const REPLACED: [(&str, Disk, FileFault); 3] = [
+    ("denied", Disk::Fails(DENIED), FileFault::Failed),
+    ("no memory", Disk::Fails(MEMORY), FileFault::OutOfMemory),
+    ("no write", EMPTY, FileFault::Failed),
+];
+
+const EMPTY: Disk = Disk::Gives(Opened {
+    size: Ok(0),
+    read: None,
+});
+
+/// Each disk gives its fault.
+fn are_not_replaced(rt: &impl Abort, alloc: Global) {
+    for (name, disk, want) in REPLACED {
+        let mut files = SystemFiles::new(&disk);
+        let fault = files.replace(alloc, "c.new", "c", b"x");
+        alike(rt, name, fault, Err(want));
+    }
+}
+
 #[test]
 fn names_what_replacing_fails_with(rt: HostRuntime) {
-    let denied = ErrorKind::PermissionDenied;
-    let rows = [
-        ("denied", Disk::Fails(denied), FileFault::Failed),
-        (
-            "no memory",
-            Disk::Fails(ErrorKind::OutOfMemory),
-            FileFault::OutOfMemory,
-        ),
-        ("no write", gives(Ok(0), None), FileFault::Failed),
-    ];
-    for (name, disk, want) in rows {
-        let mut files = SystemFiles::new(&disk);
-        let fault = files.replace(rt.alloc(), "c.new", "c", b"x").err();
-        alike(&rt, name, fault, Some(want));
-    }
+    are_not_replaced(&rt, rt.alloc());
     let mut files = SystemFiles::new(&rt);
     let fault = files.replace(rt.alloc(), "/proc/c.new", "/proc/c", b"x");
     alike(&rt, "/proc/c", fault, Err(FileFault::Failed));

@@ -1,9 +1,9 @@
 //! Types of names without content, over glob rules alone.
 
-use super::{Asked, are_answered_alike};
+use super::{Asked, are_answered_alike, outcome_of};
 use crate::tests::checked::alike;
 use crate::tests::texts::of_rules;
-use mime_base::{Database, Host, Meter, glob_matches};
+use mime_base::{Database, GlobRule, Host, Meter, glob_matches};
 use mime_lookup::{Answer, Cause, Order, Stopped, look_up_plain};
 use std::alloc::Global;
 use std::process::Abort;
@@ -106,55 +106,70 @@ fn look_up_name<'a>(
     )
 }
 
+/// A row is answered by its type.
+fn is_answered(rt: &impl Abort, alloc: Global, row: &Row) -> Result<(), Fail> {
+    let database = of_rules(alloc, row.globs2)?;
+    let asked = Asked {
+        name: row.name,
+        file: row.file,
+        host: Host::Little,
+        order: Order::GlobsFirst,
+        outcome: Ok((row.kind, 0)),
+    };
+    let contents: (Option<&[u8]>, Option<&[u8]>) = (None, None);
+    are_answered_alike(rt, alloc, &database, &asked, contents)
+}
+
 #[test]
 fn rows(rt: HostRuntime) -> Result<(), Fail> {
     for row in &ROWS {
-        let database = of_rules(rt.alloc(), row.globs2)?;
-        let asked = Asked {
-            name: row.name,
-            file: row.file,
-            host: Host::Little,
-            order: Order::GlobsFirst,
-            outcome: Ok((row.kind, 0)),
-        };
-        let contents: (Option<&[u8]>, Option<&[u8]>) = (None, None);
-        are_answered_alike(&rt, rt.alloc(), &database, &asked, contents)?;
+        is_answered(&rt, rt.alloc(), row)?;
     }
     Ok(())
 }
 
-#[test]
-fn name_too_long(rt: HostRuntime) -> Result<(), Fail> {
-    let name = [b'a'; 4097];
-    let database = of_rules(rt.alloc(), ARCHIVES)?;
-    let refused = look_up_name(rt.alloc(), &database, &name).err();
+/// A name one byte past the limit, and one at the limit.
+const LONG: (&[u8], &[u8]) = (&[b'a'; 4097], &[b'a'; 4096]);
+
+/// The names are refused and answered.
+fn is_limit(rt: &impl Abort, alloc: Global, database: &Database) {
+    let refused = look_up_name(alloc, database, LONG.0).err();
     let too_long = Stopped {
         cause: Cause::NameTooLong,
         read: 0,
         meter: Meter::new(),
     };
-    alike(&rt, "4,097 bytes", refused, Some(too_long));
-    let answer = look_up_name(rt.alloc(), &database, &name[1..])?;
-    alike(&rt, "4,096 bytes", answer.kind, b"application/octet-stream");
+    alike(rt, "4,097 bytes", refused, Some(too_long));
+    let answer = outcome_of(look_up_name(alloc, database, LONG.1));
+    let octets = Ok((b"application/octet-stream".as_slice(), 0));
+    alike(rt, "4,096 bytes", answer, octets);
+}
+
+#[test]
+fn name_too_long(rt: HostRuntime) -> Result<(), Fail> {
+    let database = of_rules(rt.alloc(), ARCHIVES)?;
+    is_limit(&rt, rt.alloc(), &database);
     Ok(())
 }
 
 #[test]
 fn counts_what_matching_counts(rt: HostRuntime) -> Result<(), Fail> {
-    let mut meter = Meter::new();
     let database = of_rules(rt.alloc(), ARCHIVES)?;
-    for rule in &database.rules {
+    let counted = counted_by(&database.rules);
+    let answer = look_up_name(rt.alloc(), &database, b"Data.tar.gz")?;
+    let meter = answer.meter;
+    alike(&rt, "counted", meter, counted);
+    alike(&rt, "nothing is counted", meter == Meter::new(), false);
+    Ok(())
+}
+
+/// What matching a name by each rule counts.
+fn counted_by(rules: &[GlobRule]) -> Meter {
+    let mut meter = Meter::new();
+    for rule in rules {
         glob_matches(rule.pattern.bytes(), rule.cased, b"Data.tar.gz", &mut meter);
     }
-    let answer = look_up_name(rt.alloc(), &database, b"Data.tar.gz")?;
-    alike(&rt, "counted", answer.meter, meter);
-    alike(
-        &rt,
-        "nothing is counted",
-        answer.meter == Meter::new(),
-        false,
-    );
-    Ok(())
+    meter
 }
 
 /// A cause is told so, and what stopped for it too.

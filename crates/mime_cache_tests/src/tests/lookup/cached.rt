@@ -58,19 +58,30 @@ pub fn look_up_in<'a, R: Content>(
     host: Host,
     order: Order,
 ) -> Outcome<'a> {
-    let found = look_up(alloc, Counted::new(cache), file, content, host, order);
+    let found = look_up_over(alloc, cache, file, content, host, order);
     let (read, meter) = spent(&found);
-    let (nodes, bytes) = bounds(
-        short(file.len() as u64),
-        short(cache.len() as u64),
-        short(read),
-    );
-    let within = (
-        u128::from(meter.nodes) <= nodes,
-        u128::from(meter.bytes) <= bytes,
-    );
-    alike(rt, "bounds", (meter, within), (meter, (true, true)));
+    let within = is_within_bounds(file.len(), cache.len(), read, &meter);
+    alike(rt, "bounds", (meter, within), (meter, true));
     outcome_of(found)
+}
+
+/// A lookup over the bytes of a cache, of which nothing is known.
+pub fn look_up_over<'a, R: Content>(
+    alloc: Global,
+    cache: &'a [u8],
+    file: &[u8],
+    content: &mut Option<R>,
+    host: Host,
+    order: Order,
+) -> Result<Answer<'a>, Stopped> {
+    look_up(alloc, Counted::new(cache), file, content, host, order)
+}
+
+/// Whether what was visited and compared is within the bounds, for the lengths of a name and of a cache and for
+/// what was read of the content.
+fn is_within_bounds(file: usize, cache: usize, read: u64, meter: &Meter) -> bool {
+    let (nodes, bytes) = bounds(short(file as u64), short(cache as u64), short(read));
+    u128::from(meter.nodes) <= nodes && u128::from(meter.bytes) <= bytes
 }
 
 /// How much was read of the content and visited of the cache.

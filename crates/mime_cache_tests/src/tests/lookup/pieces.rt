@@ -1,10 +1,9 @@
 //! A content that comes in pieces, with an interruption before each of its reads in turn, or with a read that fails.
 
 use super::cached::look_up_in;
-use super::{Asked, Outcome, are_answered_alike, outcome_of};
-use crate::tests::checked::alike;
+use super::{Asked, Outcome, are_answered_alike, is_outcome, look_up_lists};
 use mime_base::Database;
-use mime_lookup::{Cause, Script, Step, look_up_plain};
+use mime_lookup::{Cause, Script, Step};
 use mime_store::write_cache;
 use std::alloc::Global;
 use std::process::Abort;
@@ -29,10 +28,8 @@ fn with<'a>(
     step: Step<'a>,
     at: usize,
 ) -> Result<Vec<Step<'a>>, Fail> {
-    let (before, behind) = pieces.split_at(at.min(pieces.len()));
-    let mut steps = Vec::from_slice(alloc, before)?;
-    steps.push(step)?;
-    steps.extend_from_slice(behind)?;
+    let mut steps = Vec::from_slice(alloc, pieces)?;
+    steps.insert(at.min(pieces.len()), step)?;
     Ok(steps)
 }
 
@@ -46,8 +43,7 @@ pub fn is_answered_in_pieces(
 ) -> Result<(), Fail> {
     for size in [1, 3, 64, content.len()] {
         let pieces = pieces_of(alloc, content, size)?;
-        let script = Some(Script::new(&pieces));
-        are_answered_alike(rt, alloc, database, asked, (script, script))?;
+        is_answered_by(rt, alloc, database, asked, &pieces)?;
     }
     Ok(())
 }
@@ -63,10 +59,21 @@ pub fn is_interrupted(
     let pieces = pieces_of(alloc, content, content.len() / MOST + 1)?;
     for at in 0..=pieces.len() {
         let steps = with(alloc, &pieces, Step::Interruption, at)?;
-        let script = Some(Script::new(&steps));
-        are_answered_alike(rt, alloc, database, asked, (script, script))?;
+        is_answered_by(rt, alloc, database, asked, &steps)?;
     }
     Ok(())
+}
+
+/// The outcome is the same where the reads follow these steps.
+fn is_answered_by(
+    rt: &impl Abort,
+    alloc: Global,
+    database: &Database,
+    asked: &Asked<'_>,
+    steps: &[Step<'_>],
+) -> Result<(), Fail> {
+    let script = Some(Script::new(steps));
+    are_answered_alike(rt, alloc, database, asked, (script, script))
 }
 
 /// Where a read fails, each in turn, the lookup stops with what was read before, unless all that it reads came before.
@@ -83,34 +90,44 @@ pub fn is_refused_by_failures(
     for at in 0..=pieces.len() {
         let before = content.len().min(size.saturating_mul(at));
         let steps = with(alloc, &pieces, Step::Fault, at)?;
-        let mut script = Some(Script::new(&steps));
-        let (file, host, order) = (asked.file, asked.host, asked.order);
-        let found = look_up_plain(alloc, database, file, &mut script, host, order);
-        is_failure_or_answer(rt, asked, outcome_of(found), before);
-        let mut script = Some(Script::new(&steps));
-        let found = look_up_in(rt, alloc, &cache, file, &mut script, host, order);
-        is_failure_or_answer(rt, asked, found, before);
+        fails_or_answers(rt, alloc, (database, &cache), asked, &steps, before);
     }
     Ok(())
 }
 
+/// The same where the reads follow these steps, of which one fails after so many bytes.
+fn fails_or_answers(
+    rt: &impl Abort,
+    alloc: Global,
+    (database, cache): (&Database, &[u8]),
+    asked: &Asked<'_>,
+    steps: &[Step<'_>],
+    before: usize,
+) {
+    let (file, host, order) = (asked.file, asked.host, asked.order);
+    let mut script = Some(Script::new(steps));
+    let found = look_up_lists(alloc, database, file, &mut script, host, order);
+    is_failure_or_answer(rt, asked, found, before);
+    let mut script = Some(Script::new(steps));
+    let found = look_up_in(rt, alloc, cache, file, &mut script, host, order);
+    is_failure_or_answer(rt, asked, found, before);
+}
+
 /// The outcome is a failed read after so many bytes, or the ordinary one where no more than these bytes are needed.
 fn is_failure_or_answer(rt: &impl Abort, asked: &Asked<'_>, found: Outcome<'_>, before: usize) {
-    let is_enough = asked.outcome.is_ok_and(|(_, read)| read <= before as u64);
-    if found.is_ok() && is_enough {
-        alike(
-            rt,
-            asked.name,
-            ("before a failure", found),
-            ("before a failure", asked.outcome),
-        );
+    let before = before as u64;
+    if found.is_ok() && is_enough(asked.outcome, before) {
+        is_outcome(rt, asked.name, "before a failure", found, asked.outcome);
     } else {
-        let failed = Err((Cause::Read, before as u64));
-        alike(
-            rt,
-            asked.name,
-            ("at a failure", found),
-            ("at a failure", failed),
-        );
+        let failed = Err((Cause::Read, before));
+        is_outcome(rt, asked.name, "at a failure", found, failed);
+    }
+}
+
+/// Whether no more than so many bytes are needed.
+fn is_enough(outcome: Outcome<'_>, before: u64) -> bool {
+    match outcome {
+        Ok((_, read)) => read <= before,
+        Err(_) => false,
     }
 }

@@ -2,11 +2,11 @@
 //! through the same readers where they tell nothing.
 
 use super::cached::look_up_in;
-use super::{Asked, Outcome, are_answered_alike, outcome_of};
+use super::{Asked, Outcome, are_answered_alike, look_up_lists};
 use crate::tests::checked::alike;
 use crate::tests::texts::of_rules;
 use mime_base::Host;
-use mime_lookup::{Cause, Order, Script, Step, Untold, look_up_plain};
+use mime_lookup::{Cause, Order, Script, Step, Untold};
 use mime_store::write_cache;
 use std::alloc::Global;
 use std::process::Abort;
@@ -157,7 +157,7 @@ fn rows(rt: HostRuntime) -> Result<(), Fail> {
 /// A slice that is read to its end has this outcome.
 fn is_at_its_end(rt: &impl Abort, name: &str, found: Outcome<'_>, rest: Option<&[u8]>) {
     alike(rt, name, found, Ok((b"text/plain", 3)));
-    alike(rt, name, rest.map(|bytes| bytes.len()), Some(0));
+    alike(rt, name, rest, Some(b"".as_slice()));
 }
 
 #[test]
@@ -166,8 +166,8 @@ fn a_slice(rt: HostRuntime) -> Result<(), Fail> {
     let (host, order) = (Host::Little, Order::GlobsFirst);
     let database = of_rules(alloc, b"")?;
     let mut content = Some(&b"hi\n"[..]);
-    let found = look_up_plain(alloc, &database, b"a", &mut content, host, order);
-    is_at_its_end(&rt, "by the lists", outcome_of(found), content);
+    let found = look_up_lists(alloc, &database, b"a", &mut content, host, order);
+    is_at_its_end(&rt, "by the lists", found, content);
     let cache = write_cache(alloc, &database, usize::MAX)?;
     let mut content = Some(&b"hi\n"[..]);
     let found = look_up_in(&rt, alloc, &cache, b"a", &mut content, host, order);

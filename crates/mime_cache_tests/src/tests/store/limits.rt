@@ -5,13 +5,10 @@ use crate::tests::checked::alike;
 use crate::tests::texts::{EMPTY, Texts, merged};
 use mime_base::{Counted, Meter};
 use mime_store::{StoreFault, write_cache};
-use mime_view::{Budget, Cache, CacheFault};
+use mime_view::{Budget, Cache};
 use std::alloc::Global;
 use std::process::Abort;
 use std::test::Fail;
-
-/// An icon and a generic icon.
-type Icons<'a> = (Option<&'a [u8]>, Option<&'a [u8]>);
 
 /// The cache of a directory, which fits in so many bytes and in no less.
 fn cache_of(
@@ -112,31 +109,18 @@ fn the_longest_names_are_read_back(rt: HostRuntime) -> Result<(), Fail> {
     let icons = line(rt.alloc(), &kind, b':', &icon)?;
     let texts = texts_of(&aliases, &icons);
     let bytes = cache_of(&rt, rt.alloc(), texts, 88 + 3 * (8 + 256 + 256))?;
-    let (kind, icon) = (kind.as_slice(), icon.as_slice());
-    alike(&rt, "alias", name_of(&bytes, &alias)? == kind, true);
-    alike(
-        &rt,
-        "icon",
-        icons_of(&bytes, kind)? == (Some(icon), Some(icon)),
-        true,
-    );
+    let cache = Cache::open(Counted::new(&bytes), &mut Meter::new())?;
+    are_read_back(&rt, &cache, &alias, &kind, &icon);
     Ok(())
 }
 
-/// The type that a name stands for, by the bytes of a cache.
-fn name_of<'a>(bytes: &'a [u8], kind: &'a [u8]) -> Result<&'a [u8], CacheFault> {
-    let mut meter = Meter::new();
-    let cache = Cache::open(Counted::new(bytes), &mut meter)?;
-    let mut budget = Budget::of(&cache);
-    cache.unalias(kind, &mut meter, &mut budget)
-}
-
-/// The icon and the generic icon of a type, by the bytes of a cache.
-fn icons_of<'a>(bytes: &'a [u8], kind: &[u8]) -> Result<Icons<'a>, CacheFault> {
-    let mut meter = Meter::new();
-    let cache = Cache::open(Counted::new(bytes), &mut meter)?;
-    let mut budget = Budget::of(&cache);
-    let icon = cache.icon(kind, &mut meter, &mut budget)?;
-    let generic = cache.generic_icon(kind, &mut meter, &mut budget)?;
-    Ok((icon, generic))
+/// An alias stands for a type, which has one icon twice.
+fn are_read_back(rt: &impl Abort, cache: &Cache<'_>, alias: &[u8], kind: &[u8], icon: &[u8]) {
+    let (mut meter, mut budget) = (Meter::new(), Budget::of(cache));
+    let named = cache.unalias(alias, &mut meter, &mut budget);
+    alike(rt, "alias", named, Ok(kind));
+    let given = cache.icon(kind, &mut meter, &mut budget);
+    alike(rt, "icon", given, Ok(Some(icon)));
+    let given = cache.generic_icon(kind, &mut meter, &mut budget);
+    alike(rt, "generic icon", given, Ok(Some(icon)));
 }

@@ -90,18 +90,30 @@ const ROWS: [Row; 4] = [
     },
 ];
 
+/// Whether both texts are those of a pair.
+fn is_pair(first: &[u8], second: &[u8], want: &(&[u8], &[u8])) -> bool {
+    first == want.0 && second == want.1
+}
+
+/// Whether rules have these types and patterns.
 fn are_rules(rules: &[GlobRule], want: TextPairs) -> bool {
     let mut same = rules.len() == want.len();
     for (rule, want) in rules.iter().zip(want) {
-        same = same && rule.kind.bytes() == want.0 && rule.pattern.bytes() == want.1;
+        same &= is_pair(rule.kind.bytes(), rule.pattern.bytes(), want);
     }
     same
 }
 
+/// Whether a section has this priority and type.
+fn is_section(section: &Section, want: &(u32, &[u8])) -> bool {
+    section.priority == want.0 && section.kind.bytes() == want.1
+}
+
+/// Whether sections have these priorities and types.
 fn are_sections(sections: &[Section], want: &[(u32, &[u8])]) -> bool {
     let mut same = sections.len() == want.len();
     for (section, want) in sections.iter().zip(want) {
-        same = same && section.priority == want.0 && section.kind.bytes() == want.1;
+        same &= is_section(section, want);
     }
     same
 }
@@ -110,7 +122,7 @@ fn are_sections(sections: &[Section], want: &[(u32, &[u8])]) -> bool {
 fn are_pairs(pairs: &[Pair], want: TextPairs) -> bool {
     let mut same = pairs.len() == want.len();
     for (pair, want) in pairs.iter().zip(want) {
-        same = same && pair.name.bytes() == want.0 && pair.target.bytes() == want.1;
+        same &= is_pair(pair.name.bytes(), pair.target.bytes(), want);
     }
     same
 }
@@ -119,7 +131,7 @@ fn are_pairs(pairs: &[Pair], want: TextPairs) -> bool {
 fn are_icons(icons: &[Icon], want: TextPairs) -> bool {
     let mut same = icons.len() == want.len();
     for (icon, want) in icons.iter().zip(want) {
-        same = same && icon.kind.bytes() == want.0 && icon.name.bytes() == want.1;
+        same &= is_pair(icon.kind.bytes(), icon.name.bytes(), want);
     }
     same
 }

@@ -5,19 +5,10 @@
 
 use super::FAR;
 use crate::tests::checked::alike;
-use crate::tests::sample::SAMPLE;
+use crate::tests::sample::{SAMPLE, with};
 use mime_base::{Counted, Meter};
 use mime_view::{Budget, Cache, CacheFault, Marks};
 use std::alloc::Global;
-
-/// The sample with other four bytes at an offset.
-fn with(at: usize, bytes: [u8; 4]) -> [u8; 240] {
-    let mut cache = SAMPLE;
-    for (byte, other) in cache.iter_mut().skip(at).zip(&bytes) {
-        *byte = *other;
-    }
-    cache
-}
 
 #[test]
 fn marked_once_expanded(rt: HostRuntime) -> Result<(), CacheFault> {
@@ -62,7 +53,7 @@ fn a_type_without_an_entry(rt: HostRuntime) -> Result<(), CacheFault> {
 fn parents_in_the_order_of_the_cache(rt: HostRuntime) -> Result<(), CacheFault> {
     let alloc = rt.alloc();
     let mut meter = Meter::new();
-    let bytes = with(64, [0, 0, 0, 2]);
+    let bytes = with(64, &[0, 0, 0, 2]);
     let cache = Cache::open(Counted::new(&bytes), &mut meter)?;
     let mut budget = Budget::of(&cache);
     let mut marks = Marks::new(alloc);
@@ -162,7 +153,7 @@ fn parents_in(
     damage: &Damage,
 ) -> Result<(Option<CacheFault>, u64, bool), CacheFault> {
     let mut meter = Meter::new();
-    let bytes = with(damage.at, damage.bytes);
+    let bytes = with(damage.at, &damage.bytes);
     let cache = Cache::open(Counted::new(&bytes), &mut meter)?;
     let mut budget = Budget::of(&cache);
     budget.records = damage.records;

@@ -4,19 +4,10 @@
 //! 120 and a leaf at 132, and its glob list at 144.
 
 use crate::tests::checked::alike;
-use crate::tests::sample::SAMPLE;
+use crate::tests::sample::{SAMPLE, damaged, with};
 use mime_base::{Counted, Meter};
 use mime_view::{Budget, Cache, CacheFault, Listed};
 use std::alloc::Global;
-
-/// The sample with other bytes at an offset.
-fn with(at: usize, bytes: &[u8]) -> [u8; 240] {
-    let mut cache = SAMPLE;
-    for (byte, other) in cache.iter_mut().skip(at).zip(bytes) {
-        *byte = *other;
-    }
-    cache
-}
 
 /// The rules of a cache under its whole budget, and the records that are left.
 fn rules_of<'a>(alloc: Global, bytes: &'a [u8]) -> (Result<Vec<Listed<'a>>, CacheFault>, u64) {
@@ -120,7 +111,7 @@ fn is_listed(rule: &Listed<'_>, row: &Row) -> bool {
 fn are_listed(rules: &[Listed<'_>], rows: &[Row]) -> bool {
     let mut same = rules.len() == rows.len();
     for (rule, row) in rules.iter().zip(rows) {
-        same = same && is_listed(rule, row);
+        same &= is_listed(rule, row);
     }
     same
 }
@@ -196,7 +187,7 @@ const FAR: CacheFault = CacheFault::OutOfRange(4_294_967_295);
 #[test]
 fn damaged_rules(rt: HostRuntime) -> Result<(), CacheFault> {
     for (name, at, fault) in DAMAGES {
-        let bytes = with(at, &[0xff; 4]);
+        let bytes = damaged(at);
         let (rules, _) = rules_of(rt.alloc(), &bytes);
         alike(&rt, name, rules.err(), Some(fault));
     }

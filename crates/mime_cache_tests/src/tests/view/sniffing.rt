@@ -1,8 +1,8 @@
 //! Contents that are sniffed by the magic list of a cache.
 
-use super::{FAR, damaged};
+use super::FAR;
 use crate::tests::checked::alike;
-use crate::tests::sample::{SAMPLE, SELF_CHILD};
+use crate::tests::sample::{SAMPLE, SELF_CHILD, damaged};
 use mime_base::{Counted, Host, Meter};
 use mime_view::{Budget, Cache, CacheFault};
 

@@ -2,8 +2,9 @@
 
 use super::entries_beside;
 use super::sample::SAMPLE;
+use crate::tests::ran::{Said, Taken, is_taken_over, says, sound};
 use crate::{FailingShelf, FailingSink, Shelf};
-use mime_tool::{FileFault, SinkFault, run};
+use mime_tool::{FileFault, SinkFault};
 use std::alloc::Global;
 use std::process::Abort;
 use std::test::Fail;
@@ -26,6 +27,7 @@ const NO_MEMORY: &str = "mimelook: out of memory\n";
 
 /// Words, how many calls of the files are met before one fails for want of memory or else, and what comes of it.
 struct Row {
+    name: &'static str,
     words: &'static [&'static str],
     calls: usize,
     fault: FileFault,
@@ -35,6 +37,7 @@ struct Row {
 }
 
 const ROW: Row = Row {
+    name: "",
     words: TYPE,
     calls: 0,
     fault: FileFault::Failed,
@@ -51,24 +54,46 @@ const NO_ROOM: Row = Row {
 };
 
 const ROWS: [Row; 15] = [
-    Row { words: LIST, ..ROW },
-    Row { words: IS_A, ..ROW },
-    Row { words: ICON, ..ROW },
-    ROW,
     Row {
+        name: "list, no cache",
+        words: LIST,
+        ..ROW
+    },
+    Row {
+        name: "isa, no cache",
+        words: IS_A,
+        ..ROW
+    },
+    Row {
+        name: "icon, no cache",
+        words: ICON,
+        ..ROW
+    },
+    Row {
+        name: "type, no cache",
+        ..ROW
+    },
+    Row {
+        name: "list, no memory for the cache",
         words: LIST,
         ..NO_ROOM
     },
     Row {
+        name: "isa, no memory for the cache",
         words: IS_A,
         ..NO_ROOM
     },
     Row {
+        name: "icon, no memory for the cache",
         words: ICON,
         ..NO_ROOM
     },
-    NO_ROOM,
     Row {
+        name: "type, no memory for the cache",
+        ..NO_ROOM
+    },
+    Row {
+        name: "the first file fails",
         calls: 1,
         status: 1,
         out: "/mk: t/m\n",
@@ -76,6 +101,7 @@ const ROWS: [Row; 15] = [
         ..ROW
     },
     Row {
+        name: "the missing file fails",
         calls: 2,
         status: 1,
         out: "/x: t/g\n/mk: t/m\n",
@@ -83,6 +109,7 @@ const ROWS: [Row; 15] = [
         ..ROW
     },
     Row {
+        name: "the last file fails",
         calls: 3,
         status: 1,
         out: "/x: t/g\n",
@@ -90,22 +117,25 @@ const ROWS: [Row; 15] = [
         ..ROW
     },
     Row {
+        name: "no memory for the first file",
         calls: 1,
         ..NO_ROOM
     },
     Row {
+        name: "no memory for the missing file",
         calls: 2,
         out: "/x: t/g\n",
         ..NO_ROOM
     },
     Row {
+        name: "no memory for the last file",
         calls: 3,
         out: "/x: t/g\n",
         err: "mimelook: /missing: cannot open\nmimelook: out of memory\n",
         ..NO_ROOM
     },
-    // No fourth file is opened.
     Row {
+        name: "no fourth file is opened",
         calls: 4,
         status: 1,
         out: "/x: t/g\n/mk: t/m\n",
@@ -129,140 +159,178 @@ fn comes_to(rt: &impl Abort, alloc: Global, row: &Row) -> Result<(), Fail> {
         calls: row.calls,
         fault: row.fault,
     };
-    let mut out = Vec::new(alloc);
-    let mut err = Vec::new(alloc);
-    let status = run(alloc, row.words, &mut files, &mut out, &mut err);
-    let (words, calls) = (row.words, row.calls);
-    assert_eq!(rt;
-        str::from_utf8(err.as_slice())?,
-        row.err,
-        "{words:?} at {calls}"
-    );
-    assert_eq!(rt;
-        str::from_utf8(out.as_slice())?,
-        row.out,
-        "{words:?} at {calls}"
-    );
-    assert_eq!(rt; status, row.status, "{words:?} at {calls}");
-    Ok(())
+    let wanted = Said {
+        status: row.status,
+        out: row.out,
+        err: row.err,
+    };
+    says(rt, alloc, row.name, row.words, &mut files, wanted)
 }
 
 /// Words, what they put on standard output, call by call, and what is said.
-type Puts = (
-    &'static [&'static str],
-    &'static [&'static str],
-    &'static str,
-);
+struct Puts {
+    name: &'static str,
+    words: &'static [&'static str],
+    pieces: &'static [&'static str],
+    said: &'static str,
+}
 
 const PUTS: [Puts; 4] = [
-    (
-        LIST,
-        &[
+    Puts {
+        name: "list",
+        words: LIST,
+        pieces: &[
             "50", ":", "t/m", ":", "mk", "", "\n", "50", ":", "t/g", ":", "*.gz", "", "\n",
         ],
-        "",
-    ),
-    (IS_A, &["yes\n"], ""),
-    (
-        ICON,
-        &["icon: ", "t-g", "\ngeneric: ", "t-x-generic", "\n"],
-        "",
-    ),
-    (
-        TYPE,
-        &["/x", ": ", "t/g", "\n", "/mk", ": ", "t/m", "\n"],
-        MISSING,
-    ),
+        said: "",
+    },
+    Puts {
+        name: "isa",
+        words: IS_A,
+        pieces: &["yes\n"],
+        said: "",
+    },
+    Puts {
+        name: "icon",
+        words: ICON,
+        pieces: &["icon: ", "t-g", "\ngeneric: ", "t-x-generic", "\n"],
+        said: "",
+    },
+    Puts {
+        name: "type",
+        words: TYPE,
+        pieces: &["/x", ": ", "t/g", "\n", "/mk", ": ", "t/m", "\n"],
+        said: MISSING,
+    },
+];
+
+/// A fault of standard output, and how the run stops then.
+type Stop = (SinkFault, u8, &'static str);
+
+const STOPS: [Stop; 2] = [
+    (SinkFault::Failed, 3, CANNOT_WRITE),
+    (SinkFault::OutOfMemory, 4, NO_MEMORY),
 ];
 
 // One call fails, and the rest are met: what was put before it stays.
 #[test]
 fn stops_at_each_write_over_a_cache(rt: HostRuntime) -> Result<(), Fail> {
     for puts in &PUTS {
-        for fault in [SinkFault::Failed, SinkFault::OutOfMemory] {
-            stops_at_each(&rt, rt.alloc(), puts, fault)?;
+        for stop in &STOPS {
+            stops_at_each(&rt, rt.alloc(), puts, stop)?;
         }
     }
     Ok(())
 }
 
-fn stops_at_each(
-    rt: &impl Abort,
-    alloc: Global,
-    puts: &Puts,
-    fault: SinkFault,
-) -> Result<(), Fail> {
+fn stops_at_each(rt: &impl Abort, alloc: Global, puts: &Puts, stop: &Stop) -> Result<(), Fail> {
     let mut put = String::new(alloc);
-    for calls in 0..=puts.1.len() {
-        // The message on the missing file stands between its neighbours' lines.
-        let said = if calls < 4 { "" } else { puts.2 };
-        stops_at(rt, alloc, puts.0, fault, calls, put.as_str(), said)?;
-        put.push_str(puts.1.get(calls).unwrap_or(&""))?;
+    for calls in 0..=puts.pieces.len() {
+        stops_at(rt, alloc, puts, stop, calls, put.as_str())?;
+        put.push_str(puts.pieces.get(calls).unwrap_or(&""))?;
     }
     Ok(())
 }
 
+/// The first calls are met, then one fails. What was put before it is flushed, unless it is the flush that fails.
 fn stops_at(
     rt: &impl Abort,
     alloc: Global,
-    words: &[&str],
-    fault: SinkFault,
+    puts: &Puts,
+    stop: &Stop,
     calls: usize,
     put: &str,
-    said: &str,
 ) -> Result<(), Fail> {
-    let (want, why) = match fault {
-        SinkFault::Failed => (3, CANNOT_WRITE),
-        SinkFault::OutOfMemory => (4, NO_MEMORY),
-    };
-    let entries = entries_beside(&SAMPLE);
-    let mut files = Shelf { entries: &entries };
-    let mut out = FailingSink::new(alloc, calls, 1, fault);
-    let mut err = Vec::new(alloc);
-    let status = run(alloc, words, &mut files, &mut out, &mut err);
-    assert_eq!(rt; status, want, "{words:?} at {calls}");
-    assert_eq!(rt;
-        str::from_utf8(out.taken.as_slice())?,
-        put,
-        "{words:?} at {calls}"
-    );
+    let (fault, status, why) = *stop;
+    // The message on the missing file stands between its neighbours' lines.
+    let said = if calls < 4 { "" } else { puts.said };
+    let at = format!(in alloc; "{} at {calls}", puts.name)?;
     let message = format!(in alloc; "{said}{why}")?;
-    assert_eq!(rt;
-        str::from_utf8(err.as_slice())?,
-        message.as_str(),
-        "{words:?} at {calls}"
-    );
+    let is_flushed = calls < puts.pieces.len();
+    let wanted = Taken {
+        status,
+        out: put,
+        flushed: if is_flushed { put.len() } else { 0 },
+        err: message.as_str(),
+    };
+    let streams = (FailingSink::new(alloc, calls, 1, fault), sound(alloc));
+    is_taken_of(rt, alloc, at.as_str(), puts.words, streams, wanted);
     Ok(())
 }
 
+/// A run over the sample, with these streams, ends so.
+fn is_taken_of(
+    rt: &impl Abort,
+    alloc: Global,
+    name: &str,
+    words: &[&str],
+    streams: (FailingSink, FailingSink),
+    wanted: Taken<'_>,
+) {
+    let entries = entries_beside(&SAMPLE);
+    is_taken_over(rt, alloc, name, words, &entries, streams, wanted);
+}
+
 /// A fault of standard error, how many calls are met before it, and what comes of it.
-const MESSAGES: [(SinkFault, usize, u8, &str, &str); 4] = [
-    (SinkFault::Failed, 0, 1, "/x: t/g\n/mk: t/m\n", ""),
-    (SinkFault::Failed, 1, 1, "/x: t/g\n/mk: t/m\n", MISSING),
-    (SinkFault::OutOfMemory, 0, 4, "/x: t/g\n", ""),
-    (SinkFault::OutOfMemory, 1, 4, "/x: t/g\n", MISSING),
+struct Message {
+    name: &'static str,
+    fault: SinkFault,
+    calls: usize,
+    status: u8,
+    out: &'static str,
+    err: &'static str,
+}
+
+const MESSAGES: [Message; 4] = [
+    Message {
+        name: "a fault of the bytes",
+        fault: SinkFault::Failed,
+        calls: 0,
+        status: 1,
+        out: "/x: t/g\n/mk: t/m\n",
+        err: "",
+    },
+    Message {
+        name: "a fault of the flush",
+        fault: SinkFault::Failed,
+        calls: 1,
+        status: 1,
+        out: "/x: t/g\n/mk: t/m\n",
+        err: MISSING,
+    },
+    Message {
+        name: "no memory for the bytes",
+        fault: SinkFault::OutOfMemory,
+        calls: 0,
+        status: 4,
+        out: "/x: t/g\n",
+        err: "",
+    },
+    Message {
+        name: "no memory for the flush",
+        fault: SinkFault::OutOfMemory,
+        calls: 1,
+        status: 4,
+        out: "/x: t/g\n",
+        err: MISSING,
+    },
 ];
 
 #[test]
-fn passes_over_faults_of_messages_over_a_cache(rt: HostRuntime) -> Result<(), Fail> {
-    let alloc = rt.alloc();
-    for (fault, calls, want, printed, said) in MESSAGES {
-        let entries = entries_beside(&SAMPLE);
-        let mut files = Shelf { entries: &entries };
-        let mut out = Vec::new(alloc);
-        let mut err = FailingSink::new(alloc, calls, usize::MAX, fault);
-        let status = run(alloc, TYPE, &mut files, &mut out, &mut err);
-        assert_eq!(rt; status, want, "{fault:?} at {calls}");
-        assert_eq!(rt;
-            str::from_utf8(out.as_slice())?,
-            printed,
-            "{fault:?} at {calls}"
-        );
-        assert_eq!(rt;
-            str::from_utf8(err.taken.as_slice())?,
-            said,
-            "{fault:?} at {calls}"
-        );
+fn passes_over_faults_of_messages_over_a_cache(rt: HostRuntime) {
+    for row in &MESSAGES {
+        passes_over(&rt, rt.alloc(), row);
     }
-    Ok(())
+}
+
+/// What is printed, all of it, is flushed.
+fn passes_over(rt: &impl Abort, alloc: Global, row: &Message) {
+    let wanted = Taken {
+        status: row.status,
+        out: row.out,
+        flushed: row.out.len(),
+        err: row.err,
+    };
+    let err = FailingSink::new(alloc, row.calls, usize::MAX, row.fault);
+    is_taken_of(rt, alloc, row.name, TYPE, (sound(alloc), err), wanted);
 }

@@ -2,7 +2,7 @@
 
 mod over_caches;
 
-use super::{are_answered, printed};
+use super::{PRINTED, Row, are_answered};
 use std::test::Fail;
 
 const HELP: &str = "\
@@ -101,15 +101,46 @@ Example:
 
 const VERSION: &str = "mimelook 0.1.0\n";
 
+const HELPS: [Row<'static>; 6] = [
+    Row {
+        name: "help",
+        words: &["--help"],
+        out: HELP,
+        ..PRINTED
+    },
+    Row {
+        name: "help in short",
+        words: &["-h"],
+        out: HELP,
+        ..PRINTED
+    },
+    Row {
+        name: "version",
+        words: &["--version"],
+        out: VERSION,
+        ..PRINTED
+    },
+    Row {
+        name: "version in short",
+        words: &["-V"],
+        out: VERSION,
+        ..PRINTED
+    },
+    Row {
+        name: "help of build",
+        words: &["build", "--help"],
+        out: BUILD_HELP,
+        ..PRINTED
+    },
+    Row {
+        name: "help of plain",
+        words: &["plain", "--help"],
+        out: PLAIN_HELP,
+        ..PRINTED
+    },
+];
+
 #[test]
 fn shows_help_whole(rt: HostRuntime) -> Result<(), Fail> {
-    let rows = [
-        printed("help", &["--help"], HELP),
-        printed("help in short", &["-h"], HELP),
-        printed("version", &["--version"], VERSION),
-        printed("version in short", &["-V"], VERSION),
-        printed("help of build", &["build", "--help"], BUILD_HELP),
-        printed("help of plain", &["plain", "--help"], PLAIN_HELP),
-    ];
-    are_answered(&rt, rt.alloc(), &rows)
+    are_answered(&rt, rt.alloc(), &HELPS)
 }

@@ -2,7 +2,7 @@
 
 mod over_caches;
 
-use super::{are_answered, said};
+use super::{Row, SAID, are_answered};
 use std::test::Fail;
 
 const NO_COMMAND: &str = "\
@@ -83,26 +83,64 @@ Usage: mimelook plain -d DIRS [--name-only] [--magic-first] FILE...
 For more information, try '--help'.
 ";
 
+const MISTAKES: [Row<'static>; 9] = [
+    Row {
+        name: "no command",
+        words: &[],
+        err: NO_COMMAND,
+        ..SAID
+    },
+    Row {
+        name: "unknown command",
+        words: &["help"],
+        err: UNKNOWN_COMMAND,
+        ..SAID
+    },
+    Row {
+        name: "no -o",
+        words: &["build", "-d", "/s"],
+        err: NO_OUTPUT,
+        ..SAID
+    },
+    Row {
+        name: "neither -d nor FILE",
+        words: &["plain"],
+        err: NO_DIRECTORY_NO_FILE,
+        ..SAID
+    },
+    Row {
+        name: "no FILE",
+        words: &["plain", "--name-only", "-d", ""],
+        err: NO_FILE,
+        ..SAID
+    },
+    Row {
+        name: "no -d",
+        words: &["plain", "--name-only", "a"],
+        err: NO_DIRECTORY,
+        ..SAID
+    },
+    Row {
+        name: "no DIRS",
+        words: &["plain", "--name-only", "-d"],
+        err: NO_VALUE,
+        ..SAID
+    },
+    Row {
+        name: "-d twice",
+        words: &["plain", "--name-only", "-d", "/s", "-d", "/s", "a"],
+        err: OPTION_TWICE,
+        ..SAID
+    },
+    Row {
+        name: "unknown option",
+        words: &["plain", "--name-only", "-d", "/s", "--cost", "a"],
+        err: UNKNOWN_OPTION,
+        ..SAID
+    },
+];
+
 #[test]
 fn shows_mistakes_whole(rt: HostRuntime) -> Result<(), Fail> {
-    let rows = [
-        said("no command", &[], NO_COMMAND),
-        said("unknown command", &["help"], UNKNOWN_COMMAND),
-        said("no -o", &["build", "-d", "/s"], NO_OUTPUT),
-        said("neither -d nor FILE", &["plain"], NO_DIRECTORY_NO_FILE),
-        said("no FILE", &["plain", "--name-only", "-d", ""], NO_FILE),
-        said("no -d", &["plain", "--name-only", "a"], NO_DIRECTORY),
-        said("no DIRS", &["plain", "--name-only", "-d"], NO_VALUE),
-        said(
-            "-d twice",
-            &["plain", "--name-only", "-d", "/s", "-d", "/s", "a"],
-            OPTION_TWICE,
-        ),
-        said(
-            "unknown option",
-            &["plain", "--name-only", "-d", "/s", "--cost", "a"],
-            UNKNOWN_OPTION,
-        ),
-    ];
-    are_answered(&rt, rt.alloc(), &rows)
+    are_answered(&rt, rt.alloc(), &MISTAKES)
 }

@@ -1,9 +1,10 @@
 //! A thousand literal rules, of which a search probes few.
 
+use super::look_up_over;
 use crate::tests::checked::alike;
 use crate::tests::texts::of_rules;
-use mime_base::{Counted, Host};
-use mime_lookup::{Order, look_up};
+use mime_base::Host;
+use mime_lookup::Order;
 use mime_store::write_cache;
 use std::alloc::Global;
 use std::test::Fail;
@@ -23,9 +24,8 @@ fn of_a_thousand(alloc: Global) -> Result<Vec<u8>, Fail> {
 fn is_searched(alloc: Global, cache: &[u8], file: &[u8], kind: &[u8]) -> Result<bool, Fail> {
     let mut content: Option<&[u8]> = None;
     let (host, order) = (Host::Little, Order::GlobsFirst);
-    let answer = look_up(alloc, Counted::new(cache), file, &mut content, host, order)?;
-    let nodes = answer.meter.nodes;
-    Ok(answer.kind == kind && 9 <= nodes && nodes <= 192)
+    let answer = look_up_over(alloc, cache, file, &mut content, host, order)?;
+    Ok(answer.kind == kind && (9..=192).contains(&answer.meter.nodes))
 }
 
 const FILES: [(&str, &[u8], &[u8]); 4] = [

@@ -1,10 +1,10 @@
 //! Lookups over the sample's bytes, over its rules in the plain layout, and over bytes that are no cache.
 
-use super::{Row, are_answered};
+use super::{Row, are_answered, look_up_over};
 use crate::tests::checked::alike;
 use crate::tests::sample::{PLAIN_LAYOUT, SAMPLE};
-use mime_base::{Counted, Host, Meter};
-use mime_lookup::{Cause, Order, Stopped, look_up};
+use mime_base::{Host, Meter};
+use mime_lookup::{Cause, Order, Stopped};
 use mime_view::CacheFault;
 use std::test::Fail;
 
@@ -99,14 +99,8 @@ fn name_too_long(rt: HostRuntime) -> Result<(), Fail> {
     };
     for order in [Order::GlobsFirst, Order::MagicFirst] {
         let mut content = Some(&b"hi\n"[..]);
-        let refused = look_up(
-            rt.alloc(),
-            Counted::new(&[]),
-            &[b'a'; 4097],
-            &mut content,
-            Host::Little,
-            order,
-        );
+        let (alloc, name, host) = (rt.alloc(), &[b'a'; 4097], Host::Little);
+        let refused = look_up_over(alloc, &[], name, &mut content, host, order);
         alike(
             &rt,
             "refused",

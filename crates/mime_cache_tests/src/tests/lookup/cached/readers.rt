@@ -1,8 +1,7 @@
 //! Contents in pieces, with interruptions and faults, that tell their failures or tell nothing.
 
 use super::look_up_in;
-use crate::tests::checked::alike;
-use crate::tests::lookup::Outcome;
+use crate::tests::lookup::{Outcome, is_outcome};
 use crate::tests::sample::{SAMPLE, changed};
 use mime_base::Host;
 use mime_lookup::{Cause, Order, Script, Step, Untold};
@@ -71,28 +70,13 @@ const ROWS: [Row<'static>; 5] = [
 
 /// A content of these steps is answered by the row's outcome, whether it tells its failures or not.
 fn is_answered(rt: &impl Abort, alloc: Global, cache: &[u8], row: &Row<'_>) {
+    let (file, host, order) = (row.file, Host::Little, row.order);
     let mut told = Some(Script::new(row.steps));
-    let found = look_up_in(
-        rt,
-        alloc,
-        cache,
-        row.file,
-        &mut told,
-        Host::Little,
-        row.order,
-    );
-    alike(rt, row.name, ("told", found), ("told", row.outcome));
+    let found = look_up_in(rt, alloc, cache, file, &mut told, host, order);
+    is_outcome(rt, row.name, "told", found, row.outcome);
     let mut untold = Some(Untold(Script::new(row.steps)));
-    let found = look_up_in(
-        rt,
-        alloc,
-        cache,
-        row.file,
-        &mut untold,
-        Host::Little,
-        row.order,
-    );
-    alike(rt, row.name, ("untold", found), ("untold", row.outcome));
+    let found = look_up_in(rt, alloc, cache, file, &mut untold, host, order);
+    is_outcome(rt, row.name, "untold", found, row.outcome);
 }
 
 #[test]

@@ -1,6 +1,6 @@
 //! The help of the commands over a cache.
 
-use crate::tests::texts::{are_answered, printed};
+use crate::tests::texts::{PRINTED, Row, are_answered};
 use std::test::Fail;
 
 const LIST_HELP: &str = "\
@@ -114,13 +114,34 @@ Example:
   notes.txt: text/plain
 ";
 
+const HELPS: [Row<'static>; 4] = [
+    Row {
+        name: "help of list",
+        words: &["list", "--help"],
+        out: LIST_HELP,
+        ..PRINTED
+    },
+    Row {
+        name: "help of isa",
+        words: &["isa", "--help"],
+        out: IS_A_HELP,
+        ..PRINTED
+    },
+    Row {
+        name: "help after a TYPE",
+        words: &["icon", "t/h", "-h"],
+        out: ICON_HELP,
+        ..PRINTED
+    },
+    Row {
+        name: "help after -c",
+        words: &["type", "-c", "c", "--help"],
+        out: TYPE_HELP,
+        ..PRINTED
+    },
+];
+
 #[test]
 fn shows_help_whole(rt: HostRuntime) -> Result<(), Fail> {
-    let rows = [
-        printed("help of list", &["list", "--help"], LIST_HELP),
-        printed("help of isa", &["isa", "--help"], IS_A_HELP),
-        printed("help after a TYPE", &["icon", "t/h", "-h"], ICON_HELP),
-        printed("help after -c", &["type", "-c", "c", "--help"], TYPE_HELP),
-    ];
-    are_answered(&rt, rt.alloc(), &rows)
+    are_answered(&rt, rt.alloc(), &HELPS)
 }

@@ -1,6 +1,6 @@
 //! What is wrong with words of the commands over a cache.
 
-use crate::tests::texts::{are_answered, said};
+use crate::tests::texts::{Row, SAID, are_answered};
 use std::test::Fail;
 
 const LIST_ALONE: &str = "\
@@ -90,31 +90,70 @@ Usage: mimelook type -c CACHE [--name-only] [--cost] [--magic-first] FILE...
 For more information, try '--help'.
 ";
 
+const MISTAKES: [Row<'static>; 10] = [
+    Row {
+        name: "list alone",
+        words: &["list"],
+        err: LIST_ALONE,
+        ..SAID
+    },
+    Row {
+        name: "-c without CACHE",
+        words: &["list", "-c"],
+        err: NO_CACHE,
+        ..SAID
+    },
+    Row {
+        name: "isa alone",
+        words: &["isa"],
+        err: IS_A_ALONE,
+        ..SAID
+    },
+    Row {
+        name: "no BASE",
+        words: &["isa", "-c", "c", "t/h"],
+        err: NO_BASE,
+        ..SAID
+    },
+    Row {
+        name: "-c twice",
+        words: &["isa", "-c", "c", "-c", "c", "t/h", "t/m"],
+        err: CACHE_TWICE,
+        ..SAID
+    },
+    Row {
+        name: "no TYPE",
+        words: &["icon", "-c", "c"],
+        err: NO_TYPE,
+        ..SAID
+    },
+    Row {
+        name: "a second type",
+        words: &["icon", "-c", "c", "t/h", "t/m"],
+        err: SECOND_TYPE,
+        ..SAID
+    },
+    Row {
+        name: "type alone",
+        words: &["type"],
+        err: TYPE_ALONE,
+        ..SAID
+    },
+    Row {
+        name: "no FILE",
+        words: &["type", "--cost", "-c", "c"],
+        err: NO_FILE_OF_TYPE,
+        ..SAID
+    },
+    Row {
+        name: "--cost twice",
+        words: &["type", "-c", "c", "--cost", "--cost", "x"],
+        err: COST_TWICE,
+        ..SAID
+    },
+];
+
 #[test]
 fn shows_mistakes_whole(rt: HostRuntime) -> Result<(), Fail> {
-    let rows = [
-        said("list alone", &["list"], LIST_ALONE),
-        said("-c without CACHE", &["list", "-c"], NO_CACHE),
-        said("isa alone", &["isa"], IS_A_ALONE),
-        said("no BASE", &["isa", "-c", "c", "t/h"], NO_BASE),
-        said(
-            "-c twice",
-            &["isa", "-c", "c", "-c", "c", "t/h", "t/m"],
-            CACHE_TWICE,
-        ),
-        said("no TYPE", &["icon", "-c", "c"], NO_TYPE),
-        said(
-            "a second type",
-            &["icon", "-c", "c", "t/h", "t/m"],
-            SECOND_TYPE,
-        ),
-        said("type alone", &["type"], TYPE_ALONE),
-        said("no FILE", &["type", "--cost", "-c", "c"], NO_FILE_OF_TYPE),
-        said(
-            "--cost twice",
-            &["type", "-c", "c", "--cost", "--cost", "x"],
-            COST_TWICE,
-        ),
-    ];
-    are_answered(&rt, rt.alloc(), &rows)
+    are_answered(&rt, rt.alloc(), &MISTAKES)
 }
