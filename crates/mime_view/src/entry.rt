@@ -42,7 +42,10 @@ pub fn find_entry(
 {
     let count = count_at(counted, at, 8, meter)?;
     let first = at + 4;
-    let sought = seek(counted, first, count, 8, key, meter)?;
+    let mut counts = *meter;
+    let sought = seek(counted, first, count, 8, key, &mut counts);
+    *meter = counts;
+    let sought = sought?;
     if sought.equal {
         let [_, target] = counted.cards_within::<2>(first + 8 * sought.place, meter);
         return Ok(Some(Entry {

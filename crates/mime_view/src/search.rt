@@ -40,11 +40,14 @@ pub fn first_not_less(
     ensures bytes_rise { meter.old.bytes ≤ meter.new.bytes }
     ensures bytes { meter.new.bytes ≤ meter.old.bytes + 256 * 26 }
 {
-    let sought = seek(counted, first, count, size, key, meter)?;
-    Ok(sought.place)
+    let mut counts = *meter;
+    let sought = seek(counted, first, count, size, key, &mut counts);
+    *meter = counts;
+    Ok(sought?.place)
 }
 
 /// The same, with what the search learnt of the text there.
+#[inline(always)]
 pub fn seek(
     counted: &Counted<'_>,
     first: u64,

@@ -1,5 +1,4 @@
-use Rattle.std.proofs.Common.{◌≡◌, ◌+◌, [], length, get_or, Ok, arith, ◌∙◌, sym, ap}
-use Rattle.mime_base.specs.Cache.Texts.{text_at}
+use Rattle.std.proofs.Common.{◌≡◌, ◌+◌, [], length, get_or, arith, ◌∙◌, sym}
 use Rattle.mime_view.proofs.Lookups.{place_of-found, place_of-missed}
 use Rattle.mime_view.proofs.OneText.{one_text, other_text}
 use Rattle.mime_view.proofs.Places.{key_at, keys_have_texts}
