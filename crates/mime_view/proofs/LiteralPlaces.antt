@@ -1,6 +1,8 @@
 -- The place of a text in a literal list that stands in a cache: from it on, the entries of the text come first.
-use Rattle.std.proofs.Common.{◌≡◌, ℕ, ◌+◌, ◌-◌, ◌*◌, ◌≤◌, List, length, drop, length-drop, sym, ap, ◌∙◌, arith}
+use Rattle.std.proofs.Common.{◌≡◌, ◌≢◌, ℕ, ◌+◌, ◌-◌, ◌*◌, ◌<◌, ◌≤◌, false, List, [], ◌∷◌, length, drop, length-drop, refl, sym, ap, ◌∙◌, arith}
+use Rattle.std.specs.Prelude.{bytes_eq}
 use Rattle.std.specs.List.{All}
+use Rattle.std.proofs.Math.Nat.{mul-le-mul_left}
 use Rattle.std.proofs.lemmas.List.{length-map}
 use Rattle.std.proofs.lemmas.List.Elements.{All-drop}
 use Rattle.std.proofs.lemmas.List.Sorted.{length_permutation}
@@ -10,10 +12,11 @@ use Rattle.mime_base.specs.Format.Stored.{literal_rules, stored_text}
 use Rattle.mime_base.specs.Kept.{FitsRank}
 use Rattle.mime_base.specs.declared.database.rule.GlobRule.{GlobRule}
 use Rattle.mime_view.specs.Hits.{literal_visits}
-use Rattle.mime_view.specs.Lists.{AreSorted, KeysAt, SplitsAt}
+use Rattle.mime_view.specs.Lists.{AreSorted, HasText, KeysAt, SplitsAt}
 use Rattle.mime_view.specs.Literals.{AreRun, IsLiteral, ReadsRules, of_text, run_visits}
 use Rattle.mime_view.proofs.LiteralEntries.{literal_each, of_text-from, rule_size, rules_from, rules_read, run_sorted, texts_of}
 use Rattle.mime_view.proofs.LiteralEntries.{texts_read, texts_sorted}
+use Rattle.mime_view.proofs.OneText.{other_text}
 use Rattle.mime_view.proofs.Records.{count_read, list_inside}
 
 -- what a search in the list reads
@@ -68,3 +71,21 @@ module _ (c : List ℕ) (at : ℕ) (rules : List GlobRule) (stand : LiteralsAt (
         visits = omega arith;
         literal = λ fits. All-drop IsLiteral start stand.entries (literal_each rules stand.entries stand.sorted.permuted fits);
       }
+
+-- a run whose first entry is of another text has no entry of the text
+pub unmet : (c : List ℕ) (first start count : ℕ) (key : List ℕ) (rules : List GlobRule) → length rules + start ≡ count
+    → ReadsRules c (first + 12 * start) rules → AreRun key rules
+    → ((text : List ℕ) → start < count → HasText c first 12 start text → text ≢ key) → of_text key rules ≡ []
+unmet c first start count key [] size reads run other = refl
+unmet c first start count key (rule ∷ rest) size reads run other =
+    let differs : bytes_eq (stored_text rule) key ≡ false =
+    other_text (stored_text rule) key (other (stored_text rule) (omega arith) reads.0.text) in
+    rw differs (run.0 differs)
+
+-- and is one visit long
+pub unmet_visits : (key : List ℕ) (rules : List GlobRule) → of_text key rules ≡ [] → 0 < length rules → run_visits key rules ≡ 1
+unmet_visits key rules none some = let sizes : length (of_text key rules) ≡ 0 = ap length none in omega arith
+
+-- so many records for each of some visits are at least those of one
+pub some_visits : (each visits : ℕ) → 1 ≤ visits → each ≤ each * visits
+some_visits each visits some = let m = mul-le-mul_left each some in omega arith

@@ -20,6 +20,7 @@ pub struct Entry {
 }
 
 /// The first entry whose text is the key, in the list at `at`.
+#[inline(always)]
 pub fn find_entry(
     counted: &Counted<'_>,
     at: u64,

@@ -1,11 +1,11 @@
 //! The glob list: the rules that stand in neither the literal list nor the suffix tree ("The mime.cache
 //! files").
 
-ghost use Rattle.std.specs.Prelude.{◌≡◌, ◌⊎◌, ◌+◌, ◌*◌, ◌^◌, ◌<◌, ◌≤◌, List, [], ◌∷◌, length, All, IfErr, OnOk};
+ghost use Rattle.std.specs.Prelude.{◌≡◌, ◌⊎◌, ◌==◌, ◌+◌, ◌*◌, ◌/◌, ◌%◌, ◌^◌, ◌<◌, ◌≤◌, List, [], ◌∷◌, length, All, IfErr, OnOk};
 ghost use Rattle.mime_base.specs.Cache.Bytes.{Stands};
 ghost use Rattle.mime_base.specs.Format.Rules.{GlobsAt};
 ghost use Rattle.mime_base.specs.Format.Stored.{glob_rules};
-ghost use Rattle.mime_base.specs.Kept.{FitsRank, hits as matching};
+ghost use Rattle.mime_base.specs.Kept.{FitsRank, class_of, hits as matching, rank};
 ghost use Rattle.mime_base.specs.declared.database.rule.GlobRule.{GlobRule};
 ghost use Rattle.mime_view.specs.Globs.{ReadsGlob};
 ghost use Rattle.mime_view.specs.Hits.{Charged, Offers, glob_list_hits};
@@ -18,6 +18,7 @@ use crate::list::count_at;
 use mime_base::{Counted, Meter, begins_otherwise, class_of_bytes, glob_matches, rank_of};
 
 /// Offers the rules of the glob list at `at` that match a name.
+#[inline(never)]
 pub fn glob_list_hits(
     counted: &Counted<'_>,
     at: u64,
@@ -51,6 +52,7 @@ pub fn glob_list_hits(
 ///
 /// It takes a record of the budget. A pattern that begins otherwise than the name is refused by that one test.
 /// Where a hit of its rank would not be kept, the pattern isn't tried.
+#[inline(always)]
 fn take_glob(
     counted: &Counted<'_>,
     at: u64,
@@ -78,14 +80,26 @@ fn take_glob(
         meter.add_bytes(1);
         return Ok(());
     }
-    let rank = rank_of(
+    // Where a hit of the least rank is wanted, one of any rank is: then the class isn't judged before the match.
+    if !hits.wants(0) && !hits.wants(rank_of_entry(pattern, flags)) {
+        return Ok(());
+    }
+    if glob_matches(pattern, cased, name, meter) {
+        hits.offer(rank_of_entry(pattern, flags), kind)?;
+    }
+    Ok(())
+}
+
+/// The rank of a rule of the glob list with this pattern, weight and flag.
+#[inline]
+fn rank_of_entry(pattern: &[u8], flags: u32) -> u32
+    requires short { length pattern.now < 65536 }
+    ensures { result ≡ rank (class_of pattern.now) (flags % 256) (length pattern.now) (flags / 256 % 2 == 1) }
+{
+    rank_of(
         class_of_bytes(pattern),
         (flags % 256) as u8,
         pattern.len() as u16,
-        cased,
-    );
-    if hits.wants(rank) && glob_matches(pattern, cased, name, meter) {
-        hits.offer(rank, kind)?;
-    }
-    Ok(())
+        flags / 256 % 2 == 1,
+    )
 }

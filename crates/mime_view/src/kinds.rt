@@ -16,19 +16,19 @@ use std::alloc::Global;
 pub fn read_kinds<'a>(
     alloc: Global,
     counted: &Counted<'a>,
-    hits: Hits,
+    hits: &Hits,
     meter: &mut Meter,
 ) -> Result<Texts<'a>, CacheFault>
-    ensures answer { (rules : List GlobRule) → AreOffers counted.now hits rules →
+    ensures answer { (rules : List GlobRule) → AreOffers counted.now hits.now rules →
         IfOk result (λ kinds. kinds ≡ map (λ rule. rule.kind) rules) }
     ensures text { IfOk result (λ kinds. All (λ kind. (at : ℕ) × (text_at counted.now at ≡ Ok kind)) kinds) }
-    ensures count { IfOk result (λ kinds. length kinds ≡ length hits) }
-    ensures need { (rules : List GlobRule) → AreOffers counted.now hits rules →
+    ensures count { IfOk result (λ kinds. length kinds ≡ length hits.now) }
+    ensures need { (rules : List GlobRule) → AreOffers counted.now hits.now rules →
         IfErr result (λ e. e ≡ CacheFault.OutOfMemory) }
     ensures fault { IfErr result (λ e. IsTextFault counted.now e ⊎ (e ≡ CacheFault.OutOfMemory)) }
     ensures nodes { meter.new.nodes ≡ meter.old.nodes }
     ensures bytes_rise { meter.old.bytes ≤ meter.new.bytes }
-    ensures bytes { meter.new.bytes ≤ meter.old.bytes + 256 * length hits }
+    ensures bytes { meter.new.bytes ≤ meter.old.bytes + 256 * length hits.now }
 {
     let kinds = hits.kinds();
     if kinds.len() == 1 {

@@ -17,7 +17,7 @@ use crate::budget::Budget;
 use crate::fault::CacheFault;
 use crate::hits::{Case, Hits};
 use crate::list::count_at;
-use crate::search::first_not_less;
+use crate::search::seek;
 use mime_base::{Class, Counted, Meter, rank_of};
 use std::cmp::Ordering;
 
@@ -25,6 +25,10 @@ use std::cmp::Ordering;
 const CASED: u32 = 0x100;
 
 /// Offers the rules of the literal list at `at` whose stored text is the key, if the case takes them.
+///
+/// Where the search met no such text, the entry at which it ended takes the records of a visit, as one that ends a
+/// scan does, and isn't read again.
+#[inline(always)]
 pub fn literal_hits(
     counted: &Counted<'_>,
     at: u64,
@@ -50,11 +54,44 @@ pub fn literal_hits(
 {
     let count = count_at(counted, at, 12, meter)?;
     let first = at + 4;
-    let start = first_not_less(counted, first, count, 12, key, meter)?;
-    scan_entries(counted, first, start, count, key, case, hits, meter, budget)
+    let mut counts = *meter;
+    let sought = seek(counted, first, count, 12, key, &mut counts);
+    *meter = counts;
+    let sought = sought?;
+    if sought.equal {
+        return scan_entries(
+            counted,
+            first,
+            sought.place,
+            count,
+            key,
+            case,
+            hits,
+            meter,
+            budget,
+        );
+    }
+    if sought.place < count {
+        pass_entry(case, meter, budget)?;
+    }
+    Ok(())
+}
+
+/// Takes the records of a visit, and counts it, for an entry that the search has read: it is of another text.
+#[inline(always)]
+fn pass_entry(case: Case, meter: &mut Meter, budget: &mut Budget) -> Result<(), CacheFault>
+    ensures taken { OnOk result (budget.new.records + visits case ≡ budget.old.records) }
+    ensures spent { IfErr result (λ e. (e ≡ CacheFault.Spent) × (budget.new.records ≡ 0)
+        × (budget.old.records + 1 ≤ visits case)) }
+    ensures cost { Charged 256 0 budget.old budget.new meter.old meter.new }
+{
+    case.take_records(meter, budget)?;
+    meter.add_node();
+    Ok(())
 }
 
 /// Offers the entries from the place `start` on, of `count` from `first` on, until one is of another text.
+#[inline(always)]
 fn scan_entries(
     counted: &Counted<'_>,
     first: u64,
@@ -93,6 +130,7 @@ fn scan_entries(
 
 /// Visits the entry at `at`, and offers it if it is of the key and the case takes it. Whether it is of
 /// the key.
+#[inline(always)]
 fn visit_entry(
     counted: &Counted<'_>,
     at: u64,
@@ -128,6 +166,7 @@ fn visit_entry(
 }
 
 /// Offers a rule of the literal list with this weight and flag, if the case takes it.
+#[inline(always)]
 fn offer_entry(
     flags: u32,
     kind: u32,

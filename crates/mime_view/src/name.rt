@@ -3,7 +3,7 @@
 //! The literal list and the suffix tree are searched twice: by the name for case-sensitive rules, and by
 //! the folded name for the others. Where folding leaves the name alone, one search serves both.
 
-ghost use Rattle.std.specs.Prelude.{◌≡◌, ◌⊎◌, false, ℕ, ◌+◌, ◌*◌, ◌^◌, ◌<◌, ◌≤◌, List, ◌++◌, Ok, length, map};
+ghost use Rattle.std.specs.Prelude.{◌≡◌, ◌⊎◌, false, ℕ, ◌+◌, ◌*◌, ◌^◌, ◌<◌, ◌≤◌, List, [], ◌++◌, Ok, length, map};
 ghost use Rattle.std.specs.Prelude.{All, IfErr, IfOk, OnOk};
 ghost use Rattle.mime_base.specs.Cache.Bytes.{Stands};
 ghost use Rattle.mime_base.specs.Cache.Texts.{text_at};
@@ -64,40 +64,40 @@ pub fn glob_hits<'a>(
     ensures cost { Charged (256 * (length name.now + 3)) (29 * (2 * length name.now + 2) + 1)
         budget.old budget.new meter.old meter.new }
 {
-    let hits = kept_hits(alloc, counted, lists, name, meter, budget)?;
-    read_kinds(alloc, counted, hits, meter)
+    let mut hits = Hits::new(alloc);
+    keep_hits(alloc, counted, lists, name, &mut hits, meter, budget)?;
+    read_kinds(alloc, counted, &hits, meter)
 }
 
-/// What is kept of the rules that match a name.
-fn kept_hits(
+/// Offers the rules that match a name.
+fn keep_hits(
     alloc: Global,
     counted: &Counted<'_>,
     lists: RuleLists,
     name: &[u8],
+    hits: &mut Hits,
     meter: &mut Meter,
     budget: &mut Budget,
-) -> Result<Hits, CacheFault>
+) -> Result<(), CacheFault>
+    requires none { hits.now ≡ [] }
     requires limit { length counted.now ≤ 2 ^ 28 }
     requires short { length name.now ≤ 4096 }
     ensures answer { (rules : List GlobRule) → All FitsRank rules → RulesAt counted.now lists rules →
-        IfOk result (λ hits. AreOffers counted.now hits (kept_rules rules name.now)) }
+        OnOk result (AreOffers counted.now hits.new (kept_rules rules name.now)) }
     ensures need { (rules : List GlobRule) → RulesAt counted.now lists rules →
         hit_visits name.now rules ≤ budget.old.records → IfErr result (λ e. e ≡ CacheFault.OutOfMemory) }
     ensures takes_at_most { (rules : List GlobRule) → RulesAt counted.now lists rules →
         budget.old.records ≤ budget.new.records + hit_visits name.now rules }
     ensures fault { IfErr result (IsHitsFault counted.now lists.literals lists.tree lists.globs budget.new) }
-    ensures few { IfOk result (λ hits. length hits + budget.new.records ≤ budget.old.records) }
+    ensures few { OnOk result (length hits.new + budget.new.records ≤ budget.old.records) }
     ensures cost { Charged (256 * (length name.now + 2)) (29 * (2 * length name.now + 2) + 1)
         budget.old budget.new meter.old meter.new }
 {
-    let mut hits = Hits::new(alloc);
     if !has_capitals(name) {
-        offer_once(counted, lists, name, &mut hits, meter, budget)?;
-        return Ok(hits);
+        return offer_once(counted, lists, name, hits, meter, budget);
     }
     let folded = fold(alloc, name)?;
-    offer_twice(counted, lists, name, &folded, &mut hits, meter, budget)?;
-    Ok(hits)
+    offer_twice(counted, lists, name, &folded, hits, meter, budget)
 }
 
 /// Whether one of `A` to `Z` is among the bytes.

@@ -17,36 +17,8 @@ pub struct Sought {
     pub equal: bool,
 }
 
-/// The place of the first of `count` records of `size` bytes, from `first` on, whose text is not less
-/// than the key.
-pub fn first_not_less(
-    counted: &Counted<'_>,
-    first: u64,
-    count: u64,
-    size: u64,
-    key: &[u8],
-    meter: &mut Meter,
-) -> Result<u64, CacheFault>
-    requires fits { first + size * count ≤ length counted.now }
-    requires limit { length counted.now ≤ 2 ^ 28 }
-    requires size { 8 ≤ size }
-    ensures place { IfOk result (IsPlace counted.now first size count key.now) }
-    ensures answer { (keys : List (List ℕ)) → length keys ≡ count → KeysAt counted.now first size keys →
-        AreSorted keys → IsOkAnd result (SplitsAt keys key.now) }
-    ensures answers { ((i : ℕ) → i < count → (text : List ℕ) × HasText counted.now first size i text) → IsOk result }
-    ensures fault { IfErr result (IsTextFault counted.now) }
-    ensures rises { meter.old.nodes ≤ meter.new.nodes }
-    ensures nodes { meter.new.nodes ≤ meter.old.nodes + 26 }
-    ensures bytes_rise { meter.old.bytes ≤ meter.new.bytes }
-    ensures bytes { meter.new.bytes ≤ meter.old.bytes + 256 * 26 }
-{
-    let mut counts = *meter;
-    let sought = seek(counted, first, count, size, key, &mut counts);
-    *meter = counts;
-    Ok(sought?.place)
-}
-
-/// The same, with what the search learnt of the text there.
+/// The place of the first of `count` records of `size` bytes, from `first` on, whose text is not less than the key,
+/// and what the search learnt of that text.
 #[inline(always)]
 pub fn seek(
     counted: &Counted<'_>,

@@ -40,6 +40,7 @@ struct Block {
 /// [`CacheFault::OutOfRange`] with the offset of the tree, or of the first of its roots or of the
 /// siblings below a character, where not all of them lie in the cache; [`CacheFault::Spent`] where a
 /// visit has too few records left; [`CacheFault::OutOfMemory`].
+#[inline(always)]
 pub fn tree_hits(
     counted: &Counted<'_>,
     at: u64,
@@ -113,6 +114,7 @@ fn seeks_character(name: &[u8]) -> bool
 
 /// Offers the leaves below the character, as rules with patterns of this length, and gives the block
 /// in which they stand, if there is one.
+#[inline(always)]
 fn descend(
     counted: &Counted<'_>,
     block: Block,
@@ -149,6 +151,7 @@ fn descend(
 }
 
 /// The block below the sibling of a character, if there is one. The character 0 is none.
+#[inline(always)]
 fn block_below(
     counted: &Counted<'_>,
     block: Block,
@@ -181,6 +184,7 @@ fn block_below(
 }
 
 /// The place of the first sibling whose character is not less than the byte.
+#[inline(always)]
 fn first_not_below(counted: &Counted<'_>, block: Block, byte: u8, meter: &mut Meter) -> u64
     requires limit { length counted.now ≤ 2 ^ 28 }
     requires lies { LiesBlock counted.now block.first 12 block.count }
@@ -207,6 +211,7 @@ fn first_not_below(counted: &Counted<'_>, block: Block, byte: u8, meter: &mut Me
 }
 
 /// Offers the leaves of a block, as rules with patterns of this length. They stand first.
+#[inline(always)]
 fn leaf_hits(
     counted: &Counted<'_>,
     block: Block,
@@ -239,6 +244,7 @@ fn leaf_hits(
 }
 
 /// Takes the records of a visit, and offers what stands at `at` if it is a leaf. It tells whether it is.
+#[inline(always)]
 fn offer_leaf(
     counted: &Counted<'_>,
     at: u64,

@@ -5,9 +5,9 @@ use Rattle.mime_view.proofs.kinds.read_kinds.Goals as goal
 
 pub returns-in_err-text-clause-need : goal.returns-in_err-text-clause-need
 returns-in_err-text-clause-need c = λ rules offers.
-    let are : c.kinds-kinds.result.now ≡ map (λ hit. hit.1) c.args.hits =
+    let are : c.kinds-kinds.result.now ≡ map (λ hit. hit.1) c.args.hits.now =
     c.kinds-kinds.ensures in
-    let stands = kind_stands c.args.counted.now c.args.hits rules 0 offers
+    let stands = kind_stands c.args.counted.now c.args.hits.now rules 0 offers
     (omega (arith, ap (λ (ns : List ℕ). length ns) are, c.if-kinds-eq1.true)) in
     let at = c.from.ensures in
     let text = stands.1 in
@@ -15,9 +15,9 @@ returns-in_err-text-clause-need c = λ rules offers.
 
 pub returns-then-kinds-eq1-clause-answer : goal.returns-then-kinds-eq1-clause-answer
 returns-then-kinds-eq1-clause-answer c = λ rules offers.
-    let are : c.kinds-kinds.result.now ≡ map (λ hit. hit.1) c.args.hits =
+    let are : c.kinds-kinds.result.now ≡ map (λ hit. hit.1) c.args.hits.now =
     c.kinds-kinds.ensures in
-    rw c.one.ensures (AreTexts-kinds c.args.counted.now c.args.hits rules _ offers (rw are at
+    rw c.one.ensures (AreTexts-kinds c.args.counted.now c.args.hits.now rules _ offers (rw are at
     (AreTexts-one c.args.counted.now c.kinds-kinds.result.now c.from.result c.in_ok-text.text.now c.if-kinds-eq1.true c.from.ensures
     c.in_ok-text.ensures.text)))
 
@@ -33,9 +33,9 @@ loop-kind-preserved c = record {
 
 pub returns-in_err-text-2-clause-need : goal.returns-in_err-text-2-clause-need
 returns-in_err-text-2-clause-need c = λ rules offers.
-    let are : c.kinds-kinds.result.now ≡ map (λ hit. hit.1) c.args.hits =
+    let are : c.kinds-kinds.result.now ≡ map (λ hit. hit.1) c.args.hits.now =
     c.kinds-kinds.ensures in
-    let stands = kind_stands c.args.counted.now c.args.hits rules c.loop-kind.kind-index offers
+    let stands = kind_stands c.args.counted.now c.args.hits.now rules c.loop-kind.kind-index offers
     (omega (arith, ap (λ (ns : List ℕ). length ns) are, c.loop-kind-test.true)) in
     let at = c.from-in-loop-kind.ensures in
     let text = stands.1 in
@@ -43,10 +43,10 @@ returns-in_err-text-2-clause-need c = λ rules offers.
 
 pub returns-clause-answer : goal.returns-clause-answer
 returns-clause-answer c = λ rules offers.
-    let are : c.kinds-kinds.result.now ≡ map (λ hit. hit.1) c.args.hits =
+    let are : c.kinds-kinds.result.now ≡ map (λ hit. hit.1) c.args.hits.now =
     c.kinds-kinds.ensures in
     let all = take_all c.loop-kind.kind-index c.kinds-kinds.result.now c.loop-kind-test.false in
-    rw c.of.ensures (AreTexts-kinds c.args.counted.now c.args.hits rules _ offers (rw (all, are) at c.loop-kind.invariant.are))
+    rw c.of.ensures (AreTexts-kinds c.args.counted.now c.args.hits.now rules _ offers (rw (all, are) at c.loop-kind.invariant.are))
 
 pub returns-clause-text : goal.returns-clause-text
 returns-clause-text c =
@@ -54,8 +54,8 @@ returns-clause-text c =
 
 pub returns-clause-count : goal.returns-clause-count
 returns-clause-count c =
-    let are : c.kinds-kinds.result.now ≡ map (λ hit. hit.1) c.args.hits =
+    let are : c.kinds-kinds.result.now ≡ map (λ hit. hit.1) c.args.hits.now =
     c.kinds-kinds.ensures in
     let all = take_all c.loop-kind.kind-index c.kinds-kinds.result.now c.loop-kind-test.false in
     rw c.of.ensures
-    (AreTexts-length c.args.counted.now _ _ (rw (all, are) at c.loop-kind.invariant.are) ∙ length-map c.args.hits (λ hit. hit.1))
+    (AreTexts-length c.args.counted.now _ _ (rw (all, are) at c.loop-kind.invariant.are) ∙ length-map c.args.hits.now (λ hit. hit.1))
