@@ -1,6 +1,8 @@
 -- Lemmas on the bytes of a cache: zeros and prefixes, numbers, where bytes stand, texts from both sides.
 pub mod Zeros
 pub mod Prefixes
+pub mod Stops
+pub mod Orders
 pub mod Eights
 pub mod ZeroLanes
 pub mod Numbers

@@ -9,8 +9,8 @@ pub mod byte_laws;
 pub mod comparing;
 pub mod stated_value;
 
-ghost use Rattle.std.specs.Prelude.{◌≡◌, true, false, ℕ, ◌+◌, ◌*◌, ◌<◌, ◌≤◌, List, [], length, take, drop, min, Ok, Err};
-ghost use Rattle.std.specs.Prelude.{if◌then◌else◌, IfOk, IfErr, IfSome, IsNone, IsOkAnd, OnOk, OnErr, MatchOption};
+ghost use Rattle.std.specs.Prelude.{◌≡◌, true, false, ℕ, ◌+◌, ◌*◌, ◌<◌, ◌≤◌, List, length, take, drop, min, Ok, Err};
+ghost use Rattle.std.specs.Prelude.{if◌then◌else◌, IfOk, IfErr, IfSome, IsOkAnd, OnOk, OnErr, MatchOption};
 ghost use Rattle.std.specs.Prelude.{MatchResult};
 ghost use Rattle.std.specs.Ordering.{nat_cmp};
 ghost use Rattle.std.specs.Cmp.Lexicographic.{slice_cmp};
@@ -19,10 +19,10 @@ ghost use Rattle.mime_base.specs.Magic.Holds.{equals_from};
 ghost use Rattle.mime_base.specs.Magic.Masking.{equal_bytes, window_equals};
 ghost use Rattle.mime_base.specs.Magic.Ranges.{compared_from, stated_line, window_fits};
 ghost use Rattle.mime_base.specs.Meter.{raised};
-ghost use Rattle.mime_base.specs.Cache.Texts.{before_zero, front, order_at, order_cost, text_at, text_cost, unended};
+ghost use Rattle.mime_base.specs.Cache.Texts.{before_zero, order_at, order_cost, text_at, text_cost, unended};
 
 use crate::cache::byte_fault::ByteFault;
-use crate::cache::comparing::{compare_front, first_byte_order};
+use crate::cache::comparing::{compare_all, early_stop, order_at_stop};
 use crate::cache::stated_value::StatedValue;
 use crate::magic::host::Host;
 use crate::magic::masking::equal_bytes;
@@ -130,9 +130,10 @@ impl<'a> Counted<'a> {
         ensures limit { text_cost self.now at ≤ 256 }
         ensures rises { meter.old.bytes ≤ meter.new.bytes }
     {
-        let Some(rest) = bytes_from(self.bytes, at) else {
+        if self.length() <= at {
             return Err(ByteFault::OutOfRange(at));
-        };
+        }
+        let rest = &self.bytes[at as usize..];
         if let Some(end) = early_zero(rest) {
             meter.add_bytes(end as u64 + 1);
             return Ok(&rest[..end]);
@@ -172,16 +173,16 @@ impl<'a> Counted<'a> {
         ensures limit { order_cost self.now at key.now ≤ 256 }
         ensures rises { meter.old.bytes ≤ meter.new.bytes }
     {
-        let Some(rest) = bytes_from(self.bytes, at) else {
+        if self.length() <= at {
             meter.add_bytes(0);
             return Err(ByteFault::OutOfRange(at));
-        };
-        if let Some(order) = first_byte_order(rest, key) {
-            meter.add_bytes(1);
-            return Ok(order);
+        }
+        let rest = &self.bytes[at as usize..];
+        if let Some(place) = early_stop(rest, key) {
+            return order_at_stop(rest, key, place, meter);
         }
         let front = front_of(rest);
-        let (order, count) = compare_front(front, key);
+        let (order, count) = compare_all(front, key);
         meter.add_bytes(count as u64);
         match order {
             Some(order) => Ok(order),
@@ -309,18 +310,6 @@ fn optional_mask(bytes: &[u8], at: u64, size: u64) -> Result<&[u8], ByteFault>
     Ok(mask)
 }
 
-/// The bytes from an offset on, if any stand there.
-#[inline]
-fn bytes_from(bytes: &[u8], at: u64) -> Option<&[u8]>
-    ensures none { IsNone result → front 256 bytes.now at ≡ [] }
-    ensures rest { IfSome result (λ rest. rest.now ≡ drop at bytes.now) }
-{
-    if bytes.len() as u64 <= at {
-        return None;
-    }
-    Some(&bytes[at as usize..])
-}
-
 /// Those of the bytes from an offset on among which a text has its zero.
 #[inline]
 fn front_of(rest: &[u8]) -> &[u8]
@@ -339,17 +328,21 @@ fn early_zero(bytes: &[u8]) -> Option<usize>
     if bytes.len() < 32 {
         return None;
     }
-    let end = end_of_front(bytes);
-    if end < 32 { Some(end) } else { None }
+    let end = zero_of_sixteen(bytes);
+    if end < 16 {
+        return Some(end);
+    }
+    let end = zero_of_sixteen(&bytes[16..]);
+    if end < 16 { Some(16 + end) } else { None }
 }
 
-/// Where the first zero of the first 32 bytes stands. Where none does, it is 32 or more.
+/// Where the first zero of the first sixteen bytes stands. Where none does, it is 16 or more.
 #[inline]
-fn end_of_front(bytes: &[u8]) -> usize
-    requires { 32 ≤ length bytes.now }
-    ensures { result < 32 → before_zero bytes.now ≡ take result bytes.now }
+fn zero_of_sixteen(bytes: &[u8]) -> usize
+    requires { 16 ≤ length bytes.now }
+    ensures { min 16 result ≡ length (before_zero (take 16 bytes.now)) }
 {
-    let zeros = u8x32::from_slice(bytes).simd_eq(u8x32::splat(0));
+    let zeros = u8x16::from_slice(bytes).simd_eq(u8x16::splat(0));
     zeros.to_bitmask().trailing_zeros() as usize
 }
 

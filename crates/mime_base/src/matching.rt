@@ -15,7 +15,7 @@ pub mod elements;
 pub mod folding;
 
 ghost use Rattle.std.specs.Prelude.{◌≡◌, true, false, ◌+◌, ◌-◌, ◌*◌, ◌<◌, ◌≤◌, ◌↔◌, ◌∷◌, length, drop, IsTrue, IfSome, IsNone};
-ghost use Rattle.mime_base.specs.Matching.Attempt.{decided, owed, tests_after};
+ghost use Rattle.mime_base.specs.Matching.Attempt.{Goes, decided, last_tests, owed, tests_after};
 ghost use Rattle.mime_base.specs.Matching.Count.{has_star, rule_tests, tests_of};
 ghost use Rattle.mime_base.specs.Matching.Elements.{any_bytes, elements, is_literal_text, HasNoEnd};
 ghost use Rattle.mime_base.specs.Matching.Folding.{compared};
@@ -122,7 +122,7 @@ fn search_by_stars(pattern: &[u8], cased: bool, name: &[u8]) -> Searched
     ensures most { result.tests ≤ length pattern.now * (length name.now + 1) }
 {
     let endless = count_endless(pattern);
-    let front = attempt(pattern, endless, cased, name);
+    let front = try_front(pattern, endless, cased, name);
     if let Some(found) = front.halt.answer() {
         return Searched {
             found,
@@ -147,6 +147,28 @@ fn search_by_stars(pattern: &[u8], cased: bool, name: &[u8]) -> Searched
         }
         after = next.after;
         left = &left[next.passed..];
+    }
+}
+
+/// Lets the elements before the first star take a byte each from the front of the name: none, where a star is first.
+fn try_front<'a>(pattern: &'a [u8], endless: usize, cased: bool, name: &[u8]) -> Reach<'a>
+    requires { HasNoEnd endless pattern.now }
+    ensures goes { Goes result.halt result.passed (elements (compared cased pattern.now))
+        (compared cased name.now) (elements (compared cased result.after.now)) }
+    ensures passed { result.passed ≤ length name.now }
+    ensures tests { result.tests ≡ result.passed + last_tests result.halt }
+    ensures most { result.tests ≤ length pattern.now }
+    ensures star { result.halt ≡ Halt.Star → result.tests + length result.after.now < length pattern.now }
+    ensures endless { HasNoEnd endless result.after.now }
+{
+    match pattern {
+        [b'*', after @ ..] => Reach {
+            halt: Halt::Star,
+            passed: 0,
+            after,
+            tests: 0,
+        },
+        _ => attempt(pattern, endless, cased, name),
     }
 }
 

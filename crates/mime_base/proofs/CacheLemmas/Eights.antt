@@ -3,11 +3,6 @@ use Rattle.std.proofs.Common.{◌≡◌, ℕ, zero, suc, ◌+◌, ◌%◌, ◌^�
 use Rattle.std.proofs.Common.{length, take, drop, map, replicate, refl, sym, ap, ◌∙◌, arith}
 use Rattle.std.specs.List.{common_prefix_len, prefix_len}
 use Rattle.std.specs.Simd.Lanes.{mask_l, top, zip2}
-use Rattle.std.specs.Ordering.{nat_cmp}
-use Rattle.std.specs.Cmp.{nat_cmp_is}
-use Rattle.std.specs.Cmp.Lexicographic.{slice_cmp}
-use Rattle.std.specs.declared.cmp.Ordering.TheVariants.{Equal}
-use Rattle.std.proofs.lemmas.Bool.{eqb-true}
 use Rattle.std.proofs.lemmas.List.Sums.{common_prefix_len-le}
 use Rattle.std.proofs.lemmas.Simd.{leading_from_mask_l, length-zip2, mask_l-mod, trailing_mask_l}
 use lib.Bits.{bit_or}
@@ -26,33 +21,6 @@ common-passed (suc n) (suc k) (x ∷ xs) (y ∷ ys) is =
     let next = longer (x == y) _ k (sym is) in
     rw next.0 (omega (arith, common-passed n k xs ys (sym next.1)))
 
-unshared : (ends : Bool) (x k : ℕ) (xs : List ℕ) → suc k ≡ common_prefix_len nat_eq (cond ends [] (x ∷ xs)) [] → ⊥
-unshared true x k xs is = omega arith
-unshared false x k xs is = omega arith
-
-sharing : (ends : Bool) (x y k : ℕ) (xs ys : List ℕ) → suc k ≡ common_prefix_len nat_eq (cond ends [] (x ∷ xs)) (y ∷ ys) →
-    (ends ≡ false) × ((x == y) ≡ true) × (common_prefix_len nat_eq xs ys ≡ k)
-sharing true x y k xs ys is = absurd (omega arith)
-sharing false x y k xs ys is = let next = longer (x == y) _ k (sym is) in (refl, next.0, next.1)
-
-same-order : (x y : ℕ) (xs ys : List ℕ) → (x == y) ≡ true → slice_cmp nat_cmp (x ∷ xs) (y ∷ ys) ≡ slice_cmp nat_cmp xs ys
-same-order x y xs ys same = rw (sym (nat_cmp_is x y Equal (eqb-true x y same))) refl
-
--- what is left after bytes that are equal and not zero
-pub shared-passed : (n k : ℕ) (xs ys : List ℕ) → k ≡ shared (take n xs) (take n ys) →
-    (k + shared (drop k xs) (drop k ys) ≡ shared xs ys)
-    × (slice_cmp nat_cmp (before_zero (drop k xs)) (drop k ys) ≡ slice_cmp nat_cmp (before_zero xs) ys)
-shared-passed n zero xs ys is = (omega arith, refl)
-shared-passed zero (suc k) xs ys is = absurd (omega arith)
-shared-passed (suc n) (suc k) [] ys is = absurd (omega arith)
-shared-passed (suc n) (suc k) (x ∷ xs) [] is = absurd (unshared (x == 0) x k (before_zero (take n xs)) is)
-shared-passed (suc n) (suc k) (x ∷ xs) (y ∷ ys) is =
-    let next = sharing (x == 0) x y k (before_zero (take n xs)) (take n ys) is in
-    let rest = shared-passed n k xs ys (sym next.2) in (
-      rw (next.0, next.1) (omega (arith, rest.0)),
-      rest.1 ∙ sym (rw next.0 (same-order x y (before_zero xs) ys next.1)),
-    )
-
 -- the lowest place of a mask
 
 map-same : (ms : List Bool) → map (λ m. m) ms ≡ ms
@@ -64,6 +32,12 @@ pub first-place : (ms : List Bool) (places : ℕ) → length ms ≤ 64 → place
 first-place ms places short is some =
     let whole : places ≡ mask_l (map (λ m. m) ms) = is ∙ mask_l-mod ms 64 short ∙ ap mask_l (sym (map-same ms)) in
     ap (count_trailing_zeros 64) whole ∙ trailing_mask_l (λ m. m) 64 ms short (omega (arith, whole, some))
+
+-- no place in a mask of none
+pub no-place : (ms : List Bool) (places : ℕ) → length ms ≤ 64 → places ≡ mask_l ms % 2 ^ 64 → places ≡ 0 →
+    prefix_len (λ m. not m) ms ≡ length ms
+no-place ms places short is none =
+    leading_from_mask_l (λ m. m) ms (ap mask_l (map-same ms) ∙ sym (mask_l-mod ms 64 short) ∙ sym is ∙ none)
 
 lanes-common : (xs ys : List ℕ) → prefix_len (λ m. not m) (zip2 (λ a b. not (a == b)) xs ys) ≡ common_prefix_len nat_eq xs ys
 lanes-common [] ys = refl
@@ -128,6 +102,4 @@ pub shared-all : (n : ℕ) (xs ys : List ℕ) (places : ℕ) → n ≤ 64 → le
     places ≡ mask_l (stop_lanes n xs ys) % 2 ^ 64 → places ≡ 0 → n ≡ shared xs ys
 shared-all n xs ys places few long as_long is none =
     let size = stop_lanes-length n xs ys long as_long in
-    let stops : mask_l (map (λ m. m) (stop_lanes n xs ys)) ≡ 0 =
-    ap mask_l (map-same (stop_lanes n xs ys)) ∙ sym (mask_l-mod (stop_lanes n xs ys) 64 (omega (arith, size, few))) ∙ sym is ∙ none in
-    sym size ∙ sym (leading_from_mask_l (λ m. m) (stop_lanes n xs ys) stops) ∙ lanes-shared n xs ys long as_long
+    sym size ∙ sym (no-place (stop_lanes n xs ys) places (omega (arith, size, few)) is none) ∙ lanes-shared n xs ys long as_long

@@ -1,13 +1,14 @@
 -- The first zero of bytes, by the lanes of a vector of them.
-use Rattle.std.proofs.Common.{◌≡◌, ℕ, zero, suc, ◌+◌, ◌%◌, ◌^◌, ◌<◌, ◌≤◌, ◌==◌, Bool, true, false, cond, not, List, [], ◌∷◌}
-use Rattle.std.proofs.Common.{length, take, replicate, refl, sym, ap, ◌∙◌, arith}
+use Rattle.std.proofs.Common.{◌≡◌, ℕ, zero, suc, ◌+◌, ◌%◌, ◌^◌, ◌<◌, ◌≤◌, ◌==◌, min, Bool, true, false, cond, not, List, [], ◌∷◌}
+use Rattle.std.proofs.Common.{length, take, drop, length-drop, replicate, refl, sym, ap, ◌∙◌, arith}
 use Rattle.std.specs.List.{prefix_len}
 use Rattle.std.specs.Simd.Lanes.{mask_l, zip2}
 use Rattle.std.proofs.lemmas.List.{length-replicate}
 use Rattle.std.proofs.lemmas.Simd.{length-zip2}
 use lib.Count.{count_trailing_zeros}
 use Rattle.mime_base.specs.Cache.Texts.{before_zero}
-use Rattle.mime_base.proofs.CacheLemmas.Eights.{first-place}
+use Rattle.mime_base.proofs.CacheLemmas.Eights.{first-place, no-place}
+use Rattle.mime_base.proofs.CacheLemmas.Zeros.{length-before_zero}
 
 -- the lanes that are zero
 abbrev zero_lanes : ℕ → List ℕ → List Bool
@@ -39,23 +40,53 @@ before_zero-front (suc n) (b ∷ bytes) within l = step (b == 0) (before_zero-fr
     step true rest l = refl
     step false rest l = ap (λ xs. b ∷ xs) (rest (omega arith))
 
+-- where the first bytes have none, it is found after them
+before_zero-on : (n k m : ℕ) (bytes : List ℕ) → m ≡ n + k → n ≤ length (before_zero (take n bytes)) →
+    before_zero (drop n bytes) ≡ take k (drop n bytes) → before_zero bytes ≡ take m bytes
+before_zero-on zero k m bytes e all is = let same : k ≡ m = omega arith in is ∙ ap (λ (j : ℕ). take j bytes) same
+before_zero-on (suc n) k m [] e all is = absurd (omega arith)
+before_zero-on (suc n) k zero (b ∷ bytes) e all is = absurd (omega arith)
+before_zero-on (suc n) k (suc m) (b ∷ bytes) e all is =
+    step (b == 0) (λ l. before_zero-on n k m bytes (omega arith) l is) all
+  where
+    step : (ends : Bool) → (n ≤ length (before_zero (take n bytes)) → before_zero bytes ≡ take m bytes) →
+        suc n ≤ length (cond ends [] (b ∷ before_zero (take n bytes))) → cond ends [] (b ∷ before_zero bytes) ≡ b ∷ take m bytes
+    step true rest l = absurd (omega arith)
+    step false rest l = ap (λ xs. b ∷ xs) (rest (omega arith))
+
+-- the first zero, found in a window at the front
+pub zero-window : (n k : ℕ) (bytes : List ℕ) → n ≤ length bytes → min n k ≡ length (before_zero (take n bytes)) → k < n →
+    before_zero bytes ≡ take k bytes
+zero-window n k bytes within is l =
+    let place : length (before_zero (take n bytes)) ≡ k = omega arith in
+    before_zero-front n bytes within (omega arith) ∙ ap (λ (j : ℕ). take j bytes) place
+
+-- found in the window after that
+pub zero-windows : (n m k : ℕ) (bytes : List ℕ) → n + n ≤ length bytes → min n m ≡ length (before_zero (take n bytes)) → n ≤ m →
+    min n k ≡ length (before_zero (take n (drop n bytes))) → k < n → before_zero bytes ≡ take (n + k) bytes
+zero-windows n m k bytes within none all is l =
+    before_zero-on n k (n + k) bytes refl (omega arith)
+    (zero-window n k (drop n bytes) (omega (arith, length-drop n bytes)) is l)
+
 -- no place is lowest in no mask
-no_place : (places : ℕ) → places ≡ 0 → count_trailing_zeros 64 places ≡ 64
+lowest-none : (places : ℕ) → places ≡ 0 → count_trailing_zeros 64 places ≡ 64
 unfolding count_trailing_zeros
-no_place places is = ap (count_trailing_zeros 64) is
+lowest-none places is = ap (count_trailing_zeros 64) is
 
 -- the lowest place of a vector whose lanes are zero is that of the first zero
-pub zero-found : (n : ℕ) (bytes : List ℕ) (places : ℕ) → n ≤ 32 → n ≤ length bytes → length (take n bytes) ≡ n →
-    places ≡ mask_l (zero_lanes n (take n bytes)) % 2 ^ 64 → count_trailing_zeros 64 places < n →
-    before_zero bytes ≡ take (count_trailing_zeros 64 places) bytes
-zero-found n bytes places few within long is l =
-    let none = no_place places in
-    let some : 0 < places = nonzero places none in
+pub zero-found : (n : ℕ) (bytes : List ℕ) (places : ℕ) → n ≤ 64 → length (take n bytes) ≡ n →
+    places ≡ mask_l (zero_lanes n (take n bytes)) % 2 ^ 64 →
+    min n (count_trailing_zeros 64 places) ≡ length (before_zero (take n bytes))
+zero-found n bytes places few long is =
     let size = length-zip2 (λ a b. a == b) (take n bytes) (replicate n 0) (long ∙ sym (length-replicate n 0)) in
-    let found = first-place (zero_lanes n (take n bytes)) places (omega (arith, size, long)) is some
-    ∙ lanes-before n (take n bytes) long in
-    before_zero-front n bytes within (omega (arith, found, l)) ∙ ap (λ (k : ℕ). take k bytes) (sym found)
+    let before = lanes-before n (take n bytes) long in
+    let whole = no-place (zero_lanes n (take n bytes)) places (omega (arith, size, long)) is in
+    let some = first-place (zero_lanes n (take n bytes)) places (omega (arith, size, long)) is in
+    by places refl (λ e. whole e ∙ size ∙ long) some before
   where
-    nonzero : (m : ℕ) → (m ≡ 0 → count_trailing_zeros 64 places ≡ 64) → 0 < m
-    nonzero zero none = absurd (omega (arith, none refl))
-    nonzero (suc m) none = omega arith
+    by : (m : ℕ) → places ≡ m → (places ≡ 0 → prefix_len (λ m. not m) (zero_lanes n (take n bytes)) ≡ n) →
+        (0 < places → count_trailing_zeros 64 places ≡ prefix_len (λ m. not m) (zero_lanes n (take n bytes))) →
+        prefix_len (λ m. not m) (zero_lanes n (take n bytes)) ≡ length (before_zero (take n bytes)) →
+        min n (count_trailing_zeros 64 places) ≡ length (before_zero (take n bytes))
+    by zero e whole some before = omega (arith, lowest-none places e, whole e, before)
+    by (suc m) e whole some before = omega (arith, some (omega arith), before, length-before_zero (take n bytes))

@@ -5,7 +5,7 @@ use Rattle.std.specs.Prelude.{MatchOption}
 use Rattle.memchr.specs.Find.{IsFirstByte, is_byte}
 use Rattle.std.proofs.lemmas.Bool.{le-ltb, ltb-false}
 use Rattle.std.proofs.lemmas.List.Sums.{common_prefix_len-le}
-use Rattle.mime_base.specs.Cache.Texts.{before_zero, front, order_cost, shared, text_in, unended}
+use Rattle.mime_base.specs.Cache.Texts.{before_zero, shared, text_in, unended}
 
 not_true : (test : Bool) → (test ≡ true → ⊥) → test ≡ false
 not_true true differs = absurd (differs refl)
@@ -82,8 +82,3 @@ text_in-untold room at bytes key order e =
     let untold = told (nat_lt (shared bytes key) (length bytes)) order e in
     let whole = ltb-false (shared bytes key) (length bytes) untold in
     rw (le-ltb (length (before_zero bytes)) (length bytes) (omega arith)) refl
-
--- where no byte stands, none is looked at
-pub order_cost-none : (c : List ℕ) (at : ℕ) (key : List ℕ) → front 256 c at ≡ [] → order_cost c at key ≡ 0
-unfolding order_cost
-order_cost-none c at key none = rw none (omega arith)

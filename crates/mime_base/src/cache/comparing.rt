@@ -1,13 +1,14 @@
 //! Comparisons of bytes that tell how far they looked.
 
 ghost use Rattle.std.specs.Prelude.{◌≡◌, ◌↔◌, ◌+◌, ◌<◌, ◌≤◌, nat_eq, nat_lt, length, take, drop, min};
-ghost use Rattle.std.specs.Prelude.{IfSome, Some, None, if◌then◌else◌, IsTrue};
+ghost use Rattle.std.specs.Prelude.{IfSome, Some, None, Ok, if◌then◌else◌, IsTrue};
 ghost use Rattle.std.specs.List.{common_prefix_len};
 ghost use Rattle.std.specs.Ordering.{nat_cmp};
 ghost use Rattle.std.specs.Cmp.Lexicographic.{slice_cmp};
 ghost use Rattle.mime_base.specs.Meter.{raised};
 ghost use Rattle.mime_base.specs.Cache.Texts.{before_zero, shared};
 
+use crate::cache::byte_fault::ByteFault;
 use crate::meter::Meter;
 use std::cmp::Ordering;
 use std::simd::prelude::*;
@@ -79,76 +80,97 @@ fn common_of_eight(left: &[u8], right: &[u8]) -> usize
     }
 }
 
-/// How what stands in the front, up to its first zero, compares with a key, and how many bytes were
-/// looked at: none tells, where all of them are equal to the key's and none is zero. The first byte or the
-/// first sixteen tell mostly.
-#[inline]
-pub fn compare_front(front: &[u8], key: &[u8]) -> (Option<Ordering>, usize)
-    ensures order { result.0 ≡ (if nat_lt (shared front.now key.now) (length front.now)
-        then Some (slice_cmp nat_cmp (before_zero front.now) key.now) else None) }
-    ensures count { result.1 ≡ min (shared front.now key.now + 1) (length front.now) }
+/// Where the text at the front of these bytes and a key stop to be equal, if their first bytes or sixteen of each
+/// tell: at the first byte that differs, or is the text's zero.
+#[inline(always)]
+pub fn early_stop(rest: &[u8], key: &[u8]) -> Option<usize>
+    requires { 0 < length rest.now }
+    ensures { IfSome result (λ place. (place ≡ shared (take 256 rest.now) key.now)
+        × (place < length (take 256 rest.now))) }
 {
-    if let Some((order, count)) = compare_sixteen(front, key) {
-        return (Some(order), count);
+    if !key.is_empty() && rest[0] != key[0] {
+        return Some(0);
     }
-    compare_all(front, key)
+    if rest.len() <= 32 {
+        return None;
+    }
+    match key.len() {
+        8..=15 => Some(shared_by_eights(rest, key)),
+        16..=32 => Some(shared_by_sixteens(rest, key)),
+        _ => None,
+    }
 }
 
-/// The order that the first sixteen bytes tell, where there are so many and they tell, and how many were looked at.
-#[inline]
-fn compare_sixteen(front: &[u8], key: &[u8]) -> Option<(Ordering, usize)>
-    ensures { IfSome result (λ told. (told.1 ≡ shared front.now key.now + 1) × (told.1 ≤ length front.now)
-        × (told.0 ≡ slice_cmp nat_cmp (before_zero front.now) key.now)) }
+/// How a text compares with a key where `place` of their bytes are equal, and those that stand there tell. It adds
+/// as many bytes, and one.
+#[inline(always)]
+pub fn order_at_stop(
+    rest: &[u8],
+    key: &[u8],
+    place: usize,
+    meter: &mut Meter,
+) -> Result<Ordering, ByteFault>
+    requires place { place ≡ shared (take 256 rest.now) key.now }
+    requires inside { place < length (take 256 rest.now) }
+    ensures order { result ≡ Ok (slice_cmp nat_cmp (before_zero (take 256 rest.now)) key.now) }
+    ensures nodes { meter.new.nodes ≡ meter.old.nodes }
+    ensures bytes { meter.new.bytes ≡ raised meter.old.bytes (place + 1) }
+    ensures rises { meter.old.bytes ≤ meter.new.bytes }
 {
-    if front.len() < 16 || key.len() < 16 {
-        return None;
+    meter.add_bytes(place as u64 + 1);
+    let byte = rest[place];
+    if place == key.len() {
+        return if byte == 0 {
+            Ok(Ordering::Equal)
+        } else {
+            Ok(Ordering::Greater)
+        };
     }
-    let start = shared_of_first(front, key);
-    if 16 <= start {
-        return None;
+    if byte == 0 || byte < key[place] {
+        Ok(Ordering::Less)
+    } else {
+        Ok(Ordering::Greater)
     }
-    let byte = front[start];
-    if byte == 0 {
-        return Some((Ordering::Less, start + 1));
-    }
-    if byte != key[start] {
-        return Some((byte.cmp(&key[start]), start + 1));
-    }
-    None
 }
 
-/// How many of the first sixteen bytes are equal and none of them zero.
-#[inline]
-fn shared_of_first(front: &[u8], key: &[u8]) -> usize
-    requires front { 16 ≤ length front.now }
-    requires key { 16 ≤ length key.now }
-    ensures shared { result + shared (drop result front.now) (drop result key.now) ≡ shared front.now key.now }
-    ensures order { slice_cmp nat_cmp (before_zero (drop result front.now)) (drop result key.now)
-        ≡ slice_cmp nat_cmp (before_zero front.now) key.now }
+/// How many bytes of a text and a key of 16 to 32 bytes are equal: by sixteen at the key's front, and sixteen at
+/// its end.
+#[inline(always)]
+fn shared_by_sixteens(rest: &[u8], key: &[u8]) -> usize
+    requires room { 32 < length rest.now }
+    requires least { 16 ≤ length key.now }
+    requires most { length key.now ≤ 32 }
+    ensures shared { result ≡ shared (take 256 rest.now) key.now }
+    ensures within { result ≤ length key.now }
 {
-    shared_of_sixteen(front, key)
-}
-
-/// How the text at the front of these bytes compares with a key, if their first bytes differ.
-#[inline]
-pub fn first_byte_order(rest: &[u8], key: &[u8]) -> Option<Ordering>
-    ensures { IfSome result (λ order. (shared (take 256 rest.now) key.now ≡ 0) × (0 < length (take 256 rest.now))
-        × (order ≡ slice_cmp nat_cmp (before_zero (take 256 rest.now)) key.now)) }
-{
-    let Some((byte, _later)) = rest.split_first() else {
-        return None;
-    };
-    let Some((wanted, _others)) = key.split_first() else {
-        return None;
-    };
-    if *byte == *wanted {
-        return None;
+    let place = shared_of_sixteen(rest, key);
+    if place < 16 {
+        return place;
     }
-    Some(byte.cmp(wanted))
+    let last = key.len() - 16;
+    last + shared_of_sixteen(&rest[last..], &key[last..])
 }
 
-/// The same, of fronts and keys of any length.
-fn compare_all(front: &[u8], key: &[u8]) -> (Option<Ordering>, usize)
+/// The same of a key of 8 to 15 bytes, by eight each.
+#[inline(always)]
+fn shared_by_eights(rest: &[u8], key: &[u8]) -> usize
+    requires room { 32 < length rest.now }
+    requires least { 8 ≤ length key.now }
+    requires most { length key.now < 16 }
+    ensures shared { result ≡ shared (take 256 rest.now) key.now }
+    ensures within { result ≤ length key.now }
+{
+    let place = shared_of_eight(rest, key);
+    if place < 8 {
+        return place;
+    }
+    let last = key.len() - 8;
+    last + shared_of_eight(&rest[last..], &key[last..])
+}
+
+/// How what stands in the front, up to its first zero, compares with a key, and how many bytes were looked at:
+/// none tells, where all of them are equal to the key's and none is zero.
+pub fn compare_all(front: &[u8], key: &[u8]) -> (Option<Ordering>, usize)
     ensures order { result.0 ≡ (if nat_lt (shared front.now key.now) (length front.now)
         then Some (slice_cmp nat_cmp (before_zero front.now) key.now) else None) }
     ensures count { result.1 ≡ min (shared front.now key.now + 1) (length front.now) }

@@ -1,7 +1,7 @@
 use Rattle.std.proofs.Common.{length, drop, arith, ◌∙◌}
 use Rattle.std.proofs.lemmas.List.{drop-drop}
 use Rattle.std.proofs.lemmas.Slice.{between_to_end}
-use Rattle.mime_base.proofs.CacheLemmas.Eights.{shared-passed}
+use Rattle.mime_base.proofs.CacheLemmas.Stops.{shared-passed}
 use Rattle.mime_base.proofs.cache.comparing.shared_by_eight.Goals as goal
 
 pub returns : goal.returns
