@@ -42,7 +42,7 @@ fn has_icons(alloc: Global, cache: &[u8], row: &IconRow) -> Result<bool, Fail> {
     Ok(are_icons(&icons, row))
 }
 
-const OF_THE_SAMPLE: [IconRow; 3] = [
+static OF_THE_SAMPLE: [IconRow; 3] = [
     IconRow {
         kind: b"t/h",
         icon: b"t-g",
@@ -69,7 +69,7 @@ fn icons_that_stand_in(rt: HostRuntime) -> Result<(), Fail> {
     Ok(())
 }
 
-const WRITTEN: [IconRow; 3] = [
+static WRITTEN: [IconRow; 3] = [
     IconRow {
         kind: b"t/g",
         icon: b"pkg",

@@ -59,7 +59,7 @@ fn faults_are_told(rt: HostRuntime) -> Result<(), Fail> {
 }
 
 /// A type and the one that it stands for.
-const ALIASES: [(&[u8], &[u8]); 5] = [
+static ALIASES: [(&[u8], &[u8]); 5] = [
     (b"t/h", b"t/g"),
     (b"t/g", b"t/g"),
     (b"t/z", b"t/z"),
@@ -134,7 +134,7 @@ struct Damage {
 /// The fault of four bytes that are all ones and are taken for an offset.
 const FAR: CacheFault = CacheFault::OutOfRange(4_294_967_295);
 
-const DAMAGES: [Damage; 7] = [
+static DAMAGES: [Damage; 7] = [
     Damage {
         name: "the offset of the icons",
         at: 32,

@@ -14,7 +14,7 @@ struct Record<const N: usize> {
     numbers: [u32; N],
 }
 
-const COUNTS: [Record<1>; 8] = [
+static COUNTS: [Record<1>; 8] = [
     Record {
         name: "aliases",
         at: 40,
@@ -57,7 +57,7 @@ const COUNTS: [Record<1>; 8] = [
     },
 ];
 
-const PAIRS: [Record<2>; 3] = [
+static PAIRS: [Record<2>; 3] = [
     Record {
         name: "t/h is t/g",
         at: 44,
@@ -75,7 +75,7 @@ const PAIRS: [Record<2>; 3] = [
     },
 ];
 
-const TRIPLES: [Record<3>; 6] = [
+static TRIPLES: [Record<3>; 6] = [
     Record {
         name: "mk",
         at: 76,
@@ -123,19 +123,19 @@ fn are_read<const N: usize>(
     }
 }
 
-const HEADER: [Record<10>; 1] = [Record {
+static HEADER: [Record<10>; 1] = [Record {
     name: "header",
     at: 0,
     numbers: [65538, 40, 52, 72, 88, 144, 148, 208, 212, 216],
 }];
 
-const SECTION: [Record<4>; 1] = [Record {
+static SECTION: [Record<4>; 1] = [Record {
     name: "section",
     at: 160,
     numbers: [40, 220, 1, 176],
 }];
 
-const LINE: [Record<8>; 1] = [Record {
+static LINE: [Record<8>; 1] = [Record {
     name: "line",
     at: 176,
     numbers: [0, 1, 1, 2, 236, 0, 0, 0],
@@ -155,25 +155,25 @@ fn sample_records(rt: HostRuntime) {
     alike(&rt, "nodes", (meter.nodes, meter.bytes), (20, 0));
 }
 
-const SELF_HEADER: [Record<10>; 1] = [Record {
+static SELF_HEADER: [Record<10>; 1] = [Record {
     name: "header",
     at: 0,
     numbers: [65538, 40, 40, 40, 40, 40, 48, 40, 40, 40],
 }];
 
-const SELF_MAGIC: [Record<3>; 1] = [Record {
+static SELF_MAGIC: [Record<3>; 1] = [Record {
     name: "the head of the magic list",
     at: 48,
     numbers: [1, 128, 60],
 }];
 
-const SELF_SECTION: [Record<4>; 1] = [Record {
+static SELF_SECTION: [Record<4>; 1] = [Record {
     name: "section",
     at: 60,
     numbers: [50, 108, 1, 76],
 }];
 
-const SELF_LINE: [Record<8>; 1] = [Record {
+static SELF_LINE: [Record<8>; 1] = [Record {
     name: "line",
     at: 76,
     numbers: [0, 1, 1, 0, 108, 0, 1, 76],
@@ -196,19 +196,19 @@ fn self_child_records(rt: HostRuntime) {
     alike(&rt, "nodes and bytes", (meter.nodes, meter.bytes), (4, 4));
 }
 
-const LAST: [Record<1>; 1] = [Record {
+static LAST: [Record<1>; 1] = [Record {
     name: "the last number",
     at: 236,
     numbers: [0x1f8b_0000],
 }];
 
-const NONE: [Record<0>; 1] = [Record {
+static NONE: [Record<0>; 1] = [Record {
     name: "no number",
     at: 240,
     numbers: [],
 }];
 
-const PAST: [u64; 5] = [237, 240, 241, u64::MAX - 3, u64::MAX];
+static PAST: [u64; 5] = [237, 240, 241, u64::MAX - 3, u64::MAX];
 
 #[test]
 fn numbers_at_the_end(rt: HostRuntime) {
@@ -224,7 +224,7 @@ fn numbers_at_the_end(rt: HostRuntime) {
     alike(&rt, "nodes", (meter.nodes, meter.bytes), (7, 0));
 }
 
-const ALIASES: [Record<1>; 1] = [Record {
+static ALIASES: [Record<1>; 1] = [Record {
     name: "aliases",
     at: 40,
     numbers: [1],

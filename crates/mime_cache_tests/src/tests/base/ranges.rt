@@ -14,7 +14,7 @@ struct Range {
     bytes: u64,
 }
 
-const RANGES: [Range; 10] = [
+static RANGES: [Range; 10] = [
     Range {
         name: "the first offset",
         content: b"\x1f\x8b",

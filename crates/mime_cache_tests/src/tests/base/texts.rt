@@ -16,7 +16,7 @@ fn are_read(rt: &impl Abort, cache: Counted<'_>, rows: &[Text]) {
     }
 }
 
-const OF_SAMPLE: [Text; 6] = [
+static OF_SAMPLE: [Text; 6] = [
     Text {
         name: "t/g",
         at: 220,
@@ -61,7 +61,7 @@ fn sample_texts(rt: HostRuntime) {
 }
 
 /// The text `t/m` of the sample against a key: the order, and how many bytes are read.
-const KEYS: [(&[u8], Ordering, u64); 13] = [
+static KEYS: [(&[u8], Ordering, u64); 13] = [
     (b"", Ordering::Greater, 1),
     (b"t", Ordering::Greater, 2),
     (b"t/", Ordering::Greater, 3),
@@ -106,7 +106,7 @@ struct Text {
     bytes: u64,
 }
 
-const TEXTS: [Text; 5] = [
+static TEXTS: [Text; 5] = [
     Text {
         name: "no byte",
         at: 0,
@@ -155,7 +155,7 @@ struct Order {
     bytes: u64,
 }
 
-const ORDERS: [Order; 7] = [
+static ORDERS: [Order; 7] = [
     Order {
         name: "255 bytes, the same",
         at: 3,
@@ -220,7 +220,7 @@ fn orders_of_the_longest_texts(rt: HostRuntime) {
 }
 
 /// Where no text of the sample stands.
-const PAST: [u64; 3] = [240, 241, u64::MAX];
+static PAST: [u64; 3] = [240, 241, u64::MAX];
 
 #[test]
 fn texts_past_the_end(rt: HostRuntime) {
@@ -238,7 +238,7 @@ fn texts_past_the_end(rt: HostRuntime) {
 }
 
 /// Two names, whether they are the same, and how many bytes are read.
-const NAMES: [(&[u8], &[u8], bool, u64); 5] = [
+static NAMES: [(&[u8], &[u8], bool, u64); 5] = [
     (b"", b"", true, 1),
     (b"t/m", b"t/m", true, 4),
     (b"t/m", b"t/", false, 3),

@@ -6,11 +6,11 @@ use mime_base::{ByteFault, Counted, Host, Meter};
 use std::process::Abort;
 
 /// A value of four bytes at 4 and a mask at 8.
-const MASKED: [u8; 12] = [
+static MASKED: [u8; 12] = [
     0xee, 0xee, 0xee, 0xee, 0x12, 0x34, 0x56, 0x78, 0xff, 0xf0, 0x0f, 0xff,
 ];
 
-const OF_SAMPLE: [(&str, &[u8], bool, u64); 3] = [
+static OF_SAMPLE: [(&str, &[u8], bool, u64); 3] = [
     ("equal", b"\x1f\x8b", true, 2),
     ("the last byte differs", b"\x1f\x8a", false, 2),
     ("the first byte differs", b"\x1e\x8b", false, 1),
@@ -46,7 +46,7 @@ struct Place {
     bytes: u64,
 }
 
-const PLACES: [Place; 8] = [
+static PLACES: [Place; 8] = [
     Place {
         name: "the value at the end",
         at: 240,
@@ -134,7 +134,7 @@ fn values_at_the_end(rt: HostRuntime) {
 
 /// The value of [`MASKED`], and itself with its pairs and with all its bytes turned round; then the
 /// same of what equals it under the mask.
-const WINDOWS: [[u8; 4]; 6] = [
+static WINDOWS: [[u8; 4]; 6] = [
     [0x12, 0x34, 0x56, 0x78],
     [0x34, 0x12, 0x78, 0x56],
     [0x78, 0x56, 0x34, 0x12],
@@ -164,7 +164,7 @@ const AS_IT_STANDS: &[(u32, Host)] = &[
 
 /// Computed by Python's `struct`, which reads value and mask as big-endian numbers and the window in
 /// the host's order.
-const WORDS: [Words; 6] = [
+static WORDS: [Words; 6] = [
     Words {
         name: "as it stands, no mask",
         asked: AS_IT_STANDS,
@@ -236,7 +236,7 @@ fn words_and_masks(rt: HostRuntime) {
 }
 
 /// A word, a window of six bytes, and whether it equals the value of six bytes.
-const UNDIVIDED: [(u32, &[u8], bool); 3] = [
+static UNDIVIDED: [(u32, &[u8], bool); 3] = [
     (2, &[0x34, 0x12, 0x78, 0x56, 0xf0, 0xff], true),
     (4, &[0x12, 0x34, 0x56, 0x78, 0xff, 0xf0], true),
     (4, &[0x78, 0x56, 0x34, 0x12, 0xff, 0xf0], false),

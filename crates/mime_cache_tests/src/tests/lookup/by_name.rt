@@ -20,7 +20,7 @@ const ARCHIVES: &[u8] = b"50:application/gzip:*.gz\n50:application/x-compressed-
 
 const SOURCES: &[u8] = b"50:text/x-c++src:*.C:cs\n50:text/x-csrc:*.c\n";
 
-const ROWS: [Row; 11] = [
+static ROWS: [Row; 11] = [
     Row {
         name: "no-directories",
         globs2: b"",

@@ -40,7 +40,7 @@ const OLD: Texts<'static> = Texts {
     ..EMPTY
 };
 
-const ROWS: [Row; 10] = [
+static ROWS: [Row; 10] = [
     Row {
         name: "conflict-subclass-paths",
         dirs: &[OGG],

@@ -120,7 +120,7 @@ struct Unread {
     outcome: Outcome<'static>,
 }
 
-const UNREAD: [Unread; 3] = [
+static UNREAD: [Unread; 3] = [
     Unread {
         name: "one type of the globs",
         file: b"mk",

@@ -36,7 +36,7 @@ const FAR: Texts<'static> = Texts {
     ..EMPTY
 };
 
-const ROWS: [Row; 11] = [
+static ROWS: [Row; 11] = [
     Row {
         name: "an empty value, no bytes",
         dirs: &[EMPTY_AT_0],

@@ -25,7 +25,7 @@ const NOTES: &[u8] = b"50:application/msword:*.doc\n50:text/x-notes:*.doc\n";
 
 const MAKEFILE: &[u8] = b"50:t/m:mk\n";
 
-const ROWS: [Row; 12] = [
+static ROWS: [Row; 12] = [
     Row {
         name: "no-directories",
         globs2: b"",

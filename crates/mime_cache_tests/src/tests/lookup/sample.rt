@@ -19,7 +19,7 @@ const HIGH: Texts<'static> = Texts {
     ..SAMPLE_TEXTS
 };
 
-const ROWS: [Row; 10] = [
+static ROWS: [Row; 10] = [
     Row {
         name: "sample-lookups, an ending",
         dirs: &[SAMPLE_TEXTS],

@@ -31,7 +31,7 @@ const WITH_BOTH_ICONS: Texts<'static> = Texts {
     ..WITH_ICON
 };
 
-const ROWS: [Row; 6] = [
+static ROWS: [Row; 6] = [
     Row {
         name: "nothing",
         texts: EMPTY,

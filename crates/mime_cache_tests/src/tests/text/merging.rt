@@ -38,7 +38,7 @@ const OLD: Texts<'static> = Texts {
     generic_icons: b"t/a:w\n",
 };
 
-const ROWS: [Row; 4] = [
+static ROWS: [Row; 4] = [
     Row {
         name: "no directories",
         dirs: &[],

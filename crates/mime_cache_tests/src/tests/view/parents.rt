@@ -78,9 +78,9 @@ struct Damage {
     records_left: u64,
 }
 
-const ONES: [u8; 4] = [0xff; 4];
+static ONES: [u8; 4] = [0xff; 4];
 
-const DAMAGES: [Damage; 8] = [
+static DAMAGES: [Damage; 8] = [
     Damage {
         name: "the offset of the list",
         at: 8,

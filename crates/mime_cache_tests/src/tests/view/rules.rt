@@ -37,7 +37,7 @@ const MK: Row = (50, b"t/m", b"mk", false);
 
 const GZ: Row = (50, b"t/g", b"*.gz", false);
 
-const LISTS: [Lists; 8] = [
+static LISTS: [Lists; 8] = [
     Lists {
         name: "sample",
         at: 0,
@@ -155,7 +155,7 @@ fn cut_caches(rt: HostRuntime) -> Result<(), CacheFault> {
 }
 
 /// Where four bytes of the sample are all ones, and the fault then.
-const DAMAGES: [(&str, usize, CacheFault); 12] = [
+static DAMAGES: [(&str, usize, CacheFault); 12] = [
     ("the offset of the literal list", 12, FAR),
     ("the offset of the tree", 16, FAR),
     ("the offset of the glob list", 20, FAR),

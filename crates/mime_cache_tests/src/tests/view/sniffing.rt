@@ -9,7 +9,7 @@ use mime_view::{Budget, Cache, CacheFault};
 /// A content, and the type and the priority that the sample gives it.
 type Row = (&'static [u8], Option<(&'static [u8], u32)>);
 
-const ROWS: [Row; 5] = [
+static ROWS: [Row; 5] = [
     (&[0x1f, 0x8b], Some((b"t/g", 40))),
     (&[0x1f, 0x8b, 8], Some((b"t/g", 40))),
     (&[0, 0x1f, 0x8b], None),
@@ -49,7 +49,7 @@ fn a_line_that_is_its_own_child(rt: HostRuntime) -> Result<(), CacheFault> {
 }
 
 /// Where four bytes of the sample are all ones, and the fault then.
-const DAMAGES: [(&str, usize, CacheFault); 6] = [
+static DAMAGES: [(&str, usize, CacheFault); 6] = [
     ("the offset of the list", 24, FAR),
     ("the count of sections", 148, CacheFault::OutOfRange(160)),
     ("the offset of the sections", 156, FAR),

@@ -5,7 +5,7 @@ use mime_base::{Best, Class, Pattern, class_of, rank_of};
 use std::alloc::Global;
 use std::test::Fail;
 
-const CLASSES: [(&str, &[u8], Class); 5] = [
+static CLASSES: [(&str, &[u8], Class); 5] = [
     ("no special byte", b"makefile", Class::Literal),
     ("a star alone", b"*", Class::Suffix),
     ("a star and a text", b"*.tar.gz", Class::Suffix),
@@ -40,7 +40,7 @@ struct Offers {
     kept: &'static [u8],
 }
 
-const OFFERS: [Offers; 4] = [
+static OFFERS: [Offers; 4] = [
     Offers {
         name: "no offer",
         offers: &[],

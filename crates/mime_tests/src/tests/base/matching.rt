@@ -23,7 +23,7 @@ fn are_matched(rt: &impl Abort, cased: bool, rows: &[Row]) {
     }
 }
 
-const ELEMENTS: [Row; 8] = [
+static ELEMENTS: [Row; 8] = [
     ("a negated set takes another byte", b"[!a-c]x", b"dx", true),
     ("and none of its own", b"[!a-c]x", b"bx", false),
     ("an end is a member where it is first", b"[]]", b"]", true),
@@ -66,7 +66,7 @@ fn count(pattern: &[u8], name: &[u8]) -> (bool, Option<u64>) {
 }
 
 /// Counted by hand, place by place: 'b against x' is one test, and so is 'b against the end'.
-const MATCHES: [MatchCount; 7] = [
+static MATCHES: [MatchCount; 7] = [
     MatchCount {
         name: "no star: each element",
         pattern: b"abc",
@@ -119,7 +119,7 @@ const MATCHES: [MatchCount; 7] = [
 ];
 
 /// A row for each way in which a name does not match.
-const MISMATCHES: [MatchCount; 13] = [
+static MISMATCHES: [MatchCount; 13] = [
     MatchCount {
         name: "no element",
         pattern: b"",

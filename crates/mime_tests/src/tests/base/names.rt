@@ -36,7 +36,7 @@ const BAD_PATTERN: Option<NameFault> = Some(NameFault::BadPattern);
 
 const BAD_ICON: Option<NameFault> = Some(NameFault::BadIcon);
 
-const TYPES: [(&str, &[u8], Option<NameFault>); 5] = [
+static TYPES: [(&str, &[u8], Option<NameFault>); 5] = [
     ("a type", b"t/a", None),
     ("the slash is first", b"/ab", BAD_TYPE),
     ("the slash is last", b"ab/", BAD_TYPE),
@@ -44,7 +44,7 @@ const TYPES: [(&str, &[u8], Option<NameFault>); 5] = [
     ("two bytes", b"t/", BAD_TYPE),
 ];
 
-const PATTERNS: [(&str, &[u8], Option<NameFault>); 3] = [
+static PATTERNS: [(&str, &[u8], Option<NameFault>); 3] = [
     ("a star", b"*", None),
     ("no byte", b"", BAD_PATTERN),
     ("a colon", b"a:b", BAD_PATTERN),
@@ -70,7 +70,7 @@ fn longest(rt: HostRuntime) {
     is_pattern(&rt, rt.alloc(), "256 bytes", &bytes, BAD_PATTERN);
 }
 
-const ICONS: [(&str, &[u8], Option<NameFault>); 6] = [
+static ICONS: [(&str, &[u8], Option<NameFault>); 6] = [
     ("a colon", b"a:b", None),
     ("255 bytes", &[b'a'; 255], None),
     ("no byte", b"", BAD_ICON),

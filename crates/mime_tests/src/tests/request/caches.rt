@@ -14,7 +14,7 @@ struct Asked {
     request: &'static str,
 }
 
-const LISTS: [Asked; 4] = [
+static LISTS: [Asked; 4] = [
     Asked {
         name: "usual words",
         words: &["list", "-c", "c"],
@@ -37,7 +37,7 @@ const LISTS: [Asked; 4] = [
     },
 ];
 
-const IS_AS: [Asked; 6] = [
+static IS_AS: [Asked; 6] = [
     Asked {
         name: "usual words",
         words: &["isa", "-c", "c", "t/h", "t/m"],
@@ -70,7 +70,7 @@ const IS_AS: [Asked; 6] = [
     },
 ];
 
-const ICONS: [Asked; 3] = [
+static ICONS: [Asked; 3] = [
     Asked {
         name: "usual words",
         words: &["icon", "-c", "c", "t/h"],
@@ -88,7 +88,7 @@ const ICONS: [Asked; 3] = [
     },
 ];
 
-const TYPES: [Asked; 10] = [
+static TYPES: [Asked; 10] = [
     Asked {
         name: "no flag",
         words: &["type", "-c", "c", "x", "y"],

@@ -31,7 +31,7 @@ struct Help {
     first_line: &'static str,
 }
 
-const HELPS: [Help; 10] = [
+static HELPS: [Help; 10] = [
     Help {
         name: "help",
         words: &["--help"],

@@ -18,7 +18,7 @@ struct Refused {
     kind: ErrorKind,
 }
 
-const REFUSED: [Refused; 24] = [
+static REFUSED: [Refused; 24] = [
     Refused {
         name: "no words",
         words: &[],
@@ -183,7 +183,7 @@ struct Mistake {
     text: &'static str,
 }
 
-const MISTAKES: [Mistake; 2] = [
+static MISTAKES: [Mistake; 2] = [
     Mistake {
         name: "unknown command",
         words: &["sniff", "x"],

@@ -12,7 +12,7 @@ struct Built {
     file: &'static str,
 }
 
-const BUILT: [Built; 7] = [
+static BUILT: [Built; 7] = [
     Built {
         name: "two directories",
         words: &["build", "-d", "b:a", "-o", "c"],
@@ -97,7 +97,7 @@ struct Asked {
     files: &'static [&'static str],
 }
 
-const ASKED: [Asked; 15] = [
+static ASKED: [Asked; 15] = [
     Asked {
         name: "no directory",
         words: &["plain", "--name-only", "-d", "", "a"],

@@ -15,7 +15,7 @@ struct Row {
     skipped: &'static [u64],
 }
 
-const ROWS: [Row; 6] = [
+static ROWS: [Row; 6] = [
     Row {
         name: "globs2-lines",
         text: b"50:t/a\n300:t/a:*.x\n50:t/a:*.y:cs,zz:more",

@@ -13,7 +13,7 @@ struct Row {
     skipped: &'static [u64],
 }
 
-const ROWS: [Row; 4] = [
+static ROWS: [Row; 4] = [
     Row {
         name: "colons in a name",
         text: b"t/a:x\n:y\nt/a:\n# z\nt/b:c:d",

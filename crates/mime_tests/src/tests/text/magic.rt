@@ -19,7 +19,7 @@ struct Row {
     deleted: &'static [&'static [u8]],
 }
 
-const ROWS: [Row; 10] = [
+static ROWS: [Row; 10] = [
     Row {
         name: "no bytes",
         text: b"",

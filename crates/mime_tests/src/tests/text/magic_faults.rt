@@ -14,7 +14,7 @@ struct Row {
     message: &'static str,
 }
 
-const ROWS: [Row; 10] = [
+static ROWS: [Row; 10] = [
     Row {
         name: "four bytes in place of the header",
         text: b"MIME",

@@ -13,7 +13,7 @@ struct Row {
     skipped: &'static [u64],
 }
 
-const ROWS: [Row; 4] = [
+static ROWS: [Row; 4] = [
     Row {
         name: "first-alias-pair",
         text: b"a/b c/d\nx y\na/b e/f\n# z",

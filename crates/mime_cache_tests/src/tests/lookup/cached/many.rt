@@ -28,7 +28,7 @@ fn is_searched(alloc: Global, cache: &[u8], file: &[u8], kind: &[u8]) -> Result<
     Ok(answer.kind == kind && (9..=192).contains(&answer.meter.nodes))
 }
 
-const FILES: [(&str, &[u8], &[u8]); 4] = [
+static FILES: [(&str, &[u8], &[u8]); 4] = [
     ("q", b"q", b"application/octet-stream"),
     ("f0", b"f0", b"t/a"),
     ("F999", b"F999", b"t/a"),

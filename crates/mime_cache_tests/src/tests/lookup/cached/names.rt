@@ -2,7 +2,7 @@
 
 use super::{Row, are_answered, look_up_over};
 use crate::tests::checked::alike;
-use crate::tests::sample::{PLAIN_LAYOUT, SAMPLE};
+use crate::tests::sample::{PLAIN_LAYOUT, SAMPLE_BYTES};
 use mime_base::{Host, Meter};
 use mime_lookup::{Cause, Order, Stopped};
 use mime_view::CacheFault;
@@ -10,10 +10,10 @@ use std::test::Fail;
 
 const GZIP: Option<&[u8]> = Some(&[0x1f, 0x8b, 8]);
 
-const ROWS: [Row<'static>; 9] = [
+static ROWS: [Row<'static>; 9] = [
     Row {
         name: "sample-lookups, an ending",
-        cache: &SAMPLE,
+        cache: &SAMPLE_BYTES,
         file: b"A.GZ",
         content: None,
         order: Order::GlobsFirst,
@@ -21,7 +21,7 @@ const ROWS: [Row<'static>; 9] = [
     },
     Row {
         name: "sample-lookups, a literal",
-        cache: &SAMPLE,
+        cache: &SAMPLE_BYTES,
         file: b"mk",
         content: None,
         order: Order::GlobsFirst,
@@ -29,7 +29,7 @@ const ROWS: [Row<'static>; 9] = [
     },
     Row {
         name: "sample-lookups, by its content",
-        cache: &SAMPLE,
+        cache: &SAMPLE_BYTES,
         file: b"x",
         content: GZIP,
         order: Order::GlobsFirst,
@@ -37,7 +37,7 @@ const ROWS: [Row<'static>; 9] = [
     },
     Row {
         name: "name-too-long, 4,096 bytes",
-        cache: &SAMPLE,
+        cache: &SAMPLE_BYTES,
         file: &[b'a'; 4096],
         content: None,
         order: Order::GlobsFirst,

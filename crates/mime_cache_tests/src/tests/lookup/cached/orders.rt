@@ -17,7 +17,7 @@ struct Priority {
 
 const GZIP: Option<&[u8]> = Some(&[0x1f, 0x8b, 8]);
 
-const PRIORITIES: [Priority; 4] = [
+static PRIORITIES: [Priority; 4] = [
     Priority {
         name: "priority 40",
         priority: 40,

@@ -18,13 +18,13 @@ struct Row<'a> {
     outcome: Outcome<'static>,
 }
 
-const PIECES: [Step<'static>; 3] = [
+static PIECES: [Step<'static>; 3] = [
     Step::Piece(&[0x1f]),
     Step::Piece(&[0x8b]),
     Step::Piece(&[8]),
 ];
 
-const ROWS: [Row<'static>; 5] = [
+static ROWS: [Row<'static>; 5] = [
     Row {
         name: "an ending, a read that fails",
         file: b"A.GZ",
@@ -109,7 +109,7 @@ fn with(step: Step<'static>, at: usize) -> [Step<'static>; 4] {
 }
 
 /// The reads of the three pieces, and how many bytes came before.
-const READS: [(&str, u64); 4] = [
+static READS: [(&str, u64); 4] = [
     ("the first read", 0),
     ("the second read", 1),
     ("the third read", 2),

@@ -3,7 +3,7 @@
 use super::{Refused, are_refused};
 use clap::error::ErrorKind;
 
-const REFUSED: [Refused; 23] = [
+static REFUSED: [Refused; 23] = [
     Refused {
         name: "no words after list",
         words: &["list"],
