@@ -2,12 +2,13 @@
 //! through the same readers where they tell nothing.
 
 use super::cached::look_up_in;
-use super::{Asked, Outcome, are_answered_alike, look_up_lists};
+use super::{Asked, Outcome, are_answered_alike, is_outcome, look_up_lists};
 use crate::tests::checked::alike;
-use crate::tests::texts::of_rules;
+use crate::tests::texts::{EMPTY, Texts, of_rules};
 use mime_base::Host;
 use mime_lookup::{Cause, Order, Script, Step, Untold};
 use mime_store::write_cache;
+use mime_tool::{AnswerFault, answer};
 use std::alloc::Global;
 use std::process::Abort;
 use std::test::Fail;
@@ -143,7 +144,41 @@ fn is_answered(rt: &impl Abort, alloc: Global, row: &Row) -> Result<(), Fail> {
     let told = row.content.map(Script::new);
     are_answered_alike(rt, alloc, &database, &asked, (told, told))?;
     let untold = (told.map(Untold), told.map(Untold));
-    are_answered_alike(rt, alloc, &database, &asked, untold)
+    are_answered_alike(rt, alloc, &database, &asked, untold)?;
+    is_answered_from_texts(rt, alloc, row, told)
+}
+
+/// A row is answered by its outcome from the text of one directory in one run.
+fn is_answered_from_texts(
+    rt: &impl Abort,
+    alloc: Global,
+    row: &Row,
+    told: Option<Script<'_>>,
+) -> Result<(), Fail> {
+    let dirs = [Texts {
+        globs2: row.globs2,
+        ..EMPTY
+    }];
+    let mut content = told;
+    match answer(
+        alloc,
+        &dirs,
+        row.file,
+        &mut content,
+        Host::Little,
+        row.order,
+    ) {
+        Err(AnswerFault::Lookup(stopped)) => {
+            let found = Err((stopped.cause, stopped.read));
+            is_outcome(rt, row.name, "from texts", found, row.outcome);
+        }
+        found => {
+            let found = found?;
+            let found = Ok((found.kind.as_slice(), found.read));
+            is_outcome(rt, row.name, "from texts", found, row.outcome);
+        }
+    }
+    Ok(())
 }
 
 #[test]
