@@ -77,7 +77,7 @@ const WHOLE: Budget = Budget {
 fn are_aliases(rt: &impl Abort, cache: &Cache<'_>) {
     let mut meter = Meter::new();
     let mut budget = Budget::of(cache);
-    for (kind, name) in ALIASES {
+    for &(kind, name) in &ALIASES {
         let given = cache.unalias(kind, &mut meter, &mut budget);
         alike(rt, "alias", (kind, given), (kind, Ok(name)));
     }

@@ -216,7 +216,7 @@ fn numbers_at_the_end(rt: HostRuntime) {
     let mut meter = Meter::new();
     are_read(&rt, &sample, &mut meter, &LAST);
     are_read(&rt, &sample, &mut meter, &NONE);
-    for at in PAST {
+    for &at in &PAST {
         let fault = ByteFault::OutOfRange(at);
         let numbers = sample.cards::<1>(at, &mut meter);
         alike(&rt, "past the end", numbers, Err(fault));

@@ -80,7 +80,7 @@ static KEYS: [(&[u8], Ordering, u64); 13] = [
 #[test]
 fn orders_of_a_text(rt: HostRuntime) {
     let sample = Counted::new(&SAMPLE);
-    for (key, order, bytes) in KEYS {
+    for &(key, order, bytes) in &KEYS {
         let mut meter = Meter::new();
         let found = sample.compare_text(224, key, &mut meter);
         alike(&rt, "against a key", (key, found), (key, Ok(order)));
@@ -226,7 +226,7 @@ static PAST: [u64; 3] = [240, 241, u64::MAX];
 fn texts_past_the_end(rt: HostRuntime) {
     let sample = Counted::new(&SAMPLE);
     let mut meter = Meter::new();
-    for at in PAST {
+    for &at in &PAST {
         let fault = ByteFault::OutOfRange(at);
         alike(&rt, "text", sample.text_at(at, &mut meter), Err(fault));
         let order = sample.compare_text(at, b"t/m", &mut meter);
@@ -248,11 +248,16 @@ static NAMES: [(&[u8], &[u8], bool, u64); 5] = [
 
 #[test]
 fn names_compared(rt: HostRuntime) {
-    for (left, right, same, bytes) in NAMES {
+    for &(left, right, same, bytes) in &NAMES {
         let mut meter = Meter::new();
         let found = same_name(left, right, &mut meter);
-        let counted = (found, meter.nodes, meter.bytes);
-        let names = (left, right);
-        alike(&rt, "names", (names, counted), (names, (same, 0, bytes)));
+        alike(&rt, "names", (left, right, found), (left, right, same));
+        let counted = (meter.nodes, meter.bytes);
+        alike(
+            &rt,
+            "names",
+            (left, right, counted),
+            (left, right, (0, bytes)),
+        );
     }
 }

@@ -19,7 +19,7 @@ static OF_SAMPLE: [(&str, &[u8], bool, u64); 3] = [
 #[test]
 fn sample_value(rt: HostRuntime) {
     let sample = Counted::new(&SAMPLE);
-    for (name, window, equal, bytes) in OF_SAMPLE {
+    for &(name, window, equal, bytes) in &OF_SAMPLE {
         let mut meter = Meter::new();
         let answer = sample.value_equals(236, 0, 2, 1, window, Host::Little, &mut meter);
         alike(&rt, name, answer, Ok(equal));
@@ -245,7 +245,7 @@ static UNDIVIDED: [(u32, &[u8], bool); 3] = [
 #[test]
 fn words_that_do_not_divide(rt: HostRuntime) {
     let cache = Counted::new(&MASKED);
-    for (word, window, equal) in UNDIVIDED {
+    for &(word, window, equal) in &UNDIVIDED {
         let mut meter = Meter::new();
         let answer = cache.value_equals(4, 0, 6, word, window, Host::Little, &mut meter);
         alike(&rt, "a window", (window, answer), (window, Ok(equal)));

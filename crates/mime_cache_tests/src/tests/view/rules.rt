@@ -186,7 +186,7 @@ const FAR: CacheFault = CacheFault::OutOfRange(4_294_967_295);
 
 #[test]
 fn damaged_rules(rt: HostRuntime) -> Result<(), CacheFault> {
-    for (name, at, fault) in DAMAGES {
+    for &(name, at, fault) in &DAMAGES {
         let bytes = damaged(at);
         let (rules, _) = rules_of(rt.alloc(), &bytes);
         alike(&rt, name, rules.err(), Some(fault));

@@ -21,7 +21,7 @@ static ROWS: [Row; 5] = [
 fn contents_of_the_sample(rt: HostRuntime) -> Result<(), CacheFault> {
     let mut meter = Meter::new();
     let cache = Cache::open(Counted::new(&SAMPLE), &mut meter)?;
-    for (content, given) in ROWS {
+    for &(content, given) in &ROWS {
         let mut budget = Budget::of(&cache);
         let found = cache.sniff(content, Host::Little, &mut meter, &mut budget)?;
         alike(&rt, "found", (content, found), (content, given));
@@ -60,7 +60,7 @@ static DAMAGES: [(&str, usize, CacheFault); 6] = [
 
 #[test]
 fn damaged_magic(rt: HostRuntime) -> Result<(), CacheFault> {
-    for (name, at, fault) in DAMAGES {
+    for &(name, at, fault) in &DAMAGES {
         let bytes = damaged(at);
         let mut meter = Meter::new();
         let cache = Cache::open(Counted::new(&bytes), &mut meter)?;

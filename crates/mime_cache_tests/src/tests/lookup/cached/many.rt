@@ -38,7 +38,7 @@ static FILES: [(&str, &[u8], &[u8]); 4] = [
 #[test]
 fn literals_are_searched(rt: HostRuntime) -> Result<(), Fail> {
     let cache = of_a_thousand(rt.alloc())?;
-    for (name, file, kind) in FILES {
+    for &(name, file, kind) in &FILES {
         let found = is_searched(rt.alloc(), &cache, file, kind)?;
         alike(&rt, name, found, true);
     }
