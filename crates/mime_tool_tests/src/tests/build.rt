@@ -10,7 +10,7 @@ use std::process::Abort;
 use std::test::Fail;
 
 // The text files of the directories, in the order in which they are read.
-const DATA: [&str; 12] = [
+static DATA: [&str; 12] = [
     "/d/mime/globs2",
     "/d/mime/magic",
     "/d/mime/aliases",
@@ -31,7 +31,7 @@ const ENTRIES: &[(&str, Entry<'static>)] = &[
     ("/c", Entry::Bytes(b"old")),
 ];
 
-const WORDS: [&str; 5] = ["build", "-d", "/d:/e", "-o", "/c"];
+static WORDS: [&str; 5] = ["build", "-d", "/d:/e", "-o", "/c"];
 
 const IGNORED: &str = "mimelook: /d/mime/globs2: line 2 ignored\n";
 
@@ -54,12 +54,12 @@ fn rule(alloc: Global, weight: u8, kind: &[u8], pattern: &[u8]) -> Result<GlobRu
     })
 }
 
-const RULES: [(u8, &[u8], &[u8]); 2] = [(50, b"t/a", b"*.a"), (60, b"t/b", b"*.b")];
+static RULES: [(u8, &[u8], &[u8]); 2] = [(50, b"t/a", b"*.a"), (60, b"t/b", b"*.b")];
 
 // The rules of both directories.
 fn rules_of_both(alloc: Global) -> Result<Vec<GlobRule>, Fail> {
     let mut rules = Vec::new(alloc);
-    for (weight, kind, pattern) in RULES {
+    for &(weight, kind, pattern) in &RULES {
         let rule = rule(alloc, weight, kind, pattern)?;
         rules.push(rule)?;
     }

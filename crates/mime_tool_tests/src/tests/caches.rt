@@ -93,7 +93,7 @@ fn changed(at: usize, byte: u8) -> [u8; 240] {
     cache
 }
 
-const ZEROS: [u8; 960] = [0; 960];
+static ZEROS: [u8; 960] = [0; 960];
 
 fn bytes_of(alloc: Global, cache: &Cache) -> Result<Vec<u8>, Fail> {
     let sample = changed(cache.at, cache.byte);

@@ -48,7 +48,7 @@ const SIGNED: &[u8] = b"SIG and more";
 
 const HELLO: &[u8] = b"hello";
 
-const BY_CONTENT: [Row; 3] = [
+static BY_CONTENT: [Row; 3] = [
     Row {
         name: "no rules",
         words: &["plain", "-d", "", "e", "t", "b", "l"],
@@ -92,7 +92,7 @@ fn answers_by_content(rt: HostRuntime) -> Result<(), Fail> {
     are_answered(&rt, rt.alloc(), &BY_CONTENT)
 }
 
-const IN_ORDER: [Row; 4] = [
+static IN_ORDER: [Row; 4] = [
     Row {
         name: "globs before magic",
         words: &["plain", "-d", "/s", "x.a", "x"],
@@ -160,7 +160,7 @@ fn asks_globs_or_magic_first(rt: HostRuntime) -> Result<(), Fail> {
     are_answered(&rt, rt.alloc(), &IN_ORDER)
 }
 
-const OF_DIRECTORIES: [Row; 2] = [
+static OF_DIRECTORIES: [Row; 2] = [
     Row {
         name: "the first of several directories is preferred",
         words: &["plain", "-d", "/s:/u", "--name-only", "x.a", "x.b"],
@@ -190,7 +190,7 @@ fn prefers_the_first_directory(rt: HostRuntime) -> Result<(), Fail> {
     are_answered(&rt, rt.alloc(), &OF_DIRECTORIES)
 }
 
-const WITHOUT_A_LINE: [Row; 5] = [
+static WITHOUT_A_LINE: [Row; 5] = [
     Row {
         name: "a FILE that can't be opened",
         words: &["plain", "-d", "/s", "x.a", "y.a", "z"],

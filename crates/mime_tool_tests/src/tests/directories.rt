@@ -6,7 +6,7 @@ use std::alloc::Global;
 use std::process::Abort;
 use std::test::Fail;
 
-const WORDS: [&str; 5] = ["plain", "--name-only", "-d", "/b", "x.a"];
+static WORDS: [&str; 5] = ["plain", "--name-only", "-d", "/b", "x.a"];
 
 struct Row {
     name: &'static str,
@@ -42,7 +42,7 @@ mimelook: /b/mime/icons: line 2 ignored
 mimelook: /b/mime/generic-icons: line 2 ignored
 ";
 
-const WRONG: [Row; 4] = [
+static WRONG: [Row; 4] = [
     Row {
         name: "each file's lines, in the order of the files",
         entries: &MALFORMED,
@@ -98,7 +98,7 @@ fn says_what_is_wrong_with_a_directory(rt: HostRuntime) -> Result<(), Fail> {
 }
 
 // Texts of magic after the header, and what is said of each. Offsets count the header's 12 bytes.
-const FAULTS: [(&[u8], &str); 6] = [
+static FAULTS: [(&[u8], &str); 6] = [
     (b"[50:t/a]\n>0=\0\x01", "truncated at 26"),
     (b"50:t/a]\n", "bad section at 12"),
     (b"[50:t/a]\n>0x\0\x01a\n", "bad number at 22"),
@@ -128,7 +128,7 @@ fn magic_of(alloc: Global, text: &[u8]) -> Result<Vec<u8>, Fail> {
 
 #[test]
 fn names_faults_of_magic(rt: HostRuntime) -> Result<(), Fail> {
-    for (text, fault) in FAULTS {
+    for &(text, fault) in &FAULTS {
         let magic = magic_of(rt.alloc(), text)?;
         is_refused(&rt, rt.alloc(), &magic, fault)?;
     }

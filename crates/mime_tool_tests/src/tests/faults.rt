@@ -13,10 +13,10 @@ const ENTRIES: &[(&str, Entry<'static>)] = &[(
     Entry::Bytes(b"50:t/a:*.a\nnothing\n"),
 )];
 
-const WORDS: [&str; 7] = ["plain", "--name-only", "-d", "/s", "x.a", "y", "z.a"];
+static WORDS: [&str; 7] = ["plain", "--name-only", "-d", "/s", "x.a", "y", "z.a"];
 
 // What is put on standard output, call by call; after it comes the flush.
-const PIECES: [&str; 12] = [
+static PIECES: [&str; 12] = [
     "x.a",
     ": ",
     "t/a",
@@ -51,14 +51,14 @@ const OUT_OF_MEMORY: Said<'static> = Said {
     err: NO_MEMORY,
 };
 
-const OF_FILES: [(&str, FileFault, Said<'static>); 2] = [
+static OF_FILES: [(&str, FileFault, Said<'static>); 2] = [
     ("failed", FileFault::Failed, CANNOT_READ),
     ("no memory", FileFault::OutOfMemory, OUT_OF_MEMORY),
 ];
 
 #[test]
 fn names_what_files_fail_with(rt: HostRuntime) -> Result<(), Fail> {
-    for (name, fault, wanted) in OF_FILES {
+    for &(name, fault, wanted) in &OF_FILES {
         let mut files = FailingFiles(fault);
         says(&rt, rt.alloc(), name, &WORDS, &mut files, wanted)?;
     }
@@ -94,7 +94,7 @@ struct Row {
     message: &'static str,
 }
 
-const FAULTS: [Row; 4] = [
+static FAULTS: [Row; 4] = [
     Row {
         name: "one fault",
         times: 1,
@@ -196,7 +196,7 @@ struct Message {
 }
 
 // A message is two calls: its bytes, and a flush.
-const MESSAGES: [Message; 4] = [
+static MESSAGES: [Message; 4] = [
     Message {
         name: "a fault of the bytes",
         fault: SinkFault::Failed,

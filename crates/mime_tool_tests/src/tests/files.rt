@@ -8,7 +8,7 @@ use std::process::Abort;
 use std::test::Fail;
 
 // The text files of a directory, in the order in which they are read.
-const DATA: [&str; 6] = [
+static DATA: [&str; 6] = [
     "globs2",
     "magic",
     "aliases",
@@ -17,11 +17,11 @@ const DATA: [&str; 6] = [
     "generic-icons",
 ];
 
-const NAMES: [&str; 3] = ["x.a", "y", "z.a"];
+static NAMES: [&str; 3] = ["x.a", "y", "z.a"];
 
-const LINES: [&str; 3] = ["x.a: t/a\n", "y: text/plain\n", "z.a: t/a\n"];
+static LINES: [&str; 3] = ["x.a: t/a\n", "y: text/plain\n", "z.a: t/a\n"];
 
-const WORDS: [&str; 6] = ["plain", "-d", "/s", "x.a", "y", "z.a"];
+static WORDS: [&str; 6] = ["plain", "-d", "/s", "x.a", "y", "z.a"];
 
 const ENTRIES: &[(&str, Entry<'static>)] = &[
     ("/s/mime/globs2", Entry::Bytes(b"50:t/a:*.a\n")),

@@ -19,7 +19,7 @@ const NOTHING: DirBytes<'static> = DirBytes {
 };
 
 /// A long suffix beside a short one.
-const TARS: [DirBytes<'static>; 1] = [DirBytes {
+static TARS: [DirBytes<'static>; 1] = [DirBytes {
     globs2: b"50:application/gzip:*.gz\n50:application/x-compressed-tar:*.tar.gz\n",
     magic: b"",
     aliases: b"",
@@ -29,7 +29,7 @@ const TARS: [DirBytes<'static>; 1] = [DirBytes {
 }];
 
 /// A marker, and a rule of its type in a less preferred directory.
-const MARKED: [DirBytes<'static>; 2] = [
+static MARKED: [DirBytes<'static>; 2] = [
     DirBytes {
         globs2: b"0:t/a:__NOGLOBS__\n50:t/a:*.new\n",
         magic: b"",
@@ -49,7 +49,7 @@ const MARKED: [DirBytes<'static>; 2] = [
 ];
 
 /// Two types of one name, of which the second leads to what is sniffed.
-const OGG: [DirBytes<'static>; 1] = [DirBytes {
+static OGG: [DirBytes<'static>; 1] = [DirBytes {
     globs2: b"50:audio/ogg:*.ogg\n50:video/ogg:*.ogg\n",
     magic: b"MIME-Magic\0\n[50:application/ogg]\n>0=\0\x04OggS\n",
     aliases: b"",
@@ -142,7 +142,7 @@ fn types_that_conflict(rt: HostRuntime) -> Result<(), Fail> {
 }
 
 /// The second directory's magic is refused.
-const REFUSED: [DirBytes<'static>; 2] = [
+static REFUSED: [DirBytes<'static>; 2] = [
     NOTHING,
     DirBytes {
         globs2: b"",
@@ -166,7 +166,7 @@ fn a_refused_magic_is_named(rt: HostRuntime) {
 }
 
 /// A name one byte past the limit.
-const LONG: [u8; 4_097] = [b'a'; 4_097];
+static LONG: [u8; 4_097] = [b'a'; 4_097];
 
 #[test]
 fn a_name_may_be_too_long(rt: HostRuntime) {

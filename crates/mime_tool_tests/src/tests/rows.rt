@@ -19,7 +19,7 @@ const GLOBS: &[u8] = b"50:text/x-readme:readme*\n50:t/a:*.a\n";
 
 const TYPED: &str = "x/README: text/x-readme\ny.a: t/a\nz: application/octet-stream\n";
 
-const PRINTED: [Row; 5] = [
+static PRINTED: [Row; 5] = [
     Row {
         name: "the stored run",
         words: &["plain", "--name-only", "-d", "", "a"],
@@ -88,7 +88,7 @@ fn prints_each_row(rt: HostRuntime) -> Result<(), Fail> {
 }
 
 // Worked rows of the rules that are kept, each a text of rules, a file and its type.
-const KEPT: [(&str, &str, &str); 14] = [
+static KEPT: [(&str, &str, &str); 14] = [
     ("", "a", "application/octet-stream"),
     ("50:inode/x:*.a\n50:t/b:*.a\n", "q.a", "t/b"),
     ("50:t/any:*\n", "x/", "t/any"),
@@ -132,7 +132,7 @@ fn is_answered(
 
 #[test]
 fn answers_by_the_kept_rules(rt: HostRuntime) -> Result<(), Fail> {
-    for (globs, file, kind) in KEPT {
+    for &(globs, file, kind) in &KEPT {
         is_answered(&rt, rt.alloc(), globs, file, kind)?;
     }
     Ok(())

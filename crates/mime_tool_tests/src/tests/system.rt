@@ -35,7 +35,7 @@ const REFUSED: Result<(), FileFault> = Err(FileFault::Failed);
 
 const NO_ROOM: Result<(), FileFault> = Err(FileFault::OutOfMemory);
 
-const PATHS: [Opening<&str>; 4] = [
+static PATHS: [Opening<&str>; 4] = [
     ("/dev/null", Ok(())),
     ("/", Ok(())),
     ("/dev/no-such-file", REFUSED),
@@ -45,7 +45,7 @@ const PATHS: [Opening<&str>; 4] = [
 #[test]
 fn opens_whatever_can_be_opened(rt: HostRuntime) {
     let mut files = SystemFiles::new(&rt);
-    for (path, want) in PATHS {
+    for &(path, want) in &PATHS {
         let opened = files.open(rt.alloc(), path).map(|_| ());
         alike(&rt, path, opened, want);
     }
@@ -55,7 +55,7 @@ const DENIED: ErrorKind = ErrorKind::PermissionDenied;
 
 const MEMORY: ErrorKind = ErrorKind::OutOfMemory;
 
-const DISKS: [(&str, Opening<Disk>); 11] = [
+static DISKS: [(&str, Opening<Disk>); 11] = [
     ("missing", (Disk::Hides(ErrorKind::NotFound), REFUSED)),
     ("gone since", (Disk::Fails(ErrorKind::NotFound), REFUSED)),
     ("hidden", (Disk::Hides(DENIED), REFUSED)),
@@ -92,7 +92,7 @@ const UNREADABLE: Disk = Disk::Gives(Opened {
 // Opening looks at what a file is and at the opening, and not at the size.
 #[test]
 fn names_what_opening_fails_with(rt: HostRuntime) {
-    for (name, (disk, want)) in DISKS {
+    for &(name, (disk, want)) in &DISKS {
         let opened = SystemFiles::new(&disk).open(rt.alloc(), "a").map(|_| ());
         alike(&rt, name, opened, want);
     }
@@ -113,7 +113,7 @@ struct Whole {
     want: Result<bool, FileFault>,
 }
 
-const WHOLE: [Whole; 19] = [
+static WHOLE: [Whole; 19] = [
     Whole {
         name: "missing",
         disk: Disk::Hides(ErrorKind::NotFound),
@@ -263,7 +263,7 @@ type Reading = (
     Result<usize, FileFault>,
 );
 
-const READS: [Reading; 10] = [
+static READS: [Reading; 10] = [
     ("a limit of 0", 0, &[Step::Bytes(1)], Err(FileFault::Failed)),
     ("nothing", 9, &[], Ok(0)),
     ("up to the limit", 9, &[Step::Bytes(9)], Ok(9)),
@@ -321,14 +321,14 @@ const READS: [Reading; 10] = [
 
 #[test]
 fn reads_whole_files_up_to_their_limits(rt: HostRuntime) {
-    for (name, limit, steps, want) in READS {
+    for &(name, limit, steps, want) in &READS {
         let read = read_whole(rt.alloc(), limit, &mut Script::new(steps));
         alike(&rt, name, read.map(|bytes| bytes.len()), want);
     }
 }
 
 // A stream that is given two bytes.
-const PUTS: [(&str, &[Step], Result<(), SinkFault>); 6] = [
+static PUTS: [(&str, &[Step], Result<(), SinkFault>); 6] = [
     ("both are taken", &[Step::Bytes(2)], Ok(())),
     ("one is taken", &[Step::Bytes(1)], Err(SinkFault::Failed)),
     (
@@ -354,7 +354,7 @@ const PUTS: [(&str, &[Step], Result<(), SinkFault>); 6] = [
 ];
 
 // A stream that is flushed.
-const FLUSHES: [(&str, &[Step], Result<(), SinkFault>); 4] = [
+static FLUSHES: [(&str, &[Step], Result<(), SinkFault>); 4] = [
     ("it is flushed", &[], Ok(())),
     (
         "a fault",
@@ -375,7 +375,7 @@ const FLUSHES: [(&str, &[Step], Result<(), SinkFault>); 4] = [
 
 /// Two bytes are put on streams of these steps.
 fn are_put(rt: &impl Abort) {
-    for (name, steps, want) in PUTS {
+    for &(name, steps, want) in &PUTS {
         let mut stream = Stream(Script::new(steps));
         alike(rt, name, stream.put(b"hi"), want);
     }
@@ -383,7 +383,7 @@ fn are_put(rt: &impl Abort) {
 
 /// Streams of these steps are flushed.
 fn are_flushed(rt: &impl Abort) {
-    for (name, steps, want) in FLUSHES {
+    for &(name, steps, want) in &FLUSHES {
         let mut stream = Stream(Script::new(steps));
         alike(rt, name, stream.flush(), want);
     }
@@ -401,7 +401,7 @@ fn passes_on_each_failure_of_a_stream(rt: HostRuntime) {
 }
 
 /// Files that fail or give so, and the fault of replacing one.
-const REPLACED: [(&str, Disk, FileFault); 3] = [
+static REPLACED: [(&str, Disk, FileFault); 3] = [
     ("denied", Disk::Fails(DENIED), FileFault::Failed),
     ("no memory", Disk::Fails(MEMORY), FileFault::OutOfMemory),
     ("no write", EMPTY, FileFault::Failed),
@@ -414,7 +414,7 @@ const EMPTY: Disk = Disk::Gives(Opened {
 
 /// Each disk gives its fault.
 fn are_not_replaced(rt: &impl Abort, alloc: Global) {
-    for (name, disk, want) in REPLACED {
+    for &(name, disk, want) in &REPLACED {
         let mut files = SystemFiles::new(&disk);
         let fault = files.replace(alloc, "c.new", "c", b"x");
         alike(rt, name, fault, Err(want));

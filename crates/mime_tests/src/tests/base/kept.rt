@@ -15,7 +15,7 @@ static CLASSES: [(&str, &[u8], Class); 5] = [
 
 #[test]
 fn classes(rt: HostRuntime) -> Result<(), Fail> {
-    for (name, text, class) in CLASSES {
+    for &(name, text, class) in &CLASSES {
         let pattern = Pattern::new(rt.alloc(), text)?;
         alike(&rt, name, class_of(&pattern), class);
     }

@@ -52,10 +52,10 @@ static PATTERNS: [(&str, &[u8], Option<NameFault>); 3] = [
 
 #[test]
 fn name_limits(rt: HostRuntime) {
-    for (name, bytes, fault) in TYPES {
+    for &(name, bytes, fault) in &TYPES {
         is_type(&rt, rt.alloc(), name, bytes, fault);
     }
-    for (name, bytes, fault) in PATTERNS {
+    for &(name, bytes, fault) in &PATTERNS {
         is_pattern(&rt, rt.alloc(), name, bytes, fault);
     }
 }
@@ -81,7 +81,7 @@ static ICONS: [(&str, &[u8], Option<NameFault>); 6] = [
 
 #[test]
 fn icon_names(rt: HostRuntime) {
-    for (name, bytes, fault) in ICONS {
+    for &(name, bytes, fault) in &ICONS {
         is_icon(&rt, rt.alloc(), name, bytes, fault);
     }
 }

@@ -3,7 +3,7 @@
 use super::{Cache, ROW, Row, WHOLE, are_answered};
 use std::test::Fail;
 
-const ANSWERS: [Row; 8] = [
+static ANSWERS: [Row; 8] = [
     Row {
         name: "the rules of both lists",
         words: &["list", "-c", "/c"],

@@ -53,7 +53,7 @@ const NO_ROOM: Row = Row {
     ..ROW
 };
 
-const ROWS: [Row; 15] = [
+static ROWS: [Row; 15] = [
     Row {
         name: "list, no cache",
         words: LIST,
@@ -175,7 +175,7 @@ struct Puts {
     said: &'static str,
 }
 
-const PUTS: [Puts; 4] = [
+static PUTS: [Puts; 4] = [
     Puts {
         name: "list",
         words: LIST,
@@ -207,7 +207,7 @@ const PUTS: [Puts; 4] = [
 /// A fault of standard output, and how the run stops then.
 type Stop = (SinkFault, u8, &'static str);
 
-const STOPS: [Stop; 2] = [
+static STOPS: [Stop; 2] = [
     (SinkFault::Failed, 3, CANNOT_WRITE),
     (SinkFault::OutOfMemory, 4, NO_MEMORY),
 ];
@@ -281,7 +281,7 @@ struct Message {
     err: &'static str,
 }
 
-const MESSAGES: [Message; 4] = [
+static MESSAGES: [Message; 4] = [
     Message {
         name: "a fault of the bytes",
         fault: SinkFault::Failed,

@@ -5,7 +5,7 @@ use crate::Entry;
 use crate::tests::ran::{Said, says_over};
 use std::test::Fail;
 
-const FILES: [Row; 2] = [
+static FILES: [Row; 2] = [
     Row {
         name: "files without an answer are passed over",
         words: &["type", "-c", "/c", "/missing", "/x", "/folder", "/mk"],

@@ -101,7 +101,7 @@ Example:
 
 const VERSION: &str = "mimelook 0.1.0\n";
 
-const HELPS: [Row<'static>; 6] = [
+static HELPS: [Row<'static>; 6] = [
     Row {
         name: "help",
         words: &["--help"],

@@ -83,7 +83,7 @@ Usage: mimelook plain -d DIRS [--name-only] [--magic-first] FILE...
 For more information, try '--help'.
 ";
 
-const MISTAKES: [Row<'static>; 9] = [
+static MISTAKES: [Row<'static>; 9] = [
     Row {
         name: "no command",
         words: &[],

@@ -114,7 +114,7 @@ Example:
   notes.txt: text/plain
 ";
 
-const HELPS: [Row<'static>; 4] = [
+static HELPS: [Row<'static>; 4] = [
     Row {
         name: "help of list",
         words: &["list", "--help"],

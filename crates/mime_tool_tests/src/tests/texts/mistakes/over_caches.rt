@@ -90,7 +90,7 @@ Usage: mimelook type -c CACHE [--name-only] [--cost] [--magic-first] FILE...
 For more information, try '--help'.
 ";
 
-const MISTAKES: [Row<'static>; 10] = [
+static MISTAKES: [Row<'static>; 10] = [
     Row {
         name: "list alone",
         words: &["list"],
