@@ -65,6 +65,7 @@ impl<'a> Texts<'a> {
             Held::Many(texts) => texts,
         }
     }
+
     /// Puts a text in the place of another, counted from 0. It takes no memory.
     pub fn replace(&mut self, place: usize, text: &'a [u8])
         requires { place < length self.old }
