@@ -201,6 +201,7 @@ fn open_and_find<'a, R: Content>(
 }
 
 // The content is looked at only where the globs conflict or are silent.
+#[tactic(auto, using(crate::proofs::UsedUp::globs_used_up, crate::proofs::UsedUp::choice_used_up))]
 fn globs_first<'a, R: Content>(
     alloc: Global,
     cache: &Cache<'a>,

@@ -12,18 +12,13 @@ use Rattle.mime_lookup.proofs.ReadsLemmas.{asks_nothing, asks_stopped}
 use Rattle.mime_lookup.proofs.SpelledParts.{spelled_globs, spelled_magic, spelled_pairs}
 use Rattle.mime_lookup.proofs.Stops.{stops_by}
 use Rattle.mime_lookup.proofs.StepStops.{choice_fault, passed_on, sniff_stops}
-use Rattle.mime_lookup.proofs.UsedUp.{choice_used_up, globs_used_up, sniff_used_up}
+use Rattle.mime_lookup.proofs.UsedUp.{sniff_used_up}
 use Rattle.mime_lookup.proofs.cached.globs_first.Goals as goal
 
 pub returns-in_err-kept-clause-fault : goal.returns-in_err-kept-clause-fault
 returns-in_err-kept-clause-fault g c =
     stops_by (IsLookUpFault c.args.cache.now) c.in_err-kept.field-0.0 c.from_residual.result c.from_residual.ensures.1
     (of_globs c.keep.new.budget c.in_err-kept.ensures.fault)
-
-pub returns-in_err-kept-clause-spent : goal.returns-in_err-kept-clause-spent
-returns-in_err-kept-clause-spent g c =
-    globs_used_up c.args.cache.now c.keep.new.budget (c.args.content.now ≡ None) c.in_err-kept.field-0.0 c.from_residual.result
-    c.from_residual.ensures.1 c.in_err-kept.ensures.fault
 
 pub returns-in_err-kept-clause-cost : goal.returns-in_err-kept-clause-cost
 returns-in_err-kept-clause-cost g c =
@@ -49,10 +44,8 @@ returns-in-One-clause-asks g c b within spells =
 
 pub returns-in-One-clause-near : goal.returns-in-One-clause-near
 returns-in-One-clause-near g c b globs decide =
-    let is = rw c.in-One.is at (c.in_ok-kept.ensures.answer b globs) in (
-      alone b c.args.name.now c.args.host _ _ is.0 is.1,
-      omega (arith, c.in_ok-kept.ensures.near b globs),
-    )
+    let is = rw c.in-One.is at (c.in_ok-kept.ensures.answer b globs) in
+    (alone b c.args.name.now c.args.host _ _ is.0 is.1, omega (arith, c.in_ok-kept.ensures.near b globs))
 
 pub returns-in-One-clause-cost : goal.returns-in-One-clause-cost
 returns-in-One-clause-cost g c =
@@ -95,11 +88,6 @@ returns-in_err-kind-in-Others-clause-fault g c =
     stops_by (IsLookUpFault c.args.cache.now) c.in_err-kind-in-Others.field-0.0 c.from_residual-in_err-kind-in-Others.result
     c.from_residual-in_err-kind-in-Others.ensures.1
     (choice_fault c.args.cache.now c.choose.new.budget _ c.in_err-kind-in-Others.ensures.fault)
-
-pub returns-in_err-kind-in-Others-clause-spent : goal.returns-in_err-kind-in-Others-clause-spent
-returns-in_err-kind-in-Others-clause-spent g c =
-    choice_used_up c.args.cache.now c.choose.new.budget (c.args.content.now ≡ None) c.in_err-kind-in-Others.field-0.0
-    c.from_residual-in_err-kind-in-Others.result c.from_residual-in_err-kind-in-Others.ensures.1 c.in_err-kind-in-Others.ensures.fault
 
 pub returns-in_err-kind-in-Others-clause-answers : goal.returns-in_err-kind-in-Others-clause-answers
 returns-in_err-kind-in-Others-clause-answers g c b within spells affords =

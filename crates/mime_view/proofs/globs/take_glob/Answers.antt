@@ -26,8 +26,9 @@ returns-then-begins_otherwise-clause-cost c =
     let nodes = ap (λ (meter : Meter). meter.nodes) c.add_bytes.ensures.added in
     let bytes = ap (λ (meter : Meter). meter.bytes) c.add_bytes.ensures.added in
     entry_charged (length c.args.name.now) 0 c.text_at.new.meter.bytes c.args.budget.now c.take_record.new.self c.args.meter.now
-    c.add_bytes.new.self c.in_ok-take_record.ensures.taken c.take_record.ensures.value_bytes (omega (arith, nodes, bytes)) (omega (arith, nodes, bytes)) (omega (arith, nodes, bytes))
+    c.add_bytes.new.self c.in_ok-take_record.ensures.taken c.take_record.ensures.value_bytes (omega (arith, nodes, bytes))
     (omega (arith, nodes, bytes)) (omega (arith, nodes, bytes)) (omega (arith, nodes, bytes)) (omega (arith, nodes, bytes))
+    (omega (arith, nodes, bytes)) (omega (arith, nodes, bytes))
 
 pub returns-then-not-wants-2-clause-answer : goal.returns-then-not-wants-2-clause-answer
 returns-then-not-wants-2-clause-answer c = λ rule fits reads.
