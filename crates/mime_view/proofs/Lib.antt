@@ -18,6 +18,7 @@ mod SectionRows
 mod StandingValues
 mod MagicLists
 mod Spelled
+mod Spending
 mod Charges
 mod OffersLemmas
 mod StoredRules

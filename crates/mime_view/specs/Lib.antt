@@ -1,4 +1,5 @@
 pub mod Faults
+pub mod Spending
 pub mod Hits
 pub mod Opening
 pub mod Lists

@@ -41,6 +41,7 @@ use crate::name::{RuleLists, glob_hits};
 use crate::pairs::look_up_pair;
 use crate::parents::{Parents, parents_of};
 use crate::rules::{Listed, list_rules};
+use crate::spending::Spending;
 use crate::texts::Texts;
 use mime_base::{Counted, Host, Meter};
 use std::alloc::Global;
@@ -301,7 +302,14 @@ impl<'a> Cache<'a> {
             ≤ meter.old.bytes + 256 * budget.old.records + 256 * 27 }
     {
         let at = u64::from(self.header[2]);
-        parents_of(alloc, &self.counted, at, kind, marks, meter, budget)
+        let mut spending = Spending {
+            meter: *meter,
+            budget: *budget,
+        };
+        let found = parents_of(alloc, &self.counted, at, kind, marks, &mut spending);
+        *meter = spending.meter;
+        *budget = spending.budget;
+        found
     }
 
     /// The type and the priority of the first section of magic with a line of indent 0 that holds for a

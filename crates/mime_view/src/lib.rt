@@ -32,6 +32,7 @@ mod pairs;
 mod parents;
 mod rules;
 mod search;
+mod spending;
 mod suffixes;
 mod texts;
 
@@ -42,4 +43,5 @@ pub use hits::kept_are_near;
 pub use marks::Marks;
 pub use parents::Parents;
 pub use rules::Listed;
+pub use spending::Spending;
 pub use texts::Texts;

@@ -49,8 +49,8 @@ returns-in_err-types-clause-fault c =
       place = c.in-Some.found.place;
       entry = is;
       unmarked = unmarked;
-      fault = subst (λ (n : ℕ). IsTextsFault c.args.counted.now n c.args.budget.now.records
-          c.take_texts.new.budget.records c.in_err-types.field-0.0) at c.in_err-types.ensures.fault;
+      fault = subst (λ (n : ℕ). IsTextsFault c.args.counted.now n c.args.spending.now.budget.records
+          c.take_texts.new.spending.budget.records c.in_err-types.field-0.0) at c.in_err-types.ensures.fault;
     })))
 
 pub returns-in_err-types-clause-takes_at_most : goal.returns-in_err-types-clause-takes_at_most

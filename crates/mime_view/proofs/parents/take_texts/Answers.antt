@@ -1,6 +1,8 @@
 use Rattle.std.proofs.Common.{◌≡◌, ◌+◌, ◌*◌, ◌∙◌, arith, rules, ⊎_elim}
 use Rattle.mime_view.proofs.Places.{key_at}
+use Rattle.mime_view.proofs.Spending.{spends_then}
 use Rattle.mime_view.proofs.TextLists.{KeysAt-pushed}
+use Rattle.mime_view.specs.Spending.{per_record}
 use Rattle.mime_view.proofs.parents.take_texts.Goals as goal
 
 pub returns-in_err-text-clause-need : goal.returns-in_err-text-clause-need
@@ -24,10 +26,6 @@ loop-i-preserved c = record {
   named = KeysAt-pushed c.args.counted.now (c.args.at + 4) c.loop-i.i c.loop-i.texts.items c.push.new.self.items c.in_ok-text-2.text
       c.in_ok-push.ensures.items c.loop-i.invariant.size c.loop-i.invariant.named c.in_ok-text-2.ensures.text;
   takes = omega (arith, c.in_ok-text-2.ensures.takes);
-  value_bytes = c.take_text-in-loop-i.ensures.value_bytes ∙ c.loop-i.invariant.value_bytes;
-  rises = omega arith;
-  nodes = omega arith;
-  fair = search rules;
-  bytes_rise = omega arith;
-  bytes = omega arith;
+  cost = spends_then (per_record 256) 1 0 0 0 c.args.spending.now c.loop-i.spending c.take_text-in-loop-i.new.spending c.loop-i.invariant.cost
+      c.take_text-in-loop-i.ensures.cost;
 }

@@ -13,8 +13,8 @@ returns-clause-answer c = λ offsets pairs header stand.
     let reads = parents_named c.args.self.now c.self.inside.counted c.from-at.result offsets pairs c.self.view_is number header stand in
     let marked = marked_named c.args.self.now c.self.inside.counted c.from-at.result c.args.marks.now c.args.kind.now
     c.self.view_is number in
-    subst (λ (m : Bool). IfOk c.parents_of.result (IsGiven pairs stand.kinds m c.args.kind.now)) marked
-    (c.parents_of.ensures.answer pairs stand.kinds reads)
+    subst (λ (m : Bool). IfOk c.parents_of-found.result (IsGiven pairs stand.kinds m c.args.kind.now)) marked
+    (c.parents_of-found.ensures.answer pairs stand.kinds reads)
 
 pub returns-clause-need : goal.returns-clause-need
 returns-clause-need c = λ offsets pairs header stand.
@@ -24,8 +24,8 @@ returns-clause-need c = λ offsets pairs header stand.
     let marked = marked_named c.args.self.now c.self.inside.counted c.from-at.result c.args.marks.now c.args.kind.now
     c.self.view_is number in
     subst (λ (m : Bool). length (unmarked_parents pairs m c.args.kind.now) ≤ c.args.budget.now.records
-    → IfErr c.parents_of.result (λ e. e ≡ OutOfMemory)) marked
-    (c.parents_of.ensures.need pairs stand.kinds reads)
+    → IfErr c.parents_of-found.result (λ e. e ≡ OutOfMemory)) marked
+    (c.parents_of-found.ensures.need pairs stand.kinds reads)
 
 pub returns-clause-takes_at_most : goal.returns-clause-takes_at_most
 returns-clause-takes_at_most c = λ offsets pairs header stand.
@@ -35,5 +35,5 @@ returns-clause-takes_at_most c = λ offsets pairs header stand.
     let marked = marked_named c.args.self.now c.self.inside.counted c.from-at.result c.args.marks.now c.args.kind.now
     c.self.view_is number in
     subst (λ (m : Bool). c.args.budget.now.records
-    ≤ c.parents_of.new.budget.records + length (unmarked_parents pairs m c.args.kind.now)) marked
-    (c.parents_of.ensures.takes_at_most pairs stand.kinds reads)
+    ≤ c.parents_of-found.new.spending.budget.records + length (unmarked_parents pairs m c.args.kind.now)) marked
+    (c.parents_of-found.ensures.takes_at_most pairs stand.kinds reads)

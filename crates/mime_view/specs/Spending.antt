@@ -1,0 +1,47 @@
+-- What a step costs: what it takes of the budget, and what it adds to the meter.
+use Rattle.std.specs.Prelude.{◌≡◌, ℕ, ◌+◌, ◌*◌, ◌≤◌}
+use Rattle.mime_base.specs.Meter.{raised}
+use Rattle.mime_base.specs.declared.meter.Meter.{Meter}
+use Rattle.mime_view.specs.declared.spending.Spending.{Spending}
+
+-- What is paid at most for a record of the budget, in nodes and in bytes, and for a value byte, in bytes.
+pub record Price : Type 0 where
+  pub nodes : ℕ
+  pub bytes : ℕ
+  pub value_byte : ℕ
+
+-- a record costs a node and so many bytes, and no value bytes are taken
+abbrev pub per_record : ℕ → Price
+per_record bytes = record { nodes = 1; bytes = bytes; value_byte = 0 }
+
+-- A step pays for each record and each value byte that it takes; `nodes` nodes and `bytes` bytes come besides.
+pub record Spends (price : Price) (nodes bytes : ℕ) (old new : Spending) : Type 0 where
+  -- Records are taken, and never given back.
+  pub records : new.budget.records ≤ old.budget.records
+  -- So are value bytes.
+  pub value_bytes : new.budget.value_bytes ≤ old.budget.value_bytes
+  -- Where they have no price, none is taken.
+  pub untouched : price.value_byte ≡ 0 → new.budget.value_bytes ≡ old.budget.value_bytes
+  -- The meter's nodes never fall.
+  pub rises : old.meter.nodes ≤ new.meter.nodes
+  -- Nor do its bytes.
+  pub bytes_rise : old.meter.bytes ≤ new.meter.bytes
+  -- No more nodes are added than were paid for, and those that come besides.
+  pub most_nodes : new.meter.nodes + price.nodes * new.budget.records
+      ≤ old.meter.nodes + price.nodes * old.budget.records + nodes
+  -- Nor more bytes.
+  pub most_bytes : new.meter.bytes + price.bytes * new.budget.records + price.value_byte * new.budget.value_bytes
+      ≤ old.meter.bytes + price.bytes * old.budget.records + price.value_byte * old.budget.value_bytes + bytes
+  -- Each record that is taken adds a node, until the sum stops.
+  pub fair : raised old.meter.nodes old.budget.records ≤ new.meter.nodes + new.budget.records
+
+-- A step that takes nothing of the budget: it adds at most so many nodes and bytes.
+pub record Looks (nodes bytes : ℕ) (old new : Meter) : Type 0 where
+  -- The nodes never fall.
+  pub rises : old.nodes ≤ new.nodes
+  -- Nor do the bytes.
+  pub bytes_rise : old.bytes ≤ new.bytes
+  -- No more nodes are added.
+  pub most_nodes : new.nodes ≤ old.nodes + nodes
+  -- Nor more bytes.
+  pub most_bytes : new.bytes ≤ old.bytes + bytes
