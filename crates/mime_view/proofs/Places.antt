@@ -24,11 +24,6 @@ key_at c at size (key ∷ keys) (suc i) stand l =
     let e : at + size * suc i ≡ at + size + size * i = omega arith in
     rw e (key_at c (at + size) size keys i stand.1 (omega arith))
 
--- each record has the text of its key
-pub keys_have_texts : (c : List ℕ) (at size count : ℕ) (keys : List (List ℕ)) → count ≡ length keys → KeysAt c at size keys
-    → (i : ℕ) → i < count → (text : List ℕ) × HasText c at size i text
-keys_have_texts c at size count keys n stand i l = (get_or keys i [], key_at c at size keys i stand (omega arith))
-
 -- an order that is no Less is no less
 no_less : (o : Ordering) → o ≢ Less → is_lt o ≡ false
 no_less Less other = absurd (other refl)

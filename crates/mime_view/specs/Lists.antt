@@ -1,6 +1,6 @@
 -- Lists of records of a cache, and what is wrong where one can't be read.
-use Rattle.std.specs.Prelude.{◌≡◌, ◌≢◌, ℕ, suc, ◌+◌, ◌*◌, ◌<◌, ◌≤◌, Bool, true, false, List, [], ◌∷◌, get_or, length, Ok, Err}
-use Rattle.std.specs.Prelude.{Option, None, Some, option_map, if◌then◌else◌, bytes_eq}
+use Rattle.std.specs.Prelude.{◌≡◌, ◌≢◌, ◌⊎◌, ℕ, suc, ◌+◌, ◌*◌, ◌<◌, ◌≤◌, Bool, true, false, List, [], ◌∷◌, get_or, length, Ok, Err}
+use Rattle.std.specs.Prelude.{Option, None, Some, IfSome, option_map, if◌then◌else◌, bytes_eq}
 use Rattle.std.specs.Ordering.{is_lt, nat_cmp}
 use Rattle.std.specs.List.Sorted.{IsSortedBy}
 use Rattle.std.specs.Cmp.Lexicographic.{slice_cmp}
@@ -9,6 +9,8 @@ use Rattle.mime_base.specs.Cache.Bytes.{field}
 use Rattle.mime_base.specs.Cache.Texts.{text_at}
 use Rattle.mime_base.specs.declared.cache.byte_fault.ByteFault.{ByteFault}
 use Rattle.mime_view.specs.Faults.{cache_fault}
+use Rattle.mime_view.specs.declared.entry.Entry.{Entry}
+use Rattle.mime_view.specs.declared.search.Sought.{Sought}
 use Rattle.mime_view.specs.declared.fault.CacheFault.{CacheFault}
 use Rattle.mime_view.specs.declared.fault.CacheFault.TheVariants.{OutOfRange}
 
@@ -53,6 +55,15 @@ pub record IsPlace (c : List ℕ) (first size count : ℕ) (key : List ℕ) (pla
   pub before : (i : ℕ) (text : List ℕ) → i + 1 ≡ place → HasText c first size i text → slice_cmp nat_cmp text key ≡ Less
   pub after : (text : List ℕ) → place < count → HasText c first size place text → slice_cmp nat_cmp text key ≢ Less
 
+-- What a search for a key among `count` records says, on any bytes.
+pub record IsSought (c : List ℕ) (first size count : ℕ) (key : List ℕ) (sought : Sought) : Type 0 where
+  -- The text before the place is less than the key, and the one at it is not.
+  pub found : IsPlace c first size count key sought.place
+  -- It says that the text at the place is the key only where it is.
+  pub same : sought.equal ≡ true → (sought.place < count) × HasText c first size sought.place key
+  -- It says that it is not only where it is another.
+  pub other : sought.equal ≡ false → (text : List ℕ) → sought.place < count → HasText c first size sought.place text → text ≢ key
+
 -- no text stands at some offset
 pub record IsTextFault (c : List ℕ) (e : CacheFault) : Type 0 where
   pub at : ℕ
@@ -68,3 +79,23 @@ LiesList c at size = at + 4 + size * field c at 0 ≤ length c
 pub record IsListFault (c : List ℕ) (at size : ℕ) (e : CacheFault) : Type 0 where
   pub outside : length c < at + 4 + size * field c at 0
   pub is : e ≡ OutOfRange at
+
+-- why the list at `at`, of two numbers an entry, is not searched: the list, or a text
+abbrev pub IsSearchFault : List ℕ → ℕ → CacheFault → Type 0
+IsSearchFault c at e = IsListFault c at 8 e ⊎ IsTextFault c e
+
+-- An entry of the list at `at`, of two numbers an entry, whose text is the key.
+pub record IsEntryOf (c : List ℕ) (at : ℕ) (key : List ℕ) (entry : Entry) : Type 0 where
+  -- It is one of the list's entries.
+  pub within : entry.place < field c at 0
+  -- Its first number names the key.
+  pub text : HasText c (at + 4) 8 entry.place key
+  -- Its target is its second number.
+  pub second : entry.target ≡ field c (at + 4 + 8 * entry.place) 1
+
+-- What is found for a key in the list at `at`, on any bytes.
+pub record IsFound (c : List ℕ) (at : ℕ) (key : List ℕ) (found : Option Entry) : Type 0 where
+  -- The list lies in the cache.
+  pub inside : LiesList c at 8
+  -- What is found, if anything is, is an entry of the key.
+  pub entry : IfSome found (IsEntryOf c at key)

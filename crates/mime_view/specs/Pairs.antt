@@ -1,8 +1,9 @@
 -- Lists of two names an entry, as they are read: aliases with their types, and types with their icons.
-use Rattle.std.specs.Prelude.{◌≡◌, ℕ, ◌+◌, ◌*◌, ◌≤◌, List, [], ◌∷◌, length, map, Option, None, Some, Ok, if◌then◌else◌, bytes_eq}
+use Rattle.std.specs.Prelude.{◌≡◌, ℕ, ◌+◌, ◌*◌, ◌≤◌, List, [], ◌∷◌, length, map, Option, None, Some, IfSome, Ok, if◌then◌else◌, bytes_eq}
+use Rattle.std.specs.Borrow.{Bor}
 use Rattle.mime_base.specs.Cache.Bytes.{field}
 use Rattle.mime_base.specs.Cache.Texts.{text_at}
-use Rattle.mime_view.specs.Lists.{AreSorted}
+use Rattle.mime_view.specs.Lists.{AreSorted, LiesList}
 
 -- the second name of the first pair that begins with the key
 abbrev pub looked_up : List (List ℕ × List ℕ) → List ℕ → Option (List ℕ)
@@ -21,3 +22,10 @@ pub record ReadsPairs (c : List ℕ) (at : ℕ) (pairs : List (List ℕ × List 
   pub inside : at + 4 + 8 * length pairs ≤ length c
   pub entries : PairsAt c (at + 4) pairs
   pub sorted : AreSorted (map (λ pair. pair.0) pairs)
+
+-- What is given from the list at `at`, on any bytes.
+pub record IsSecondName (c : List ℕ) (at : ℕ) (name : Option (Bor (List ℕ))) : Type 0 where
+  -- The list lies in the cache.
+  pub inside : LiesList c at 8
+  -- What is given, if anything is, is a text of the cache.
+  pub text : IfSome name (λ text. (place : ℕ) × (text_at c place ≡ Ok text.now))

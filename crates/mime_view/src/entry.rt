@@ -1,9 +1,8 @@
 //! The entry of a key in a sorted list of two offsets an entry.
 
-ghost use Rattle.std.specs.Prelude.{◌≡◌, ℕ, ◌+◌, ◌*◌, ◌^◌, ◌≤◌, ◌<◌, ◌⊎◌, List, length, option_map};
-ghost use Rattle.std.specs.Prelude.{IfOk, IfErr, IfSome, IsOkAnd, OnOk};
-ghost use Rattle.mime_base.specs.Cache.Bytes.{field};
-ghost use Rattle.mime_view.specs.Lists.{HasText, IsListFault, IsTextFault, LiesList, ReadsKeys, place_of};
+ghost use Rattle.std.specs.Prelude.{◌≡◌, ℕ, ◌*◌, ◌^◌, ◌≤◌, ◌<◌, List, length, option_map, IsOkAnd, MatchResult};
+ghost use Rattle.mime_view.specs.Lists.{IsFound, IsSearchFault, ReadsKeys, place_of};
+ghost use Rattle.mime_view.specs.Spending.{Looks};
 
 use crate::fault::CacheFault;
 use crate::list::count_at;
@@ -20,6 +19,7 @@ pub struct Entry {
 }
 
 /// The first entry whose text is the key, in the list at `at`.
+// Inlined, so that the entry is not built and taken apart again.
 #[inline(always)]
 pub fn find_entry(
     counted: &Counted<'_>,
@@ -27,19 +27,17 @@ pub fn find_entry(
     key: &[u8],
     meter: &mut Meter,
 ) -> Result<Option<Entry>, CacheFault>
+    // The list's offset is a number of 32 bits.
     requires at { at < 2 ^ 32 }
+    // No offset needs more than 32 bits.
     requires limit { length counted.now ≤ 2 ^ 28 }
-    ensures entry { IfOk result (λ found. IfSome found (λ entry. (entry.place < field counted.now at 0)
-        × HasText counted.now (at + 4) 8 entry.place key.now
-        × (entry.target ≡ field counted.now (at + 4 + 8 * entry.place) 1))) }
+    // In a sorted list that stands it finds the first entry of the key, or that there is none.
     ensures answer { (keys : List (List ℕ)) → ReadsKeys counted.now at keys →
         IsOkAnd result (λ found. option_map (λ entry. entry.place) found ≡ place_of keys key.now) }
-    ensures inside { OnOk result (LiesList counted.now at 8) }
-    ensures fault { IfErr result (λ e. IsListFault counted.now at 8 e ⊎ IsTextFault counted.now e) }
-    ensures rises { meter.old.nodes ≤ meter.new.nodes }
-    ensures nodes { meter.new.nodes ≤ meter.old.nodes + 28 }
-    ensures bytes_rise { meter.old.bytes ≤ meter.new.bytes }
-    ensures bytes { meter.new.bytes ≤ meter.old.bytes + 256 * 27 }
+    // On any bytes what it finds is an entry of the key, or the list or a text does not stand.
+    ensures found { MatchResult result (IsFound counted.now at key.now) (IsSearchFault counted.now at) }
+    // It looks at the list's count, at most 26 texts, and the entry that it finds.
+    ensures cost { Looks 28 (256 * 27) meter.old meter.new }
 {
     let count = count_at(counted, at, 8, meter)?;
     let first = at + 4;

@@ -1,10 +1,9 @@
 //! Sorted lists of two names an entry: aliases, icons and generic icons.
 
-ghost use Rattle.std.specs.Prelude.{◌≡◌, ℕ, ◌+◌, ◌*◌, ◌^◌, ◌≤◌, ◌<◌, ◌⊎◌, List, Ok, length, option_map};
-ghost use Rattle.std.specs.Prelude.{IfOk, IfErr, IfSome, IsOkAnd, OnOk};
-ghost use Rattle.mime_base.specs.Cache.Texts.{text_at};
-ghost use Rattle.mime_view.specs.Lists.{IsListFault, IsTextFault, LiesList};
-ghost use Rattle.mime_view.specs.Pairs.{ReadsPairs, looked_up};
+ghost use Rattle.std.specs.Prelude.{◌≡◌, ℕ, ◌*◌, ◌^◌, ◌≤◌, ◌<◌, List, length, option_map, IsOkAnd, MatchResult};
+ghost use Rattle.mime_view.specs.Lists.{IsSearchFault};
+ghost use Rattle.mime_view.specs.Pairs.{IsSecondName, ReadsPairs, looked_up};
+ghost use Rattle.mime_view.specs.Spending.{Looks};
 
 use crate::entry::find_entry;
 use crate::fault::CacheFault;
@@ -17,18 +16,17 @@ pub fn look_up_pair<'a>(
     key: &[u8],
     meter: &mut Meter,
 ) -> Result<Option<&'a [u8]>, CacheFault>
+    // The list's offset is a number of 32 bits.
     requires at { at < 2 ^ 32 }
+    // No offset needs more than 32 bits.
     requires limit { length counted.now ≤ 2 ^ 28 }
+    // In a sorted list that stands it finds the second name of the first pair that begins with the key.
     ensures answer { (pairs : List (List ℕ × List ℕ)) → ReadsPairs counted.now at pairs →
         IsOkAnd result (λ name. option_map (λ text. text.now) name ≡ looked_up pairs key.now) }
-    ensures text { IfOk result (λ name. IfSome name (λ text.
-        (place : ℕ) × (text_at counted.now place ≡ Ok text.now))) }
-    ensures inside { OnOk result (LiesList counted.now at 8) }
-    ensures fault { IfErr result (λ e. IsListFault counted.now at 8 e ⊎ IsTextFault counted.now e) }
-    ensures rises { meter.old.nodes ≤ meter.new.nodes }
-    ensures nodes { meter.new.nodes ≤ meter.old.nodes + 29 }
-    ensures bytes_rise { meter.old.bytes ≤ meter.new.bytes }
-    ensures bytes { meter.new.bytes ≤ meter.old.bytes + 256 * 29 }
+    // On any bytes what it gives is a text of the cache, or the list or a text does not stand.
+    ensures given { MatchResult result (IsSecondName counted.now at) (IsSearchFault counted.now at) }
+    // It finds an entry and reads a text.
+    ensures cost { Looks 29 (256 * 29) meter.old meter.new }
 {
     let Some(entry) = find_entry(counted, at, key, meter)? else {
         return Ok(None);

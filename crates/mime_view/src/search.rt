@@ -1,8 +1,16 @@
 //! Search in a sorted list of a cache, by halving.
+//!
+//! A cache sorts its lists so that a key is found by at most 26 texts of any list that fits; an index of the texts
+//! would have to read all of them first. Each text that is compared adds a node and the bytes up to its first
+//! difference. They are counted in a copy of the meter, so that the sums stay in registers from text to text.
+//!
+//! Nobody vouches for the order. On texts that are not sorted the search ends all the same, after as many
+//! comparisons, and what it says of the place at which it ended is true of the texts beside it; a key that stands
+//! elsewhere may be missed.
 
-ghost use Rattle.std.specs.Prelude.{◌≡◌, ◌≢◌, ℕ, ◌+◌, ◌*◌, ◌^◌, ◌≤◌, ◌<◌, true, false, List, length};
-ghost use Rattle.std.specs.Prelude.{IfOk, IfErr, IsOk, IsOkAnd};
-ghost use Rattle.mime_view.specs.Lists.{AreSorted, HasText, IsPlace, IsTextFault, KeysAt, SplitsAt};
+ghost use Rattle.std.specs.Prelude.{◌≡◌, ℕ, ◌+◌, ◌*◌, ◌^◌, ◌≤◌, List, length, IsOkAnd, MatchResult};
+ghost use Rattle.mime_view.specs.Lists.{AreSorted, IsSought, IsTextFault, KeysAt, SplitsAt};
+ghost use Rattle.mime_view.specs.Spending.{Looks};
 
 use crate::fault::CacheFault;
 use mime_base::{Counted, Meter};
@@ -19,6 +27,7 @@ pub struct Sought {
 
 /// The place of the first of `count` records of `size` bytes, from `first` on, whose text is not less than the key,
 /// and what the search learnt of that text.
+// Inlined, so that each list's search has its record size as a constant.
 #[inline(always)]
 pub fn seek(
     counted: &Counted<'_>,
@@ -28,22 +37,19 @@ pub fn seek(
     key: &[u8],
     meter: &mut Meter,
 ) -> Result<Sought, CacheFault>
+    // The records lie in the cache.
     requires fits { first + size * count ≤ length counted.now }
+    // No offset needs more than 32 bits.
     requires limit { length counted.now ≤ 2 ^ 28 }
+    // A record has two numbers at least.
     requires size { 8 ≤ size }
-    ensures place { IfOk result (λ sought. IsPlace counted.now first size count key.now sought.place) }
-    ensures equal { IfOk result (λ sought. sought.equal ≡ true →
-        (sought.place < count) × HasText counted.now first size sought.place key.now) }
-    ensures other { IfOk result (λ sought. sought.equal ≡ false → (text : List ℕ) → sought.place < count →
-        HasText counted.now first size sought.place text → text ≢ key.now) }
+    // Among texts that all stand it finds a place; where they are sorted, those before it are less, and the others are not.
     ensures answer { (keys : List (List ℕ)) → length keys ≡ count → KeysAt counted.now first size keys →
-        AreSorted keys → IsOkAnd result (λ sought. SplitsAt keys key.now sought.place) }
-    ensures answers { ((i : ℕ) → i < count → (text : List ℕ) × HasText counted.now first size i text) → IsOk result }
-    ensures fault { IfErr result (IsTextFault counted.now) }
-    ensures rises { meter.old.nodes ≤ meter.new.nodes }
-    ensures nodes { meter.new.nodes ≤ meter.old.nodes + 26 }
-    ensures bytes_rise { meter.old.bytes ≤ meter.new.bytes }
-    ensures bytes { meter.new.bytes ≤ meter.old.bytes + 256 * 26 }
+        IsOkAnd result (λ sought. AreSorted keys → SplitsAt keys key.now sought.place) }
+    // On any bytes it says how the texts beside the place compare, or a text does not stand.
+    ensures sought { MatchResult result (IsSought counted.now first size count key.now) (IsTextFault counted.now) }
+    // It compares at most 26 texts.
+    ensures cost { Looks 26 (256 * 26) meter.old meter.new }
 {
     let mut low = 0;
     let mut high = count;

@@ -7,7 +7,6 @@ use Rattle.mime_view.specs.Hits.{Offers, literal_visits, takes_rule, visits}
 use Rattle.mime_view.proofs.LiteralEntries.{texts_of}
 use Rattle.mime_view.proofs.LiteralPlaces.{placed, searched, some_visits, unmet, unmet_visits}
 use Rattle.mime_view.proofs.OffersLemmas.{offers_none}
-use Rattle.mime_view.proofs.Places.{keys_have_texts}
 use Rattle.mime_view.proofs.literals.literal_hits.Goals as goal
 
 pub returns-in_err-count-clause-need : goal.returns-in_err-count-clause-need
@@ -20,8 +19,7 @@ returns-in_err-count-clause-need c = λ rules stand enough.
 pub returns-in_err-sought-clause-need : goal.returns-in_err-sought-clause-need
 returns-in_err-sought-clause-need c = λ rules stand enough.
     let s = searched c.args.counted.now c.args.at rules stand c.in_ok-count.count c.in_ok-count.ensures.count.0 in
-    let texts = keys_have_texts c.args.counted.now (c.args.at + 4) 12 c.in_ok-count.count (texts_of stand.entries) (sym s.size) s.texts in
-    absurd (cc (c.in_err-sought.ensures.answers texts))
+    absurd (c.in_err-sought.ensures.answer (texts_of stand.entries) s.size s.texts)
 
 pub returns-then-sought-clause-answer : goal.returns-then-sought-clause-answer
 returns-then-sought-clause-answer c = λ rules fits stand.
@@ -59,7 +57,7 @@ returns-in_err-pass_entry-clause-need c = λ rules stand enough.
     let p = placed c.args.counted.now c.args.at rules stand c.in_ok-count.count c.in_ok-count.ensures.count.0
     c.args.key.now c.in_ok-sought.sought.place splits in
     let none = unmet c.args.counted.now (c.args.at + 4) c.in_ok-sought.sought.place c.in_ok-count.count c.args.key.now p.rest p.size p.reads
-    p.run (λ text l has. c.in_ok-sought.ensures.other c.if-sought.false text l has) in
+    p.run (λ text l has. c.in_ok-sought.ensures.sought.other c.if-sought.false text l has) in
     let one = unmet_visits c.args.key.now p.rest none (omega (arith, p.size, c.if-sought-count.true)) in
     let m = some_visits (visits c.args.case) (literal_visits c.args.key.now rules) (omega (arith, one, p.visits)) in
     absurd (omega (arith, m, enough, c.in_err-pass_entry.ensures.spent))
@@ -71,7 +69,7 @@ returns-in_err-pass_entry-clause-takes_at_most c = λ rules stand.
     let p = placed c.args.counted.now c.args.at rules stand c.in_ok-count.count c.in_ok-count.ensures.count.0
     c.args.key.now c.in_ok-sought.sought.place splits in
     let none = unmet c.args.counted.now (c.args.at + 4) c.in_ok-sought.sought.place c.in_ok-count.count c.args.key.now p.rest p.size p.reads
-    p.run (λ text l has. c.in_ok-sought.ensures.other c.if-sought.false text l has) in
+    p.run (λ text l has. c.in_ok-sought.ensures.sought.other c.if-sought.false text l has) in
     let one = unmet_visits c.args.key.now p.rest none (omega (arith, p.size, c.if-sought-count.true)) in
     let m = some_visits (visits c.args.case) (literal_visits c.args.key.now rules) (omega (arith, one, p.visits)) in
     omega (arith, m, c.in_err-pass_entry.ensures.spent)
@@ -83,7 +81,7 @@ returns-in_ok-pass_entry-clause-answer c = λ rules fits stand.
     let p = placed c.args.counted.now c.args.at rules stand c.in_ok-count.count c.in_ok-count.ensures.count.0
     c.args.key.now c.in_ok-sought.sought.place splits in
     let none = unmet c.args.counted.now (c.args.at + 4) c.in_ok-sought.sought.place c.in_ok-count.count c.args.key.now p.rest p.size p.reads
-    p.run (λ text l has. c.in_ok-sought.ensures.other c.if-sought.false text l has) in
+    p.run (λ text l has. c.in_ok-sought.ensures.sought.other c.if-sought.false text l has) in
     rw (sym p.same, none) (offers_none c.args.counted.now c.args.hits.now)
 
 pub returns-in_ok-pass_entry-clause-takes_at_most : goal.returns-in_ok-pass_entry-clause-takes_at_most
@@ -93,7 +91,7 @@ returns-in_ok-pass_entry-clause-takes_at_most c = λ rules stand.
     let p = placed c.args.counted.now c.args.at rules stand c.in_ok-count.count c.in_ok-count.ensures.count.0
     c.args.key.now c.in_ok-sought.sought.place splits in
     let none = unmet c.args.counted.now (c.args.at + 4) c.in_ok-sought.sought.place c.in_ok-count.count c.args.key.now p.rest p.size p.reads
-    p.run (λ text l has. c.in_ok-sought.ensures.other c.if-sought.false text l has) in
+    p.run (λ text l has. c.in_ok-sought.ensures.sought.other c.if-sought.false text l has) in
     let one = unmet_visits c.args.key.now p.rest none (omega (arith, p.size, c.if-sought-count.true)) in
     let m = some_visits (visits c.args.case) (literal_visits c.args.key.now rules) (omega (arith, one, p.visits)) in
     omega (arith, m, c.in_ok-pass_entry.ensures.taken)
@@ -105,5 +103,5 @@ returns-else-sought-count-clause-answer c = λ rules fits stand.
     let p = placed c.args.counted.now c.args.at rules stand c.in_ok-count.count c.in_ok-count.ensures.count.0
     c.args.key.now c.in_ok-sought.sought.place splits in
     let none = unmet c.args.counted.now (c.args.at + 4) c.in_ok-sought.sought.place c.in_ok-count.count c.args.key.now p.rest p.size p.reads
-    p.run (λ text l has. c.in_ok-sought.ensures.other c.if-sought.false text l has) in
+    p.run (λ text l has. c.in_ok-sought.ensures.sought.other c.if-sought.false text l has) in
     rw (sym p.same, none) (offers_none c.args.counted.now c.args.hits.now)

@@ -15,10 +15,10 @@ returns-in_default-clause-answer c = λ pairs reads.
 
 pub returns-in_err-text-clause-answer : goal.returns-in_err-text-clause-answer
 returns-in_err-text-clause-answer c = λ pairs reads.
-    let entry = rw c.in-Some.is at c.in_ok-entry.ensures.entry in
+    let entry = rw c.in-Some.is at c.in_ok-entry.ensures.found.entry in
     let n = reads.count in
-    let below : c.in-Some.entry.place < length pairs = omega (arith, entry.0) in
-    let text = ap (text_at c.args.counted.now) (c.from.ensures ∙ entry.2)
+    let below : c.in-Some.entry.place < length pairs = omega (arith, entry.within) in
+    let text = ap (text_at c.args.counted.now) (c.from.ensures ∙ entry.second)
     ∙ target_at c.args.counted.now (c.args.at + 4) pairs c.in-Some.entry.place reads.entries below in
     absurd (cc (text, c.in_err-text.ensures.text))
 
@@ -26,10 +26,10 @@ pub returns-clause-answer : goal.returns-clause-answer
 returns-clause-answer c = λ pairs reads.
     let found = c.in_ok-entry.ensures.answer (names pairs) (reads_keys c.args.counted.now c.args.at pairs reads) in
     let place = rw c.in-Some.is at found in
-    let entry = rw c.in-Some.is at c.in_ok-entry.ensures.entry in
+    let entry = rw c.in-Some.is at c.in_ok-entry.ensures.found.entry in
     let n = reads.count in
-    let below : c.in-Some.entry.place < length pairs = omega (arith, entry.0) in
-    let text = ap (text_at c.args.counted.now) (c.from.ensures ∙ entry.2)
+    let below : c.in-Some.entry.place < length pairs = omega (arith, entry.within) in
+    let text = ap (text_at c.args.counted.now) (c.from.ensures ∙ entry.second)
     ∙ target_at c.args.counted.now (c.args.at + 4) pairs c.in-Some.entry.place reads.entries below in
     let is = looked_up-at pairs c.args.key.now (Some c.in-Some.entry.place) place in
     cc (is, text, c.in_ok-text.ensures.text)

@@ -7,8 +7,8 @@ use Rattle.mime_view.proofs.parents.parents_of.Goals as goal
 
 pub returns-then-contains-clause-answer : goal.returns-then-contains-clause-answer
 returns-then-contains-clause-answer c = λ pairs kinds reads.
-    let entry = rw c.in-Some.is at c.in_ok-found.ensures.entry in
-    let is = entry_is c.args.counted.now c.args.at c.args.kind.now c.in-Some.found.place entry.0 entry.1 in
+    let entry = rw c.in-Some.is at c.in_ok-found.ensures.found.entry in
+    let is = entry_is c.args.counted.now c.args.at c.args.kind.now c.in-Some.found.place entry.within entry.text in
     let marked : has_place c.args.marks.now c.in-Some.found.place ≡ true = sym c.contains.ensures ∙ c.if-contains.true in
     let place = rw c.in-Some.is at (c.in_ok-found.ensures.answer kinds reads.types) in
     let some = some_parent c.args.counted.now c.args.at pairs kinds reads c.args.kind.now c.in-Some.found.place is in
@@ -18,8 +18,8 @@ returns-then-contains-clause-answer c = λ pairs kinds reads.
 
 pub returns-then-contains-clause-read : goal.returns-then-contains-clause-read
 returns-then-contains-clause-read c =
-    let entry = rw c.in-Some.is at c.in_ok-found.ensures.entry in
-    let is = entry_is c.args.counted.now c.args.at c.args.kind.now c.in-Some.found.place entry.0 entry.1 in
+    let entry = rw c.in-Some.is at c.in_ok-found.ensures.found.entry in
+    let is = entry_is c.args.counted.now c.args.at c.args.kind.now c.in-Some.found.place entry.within entry.text in
     let marked : has_place c.args.marks.now c.in-Some.found.place ≡ true = sym c.contains.ensures ∙ c.if-contains.true in
     record {
       entry = is;
@@ -29,10 +29,10 @@ returns-then-contains-clause-read c =
 
 pub returns-in_err-types-clause-need : goal.returns-in_err-types-clause-need
 returns-in_err-types-clause-need c = λ pairs kinds reads enough.
-    let entry = rw c.in-Some.is at c.in_ok-found.ensures.entry in
-    let is = entry_is c.args.counted.now c.args.at c.args.kind.now c.in-Some.found.place entry.0 entry.1 in
+    let entry = rw c.in-Some.is at c.in_ok-found.ensures.found.entry in
+    let is = entry_is c.args.counted.now c.args.at c.args.kind.now c.in-Some.found.place entry.within entry.text in
     let unmarked : has_place c.args.marks.now c.in-Some.found.place ≡ false = sym c.contains.ensures ∙ c.if-contains.false in
-    let at : c.from.result ≡ parents_at c.args.counted.now c.args.at c.in-Some.found.place = c.from.ensures ∙ entry.2 in
+    let at : c.from.result ≡ parents_at c.args.counted.now c.args.at c.in-Some.found.place = c.from.ensures ∙ entry.second in
     let above = unmarked_read c.args.counted.now c.args.at pairs kinds reads c.args.marks.now
     c.args.kind.now c.in-Some.found.place is unmarked in
     let p = err_from_is_err_and c.from_residual-in_err-types.result c.from_residual-in_err-types.ensures.1 in
@@ -40,10 +40,10 @@ returns-in_err-types-clause-need c = λ pairs kinds reads enough.
 
 pub returns-in_err-types-clause-fault : goal.returns-in_err-types-clause-fault
 returns-in_err-types-clause-fault c =
-    let entry = rw c.in-Some.is at c.in_ok-found.ensures.entry in
-    let is = entry_is c.args.counted.now c.args.at c.args.kind.now c.in-Some.found.place entry.0 entry.1 in
+    let entry = rw c.in-Some.is at c.in_ok-found.ensures.found.entry in
+    let is = entry_is c.args.counted.now c.args.at c.args.kind.now c.in-Some.found.place entry.within entry.text in
     let unmarked : has_place c.args.marks.now c.in-Some.found.place ≡ false = sym c.contains.ensures ∙ c.if-contains.false in
-    let at : c.from.result ≡ parents_at c.args.counted.now c.args.at c.in-Some.found.place = c.from.ensures ∙ entry.2 in
+    let at : c.from.result ≡ parents_at c.args.counted.now c.args.at c.in-Some.found.place = c.from.ensures ∙ entry.second in
     let p = err_from_is_err_and c.from_residual-in_err-types.result c.from_residual-in_err-types.ensures.1 in
     rw (p.1, p.2) (inr (inr (record {
       place = c.in-Some.found.place;
@@ -55,10 +55,10 @@ returns-in_err-types-clause-fault c =
 
 pub returns-in_err-types-clause-takes_at_most : goal.returns-in_err-types-clause-takes_at_most
 returns-in_err-types-clause-takes_at_most c = λ pairs kinds reads.
-    let entry = rw c.in-Some.is at c.in_ok-found.ensures.entry in
-    let is = entry_is c.args.counted.now c.args.at c.args.kind.now c.in-Some.found.place entry.0 entry.1 in
+    let entry = rw c.in-Some.is at c.in_ok-found.ensures.found.entry in
+    let is = entry_is c.args.counted.now c.args.at c.args.kind.now c.in-Some.found.place entry.within entry.text in
     let unmarked : has_place c.args.marks.now c.in-Some.found.place ≡ false = sym c.contains.ensures ∙ c.if-contains.false in
-    let at : c.from.result ≡ parents_at c.args.counted.now c.args.at c.in-Some.found.place = c.from.ensures ∙ entry.2 in
+    let at : c.from.result ≡ parents_at c.args.counted.now c.args.at c.in-Some.found.place = c.from.ensures ∙ entry.second in
     let above = unmarked_read c.args.counted.now c.args.at pairs kinds reads c.args.marks.now
     c.args.kind.now c.in-Some.found.place is unmarked in
     let most = c.take_texts.ensures.takes_at_most in
@@ -67,8 +67,8 @@ returns-in_err-types-clause-takes_at_most c = λ pairs kinds reads.
 
 pub returns-in_err-add-clause-fault : goal.returns-in_err-add-clause-fault
 returns-in_err-add-clause-fault c =
-    let entry = rw c.in-Some.is at c.in_ok-found.ensures.entry in
-    let is = entry_is c.args.counted.now c.args.at c.args.kind.now c.in-Some.found.place entry.0 entry.1 in
+    let entry = rw c.in-Some.is at c.in_ok-found.ensures.found.entry in
+    let is = entry_is c.args.counted.now c.args.at c.args.kind.now c.in-Some.found.place entry.within entry.text in
     let unmarked : has_place c.args.marks.now c.in-Some.found.place ≡ false = sym c.contains.ensures ∙ c.if-contains.false in
     let p = err_from_is_err_and c.from_residual-in_err-add.result c.from_residual-in_err-add.ensures.1 in
     rw (p.1, p.2) (inr (inr (record {
@@ -80,10 +80,10 @@ returns-in_err-add-clause-fault c =
 
 pub returns-in_err-add-clause-takes_at_most : goal.returns-in_err-add-clause-takes_at_most
 returns-in_err-add-clause-takes_at_most c = λ pairs kinds reads.
-    let entry = rw c.in-Some.is at c.in_ok-found.ensures.entry in
-    let is = entry_is c.args.counted.now c.args.at c.args.kind.now c.in-Some.found.place entry.0 entry.1 in
+    let entry = rw c.in-Some.is at c.in_ok-found.ensures.found.entry in
+    let is = entry_is c.args.counted.now c.args.at c.args.kind.now c.in-Some.found.place entry.within entry.text in
     let unmarked : has_place c.args.marks.now c.in-Some.found.place ≡ false = sym c.contains.ensures ∙ c.if-contains.false in
-    let at : c.from.result ≡ parents_at c.args.counted.now c.args.at c.in-Some.found.place = c.from.ensures ∙ entry.2 in
+    let at : c.from.result ≡ parents_at c.args.counted.now c.args.at c.in-Some.found.place = c.from.ensures ∙ entry.second in
     let above = unmarked_read c.args.counted.now c.args.at pairs kinds reads c.args.marks.now
     c.args.kind.now c.in-Some.found.place is unmarked in
     let most = c.take_texts.ensures.takes_at_most in
@@ -92,10 +92,10 @@ returns-in_err-add-clause-takes_at_most c = λ pairs kinds reads.
 
 pub returns-clause-answer : goal.returns-clause-answer
 returns-clause-answer c = λ pairs kinds reads.
-    let entry = rw c.in-Some.is at c.in_ok-found.ensures.entry in
-    let is = entry_is c.args.counted.now c.args.at c.args.kind.now c.in-Some.found.place entry.0 entry.1 in
+    let entry = rw c.in-Some.is at c.in_ok-found.ensures.found.entry in
+    let is = entry_is c.args.counted.now c.args.at c.args.kind.now c.in-Some.found.place entry.within entry.text in
     let unmarked : has_place c.args.marks.now c.in-Some.found.place ≡ false = sym c.contains.ensures ∙ c.if-contains.false in
-    let at : c.from.result ≡ parents_at c.args.counted.now c.args.at c.in-Some.found.place = c.from.ensures ∙ entry.2 in
+    let at : c.from.result ≡ parents_at c.args.counted.now c.args.at c.in-Some.found.place = c.from.ensures ∙ entry.second in
     let place = rw c.in-Some.is at (c.in_ok-found.ensures.answer kinds reads.types) in
     let some = some_parent c.args.counted.now c.args.at pairs kinds reads c.args.kind.now c.in-Some.found.place is in
     let above = unmarked_read c.args.counted.now c.args.at pairs kinds reads c.args.marks.now
@@ -109,10 +109,10 @@ returns-clause-answer c = λ pairs kinds reads.
 
 pub returns-clause-read : goal.returns-clause-read
 returns-clause-read c =
-    let entry = rw c.in-Some.is at c.in_ok-found.ensures.entry in
-    let is = entry_is c.args.counted.now c.args.at c.args.kind.now c.in-Some.found.place entry.0 entry.1 in
+    let entry = rw c.in-Some.is at c.in_ok-found.ensures.found.entry in
+    let is = entry_is c.args.counted.now c.args.at c.args.kind.now c.in-Some.found.place entry.within entry.text in
     let unmarked : has_place c.args.marks.now c.in-Some.found.place ≡ false = sym c.contains.ensures ∙ c.if-contains.false in
-    let at : c.from.result ≡ parents_at c.args.counted.now c.args.at c.in-Some.found.place = c.from.ensures ∙ entry.2 in
+    let at : c.from.result ≡ parents_at c.args.counted.now c.args.at c.in-Some.found.place = c.from.ensures ∙ entry.second in
     record {
       entry = is;
       marked = λ other. absurd (cc (unmarked, other));
@@ -121,10 +121,10 @@ returns-clause-read c =
 
 pub returns-clause-takes_at_most : goal.returns-clause-takes_at_most
 returns-clause-takes_at_most c = λ pairs kinds reads.
-    let entry = rw c.in-Some.is at c.in_ok-found.ensures.entry in
-    let is = entry_is c.args.counted.now c.args.at c.args.kind.now c.in-Some.found.place entry.0 entry.1 in
+    let entry = rw c.in-Some.is at c.in_ok-found.ensures.found.entry in
+    let is = entry_is c.args.counted.now c.args.at c.args.kind.now c.in-Some.found.place entry.within entry.text in
     let unmarked : has_place c.args.marks.now c.in-Some.found.place ≡ false = sym c.contains.ensures ∙ c.if-contains.false in
-    let at : c.from.result ≡ parents_at c.args.counted.now c.args.at c.in-Some.found.place = c.from.ensures ∙ entry.2 in
+    let at : c.from.result ≡ parents_at c.args.counted.now c.args.at c.in-Some.found.place = c.from.ensures ∙ entry.second in
     let above = unmarked_read c.args.counted.now c.args.at pairs kinds reads c.args.marks.now
     c.args.kind.now c.in-Some.found.place is unmarked in
     let most = c.take_texts.ensures.takes_at_most in

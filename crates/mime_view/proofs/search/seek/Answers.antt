@@ -8,17 +8,8 @@ use Rattle.mime_view.proofs.OneText.{same_text}
 use Rattle.mime_view.proofs.Places.{splits-found, key_at}
 use Rattle.mime_view.proofs.search.seek.Goals as goal
 
-pub returns-in_err-compare_text-clause-answers : goal.returns-in_err-compare_text-clause-answers
-returns-in_err-compare_text-clause-answers c = λ stand.
-    let middle : ℕ = (c.loop-low.low + c.loop-low.high) / 2 in
-    let t = stand middle (omega arith) in
-    let at : c.from.result ≡ field c.args.counted.now (c.args.first + c.args.size * middle) 0 =
-    c.from.ensures ∙ ap (λ xs. get_or xs 0 0) c.cards_within.ensures.numbers in
-    let order = c.in_err-compare_text.ensures.text t.0 (ap (text_at c.args.counted.now) at ∙ t.1) in
-    absurd (cc order)
-
 pub returns-in_err-compare_text-clause-answer : goal.returns-in_err-compare_text-clause-answer
-returns-in_err-compare_text-clause-answer c = λ keys n stand sorted.
+returns-in_err-compare_text-clause-answer c = λ keys n stand.
     let middle : ℕ = (c.loop-low.low + c.loop-low.high) / 2 in
     let text = key_at c.args.counted.now c.args.first c.args.size keys middle stand (omega arith) in
     let at : c.from.result ≡ field c.args.counted.now (c.args.first + c.args.size * middle) 0 =
@@ -32,6 +23,15 @@ returns-clause-answer c = λ keys n stand sorted.
     splits-found c.args.counted.now c.args.first c.args.size c.args.count c.args.key.now c.loop-low.low keys n
     (record { within = omega arith; before = c.loop-low.invariant.before; after = rw e at c.loop-low.invariant.after })
     stand sorted
+
+pub returns-clause-sought : goal.returns-clause-sought
+returns-clause-sought c =
+    let e : c.loop-low.high ≡ c.loop-low.low = omega arith in
+    record {
+      found = record { within = omega arith; before = c.loop-low.invariant.before; after = rw e at c.loop-low.invariant.after };
+      same = rw e at c.loop-low.invariant.equal;
+      other = rw e at c.loop-low.invariant.other;
+    }
 
 pub loop-low-preserved-in-Less : goal.loop-low-preserved-in-Less
 loop-low-preserved-in-Less c =
