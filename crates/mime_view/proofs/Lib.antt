@@ -18,7 +18,7 @@ mod SectionRows
 mod StandingValues
 mod MagicLists
 mod Spelled
-mod Spending
+mod Costs
 mod Charges
 mod OffersLemmas
 mod StoredRules

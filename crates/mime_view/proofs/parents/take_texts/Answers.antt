@@ -1,6 +1,6 @@
 use Rattle.std.proofs.Common.{◌≡◌, ◌+◌, ◌*◌, ◌∙◌, arith, rules, ⊎_elim}
 use Rattle.mime_view.proofs.Places.{key_at}
-use Rattle.mime_view.proofs.Spending.{spends_then}
+use Rattle.mime_view.proofs.Costs.{spends_then}
 use Rattle.mime_view.proofs.TextLists.{KeysAt-pushed}
 use Rattle.mime_view.specs.Spending.{per_record}
 use Rattle.mime_view.proofs.parents.take_texts.Goals as goal
