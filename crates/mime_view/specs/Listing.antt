@@ -1,15 +1,20 @@
 -- All glob rules of a cache as a program lists them, and what listing them costs.
 pub mod Reads
 pub mod Faults
-use Rattle.std.specs.Prelude.{◌≡◌, ℕ, ◌+◌, ◌*◌, ◌/◌, ◌%◌, ◌<◌, ◌≤◌, ◌==◌, Bool, List, ◌++◌, length, map, Ok}
+use Rattle.std.specs.Prelude.{◌≡◌, ℕ, ◌+◌, ◌*◌, ◌/◌, ◌%◌, ◌<◌, ◌≤◌, ◌==◌, All, Bool, List, ◌++◌, length, map, Result, Ok, IfErr}
+use Rattle.mime_base.specs.Cache.Bytes.{field}
 use Rattle.mime_base.specs.Cache.Texts.{text_at}
 use Rattle.mime_base.specs.Format.Sorted.{IsSortedByText}
 use Rattle.mime_base.specs.Format.Stored.{glob_rules, literal_rules, reversed_ending, stored_text, tree_rules}
 use Rattle.mime_base.specs.Meter.{raised}
 use Rattle.mime_base.specs.declared.database.rule.GlobRule.{GlobRule}
 use Rattle.mime_base.specs.declared.meter.Meter.{Meter}
+use Rattle.mime_view.specs.Spending.{Spends, per_record}
 use Rattle.mime_view.specs.declared.budget.Budget.{Budget}
+use Rattle.mime_view.specs.declared.fault.CacheFault.{CacheFault}
 use Rattle.mime_view.specs.declared.rules.listing.Listed.{Listed}
+use Rattle.mime_view.specs.declared.rules.row.Row.{Row}
+use Rattle.mime_view.specs.declared.spending.Spending.{Spending}
 
 -- a rule as it is listed, with its pattern as it is stored
 pub record PlainListed : Type 0 where
@@ -66,3 +71,22 @@ pub record Lists (more : ℕ) (old new : Budget) (before after : Meter) : Type 0
   pub fair : raised before.nodes old.records ≤ after.nodes + new.records
   pub bytes_rise : before.bytes ≤ after.bytes
   pub bytes : after.bytes + 512 * new.records ≤ before.bytes + 512 * old.records
+
+-- A row that is taken from the record at `at`.
+pub record IsRow (c : List ℕ) (at : ℕ) (old new : Spending) (row : Row) : Type 0 where
+  -- Its numbers are those of the record.
+  pub first : row.first ≡ field c at 0
+  pub second : row.second ≡ field c at 1
+  pub third : row.third ≡ field c at 2
+  -- It took a record of the budget.
+  pub taken : new.budget.records + 1 ≡ old.budget.records
+
+-- What a step adds to a listing on any bytes, and what it costs.
+pub record Adds {X : Type 0} (c : List ℕ) (Fault : ℕ → CacheFault → Type 0) (nodes : ℕ) (before after : List PlainListed)
+    (old new : Spending) (result : Result X CacheFault) : Type 0 where
+  -- Each rule that it adds has a text of the cache as its type, and a short pattern.
+  pub texts : All (IsListed c) before → All (IsListed c) after
+  -- Where it stops there is such a fault, by the records that are left.
+  pub fault : IfErr result (Fault new.budget.records)
+  -- Each record adds one node and at most 512 bytes.
+  pub cost : Spends (per_record 512) nodes 0 old new

@@ -1,7 +1,9 @@
 -- What a step costs: what it takes of the budget, and what it adds to the meter.
-use Rattle.std.specs.Prelude.{◌≡◌, ℕ, ◌+◌, ◌*◌, ◌≤◌}
+use Rattle.std.specs.Prelude.{◌≡◌, ℕ, ◌+◌, ◌*◌, ◌≤◌, Result, IfErr, IfOk}
 use Rattle.mime_base.specs.Meter.{raised}
 use Rattle.mime_base.specs.declared.meter.Meter.{Meter}
+use Rattle.mime_view.specs.declared.fault.CacheFault.{CacheFault}
+use Rattle.mime_view.specs.declared.fault.CacheFault.TheVariants.{OutOfMemory}
 use Rattle.mime_view.specs.declared.spending.Spending.{Spending}
 
 -- What is paid at most for a record of the budget, in nodes and in bytes, and for a value byte, in bytes.
@@ -45,3 +47,12 @@ pub record Looks (nodes bytes : ℕ) (old new : Meter) : Type 0 where
   pub most_nodes : new.nodes ≤ old.nodes + nodes
   -- Nor more bytes.
   pub most_bytes : new.bytes ≤ old.bytes + bytes
+
+-- What a step gives where what it reads stands, and so many records are enough.
+pub record Gives {X : Type 0} (Answer : X → Type 0) (records : ℕ) (old new : Spending) (result : Result X CacheFault) : Type 0 where
+  -- Unless it stops, this is the answer.
+  pub answer : IfOk result Answer
+  -- With that many records left it stops only where it is out of memory.
+  pub need : records ≤ old.budget.records → IfErr result (λ e. e ≡ OutOfMemory)
+  -- It takes no more of them.
+  pub most : old.budget.records ≤ new.budget.records + records

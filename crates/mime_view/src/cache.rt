@@ -40,6 +40,7 @@ use crate::marks::Marks;
 use crate::name::{RuleLists, glob_hits};
 use crate::pairs::look_up_pair;
 use crate::parents::{Parents, parents_of};
+use crate::rules::source::Source;
 use crate::rules::{Listed, list_rules};
 use crate::spending::Spending;
 use crate::texts::Texts;
@@ -409,6 +410,17 @@ impl<'a> Cache<'a> {
         let literals = u64::from(self.header[3]);
         let tree = u64::from(self.header[4]);
         let globs = u64::from(self.header[5]);
-        list_rules(alloc, &self.counted, literals, tree, globs, meter, budget)
+        let source = Source {
+            alloc,
+            counted: &self.counted,
+        };
+        let mut spending = Spending {
+            meter: *meter,
+            budget: *budget,
+        };
+        let rules = list_rules(&source, literals, tree, globs, &mut spending);
+        *meter = spending.meter;
+        *budget = spending.budget;
+        rules
     }
 }

@@ -8,58 +8,52 @@ mod ending;
 mod entries;
 mod listing;
 mod row;
+pub mod source;
 mod tree;
 
-ghost use Rattle.std.specs.Prelude.{◌≡◌, ◌+◌, ◌^◌, ◌<◌, ◌≤◌, List, ◌++◌, All, length, map, IfOk, IfErr};
+ghost use Rattle.std.specs.Prelude.{◌≡◌, ◌+◌, ◌^◌, ◌<◌, List, ◌++◌, All, length, map, MatchResult};
 ghost use Rattle.mime_base.specs.Format.Tree.{Tree, node_count};
 ghost use Rattle.mime_base.specs.declared.database.rule.GlobRule.{GlobRule};
-ghost use Rattle.mime_view.specs.Listing.{IsListed, Lists, listed_rule, plain_listed};
-ghost use Rattle.mime_view.specs.Listing.Faults.{IsRulesFault, IsListedTreeFault};
+ghost use Rattle.mime_view.specs.Listing.{IsListed, listed_rule, plain_listed};
+ghost use Rattle.mime_view.specs.Listing.Faults.{IsListsFault};
 ghost use Rattle.mime_view.specs.Listing.Reads.{ReadsListedRules, ReadsSuffixTree, rules_of};
-ghost use Rattle.std.specs.Prelude.{◌⊎◌};
+ghost use Rattle.mime_view.specs.Spending.{Gives, Spends, per_record};
 
-use crate::budget::Budget;
 use crate::fault::CacheFault;
 use crate::rules::entries::add_entries;
 use crate::rules::listing::Listing;
+use crate::rules::source::Source;
 use crate::rules::tree::add_tree;
+use crate::spending::Spending;
 pub use listing::Listed;
-use mime_base::{Counted, Meter};
-use std::alloc::Global;
 
 /// All rules: by the literal list, the suffix tree and the glob list at these offsets.
 pub fn list_rules<'a>(
-    alloc: Global,
-    counted: &Counted<'a>,
+    source: &Source<'_, 'a>,
     literals: u64,
     tree: u64,
     globs: u64,
-    meter: &mut Meter,
-    budget: &mut Budget,
+    spending: &mut Spending,
 ) -> Result<Vec<Listed<'a>>, CacheFault>
+    // Each offset is a number of 32 bits.
     requires literals { literals < 2 ^ 32 }
     requires tree { tree < 2 ^ 32 }
     requires globs { globs < 2 ^ 32 }
-    requires limit { length counted.now ≤ 2 ^ 28 }
-    ensures answer { (first last : List GlobRule) (roots : Tree) → ReadsListedRules counted.now literals first →
-        ReadsSuffixTree counted.now tree roots → ReadsListedRules counted.now globs last →
-        IfOk result (λ rules. map plain_listed rules.items
-        ≡ map listed_rule first ++ (map listed_rule (rules_of roots) ++ map listed_rule last)) }
-    ensures text { IfOk result (λ rules. All (IsListed counted.now) (map plain_listed rules.items)) }
-    ensures need { (first last : List GlobRule) (roots : Tree) → ReadsListedRules counted.now literals first →
-        ReadsSuffixTree counted.now tree roots → ReadsListedRules counted.now globs last →
-        length first + node_count roots + length last ≤ budget.old.records →
-        IfErr result (λ e. e ≡ CacheFault.OutOfMemory) }
-    ensures takes_at_most { (first last : List GlobRule) (roots : Tree) → ReadsListedRules counted.now literals first →
-        ReadsSuffixTree counted.now tree roots → ReadsListedRules counted.now globs last →
-        budget.old.records ≤ budget.new.records + (length first + node_count roots + length last) }
-    ensures fault { IfErr result (λ e. IsRulesFault counted.now literals budget.new.records e
-        ⊎ IsListedTreeFault counted.now tree budget.new.records e ⊎ IsRulesFault counted.now globs budget.new.records e) }
-    ensures cost { Lists 4 budget.old budget.new meter.old meter.new }
+    // It lists the rules of three lists that stand; an entry and a node take a record each.
+    ensures answer { (first last : List GlobRule) (roots : Tree) → ReadsListedRules source.now.counted.now literals first →
+        ReadsSuffixTree source.now.counted.now tree roots → ReadsListedRules source.now.counted.now globs last →
+        Gives (λ rules. map plain_listed rules.items
+        ≡ map listed_rule first ++ (map listed_rule (rules_of roots) ++ map listed_rule last))
+        (length first + node_count roots + length last) spending.old spending.new result }
+    // On any bytes it lists rules with a text of the cache as their type and a short pattern, or one of the lists stops it.
+    ensures listed { MatchResult result (λ rules. All (IsListed source.now.counted.now) (map plain_listed rules.items))
+        (IsListsFault source.now.counted.now literals tree globs spending.new.budget.records) }
+    // Each record adds one node and at most 512 bytes, each list one node.
+    ensures cost { Spends (per_record 512) 3 0 spending.old spending.new }
 {
-    let mut listing = Listing::none(alloc);
-    add_entries(alloc, counted, literals, &mut listing, meter, budget)?;
-    add_tree(alloc, counted, tree, &mut listing, meter, budget)?;
-    add_entries(alloc, counted, globs, &mut listing, meter, budget)?;
+    let mut listing = Listing::none(source.alloc);
+    add_entries(source, literals, &mut listing, spending)?;
+    add_tree(source, tree, &mut listing, spending)?;
+    add_entries(source, globs, &mut listing, spending)?;
     Ok(listing.into_vec())
 }

@@ -50,7 +50,11 @@ IsListedTreeFault c at left e =
     ((length c < at + 8) × (e ≡ OutOfRange at)) ⊎ IsBlockFault c (field c at 1) 12 (field c at 0) e
     ⊎ IsSiblingsFault c (field c at 1) (field c at 0) 0 left e
 
+-- why the rules of a literal list, a tree and a glob list at these offsets are not listed: one of the three
+abbrev pub IsListsFault : List ℕ → ℕ → ℕ → ℕ → ℕ → CacheFault → Type 0
+IsListsFault c literals tree globs left e =
+    IsRulesFault c literals left e ⊎ IsListedTreeFault c tree left e ⊎ IsRulesFault c globs left e
+
 -- why the rules of a cache are not listed: one of its three lists, which its header names
 abbrev pub IsListingFault : List ℕ → ℕ → CacheFault → Type 0
-IsListingFault c left e =
-    IsRulesFault c (field c 0 3) left e ⊎ IsListedTreeFault c (field c 0 4) left e ⊎ IsRulesFault c (field c 0 5) left e
+IsListingFault c left e = IsListsFault c (field c 0 3) (field c 0 4) (field c 0 5) left e

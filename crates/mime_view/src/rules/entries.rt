@@ -1,71 +1,69 @@
 //! The rules of the literal list and of the glob list ("The mime.cache files").
 
-ghost use Rattle.std.specs.Prelude.{◌≡◌, ◌+◌, ◌*◌, ◌^◌, ◌<◌, ◌≤◌, List, [], ◌∷◌, ◌++◌, All, length, map, OnOk, IfErr};
+ghost use Rattle.std.specs.Prelude.{◌≡◌, ◌+◌, ◌*◌, ◌^◌, ◌<◌, ◌≤◌, List, [], ◌∷◌, ◌++◌, length, map};
 ghost use Rattle.mime_base.specs.declared.database.rule.GlobRule.{GlobRule};
-ghost use Rattle.mime_view.specs.Listing.{IsListed, Lists, listed_rule};
+ghost use Rattle.mime_view.specs.Listing.{Adds, listed_rule};
 ghost use Rattle.mime_view.specs.Listing.Faults.{IsRuleFault, IsRulesFault};
 ghost use Rattle.mime_view.specs.Listing.Reads.{ReadsEntry, ReadsListedRules};
+ghost use Rattle.mime_view.specs.Spending.{Gives};
 
-use crate::budget::Budget;
 use crate::fault::CacheFault;
 use crate::list::count_at;
 use crate::rules::listing::Listing;
 use crate::rules::row::take_row;
-use mime_base::{Counted, Meter};
-use std::alloc::Global;
+use crate::rules::source::Source;
+use crate::spending::Spending;
 
 /// Adds the rules of the list at `at`, each with a record of the budget.
 pub fn add_entries<'a>(
-    alloc: Global,
-    counted: &Counted<'a>,
+    source: &Source<'_, 'a>,
     at: u64,
     listing: &mut Listing<'a>,
-    meter: &mut Meter,
-    budget: &mut Budget,
+    spending: &mut Spending,
 ) -> Result<(), CacheFault>
+    // The list's offset is a number of 32 bits.
     requires at { at < 2 ^ 32 }
-    requires limit { length counted.now ≤ 2 ^ 28 }
-    ensures answer { (rules : List GlobRule) → ReadsListedRules counted.now at rules →
-        OnOk result (listing.new ≡ listing.old ++ map listed_rule rules) }
-    ensures text { All (IsListed counted.now) listing.old → All (IsListed counted.now) listing.new }
-    ensures need { (rules : List GlobRule) → ReadsListedRules counted.now at rules → length rules ≤ budget.old.records →
-        IfErr result (λ e. e ≡ CacheFault.OutOfMemory) }
-    ensures takes_at_most { (rules : List GlobRule) → ReadsListedRules counted.now at rules →
-        budget.old.records ≤ budget.new.records + length rules }
-    ensures fault { IfErr result (IsRulesFault counted.now at budget.new.records) }
-    ensures cost { Lists 1 budget.old budget.new meter.old meter.new }
+    // It adds the rules of a list that stands, which take a record each.
+    ensures answer { (rules : List GlobRule) → ReadsListedRules source.now.counted.now at rules →
+        Gives (λ _. listing.new ≡ listing.old ++ map listed_rule rules) (length rules) spending.old spending.new result }
+    // On any bytes it adds such rules, and looks at the list's count besides.
+    ensures adds { Adds source.now.counted.now (IsRulesFault source.now.counted.now at) 1
+        listing.old listing.new spending.old spending.new result }
 {
-    let count = count_at(counted, at, 12, meter)?;
+    let count = count_at(source.counted, at, 12, &mut spending.meter)?;
     let first = at + 4;
     for i in 0..count {
-        add_entry(alloc, counted, first + 12 * i, listing, meter, budget)?;
+        add_entry(source, first + 12 * i, listing, spending)?;
     }
     Ok(())
 }
 
 /// Adds the rule of the entry at `at`.
 fn add_entry<'a>(
-    alloc: Global,
-    counted: &Counted<'a>,
+    source: &Source<'_, 'a>,
     at: u64,
     listing: &mut Listing<'a>,
-    meter: &mut Meter,
-    budget: &mut Budget,
+    spending: &mut Spending,
 ) -> Result<(), CacheFault>
-    requires inside { at + 12 ≤ length counted.now }
-    ensures answer { (rule : GlobRule) → ReadsEntry counted.now at rule →
-        OnOk result (listing.new ≡ listing.old ++ listed_rule rule ∷ []) }
-    ensures text { All (IsListed counted.now) listing.old → All (IsListed counted.now) listing.new }
-    ensures need { (rule : GlobRule) → ReadsEntry counted.now at rule → 1 ≤ budget.old.records →
-        IfErr result (λ e. e ≡ CacheFault.OutOfMemory) }
-    ensures takes_at_most { budget.old.records ≤ budget.new.records + 1 }
-    ensures fault { IfErr result (IsRuleFault counted.now budget.new.records) }
-    ensures cost { Lists 0 budget.old budget.new meter.old meter.new }
+    // The entry lies in the cache.
+    requires inside { at + 12 ≤ length source.now.counted.now }
+    // It adds the rule of an entry that stands, which takes a record.
+    ensures answer { (rule : GlobRule) → ReadsEntry source.now.counted.now at rule →
+        Gives (λ _. listing.new ≡ listing.old ++ listed_rule rule ∷ []) 1 spending.old spending.new result }
+    // On any bytes it takes at most a record.
+    ensures most { spending.old.budget.records ≤ spending.new.budget.records + 1 }
+    // On any bytes it adds such a rule.
+    ensures adds { Adds source.now.counted.now (IsRuleFault source.now.counted.now) 0
+        listing.old listing.new spending.old spending.new result }
 {
-    let row = take_row(counted, at, meter, budget)?;
-    let text = counted.text_at(u64::from(row.first), meter)?;
-    let kind = counted.text_at(u64::from(row.second), meter)?;
-    let pattern = Vec::from_slice(alloc, text)?;
+    let row = take_row(source.counted, at, spending)?;
+    let text = source
+        .counted
+        .text_at(u64::from(row.first), &mut spending.meter)?;
+    let kind = source
+        .counted
+        .text_at(u64::from(row.second), &mut spending.meter)?;
+    let pattern = Vec::from_slice(source.alloc, text)?;
     listing.add(kind, pattern, row.third)?;
     Ok(())
 }

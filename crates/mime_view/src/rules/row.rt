@@ -1,13 +1,13 @@
 //! Records of three numbers: entries of the literal list and of the glob list, and nodes of the suffix
 //! tree ("The mime.cache files").
 
-ghost use Rattle.std.specs.Prelude.{◌≡◌, ◌+◌, ◌≤◌, length, IfOk, IfErr, OnOk};
-ghost use Rattle.mime_base.specs.Cache.Bytes.{field};
-ghost use Rattle.mime_view.specs.Listing.{Lists};
+ghost use Rattle.std.specs.Prelude.{◌≡◌, ◌+◌, ◌≤◌, length, MatchResult};
+ghost use Rattle.mime_view.specs.Listing.{IsRow};
+ghost use Rattle.mime_view.specs.Spending.{Spends, per_record};
 
-use crate::budget::Budget;
 use crate::fault::CacheFault;
-use mime_base::{Counted, Meter};
+use crate::spending::Spending;
+use mime_base::Counted;
 
 /// The three numbers of a record.
 #[derive(Clone, Copy)]
@@ -18,22 +18,17 @@ pub struct Row {
 }
 
 /// Takes the record at `at`.
-pub fn take_row(
-    counted: &Counted<'_>,
-    at: u64,
-    meter: &mut Meter,
-    budget: &mut Budget,
-) -> Result<Row, CacheFault>
+pub fn take_row(counted: &Counted<'_>, at: u64, spending: &mut Spending) -> Result<Row, CacheFault>
+    // The record lies in the cache.
     requires inside { at + 12 ≤ length counted.now }
-    ensures numbers { IfOk result (λ row. (row.first ≡ field counted.now at 0)
-        × (row.second ≡ field counted.now at 1) × (row.third ≡ field counted.now at 2)) }
-    ensures taken { OnOk result (budget.new.records + 1 ≡ budget.old.records) }
-    ensures fault { IfErr result (λ e. (e ≡ CacheFault.Spent) × (budget.old.records ≡ 0) × (budget.new.records ≡ 0)) }
-    ensures cost { Lists 0 budget.old budget.new meter.old meter.new }
-    ensures bytes { meter.new.bytes ≡ meter.old.bytes }
+    // It gives the record's numbers and takes a record of the budget, or none is left.
+    ensures row { MatchResult result (IsRow counted.now at spending.old spending.new)
+        (λ e. (e ≡ CacheFault.Spent) × (spending.old.budget.records ≡ 0) × (spending.new.budget.records ≡ 0)) }
+    // It reads no text.
+    ensures cost { Spends (per_record 0) 0 0 spending.old spending.new }
 {
-    budget.take_record()?;
-    let [first, second, third] = counted.cards::<3>(at, meter)?;
+    spending.budget.take_record()?;
+    let [first, second, third] = counted.cards::<3>(at, &mut spending.meter)?;
     Ok(Row {
         first,
         second,

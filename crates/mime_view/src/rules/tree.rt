@@ -3,96 +3,81 @@
 //! The tree is walked depth first, with the ending that leads to the siblings in hand. Bytes may form
 //! cycles: the walk ends by the depth, and the budget bounds its work.
 
-ghost use Rattle.std.specs.Prelude.{◌≡◌, ◌⊎◌, ℕ, ◌+◌, ◌*◌, ◌^◌, ◌<◌, ◌≤◌, [], ◌∷◌, ◌++◌, All, length, map, OnOk, IfErr};
+ghost use Rattle.std.specs.Prelude.{◌≡◌, ◌⊎◌, ℕ, ◌+◌, ◌*◌, ◌^◌, ◌<◌, ◌≤◌, [], ◌∷◌, ◌++◌, All, length, map, OnOk, IfErr, MatchResult};
 ghost use Rattle.mime_base.specs.Cache.Bytes.{field};
 ghost use Rattle.mime_base.specs.Format.Tree.{Tree, node_count, sibling_count};
 ghost use Rattle.mime_base.specs.declared.database.rule.GlobRule.{GlobRule};
-ghost use Rattle.mime_view.specs.Listing.{IsListed, Lists, listed_rule};
+ghost use Rattle.mime_view.specs.Listing.{Adds, IsListed, listed_rule};
 ghost use Rattle.mime_view.specs.Listing.Faults.{IsSiblingsFault, IsListedTreeFault};
 ghost use Rattle.mime_view.specs.Listing.Reads.{ReadsLeaf, ReadsSuffixTree, ReadsListedTree, rules_of};
 ghost use Rattle.mime_view.specs.Lists.{IsTextFault};
 ghost use Rattle.mime_view.specs.Magic.{LiesBlock};
+ghost use Rattle.mime_view.specs.Spending.{Gives, Looks};
 
-use crate::budget::Budget;
 use crate::fault::CacheFault;
 use crate::magic::check_block;
 use crate::rules::ending::Ending;
 use crate::rules::listing::Listing;
 use crate::rules::row::{Row, take_row};
-use mime_base::{Counted, Meter};
-use std::alloc::Global;
+use crate::rules::source::Source;
+use crate::spending::Spending;
+use mime_base::Meter;
 
 /// The most characters on the way to a leaf.
 const DEEPEST: usize = 254;
 
 /// Adds the rules of the tree at `at`, each node with a record of the budget.
 pub fn add_tree<'a>(
-    alloc: Global,
-    counted: &Counted<'a>,
+    source: &Source<'_, 'a>,
     at: u64,
     listing: &mut Listing<'a>,
-    meter: &mut Meter,
-    budget: &mut Budget,
+    spending: &mut Spending,
 ) -> Result<(), CacheFault>
+    // The tree's offset is a number of 32 bits.
     requires at { at < 2 ^ 32 }
-    requires limit { length counted.now ≤ 2 ^ 28 }
-    ensures answer { (tree : Tree) → ReadsSuffixTree counted.now at tree →
-        OnOk result (listing.new ≡ listing.old ++ map listed_rule (rules_of tree)) }
-    ensures text { All (IsListed counted.now) listing.old → All (IsListed counted.now) listing.new }
-    ensures need { (tree : Tree) → ReadsSuffixTree counted.now at tree → node_count tree ≤ budget.old.records →
-        IfErr result (λ e. e ≡ CacheFault.OutOfMemory) }
-    ensures takes_at_most { (tree : Tree) → ReadsSuffixTree counted.now at tree →
-        budget.old.records ≤ budget.new.records + node_count tree }
-    ensures fault { IfErr result (IsListedTreeFault counted.now at budget.new.records) }
-    ensures cost { Lists 1 budget.old budget.new meter.old meter.new }
+    // It adds the rules of a tree that stands, of which each node takes a record.
+    ensures answer { (tree : Tree) → ReadsSuffixTree source.now.counted.now at tree →
+        Gives (λ _. listing.new ≡ listing.old ++ map listed_rule (rules_of tree)) (node_count tree)
+        spending.old spending.new result }
+    // On any bytes it adds such rules, and looks at the tree's head besides.
+    ensures adds { Adds source.now.counted.now (IsListedTreeFault source.now.counted.now at) 1
+        listing.old listing.new spending.old spending.new result }
 {
-    let [count, first] = counted.cards::<2>(at, meter)?;
+    let [count, first] = source.counted.cards::<2>(at, &mut spending.meter)?;
     let count = u64::from(count);
     let first = u64::from(first);
-    check_block(counted, first, 12, count)?;
-    let mut ending = Ending::none(alloc);
-    add_siblings(
-        alloc,
-        counted,
-        first,
-        count,
-        &mut ending,
-        listing,
-        meter,
-        budget,
-    )?;
+    check_block(source.counted, first, 12, count)?;
+    let mut ending = Ending::none(source.alloc);
+    add_siblings(source, first, count, &mut ending, listing, spending)?;
     Ok(())
 }
 
 /// Adds the rules of the `count` siblings from `first` on, to which an ending leads.
 #[cycle(siblings)]
 fn add_siblings<'a>(
-    alloc: Global,
-    counted: &Counted<'a>,
+    source: &Source<'_, 'a>,
     first: u64,
     count: u64,
     ending: &mut Ending,
     listing: &mut Listing<'a>,
-    meter: &mut Meter,
-    budget: &mut Budget,
+    spending: &mut Spending,
 ) -> Result<(), CacheFault>
-    requires limit { length counted.now ≤ 2 ^ 28 }
-    requires fits { LiesBlock counted.now first 12 count }
+    // The siblings lie in the cache.
+    requires fits { LiesBlock source.now.counted.now first 12 count }
+    // The ending is no longer than the deepest.
     requires depth { length ending.old ≤ 254 }
-    ensures answer { (tree : Tree) → sibling_count tree ≡ count → ReadsListedTree counted.now first ending.old tree →
-        OnOk result (listing.new ≡ listing.old ++ map listed_rule (rules_of tree)) }
+    // It adds the rules of siblings that stand, of which each node takes a record.
+    ensures answer { (tree : Tree) → sibling_count tree ≡ count → ReadsListedTree source.now.counted.now first ending.old tree →
+        Gives (λ _. listing.new ≡ listing.old ++ map listed_rule (rules_of tree)) (node_count tree)
+        spending.old spending.new result }
+    // The ending is then as it was.
     ensures ending_stays { OnOk result (ending.new ≡ ending.old) }
-    ensures text { All (IsListed counted.now) listing.old → All (IsListed counted.now) listing.new }
-    ensures need { (tree : Tree) → sibling_count tree ≡ count → ReadsListedTree counted.now first ending.old tree →
-        node_count tree ≤ budget.old.records → IfErr result (λ e. e ≡ CacheFault.OutOfMemory) }
-    ensures takes_at_most { (tree : Tree) → sibling_count tree ≡ count → ReadsListedTree counted.now first ending.old tree →
-        budget.old.records ≤ budget.new.records + node_count tree }
-    ensures fault { IfErr result (IsSiblingsFault counted.now first count (length ending.old) budget.new.records) }
-    ensures cost { Lists 0 budget.old budget.new meter.old meter.new }
+    // On any bytes it adds such rules.
+    ensures adds { Adds source.now.counted.now (IsSiblingsFault source.now.counted.now first count (length ending.old)) 0
+        listing.old listing.new spending.old spending.new result }
 {
     for i in 0..count {
-        let at = first + 12 * i;
-        add_sibling(alloc, counted, at, ending, listing, meter, budget)?;
+        add_sibling(source, first + 12 * i, ending, listing, spending)?;
     }
     Ok(())
 }
@@ -101,31 +86,29 @@ fn add_siblings<'a>(
 #[cycle(siblings)]
 #[tactic(auto, using(crate::proofs::SiblingNodes::some_node))]
 fn add_sibling<'a>(
-    alloc: Global,
-    counted: &Counted<'a>,
+    source: &Source<'_, 'a>,
     at: u64,
     ending: &mut Ending,
     listing: &mut Listing<'a>,
-    meter: &mut Meter,
-    budget: &mut Budget,
+    spending: &mut Spending,
 ) -> Result<(), CacheFault>
-    requires limit { length counted.now ≤ 2 ^ 28 }
-    requires inside { at + 12 ≤ length counted.now }
+    // The sibling lies in the cache.
+    requires inside { at + 12 ≤ length source.now.counted.now }
+    // The ending is no longer than the deepest.
     requires depth { length ending.old ≤ 254 }
-    ensures answer { (tree : Tree) → sibling_count tree ≡ 1 → ReadsListedTree counted.now at ending.old tree →
-        OnOk result (listing.new ≡ listing.old ++ map listed_rule (rules_of tree)) }
+    // It adds the rules of a sibling that stands, of which each node takes a record.
+    ensures answer { (tree : Tree) → sibling_count tree ≡ 1 → ReadsListedTree source.now.counted.now at ending.old tree →
+        Gives (λ _. listing.new ≡ listing.old ++ map listed_rule (rules_of tree)) (node_count tree)
+        spending.old spending.new result }
+    // The ending is then as it was.
     ensures ending_stays { OnOk result (ending.new ≡ ending.old) }
-    ensures text { All (IsListed counted.now) listing.old → All (IsListed counted.now) listing.new }
-    ensures need { (tree : Tree) → sibling_count tree ≡ 1 → ReadsListedTree counted.now at ending.old tree →
-        node_count tree ≤ budget.old.records → IfErr result (λ e. e ≡ CacheFault.OutOfMemory) }
-    ensures takes_at_most { (tree : Tree) → sibling_count tree ≡ 1 → ReadsListedTree counted.now at ending.old tree →
-        budget.old.records ≤ budget.new.records + node_count tree }
-    ensures fault { IfErr result (IsSiblingsFault counted.now at 1 (length ending.old) budget.new.records) }
-    ensures cost { Lists 0 budget.old budget.new meter.old meter.new }
+    // On any bytes it adds such rules.
+    ensures adds { Adds source.now.counted.now (IsSiblingsFault source.now.counted.now at 1 (length ending.old)) 0
+        listing.old listing.new spending.old spending.new result }
 {
-    let row = take_row(counted, at, meter, budget)?;
+    let row = take_row(source.counted, at, spending)?;
     if row.first == 0 {
-        add_leaf(alloc, counted, row, ending, listing, meter)?;
+        add_leaf(source, row, ending, listing, &mut spending.meter)?;
         return Ok(());
     }
     if row.first > 255 {
@@ -136,38 +119,40 @@ fn add_sibling<'a>(
     }
     let count = u64::from(row.second);
     let first = u64::from(row.third);
-    check_block(counted, first, 12, count)?;
+    check_block(source.counted, first, 12, count)?;
     ending.grow(row.first as u8)?;
-    add_siblings(alloc, counted, first, count, ending, listing, meter, budget)?;
+    add_siblings(source, first, count, ending, listing, spending)?;
     ending.shrink();
     Ok(())
 }
 
 /// Adds the rule of a leaf, unless it is a root.
 fn add_leaf<'a>(
-    alloc: Global,
-    counted: &Counted<'a>,
+    source: &Source<'_, 'a>,
     row: Row,
     ending: &Ending,
     listing: &mut Listing<'a>,
     meter: &mut Meter,
 ) -> Result<(), CacheFault>
+    // The ending is no longer than the deepest.
     requires depth { length ending.now ≤ 254 }
-    ensures answer { (at : ℕ) (rule : GlobRule) → row.second ≡ field counted.now at 1 → row.third ≡ field counted.now at 2 →
-        ReadsLeaf counted.now at ending.now rule → OnOk result (listing.new ≡ listing.old ++ listed_rule rule ∷ []) }
-    ensures text { All (IsListed counted.now) listing.old → All (IsListed counted.now) listing.new }
-    ensures need { (at : ℕ) (rule : GlobRule) → row.second ≡ field counted.now at 1 → ReadsLeaf counted.now at ending.now rule →
-        IfErr result (λ e. e ≡ CacheFault.OutOfMemory) }
-    ensures fault { IfErr result (λ e. IsTextFault counted.now e ⊎ (e ≡ CacheFault.OutOfMemory)) }
-    ensures nodes { meter.new.nodes ≡ meter.old.nodes }
-    ensures bytes_rise { meter.old.bytes ≤ meter.new.bytes }
-    ensures bytes { meter.new.bytes ≤ meter.old.bytes + 256 }
+    // It adds the rule of a leaf that stands, or is out of memory.
+    ensures answer { (at : ℕ) (rule : GlobRule) → row.second ≡ field source.now.counted.now at 1 →
+        ReadsLeaf source.now.counted.now at ending.now rule →
+        MatchResult result (λ _. row.third ≡ field source.now.counted.now at 2 → listing.new ≡ listing.old ++ listed_rule rule ∷ [])
+        (λ e. e ≡ CacheFault.OutOfMemory) }
+    // On any bytes it adds a rule with a text of the cache as its type, and a short pattern.
+    ensures texts { All (IsListed source.now.counted.now) listing.old → All (IsListed source.now.counted.now) listing.new }
+    // It stops where the type is no text, or out of memory.
+    ensures fault { IfErr result (λ e. IsTextFault source.now.counted.now e ⊎ (e ≡ CacheFault.OutOfMemory)) }
+    // It reads the type.
+    ensures cost { Looks 0 256 meter.old meter.new }
 {
     if ending.length() == 0 {
         return Ok(());
     }
-    let kind = counted.text_at(u64::from(row.second), meter)?;
-    let pattern = ending.pattern(alloc)?;
+    let kind = source.counted.text_at(u64::from(row.second), meter)?;
+    let pattern = ending.pattern(source.alloc)?;
     listing.add(kind, pattern, row.third)?;
     Ok(())
 }

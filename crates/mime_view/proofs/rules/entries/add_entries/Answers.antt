@@ -1,26 +1,45 @@
-use Rattle.std.proofs.Common.{◌≡◌, ◌+◌, length, arith, rules, ◌∙◌}
+use Rattle.std.proofs.Common.{◌≡◌, ◌+◌, length, arith, inr, rules, ◌∙◌}
 use Rattle.std.proofs.lemmas.Result.{err_from_is_err_and}
+use Rattle.mime_view.specs.Spending.{per_record}
+use Rattle.mime_view.proofs.Costs.{spends_then}
 use Rattle.mime_view.proofs.EntryRows.{next}
 use Rattle.mime_view.proofs.rules.entries.add_entries.Goals as goal
 
-pub returns-in_err-add_entry-clause-text : goal.returns-in_err-add_entry-clause-text
-returns-in_err-add_entry-clause-text c = λ all. c.add_entry.ensures.text (c.loop-i.invariant.text all)
-
-pub returns-in_err-add_entry-clause-need : goal.returns-in_err-add_entry-clause-need
-returns-in_err-add_entry-clause-need c = λ rules reads enough.
+pub returns-in_err-add_entry-clause-answer : goal.returns-in_err-add_entry-clause-answer
+returns-in_err-add_entry-clause-answer c = λ rules reads.
     let size : c.in_ok-count.count ≡ length rules = c.in_ok-count.ensures.count.0 ∙ reads.count in
-    let n = next c.args.counted.now (c.args.at + 4) c.in_ok-count.count rules _ c.loop-i.i _ c.loop-i-test.true
+    let n = next c.args.source.now.counted.now (c.args.at + 4) c.in_ok-count.count rules _ c.loop-i.i _ c.loop-i-test.true
     (c.loop-i.invariant.left rules reads) in
     let p = err_from_is_err_and c.from_residual-in_err-add_entry.result c.from_residual-in_err-add_entry.ensures.1 in
-    rw (p.1, p.2) (c.in_err-add_entry.ensures.need n.rule n.reads (omega (arith, c.loop-i.invariant.takes, c.loop-i-test.true)))
+    let left = c.loop-i.invariant.most in
+    rw (p.1, p.2) (record {
+      answer = search rules;
+      need = λ enough. (c.in_err-add_entry.ensures.answer n.rule n.reads).need (omega (arith, left, c.loop-i-test.true));
+      most = omega (arith, left, c.add_entry.ensures.most, c.loop-i-test.true);
+    })
+
+pub returns-in_err-add_entry-clause-adds : goal.returns-in_err-add_entry-clause-adds
+returns-in_err-add_entry-clause-adds c =
+    let p = err_from_is_err_and c.from_residual-in_err-add_entry.result c.from_residual-in_err-add_entry.ensures.1 in
+    let entry = c.in_err-add_entry.ensures.adds in
+    rw (p.1, p.2) (record {
+      texts = λ all. entry.texts (c.loop-i.invariant.adds.texts all);
+      fault = inr entry.fault;
+      cost = spends_then (per_record 512) 1 0 0 0 _ _ _ c.loop-i.invariant.adds.cost entry.cost;
+    })
 
 pub loop-i-preserved : goal.loop-i-preserved
-loop-i-preserved c = record {
-  left = λ rules reads.
-      let n = next c.args.counted.now (c.args.at + 4) c.in_ok-count.count rules _ c.loop-i.i _ c.loop-i-test.true
-      (c.loop-i.invariant.left rules reads) in
-      n.later _ (c.in_ok-add_entry.ensures.answer n.rule n.reads);
-  text = λ all. c.add_entry.ensures.text (c.loop-i.invariant.text all);
-  takes = omega (arith, c.loop-i.invariant.takes, c.add_entry.ensures.takes_at_most);
-  cost = search rules;
-}
+loop-i-preserved c =
+    let entry = c.in_ok-add_entry.ensures in
+    record {
+      left = λ rules reads.
+          let n = next c.args.source.now.counted.now (c.args.at + 4) c.in_ok-count.count rules _ c.loop-i.i _ c.loop-i-test.true
+          (c.loop-i.invariant.left rules reads) in
+          n.later _ (entry.answer n.rule n.reads).answer;
+      most = omega (arith, c.loop-i.invariant.most, entry.most);
+      adds = record {
+        texts = λ all. entry.adds.texts (c.loop-i.invariant.adds.texts all);
+        fault = search rules;
+        cost = spends_then (per_record 512) 1 0 0 0 _ _ _ c.loop-i.invariant.adds.cost entry.adds.cost;
+      };
+    }
