@@ -1,5 +1,6 @@
 -- A parent list that stands in a cache is read as its types with their parents.
 use Rattle.std.proofs.Common.{◌≡◌, ℕ, ◌+◌, ◌*◌, ◌<◌, List, [], ◌∷◌, length, get_or, sym, ap, subst, ◌∙◌}
+use Rattle.std.specs.Prelude.{MatchResult, Option, Result}
 use Rattle.mime_base.specs.Cache.Bytes.{Stands, field}
 use Rattle.mime_base.specs.Cache.Texts.{text_at}
 use Rattle.mime_base.specs.Database.Subclass.{parents}
@@ -7,7 +8,10 @@ use Rattle.mime_base.specs.Format.Parents.{IsName, IsSubclass, ParentsAt}
 use Rattle.mime_base.specs.Format.Header.{HeaderAt, Offsets}
 use Rattle.mime_base.specs.Format.Records.{CardsAt, ListAt, RecordsAt}
 use Rattle.mime_view.specs.Lists.{KeysAt}
-use Rattle.mime_view.specs.Parents.{ReadsParents, ReadsTexts, is_marked, parents_at}
+use Rattle.mime_view.specs.Parents.{ReadsParents, ReadsTexts, StopsParents, TakesParents, is_marked, parents_at}
+use Rattle.mime_view.specs.declared.fault.CacheFault.{CacheFault}
+use Rattle.mime_view.specs.declared.parents.Parents.{Parents}
+use Rattle.mime_view.specs.declared.spending.Spending.{Spending}
 use Rattle.mime_view.proofs.Headers.{parents_read}
 use Rattle.mime_view.proofs.Records.{count_read, first_read, list_inside, record_at, second_read, text_read}
 use Rattle.mime_view.proofs.Subclasses.{kinds_have_parents, kinds_once, others_have_none}
@@ -88,3 +92,14 @@ pub marked_named : (c d : List ℕ) (at : ℕ) (marks kind : List ℕ) → d ≡
     → is_marked d at marks kind ≡ is_marked c (field c 0 2) marks kind
 marked_named c d at marks kind same number =
     ap (λ (n : ℕ). is_marked d n marks kind) number ∙ ap (λ (bytes : List ℕ). is_marked bytes (field bytes 0 2) marks kind) same
+
+-- what is taken by that list, and why nothing is
+pub taken_named : (c d : List ℕ) (at : ℕ) (kind : List ℕ) (old new : Spending) (before after : List ℕ)
+    (r : Result (Option Parents) CacheFault) → d ≡ c → at ≡ field d 0 2
+    → MatchResult r (TakesParents d at kind old new before after) (StopsParents d at kind old new before after)
+    → MatchResult r (TakesParents c (field c 0 2) kind old new before after) (StopsParents c (field c 0 2) kind old new before after)
+taken_named c d at kind old new before after r same number taken =
+    let here : at ≡ field c 0 2 = number ∙ ap (λ (bytes : List ℕ). field bytes 0 2) same in
+    subst (λ (n : ℕ). MatchResult r (TakesParents c n kind old new before after) (StopsParents c n kind old new before after)) here
+    (subst (λ (bytes : List ℕ). MatchResult r (TakesParents bytes at kind old new before after)
+    (StopsParents bytes at kind old new before after)) same taken)

@@ -1,6 +1,5 @@
 -- The lists of a cache that spells some rules are read as they are listed.
 use Rattle.std.proofs.Common.{◌≡◌, ℕ, ◌+◌, ◌*◌, ◌<◌, ◌≤◌, List, [], ◌∷◌, ◌++◌, length, get_or, map, sym, ap, subst, ◌∙◌, arith}
-use Rattle.std.specs.Prelude.{IfOk, Result, Ok, Err}
 use Rattle.std.specs.List.{All}
 use Rattle.std.proofs.lemmas.List.{map-append}
 use Rattle.std.proofs.lemmas.List.Elements.{All-filter, All-head, All-tail}
@@ -18,7 +17,9 @@ use Rattle.mime_base.specs.Format.SuffixTree.{SuffixTreeAt, tree_size}
 use Rattle.mime_base.specs.Format.Tree.{Tree, node_count}
 use Rattle.mime_base.specs.declared.database.rule.GlobRule.{GlobRule}
 use Rattle.mime_view.specs.Listing.{IsListing, PlainListed, listed_rule}
+use Rattle.mime_view.specs.Listing.Faults.{IsListingFault, IsListsFault}
 use Rattle.mime_view.specs.Listing.Reads.{ReadsEntries, ReadsEntry, ReadsListedRules, ReadsSuffixTree, rules_of}
+use Rattle.mime_view.specs.declared.fault.CacheFault.{CacheFault}
 use Rattle.mime_view.proofs.Headers.{header_read}
 use Rattle.mime_view.proofs.Records.{count_read, list_inside, numbers_read, record_inside, text_read}
 use Rattle.mime_view.proofs.ListedTree.{ended_leaves, listed_by_ending}
@@ -142,7 +143,9 @@ are_listed c literals tree globs rules listed read is = record {
       ∙ sym (map-append listed_rule read.first (rules_of read.roots ++ glob_rules rules));
 }
 
--- what an answer says, said in other words
-pub in_words : {T E : Type 0} (P Q : T → Type 0) (r : Result T E) → ((x : T) → P x → Q x) → IfOk r P → IfOk r Q
-in_words P Q (Ok x) to holds = to x holds
-in_words P Q (Err e) to holds = holds
+-- why nothing is listed, by the numbers of the header
+pub listing_fault : (c d : List ℕ) (literals tree globs left : ℕ) (e : CacheFault) → d ≡ c → literals ≡ field d 0 3 → tree ≡ field d 0 4
+    → globs ≡ field d 0 5 → IsListsFault d literals tree globs left e → IsListingFault c left e
+listing_fault c d literals tree globs left e same is3 is4 is5 fault =
+    let named = rw (is3, is4, is5) at fault in
+    subst (λ (bytes : List ℕ). IsListingFault bytes left e) same named

@@ -1,11 +1,18 @@
 -- One sibling of the suffix tree: a leaf, or a node with what is below it.
 use Rattle.std.proofs.Common.{◌≡◌, ℕ, ◌+◌, ◌<◌, ◌≤◌, List, [], ◌∷◌, ◌++◌, length, refl, sym, ap, ◌∙◌, arith}
+use Rattle.std.specs.Prelude.{Err, Result, map}
+use Rattle.std.proofs.lemmas.Result.{IfOk-weaker}
 use Rattle.std.proofs.lemmas.List.{append-nil}
 use Rattle.mime_base.specs.Cache.Bytes.{field}
 use Rattle.mime_base.specs.Format.Tree.{Tree, bare, leaf, node, node_count, sibling_count}
 use Rattle.mime_base.specs.declared.database.rule.GlobRule.{GlobRule}
+use Rattle.mime_view.specs.Listing.{PlainListed, listed_rule}
 use Rattle.mime_view.specs.Listing.Reads.{ReadsLeaf, ReadsListedTree, rules_of}
 use Rattle.mime_view.specs.Magic.{LiesBlock}
+use Rattle.mime_view.specs.Spending.{Gives}
+use Rattle.mime_view.specs.declared.fault.CacheFault.{CacheFault}
+use Rattle.mime_view.specs.declared.fault.CacheFault.TheVariants.{OutOfMemory}
+use Rattle.mime_view.specs.declared.spending.Spending.{Spending}
 
 -- a sibling whose first number is 0 is a leaf
 pub record IsLeaf (c : List ℕ) (at : ℕ) (ending : List ℕ) (one : Tree) : Type 0 where
@@ -67,6 +74,16 @@ some_node bare alone = absurd (omega arith)
 some_node (leaf rule rest) alone = omega arith
 some_node (node character below rest) alone = omega arith
 
+-- a step on a sibling that takes one record at most, and stops
+pub stops_there : {X : Type 0} {Answer : X → Type 0} (one : Tree) (old new : Spending) (e : CacheFault) → sibling_count one ≡ 1
+    → old.budget.records ≤ new.budget.records + 1 → (node_count one ≤ old.budget.records → e ≡ OutOfMemory)
+    → Gives Answer (node_count one) old new (Err e)
+stops_there one old new e alone taken memory = record {
+  answer = tt;
+  need = memory;
+  most = omega (arith, some_node one alone);
+}
+
 -- what is below a node, by its numbers and the ending that has grown
 pub record IsBelow (c : List ℕ) (first count : ℕ) (grown : List ℕ) (one : Tree) : Type 0 where
   pub below : Tree
@@ -87,4 +104,18 @@ below_read c at ending one character count first grown alone reads some is0 is1 
       reads = rw (is2, here) inner.reads;
       alone = inner.alone;
       size = inner.size;
+    }
+
+-- a step on a node adds what the step below it adds, and takes its record besides
+pub node_gives : {X : Type 0} {c : List ℕ} {first count : ℕ} {grown : List ℕ} {one : Tree} (before after : List PlainListed)
+    {old mid new : Spending} {r : Result X CacheFault} → (n : IsBelow c first count grown one)
+    → mid.budget.records + 1 ≡ old.budget.records
+    → Gives (λ _. after ≡ before ++ map listed_rule (rules_of n.below)) (node_count n.below) mid new r
+    → Gives (λ _. after ≡ before ++ map listed_rule (rules_of one)) (node_count one) old new r
+node_gives {r = r} before after n taken gives =
+    let rules = ap (λ (xs : List GlobRule). before ++ map listed_rule xs) (sym n.alone) in
+    record {
+      answer = IfOk-weaker r _ _ (λ x is. is ∙ rules) gives.answer;
+      need = λ enough. gives.need (omega (arith, n.size));
+      most = omega (arith, n.size, gives.most);
     }

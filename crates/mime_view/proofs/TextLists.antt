@@ -1,12 +1,15 @@
 -- Texts that a list of offsets names, read one after another.
-use Rattle.std.proofs.Common.{◌≡◌, ℕ, suc, ◌+◌, ◌*◌, List, [], ◌∷◌, ◌++◌, length, refl, sym, ap, ap₂, ◌∙◌, arith}
+use Rattle.std.proofs.Common.{◌≡◌, ◌≤◌, ℕ, suc, ◌+◌, ◌*◌, List, [], ◌∷◌, ◌++◌, length, inl, inr, refl, sym, ap, ap₂, ◌∙◌, arith}
 use Rattle.std.specs.Prelude.{Ok, map}
 use Rattle.std.specs.Borrow.{Bor}
 use Rattle.std.proofs.lemmas.List.{length-map, map-append}
 use Rattle.mime_base.specs.Cache.Bytes.{field}
 use Rattle.mime_base.specs.Cache.Texts.{text_at}
 use Rattle.mime_view.specs.Lists.{KeysAt}
-use Rattle.mime_view.specs.Parents.{ReadsTexts}
+use Rattle.mime_view.specs.Parents.{IsTextsFault, ReadsTexts}
+use Rattle.mime_view.specs.declared.fault.CacheFault.{CacheFault}
+use Rattle.mime_view.specs.declared.fault.CacheFault.TheVariants.{OutOfMemory}
+use Rattle.mime_view.proofs.Places.{key_at}
 
 -- one text more
 pub KeysAt-more : (c : List ℕ) (at size : ℕ) (texts : List (List ℕ)) (text : List ℕ) → KeysAt c at size texts
@@ -40,3 +43,14 @@ KeysAt-pushed c at i before after text pushed size stand here =
     let n : i ≡ length (map view before) = sym size ∙ sym (length-map before view) in
     let all : map view after ≡ map view before ++ text.now ∷ [] = ap (map view) pushed ∙ map-append view before (text ∷ []) in
     rw all (KeysAt-more c at 4 (map view before) text.now stand (rw n at here))
+
+-- where a list of offsets and its texts stand, and there is a record for each, only memory can be short
+pub texts_stop : (c : List ℕ) (at before after : ℕ) (texts : List (List ℕ)) (e : CacheFault) → ReadsTexts c at texts → length texts ≤ before
+    → IsTextsFault c at before after e → e ≡ OutOfMemory
+texts_stop c at before after texts e reads enough (inl list) = absurd (omega (arith, reads.count, reads.inside, list.outside))
+texts_stop c at before after texts e reads enough (inr (inl named)) =
+    let text = key_at c (at + 4) 4 texts named.i reads.named (omega (arith, named.within, reads.count)) in
+    let none = named.no_text in
+    absurd (cc)
+texts_stop c at before after texts e reads enough (inr (inr (inl spent))) = absurd (omega (arith, spent.more, reads.count, enough))
+texts_stop c at before after texts e reads enough (inr (inr (inr memory))) = memory

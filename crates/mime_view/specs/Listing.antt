@@ -74,9 +74,11 @@ pub record Lists (more : ℕ) (old new : Budget) (before after : Meter) : Type 0
 
 -- A row that is taken from the record at `at`.
 pub record IsRow (c : List ℕ) (at : ℕ) (old new : Spending) (row : Row) : Type 0 where
-  -- Its numbers are those of the record.
+  -- Its first number is the record's.
   pub first : row.first ≡ field c at 0
+  -- So is its second.
   pub second : row.second ≡ field c at 1
+  -- And its third.
   pub third : row.third ≡ field c at 2
   -- It took a record of the budget.
   pub taken : new.budget.records + 1 ≡ old.budget.records
@@ -86,7 +88,7 @@ pub record Adds {X : Type 0} (c : List ℕ) (Fault : ℕ → CacheFault → Type
     (old new : Spending) (result : Result X CacheFault) : Type 0 where
   -- Each rule that it adds has a text of the cache as its type, and a short pattern.
   pub texts : All (IsListed c) before → All (IsListed c) after
-  -- Where it stops there is such a fault, by the records that are left.
+  -- Where it stops, such a fault says why, by the records that are left.
   pub fault : IfErr result (Fault new.budget.records)
-  -- Each record adds one node and at most 512 bytes.
+  -- Each record adds one node and at most 512 bytes, and so many nodes come besides.
   pub cost : Spends (per_record 512) nodes 0 old new

@@ -1,6 +1,6 @@
 -- The parent list as it is read, marks on its entries, and what is given for a type.
 use Rattle.std.specs.Prelude.{◌≡◌, ◌⊎◌, ℕ, ◌+◌, ◌*◌, ◌<◌, ◌≤◌, Bool, true, false, ◌&&◌, nat_lt, if◌then◌else◌, bytes_eq}
-use Rattle.std.specs.Prelude.{List, [], get_or, length, Option, None, Some, Result, Ok, Err}
+use Rattle.std.specs.Prelude.{List, [], get_or, length, Option, None, Some, IfSome, MatchOption, Result, Ok, Err}
 use Rattle.std.specs.List.{list_any}
 use Rattle.std.specs.Ordering.{is_eq, nat_cmp}
 use Rattle.std.specs.BTreeSet.{insert_key}
@@ -13,6 +13,7 @@ use Rattle.mime_view.specs.Lists.{IsListFault, IsTextFault, KeysAt, ReadsKeys, p
 use Rattle.mime_view.specs.declared.fault.CacheFault.{CacheFault}
 use Rattle.mime_view.specs.declared.fault.CacheFault.TheVariants.{OutOfMemory, Spent}
 use Rattle.mime_view.specs.declared.parents.Parents.{Parents}
+use Rattle.mime_view.specs.declared.spending.Spending.{Spending}
 
 -- whether a place is among these
 abbrev pub has_place : List ℕ → ℕ → Bool
@@ -75,6 +76,33 @@ pub record IsRead (c : List ℕ) (at : ℕ) (marks kind : List ℕ) (found : Par
   pub marked : has_place marks found.entry ≡ true → found.types ≡ []
   pub unmarked : has_place marks found.entry ≡ false → ReadsTexts c (parents_at c at found.entry) found.types
 
+-- The text whose offset stands at `at` was taken.
+pub record TakesText (c : List ℕ) (at : ℕ) (old new : Spending) (text : List ℕ) : Type 0 where
+  -- It stands at that offset.
+  pub stands : text_at c (field c at 0) ≡ Ok text
+  -- It took a record.
+  pub taken : new.budget.records + 1 ≡ old.budget.records
+
+-- The texts of the list of offsets at `at` were taken.
+pub record TakesTexts (c : List ℕ) (at : ℕ) (old new : Spending) (texts : List (List ℕ)) : Type 0 where
+  -- They are those of the list.
+  pub read : ReadsTexts c at texts
+  -- Each took a record.
+  pub taken : new.budget.records + length texts ≡ old.budget.records
+
+-- Parents of a type, if it has an entry, were taken on any bytes, with these marks before and after.
+pub record TakesParents (c : List ℕ) (at : ℕ) (kind : List ℕ) (old new : Spending) (before after : List ℕ)
+    (found : Option Parents) : Type 0 where
+  -- The entry is the type's; it has no parents where it was marked, else those that stand there.
+  pub read : IfSome found (IsRead c at before kind)
+  -- It is marked afterwards, and no other is that was not.
+  pub marked : MatchOption found (after ≡ before) (λ parents.
+      (has_place before parents.entry ≡ true) × (after ≡ before)
+      ⊎ (has_place before parents.entry ≡ false) × (after ≡ with_place before parents.entry))
+  -- Each parent took a record.
+  pub taken : MatchOption found (new.budget.records ≡ old.budget.records)
+      (λ parents. new.budget.records + length parents.types ≡ old.budget.records)
+
 -- one of the texts of a list at `at` does not stand
 pub record IsNamedFault (c : List ℕ) (at : ℕ) (e : CacheFault) : Type 0 where
   pub i : ℕ
@@ -88,6 +116,19 @@ pub record IsSpent (count before after : ℕ) (e : CacheFault) : Type 0 where
   pub more : before < count
   pub none_left : after ≡ 0
   pub is : e ≡ Spent
+
+-- The text whose offset stands at `at` can't be read.
+pub record IsUnread (c : List ℕ) (at before : ℕ) (e : CacheFault) : Type 0 where
+  -- A fault says why no text stands there.
+  pub fault : ByteFault
+  pub no_text : text_at c (field c at 0) ≡ Err fault
+  pub is : e ≡ cache_fault fault
+  -- There was a record for it.
+  pub some : 0 < before
+
+-- why that text is not taken, with the records that were left before and after
+abbrev pub IsTextUntaken : List ℕ → ℕ → ℕ → ℕ → CacheFault → Type 0
+IsTextUntaken c at before after e = (e ≡ Spent) × (before ≡ 0) × (after ≡ 0) ⊎ IsUnread c at before e
 
 -- why the parents at `at` are not given, with the records that were left before and after
 abbrev pub IsTextsFault : List ℕ → ℕ → ℕ → ℕ → CacheFault → Type 0
@@ -105,3 +146,11 @@ pub record IsEntryFault (c : List ℕ) (at : ℕ) (marks kind : List ℕ) (befor
 abbrev pub IsParentsFault : List ℕ → ℕ → List ℕ → List ℕ → ℕ → ℕ → CacheFault → Type 0
 IsParentsFault c at marks kind before after e =
     IsListFault c at 8 e ⊎ IsTextFault c e ⊎ IsEntryFault c at marks kind before after e
+
+-- Parents of a type are not given on any bytes.
+pub record StopsParents (c : List ℕ) (at : ℕ) (kind : List ℕ) (old new : Spending) (before after : List ℕ)
+    (e : CacheFault) : Type 0 where
+  -- This is why.
+  pub fault : IsParentsFault c at before kind old.budget.records new.budget.records e
+  -- The marks are as they were.
+  pub unmarked : after ≡ before

@@ -1,14 +1,10 @@
 //! The parent list: each type that has a parent, with all its parents ("The mime.cache files").
 
-ghost use Rattle.std.specs.Prelude.{◌≡◌, ◌⊎◌, true, false, ℕ, ◌+◌, ◌*◌, ◌^◌, ◌≤◌, ◌<◌, List};
-ghost use Rattle.std.specs.Prelude.{Ok, Err, length, IfOk, IfErr, IfSome, OnErr, OnOk, MatchOption};
+ghost use Rattle.std.specs.Prelude.{ℕ, ◌+◌, ◌*◌, ◌^◌, ◌≤◌, ◌<◌, List, length, MatchResult};
 ghost use Rattle.mime_base.specs.Cache.Bytes.{field};
-ghost use Rattle.mime_base.specs.Cache.Texts.{text_at};
-ghost use Rattle.mime_base.specs.declared.cache.byte_fault.ByteFault.{ByteFault};
-ghost use Rattle.mime_view.specs.Faults.{cache_fault};
-ghost use Rattle.mime_view.specs.Parents.{IsGiven, IsParentsFault, IsRead, IsTextsFault, ReadsParents};
-ghost use Rattle.mime_view.specs.Spending.{Spends, per_record};
-ghost use Rattle.mime_view.specs.Parents.{ReadsTexts, has_place, is_marked, unmarked_parents, with_place};
+ghost use Rattle.mime_view.specs.Parents.{IsGiven, ReadsParents, StopsParents, TakesParents, is_marked, unmarked_parents};
+ghost use Rattle.mime_view.specs.Parents.{IsTextUntaken, IsTextsFault, TakesText, TakesTexts};
+ghost use Rattle.mime_view.specs.Spending.{Gives, Spends, per_record};
 
 use crate::entry::find_entry;
 use crate::fault::CacheFault;
@@ -37,25 +33,20 @@ pub fn parents_of<'a>(
     marks: &mut Marks,
     spending: &mut Spending,
 ) -> Result<Option<Parents<'a>>, CacheFault>
+    // The list's offset is a number of 32 bits.
     requires at { at < 2 ^ 32 }
+    // No offset needs more than 32 bits.
     requires limit { length counted.now ≤ 2 ^ 28 }
+    // Where the list stands, the type's parents are given, none where its entry is marked; each takes a record.
     ensures answer { (pairs : List (List ℕ × List ℕ)) (kinds : List (List ℕ)) → ReadsParents counted.now at pairs kinds →
-        IfOk result (IsGiven pairs kinds (is_marked counted.now at marks.old kind.now) kind.now) }
-    ensures read { IfOk result (λ found. IfSome found (IsRead counted.now at marks.old kind.now)) }
-    ensures marked { IfOk result (λ found. MatchOption found (marks.new ≡ marks.old) (λ parents.
-        (has_place marks.old parents.entry ≡ true) × (marks.new ≡ marks.old)
-        ⊎ (has_place marks.old parents.entry ≡ false) × (marks.new ≡ with_place marks.old parents.entry))) }
-    ensures need { (pairs : List (List ℕ × List ℕ)) (kinds : List (List ℕ)) → ReadsParents counted.now at pairs kinds →
-        length (unmarked_parents pairs (is_marked counted.now at marks.old kind.now) kind.now) ≤ spending.old.budget.records →
-        IfErr result (λ e. e ≡ CacheFault.OutOfMemory) }
-    ensures fault { IfErr result
-        (IsParentsFault counted.now at marks.old kind.now spending.old.budget.records spending.new.budget.records) }
-    ensures marks_stay { OnErr result (marks.new ≡ marks.old) }
-    ensures takes { IfOk result (λ found. MatchOption found (spending.new.budget.records ≡ spending.old.budget.records)
-        (λ parents. spending.new.budget.records + length parents.types ≡ spending.old.budget.records)) }
-    ensures takes_at_most { (pairs : List (List ℕ × List ℕ)) (kinds : List (List ℕ)) → ReadsParents counted.now at pairs kinds →
-        spending.old.budget.records ≤ spending.new.budget.records
-        + length (unmarked_parents pairs (is_marked counted.now at marks.old kind.now) kind.now) }
+        let marked = is_marked counted.now at marks.old kind.now in
+        Gives (IsGiven pairs kinds marked kind.now) (length (unmarked_parents pairs marked kind.now))
+        spending.old spending.new result }
+    // On any bytes an entry that is found is the type's, and is marked then, or nothing is given and the marks stay.
+    ensures taken { MatchResult result
+        (TakesParents counted.now at kind.now spending.old spending.new marks.old marks.new)
+        (StopsParents counted.now at kind.now spending.old spending.new marks.old marks.new) }
+    // It finds an entry, and reads a text for each record.
     ensures cost { Spends (per_record 256) 29 (256 * 27) spending.old spending.new }
 {
     let Some(found) = find_entry(counted, at, kind, &mut spending.meter)? else {
@@ -78,14 +69,16 @@ fn take_texts<'a>(
     at: u64,
     spending: &mut Spending,
 ) -> Result<Texts<'a>, CacheFault>
+    // The list's offset is a number of 32 bits.
     requires at { at < 2 ^ 32 }
+    // No offset needs more than 32 bits.
     requires limit { length counted.now ≤ 2 ^ 28 }
-    ensures texts { IfOk result (ReadsTexts counted.now at) }
-    ensures need { (texts : List (List ℕ)) → ReadsTexts counted.now at texts → length texts ≤ spending.old.budget.records →
-        IfErr result (λ e. e ≡ CacheFault.OutOfMemory) }
-    ensures fault { IfErr result (IsTextsFault counted.now at spending.old.budget.records spending.new.budget.records) }
-    ensures takes { IfOk result (λ texts. spending.new.budget.records + length texts ≡ spending.old.budget.records) }
-    ensures takes_at_most { spending.old.budget.records ≤ spending.new.budget.records + field counted.now at 0 }
+    // It takes all texts of the list, or one of them stops it.
+    ensures texts { MatchResult result (TakesTexts counted.now at spending.old spending.new)
+        (IsTextsFault counted.now at spending.old.budget.records spending.new.budget.records) }
+    // It takes no more records than the list counts.
+    ensures most { spending.old.budget.records ≤ spending.new.budget.records + field counted.now at 0 }
+    // It looks at the list's count, and reads a text for each record.
     ensures cost { Spends (per_record 256) 1 0 spending.old spending.new }
 {
     let count = count_at(counted, at, 4, &mut spending.meter)?;
@@ -108,13 +101,14 @@ fn take_text<'a>(
     at: u64,
     spending: &mut Spending,
 ) -> Result<&'a [u8], CacheFault>
+    // The offset lies in the cache.
     requires inside { at + 4 ≤ length counted.now }
-    ensures text { IfOk result (λ text. text_at counted.now (field counted.now at 0) ≡ Ok text.now) }
-    ensures fault { IfErr result (λ e. (e ≡ CacheFault.Spent) × (spending.old.budget.records ≡ 0) × (spending.new.budget.records ≡ 0)
-        ⊎ (fault : ByteFault) × (text_at counted.now (field counted.now at 0) ≡ Err fault)
-        × (e ≡ cache_fault fault) × (0 < spending.old.budget.records)) }
-    ensures takes { OnOk result (spending.new.budget.records + 1 ≡ spending.old.budget.records) }
-    ensures takes_at_most { spending.old.budget.records ≤ spending.new.budget.records + 1 }
+    // It takes the text, or no record is left, or no text stands there.
+    ensures text { MatchResult result (λ text. TakesText counted.now at spending.old spending.new text.now)
+        (IsTextUntaken counted.now at spending.old.budget.records spending.new.budget.records) }
+    // It takes one record at most.
+    ensures most { spending.old.budget.records ≤ spending.new.budget.records + 1 }
+    // It looks at the offset and reads the text.
     ensures cost { Spends (per_record 256) 0 0 spending.old spending.new }
 {
     spending.budget.take_record()?;

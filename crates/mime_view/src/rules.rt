@@ -1,14 +1,14 @@
 //! All glob rules of a cache, for a program that lists them ("The mime.cache files").
 //!
 //! First the entries of the literal list, then the leaves of the suffix tree depth first, then the
-//! entries of the glob list. What a lookup can't reach is passed over: leaves among the roots, and what
+//! entries of the glob list. What a lookup can't reach is skipped: leaves among the roots, and what
 //! is below a character above 255.
 
 mod ending;
 mod entries;
 mod listing;
 mod row;
-pub mod source;
+mod source;
 mod tree;
 
 ghost use Rattle.std.specs.Prelude.{◌≡◌, ◌+◌, ◌^◌, ◌<◌, List, ◌++◌, All, length, map, MatchResult};
@@ -22,10 +22,10 @@ ghost use Rattle.mime_view.specs.Spending.{Gives, Spends, per_record};
 use crate::fault::CacheFault;
 use crate::rules::entries::add_entries;
 use crate::rules::listing::Listing;
-use crate::rules::source::Source;
 use crate::rules::tree::add_tree;
 use crate::spending::Spending;
 pub use listing::Listed;
+pub use source::Source;
 
 /// All rules: by the literal list, the suffix tree and the glob list at these offsets.
 pub fn list_rules<'a>(

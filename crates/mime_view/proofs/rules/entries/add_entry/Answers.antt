@@ -1,6 +1,16 @@
-use Rattle.std.proofs.Common.{◌<◌, length, rules}
+use Rattle.std.proofs.Common.{◌<◌, length, inr, rules}
+use Rattle.std.proofs.lemmas.Result.{err_from_is_err_and}
 use Rattle.mime_view.proofs.ListedTexts.{listed_more, short_text}
 use Rattle.mime_view.proofs.rules.entries.add_entry.Goals as goal
+
+pub returns-in_err-add-clause-adds : goal.returns-in_err-add-clause-adds
+returns-in_err-add-clause-adds c =
+    let p = err_from_is_err_and c.from_residual-in_err-add.result c.from_residual-in_err-add.ensures.1 in
+    rw (p.1, p.2) (record {
+      texts = rw c.in_err-add.ensures.stays (λ all. all);
+      fault = inr (inr c.in_err-add.ensures.fault);
+      cost = search rules;
+    })
 
 pub returns-clause-adds : goal.returns-clause-adds
 returns-clause-adds c =

@@ -1,40 +1,29 @@
-use Rattle.std.proofs.Common.{◌+◌, ◌*◌, ℕ, List, length, ◌++◌, map, arith, rules, sym, ap, subst, ◌∙◌}
+use Rattle.std.proofs.Common.{◌+◌, ℕ, List, length, ◌++◌, map, arith, rules, sym, ap, ◌∙◌}
 use Rattle.std.proofs.lemmas.Result.{err_from_is_err_and}
 use Rattle.mime_base.specs.declared.database.rule.GlobRule.{GlobRule}
 use Rattle.mime_view.specs.Listing.{listed_rule}
-use Rattle.mime_view.specs.Listing.Reads.{ReadsListedTree}
 use Rattle.mime_view.specs.Spending.{per_record}
 use Rattle.mime_view.proofs.Costs.{spends_then}
 use Rattle.mime_view.proofs.SiblingFaults.{among, below, here}
-use Rattle.mime_view.proofs.SiblingNodes.{below_read, leaf_read, node_read, some_node}
+use Rattle.mime_view.proofs.SiblingNodes.{below_read, leaf_read, node_gives, node_read, some_node, stops_there}
 use Rattle.mime_view.proofs.SiblingRows.{next, none_left}
 use Rattle.mime_view.proofs.rules.tree.+siblings.Goals as goal
 
-pub add_sibling-returns-in_err-row-clause-answer :
-    goal.add_sibling-returns-in_err-row-clause-answer
+pub add_sibling-returns-in_err-row-clause-answer : goal.add_sibling-returns-in_err-row-clause-answer
 add_sibling-returns-in_err-row-clause-answer t c = λ tree alone reads.
-    let p = err_from_is_err_and c.from_residual-in_err-row.result c.from_residual-in_err-row.ensures.1 in
+    let p = err_from_is_err_and c.from_residual.result c.from_residual.ensures.1 in
     let none = c.in_err-row.ensures.row in
-    rw (p.1, p.2) (record {
-      answer = search rules;
-      need = λ enough. absurd (omega (arith, some_node tree alone, none.1));
-      most = omega (arith, none.1);
-    })
+    rw (p.1, p.2) (stops_there tree _ _ _ alone (omega (arith, none.1)) (λ enough. absurd (omega (arith, some_node tree alone, none.1))))
 
-pub add_sibling-returns-in_err-add_leaf-clause-answer :
-    goal.add_sibling-returns-in_err-add_leaf-clause-answer
+pub add_sibling-returns-in_err-add_leaf-clause-answer : goal.add_sibling-returns-in_err-add_leaf-clause-answer
 add_sibling-returns-in_err-add_leaf-clause-answer t c = λ tree alone reads.
     let row = c.in_ok-row.ensures.row in
     let leaf = leaf_read c.args.source.now.counted.now c.args.at c.args.ending.now tree alone reads (sym row.first ∙ c.if-row-eq0.true) in
     let p = err_from_is_err_and c.from_residual-in_err-add_leaf.result c.from_residual-in_err-add_leaf.ensures.1 in
-    rw (p.1, p.2) (record {
-      answer = search rules;
-      need = λ enough. c.in_err-add_leaf.ensures.answer c.args.at leaf.rule row.second leaf.reads;
-      most = omega (arith, row.taken, some_node tree alone);
-    })
+    rw (p.1, p.2) (stops_there tree _ _ _ alone (omega (arith, row.taken))
+    (λ enough. c.in_err-add_leaf.ensures.answer c.args.at leaf.rule row.second leaf.reads))
 
-pub add_sibling-returns-then-row-eq0-clause-answer :
-    goal.add_sibling-returns-then-row-eq0-clause-answer
+pub add_sibling-returns-then-row-eq0-clause-answer : goal.add_sibling-returns-then-row-eq0-clause-answer
 add_sibling-returns-then-row-eq0-clause-answer t c = λ tree alone reads.
     let row = c.in_ok-row.ensures.row in
     let leaf = leaf_read c.args.source.now.counted.now c.args.at c.args.ending.now tree alone reads (sym row.first ∙ c.if-row-eq0.true) in
@@ -45,53 +34,36 @@ add_sibling-returns-then-row-eq0-clause-answer t c = λ tree alone reads.
       most = omega (arith, row.taken, some_node tree alone);
     }
 
-pub add_sibling-returns-then-row-gt255-clause-answer :
-    goal.add_sibling-returns-then-row-gt255-clause-answer
+pub add_sibling-returns-then-row-gt255-clause-answer : goal.add_sibling-returns-then-row-gt255-clause-answer
 add_sibling-returns-then-row-gt255-clause-answer t c = λ tree alone reads.
-    let row = c.in_ok-row.ensures.row in
-    let node = node_read c.args.source.now.counted.now c.args.at c.args.ending.now tree alone reads (omega (arith, row.first)) in
-    absurd (omega (arith, row.first, node.byte))
+    let node = node_read c.args.source.now.counted.now c.args.at c.args.ending.now tree alone reads (omega (arith, c.in_ok-row.ensures.row.first)) in
+    absurd (omega (arith, c.in_ok-row.ensures.row.first, node.byte))
 
-pub add_sibling-returns-then-length-eq-DEEPEST-clause-answer :
-    goal.add_sibling-returns-then-length-eq-DEEPEST-clause-answer
+pub add_sibling-returns-then-length-eq-DEEPEST-clause-answer : goal.add_sibling-returns-then-length-eq-DEEPEST-clause-answer
 add_sibling-returns-then-length-eq-DEEPEST-clause-answer t c = λ tree alone reads.
-    let row = c.in_ok-row.ensures.row in
-    let node = node_read c.args.source.now.counted.now c.args.at c.args.ending.now tree alone reads (omega (arith, row.first)) in
+    let node = node_read c.args.source.now.counted.now c.args.at c.args.ending.now tree alone reads (omega (arith, c.in_ok-row.ensures.row.first)) in
     absurd (omega (arith, node.depth))
 
-pub add_sibling-returns-in_err-check_block-clause-answer :
-    goal.add_sibling-returns-in_err-check_block-clause-answer
+pub add_sibling-returns-in_err-check_block-clause-answer : goal.add_sibling-returns-in_err-check_block-clause-answer
 add_sibling-returns-in_err-check_block-clause-answer t c = λ tree alone reads.
-    let row = c.in_ok-row.ensures.row in
-    let node = node_read c.args.source.now.counted.now c.args.at c.args.ending.now tree alone reads (omega (arith, row.first)) in
+    let node = node_read c.args.source.now.counted.now c.args.at c.args.ending.now tree alone reads (omega (arith, c.in_ok-row.ensures.row.first)) in
     let outside = c.in_err-check_block.ensures.fault in
-    absurd (omega (arith, node.block.inside, outside.some, outside.outside, row.second, row.third))
+    absurd (omega (arith, node.block.inside, outside.some, outside.outside, c.in_ok-row.ensures.row.second, c.in_ok-row.ensures.row.third))
 
-pub add_sibling-returns-in_err-grow-clause-answer :
-    goal.add_sibling-returns-in_err-grow-clause-answer
+pub add_sibling-returns-in_err-grow-clause-answer : goal.add_sibling-returns-in_err-grow-clause-answer
 add_sibling-returns-in_err-grow-clause-answer t c = λ tree alone reads.
     let row = c.in_ok-row.ensures.row in
     let p = err_from_is_err_and c.from_residual-in_err-grow.result c.from_residual-in_err-grow.ensures.1 in
-    rw (p.1, p.2) (record {
-      answer = search rules;
-      need = λ enough. c.in_err-grow.ensures.fault;
-      most = omega (arith, row.taken, some_node tree alone);
-    })
+    rw (p.1, p.2) (stops_there tree _ _ _ alone (omega (arith, row.taken)) (λ enough. c.in_err-grow.ensures.fault))
 
-pub add_sibling-returns-in_err-add_siblings-clause-answer :
-    goal.add_sibling-returns-in_err-add_siblings-clause-answer
+pub add_sibling-returns-in_err-add_siblings-clause-answer : goal.add_sibling-returns-in_err-add_siblings-clause-answer
 add_sibling-returns-in_err-add_siblings-clause-answer t c = λ tree alone reads.
     let row = c.in_ok-row.ensures.row in
     let n = below_read c.args.source.now.counted.now c.args.at c.args.ending.now tree c.in_ok-row.row.first c.from-count.result
     c.from-first.result c.grow.new.self alone reads (omega arith) row.first (c.from-count.ensures ∙ row.second)
     (c.from-first.ensures ∙ row.third) c.in_ok-grow.ensures.grown in
-    let given = c.in_err-add_siblings.ensures.answer n.below n.wide n.reads in
     let p = err_from_is_err_and c.from_residual-in_err-add_siblings.result c.from_residual-in_err-add_siblings.ensures.1 in
-    rw (p.1, p.2) (record {
-      answer = search rules;
-      need = λ enough. given.need (omega (arith, row.taken, n.size));
-      most = omega (arith, row.taken, n.size, given.most);
-    })
+    rw (p.1, p.2) (node_gives c.args.listing.now c.add_siblings.new.listing n row.taken (c.in_err-add_siblings.ensures.answer n.below n.wide n.reads))
 
 pub add_sibling-returns-clause-answer : goal.add_sibling-returns-clause-answer
 add_sibling-returns-clause-answer t c = λ tree alone reads.
@@ -99,21 +71,13 @@ add_sibling-returns-clause-answer t c = λ tree alone reads.
     let n = below_read c.args.source.now.counted.now c.args.at c.args.ending.now tree c.in_ok-row.row.first c.from-count.result
     c.from-first.result c.grow.new.self alone reads (omega arith) row.first (c.from-count.ensures ∙ row.second)
     (c.from-first.ensures ∙ row.third) c.in_ok-grow.ensures.grown in
-    let given = c.in_ok-add_siblings.ensures.answer n.below n.wide n.reads in
-    record {
-      answer = given.answer ∙ ap (λ (xs : List GlobRule). c.args.listing.now ++ map listed_rule xs) (sym n.alone);
-      need = search rules;
-      most = omega (arith, row.taken, n.size, given.most);
-    }
+    node_gives c.args.listing.now c.add_siblings.new.listing n row.taken (c.in_ok-add_siblings.ensures.answer n.below n.wide n.reads)
 
-pub add_siblings-returns-in_err-add_sibling-clause-answer :
-    goal.add_siblings-returns-in_err-add_sibling-clause-answer
+pub add_siblings-returns-in_err-add_sibling-clause-answer : goal.add_siblings-returns-in_err-add_sibling-clause-answer
 add_siblings-returns-in_err-add_sibling-clause-answer t c = λ tree sibling_count reads.
     let n = next c.args.source.now.counted.now c.args.first c.args.count c.args.ending.now tree _ _ c.loop-i.i _ _ c.loop-i-test.true
     (c.loop-i.invariant.left tree sibling_count reads) in
-    let here = subst (λ (e : List ℕ). ReadsListedTree c.args.source.now.counted.now (c.args.first + 12 * c.loop-i.i) e n.one)
-    (sym c.loop-i.invariant.ending) n.reads in
-    let given = c.in_err-add_sibling.ensures.answer n.one n.alone here in
+    let given = c.in_err-add_sibling.ensures.answer n.one n.alone (rw c.loop-i.invariant.ending n.reads) in
     let p = err_from_is_err_and c.from_residual.result c.from_residual.ensures.1 in
     rw (p.1, p.2) (record {
       answer = search rules;
@@ -128,9 +92,7 @@ add_siblings-loop-i-preserved t c =
       left = λ tree sibling_count reads.
           let n = next c.args.source.now.counted.now c.args.first c.args.count c.args.ending.now tree _ _ c.loop-i.i _ _
           c.loop-i-test.true (c.loop-i.invariant.left tree sibling_count reads) in
-          let here = subst (λ (e : List ℕ). ReadsListedTree c.args.source.now.counted.now (c.args.first + 12 * c.loop-i.i) e n.one)
-          (sym c.loop-i.invariant.ending) n.reads in
-          let given = c.in_ok-add_sibling.ensures.answer n.one n.alone here in
+          let given = c.in_ok-add_sibling.ensures.answer n.one n.alone (rw c.loop-i.invariant.ending n.reads) in
           n.later _ _ given.answer given.most;
       ending = c.in_ok-add_sibling.ensures.ending_stays ∙ c.loop-i.invariant.ending;
       adds = record {
@@ -150,35 +112,30 @@ add_siblings-returns-clause-answer t c = λ tree sibling_count reads.
       most = omega (arith, left.records);
     }
 
-pub add_sibling-returns-then-length-eq-DEEPEST-clause-adds :
-    goal.add_sibling-returns-then-length-eq-DEEPEST-clause-adds
+pub add_sibling-returns-then-length-eq-DEEPEST-clause-adds : goal.add_sibling-returns-then-length-eq-DEEPEST-clause-adds
 add_sibling-returns-then-length-eq-DEEPEST-clause-adds t c =
-    let row = c.in_ok-row.ensures.row in
     record {
       texts = λ all. all;
       fault = here c.args.source.now.counted.now c.args.at (length c.args.ending.now) c.take_row.new.spending.budget.records
-          (omega (arith, row.first)) (omega (arith, row.first)) (omega arith);
+          (omega (arith, c.in_ok-row.ensures.row.first)) (omega (arith, c.in_ok-row.ensures.row.first)) (omega arith);
       cost = search rules;
     }
 
-pub add_sibling-returns-in_err-add_siblings-clause-adds :
-    goal.add_sibling-returns-in_err-add_siblings-clause-adds
+pub add_sibling-returns-in_err-add_siblings-clause-adds : goal.add_sibling-returns-in_err-add_siblings-clause-adds
 add_sibling-returns-in_err-add_siblings-clause-adds t c =
-    let row = c.in_ok-row.ensures.row in
     let adds = c.in_err-add_siblings.ensures.adds in
     let p = err_from_is_err_and c.from_residual-in_err-add_siblings.result c.from_residual-in_err-add_siblings.ensures.1 in
     rw (p.1, p.2) (record {
       texts = adds.texts;
       fault = below c.args.source.now.counted.now c.args.at (length c.args.ending.now) c.from-first.result c.from-count.result
-          (length c.grow.new.self) c.add_siblings.new.spending.budget.records _ (c.from-first.ensures ∙ row.third)
-          (c.from-count.ensures ∙ row.second)
+          (length c.grow.new.self) c.add_siblings.new.spending.budget.records _ (c.from-first.ensures ∙ c.in_ok-row.ensures.row.third)
+          (c.from-count.ensures ∙ c.in_ok-row.ensures.row.second)
           (ap (λ (e : List ℕ). length e) c.in_ok-grow.ensures.grown)
-          (omega (arith, row.first)) (omega (arith, row.first)) adds.fault;
+          (omega (arith, c.in_ok-row.ensures.row.first)) (omega (arith, c.in_ok-row.ensures.row.first)) adds.fault;
       cost = search rules;
     })
 
-pub add_siblings-returns-in_err-add_sibling-clause-adds :
-    goal.add_siblings-returns-in_err-add_sibling-clause-adds
+pub add_siblings-returns-in_err-add_sibling-clause-adds : goal.add_siblings-returns-in_err-add_sibling-clause-adds
 add_siblings-returns-in_err-add_sibling-clause-adds t c =
     let adds = c.in_err-add_sibling.ensures.adds in
     let p = err_from_is_err_and c.from_residual.result c.from_residual.ensures.1 in
