@@ -1,12 +1,12 @@
 //! Search in a sorted list of a cache, by halving.
 //!
-//! A cache sorts its lists so that a key is found by at most 26 texts of any list that fits; an index of the texts
-//! would have to read all of them first. Each text that is compared adds a node and the bytes up to its first
-//! difference. They are counted in a copy of the meter, so that the sums stay in registers from text to text.
+//! The lists of a cache are sorted by the bytes of their texts, so a key is sought in them as they are: a list has at
+//! most 2^25 records, of which halving compares 26 at most. A hash table would have to read every text first. Each comparison
+//! counts a node, and the text's bytes up to and including the first difference. The sums are in a copy of the meter,
+//! which the caller puts back, so that they stay in registers from text to text.
 //!
-//! Nobody vouches for the order. On texts that are not sorted the search ends all the same, after as many
-//! comparisons, and what it says of the place at which it ended is true of the texts beside it; a key that stands
-//! elsewhere may be missed.
+//! Nobody vouches for the order. Over texts that are not sorted the search ends after as many comparisons, and what it
+//! says of the texts beside its place is true; but a key that is in the list may be missed.
 
 ghost use Rattle.std.specs.Prelude.{◌≡◌, ℕ, ◌+◌, ◌*◌, ◌^◌, ◌≤◌, List, length, IsOkAnd, MatchResult};
 ghost use Rattle.mime_view.specs.Lists.{AreSorted, IsSought, IsTextFault, KeysAt, SplitsAt};
