@@ -112,7 +112,7 @@ pub node_gives : {X : Type 0} {c : List ℕ} {first count : ℕ} {grown : List �
     → mid.budget.records + 1 ≡ old.budget.records
     → Gives (λ _. after ≡ before ++ map listed_rule (rules_of n.below)) (node_count n.below) mid new r
     → Gives (λ _. after ≡ before ++ map listed_rule (rules_of one)) (node_count one) old new r
-node_gives {r = r} before after n taken gives =
+node_gives before after {r = r} n taken gives =
     let rules = ap (λ (xs : List GlobRule). before ++ map listed_rule xs) (sym n.alone) in
     record {
       answer = IfOk-weaker r _ _ (λ x is. is ∙ rules) gives.answer;
