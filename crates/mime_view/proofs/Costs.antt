@@ -2,7 +2,8 @@
 use Rattle.std.proofs.Common.{◌≡◌, ℕ, ◌+◌, ◌-◌, ◌*◌, ◌≤◌, ◌∙◌, refl, arith}
 use Rattle.std.proofs.Math.Nat.{mul-le-mul_left}
 use Rattle.mime_base.specs.Meter.{raised}
-use Rattle.mime_view.specs.Spending.{Looks, Price, Spends}
+use Rattle.mime_view.specs.Hits.{Charged}
+use Rattle.mime_view.specs.Spending.{Looks, Price, Spends, per_record}
 use Rattle.mime_view.specs.declared.spending.Spending.{Spending}
 
 -- no step costs nothing
@@ -21,7 +22,7 @@ spends_none price old = record {
 -- a look at records, and nothing of the budget
 pub spends_looks : (price : Price) (nodes bytes : ℕ) (old new : Spending) → new.budget ≡ old.budget
     → Looks nodes bytes old.meter new.meter → Spends price nodes bytes old new
-spends_looks price nodes bytes old new same looks = rw same in record {
+spends_looks price nodes bytes old new same looks = rw same record {
   records = omega arith;
   value_bytes = omega arith;
   untouched = λ free. refl;
@@ -81,3 +82,16 @@ spends_dearer nodes bytes dear value_byte more_nodes more_bytes old new cheaper 
       most_bytes = rw split (omega (arith, is.most_bytes));
       fair = is.fair;
     }
+
+-- what a search spends is what is charged for it
+pub charged : (each more : ℕ) (old new : Spending) → Spends (per_record each) more (256 * more) old new
+    → Charged each more old.budget new.budget old.meter new.meter
+charged each more old new is = record {
+  records = is.records;
+  value_bytes = is.untouched refl;
+  rises = is.rises;
+  nodes = omega (arith, is.most_nodes);
+  fair = is.fair;
+  bytes_rise = is.bytes_rise;
+  bytes = omega (arith, is.most_bytes);
+}
