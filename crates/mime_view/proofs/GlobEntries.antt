@@ -10,11 +10,11 @@ use Rattle.mime_base.specs.Matching.Matches.{rule_matches}
 use Rattle.mime_base.specs.Meter.{raised}
 use Rattle.mime_base.specs.declared.database.rule.GlobRule.{GlobRule}
 use Rattle.mime_base.specs.declared.kept.class.Class.{Class}
-use Rattle.mime_base.specs.declared.meter.Meter.{Meter}
 use Rattle.mime_base.proofs.CacheLemmas.TextsStand.{text_at-read}
 use Rattle.mime_view.specs.Globs.{ReadsGlob}
-use Rattle.mime_view.specs.Hits.{Charged, Offers}
-use Rattle.mime_view.specs.declared.budget.Budget.{Budget}
+use Rattle.mime_view.specs.Hits.{Offers}
+use Rattle.mime_view.specs.Spending.{Spends, per_record}
+use Rattle.mime_view.specs.declared.spending.Spending.{Spending}
 use Rattle.mime_view.proofs.OffersLemmas.{offers_none}
 use Rattle.mime_view.proofs.StoredRules.{rank-stored, cased-stored, rule_matches-stored}
 
@@ -60,21 +60,22 @@ module _ (c name : List ℕ) (rule : GlobRule) where
       by_match true is = offers_match kept kept is unwanted
       by_match false is = offers_other kept is
 
--- the tests of a text of a cache against a name, and the text
-pub entry_charged : (n p mid : ℕ) (old new : Budget) (before after : Meter) → new.records + 1 ≡ old.records
-    → new.value_bytes ≡ old.value_bytes → before.nodes ≤ after.nodes → after.nodes ≡ raised before.nodes 1 → before.bytes ≤ mid
-    → mid ≤ before.bytes + 256 → mid ≤ after.bytes → after.bytes ≤ mid + (p + 1) * (n + 1) → p < 256
-    → Charged (256 * (n + 2)) 0 old new before after
-entry_charged n p mid old new before after taken value_bytes rises nodes text_rises text rise tests short =
+-- a record, the text of a cache, and its tests against a name
+pub entry_spends : (n p mid : ℕ) (old new : Spending) → new.budget.records + 1 ≡ old.budget.records
+    → new.budget.value_bytes ≡ old.budget.value_bytes → old.meter.nodes ≤ new.meter.nodes
+    → new.meter.nodes ≡ raised old.meter.nodes 1 → old.meter.bytes ≤ mid → mid ≤ old.meter.bytes + 256 → mid ≤ new.meter.bytes
+    → new.meter.bytes ≤ mid + (p + 1) * (n + 1) → p < 256 → Spends (per_record (256 * (n + 2))) 0 0 old new
+entry_spends n p mid old new taken value_bytes rises nodes text_rises text rise tests short =
     let each : ℕ = 256 * (n + 2) in
     let most : (p + 1) * (n + 1) ≤ 256 * (n + 1) = mul-le-mul_right (n + 1) (omega arith) in
-    let m : each * (new.records + 1) ≤ each * old.records = mul-le-mul_left each (omega arith) in
+    let m : each * (new.budget.records + 1) ≤ each * old.budget.records = mul-le-mul_left each (omega arith) in
     record {
       records = omega arith;
-      value_bytes = value_bytes;
+      value_bytes = omega arith;
+      untouched = λ free. value_bytes;
       rises = rises;
-      nodes = omega arith;
-      fair = omega arith;
       bytes_rise = omega arith;
-      bytes = omega arith;
+      most_nodes = omega arith;
+      most_bytes = omega arith;
+      fair = omega arith;
     }

@@ -1,5 +1,6 @@
 -- A glob list that stands in a cache is read entry by entry.
-use Rattle.std.proofs.Common.{◌≡◌, ℕ, ◌+◌, ◌*◌, ◌<◌, ◌≤◌, false, List, [], ◌∷◌, ◌++◌, length, get_or, take, sym, ap, subst, ◌∙◌}
+use Rattle.std.proofs.Common.{◌≡◌, ℕ, ◌+◌, ◌*◌, ◌<◌, ◌≤◌, false, List, [], ◌∷◌, ◌++◌, length, get_or, take, sym, ap, ◌∙◌, arith}
+use Rattle.std.specs.Prelude.{Result, Ok}
 use Rattle.std.specs.List.{All}
 use Rattle.std.proofs.Math.Numerals.{suc-eq-add-one}
 use Rattle.std.proofs.Math.Seq.{take-suc}
@@ -13,9 +14,11 @@ use Rattle.mime_base.specs.Kept.{FitsRank, hits}
 use Rattle.mime_base.specs.Matching.Matches.{rule_matches}
 use Rattle.mime_base.specs.declared.database.rule.GlobRule.{GlobRule}
 use Rattle.mime_view.specs.Globs.{ReadsGlob}
-use Rattle.mime_view.specs.Hits.{Offers}
-use Rattle.mime_view.proofs.OffersLemmas.{offers_append}
+use Rattle.mime_view.specs.Steps.{FindsRules}
+use Rattle.mime_view.specs.declared.fault.CacheFault.{CacheFault}
+use Rattle.mime_view.specs.declared.query.Progress.{Progress}
 use Rattle.mime_view.proofs.Records.{count_read, list_inside, numbers_read, record_at, text_read}
+use Rattle.mime_view.proofs.Steps.{finds_then, finds_within}
 
 -- what is read where no rule is
 abbrev no_rule : GlobRule
@@ -61,14 +64,15 @@ module _ (c : List ℕ) (at : ℕ) (rules : List GlobRule) (stand : GlobsAt (Sta
 pub glob_fits : (rules : List GlobRule) (i : ℕ) → All FitsRank rules → i < length (glob_rules rules) → FitsRank (glob rules i)
 glob_fits rules i fits l = All-filter is_in_globs FitsRank rules fits i no_rule l
 
--- the hits of one entry more
-pub offers_next : (c name : List ℕ) (rules : List GlobRule) (i : ℕ) (old mid new : List (ℕ × ℕ)) → i < length (glob_rules rules)
-    → Offers c (hits (take i (glob_rules rules)) name) old mid → Offers c (hits (glob rules i ∷ []) name) mid new
-    → Offers c (hits (take (i + 1) (glob_rules rules)) name) old new
-offers_next c name rules i old mid new l before here =
+-- what is found with one entry more
+pub finds_next : {c : List ℕ} (name : List ℕ) (rules : List GlobRule) {i : ℕ} {old mid new : Progress} {x : Unit {0}} {r : Result (Unit {0}) CacheFault}
+    → i < length (glob_rules rules) → FindsRules c (All FitsRank rules) (hits (take i (glob_rules rules)) name) i old mid (Ok x)
+    → FindsRules c (FitsRank (glob rules i)) (hits (glob rules i ∷ []) name) 1 mid new r
+    → FindsRules c (All FitsRank rules) (hits (take (i + 1) (glob_rules rules)) name) (i + 1) old new r
+finds_next name rules {i = i} l before here =
     let more : take (i + 1) (glob_rules rules) ≡ take i (glob_rules rules) ++ glob rules i ∷ [] =
     ap (λ (n : ℕ). take n (glob_rules rules)) (sym (suc-eq-add-one i)) ∙ take-suc (glob_rules rules) i no_rule l in
     let parts = filter-append (λ (rule : GlobRule). rule_matches rule.pattern rule.cased name) (take i (glob_rules rules))
     (glob rules i ∷ []) in
-    subst (λ (xs : List GlobRule). Offers c xs old new) (sym (ap (λ (xs : List GlobRule). hits xs name) more ∙ parts))
-    (offers_append c (hits (take i (glob_rules rules)) name) (hits (glob rules i ∷ []) name) old mid new before here)
+    rw (ap (λ (xs : List GlobRule). hits xs name) more ∙ parts)
+    (finds_then {n = 1} before (finds_within (λ fits. glob_fits rules i fits l) here (omega arith)) (omega arith))

@@ -19,8 +19,8 @@ mod StandingValues
 mod MagicLists
 mod Spelled
 mod Costs
-mod Charges
 mod OffersLemmas
+mod Steps
 mod StoredRules
 mod GlobEntries
 mod GlobLists

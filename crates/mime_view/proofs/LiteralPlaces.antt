@@ -72,6 +72,11 @@ module _ (c : List ℕ) (at : ℕ) (rules : List GlobRule) (stand : LiteralsAt (
         literal = λ fits. All-drop IsLiteral start stand.entries (literal_each rules stand.entries stand.sorted.permuted fits);
       }
 
+  -- so they do from the place that a search finds
+  pub placed_by : {key : List ℕ} {start : ℕ} → ((keys : List (List ℕ)) → length keys ≡ count → KeysAt c (at + 4) 12 keys
+      → AreSorted keys → SplitsAt keys key start) → Placed c at rules key count start
+  placed_by {key} {start} finds = placed key start (finds (texts_of stand.entries) searched.size searched.texts searched.sorted)
+
 -- a run whose first entry is of another text has no entry of the text
 pub unmet : (c : List ℕ) (first start count : ℕ) (key : List ℕ) (rules : List GlobRule) → length rules + start ≡ count
     → ReadsRules c (first + 12 * start) rules → AreRun key rules

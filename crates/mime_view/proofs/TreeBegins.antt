@@ -10,7 +10,6 @@ use Rattle.mime_view.specs.declared.hits.Case.{Case}
 use Rattle.mime_view.proofs.OffersLemmas.{offers_none}
 use Rattle.mime_view.proofs.TreeBlocks.{below_character-past}
 use Rattle.mime_view.proofs.TreePaths.{path_left, path_next}
-use Rattle.mime_view.proofs.TreeScans.{Kept}
 use Rattle.mime_view.proofs.TreeStands.{along_name}
 use Rattle.mime_view.proofs.TreeWalks.{leaves_along, leaves_along-bare, leaves_along-below}
 
@@ -28,7 +27,7 @@ along_none (b ∷ bytes) tree none ordered =
     ∙ ap (λ (t : Tree). leaves_at [] t ++ leaves_along rest t) below ∙ leaves_along-bare rest
 
 -- so nothing is offered, and what was kept stays
-pub nothing_sought : (c : List ℕ) (at : ℕ) (case : Case) (rules : List GlobRule) (name : List ℕ) (h : Kept)
+pub nothing_sought : (c : List ℕ) (at : ℕ) (case : Case) (rules : List GlobRule) (name : List ℕ) (h : List (ℕ × ℕ))
     → get_or name (length name - 1) 0 ≡ 0 → SuffixTreeAt (Stands c) at rules → Offers c (tree_hits case name rules) h h
 nothing_sought c at case rules name h none stand =
     subst (λ (met : List GlobRule). Offers c (admitted case met) h h)

@@ -15,6 +15,7 @@ use Rattle.mime_base.specs.declared.meter.Meter.{Meter}
 use Rattle.mime_view.specs.declared.budget.Budget.{Budget}
 use Rattle.mime_view.specs.declared.hits.Case.{Case}
 use Rattle.mime_view.specs.declared.hits.Case.TheVariants.{Both, Exact, Folded}
+use Rattle.mime_view.specs.declared.spending.Spending.{Spending}
 
 -- whether a search takes a rule with or without the case-sensitive flag
 abbrev pub takes_rule : Case → Bool → Bool
@@ -31,6 +32,19 @@ extra_visits Both = 1
 -- how many records a visit takes
 abbrev pub visits : Case → ℕ
 visits case = 1 + extra_visits case
+
+-- A visit of a search is paid for, and that of the other search is counted where one serves both.
+pub record IsVisit (case : Case) (old new : Spending) : Type 0 where
+  -- The records of the visit are taken.
+  pub records : new.budget.records + visits case ≡ old.budget.records
+  -- No value byte is.
+  pub value_bytes : new.budget.value_bytes ≡ old.budget.value_bytes
+  -- What the other search would visit is added to the meter, until the sum stops.
+  pub nodes : new.meter.nodes ≡ raised old.meter.nodes (extra_visits case)
+  -- So the meter's nodes never fall.
+  pub rises : old.meter.nodes ≤ new.meter.nodes
+  -- No bytes are added.
+  pub bytes : new.meter.bytes ≡ old.meter.bytes
 
 -- these offers, each a rank and the offset of a type, are those of the rules, in their order
 abbrev pub AreOffers : List ℕ → List (ℕ × ℕ) → List GlobRule → Type 0
@@ -101,10 +115,17 @@ KeptAreNear = (name : List ℕ) (rules : List GlobRule) → length (kept_rules r
 -- What a search for hits costs: each record adds one node and at most `each` bytes, and `more` nodes come besides, each
 -- with at most 256 bytes.
 pub record Charged (each more : ℕ) (old new : Budget) (before after : Meter) : Type 0 where
+  -- Records are taken, and never given back.
   pub records : new.records ≤ old.records
+  -- No value byte is taken.
   pub value_bytes : new.value_bytes ≡ old.value_bytes
+  -- The meter's nodes never fall.
   pub rises : before.nodes ≤ after.nodes
+  -- No more nodes are added than records are taken, and those that come besides.
   pub nodes : after.nodes + new.records ≤ before.nodes + old.records + more
+  -- Each record that is taken adds a node, until the sum stops.
   pub fair : raised before.nodes old.records ≤ after.nodes + new.records
+  -- The meter's bytes never fall.
   pub bytes_rise : before.bytes ≤ after.bytes
+  -- No more bytes are added than the records and the other nodes are worth.
   pub bytes : after.bytes + each * new.records ≤ before.bytes + each * old.records + 256 * more

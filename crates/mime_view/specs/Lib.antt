@@ -1,6 +1,7 @@
 pub mod Faults
 pub mod Spending
 pub mod Hits
+pub mod Steps
 pub mod Opening
 pub mod Lists
 pub mod Texts

@@ -10,10 +10,13 @@ use Rattle.mime_base.specs.declared.kept.class.Class.TheVariants.{Literal}
 use Rattle.mime_view.specs.Hits.{takes_rule}
 use Rattle.mime_view.specs.declared.hits.Case.{Case}
 
--- the entry at `at` is that of a rule
+-- The entry at `at` is that of a rule.
 pub record ReadsRule (c : List ℕ) (at : ℕ) (rule : GlobRule) : Type 0 where
+  -- It names the rule's stored text.
   pub text : text_at c (field c at 0) ≡ Ok (stored_text rule)
+  -- It names the rule's type.
   pub kind : text_at c (field c at 1) ≡ Ok rule.kind
+  -- It has the rule's weight and flag.
   pub flags : field c at 2 ≡ weight_and_flags rule
 
 -- entries of these rules are read one after another

@@ -1,29 +1,58 @@
 -- What the three lists of rules give for a name, and why nothing is said of it.
-use Rattle.std.specs.Prelude.{◌≡◌, ◌⊎◌, ℕ, ◌&&◌, Bool, List, nat_le}
+use Rattle.std.specs.Prelude.{◌≡◌, ◌⊎◌, ℕ, ◌+◌, ◌≤◌, ◌&&◌, Bool, List, length, map, nat_le, Result, Ok, IfOk, IfErr, All}
 use Rattle.std.specs.List.{list_any}
 use Rattle.mime_base.specs.Cache.Bytes.{Stands}
+use Rattle.mime_base.specs.Cache.Texts.{text_at}
 use Rattle.mime_base.specs.Format.Rules.{GlobsAt, LiteralsAt}
 use Rattle.mime_base.specs.Format.SuffixTree.{SuffixTreeAt}
+use Rattle.mime_base.specs.Kept.{FitsRank, kept_rules}
 use Rattle.mime_base.specs.declared.database.rule.GlobRule.{GlobRule}
+use Rattle.mime_view.specs.Hits.{hit_visits}
 use Rattle.mime_view.specs.Lists.{IsListFault, IsTextFault}
 use Rattle.mime_view.specs.SuffixTree.{IsTreeFault}
 use Rattle.mime_view.specs.declared.budget.Budget.{Budget}
 use Rattle.mime_view.specs.declared.fault.CacheFault.{CacheFault}
 use Rattle.mime_view.specs.declared.fault.CacheFault.TheVariants.{OutOfMemory, Spent}
 use Rattle.mime_view.specs.declared.name.RuleLists.{RuleLists}
+use Rattle.mime_view.specs.declared.spending.Spending.{Spending}
 
 -- whether one of A to Z is among the bytes
 abbrev pub has_capitals : List ℕ → Bool
 has_capitals name = list_any (λ b. nat_le 65 b && nat_le b 90) name
 
--- the rules stand in the three lists
+-- The rules stand in the three lists.
 pub record RulesAt (c : List ℕ) (lists : RuleLists) (rules : List GlobRule) : Type 0 where
+  -- Those without a special byte stand in the literal list.
   pub literals : LiteralsAt (Stands c) lists.literals rules
+  -- Those of an ending stand in the tree.
   pub tree : SuffixTreeAt (Stands c) lists.tree rules
+  -- The others stand in the glob list.
   pub globs : GlobsAt (Stands c) lists.globs rules
+
+-- why the lists can't be read: the literal list, the tree, the glob list, or a text
+abbrev pub IsRuleListsFault : List ℕ → RuleLists → CacheFault → Type 0
+IsRuleListsFault c lists e =
+    IsListFault c lists.literals 12 e ⊎ IsTreeFault c lists.tree e ⊎ IsListFault c lists.globs 12 e ⊎ IsTextFault c e
 
 -- why nothing is said of the types of a name: the literal list, the tree, the glob list, a text, what is left, or memory
 abbrev pub IsHitsFault : List ℕ → ℕ → ℕ → ℕ → Budget → CacheFault → Type 0
 IsHitsFault c literals tree globs after e =
     IsListFault c literals 12 e ⊎ IsTreeFault c tree e ⊎ IsListFault c globs 12 e ⊎ IsTextFault c e
     ⊎ ((e ≡ Spent) × (after.records ≡ 0)) ⊎ (e ≡ OutOfMemory)
+
+-- What is given for a name where these rules stand.
+pub record GivesKept (name : List ℕ) (rules : List GlobRule) (old new : Spending) (result : Result (List (List ℕ)) CacheFault)
+    : Type 0 where
+  -- The types of the rules that are kept, if their ranks have room for them.
+  pub answer : All FitsRank rules → IfOk result (λ kinds. kinds ≡ map (λ rule. rule.kind) (kept_rules rules name))
+  -- Where that many records are left, it stops only if it is out of memory.
+  pub need : All FitsRank rules → hit_visits name rules ≤ old.budget.records → IfErr result (λ e. e ≡ OutOfMemory)
+  -- It takes no more of them.
+  pub most : old.budget.records ≤ new.budget.records + hit_visits name rules
+
+-- What is given for a name, whatever the bytes are.
+pub record GivesTexts (c : List ℕ) (old new : Spending) (result : Result (List (List ℕ)) CacheFault) : Type 0 where
+  -- Each type is a text of the cache.
+  pub text : IfOk result (λ kinds. All (λ kind. (at : ℕ) × (text_at c at ≡ Ok kind)) kinds)
+  -- Each was paid for by a record.
+  pub count : IfOk result (λ kinds. length kinds + new.budget.records ≤ old.budget.records)

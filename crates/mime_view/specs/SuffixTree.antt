@@ -1,5 +1,5 @@
 -- The reverse suffix tree as it is read along a name, and why a walk gives no answer.
-use Rattle.std.specs.Prelude.{◌≡◌, ◌⊎◌, ℕ, ◌+◌, ◌*◌, ◌<◌, ◌≤◌, ◌==◌, if◌then◌else◌, List, length, filter, Ok, Option, None, Some}
+use Rattle.std.specs.Prelude.{◌≡◌, ◌⊎◌, ℕ, ◌+◌, ◌*◌, ◌<◌, ◌≤◌, ◌==◌, if◌then◌else◌, List, length, filter, Ok, Option, None, Some, IfSome}
 use Rattle.mime_base.specs.Cache.Bytes.{field}
 use Rattle.mime_base.specs.Cache.Texts.{text_at}
 use Rattle.mime_base.specs.Format.Stored.{weight_and_flags}
@@ -14,10 +14,13 @@ use Rattle.mime_view.specs.declared.fault.CacheFault.TheVariants.{OutOfRange}
 use Rattle.mime_view.specs.declared.hits.Case.{Case}
 use Rattle.mime_view.specs.declared.suffixes.Block.{Block}
 
--- the record at `at` is that of a leaf of this rule
+-- The record at `at` is that of a leaf of this rule.
 pub record ReadsLeaf (c : List ℕ) (at : ℕ) (rule : GlobRule) : Type 0 where
+  -- A leaf has no character.
   pub no_character : field c at 0 ≡ 0
+  -- It names the rule's type.
   pub kind : text_at c (field c at 1) ≡ Ok rule.kind
+  -- It has the rule's weight and flag.
   pub flags : field c at 2 ≡ weight_and_flags rule
 
 -- siblings are read one after another, and what is below each
@@ -28,16 +31,22 @@ ReadsTree c at (node character below rest) =
     (field c at 0 ≡ character) × (field c at 1 ≡ sibling_count below) × LiesBlock c (field c at 2) 12 (sibling_count below)
     × ReadsTree c (field c at 2) below × ReadsTree c (at + 12) rest
 
--- a block is of these siblings, in the order of the format
+-- A block is of these siblings, in the order of the format.
 pub record ReadsBlock (c : List ℕ) (block : Block) (tree : Tree) : Type 0 where
+  -- It is that many.
   pub size : sibling_count tree ≡ block.count
+  -- They stand one after another.
   pub siblings : ReadsTree c block.first tree
+  -- The leaves stand first, and then the characters rise.
   pub ordered : InOrder 0 tree
 
--- the place of the first sibling of a block whose character is not less
+-- The place of the first sibling of a block whose character is not less.
 pub record IsCharacterPlace (c : List ℕ) (block : Block) (character place : ℕ) : Type 0 where
+  -- It is a place of the block, or the one after the last.
   pub within : place ≤ block.count
+  -- The character of the sibling before it is less.
   pub before : (i : ℕ) → i + 1 ≡ place → field c (block.first + 12 * i) 0 < character
+  -- That at it is not less.
   pub after : place < block.count → character ≤ field c (block.first + 12 * place) 0
 
 -- what is below the sibling of a character; `bare` where there is none
@@ -51,6 +60,13 @@ abbrev pub IsBelow : List ℕ → Tree → Option Block → Type 0
 IsBelow c tree None = tree ≡ bare
 IsBelow c tree (Some block) = ReadsBlock c block tree
 
+-- The block below a character of another, if there is one.
+pub record IsBlockBelow (c : List ℕ) (block : Block) (character : ℕ) (below : Option Block) : Type 0 where
+  -- It lies in the cache.
+  pub lies : IfSome below (λ lower. LiesBlock c lower.first 12 lower.count)
+  -- It is of the siblings below the character, wherever those of the block stand.
+  pub reads : (tree : Tree) → ReadsBlock c block tree → IsBelow c (below_character character tree) below
+
 -- how many siblings a scan of the leaves visits: the leaves, and the node after them
 abbrev pub scan_visits : Tree → ℕ
 scan_visits bare = 0
@@ -61,10 +77,13 @@ scan_visits (node character below rest) = 1
 abbrev pub admitted : Case → List GlobRule → List GlobRule
 admitted case rules = filter (λ rule. takes_rule case rule.cased) rules
 
--- a rule of the class Suffix with so long a pattern and a weight of 8 bits
+-- A rule of an ending, whose pattern is `long` bytes long.
 pub record IsSuffixRule (long : ℕ) (rule : GlobRule) : Type 0 where
+  -- It is of the class Suffix.
   pub suffix : class_of rule.pattern ≡ Suffix
+  -- Its pattern has that many bytes.
   pub pattern_length : length rule.pattern ≡ long
+  -- Its weight has 8 bits.
   pub light : rule.weight < 256
 
 -- the block that a record names does not lie in the cache

@@ -35,11 +35,13 @@ ghost use Rattle.mime_view.specs.Listing.Faults.{IsListingFault};
 
 use crate::budget::Budget;
 use crate::fault::CacheFault;
+use crate::hits::Case;
 use crate::magic::sniff;
 use crate::marks::Marks;
 use crate::name::{RuleLists, glob_hits};
 use crate::pairs::look_up_pair;
 use crate::parents::{Parents, parents_of};
+use crate::query::Query;
 use crate::rules::{Listed, Source, list_rules};
 use crate::spending::Spending;
 use crate::texts::Texts;
@@ -140,29 +142,38 @@ impl<'a> Cache<'a> {
         meter: &mut Meter,
         budget: &mut Budget,
     ) -> Result<Texts<'a>, CacheFault>
+        // A name has no more bytes.
         requires short { length name.now ≤ 4096 }
+        // Of the rules that the cache spells, it gives the types of those that are kept.
         ensures answer { (offsets : Offsets) (rules : List GlobRule) → All FitsRank rules →
             HeaderAt (Stands self.now) offsets → LiteralsAt (Stands self.now) offsets.literals rules →
             SuffixTreeAt (Stands self.now) offsets.tree rules → GlobsAt (Stands self.now) offsets.globs rules →
             IfOk result (λ kinds. kinds ≡ map (λ rule. rule.kind) (kept_rules rules name.now)) }
+        // Each type is a text of the cache.
         ensures text { IfOk result (λ kinds. All (λ kind. (at : ℕ) × (text_at self.now at ≡ Ok kind)) kinds) }
+        // Each was paid for by a record.
         ensures count { IfOk result (λ kinds. length kinds + budget.new.records ≤ budget.old.records) }
+        // With records for all entries, or for those near the name, only memory can be short.
         ensures need { (offsets : Offsets) (rules : List GlobRule) → All FitsRank rules →
             HeaderAt (Stands self.now) offsets → LiteralsAt (Stands self.now) offsets.literals rules →
             SuffixTreeAt (Stands self.now) offsets.tree rules → GlobsAt (Stands self.now) offsets.globs rules →
             (2 * length (literal_rules rules) + 2 * tree_size rules + length (glob_rules rules) ≤ budget.old.records)
             ⊎ (2 * near name.now rules + 2 * length name.now + 2 ≤ budget.old.records) →
             IfErr result (λ e. e ≡ CacheFault.OutOfMemory) }
+        // Why nothing is said of the name.
         ensures fault { IfErr result
             (IsHitsFault self.now (field self.now 0 3) (field self.now 0 4) (field self.now 0 5) budget.new) }
+        // No more records are taken than the lists have entries, two where one search serves both cases.
         ensures takes_within { (offsets : Offsets) (rules : List GlobRule) → HeaderAt (Stands self.now) offsets →
             LiteralsAt (Stands self.now) offsets.literals rules → SuffixTreeAt (Stands self.now) offsets.tree rules →
             GlobsAt (Stands self.now) offsets.globs rules → budget.old.records ≤ budget.new.records
             + (2 * length (literal_rules rules) + 2 * tree_size rules + length (glob_rules rules)) }
+        // Nor more than for the rules near the name, and two for each of its bytes and for the literals.
         ensures takes_near { (offsets : Offsets) (rules : List GlobRule) → HeaderAt (Stands self.now) offsets →
             LiteralsAt (Stands self.now) offsets.literals rules → SuffixTreeAt (Stands self.now) offsets.tree rules →
             GlobsAt (Stands self.now) offsets.globs rules →
             budget.old.records ≤ budget.new.records + (2 * near name.now rules + 2 * length name.now + 2) }
+        // A record costs as in the glob list, and the text of a type; the halving comes besides, for both cases.
         ensures cost { Charged (256 * (length name.now + 3)) (29 * (2 * length name.now + 2) + 1)
             budget.old budget.new meter.old meter.new }
     {
@@ -171,7 +182,19 @@ impl<'a> Cache<'a> {
             tree: self.header[4],
             globs: self.header[5],
         };
-        glob_hits(alloc, &self.counted, lists, name, meter, budget)
+        let query = Query {
+            counted: &self.counted,
+            key: name,
+            case: Case::Both,
+        };
+        let mut spending = Spending {
+            meter: *meter,
+            budget: *budget,
+        };
+        let kinds = glob_hits(alloc, &query, lists, &mut spending);
+        *meter = spending.meter;
+        *budget = spending.budget;
+        kinds
     }
 
     /// The type that an alias stands for, or the name itself where it is no alias ("Directory layout").

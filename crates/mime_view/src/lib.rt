@@ -30,6 +30,7 @@ mod marks;
 mod name;
 mod pairs;
 mod parents;
+mod query;
 mod rules;
 mod search;
 mod spending;

@@ -1,7 +1,12 @@
 //! The literal list: the rules whose patterns have no special byte, sorted by their stored texts ("The
 //! mime.cache files").
+//!
+//! A text is sought by halving, with at most 26 comparisons, and its entries are scanned from the first up to and
+//! including the first of another text. The format sorts the list for this. A table by hash would have to be made for
+//! each cache that is opened, mostly for a single name. Over a list that is not sorted a search costs no more, and
+//! nothing is said of what it finds.
 
-ghost use Rattle.std.specs.Prelude.{◌≡◌, ◌⊎◌, ℕ, ◌+◌, ◌*◌, ◌^◌, ◌<◌, ◌≤◌, List, [], ◌∷◌, length, filter};
+ghost use Rattle.std.specs.Prelude.{◌≡◌, ℕ, ◌+◌, ◌*◌, ◌<◌, ◌≤◌, List, [], ◌∷◌, length, filter};
 ghost use Rattle.std.specs.Prelude.{Ok, OnOk, IfOk, IfErr, All, bytes_eq};
 ghost use Rattle.mime_base.specs.Cache.Bytes.{Stands};
 ghost use Rattle.mime_base.specs.Cache.Texts.{text_at};
@@ -9,16 +14,17 @@ ghost use Rattle.mime_base.specs.Format.Rules.{LiteralsAt};
 ghost use Rattle.mime_base.specs.Format.Stored.{stored_text, weight_and_flags};
 ghost use Rattle.mime_base.specs.Kept.{FitsRank};
 ghost use Rattle.mime_base.specs.declared.database.rule.GlobRule.{GlobRule};
-ghost use Rattle.mime_view.specs.Hits.{Charged, Offers, takes_rule, literal_hits, literal_visits, visits};
-ghost use Rattle.mime_view.specs.Lists.{IsListFault, IsTextFault};
+ghost use Rattle.mime_view.specs.Hits.{Offers, takes_rule, literal_hits, literal_visits, visits};
+ghost use Rattle.mime_view.specs.Lists.{IsTextFault};
 ghost use Rattle.mime_view.specs.Literals.{AreRun, IsLiteral, ReadsRule, ReadsRules, run_visits, taken};
+ghost use Rattle.mime_view.specs.Steps.{FindsRules, IsEntriesFault, Searches};
 
-use crate::budget::Budget;
 use crate::fault::CacheFault;
 use crate::hits::{Case, Hits};
 use crate::list::count_at;
+use crate::query::{Progress, Query};
 use crate::search::seek;
-use mime_base::{Class, Counted, Meter, rank_of};
+use mime_base::{Class, rank_of};
 use std::cmp::Ordering;
 
 /// The flag of a case-sensitive rule, above the weight.
@@ -28,100 +34,72 @@ const CASED: u32 = 0x100;
 ///
 /// Where the search met no such text, the entry at which it ended takes the records of a visit, as one that ends a
 /// scan does, and isn't read again.
+// Always inlined: where the case is known, so is how many records a visit takes.
 #[inline(always)]
 pub fn literal_hits(
-    counted: &Counted<'_>,
-    at: u64,
-    key: &[u8],
-    case: Case,
-    hits: &mut Hits,
-    meter: &mut Meter,
-    budget: &mut Budget,
+    query: &Query<'_, '_>,
+    at: u32,
+    progress: &mut Progress,
 ) -> Result<(), CacheFault>
-    requires at { at < 2 ^ 32 }
-    requires limit { length counted.now ≤ 2 ^ 28 }
-    requires short { length key.now < 65536 }
-    ensures answer { (rules : List GlobRule) → All FitsRank rules → LiteralsAt (Stands counted.now) at rules →
-        OnOk result (Offers counted.now (literal_hits case key.now rules) hits.old hits.new) }
-    ensures need { (rules : List GlobRule) → LiteralsAt (Stands counted.now) at rules →
-        visits case * literal_visits key.now rules ≤ budget.old.records → IfErr result (λ e. e ≡ CacheFault.OutOfMemory) }
-    ensures takes_at_most { (rules : List GlobRule) → LiteralsAt (Stands counted.now) at rules →
-        budget.old.records ≤ budget.new.records + visits case * literal_visits key.now rules }
-    ensures fault { IfErr result (λ e. IsListFault counted.now at 12 e ⊎ IsTextFault counted.now e
-        ⊎ ((e ≡ CacheFault.Spent) × (budget.new.records ≡ 0)) ⊎ (e ≡ CacheFault.OutOfMemory)) }
-    ensures few { OnOk result (length hits.new + budget.new.records ≤ length hits.old + budget.old.records) }
-    ensures cost { Charged 256 28 budget.old budget.new meter.old meter.new }
+    // Of the rules that stand in the list, it offers those of the key that the case takes.
+    ensures finds { (rules : List GlobRule) → LiteralsAt (Stands query.now.counted.now) at rules →
+        FindsRules query.now.counted.now (All FitsRank rules) (literal_hits query.now.case query.now.key.now rules)
+        (visits query.now.case * literal_visits query.now.key.now rules) progress.old progress.new result }
+    // An entry costs its text; the halving comes besides.
+    ensures searches { Searches (IsEntriesFault query.now.counted.now at) 256 28 progress.old progress.new result }
 {
-    let count = count_at(counted, at, 12, meter)?;
+    let at = u64::from(at);
+    let count = count_at(query.counted, at, 12, &mut progress.spending.meter)?;
     let first = at + 4;
-    let mut counts = *meter;
-    let sought = seek(counted, first, count, 12, key, &mut counts);
-    *meter = counts;
+    let mut counts = progress.spending.meter;
+    let sought = seek(query.counted, first, count, 12, query.key, &mut counts);
+    progress.spending.meter = counts;
     let sought = sought?;
     if sought.equal {
-        return scan_entries(
-            counted,
-            first,
-            sought.place,
-            count,
-            key,
-            case,
-            hits,
-            meter,
-            budget,
-        );
+        return scan_entries(query, first, sought.place, count, progress);
     }
     if sought.place < count {
-        pass_entry(case, meter, budget)?;
+        pass_entry(query, progress)?;
     }
     Ok(())
 }
 
 /// Takes the records of a visit, and counts it, for an entry that the search has read: it is of another text.
+// Always inlined: two sums.
 #[inline(always)]
-fn pass_entry(case: Case, meter: &mut Meter, budget: &mut Budget) -> Result<(), CacheFault>
-    ensures taken { OnOk result (budget.new.records + visits case ≡ budget.old.records) }
-    ensures spent { IfErr result (λ e. (e ≡ CacheFault.Spent) × (budget.new.records ≡ 0)
-        × (budget.old.records + 1 ≤ visits case)) }
-    ensures cost { Charged 256 0 budget.old budget.new meter.old meter.new }
+fn pass_entry(query: &Query<'_, '_>, progress: &mut Progress) -> Result<(), CacheFault>
+    // It offers nothing.
+    ensures finds { FindsRules query.now.counted.now (Unit {0}) [] (visits query.now.case) progress.old progress.new result }
+    // It costs the visit, and reads nothing that could be at fault.
+    ensures searches { Searches (λ e. ⊥) 256 0 progress.old progress.new result }
 {
-    case.take_records(meter, budget)?;
-    meter.add_node();
+    query.case.take_records(&mut progress.spending)?;
+    progress.spending.meter.add_node();
     Ok(())
 }
 
 /// Offers the entries from the place `start` on, of `count` from `first` on, until one is of another text.
+// Always inlined, as its caller is.
 #[inline(always)]
 fn scan_entries(
-    counted: &Counted<'_>,
+    query: &Query<'_, '_>,
     first: u64,
     start: u64,
     count: u64,
-    key: &[u8],
-    case: Case,
-    hits: &mut Hits,
-    meter: &mut Meter,
-    budget: &mut Budget,
+    progress: &mut Progress,
 ) -> Result<(), CacheFault>
-    requires fits { first + 12 * count ≤ length counted.now }
-    requires limit { length counted.now ≤ 2 ^ 28 }
-    requires short { length key.now < 65536 }
-    ensures answer { (rules : List GlobRule) → length rules + start ≡ count →
-        ReadsRules counted.now (first + 12 * start) rules → AreRun key.now rules → All IsLiteral rules →
-        OnOk result (Offers counted.now (taken case key.now rules) hits.old hits.new) }
-    ensures need { (rules : List GlobRule) → length rules + start ≡ count →
-        ReadsRules counted.now (first + 12 * start) rules → AreRun key.now rules →
-        visits case * run_visits key.now rules ≤ budget.old.records → IfErr result (λ e. e ≡ CacheFault.OutOfMemory) }
-    ensures takes_at_most { (rules : List GlobRule) → length rules + start ≡ count →
-        ReadsRules counted.now (first + 12 * start) rules → AreRun key.now rules →
-        budget.old.records ≤ budget.new.records + visits case * run_visits key.now rules }
-    ensures fault { IfErr result (λ e. IsTextFault counted.now e
-        ⊎ ((e ≡ CacheFault.Spent) × (budget.new.records ≡ 0)) ⊎ (e ≡ CacheFault.OutOfMemory)) }
-    ensures few { OnOk result (length hits.new + budget.new.records ≤ length hits.old + budget.old.records) }
-    ensures cost { Charged 256 0 budget.old budget.new meter.old meter.new }
+    // The entries lie in the cache.
+    requires fits { first + 12 * count ≤ length query.now.counted.now }
+    // Of a run of rules it offers those of the key that the case takes.
+    ensures finds { (rules : List GlobRule) → length rules + start ≡ count →
+        ReadsRules query.now.counted.now (first + 12 * start) rules → AreRun query.now.key.now rules →
+        FindsRules query.now.counted.now (All IsLiteral rules) (taken query.now.case query.now.key.now rules)
+        (visits query.now.case * run_visits query.now.key.now rules) progress.old progress.new result }
+    // An entry costs its text.
+    ensures searches { Searches (IsTextFault query.now.counted.now) 256 0 progress.old progress.new result }
 {
     for i in start..count {
-        if !visit_entry(counted, first + 12 * i, key, case, hits, meter, budget)? {
+        if !visit_entry(query, first + 12 * i, progress)? {
             return Ok(());
         }
     }
@@ -130,35 +108,32 @@ fn scan_entries(
 
 /// Visits the entry at `at`, and offers it if it is of the key and the case takes it. Whether it is of
 /// the key.
+// Always inlined: the body of a loop.
 #[inline(always)]
-fn visit_entry(
-    counted: &Counted<'_>,
-    at: u64,
-    key: &[u8],
-    case: Case,
-    hits: &mut Hits,
-    meter: &mut Meter,
-    budget: &mut Budget,
-) -> Result<bool, CacheFault>
-    requires inside { at + 12 ≤ length counted.now }
-    requires short { length key.now < 65536 }
-    ensures same { (rule : GlobRule) → ReadsRule counted.now at rule →
-        IfOk result (λ same. same ≡ bytes_eq (stored_text rule) key.now) }
-    ensures answer { (rule : GlobRule) → ReadsRule counted.now at rule → IsLiteral rule →
-        OnOk result (Offers counted.now (taken case key.now (rule ∷ [])) hits.old hits.new) }
-    ensures need { (rule : GlobRule) → ReadsRule counted.now at rule → visits case ≤ budget.old.records →
-        IfErr result (λ e. e ≡ CacheFault.OutOfMemory) }
-    ensures takes_at_most { budget.old.records ≤ budget.new.records + visits case }
-    ensures fault { IfErr result (λ e. IsTextFault counted.now e
-        ⊎ ((e ≡ CacheFault.Spent) × (budget.new.records ≡ 0)) ⊎ (e ≡ CacheFault.OutOfMemory)) }
-    ensures few { OnOk result (length hits.new + budget.new.records ≤ length hits.old + budget.old.records) }
-    ensures cost { Charged 256 0 budget.old budget.new meter.old meter.new }
+fn visit_entry(query: &Query<'_, '_>, at: u64, progress: &mut Progress) -> Result<bool, CacheFault>
+    // The entry lies in the cache.
+    requires inside { at + 12 ≤ length query.now.counted.now }
+    // Whether its text is the key.
+    ensures same { (rule : GlobRule) → ReadsRule query.now.counted.now at rule →
+        IfOk result (λ same. same ≡ bytes_eq (stored_text rule) query.now.key.now) }
+    // Its rule is offered if it is of the key and the case takes it.
+    ensures finds { (rule : GlobRule) → ReadsRule query.now.counted.now at rule →
+        FindsRules query.now.counted.now (IsLiteral rule) (taken query.now.case query.now.key.now (rule ∷ []))
+        (visits query.now.case) progress.old progress.new result }
+    // It costs its text.
+    ensures searches { Searches (IsTextFault query.now.counted.now) 256 0 progress.old progress.new result }
 {
-    case.take_records(meter, budget)?;
-    let [text, kind, flags] = counted.cards_within::<3>(at, meter);
-    match counted.compare_text(u64::from(text), key, meter)? {
+    query.case.take_records(&mut progress.spending)?;
+    let [text, kind, flags] = query
+        .counted
+        .cards_within::<3>(at, &mut progress.spending.meter);
+    match query
+        .counted
+        .compare_text(u64::from(text), query.key, &mut progress.spending.meter)?
+    {
         Ordering::Equal => {
-            offer_entry(flags, kind, key.len() as u16, case, hits)?;
+            let size = query.key.len() as u16;
+            offer_entry(query.case, size, kind, flags, &mut progress.hits)?;
             Ok(true)
         }
         _ => Ok(false),
@@ -166,18 +141,22 @@ fn visit_entry(
 }
 
 /// Offers a rule of the literal list with this weight and flag, if the case takes it.
+// Always inlined: a test, and then a call.
 #[inline(always)]
 fn offer_entry(
-    flags: u32,
-    kind: u32,
-    size: u16,
     case: Case,
+    size: u16,
+    kind: u32,
+    flags: u32,
     hits: &mut Hits,
 ) -> Result<(), CacheFault>
+    // A literal rule with these numbers is offered if the case takes it.
     ensures answer { (c : List ℕ) (rule : GlobRule) → IsLiteral rule → length rule.pattern ≡ size →
         flags ≡ weight_and_flags rule → text_at c kind ≡ Ok rule.kind →
         OnOk result (Offers c (filter (λ rule. takes_rule case rule.cased) (rule ∷ [])) hits.old hits.new) }
+    // At most one hit is added.
     ensures one_more { length hits.new ≤ length hits.old + 1 }
+    // Only memory can be short.
     ensures fault { IfErr result (λ e. e ≡ CacheFault.OutOfMemory) }
 {
     let cased = flags / CASED % 2 == 1;

@@ -4,23 +4,29 @@
 //! each rule at its end. So one walk meets all endings of a name, the shortest first. Siblings stand
 //! one after another in 12 bytes each, the leaves first: a leaf is 0, the offset of its type, weight
 //! and flags; a node is its character, how many siblings are below it, and the offset of the first.
+//!
+//! A walk visits at most one block of siblings for each byte of the name, with a halving in each, however many rules
+//! there are. To match each pattern in turn would cost as much as there are rules, and a table of endings would have to
+//! be made for each cache that is opened. Over bytes that form cycles the name bounds the depth, and the budget the
+//! leaves.
 
-ghost use Rattle.std.specs.Prelude.{◌≡◌, ◌⊎◌, ◌==◌, true, false, get_or, ◌+◌, ◌-◌, ◌*◌, ◌^◌, ◌≤◌, ◌<◌, List, [], ◌∷◌, length};
-ghost use Rattle.std.specs.Prelude.{All, OnOk, IfOk, IfErr, IfSome, IsOk};
+ghost use Rattle.std.specs.Prelude.{◌≡◌, ◌==◌, true, false, get_or, ◌+◌, ◌-◌, ◌*◌, ◌≤◌, ◌<◌, List, [], ◌∷◌, length};
+ghost use Rattle.std.specs.Prelude.{All, IfOk, IfErr};
 ghost use Rattle.mime_base.specs.Cache.Bytes.{field, Stands};
 ghost use Rattle.mime_base.specs.Format.SuffixTree.{SuffixTreeAt};
 ghost use Rattle.mime_base.specs.Format.Tree.{Tree, leaves_at};
 ghost use Rattle.mime_base.specs.Kept.{FitsRank};
 ghost use Rattle.mime_base.specs.Meter.{raised};
 ghost use Rattle.mime_base.specs.declared.database.rule.GlobRule.{GlobRule};
-ghost use Rattle.mime_view.specs.Hits.{Charged, Offers, tree_hits, tree_visits, visits};
+ghost use Rattle.mime_view.specs.Hits.{tree_hits, tree_visits, visits};
 ghost use Rattle.mime_view.specs.Magic.{IsBlockFault, LiesBlock};
-ghost use Rattle.mime_view.specs.SuffixTree.{IsBelow, IsCharacterPlace, IsChildFault, IsSuffixRule, IsTreeFault};
+ghost use Rattle.mime_view.specs.Spending.{Looks};
+ghost use Rattle.mime_view.specs.Steps.{FindsRules, Searches};
+ghost use Rattle.mime_view.specs.SuffixTree.{IsCharacterPlace, IsChildFault, IsSuffixRule, IsTreeFault, IsBlockBelow};
 ghost use Rattle.mime_view.specs.SuffixTree.{ReadsBlock, ReadsLeaf, admitted, below_character, scan_visits};
 
-use crate::budget::Budget;
 use crate::fault::CacheFault;
-use crate::hits::{Case, Hits};
+use crate::query::{Progress, Query};
 use mime_base::{Class, Counted, Meter, rank_of};
 
 /// Siblings that lie in the cache.
@@ -40,48 +46,29 @@ struct Block {
 /// [`CacheFault::OutOfRange`] with the offset of the tree, or of the first of its roots or of the
 /// siblings below a character, where not all of them lie in the cache; [`CacheFault::Spent`] where a
 /// visit has too few records left; [`CacheFault::OutOfMemory`].
+// Always inlined: where the case is known, so is how many records a visit takes.
 #[inline(always)]
-pub fn tree_hits(
-    counted: &Counted<'_>,
-    at: u64,
-    name: &[u8],
-    case: Case,
-    hits: &mut Hits,
-    meter: &mut Meter,
-    budget: &mut Budget,
-) -> Result<(), CacheFault>
-    requires at { at < 2 ^ 32 }
-    requires limit { length counted.now ≤ 2 ^ 28 }
-    requires short { length name.now < 65535 }
-    ensures answer { (rules : List GlobRule) → All FitsRank rules → SuffixTreeAt (Stands counted.now) at rules →
-        OnOk result (Offers counted.now (tree_hits case name.now rules) hits.old hits.new) }
-    ensures need { (rules : List GlobRule) → SuffixTreeAt (Stands counted.now) at rules →
-        visits case * tree_visits name.now rules ≤ budget.old.records → IfErr result (λ e. e ≡ CacheFault.OutOfMemory) }
-    ensures takes_at_most { (rules : List GlobRule) → SuffixTreeAt (Stands counted.now) at rules →
-        budget.old.records ≤ budget.new.records + visits case * tree_visits name.now rules }
-    ensures fault { IfErr result (λ e. IsTreeFault counted.now at e
-        ⊎ ((e ≡ CacheFault.Spent) × (budget.new.records ≡ 0)) ⊎ (e ≡ CacheFault.OutOfMemory)) }
-    ensures few { OnOk result (length hits.new + budget.new.records ≤ length hits.old + budget.old.records) }
-    ensures cost { Charged 256 (29 * length name.now + 1) budget.old budget.new meter.old meter.new }
+pub fn tree_hits(query: &Query<'_, '_>, at: u32, progress: &mut Progress) -> Result<(), CacheFault>
+    // Of the rules that stand in the tree, it offers those with an ending of the name that the case takes.
+    ensures finds { (rules : List GlobRule) → SuffixTreeAt (Stands query.now.counted.now) at rules →
+        FindsRules query.now.counted.now (All FitsRank rules) (tree_hits query.now.case query.now.key.now rules)
+        (visits query.now.case * tree_visits query.now.key.now rules) progress.old progress.new result }
+    // A leaf costs no text; the halving among siblings comes besides, once for each byte of the name.
+    ensures searches { Searches (IsTreeFault query.now.counted.now at) 256 (29 * length query.now.key.now + 1)
+        progress.old progress.new result }
 {
-    let [count, first] = counted.cards::<2>(at, meter)?;
+    let name = query.key;
+    let [count, first] = query
+        .counted
+        .cards::<2>(u64::from(at), &mut progress.spending.meter)?;
     if !seeks_character(name) {
         return Ok(());
     }
-    let mut block = block_of(counted, first, count)?;
+    let mut block = block_of(query.counted, first, count)?;
     for depth in 0..name.len() {
         let byte = name[name.len() - 1 - depth];
         let pattern_length = depth as u16 + 2;
-        let below = descend(
-            counted,
-            block,
-            byte,
-            pattern_length,
-            case,
-            hits,
-            meter,
-            budget,
-        )?;
+        let below = descend(query, block, byte, pattern_length, progress)?;
         let Some(below) = below else {
             return Ok(());
         };
@@ -90,10 +77,13 @@ pub fn tree_hits(
     Ok(())
 }
 
-/// So many siblings from an offset on, if they lie in the cache. None lie anywhere.
+/// That many siblings from an offset on, if they lie in the cache. No siblings lie anywhere.
 fn block_of(counted: &Counted<'_>, first: u32, count: u32) -> Result<Block, CacheFault>
+    // It is of these numbers.
     ensures block { IfOk result (λ block. (block.first ≡ first) × (block.count ≡ count)) }
+    // It lies in the cache.
     ensures lies { IfOk result (λ block. LiesBlock counted.now block.first 12 block.count) }
+    // Else a sibling lies outside.
     ensures fault { IfErr result (IsBlockFault counted.now first 12 count) }
 {
     let first = u64::from(first);
@@ -106,7 +96,9 @@ fn block_of(counted: &Counted<'_>, first: u32, count: u32) -> Result<Block, Cach
 
 /// Whether a walk along the name seeks a character: it has a last byte, and that is not zero.
 fn seeks_character(name: &[u8]) -> bool
+    // Then the last byte is a character.
     ensures some { result ≡ true → 0 < get_or name.now (length name.now - 1) 0 }
+    // Else it is zero, or there is none.
     ensures none { result ≡ false → get_or name.now (length name.now - 1) 0 ≡ 0 }
 {
     0 < name.len() && name[name.len() - 1] != 0
@@ -114,92 +106,90 @@ fn seeks_character(name: &[u8]) -> bool
 
 /// Offers the leaves below the character, as rules with patterns of this length, and gives the block
 /// in which they stand, if there is one.
+// Always inlined: the body of a loop.
 #[inline(always)]
 fn descend(
-    counted: &Counted<'_>,
+    query: &Query<'_, '_>,
     block: Block,
     byte: u8,
     pattern_length: u16,
-    case: Case,
-    hits: &mut Hits,
-    meter: &mut Meter,
-    budget: &mut Budget,
+    progress: &mut Progress,
 ) -> Result<Option<Block>, CacheFault>
-    requires limit { length counted.now ≤ 2 ^ 28 }
-    requires lies { LiesBlock counted.now block.first 12 block.count }
-    ensures lies { IfOk result (λ below. IfSome below (λ block. LiesBlock counted.now block.first 12 block.count)) }
-    ensures below { (tree : Tree) → ReadsBlock counted.now block tree →
-        IfOk result (IsBelow counted.now (below_character byte tree)) }
-    ensures answer { (tree : Tree) → ReadsBlock counted.now block tree →
-        All (IsSuffixRule pattern_length) (leaves_at [] (below_character byte tree)) →
-        OnOk result (Offers counted.now (admitted case (leaves_at [] (below_character byte tree))) hits.old hits.new) }
-    ensures need { (tree : Tree) → ReadsBlock counted.now block tree →
-        visits case * scan_visits (below_character byte tree) ≤ budget.old.records →
-        IfErr result (λ e. e ≡ CacheFault.OutOfMemory) }
-    ensures takes_at_most { (tree : Tree) → ReadsBlock counted.now block tree →
-        budget.old.records ≤ budget.new.records + visits case * scan_visits (below_character byte tree) }
-    ensures fault { IfErr result (λ e. IsChildFault counted.now e
-        ⊎ ((e ≡ CacheFault.Spent) × (budget.new.records ≡ 0)) ⊎ (e ≡ CacheFault.OutOfMemory)) }
-    ensures few { OnOk result (length hits.new + budget.new.records ≤ length hits.old + budget.old.records) }
-    ensures cost { Charged 256 29 budget.old budget.new meter.old meter.new }
+    // The siblings lie in the cache.
+    requires lies { LiesBlock query.now.counted.now block.first 12 block.count }
+    // It gives the block below the character.
+    ensures below { IfOk result (IsBlockBelow query.now.counted.now block byte) }
+    // Of the leaves there it offers those that the case takes.
+    ensures finds { (tree : Tree) → ReadsBlock query.now.counted.now block tree →
+        FindsRules query.now.counted.now (All (IsSuffixRule pattern_length) (leaves_at [] (below_character byte tree)))
+        (admitted query.now.case (leaves_at [] (below_character byte tree)))
+        (visits query.now.case * scan_visits (below_character byte tree)) progress.old progress.new result }
+    // The halving comes besides.
+    ensures searches { Searches (IsChildFault query.now.counted.now) 256 29 progress.old progress.new result }
 {
-    let Some(below) = block_below(counted, block, byte, meter)? else {
+    let Some(below) = block_below(query, block, byte, progress)? else {
         return Ok(None);
     };
-    leaf_hits(counted, below, pattern_length, case, hits, meter, budget)?;
+    leaf_hits(query, below, pattern_length, progress)?;
     Ok(Some(below))
 }
 
 /// The block below the sibling of a character, if there is one. The character 0 is none.
+// Always inlined, as its caller is.
 #[inline(always)]
 fn block_below(
-    counted: &Counted<'_>,
+    query: &Query<'_, '_>,
     block: Block,
     byte: u8,
-    meter: &mut Meter,
+    progress: &mut Progress,
 ) -> Result<Option<Block>, CacheFault>
-    requires limit { length counted.now ≤ 2 ^ 28 }
-    requires lies { LiesBlock counted.now block.first 12 block.count }
-    ensures lies { IfOk result (λ below. IfSome below (λ block. LiesBlock counted.now block.first 12 block.count)) }
-    ensures below { (tree : Tree) → ReadsBlock counted.now block tree →
-        IfOk result (IsBelow counted.now (below_character byte tree)) }
-    ensures given { (tree : Tree) → ReadsBlock counted.now block tree → IsOk result }
-    ensures fault { IfErr result (IsChildFault counted.now) }
-    ensures rises { meter.old.nodes ≤ meter.new.nodes }
-    ensures nodes { meter.new.nodes ≤ meter.old.nodes + 27 }
-    ensures bytes { meter.new.bytes ≡ meter.old.bytes }
+    // The siblings lie in the cache.
+    requires lies { LiesBlock query.now.counted.now block.first 12 block.count }
+    // It gives the block below the character.
+    ensures below { IfOk result (IsBlockBelow query.now.counted.now block byte) }
+    // It offers nothing, and takes no record.
+    ensures finds { (tree : Tree) → ReadsBlock query.now.counted.now block tree →
+        FindsRules query.now.counted.now (Unit {0}) [] 0 progress.old progress.new result }
+    // It costs the halving, and the sibling that is found.
+    ensures searches { Searches (IsChildFault query.now.counted.now) 256 27 progress.old progress.new result }
 {
     if byte == 0 {
         return Ok(None);
     }
-    let place = first_not_below(counted, block, byte, meter);
+    let place = first_not_below(query, block, byte, &mut progress.spending.meter);
     if place == block.count {
         return Ok(None);
     }
-    let [character, count, first] = counted.cards_within::<3>(block.first + 12 * place, meter);
+    let at = block.first + 12 * place;
+    let [character, count, first] = query
+        .counted
+        .cards_within::<3>(at, &mut progress.spending.meter);
     if character != u32::from(byte) {
         return Ok(None);
     }
-    Ok(Some(block_of(counted, first, count)?))
+    Ok(Some(block_of(query.counted, first, count)?))
 }
 
 /// The place of the first sibling whose character is not less than the byte.
+// Always inlined, so that the sums stay in registers.
 #[inline(always)]
-fn first_not_below(counted: &Counted<'_>, block: Block, byte: u8, meter: &mut Meter) -> u64
-    requires limit { length counted.now ≤ 2 ^ 28 }
-    requires lies { LiesBlock counted.now block.first 12 block.count }
-    ensures place { IsCharacterPlace counted.now block byte result }
-    ensures rises { meter.old.nodes ≤ meter.new.nodes }
+fn first_not_below(query: &Query<'_, '_>, block: Block, byte: u8, meter: &mut Meter) -> u64
+    // The siblings lie in the cache.
+    requires lies { LiesBlock query.now.counted.now block.first 12 block.count }
+    // Which place it is.
+    ensures place { IsCharacterPlace query.now.counted.now block byte result }
+    // Where there are siblings, one is looked at.
     ensures some { 0 < block.count → raised meter.old.nodes 1 ≤ meter.new.nodes }
-    ensures nodes { meter.new.nodes ≤ meter.old.nodes + 26 }
-    ensures bytes { meter.new.bytes ≡ meter.old.bytes }
+    // No more than 26 are.
+    ensures looks { Looks 26 0 meter.old meter.new }
 {
     let mut counts = *meter;
     let mut low = 0;
     let mut high = block.count;
     while low < high {
         let middle = (low + high) / 2;
-        let [character] = counted.cards_within::<1>(block.first + 12 * middle, &mut counts);
+        let at = block.first + 12 * middle;
+        let [character] = query.counted.cards_within::<1>(at, &mut counts);
         if character < u32::from(byte) {
             low = middle + 1;
         } else {
@@ -211,71 +201,67 @@ fn first_not_below(counted: &Counted<'_>, block: Block, byte: u8, meter: &mut Me
 }
 
 /// Offers the leaves of a block, as rules with patterns of this length. They stand first.
+// Always inlined, as its caller is.
 #[inline(always)]
 fn leaf_hits(
-    counted: &Counted<'_>,
+    query: &Query<'_, '_>,
     block: Block,
     pattern_length: u16,
-    case: Case,
-    hits: &mut Hits,
-    meter: &mut Meter,
-    budget: &mut Budget,
+    progress: &mut Progress,
 ) -> Result<(), CacheFault>
-    requires limit { length counted.now ≤ 2 ^ 28 }
-    requires lies { LiesBlock counted.now block.first 12 block.count }
-    ensures answer { (tree : Tree) → ReadsBlock counted.now block tree → All (IsSuffixRule pattern_length) (leaves_at [] tree) →
-        OnOk result (Offers counted.now (admitted case (leaves_at [] tree)) hits.old hits.new) }
-    ensures need { (tree : Tree) → ReadsBlock counted.now block tree →
-        visits case * scan_visits tree ≤ budget.old.records → IfErr result (λ e. e ≡ CacheFault.OutOfMemory) }
-    ensures takes_at_most { (tree : Tree) → ReadsBlock counted.now block tree →
-        budget.old.records ≤ budget.new.records + visits case * scan_visits tree }
-    ensures fault { IfErr result (λ e.
-        ((e ≡ CacheFault.Spent) × (budget.new.records ≡ 0)) ⊎ (e ≡ CacheFault.OutOfMemory)) }
-    ensures few { OnOk result (length hits.new + budget.new.records ≤ length hits.old + budget.old.records) }
-    ensures cost { Charged 256 0 budget.old budget.new meter.old meter.new }
+    // The siblings lie in the cache.
+    requires lies { LiesBlock query.now.counted.now block.first 12 block.count }
+    // It offers those that the case takes.
+    ensures finds { (tree : Tree) → ReadsBlock query.now.counted.now block tree →
+        FindsRules query.now.counted.now (All (IsSuffixRule pattern_length) (leaves_at [] tree))
+        (admitted query.now.case (leaves_at [] tree)) (visits query.now.case * scan_visits tree)
+        progress.old progress.new result }
+    // It costs the visits, and reads nothing that could be at fault.
+    ensures searches { Searches (λ e. ⊥) 256 0 progress.old progress.new result }
 {
     for i in 0..block.count {
-        let at = block.first + 12 * i;
-        if !offer_leaf(counted, at, pattern_length, case, hits, meter, budget)? {
+        if !offer_leaf(query, block.first + 12 * i, pattern_length, progress)? {
             return Ok(());
         }
     }
     Ok(())
 }
 
-/// Takes the records of a visit, and offers what stands at `at` if it is a leaf. It tells whether it is.
+/// Takes the records of a visit, and offers what stands at `at` if it is a leaf. It says whether it is.
+// Always inlined: the body of a loop.
 #[inline(always)]
 fn offer_leaf(
-    counted: &Counted<'_>,
+    query: &Query<'_, '_>,
     at: u64,
     pattern_length: u16,
-    case: Case,
-    hits: &mut Hits,
-    meter: &mut Meter,
-    budget: &mut Budget,
+    progress: &mut Progress,
 ) -> Result<bool, CacheFault>
-    requires inside { at + 12 ≤ length counted.now }
-    ensures leaf { IfOk result (λ is_leaf. is_leaf ≡ (field counted.now at 0 == 0)) }
-    ensures answer { (rule : GlobRule) → ReadsLeaf counted.now at rule → IsSuffixRule pattern_length rule →
-        OnOk result (Offers counted.now (admitted case (rule ∷ [])) hits.old hits.new) }
-    ensures other { IfOk result (λ is_leaf. is_leaf ≡ false → hits.new ≡ hits.old) }
-    ensures need { visits case ≤ budget.old.records → IfErr result (λ e. e ≡ CacheFault.OutOfMemory) }
-    ensures taken { OnOk result (budget.new.records + visits case ≡ budget.old.records) }
-    ensures takes_at_most { budget.old.records ≤ budget.new.records + visits case }
-    ensures fault { IfErr result (λ e.
-        ((e ≡ CacheFault.Spent) × (budget.new.records ≡ 0)) ⊎ (e ≡ CacheFault.OutOfMemory)) }
-    ensures few { OnOk result (length hits.new + budget.new.records ≤ length hits.old + budget.old.records) }
-    ensures cost { Charged 256 0 budget.old budget.new meter.old meter.new }
+    // The sibling lies in the cache.
+    requires inside { at + 12 ≤ length query.now.counted.now }
+    // Whether it is a leaf: it has no character.
+    ensures leaf { IfOk result (λ is_leaf. is_leaf ≡ (field query.now.counted.now at 0 == 0)) }
+    // A leaf is offered if the case takes it.
+    ensures finds { (rule : GlobRule) → ReadsLeaf query.now.counted.now at rule →
+        FindsRules query.now.counted.now (IsSuffixRule pattern_length rule) (admitted query.now.case (rule ∷ []))
+        (visits query.now.case) progress.old progress.new result }
+    // A node is not.
+    ensures passes { (field query.now.counted.now at 0 == 0) ≡ false →
+        FindsRules query.now.counted.now (Unit {0}) [] (visits query.now.case) progress.old progress.new result }
+    // It costs the visit, and reads nothing that could be at fault.
+    ensures searches { Searches (λ e. ⊥) 256 0 progress.old progress.new result }
 {
-    case.take_records(meter, budget)?;
-    let [character, kind, flags] = counted.cards_within::<3>(at, meter);
+    query.case.take_records(&mut progress.spending)?;
+    let [character, kind, flags] = query
+        .counted
+        .cards_within::<3>(at, &mut progress.spending.meter);
     if character != 0 {
         return Ok(false);
     }
     let weight = (flags % 0x100) as u8;
     let cased = flags / 0x100 % 2 == 1;
-    if case.takes_rule(cased) {
-        hits.offer(rank_of(Class::Suffix, weight, pattern_length, cased), kind)?;
+    if query.case.takes_rule(cased) {
+        let rank = rank_of(Class::Suffix, weight, pattern_length, cased);
+        progress.hits.offer(rank, kind)?;
     }
     Ok(true)
 }

@@ -3,16 +3,16 @@ use Rattle.std.proofs.lemmas.Result.{on_ok_weaker}
 use Rattle.mime_view.proofs.NameOffers.{kept_once, kept_twice, no_capitals}
 use Rattle.mime_view.proofs.name.keep_hits.Goals as goal
 
-pub offer_once-requires-clause-alone : goal.offer_once-requires-clause-alone
-offer_once-requires-clause-alone c = no_capitals c.args.name.now (sym c.has_capitals.ensures ∙ c.if-not-has_capitals.true)
+pub offer_once-requires : goal.offer_once-requires
+offer_once-requires c = record { alone = no_capitals c.args.query.now.key.now (sym c.has_capitals.ensures ∙ c.if-not-has_capitals.true) }
 
 pub returns-then-not-has_capitals-clause-answer : goal.returns-then-not-has_capitals-clause-answer
-returns-then-not-has_capitals-clause-answer c = λ rules fits stand.
-    on_ok_weaker c.offer_once.result (kept_once c.args.counted.now rules c.args.name.now c.offer_once.new.hits fits
-    (no_capitals c.args.name.now (sym c.has_capitals.ensures ∙ c.if-not-has_capitals.true)))
-    (rw c.requires.none at (c.offer_once.ensures.answer rules fits stand))
+returns-then-not-has_capitals-clause-answer c = λ rules fits at.
+    on_ok_weaker c.offer_once.result (kept_once c.args.query.now.counted.now rules c.args.query.now.key.now c.offer_once.new.progress.hits
+    fits (no_capitals c.args.query.now.key.now (sym c.has_capitals.ensures ∙ c.if-not-has_capitals.true)))
+    (rw c.requires.none at ((c.offer_once.ensures.finds rules at).answer fits))
 
 pub returns-clause-answer : goal.returns-clause-answer
-returns-clause-answer c = λ rules fits stand.
-    on_ok_weaker c.offer_twice.result (kept_twice c.args.counted.now rules c.args.name.now c.offer_twice.new.hits fits)
-    (rw c.requires.none at (c.offer_twice.ensures.answer rules fits stand))
+returns-clause-answer c = λ rules fits at.
+    on_ok_weaker c.offer_twice.result (kept_twice c.args.query.now.counted.now rules c.args.query.now.key.now
+    c.offer_twice.new.progress.hits fits) (rw c.requires.none at ((c.offer_twice.ensures.finds rules at).answer fits))

@@ -3,24 +3,33 @@ use Rattle.mime_view.proofs.TreeBlocks.{below_character-past, block_read, node_b
 use Rattle.mime_view.proofs.suffixes.block_below.Goals as goal
 
 pub returns-then-byte-eq0-clause-below : goal.returns-then-byte-eq0-clause-below
-returns-then-byte-eq0-clause-below c = λ tree reads.
-    below_character-past c.args.byte 0 tree (omega (arith, c.if-byte-eq0.true)) reads.ordered
+returns-then-byte-eq0-clause-below c = record {
+  lies = tt;
+  reads = λ tree reads.
+      below_character-past c.args.byte 0 tree (omega (arith, c.if-byte-eq0.true)) reads.ordered;
+}
 
 pub returns-then-place-block-clause-below : goal.returns-then-place-block-clause-below
-returns-then-place-block-clause-below c = λ tree reads.
-    none_below c.args.counted.now c.args.block c.args.byte c.first_not_below-place.result tree (omega (arith, c.if-byte-eq0.false)) reads
-    c.first_not_below-place.ensures.place (λ within is. omega (arith, c.if-place-block.true))
+returns-then-place-block-clause-below c = record {
+  lies = tt;
+  reads = λ tree reads.
+      none_below c.args.query.now.counted.now c.args.block c.args.byte c.first_not_below-place.result tree (omega (arith, c.if-byte-eq0.false)) reads
+      c.first_not_below-place.ensures.place (λ within is. omega (arith, c.if-place-block.true));
+}
 
 pub returns-then-character-from-clause-below : goal.returns-then-character-from-clause-below
-returns-then-character-from-clause-below c = λ tree reads.
-    let read = ap (λ xs. get_or xs 0 0) c.cards_within.ensures.numbers in
-    none_below c.args.counted.now c.args.block c.args.byte c.first_not_below-place.result tree (omega (arith, c.if-byte-eq0.false)) reads
-    c.first_not_below-place.ensures.place (λ within is. c.if-character-from.true (read ∙ is ∙ sym c.from.ensures))
+returns-then-character-from-clause-below c = record {
+  lies = tt;
+  reads = λ tree reads.
+      let read = ap (λ xs. get_or xs 0 0) c.cards_within.ensures.numbers in
+      none_below c.args.query.now.counted.now c.args.block c.args.byte c.first_not_below-place.result tree (omega (arith, c.if-byte-eq0.false)) reads
+      c.first_not_below-place.ensures.place (λ within is. c.if-character-from.true (read ∙ is ∙ sym c.from.ensures));
+}
 
-pub returns-in_err-block_of-clause-given : goal.returns-in_err-block_of-clause-given
-returns-in_err-block_of-clause-given c = λ tree reads.
+pub returns-in_err-block_of-clause-finds : goal.returns-in_err-block_of-clause-finds
+returns-in_err-block_of-clause-finds c = λ tree reads.
     let same = sym (ap (λ xs. get_or xs 0 0) c.cards_within.ensures.numbers) ∙ c.if-character-from.false ∙ c.from.ensures in
-    let node = node_below c.args.counted.now c.args.block c.args.byte c.first_not_below-place.result tree (omega (arith, c.if-byte-eq0.false)) reads
+    let node = node_below c.args.query.now.counted.now c.args.block c.args.byte c.first_not_below-place.result tree (omega (arith, c.if-byte-eq0.false)) reads
     c.first_not_below-place.ensures.place c.if-place-block.false same in
     let count = ap (λ xs. get_or xs 1 0) c.cards_within.ensures.numbers in
     let first = ap (λ xs. get_or xs 2 0) c.cards_within.ensures.numbers in
@@ -28,10 +37,13 @@ returns-in_err-block_of-clause-given c = λ tree reads.
     absurd (omega (arith, lies, count, first, node.count, c.in_err-block_of.ensures.fault.outside))
 
 pub returns-clause-below : goal.returns-clause-below
-returns-clause-below c = λ tree reads.
-    let same = sym (ap (λ xs. get_or xs 0 0) c.cards_within.ensures.numbers) ∙ c.if-character-from.false ∙ c.from.ensures in
-    let node = node_below c.args.counted.now c.args.block c.args.byte c.first_not_below-place.result tree (omega (arith, c.if-byte-eq0.false)) reads
-    c.first_not_below-place.ensures.place c.if-place-block.false same in
-    block_read c.args.counted.now _ c.in_ok-block_of.field-0 _
-    (c.in_ok-block_of.ensures.block.0 ∙ ap (λ xs. get_or xs 2 0) c.cards_within.ensures.numbers)
-    (c.in_ok-block_of.ensures.block.1 ∙ ap (λ xs. get_or xs 1 0) c.cards_within.ensures.numbers) node
+returns-clause-below c = record {
+  lies = c.in_ok-block_of.ensures.lies;
+  reads = λ tree reads.
+      let same = sym (ap (λ xs. get_or xs 0 0) c.cards_within.ensures.numbers) ∙ c.if-character-from.false ∙ c.from.ensures in
+      let node = node_below c.args.query.now.counted.now c.args.block c.args.byte c.first_not_below-place.result tree (omega (arith, c.if-byte-eq0.false)) reads
+      c.first_not_below-place.ensures.place c.if-place-block.false same in
+      block_read c.args.query.now.counted.now _ c.in_ok-block_of.field-0 _
+      (c.in_ok-block_of.ensures.block.0 ∙ ap (λ xs. get_or xs 2 0) c.cards_within.ensures.numbers)
+      (c.in_ok-block_of.ensures.block.1 ∙ ap (λ xs. get_or xs 1 0) c.cards_within.ensures.numbers) node;
+}

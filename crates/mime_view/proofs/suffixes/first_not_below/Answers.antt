@@ -9,7 +9,7 @@ loop-low-preserved-then-character-from c =
     let p : ℕ = c.loop-low.invariant.probes.0 in
     let wide : ℕ = c.loop-low.high - c.loop-low.low in
     let fits = c.requires.lies.inside (omega arith) in
-    let small = count_small c.args.block.first 12 c.args.block.count _ (omega arith) fits c.requires.limit in
+    let small = count_small c.args.block.first 12 c.args.block.count _ (omega arith) fits c.args.query.now.limit in
     let early = few p wide c.args.block.count c.loop-low.invariant.probes.2 (omega arith) small in
     let read = ap (λ xs. get_or xs 0 0) c.cards_within.ensures.numbers in
     record {
@@ -17,9 +17,9 @@ loop-low-preserved-then-character-from c =
       within = c.loop-low.invariant.within;
       before = λ i is.
           let m : middle ≡ i = omega arith in
-          let less : field c.args.counted.now (c.args.block.first + 12 * middle) 0 < c.args.byte =
+          let less : field c.args.query.now.counted.now (c.args.block.first + 12 * middle) 0 < c.args.byte =
           omega (arith, read, c.from.ensures, c.if-character-from.true) in
-          subst (λ (k : ℕ). field c.args.counted.now (c.args.block.first + 12 * k) 0 < c.args.byte) m less;
+          subst (λ (k : ℕ). field c.args.query.now.counted.now (c.args.block.first + 12 * k) 0 < c.args.byte) m less;
       after = c.loop-low.invariant.after;
       seen = λ some. omega arith;
       rises = omega arith;
@@ -33,7 +33,7 @@ loop-low-preserved c =
     let p : ℕ = c.loop-low.invariant.probes.0 in
     let wide : ℕ = c.loop-low.high - c.loop-low.low in
     let fits = c.requires.lies.inside (omega arith) in
-    let small = count_small c.args.block.first 12 c.args.block.count _ (omega arith) fits c.requires.limit in
+    let small = count_small c.args.block.first 12 c.args.block.count _ (omega arith) fits c.args.query.now.limit in
     let early = few p wide c.args.block.count c.loop-low.invariant.probes.2 (omega arith) small in
     let read = ap (λ xs. get_or xs 0 0) c.cards_within.ensures.numbers in
     record {

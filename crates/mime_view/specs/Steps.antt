@@ -1,0 +1,37 @@
+-- What a step of a search for a name's hits does.
+use Rattle.std.specs.Prelude.{◌≡◌, ◌⊎◌, ℕ, ◌+◌, ◌*◌, ◌≤◌, List, length, Result, IfErr, OnOk}
+use Rattle.mime_base.specs.declared.database.rule.GlobRule.{GlobRule}
+use Rattle.mime_view.specs.Hits.{Offers}
+use Rattle.mime_view.specs.Lists.{IsListFault, IsTextFault}
+use Rattle.mime_view.specs.Spending.{Spends, per_record}
+use Rattle.mime_view.specs.declared.fault.CacheFault.{CacheFault}
+use Rattle.mime_view.specs.declared.fault.CacheFault.TheVariants.{OutOfMemory, Spent}
+use Rattle.mime_view.specs.declared.query.Progress.{Progress}
+
+-- why a step stops: a fault of what it reads, no records left, or no memory
+abbrev pub IsStop : (CacheFault → Type 0) → Progress → CacheFault → Type 0
+IsStop Fault new e = Fault e ⊎ ((e ≡ Spent) × (new.spending.budget.records ≡ 0)) ⊎ (e ≡ OutOfMemory)
+
+-- why the entries of a list of rules can't be read: the list, or a text that an entry names
+abbrev pub IsEntriesFault : List ℕ → ℕ → CacheFault → Type 0
+IsEntriesFault c at e = IsListFault c at 12 e ⊎ IsTextFault c e
+
+-- What a step does where the rules that it reads stand.
+pub record FindsRules {X : Type 0} (c : List ℕ) (fits : Type 0) (rules : List GlobRule) (visits : ℕ) (old new : Progress)
+    (result : Result X CacheFault) : Type 0 where
+  -- It offers these rules, if their ranks have room for them.
+  pub answer : fits → OnOk result (Offers c rules old.hits new.hits)
+  -- Where that many records are left, it stops only if it is out of memory.
+  pub need : visits ≤ old.spending.budget.records → IfErr result (λ e. e ≡ OutOfMemory)
+  -- It takes no more of them.
+  pub most : old.spending.budget.records ≤ new.spending.budget.records + visits
+
+-- What a step does on any bytes.
+pub record Searches {X : Type 0} (Fault : CacheFault → Type 0) (each more : ℕ) (old new : Progress) (result : Result X CacheFault)
+    : Type 0 where
+  -- Why it stops.
+  pub fault : IfErr result (IsStop Fault new)
+  -- Each hit that it adds was paid for by a record.
+  pub few : OnOk result (length new.hits + new.spending.budget.records ≤ length old.hits + old.spending.budget.records)
+  -- A record costs a node and at most `each` bytes; `more` nodes come besides, each with at most 256 bytes.
+  pub cost : Spends (per_record each) more (256 * more) old.spending new.spending
