@@ -27,6 +27,11 @@ pub of_broken : {U : Type 0} (before : U) (after : Option U) (P : Type 0) →
 of_broken before None P is = absurd is
 of_broken before (Some after) P is = is refl
 
+-- memory was refused, or a read failed
+pub read_or_memory : {P Q A : Type 0} → P ⊎ (Q × A) → Q ⊎ P
+read_or_memory (inl memory) = inr memory
+read_or_memory (inr read) = inl read.0
+
 -- nothing is read of no bytes
 pub nothing_read : {U : Type 0} (before : U) (after : Option U) (read : ℕ) →
     OfReader (λ (b a : U). Advances (Some []) (Some []) read) (read ≡ 0) (Some before) after → read ≡ 0

@@ -1,5 +1,6 @@
 -- The choice among kept types, in the steps of the code.
-use Rattle.std.proofs.Common.{◌≡◌, ℕ, ◌<◌, Bool, true, false, inl, inr, List, [], ◌∷◌, length, get_or, map}
+use Rattle.std.specs.Prelude.{Contains}
+use Rattle.std.proofs.Common.{◌≡◌, ℕ, zero, suc, ◌<◌, Bool, true, false, inl, inr, List, [], ◌∷◌, length, get_or, map}
 use Rattle.std.proofs.Common.{refl, sym, ◌∙◌, arith, MatchBool, bytes_eq}
 use Rattle.std.specs.List.{list_all}
 use Rattle.std.proofs.lemmas.Bool.{and_from, and_parts}
@@ -44,3 +45,10 @@ pub chooses-found : (pairs : Pairs) (base found : List ℕ) (kept : List (Bor (L
     ChoosesAmong pairs (kinds_of kept) found base
 chooses-found pairs base found [] same none = same
 chooses-found pairs base found (kind ∷ kept) same none = absurd (omega arith)
+
+-- the first of some types is one of them
+pub one_of : (kept : List (Bor (List ℕ))) (d : Bor (List ℕ)) (kind : List ℕ) → 0 < length kept →
+    Contains ((get_or kept 0 d).now ∷ kinds_of kept) kind → Contains (kinds_of kept) kind
+one_of [] d kind some is = absurd (omega arith)
+one_of (first ∷ more) d kind some (zero, within, same) = (0, omega arith, same)
+one_of (first ∷ more) d kind some (suc k, within, same) = (k, omega (arith, within), same)

@@ -28,10 +28,10 @@ costs_none each value budget meter =
     costs_nodes each value 0 budget meter meter (omega arith) (omega arith) (omega arith) (omega arith)
 
 -- one part after another
-pub costs_then : (each value more later : ℕ) (old mid new : Budget) (before between after : Meter)
+pub costs_then : {each value more later : ℕ} {old mid new : Budget} {before between after : Meter}
     → Costs each value more old mid before between → Costs each value later mid new between after
     → Costs each value (more + later) old new before after
-costs_then each value more later old mid new before between after first second = record {
+costs_then first second = record {
   records = omega arith;
   value_bytes = omega arith;
   rises = omega arith;
@@ -60,6 +60,12 @@ costs_wider each wide value broad more later old new before after wider broader 
       bytes_rise = is.bytes_rise;
       bytes = rw (w, o) (omega arith);
     }
+
+-- at most more nodes besides
+pub costs_more : {each value more : ℕ} {old new : Budget} {before after : Meter} (later : ℕ)
+    → Costs each value more old new before after → more ≤ later → Costs each value later old new before after
+costs_more {each} {value} {more} {old} {new} {before} {after} later is less =
+    costs_wider each each value value more later old new before after (omega arith) (omega arith) less is
 
 -- a search for hits
 pub costs_charged : (each value more : ℕ) (old new : Budget) (before after : Meter) → Charged each more old new before after
@@ -130,19 +136,3 @@ pub costs_alone : (each value more : ℕ) (old new : Budget) (before after : Met
     → CostsAhead 0 each value more old new before after
 costs_alone each value more old new before after is =
     record { alone = is; nodes = omega (arith, is.nodes); bytes = omega (arith, is.bytes) }
-
--- another step, and the choice
-pub costs_chosen : (each value more later kinds : ℕ) (old mid late new : Budget) (before tested sniffed after : Meter)
-    → CostsAhead kinds each value more old mid before tested → Costs each value later mid late tested sniffed
-    → Costs each value (29 + 29 * kinds) late new sniffed after → Costs each value (more + (later + 29)) old new before after
-costs_chosen each value more later kinds old mid late new before tested sniffed after first second third =
-    let alone = first.alone in
-    record {
-      records = omega (arith, alone.records, second.records, third.records);
-      value_bytes = omega (arith, alone.value_bytes, second.value_bytes, third.value_bytes);
-      rises = omega (arith, alone.rises, second.rises, third.rises);
-      nodes = omega (arith, first.nodes, second.nodes, third.nodes);
-      fair = omega (arith, alone.fair, alone.rises, second.fair, second.rises, third.fair, third.rises);
-      bytes_rise = omega (arith, alone.bytes_rise, second.bytes_rise, third.bytes_rise);
-      bytes = omega (arith, first.bytes, second.bytes, third.bytes);
-    }

@@ -1,38 +1,37 @@
--- What a lookup costs where the globs are asked first: the globs, the content and the choice.
-use Rattle.std.proofs.Common.{ℕ, ◌+◌, ◌*◌, ◌≤◌, arith}
+-- What the parts of a lookup cost together, where an earlier one left something to be paid.
+use Rattle.std.proofs.Common.{ℕ, ◌+◌, ◌*◌, arith}
 use Rattle.mime_base.specs.declared.meter.Meter.{Meter}
+use Rattle.mime_lookup.specs.Costs.{Costs, CostsAhead, CostsOwing}
 use Rattle.mime_view.specs.declared.budget.Budget.{Budget}
-use Rattle.mime_lookup.specs.Costs.{Costs, CostsAhead, CostsLookUp, glob_cost, record_cost}
-use Rattle.mime_lookup.proofs.CostLemmas.{costs_chosen, costs_then, costs_wider}
 
--- any part of it that adds fewer nodes
-pub costs_less : (name read more : ℕ) (old new : Budget) (before after : Meter) → more ≤ glob_cost name + (2 + 29)
-    → Costs (record_cost name) (read + 1) more old new before after → CostsLookUp name read old new before after
-costs_less name read more old new before after less is =
-    costs_wider (record_cost name) (record_cost name) (read + 1) (read + 1) more (glob_cost name + (2 + 29)) old new before after
-    (omega arith) (omega arith) less is
+-- the types of a name, and the choice among those that are left
+pub costs_chosen : {each value more kinds : ℕ} {old mid new : Budget} {before tested after : Meter}
+    → CostsAhead kinds each value more old mid before tested → Costs each value (29 + 29 * kinds) mid new tested after
+    → Costs each value (more + 29) old new before after
+costs_chosen first second =
+    let alone = first.alone in
+    record {
+      records = omega (arith, alone.records, second.records);
+      value_bytes = omega (arith, alone.value_bytes, second.value_bytes);
+      rises = omega (arith, alone.rises, second.rises);
+      nodes = omega (arith, first.nodes, second.nodes);
+      fair = omega (arith, alone.fair, alone.rises, second.fair, second.rises);
+      bytes_rise = omega (arith, alone.bytes_rise, second.bytes_rise);
+      bytes = omega (arith, first.bytes, second.bytes);
+    }
 
--- the globs alone
-pub costs_globs : (name read : ℕ) {old new : Budget} {before after : Meter}
-    → Costs (record_cost name) (read + 1) (glob_cost name) old new before after → CostsLookUp name read old new before after
-costs_globs name read {old} {new} {before} {after} is = costs_less name read (glob_cost name) old new before after (omega arith) is
-
-module _ (name read kinds : ℕ) {old kept : Budget} {start tested : Meter}
-    (globs : CostsAhead kinds (record_cost name) (read + 1) (glob_cost name) old kept start tested)
-  where
-    -- the globs and the content
-    pub costs_sniffed_then : {new : Budget} {after : Meter}
-        → ((each : ℕ) → 256 ≤ each → Costs each (read + 1) 2 kept new tested after) → CostsLookUp name read old new start after
-    costs_sniffed_then {new} {after} sniff =
-        costs_less name read (glob_cost name + 2) old new start after (omega arith)
-        (costs_then (record_cost name) (read + 1) (glob_cost name) 2 old kept new start tested after globs.alone
-        (sniff (record_cost name) (omega arith)))
-
-    -- the globs, the content and the choice
-    pub costs_choice_then : {late new : Budget} {sniffed after : Meter}
-        → ((each : ℕ) → 256 ≤ each → Costs each (read + 1) 2 kept late tested sniffed)
-        → ((each value : ℕ) → 256 * 59 ≤ each → Costs each value (29 + 29 * kinds) late new sniffed after)
-        → CostsLookUp name read old new start after
-    costs_choice_then {late} {new} {sniffed} {after} sniff choice =
-        costs_chosen (record_cost name) (read + 1) (glob_cost name) 2 kinds old kept late new start tested sniffed after globs
-        (sniff (record_cost name) (omega arith)) (choice (record_cost name) (read + 1) (omega arith))
+-- a name, the front that it wants, and what that gives, for which the name left enough
+pub costs_halves : {each value more owed : ℕ} {old kept mid new : Budget} {start named wanted after : Meter}
+    → CostsOwing owed each value more old kept start named → Costs each value 1 kept mid named wanted
+    → Costs each value (30 + owed) mid new wanted after → Costs each value (more + 31) old new start after
+costs_halves first second third =
+    let alone = first.alone in
+    record {
+      records = omega (arith, alone.records, second.records, third.records);
+      value_bytes = omega (arith, alone.value_bytes, second.value_bytes, third.value_bytes);
+      rises = omega (arith, alone.rises, second.rises, third.rises);
+      nodes = omega (arith, first.nodes, second.nodes, third.nodes);
+      fair = omega (arith, alone.fair, alone.rises, second.fair, second.rises, third.fair, third.rises);
+      bytes_rise = omega (arith, alone.bytes_rise, second.bytes_rise, third.bytes_rise);
+      bytes = omega (arith, first.bytes, second.bytes, third.bytes);
+    }

@@ -32,10 +32,14 @@ pub mod SearchCosts
 pub mod MagicFirst
 pub mod BoundLemmas
 pub mod GlobsCosts
-pub mod MagicCosts
 pub mod NearLemmas
 pub mod ShortTexts
 pub mod CauseLemmas
 pub mod PlacedFaults
 pub mod UsedUp
 pub mod GlobsFirst
+pub mod ByNames
+pub mod ByContents
+pub mod FrontLemmas
+pub mod LookUps
+pub mod Outcomes

@@ -1,24 +1,14 @@
 -- The answer where magic is asked first, by what was found in the content.
-use Rattle.std.proofs.Common.{◌≡◌, ℕ, true, false, refl, List, [], Option}
+use Rattle.std.proofs.Common.{◌≡◌, ℕ, true, false, refl, List, Option}
 use Rattle.std.specs.Prelude.{IfSome}
 use Rattle.mime_base.specs.Database.{PlainDatabase, pairs_of}
 use Rattle.mime_base.specs.declared.magic.host.Host.{Host}
-use Rattle.mime_lookup.specs.CheckingOrder.{Chooses, front_size, globs_suffice, read_of}
+use Rattle.mime_lookup.specs.CheckingOrder.{Chooses}
 use Rattle.mime_lookup.specs.Choice.{ChoosesAmong, kept}
 use Rattle.mime_lookup.specs.Finding.{PlainFinding, found_in, is_high, resolved_finding}
 use Rattle.mime_lookup.specs.declared.order.Order.TheVariants.{MagicFirst}
-use Rattle.mime_lookup.proofs.Answering.{by_magic, by_magic_and_globs, read_first, suffice_not}
+use Rattle.mime_lookup.proofs.Answering.{by_magic, by_magic_and_globs}
 use Rattle.mime_lookup.proofs.Findings.{before_globs-where, sniffed-where}
-
-module _ (b : PlainDatabase) (name : List ℕ) (host : Host) where
-  -- the globs alone do not give it
-  pub not_enough : globs_suffice b name MagicFirst ≡ false
-  not_enough = suffice_not b name host MagicFirst refl [] true
-
-  -- so the content is read
-  pub reads_front : (known : Option (Option (List ℕ))) (count : ℕ) → IfSome known (λ content. count ≡ front_size b content) →
-      IfSome known (λ content. count ≡ read_of b name content MagicFirst)
-  reads_front = read_first b name host MagicFirst refl [] true
 
 module _ (b : PlainDatabase) (name : List ℕ) (host : Host) (found : PlainFinding) (known : Option (Option (List ℕ))) (answer : List ℕ)
     (is : IfSome known (λ content. found ≡ found_in b content host))

@@ -1,10 +1,11 @@
 -- What a lookup did with its reader, by how it went on after its first step.
 use Rattle.std.proofs.Common.{◌≡◌, ℕ, ◌+◌, Bool, true, false, List, [], Option, None, Some, Result, Ok, Err}
-use Rattle.std.proofs.Common.{refl, sym, subst, ap, arith}
-use Rattle.std.specs.Prelude.{IsErrAnd}
+use Rattle.std.proofs.Common.{refl, sym, subst, ap, ◌∙◌, arith}
+use Rattle.std.specs.Prelude.{IfErr, IsErrAnd}
 use Rattle.mime_lookup.specs.Content.{Advances, Health, Interrupts, Tally}
 use Rattle.mime_lookup.specs.Reads.{AsksUnless, Reads}
 use Rattle.mime_lookup.specs.declared.stopped.Cause.{Cause}
+use Rattle.mime_lookup.specs.declared.stopped.Cause.TheVariants.{Read}
 
 -- no read was interrupted
 interrupts-none : (tally : Option Tally) → Interrupts tally tally 0
@@ -51,6 +52,44 @@ module _ {R : Type 0} (remaining : R → Option (List ℕ)) (tally : R → Optio
         within = step.within;
       })
 
+  -- a step before any reading stopped for another cause
+  pub no_read : {X : Type 0} (content : Option R) (read : ℕ) (cause : Cause) (result : Result X Cause) →
+      IsErrAnd result (λ passed. passed ≡ cause) → (cause ≡ Read → ⊥) → read ≡ 0 →
+      Reads remaining tally health limit content content read result
+  no_read content read cause (Ok x) same other none = absurd same
+  no_read {X} content read cause (Err passed) same other none =
+      subst (λ e. Reads {X = X} remaining tally health limit content content read (Err e)) (sym same) (of_content content)
+    where
+      of_content : (content : Option R) → Reads {X = X} remaining tally health limit content content read (Err cause)
+      of_content None = record {
+        gives_up = λ is. absurd (other is);
+        goes = tt;
+        fails = λ is. absurd (other is);
+        advances = none;
+        within = omega (arith, none);
+      }
+      of_content (Some reader) = record {
+        gives_up = λ is. absurd (other is);
+        goes = tt;
+        fails = λ is. absurd (other is);
+        advances = advances-none (remaining reader) read none;
+        within = omega (arith, none);
+      }
+
+  -- after the reading there is an answer, or another cause
+  pub reads_onward : {X Y : Type 0} (before after : Option R) (read : ℕ) (x : X) →
+      Reads remaining tally health limit before after read (Ok x) → (result : Result Y Cause) → IfErr result (λ cause. cause ≡ Read → ⊥) →
+      Reads remaining tally health limit before after read result
+  reads_onward before after read x is (Ok y) other =
+      record { gives_up = tt; goes = is.goes; fails = tt; advances = is.advances; within = is.within }
+  reads_onward before after read x is (Err cause) other = record {
+    gives_up = λ same. absurd (other same);
+    goes = tt;
+    fails = λ same. absurd (other same);
+    advances = is.advances;
+    within = is.within;
+  }
+
 -- The same of what was asked.
 module _ {R : Type 0} (health : R → Health) (suffice : Bool) where
   -- an answer by the globs alone
@@ -64,3 +103,14 @@ module _ {R : Type 0} (health : R → Health) (suffice : Bool) where
       AsksUnless health suffice before after result
   asks_stopped before after cause (Ok y) is same step = absurd same
   asks_stopped before after cause (Err passed) is same step = record { answers = tt; asked = λ _. is }
+
+  -- a step stopped for another cause
+  pub not_asked : {X : Type 0} (before after : Option R) (cause : Cause) (result : Result X Cause) →
+      IsErrAnd result (λ passed. passed ≡ cause) → (cause ≡ Read → ⊥) → AsksUnless health suffice before after result
+  not_asked before after cause (Ok x) same other = absurd same
+  not_asked before after cause (Err passed) same other = record { answers = tt; asked = λ is. absurd (other (sym same ∙ is)) }
+
+  -- an answer after the reading
+  pub asks_left : {X Y : Type 0} (before after : Option R) (x : X) (y : Y) → suffice ≡ false →
+      AsksUnless health false before after (Ok x) → AsksUnless health suffice before after (Ok y)
+  asks_left before after x y is step = record { answers = rw is step.answers; asked = tt }

@@ -13,7 +13,7 @@ pub costs_next : (i : ℕ) (old mid new : Budget) (before between after : Meter)
 costs_next i old mid new before between after first second =
     costs_wider search_cost search_cost 0 0 (29 * i + 29) (29 * (i + 1)) old new before after (omega arith) (omega arith)
     (omega arith)
-    (costs_then search_cost 0 (29 * i) 29 old mid new before between after first second)
+    (costs_then first second)
 
 -- so many candidates of all
 pub costs_all : (each value i count : ℕ) (old new : Budget) (before after : Meter) → search_cost ≤ each → i ≤ count

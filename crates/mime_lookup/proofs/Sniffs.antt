@@ -1,5 +1,5 @@
 -- A front that is long enough is sniffed as the whole content.
-use Rattle.std.proofs.Common.{◌≡◌, ◌⊎◌, ℕ, ◌+◌, ◌<◌, ◌≤◌, cond, min, max, List, [], ◌∷◌, ◌++◌, length, Option, None, Some}
+use Rattle.std.proofs.Common.{◌≡◌, ◌⊎◌, ℕ, ◌+◌, ◌<◌, ◌≤◌, cond, max, List, [], ◌∷◌, ◌++◌, length, Option, None, Some}
 use Rattle.std.proofs.Common.{refl, sym, ap, ◌∙◌, inl, inr, ⊎_elim, arith, append-nil}
 use Rattle.std.specs.Prelude.{codes, IfSome}
 use Rattle.std.proofs.lemmas.Bool.{cases_lt}
@@ -12,6 +12,7 @@ use Rattle.mime_base.specs.Magic.Holds.{first_magic}
 use Rattle.mime_base.specs.declared.magic.host.Host.{Host}
 use Rattle.mime_base.proofs.MagicLemmas.Fronts.{first_magic-front, looks_textual-front}
 use Rattle.mime_lookup.specs.CheckingOrder.{before_globs, front_size, of_high_priority, read_limit}
+use Rattle.mime_lookup.specs.Fronts.{IsRead}
 use Rattle.mime_lookup.specs.Sniffing.{FrontIsEnough, sniffed, sniffed_by_bytes, sniffed_by_magic}
 use Rattle.mime_lookup.specs.declared.order.Order.TheVariants.{MagicFirst}
 
@@ -37,7 +38,7 @@ front_is_enough b front rest host (inr long) =
     ∙ by_magic-front b (first_magic b.sections front host) front rest long.0)
 
 -- the same of what comes before the globs
-before_globs-front : (b : PlainDatabase) (front rest : List ℕ) (host : Host) →
+pub before_globs-front : (b : PlainDatabase) (front rest : List ℕ) (host : Host) →
     (rest ≡ []) ⊎ ((128 ≤ length front) × (extent b ≤ length front)) →
     before_globs b (Some front) host MagicFirst ≡ before_globs b (Some (front ++ rest)) host MagicFirst
 unfolding before_globs
@@ -47,13 +48,7 @@ before_globs-front b front rest host (inl none) =
 before_globs-front b front rest host (inr long) =
     sym (ap (of_high_priority b) (first_magic-front front rest b.sections host long.1))
 
--- a front that was read of a content with these bytes
-pub record IsRead (b : PlainDatabase) (whole front : List ℕ) : Type 0 where
-  pub rest : List ℕ
-  pub split : whole ≡ front ++ rest
-  pub long : (rest ≡ []) ⊎ ((128 ≤ length front) × (extent b ≤ length front))
-  pub size : length front ≡ min (length whole) (read_limit b)
-
+-- what was read of a content with these bytes
 pub is_read : (b : PlainDatabase) (whole front : List ℕ) (after : Option (List ℕ)) → Consumes (Some whole) after front →
     length front ≤ read_limit b → (length front < read_limit b → IsAtEnd after) → IsRead b whole front
 unfolding read_limit

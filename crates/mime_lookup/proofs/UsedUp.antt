@@ -1,24 +1,19 @@
 -- Which faults say that a lookup used up what it may take of a cache, and what is left then.
-use Rattle.std.proofs.Common.{◌≡◌, ◌∙◌, ◌⊎◌, ℕ, ◌/◌, ◌≤◌, List, Result, length, inl, inr, sym, ap, subst, arith}
-use Rattle.std.specs.Prelude.{IfErr, IsErrAnd}
+use Rattle.std.proofs.Common.{◌≡◌, ◌∙◌, ◌⊎◌, ℕ, ◌/◌, ◌≤◌, List, length, inl, inr, sym, arith}
 use Rattle.mime_base.specs.Cache.Bytes.{field}
 use Rattle.mime_base.specs.declared.meter.Meter.{Meter}
-use Rattle.mime_lookup.specs.Cached.{IsStop, cause_of}
 use Rattle.mime_lookup.specs.Costs.{Costs}
 use Rattle.mime_lookup.specs.Spent.{IsUsedUp, UsesUp}
 use Rattle.mime_lookup.specs.StepFaults.{IsAliasFault, IsGlobsFault, IsSearchFault, IsSniffFault}
-use Rattle.mime_lookup.specs.declared.stopped.Cause.{Cause}
-use Rattle.mime_lookup.specs.declared.stopped.Cause.TheVariants as cause
 use Rattle.mime_lookup.proofs.PlacedFaults.{no_alias, no_byte, no_memory, no_place, no_text, no_tree}
-use Rattle.mime_lookup.proofs.StepStops.{passed_on, spent_fault}
 use Rattle.mime_view.specs.Magic.{IsLineFault, IsMagicFault}
 use Rattle.mime_view.specs.Parents.{IsParentsFault, IsTextsFault, parents_at}
 use Rattle.mime_view.specs.declared.budget.Budget.{Budget}
 use Rattle.mime_view.specs.declared.fault.CacheFault.{CacheFault}
-use Rattle.mime_view.specs.declared.fault.CacheFault.TheVariants.{OutOfMemory, Spent, TooDeep}
+use Rattle.mime_view.specs.declared.fault.CacheFault.TheVariants.{Spent, TooDeep}
 
 -- the search for the types of a name does only where no record is left
-globs_spent : (c : List ℕ) (left : Budget) (e : CacheFault) → IsGlobsFault c left e → e ≡ Spent → left.records ≡ 0
+pub globs_spent : (c : List ℕ) (left : Budget) (e : CacheFault) → IsGlobsFault c left e → e ≡ Spent → left.records ≡ 0
 globs_spent c left e (inl (inl list)) same = absurd (no_place (field c 0 3) (sym list.is ∙ same))
 globs_spent c left e (inl (inr (inl tree))) same = absurd (no_tree c (field c 0 4) e tree same)
 globs_spent c left e (inl (inr (inr (inl list)))) same = absurd (no_place (field c 0 5) (sym list.is ∙ same))
@@ -41,24 +36,13 @@ parents_spent c at marks kind before after e (inr (inl text)) same = absurd (no_
 parents_spent c at marks kind before after e (inr (inr entry)) same =
     texts_spent c (parents_at c at entry.place) before after e entry.fault same
 
-choice_spent : (c : List ℕ) (left : Budget) (e : CacheFault) → IsAliasFault c e ⊎ IsSearchFault c left e → e ≡ Spent
+pub choice_spent : (c : List ℕ) (left : Budget) (e : CacheFault) → IsAliasFault c e ⊎ IsSearchFault c left e → e ≡ Spent
     → left.records ≡ 0
 choice_spent c left e (inl alias) same = absurd (no_alias c e alias same)
 choice_spent c left e (inr (inl some)) same =
     parents_spent c (field c 0 2) some.marks some.kind some.before left.records e some.fault same
 choice_spent c left e (inr (inr (inl alias))) same = absurd (no_alias c e alias same)
 choice_spent c left e (inr (inr (inr memory))) same = absurd (no_memory e memory same)
-
--- that a stop says that it is used up means so
-abbrev pub SaysUsedUp : List ℕ → Budget → Type 0 → Cause → Type 0
-SaysUsedUp c left NoContent stop = stop ≡ cause.Cache Spent → IsUsedUp c NoContent left
-
--- the fault that a cause tells
-abbrev fault_in : Cause → CacheFault
-fault_in cause.NameTooLong = OutOfMemory
-fault_in (cause.Cache e) = e
-fault_in cause.Read = OutOfMemory
-fault_in cause.OutOfMemory = OutOfMemory
 
 -- magic does where no record is left, or fewer value bytes than a line states
 module _ (c : List ℕ) (left : Budget) (NoContent : Type 0) (content : NoContent → ⊥) where
@@ -79,48 +63,17 @@ module _ (c : List ℕ) (left : Budget) (NoContent : Type 0) (content : NoConten
   magic_spent at e (inr (inr (inr (inr (inl lines))))) same = line_spent lines.0 e lines.1 same
   magic_spent at e (inr (inr (inr (inr (inr text))))) same = absurd (no_text c e text same)
 
-  sniff_fault_spent : (e : CacheFault) → IsSniffFault c left e → e ≡ Spent → IsUsedUp c NoContent left
+  pub sniff_fault_spent : (e : CacheFault) → IsSniffFault c left e → e ≡ Spent → IsUsedUp c NoContent left
   sniff_fault_spent e (inl head) same = absurd (no_place (field c 0 6) (sym head.1 ∙ same))
   sniff_fault_spent e (inr magic) same = magic_spent (field c 0 6) e magic same
 
-  sniff_spent : (stop : Cause) → IsStop (IsSniffFault c left) stop → SaysUsedUp c left NoContent stop
-  sniff_spent stop (inl read) same =
-      let both : cause.Read ≡ cause.Cache Spent = sym read ∙ same in
-      absurd cc
-  sniff_spent stop (inr (inl memory)) same =
-      let both : cause.OutOfMemory ≡ cause.Cache Spent = sym memory ∙ same in
-      absurd cc
-  sniff_spent stop (inr (inr other)) same =
-      sniff_fault_spent other.0 other.3 (ap fault_in (sym other.1 ∙ same))
-
-  pub sniff_used_up : {X : Type 0} (stop : Cause) (result : Result X Cause) → IsErrAnd result (λ passed. passed ≡ stop)
-      → IsStop (IsSniffFault c left) stop → IfErr result (SaysUsedUp c left NoContent)
-  sniff_used_up stop result same fault = passed_on (SaysUsedUp c left NoContent) stop result same (sniff_spent stop fault)
-
--- a step stopped for a fault, which is passed on
-pub passed_spent : {X : Type 0} (c : List ℕ) (left : Budget) (NoContent : Type 0) (e : CacheFault) (result : Result X Cause)
-    → IsErrAnd result (λ stop. stop ≡ cause_of e) → (e ≡ Spent → left.records ≡ 0) → IfErr result (SaysUsedUp c left NoContent)
-passed_spent c left NoContent e result same spent =
-    passed_on (SaysUsedUp c left NoContent) (cause_of e) result same (λ is. inl (spent (spent_fault e is)))
-
-pub globs_used_up : {X : Type 0} (c : List ℕ) (left : Budget) (NoContent : Type 0) (e : CacheFault) (result : Result X Cause)
-    → IsErrAnd result (λ stop. stop ≡ cause_of e) → IsGlobsFault c left e → IfErr result (SaysUsedUp c left NoContent)
-globs_used_up c left NoContent e result same fault = passed_spent c left NoContent e result same (globs_spent c left e fault)
-
-pub choice_used_up : {X : Type 0} (c : List ℕ) (left : Budget) (NoContent : Type 0) (e : CacheFault) (result : Result X Cause)
-    → IsErrAnd result (λ stop. stop ≡ cause_of e) → IsAliasFault c e ⊎ IsSearchFault c left e
-    → IfErr result (SaysUsedUp c left NoContent)
-choice_used_up c left NoContent e result same fault = passed_spent c left NoContent e result same (choice_spent c left e fault)
-
 -- what was left of a cache's own budget, after the header and all steps
-pub uses_up : (c cache : List ℕ) (NoContent : Type 0) (each value more : ℕ) (old left : Budget) (before after : Meter)
-    → cache ≡ c → length c ≤ 268435456 → old.records ≡ length cache / 4 → old.value_bytes ≡ length cache → 1 ≤ before.nodes
-    → Costs each value more old left before after → IsUsedUp cache NoContent left → UsesUp c NoContent after.nodes
-uses_up c cache NoContent each value more old left before after same limit records value_bytes one cost used =
-    let size : length cache ≡ length c = ap length same in
-    record {
-      left = left;
-      records = omega (arith, cost.fair, one, records, size, limit);
-      value_bytes = omega (arith, cost.value_bytes, value_bytes, size);
-      used_up = subst (λ (bytes : List ℕ). IsUsedUp bytes NoContent left) same used;
-    }
+pub uses_up : (c : List ℕ) {NoContent : Type 0} {each value more : ℕ} {old left : Budget} {before after : Meter} → length c ≤ 268435456
+    → old.records ≡ length c / 4 → old.value_bytes ≡ length c → 1 ≤ before.nodes → Costs each value more old left before after
+    → IsUsedUp c NoContent left → UsesUp c NoContent after.nodes
+uses_up c {left = left} limit records value_bytes one cost used = record {
+  left = left;
+  records = omega (arith, cost.fair, one, records, limit);
+  value_bytes = omega (arith, cost.value_bytes, value_bytes);
+  used_up = used;
+}

@@ -23,6 +23,13 @@ pub record CostsAhead (kinds each value more : ℕ) (old new : Budget) (before a
   pub bytes : after.bytes + 7424 * kinds + each * new.records + value * new.value_bytes
       ≤ before.bytes + each * old.records + value * old.value_bytes + 256 * more
 
+-- The same, where so many nodes more are still to come, each with at most 256 bytes.
+pub record CostsOwing (owed each value more : ℕ) (old new : Budget) (before after : Meter) : Type 0 where
+  pub alone : Costs each value more old new before after
+  pub nodes : after.nodes + owed + 59 * new.records ≤ before.nodes + 59 * old.records + more
+  pub bytes : after.bytes + 256 * owed + each * new.records + value * new.value_bytes
+      ≤ before.bytes + each * old.records + value * old.value_bytes + 256 * more
+
 -- a meter after so many types more were tried: 29 nodes for each, and 32 times 256 bytes
 abbrev pub ahead : ℕ → Meter → Meter
 ahead kinds meter = record { nodes = meter.nodes + 29 * kinds; bytes = meter.bytes + 8192 * kinds }
@@ -34,8 +41,3 @@ record_cost name = 256 * (name + 64)
 -- the nodes that a search for the types of a name adds besides its records
 abbrev pub glob_cost : ℕ → ℕ
 glob_cost name = 29 * (2 * name + 2) + 1
-
--- what a whole lookup costs at most, for a name of so many bytes and so many bytes of content that were read
-abbrev pub CostsLookUp : ℕ → ℕ → Budget → Budget → Meter → Meter → Type 0
-CostsLookUp name read old new before after =
-    Costs (record_cost name) (read + 1) (glob_cost name + (2 + 29)) old new before after

@@ -17,4 +17,7 @@ pub mod Affords
 pub mod Searching
 pub mod Headline
 pub mod Spent
-pub mod Orders
+pub mod Steps
+pub mod Halves
+pub mod Fronts
+pub mod LookUps

@@ -1,20 +1,24 @@
-//! The checking order: from a database, a name and a content to a type.
+//! The checking order: from a cache, a name and a content to a type.
 //!
 //! ```text
 //! let mut content = Some(&b"#!/bin/sh\n"[..]);
 //! let (host, order) = (Host::Little, Order::GlobsFirst);
-//! let answer = look_up_plain(alloc, &database, b"install.sh", &mut content, host, order)?;
+//! let answer = look_up(alloc, Counted::new(bytes), b"install.sh", &mut content, host, order)?;
 //! // answer.kind is the type, and answer.read says how many bytes of the content were read
 //! ```
 //!
-//! [`look_up_plain`] tries every rule, line and pair of a database. The type that it answers is the
-//! one that the definition of the checking order gives to the name and the whole content, of which
-//! it reads no more than magic can look at; [`Content`] is what it reads from, and may tell whether
-//! its reads can fail.
+//! [`look_up`] goes by the bytes of a cache, whatever they are. Over a cache that spells a database, the
+//! type that it answers is the one that the definition of the checking order gives to the name and the
+//! whole content, of which it reads no more than magic can look at; [`Content`] is what it reads from,
+//! and may tell whether its reads can fail. [`is_a`] and [`icon_of`] go by the same bytes.
+//! [`look_up_plain`] answers the same by trying every rule, line and pair of a database.
 //!
-//! Read `lists` first, which has the steps of a lookup in their order. Then `content` and `reading`,
-//! what it reads from and how; `kept`, the rules that a name keeps; `sniff`, the type of a content;
-//! and `ancestry`, the search for a subclass, over `places`, the index of the pairs.
+//! Read `cached` first, which has the two halves of a lookup: `cached::by_name`, what a name gives by
+//! itself, and `cached::by_content`, what a front of the content then gives. Then what these take in
+//! turn: `cached::kept`, the types that a name keeps; `cached::sniff`, the type of a front; and
+//! `cached::ancestry`, the search for a subclass. `content` and `reading` are what a lookup reads from and
+//! how. `lists` has the same steps over a database, by `kept`, `sniff` and `ancestry`, the last over
+//! `places`, the index of the pairs.
 #![tactic(auto)]
 
 mod ancestry;

@@ -23,7 +23,7 @@ pub fn is_by_itself(kind: &[u8], base: &[u8], meter: &mut Meter) -> bool
         || (!begins_with(kind, b"inode/", meter) && same_name(OCTET_STREAM, base, meter))
 }
 
-// Whether a type begins with these bytes.
+/// Whether a type begins with these bytes.
 fn begins_with(kind: &[u8], front: &[u8], meter: &mut Meter) -> bool
     ensures answer { result ≡ starts_with nat_eq kind.now front.now }
     ensures nodes { meter.new.nodes ≡ meter.old.nodes }

@@ -36,6 +36,11 @@ pub named : (is : Bool) (file : List ℕ) (P : Run → Type 0) (run : Run) → i
 named true file P run fit p = p
 named false file P run fit p = absurd (false≢true fit)
 
+-- memory was refused, or a read failed
+pub read_or_memory : {P Q A : Type 0} → P ⊎ (Q × A) → Q ⊎ P
+read_or_memory (inl memory) = inr memory
+read_or_memory (inr read) = inl read.0
+
 -- a fault of the cache is neither a failed read nor want of memory
 other_cause : (f : CacheFault) → (cause.Cache f ≡ cause.Read) ⊎ (cause.Cache f ≡ cause.OutOfMemory) → ⊥
 other_cause f (inl e) = cc

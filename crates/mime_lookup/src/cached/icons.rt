@@ -62,7 +62,7 @@ pub fn icon_of<'a>(alloc: Global, cache: Counted<'a>, kind: &'a TypeName) -> Res
     }
 }
 
-// The names of the icon and of the generic icon of a type.
+/// The names of the icon and of the generic icon of a type.
 #[tactic(auto, using(crate::proofs::OpenFaults::opens_without_fault))]
 fn find_icons<'a>(
     alloc: Global,
@@ -91,7 +91,7 @@ fn find_icons<'a>(
     Ok((icon, generic))
 }
 
-// The icon's name, else the type with a hyphen for each slash.
+/// The icon's name, else the type with a hyphen for each slash.
 fn icon_or_hyphens(alloc: Global, icon: Option<&[u8]>, kind: &[u8]) -> Result<Vec<u8>, OutOfMemory>
     ensures { IfOk result (λ name. name.items ≡ name_or (option_map (λ text. text.now) icon.entry) (with_hyphens kind.now)) }
 {
@@ -101,7 +101,7 @@ fn icon_or_hyphens(alloc: Global, icon: Option<&[u8]>, kind: &[u8]) -> Result<Ve
     }
 }
 
-// The type with a hyphen for each slash.
+/// The type with a hyphen for each slash.
 fn with_hyphens(alloc: Global, kind: &[u8]) -> Result<Vec<u8>, OutOfMemory>
     ensures { IfOk result (λ name. name.items ≡ with_hyphens kind.now) }
 {
@@ -112,14 +112,14 @@ fn with_hyphens(alloc: Global, kind: &[u8]) -> Result<Vec<u8>, OutOfMemory>
     Ok(name)
 }
 
-// A hyphen for a slash, and any other byte for itself.
+/// A hyphen for a slash, and any other byte for itself.
 fn hyphen_for_slash(byte: u8) -> u8
     ensures { result ≡ hyphen_for_slash byte }
 {
     if byte == b'/' { b'-' } else { byte }
 }
 
-// The generic icon's name, else what stands before the type's first slash, and `-x-generic`.
+/// The generic icon's name, else what stands before the type's first slash, and `-x-generic`.
 fn generic_or_media(alloc: Global, icon: Option<&[u8]>, kind: &[u8]) -> Result<Vec<u8>, OutOfMemory>
     ensures { IfOk result (λ name. name.items ≡ name_or (option_map (λ text. text.now) icon.entry) (generic_of_media kind.now)) }
 {
@@ -129,7 +129,7 @@ fn generic_or_media(alloc: Global, icon: Option<&[u8]>, kind: &[u8]) -> Result<V
     }
 }
 
-// What stands before the type's first slash, and `-x-generic`.
+/// What stands before the type's first slash, and `-x-generic`.
 fn generic_of_media(alloc: Global, kind: &[u8]) -> Result<Vec<u8>, OutOfMemory>
     ensures { IfOk result (λ name. name.items ≡ generic_of_media kind.now) }
 {
@@ -138,7 +138,7 @@ fn generic_of_media(alloc: Global, kind: &[u8]) -> Result<Vec<u8>, OutOfMemory>
     Ok(name)
 }
 
-// What stands before the first slash, all without one.
+/// What stands before the first slash, all without one.
 fn before_slash(kind: &[u8]) -> &[u8]
     ensures { result.now ≡ before_slash kind.now }
 {
@@ -148,7 +148,7 @@ fn before_slash(kind: &[u8]) -> &[u8]
     }
 }
 
-// The place of the first slash.
+/// The place of the first slash.
 fn first_slash(kind: &[u8]) -> Option<usize>
     ensures place { result ≡ position (λ b. b == 47) kind.now }
     ensures within { IfSome result (λ slash. slash < length kind.now) }

@@ -62,7 +62,7 @@ pub fn keep<'a>(
     Ok(Kept::Others(kinds))
 }
 
-// The types of the rules that are kept for a name, each after one alias step.
+/// The types of the rules that are kept for a name, each after one alias step.
 fn kept_kinds<'a>(
     alloc: Global,
     cache: &Cache<'a>,
@@ -109,7 +109,7 @@ fn kept_kinds<'a>(
     Ok(kinds)
 }
 
-// Whether there are types, and all are one type.
+/// Whether there are types, and all are one type.
 fn are_one_type(kinds: &[&[u8]], meter: &mut Meter) -> bool
     ensures answer { result ≡ are_one_type (kinds_of kinds.now) }
     ensures nodes { meter.new.nodes ≡ meter.old.nodes }

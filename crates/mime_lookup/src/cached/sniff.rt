@@ -1,34 +1,25 @@
 //! What a content is sniffed as over a cache ("Recommended checking order").
 
-ghost use Rattle.std.specs.Prelude.{◌≡◌, ◌⊎◌, ℕ, ◌+◌, ◌*◌, ◌≤◌, List, max, length, IfErr, IfOk, IfSome, IsOk, IsOkAnd, OnOk};
-ghost use Rattle.std.specs.Prelude.{None, Some, codes, false};
+ghost use Rattle.std.specs.Prelude.{◌≡◌, ℕ, ◌+◌, ◌*◌, ◌≤◌, List, IfErr, IfOk, IfSome, IsOkAnd, None};
 ghost use Rattle.mime_base.specs.Cache.Bytes.{Stands};
 ghost use Rattle.mime_base.specs.Database.{PlainDatabase};
 ghost use Rattle.mime_base.specs.Format.Header.{HeaderAt, Offsets};
-ghost use Rattle.mime_base.specs.Format.Packed.{matchlet_count, value_length};
+ghost use Rattle.mime_base.specs.Format.Packed.{value_length};
 ghost use Rattle.mime_base.specs.Format.Pairs.{PairsAt};
-ghost use Rattle.mime_lookup.specs.Bounds.{stated_extent};
-ghost use Rattle.mime_lookup.specs.CheckingOrder.{front_size};
-ghost use Rattle.mime_lookup.specs.Content.{known_content};
+ghost use Rattle.mime_lookup.specs.Affords.{magic_records};
+ghost use Rattle.mime_lookup.specs.Cached.{IsCacheText, IsFinding, IsKind, cause_of, plain_finding};
 ghost use Rattle.mime_lookup.specs.Costs.{Costs};
-ghost use Rattle.mime_lookup.specs.Finding.{fixed, found_by, found_in, is_high, resolved_finding};
-ghost use Rattle.mime_lookup.specs.Cached.{IsFinding, IsKind, IsStop, IsCacheText, plain_finding};
-ghost use Rattle.mime_lookup.specs.Reads.{AsksUnless, Reads};
-ghost use Rattle.mime_lookup.specs.Spelling.{SpellsMagic};
-ghost use Rattle.mime_lookup.specs.StepFaults.{IsAliasFault, IsSniffFault};
+ghost use Rattle.mime_lookup.specs.Finding.{found_by, found_in, is_high, resolved_finding};
+ghost use Rattle.mime_lookup.specs.Halves.{bytes_of, front_length};
+ghost use Rattle.mime_lookup.specs.Spent.{IsUsedUp};
+ghost use Rattle.mime_lookup.specs.StepFaults.{IsAliasFault};
+ghost use Rattle.mime_lookup.specs.Steps.{Stops, SufficesForContent};
 ghost use Rattle.mime_view.specs.Magic.{plain_found};
 
-use crate::content::Content;
 use crate::fixed::OCTET_STREAM;
-use crate::reading::read_front;
 use crate::sniff::{HIGH_PRIORITY, by_bytes};
-use crate::stopped::Cause;
 use mime_base::{Host, Meter};
 use mime_view::{Budget, Cache, CacheFault};
-use std::alloc::Global;
-
-/// The fewest bytes of a content that are asked for.
-const SHORTEST_FRONT: u32 = 128;
 
 /// What was found in a content, before its alias step.
 #[derive(Clone, Copy)]
@@ -63,10 +54,8 @@ pub fn resolve<'a>(
     ensures kind { IfOk result (λ kind. IsKind cache.now kind.now) }
     ensures fault { IfErr result (IsAliasFault cache.now) }
     ensures budget { budget.new ≡ budget.old }
-    ensures rises { meter.old.nodes ≤ meter.new.nodes }
     ensures nodes { meter.new.nodes ≤ meter.old.nodes + 29 }
-    ensures bytes_rise { meter.old.bytes ≤ meter.new.bytes }
-    ensures bytes { meter.new.bytes ≤ meter.old.bytes + 256 * 29 }
+    ensures cost { (each value : ℕ) → Costs each value 29 budget.old budget.new meter.old meter.new }
 {
     match finding {
         Finding::Magic(kind, _) => cache.unalias(kind, meter, budget),
@@ -74,82 +63,40 @@ pub fn resolve<'a>(
     }
 }
 
-/// What is found in a content, by its front: as much of it as the cache says that magic can look at, and at least
-/// 128 bytes.
-pub fn sniff_content<'a, R: Content>(
-    alloc: Global,
+/// What is found in a front of a content, as if it were the whole.
+pub fn sniff_front<'a>(
     cache: &Cache<'a>,
-    content: &mut Option<R>,
+    front: Option<&[u8]>,
     host: Host,
-    read: &mut u64,
     meter: &mut Meter,
     budget: &mut Budget,
-) -> Result<Finding<'a>, Cause>
-    requires none { read.old ≡ 0 }
-    ensures found { (b : PlainDatabase) → SpellsMagic cache.now b → IfOk result
-        (λ finding. IfSome (known_content R.remaining content.old)
-        (λ known. plain_finding finding ≡ found_in b known host)) }
+) -> Result<Finding<'a>, CacheFault>
+    // Where the magic of a database stands, or there is no front, it is what the front has as a content.
+    ensures found { (b : PlainDatabase) → SufficesForContent cache.now (bytes_of front.entry ≡ None) b → IfOk result
+        (λ finding. plain_finding finding ≡ found_in b (bytes_of front.entry) host) }
+    // Its type is a text of the cache, or fixed.
     ensures finding { IfOk result (IsFinding cache.now) }
-    ensures read { (b : PlainDatabase) → SpellsMagic cache.now b → OnOk result
-        (IfSome (known_content R.remaining content.old) (λ known. read.new ≡ front_size b known)) }
-    ensures need { (b : PlainDatabase) → SpellsMagic cache.now b →
-        length b.sections + matchlet_count b.sections ≤ budget.old.records →
-        value_length b.sections ≤ budget.old.value_bytes →
-        IfErr result (λ cause. (cause ≡ Cause.Read) ⊎ (cause ≡ Cause.OutOfMemory)) }
-    ensures fault { IfErr result (IsStop (IsSniffFault cache.now budget.new)) }
-    ensures unavailable { content.old ≡ None → IfOk result
-        (λ finding. plain_finding finding ≡ fixed (codes "application/octet-stream")) }
-    ensures none { (content.old ≡ None) → OnOk result ((budget.new ≡ budget.old) × (meter.new ≡ meter.old)) × IsOk result }
-    ensures reader { Reads R.remaining R.tally R.health (max 128 (stated_extent cache.now))
-        content.old content.new read.new result }
-    ensures asks { AsksUnless R.health false content.old content.new result }
-    ensures takes_at_most { (b : PlainDatabase) → SpellsMagic cache.now b → budget.old.records
-        ≤ budget.new.records + (length b.sections + matchlet_count b.sections) }
-    ensures cost { (each : ℕ) → 256 ≤ each → Costs each (read.new + 1) 2 budget.old budget.new meter.old meter.new }
+    // Where enough stands and is afforded, it doesn't stop.
+    ensures stops { IfErr result (λ e. Stops cache.now (IsUsedUp cache.now (bytes_of front.entry ≡ None) budget.new)
+        (λ b. SufficesForContent cache.now (bytes_of front.entry ≡ None) b × (magic_records b ≤ budget.old.records)
+        × (value_length b.sections ≤ budget.old.value_bytes)) (λ _. ⊥) (cause_of e)) }
+    // Without a front nothing is looked at.
+    ensures nothing { bytes_of front.entry ≡ None → (budget.new ≡ budget.old) × (meter.new ≡ meter.old) }
+    // Where the magic stands, no more records are taken than it has.
+    ensures takes { (b : PlainDatabase) → SufficesForContent cache.now (bytes_of front.entry ≡ None) b →
+        budget.old.records ≤ budget.new.records + magic_records b }
+    // Whatever the bytes are, a value byte costs as many bytes as the front has, and one.
+    ensures cost { (each : ℕ) → 256 ≤ each → Costs each (front_length (bytes_of front.entry) + 1) 1
+        budget.old budget.new meter.old meter.new }
 {
-    match content {
-        Some(reader) => sniff_reader(alloc, cache, reader, host, read, meter, budget),
-        None => Ok(Finding::Fixed(OCTET_STREAM)),
-    }
+    let Some(front) = front else {
+        return Ok(Finding::Fixed(OCTET_STREAM));
+    };
+    let section = cache.sniff(front, host, meter, budget)?;
+    Ok(finding_of(section, front))
 }
 
-// The same of a reader's content.
-fn sniff_reader<'a, R: Content>(
-    alloc: Global,
-    cache: &Cache<'a>,
-    reader: &mut R,
-    host: Host,
-    read: &mut u64,
-    meter: &mut Meter,
-    budget: &mut Budget,
-) -> Result<Finding<'a>, Cause>
-    requires none { read.old ≡ 0 }
-    ensures found { (b : PlainDatabase) → SpellsMagic cache.now b → IfOk result
-        (λ finding. IfSome (known_content R.remaining (Some reader.old))
-        (λ known. plain_finding finding ≡ found_in b known host)) }
-    ensures finding { IfOk result (IsFinding cache.now) }
-    ensures read { (b : PlainDatabase) → SpellsMagic cache.now b → OnOk result
-        (IfSome (known_content R.remaining (Some reader.old)) (λ known. read.new ≡ front_size b known)) }
-    ensures need { (b : PlainDatabase) → SpellsMagic cache.now b →
-        length b.sections + matchlet_count b.sections ≤ budget.old.records →
-        value_length b.sections ≤ budget.old.value_bytes →
-        IfErr result (λ cause. (cause ≡ Cause.Read) ⊎ (cause ≡ Cause.OutOfMemory)) }
-    ensures fault { IfErr result (IsStop (IsSniffFault cache.now budget.new)) }
-    ensures reader { Reads R.remaining R.tally R.health (max 128 (stated_extent cache.now))
-        (Some reader.old) (Some reader.new) read.new result }
-    ensures asks { AsksUnless R.health false (Some reader.old) (Some reader.new) result }
-    ensures takes_at_most { (b : PlainDatabase) → SpellsMagic cache.now b → budget.old.records
-        ≤ budget.new.records + (length b.sections + matchlet_count b.sections) }
-    ensures cost { (each : ℕ) → 256 ≤ each → Costs each (read.new + 1) 2 budget.old budget.new meter.old meter.new }
-{
-    let extent = cache.extent(meter, budget)?;
-    let limit = SHORTEST_FRONT.max(extent) as usize;
-    let front = read_front(alloc, reader, limit, read)?;
-    let section = cache.sniff(&front, host, meter, budget)?;
-    Ok(finding_of(section, &front))
-}
-
-// What the first section that holds makes of a content, or its bytes alone.
+/// What the first section that holds makes of a content, or its bytes alone.
 fn finding_of<'a>(section: Option<(&'a [u8], u32)>, content: &[u8]) -> Finding<'a>
     ensures found { plain_finding result ≡ found_by (plain_found section.entry) content.now }
     ensures finding { (c : List ℕ) → IfSome section.entry (λ pair. IsCacheText c pair.0.now) → IsFinding c result }

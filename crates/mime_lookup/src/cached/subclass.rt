@@ -53,7 +53,7 @@ pub fn is_a<'a>(
     }
 }
 
-// The same, with its fault alone.
+/// The same, with its fault alone.
 #[tactic(auto, using(crate::proofs::OpenFaults::opens_without_fault))]
 fn search<'a>(
     alloc: Global,

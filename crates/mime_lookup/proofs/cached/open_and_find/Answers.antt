@@ -1,10 +1,14 @@
-use Rattle.std.proofs.Common.{◌≡◌, None, length, arith}
-use Rattle.std.proofs.lemmas.Result.{IfErr-weaker}
-use Rattle.mime_lookup.proofs.BoundLemmas.{keeps_bounds}
+use Rattle.std.proofs.Common.{◌≡◌, None, length, max, ap, arith}
+use Rattle.std.proofs.lemmas.Result.{IfErr-weaker, on_ok_weaker}
+use Rattle.mime_lookup.specs.Bounds.{stated_extent}
 use Rattle.mime_lookup.specs.Cached.{cause_of}
+use Rattle.mime_lookup.specs.StepFaults.{of_header}
+use Rattle.mime_lookup.proofs.BoundLemmas.{keeps_bounds}
+use Rattle.mime_lookup.proofs.ByContents.{suffices_globs}
 use Rattle.mime_lookup.proofs.OpenFaults.{header_without_fault, on_ok, refused_for}
-use Rattle.mime_lookup.proofs.StepStops.{passed_on, spent_fault}
 use Rattle.mime_lookup.proofs.PlacedFaults.{no_header}
+use Rattle.mime_lookup.proofs.ReadsLemmas.{no_read, not_asked}
+use Rattle.mime_lookup.proofs.StepStops.{no_read_fault, not_ok, passed_on, stops_for, stops_then}
 use Rattle.mime_lookup.proofs.UsedUp.{uses_up}
 use Rattle.mime_lookup.proofs.cached.open_and_find.Goals as goal
 
@@ -12,63 +16,76 @@ pub returns-in_err-cache-clause-refused : goal.returns-in_err-cache-clause-refus
 returns-in_err-cache-clause-refused g c e fault =
     refused_for c.args.cache _ e c.in_err-cache.ensures.opened fault c.from_residual.result c.from_residual.ensures.1
 
-pub returns-in_err-cache-clause-answers : goal.returns-in_err-cache-clause-answers
-returns-in_err-cache-clause-answers g c b within spells packed =
-    absurd (header_without_fault c.args.cache spells.offsets c.in_err-cache.field-0.0 spells.header spells.within
-    c.in_err-cache.ensures.opened)
-
-pub returns-in-GlobsFirst-clause-bounds : goal.returns-in-GlobsFirst-clause-bounds
-returns-in-GlobsFirst-clause-bounds g c =
-    let same = c.in_ok-cache.ensures.opened.0 in
-    keeps_bounds (length c.args.name.now) c.globs_first.new.read c.args.cache c.of-budget.result c.globs_first.new.budget c.open.new.meter
-    c.globs_first.new.meter (rw same at c.of-budget.ensures.records) (rw same at c.of-budget.ensures.value_bytes)
-    (omega (arith, c.in_ok-cache.ensures.nodes)) c.globs_first.ensures.cost (omega (arith, c.in_ok-cache.ensures.bytes))
-
-pub returns-in-MagicFirst-clause-bounds : goal.returns-in-MagicFirst-clause-bounds
-returns-in-MagicFirst-clause-bounds g c =
-    let same = c.in_ok-cache.ensures.opened.0 in
-    keeps_bounds (length c.args.name.now) c.magic_first.new.read c.args.cache c.of-budget.result c.magic_first.new.budget c.open.new.meter
-    c.magic_first.new.meter (rw same at c.of-budget.ensures.records) (rw same at c.of-budget.ensures.value_bytes)
-    (omega (arith, c.in_ok-cache.ensures.nodes)) c.magic_first.ensures.cost (omega (arith, c.in_ok-cache.ensures.bytes))
-
-pub returns-in_err-cache-clause-near_need : goal.returns-in_err-cache-clause-near_need
-returns-in_err-cache-clause-near_need g c b globs limit decide packed =
-    absurd (header_without_fault c.args.cache globs.offsets _ globs.header limit c.in_err-cache.ensures.opened)
-
-pub returns-in-GlobsFirst-clause-opened : goal.returns-in-GlobsFirst-clause-opened
-returns-in-GlobsFirst-clause-opened g c = on_ok c.globs_first.result c.in_ok-cache.ensures.opened.1
-
-pub returns-in-MagicFirst-clause-opened : goal.returns-in-MagicFirst-clause-opened
-returns-in-MagicFirst-clause-opened g c = on_ok c.magic_first.result c.in_ok-cache.ensures.opened.1
-
-pub returns-in-GlobsFirst-clause-counted : goal.returns-in-GlobsFirst-clause-counted
-returns-in-GlobsFirst-clause-counted g c =
-    on_ok c.globs_first.result (omega (arith, c.in_ok-cache.ensures.counted, c.globs_first.ensures.cost.rises))
-
-pub returns-in-MagicFirst-clause-counted : goal.returns-in-MagicFirst-clause-counted
-returns-in-MagicFirst-clause-counted g c =
-    on_ok c.magic_first.result (omega (arith, c.in_ok-cache.ensures.counted, c.magic_first.ensures.cost.rises))
-
-pub returns-in_err-cache-clause-spent : goal.returns-in_err-cache-clause-spent
-returns-in_err-cache-clause-spent g c =
+pub returns-in_err-cache-clause-stops : goal.returns-in_err-cache-clause-stops
+returns-in_err-cache-clause-stops g c =
     let fault = c.in_err-cache.field-0.0 in
+    let opened = c.in_err-cache.ensures.opened in
     passed_on _ (cause_of fault) c.from_residual.result c.from_residual.ensures.1
-    (λ same. absurd (no_header c.args.cache fault c.in_err-cache.ensures.opened (spent_fault fault same)))
+    (stops_for c.args.cache _ _ _ fault (of_header opened) (λ same. absurd (no_header c.args.cache fault opened same))
+    (λ b enough.
+    let globs = suffices_globs c.args.cache c.args.name.now (c.args.content.now ≡ None) b c.args.order enough.0 in
+    absurd (header_without_fault c.args.cache globs.offsets fault globs.header enough.1 opened)))
 
-pub returns-in-GlobsFirst-clause-spent : goal.returns-in-GlobsFirst-clause-spent
-returns-in-GlobsFirst-clause-spent g c =
-    let opened = c.in_ok-cache.ensures.opened in
-    IfErr-weaker c.globs_first.result _ _
-    (λ stop used spent. uses_up c.args.cache c.in_ok-cache.cache (c.args.content.now ≡ None) _ _ _ c.of-budget.result
-    c.globs_first.new.budget c.open.new.meter c.globs_first.new.meter opened.0 opened.1.limit c.of-budget.ensures.records
-    c.of-budget.ensures.value_bytes (omega (arith, c.in_ok-cache.ensures.counted)) c.globs_first.ensures.cost (used spent))
-    c.globs_first.ensures.spent
+pub returns-in_err-cache-clause-reads : goal.returns-in_err-cache-clause-reads
+returns-in_err-cache-clause-reads g c =
+    let fault = c.in_err-cache.field-0.0 in
+    let passed = c.from_residual.ensures.1 in
+    record {
+      reader = no_read g.R.Read.remaining g.R.Content.tally g.R.Content.health (max 128 (stated_extent c.args.cache))
+          c.args.content.now c.args.read.now (cause_of fault) c.from_residual.result passed (no_read_fault fault) c.requires.none;
+      asks = λ b globs. not_asked g.R.Content.health _ c.args.content.now c.args.content.now (cause_of fault) c.from_residual.result
+          passed (no_read_fault fault);
+      exact = λ b within spells. not_ok _ _ c.from_residual.result passed;
+    }
 
-pub returns-in-MagicFirst-clause-spent : goal.returns-in-MagicFirst-clause-spent
-returns-in-MagicFirst-clause-spent g c =
+pub returns-in_err-cache-clause-costs : goal.returns-in_err-cache-clause-costs
+returns-in_err-cache-clause-costs g c =
+    let passed = c.from_residual.ensures.1 in
+    record {
+      bounds = record {
+        nodes = omega (arith, c.open.ensures.nodes, c.requires.nodes);
+        bytes = omega (arith, c.open.ensures.bytes, c.requires.bytes);
+      };
+      counted = not_ok _ _ c.from_residual.result passed;
+      near = λ b globs decide. not_ok _ _ c.from_residual.result passed;
+    }
+
+pub returns-clause-answers : goal.returns-clause-answers
+returns-clause-answers g c = rw c.in_ok-cache.ensures.opened.0 at c.find.ensures.answers
+
+pub returns-clause-opened : goal.returns-clause-opened
+returns-clause-opened g c = on_ok c.find.result c.in_ok-cache.ensures.opened.1
+
+pub returns-clause-stops : goal.returns-clause-stops
+returns-clause-stops g c =
     let opened = c.in_ok-cache.ensures.opened in
-    IfErr-weaker c.magic_first.result _ _
-    (λ stop used spent. uses_up c.args.cache c.in_ok-cache.cache (c.args.content.now ≡ None) _ _ _ c.of-budget.result
-    c.magic_first.new.budget c.open.new.meter c.magic_first.new.meter opened.0 opened.1.limit c.of-budget.ensures.records
-    c.of-budget.ensures.value_bytes (omega (arith, c.in_ok-cache.ensures.counted)) c.magic_first.ensures.cost (used spent))
-    c.magic_first.ensures.spent
+    let records = rw opened.0 at c.of-budget.ensures.records in
+    let value_bytes = rw opened.0 at c.of-budget.ensures.value_bytes in
+    IfErr-weaker c.find.result _ _
+    (λ stop is.
+    stops_then c.args.cache stop is
+    (uses_up c.args.cache opened.1.limit records value_bytes (omega (arith, c.in_ok-cache.ensures.counted)) c.find.ensures.cost)
+    (λ b enough. (
+      enough.0,
+      record {
+        records = omega (arith, enough.2.records, records);
+        value_bytes = omega (arith, enough.2.values, value_bytes);
+      },
+    ))
+    (λ b enough undecided. undecided)) (rw opened.0 at c.find.ensures.stops)
+
+pub returns-clause-reads : goal.returns-clause-reads
+returns-clause-reads g c = rw c.in_ok-cache.ensures.opened.0 at c.find.ensures.reads
+
+pub returns-clause-costs : goal.returns-clause-costs
+returns-clause-costs g c =
+    let same = c.in_ok-cache.ensures.opened.0 in
+    record {
+      bounds = keeps_bounds (length c.args.name.now) c.find.new.read c.args.cache c.of-budget.result c.find.new.budget
+          c.open.new.meter c.find.new.meter (rw same at c.of-budget.ensures.records) (rw same at c.of-budget.ensures.value_bytes)
+          (omega (arith, c.in_ok-cache.ensures.nodes)) c.find.ensures.cost (omega (arith, c.in_ok-cache.ensures.bytes));
+      counted = on_ok c.find.result (omega (arith, c.in_ok-cache.ensures.counted, c.find.ensures.cost.rises));
+      near = λ b globs decide.
+          on_ok_weaker c.find.result (λ less. omega (arith, less, c.requires.nodes, c.in_ok-cache.ensures.nodes))
+          ((rw same at c.find.ensures.near) b globs decide);
+    }

@@ -1,0 +1,92 @@
+use Rattle.std.proofs.Common.{◌≡◌, ◌*◌, ◌+◌, ◌<◌, ◌≤◌, ℕ, List, [], length, inl, inr, arith}
+use Rattle.std.proofs.lemmas.Bool.{eqb-false, eqb-true}
+use Rattle.std.proofs.lemmas.List.{length-map}
+use denote.Bor.{Bor}
+use Rattle.mime_base.specs.Database.{pairs_of}
+use Rattle.mime_lookup.specs.Ancestry.{kinds_of}
+use Rattle.mime_lookup.specs.Cached.{plain_finding}
+use Rattle.mime_lookup.specs.Finding.{resolved_finding}
+use Rattle.mime_lookup.proofs.ByContents.{choice_aliases}
+use Rattle.mime_lookup.proofs.Choices.{chooses-found, chooses-from_found, one_of}
+use Rattle.mime_lookup.proofs.CostLemmas.{costs_more, costs_then}
+use Rattle.mime_lookup.proofs.KeptTypes.{texts_count}
+use Rattle.mime_lookup.proofs.KindTexts.{chosen_kind, kind_short}
+use Rattle.mime_lookup.proofs.StepStops.{choice_fault, passed_on, stops_for}
+use Rattle.mime_lookup.proofs.UsedUp.{choice_spent}
+use Rattle.mime_lookup.proofs.cached.by_content.choose.Goals as goal
+
+pub returns-in_err-base-clause-stops : goal.returns-in_err-base-clause-stops
+returns-in_err-base-clause-stops c =
+    let base = c.in_err-base in
+    let left = c.resolve.new.budget in
+    passed_on _ base.field-0.0 c.from_residual.result c.from_residual.ensures.1
+    (stops_for c.args.cache.now _ _ _ base.field-0.0 (choice_fault c.args.cache.now left base.field-0.0 (inl base.ensures.fault))
+    (λ same. inl (choice_spent c.args.cache.now left base.field-0.0 (inl base.ensures.fault) same))
+    (λ b enough.
+    let aliases = choice_aliases c.args.cache.now (kinds_of c.args.kept.now) b enough.0 in
+    absurd (base.ensures.answer b aliases.0 aliases.1.0 aliases.1.1)))
+
+pub returns-in_err-base-clause-cost : goal.returns-in_err-base-clause-cost
+returns-in_err-base-clause-cost c each value wide = costs_more _ (c.in_err-base.ensures.cost each value) (omega arith)
+
+pub returns-then-is_empty-clause-chosen : goal.returns-then-is_empty-clause-chosen
+returns-then-is_empty-clause-chosen c b enough =
+    let none : length c.args.kept.now ≡ 0 = grind (arith, eqb-true) in
+    let aliases = choice_aliases c.args.cache.now (kinds_of c.args.kept.now) b enough in
+    chooses-found (pairs_of b) c.in_ok-base.base.now (resolved_finding b.aliases (plain_finding c.args.finding)) c.args.kept.now
+    (c.in_ok-base.ensures.answer b aliases.0 aliases.1.0 aliases.1.1) none
+
+pub returns-then-is_empty-clause-cost : goal.returns-then-is_empty-clause-cost
+returns-then-is_empty-clause-cost c each value wide = costs_more _ (c.in_ok-base.ensures.cost each value) (omega arith)
+
+pub first_of-requires : goal.first_of-requires
+first_of-requires c = record { base = omega (arith, kind_short c.args.cache.now c.in_ok-base.base.now c.in_ok-base.ensures.kind) }
+
+pub returns-in_err-kind-clause-stops : goal.returns-in_err-kind-clause-stops
+returns-in_err-kind-clause-stops c =
+    let some : 0 < length c.args.kept.now = grind (arith, eqb-false) in
+    let search = c.in_err-kind in
+    let left = c.first_of.new.budget in
+    passed_on _ search.field-0.0 c.from_residual-in_err-kind.result c.from_residual-in_err-kind.ensures.1
+    (stops_for c.args.cache.now _ _ _ search.field-0.0 (choice_fault c.args.cache.now left search.field-0.0 (inr search.ensures.fault))
+    (λ same. inl (choice_spent c.args.cache.now left search.field-0.0 (inr search.ensures.fault) same))
+    (λ b enough. elim enough.0 [
+      | inl pairs ↦ search.ensures.need b pairs (rw c.in_ok-base.ensures.budget enough.1)
+      | inr none ↦ absurd (omega (arith, some, texts_count c.args.kept.now [] none.0))
+    ]))
+
+pub returns-in_err-kind-clause-alone : goal.returns-in_err-kind-clause-alone
+returns-in_err-kind-clause-alone c none =
+    let some : 0 < length c.args.kept.now = grind (arith, eqb-false) in
+    absurd (omega (arith, some, texts_count c.args.kept.now [] none))
+
+pub returns-in_err-kind-clause-cost : goal.returns-in_err-kind-clause-cost
+returns-in_err-kind-clause-cost c each value wide =
+    rw (length-map c.args.kept.now (λ (text : Bor (List ℕ)). text.now))
+    (costs_then (c.in_ok-base.ensures.cost each value) (c.in_err-kind.ensures.cost each value wide))
+
+pub returns-clause-chosen : goal.returns-clause-chosen
+returns-clause-chosen c b enough =
+    let some : 0 < length c.args.kept.now = grind (arith, eqb-false) in
+    elim enough [
+      | inl pairs ↦ chooses-from_found (pairs_of b) c.in_ok-base.base.now (resolved_finding b.aliases (plain_finding c.args.finding))
+          c.args.kept.now _ c.in_ok-kind.kind.now (c.in_ok-base.ensures.answer b pairs.offsets pairs.header pairs.aliases) some
+          (c.in_ok-kind.ensures.answer b pairs)
+      | inr none ↦ absurd (omega (arith, some, texts_count c.args.kept.now [] none.0))
+    ]
+
+pub returns-clause-kind : goal.returns-clause-kind
+returns-clause-kind c =
+    let some : 0 < length c.args.kept.now = grind (arith, eqb-false) in
+    chosen_kind c.args.cache.now c.in_ok-kind.kind.now _ c.requires.texts
+    (inr (one_of c.args.kept.now _ c.in_ok-kind.kind.now some c.in_ok-kind.ensures.one))
+
+pub returns-clause-alone : goal.returns-clause-alone
+returns-clause-alone c none =
+    let some : 0 < length c.args.kept.now = grind (arith, eqb-false) in
+    absurd (omega (arith, some, texts_count c.args.kept.now [] none))
+
+pub returns-clause-cost : goal.returns-clause-cost
+returns-clause-cost c each value wide =
+    rw (length-map c.args.kept.now (λ (text : Bor (List ℕ)). text.now))
+    (costs_then (c.in_ok-base.ensures.cost each value) (c.in_ok-kind.ensures.cost each value wide))

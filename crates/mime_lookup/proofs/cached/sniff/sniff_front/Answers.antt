@@ -1,0 +1,65 @@
+use Rattle.std.proofs.Common.{◌≡◌, ◌∙◌, ◌+◌, ◌≤◌, length, inr, sym, ap, arith, ℕ}
+use Rattle.std.proofs.lemmas.Bool.{true≢false}
+use Rattle.mime_base.specs.declared.meter.Meter.{Meter}
+use Rattle.mime_lookup.specs.Costs.{Costs}
+use Rattle.mime_lookup.specs.Finding.{found_by}
+use Rattle.mime_lookup.specs.StepFaults.{of_magic}
+use Rattle.mime_lookup.proofs.ByContents.{content_magic}
+use Rattle.mime_lookup.proofs.CostLemmas.{costs_paid, costs_wider}
+use Rattle.mime_lookup.proofs.StepStops.{passed_on, stops_for}
+use Rattle.mime_lookup.proofs.UsedUp.{sniff_fault_spent}
+use Rattle.mime_lookup.proofs.cached.sniff.sniff_front.Goals as goal
+use Rattle.mime_view.specs.Magic.{Paid}
+use Rattle.mime_view.specs.declared.budget.Budget.{Budget}
+
+-- what a search of magic costs
+costs_of_front : (size : ℕ) (old new : Budget) (before after : Meter) → Paid size 256 1 old new before after → (each : ℕ) → 256 ≤ each →
+    Costs each (size + 1) 1 old new before after
+costs_of_front size old new before after paid each wide =
+    costs_wider 256 each (size + 1) (size + 1) 1 1 old new before after wide (omega arith) (omega arith)
+    (costs_paid size 256 1 old new before after paid)
+
+pub returns-in_err-section-clause-stops : goal.returns-in_err-section-clause-stops
+returns-in_err-section-clause-stops c =
+    let sniff = c.in_err-section in
+    rw c.in-Some.is (passed_on _ sniff.field-0.0 c.from_residual.result c.from_residual.ensures.1
+    (stops_for c.args.cache.now _ _ _ sniff.field-0.0 (of_magic c.sniff.new.budget (inr sniff.ensures.fault))
+    (sniff_fault_spent c.args.cache.now c.sniff.new.budget _ (λ none. absurd cc) sniff.field-0.0 (inr sniff.ensures.fault))
+    (λ b enough.
+    let spells = content_magic c.args.cache.now c.in-Some.front.now b enough.0 in
+    absurd (true≢false (sym
+    (sniff.ensures.need spells.offsets b.sections spells.header spells.lines spells.magic enough.1 enough.2))))))
+
+pub returns-in_err-section-clause-nothing : goal.returns-in_err-section-clause-nothing
+returns-in_err-section-clause-nothing c = rw c.in-Some.is (λ none. absurd cc)
+
+pub returns-in_err-section-clause-takes : goal.returns-in_err-section-clause-takes
+returns-in_err-section-clause-takes c =
+    rw c.in-Some.is (λ b enough.
+    let spells = content_magic c.args.cache.now c.in-Some.front.now b enough in
+    (c.sniff.ensures.takes_at_most spells.offsets b.sections spells.header spells.lines spells.magic).most_records)
+
+pub returns-in_err-section-clause-cost : goal.returns-in_err-section-clause-cost
+returns-in_err-section-clause-cost c = rw c.in-Some.is (costs_of_front (length c.in-Some.front.now) _ _ _ _ c.sniff.ensures.cost)
+
+pub returns-clause-found : goal.returns-clause-found
+returns-clause-found c =
+    rw c.in-Some.is (λ b enough.
+    let spells = content_magic c.args.cache.now c.in-Some.front.now b enough in
+    c.finding_of.ensures.found ∙ ap (λ section. found_by section c.in-Some.front.now)
+    (c.in_ok-section.ensures.answer spells.offsets b.sections spells.header spells.lines spells.magic))
+
+pub returns-clause-finding : goal.returns-clause-finding
+returns-clause-finding c = c.finding_of.ensures.finding c.args.cache.now c.in_ok-section.ensures.text
+
+pub returns-clause-nothing : goal.returns-clause-nothing
+returns-clause-nothing c = rw c.in-Some.is (λ none. absurd cc)
+
+pub returns-clause-takes : goal.returns-clause-takes
+returns-clause-takes c =
+    rw c.in-Some.is (λ b enough.
+    let spells = content_magic c.args.cache.now c.in-Some.front.now b enough in
+    (c.sniff.ensures.takes_at_most spells.offsets b.sections spells.header spells.lines spells.magic).most_records)
+
+pub returns-clause-cost : goal.returns-clause-cost
+returns-clause-cost c = rw c.in-Some.is (costs_of_front (length c.in-Some.front.now) _ _ _ _ c.sniff.ensures.cost)

@@ -1,0 +1,102 @@
+-- The two halves of a lookup over a cache: what a name gives without its content, and what it leaves to a front of that.
+use Rattle.std.specs.Prelude.{◌≡◌, ℕ, ◌+◌, ◌*◌, ◌≤◌, true, false, All, OnOk, List, length, Option, None, Some}
+use Rattle.std.specs.Prelude.{Result, Ok, Err, option_map, ⊤}
+use Rattle.std.specs.Borrow.{Bor}
+use Rattle.mime_base.specs.Database.{PlainDatabase, pairs_of}
+use Rattle.mime_base.specs.Format.Packed.{value_length}
+use Rattle.mime_base.specs.declared.magic.host.Host.{Host}
+use Rattle.mime_base.specs.declared.meter.Meter.{Meter}
+use Rattle.mime_lookup.specs.Affords.{magic_records, rule_records}
+use Rattle.mime_lookup.specs.Bounds.{near_max}
+use Rattle.mime_lookup.specs.Cached.{IsCacheText}
+use Rattle.mime_lookup.specs.CheckingOrder.{Chooses, are_one_type, globs_suffice}
+use Rattle.mime_lookup.specs.Choice.{kept}
+use Rattle.mime_lookup.specs.Costs.{CostsOwing, glob_cost, record_cost}
+use Rattle.mime_lookup.specs.Spelling.{SpellsGlobs}
+use Rattle.mime_lookup.specs.declared.cached.by_name.ByName.{ByName}
+use Rattle.mime_lookup.specs.declared.cached.by_name.ByName.TheVariants.{Decided, Left}
+use Rattle.mime_lookup.specs.declared.cached.by_name.Candidates.{Candidates}
+use Rattle.mime_lookup.specs.declared.cached.by_name.Candidates.TheVariants.{Kept, Unasked}
+use Rattle.mime_lookup.specs.declared.order.Order.{Order}
+use Rattle.mime_lookup.specs.declared.order.Order.TheVariants.{GlobsFirst, MagicFirst}
+use Rattle.mime_view.specs.Hits.{near}
+use Rattle.mime_view.specs.declared.budget.Budget.{Budget}
+use Rattle.mime_view.specs.declared.fault.CacheFault.{CacheFault}
+
+-- the order under which these are left
+abbrev pub order_of : Candidates → Order
+order_of (Kept kinds) = GlobsFirst
+order_of Unasked = MagicFirst
+
+-- over a database a name leaves the types that are kept of it, where they are not one type, or all to be asked
+abbrev pub Leaves : PlainDatabase → List ℕ → Candidates → Type 0
+Leaves b name (Kept kinds) =
+    (are_one_type (kept (pairs_of b) b.rules name) ≡ false) × (kinds ≡ kept (pairs_of b) b.rules name)
+Leaves b name Unasked = ⊤
+
+-- over a database a name gives a type where the globs suffice, whatever the content is, else what it leaves
+abbrev pub Gives : PlainDatabase → List ℕ → Order → ByName → Type 0
+Gives b name order (Decided kind) = (globs_suffice b name order ≡ true)
+    × ((content : Option (List ℕ)) (host : Host) → Chooses b name content host order kind.now)
+Gives b name order (Left candidates) =
+    (globs_suffice b name order ≡ false) × (order_of candidates ≡ order) × Leaves b name candidates
+
+-- the types of candidates are texts of the cache
+abbrev pub AreTexts : List ℕ → Candidates → Type 0
+AreTexts c (Kept kinds) = All (IsCacheText c) kinds
+AreTexts c Unasked = ⊤
+
+-- and so are those that a name gives
+abbrev pub AreTextsByName : List ℕ → ByName → Type 0
+AreTextsByName c (Decided kind) = IsCacheText c kind.now
+AreTextsByName c (Left candidates) = AreTexts c candidates
+
+-- the nodes that candidates may still need, for a name of so many bytes: 29 for each type, or those of a search
+abbrev pub owed_nodes : ℕ → Candidates → ℕ
+owed_nodes name (Kept kinds) = 29 * length kinds
+owed_nodes name Unasked = glob_cost name
+
+-- the records of the glob rules that they may still need
+abbrev pub owed_records : PlainDatabase → Candidates → ℕ
+owed_records b (Kept kinds) = 0
+owed_records b Unasked = rule_records b
+
+-- the nodes that they may still need where the globs decide alone: an alias step, or all
+abbrev pub owed_near : PlainDatabase → List ℕ → Candidates → ℕ
+owed_near b name (Kept kinds) = 30
+owed_near b name Unasked = near_max (length name) (near name b.rules)
+
+-- the records and the value bytes that are left to be taken after a name was asked
+pub record AffordsRest (b : PlainDatabase) (candidates : Candidates) (budget : Budget) : Type 0 where
+  pub records : owed_records b candidates + magic_records b + length b.parents ≤ budget.records
+  pub value_bytes : value_length b.sections ≤ budget.value_bytes
+
+-- what is owed after a name was asked: by its candidates, and nothing by a type or a fault
+abbrev pub owed : (Candidates → ℕ) → ℕ → Result ByName CacheFault → ℕ
+owed by_candidates else (Ok (Decided kind)) = else
+owed by_candidates else (Ok (Left candidates)) = by_candidates candidates
+owed by_candidates else (Err e) = else
+
+-- What a name costs, with what it leaves to be paid.
+pub record CostsByName (c name : List ℕ) (old new : Budget) (before after : Meter) (result : Result ByName CacheFault) :
+    Type 0 where
+  -- No value byte is taken.
+  pub value_bytes : new.value_bytes ≡ old.value_bytes
+  -- Where the glob rules stand, no more records are taken than they have, now and later.
+  pub takes : (b : PlainDatabase) → SpellsGlobs c b →
+      old.records + owed (owed_records b) 0 result ≤ new.records + rule_records b
+  -- And the nodes, now and later, keep to the bound by the rules near the name, but for the header's one.
+  pub near : (b : PlainDatabase) → SpellsGlobs c b →
+      OnOk result (after.nodes + owed (owed_near b name) 1 result ≤ before.nodes + near_max (length name) (near name b.rules))
+  -- Whatever the bytes are, the nodes and the bytes, now and later, keep to the cost of a search.
+  pub cost : (value : ℕ) → CostsOwing (owed (owed_nodes (length name)) 0 result) (record_cost (length name)) value
+      (glob_cost (length name)) old new before after
+
+-- the bytes of a front
+abbrev pub bytes_of : Option (Bor (List ℕ)) → Option (List ℕ)
+bytes_of = option_map (λ (front : Bor (List ℕ)). front.now)
+
+-- how many there are
+abbrev pub front_length : Option (List ℕ) → ℕ
+front_length None = 0
+front_length (Some front) = length front

@@ -1,0 +1,35 @@
+-- What the steps of a lookup over a cache have in common: which databases they answer for, and why they stop.
+use Rattle.std.specs.Prelude.{◌≡◌, ◌⊎◌, ℕ, List, [], Option, None}
+use Rattle.mime_base.specs.Database.{PlainDatabase}
+use Rattle.mime_base.specs.Database.Limits.{IsWithinLimits}
+use Rattle.mime_base.specs.Format.Spells.{Spells}
+use Rattle.mime_lookup.specs.Cached.{IsStop}
+use Rattle.mime_lookup.specs.CheckingOrder.{GlobsDecide}
+use Rattle.mime_lookup.specs.Spelling.{SpellsGlobs, SpellsMagic, SpellsPairs}
+use Rattle.mime_lookup.specs.StepFaults.{IsLookUpFault}
+use Rattle.mime_lookup.specs.declared.order.Order.{Order}
+use Rattle.mime_lookup.specs.declared.stopped.Cause.{Cause}
+use Rattle.mime_lookup.specs.declared.stopped.Cause.TheVariants as cause
+use Rattle.mime_view.specs.declared.fault.CacheFault.TheVariants.{Spent}
+
+-- enough of a database stands in a cache for a lookup: all of it, or glob rules that decide alone
+abbrev pub Suffices : List ℕ → List ℕ → Order → Type 0 → PlainDatabase → Type 0
+Suffices c name order NoContent b =
+    (IsWithinLimits b × Spells c b) ⊎ (SpellsGlobs c b × GlobsDecide b name order NoContent)
+
+-- enough of it stands to look into a content: its magic, or there is no content
+abbrev pub SufficesForContent : List ℕ → Type 0 → PlainDatabase → Type 0
+SufficesForContent c NoContent b = SpellsMagic c b ⊎ NoContent
+
+-- enough of it stands to choose among types: its pairs, or its aliases where there is no type
+abbrev pub SufficesForChoice : List ℕ → List (List ℕ) → PlainDatabase → Type 0
+SufficesForChoice c kinds b = SpellsPairs c b ⊎ ((kinds ≡ []) × SpellsGlobs c b)
+
+-- Why a step of a lookup stops.
+pub record Stops (c : List ℕ) (IsUsed : Type 0) (IsEnough IsRead : PlainDatabase → Type 0) (stop : Cause) : Type 0 where
+  -- A read failed, memory was refused, or a part of the cache shows the fault.
+  pub fault : IsStop (IsLookUpFault c) stop
+  -- It is spent only where what may be taken of the cache is used up.
+  pub spent : stop ≡ cause.Cache Spent → IsUsed
+  -- Where enough of a database stands and is afforded, memory was refused, or a read failed where one is made.
+  pub need : (b : PlainDatabase) → IsEnough b → (stop ≡ cause.OutOfMemory) ⊎ ((stop ≡ cause.Read) × IsRead b)

@@ -1,0 +1,66 @@
+//! The first half of a lookup: what a name gives without its content ("Recommended checking order").
+
+ghost use Rattle.std.specs.Prelude.{◌≡◌, ◌≤◌, length, IfErr, IfOk, ⊤};
+ghost use Rattle.mime_base.specs.Database.{PlainDatabase};
+ghost use Rattle.mime_lookup.specs.Affords.{rule_records};
+ghost use Rattle.mime_lookup.specs.Cached.{cause_of};
+ghost use Rattle.mime_lookup.specs.Halves.{AreTextsByName, CostsByName, Gives};
+ghost use Rattle.mime_lookup.specs.Spelling.{SpellsGlobs};
+ghost use Rattle.mime_lookup.specs.Spent.{IsUsedUp};
+ghost use Rattle.mime_lookup.specs.Steps.{Stops};
+
+use crate::cached::kept::{Kept, keep};
+use crate::order::Order;
+use mime_base::Meter;
+use mime_view::{Budget, Cache, CacheFault, Texts};
+use std::alloc::Global;
+
+/// What a name gives without its content.
+#[derive(Drop)]
+pub enum ByName<'a> {
+    /// The type, whatever the content is.
+    Decided(&'a [u8]),
+    /// The content is wanted, to choose among these.
+    Left(Candidates<'a>),
+}
+
+/// What a name leaves to choose among.
+#[derive(Drop)]
+pub enum Candidates<'a> {
+    /// The types that are kept of it: none, or several.
+    Kept(Texts<'a>),
+    /// What its globs give, which are asked only where magic of high priority gives no type.
+    Unasked,
+}
+
+/// What a name gives without its content, under an order.
+pub fn by_name<'a>(
+    alloc: Global,
+    cache: &Cache<'a>,
+    name: &[u8],
+    order: Order,
+    meter: &mut Meter,
+    budget: &mut Budget,
+) -> Result<ByName<'a>, CacheFault>
+    requires short { length name.now ≤ 4096 }
+    // Where the glob rules of a database stand, it is what the name gives.
+    ensures gives { (b : PlainDatabase) → SpellsGlobs cache.now b → IfOk result (Gives b name.now order) }
+    // Its types are texts of the cache.
+    ensures texts { IfOk result (AreTextsByName cache.now) }
+    // Where the glob rules stand and each record that they may take is left, only memory is refused.
+    ensures stops { IfErr result (λ e. Stops cache.now (IsUsedUp cache.now ⊤ budget.new)
+        (λ b. SpellsGlobs cache.now b × (rule_records b ≤ budget.old.records)) (λ _. ⊥) (cause_of e)) }
+    // It costs a search for the types of the name, and what the candidates owe.
+    ensures costs { CostsByName cache.now name.now budget.old budget.new meter.old meter.new result }
+{
+    match order {
+        Order::GlobsFirst => {
+            let kept = keep(alloc, cache, name, meter, budget)?;
+            match kept {
+                Kept::One(kind) => Ok(ByName::Decided(kind)),
+                Kept::Others(kinds) => Ok(ByName::Left(Candidates::Kept(kinds))),
+            }
+        }
+        Order::MagicFirst => Ok(ByName::Left(Candidates::Unasked)),
+    }
+}
