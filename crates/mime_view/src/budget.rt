@@ -18,7 +18,9 @@ impl Budget {
     /// A quarter of the cache's length, rounded down, and the cache's length. No cache that is packed
     /// needs more.
     pub fn of(cache: &Cache<'_>) -> Budget
+        // A quarter of the length, rounded down: a record has four bytes or more.
         ensures records { result.records ≡ length cache.now / 4 }
+        // The length.
         ensures value_bytes { result.value_bytes ≡ length cache.now }
     {
         let length = cache.length();
@@ -31,8 +33,11 @@ impl Budget {
     /// Takes a record.
     #[inline]
     pub(crate) fn take_record(&mut self) -> Result<(), CacheFault>
+        // One record less is left.
         ensures taken { OnOk result (self.new.records + 1 ≡ self.old.records) }
+        // It is spent only if none was left.
         ensures spent { IfErr result (λ e. (e ≡ CacheFault.Spent) × (self.old.records ≡ 0) × (self.new.records ≡ 0)) }
+        // Value bytes are not touched.
         ensures value_bytes { self.new.value_bytes ≡ self.old.value_bytes }
     {
         if self.records == 0 {
@@ -45,9 +50,12 @@ impl Budget {
     /// Takes so many value bytes.
     #[inline]
     pub(crate) fn take_value_bytes(&mut self, count: u64) -> Result<(), CacheFault>
+        // That many less are left.
         ensures taken { OnOk result (self.new.value_bytes + count ≡ self.old.value_bytes) }
+        // It is spent only if fewer were left; they stay.
         ensures spent { IfErr result (λ e. (e ≡ CacheFault.Spent) × (self.old.value_bytes < count)
             × (self.new.value_bytes ≡ self.old.value_bytes)) }
+        // Records are not touched.
         ensures records { self.new.records ≡ self.old.records }
     {
         if self.value_bytes < count {

@@ -93,11 +93,16 @@ impl<'a> Cache<'a> {
     /// [`CacheFault::Truncated`] below 40 bytes, else [`CacheFault::Version`] unless it is 1.2, else
     /// [`CacheFault::TooLarge`] above 268,435,456 bytes.
     pub fn open(counted: Counted<'a>, meter: &mut Meter) -> Result<Cache<'a>, CacheFault>
+        // It opens a cache of version 1.2 that is neither too short nor too long; else the first thing that is wrong is the fault.
         ensures opened { MatchResult result
             (λ cache. (cache ≡ counted.entry) × Opens counted.entry) (IsOpenFault counted.entry) }
+        // For an answer the header is counted as one record.
         ensures counted { OnOk result (meter.new.nodes ≡ raised meter.old.nodes 1) }
+        // Before a fault it is counted at most once.
         ensures nodes { meter.new.nodes ≤ meter.old.nodes + 1 }
+        // The count of records never falls.
         ensures rises { meter.old.nodes ≤ meter.new.nodes }
+        // It compares nothing.
         ensures bytes { meter.new.bytes ≡ meter.old.bytes }
     {
         let length = counted.length();
@@ -119,6 +124,7 @@ impl<'a> Cache<'a> {
 
     /// How many bytes the cache has. It adds nothing.
     pub fn length(&self) -> u64
+        // The number of the bytes that were handed to `open`.
         ensures { result ≡ length self.now }
     {
         self.counted.length()
@@ -206,15 +212,24 @@ impl<'a> Cache<'a> {
         meter: &mut Meter,
         budget: &mut Budget,
     ) -> Result<&'a [u8], CacheFault>
+        // Where the alias list stands, it gives the type that the name stands for, or the name.
         ensures answer { (offsets : Offsets) (pairs : List (List ℕ × List ℕ)) → HeaderAt (Stands self.now) offsets →
             PairsAt (Stands self.now) offsets.aliases pairs → IsOkAnd result (λ name. name.now ≡ resolved pairs kind.now) }
+        // On any bytes it gives the name or a text of the cache.
         ensures text { IfOk result (λ name. (name.now ≡ kind.now) ⊎ ((at : ℕ) × (text_at self.now at ≡ Ok name.now))) }
+        // For an answer the list lies in the cache.
         ensures inside { OnOk result (LiesList self.now (field self.now 0 1) 8) }
+        // A fault is one of the list, or of a text.
         ensures fault { IfErr result (λ e. IsListFault self.now (field self.now 0 1) 8 e ⊎ IsTextFault self.now e) }
+        // It takes nothing of the budget.
         ensures budget { budget.new ≡ budget.old }
+        // The count of records never falls.
         ensures rises { meter.old.nodes ≤ meter.new.nodes }
+        // It visits at most 29 records.
         ensures nodes { meter.new.nodes ≤ meter.old.nodes + 29 }
+        // The count of bytes never falls.
         ensures bytes_rise { meter.old.bytes ≤ meter.new.bytes }
+        // It compares at most 29 texts.
         ensures bytes { meter.new.bytes ≤ meter.old.bytes + 256 * 29 }
     {
         let _ = budget;
@@ -234,16 +249,25 @@ impl<'a> Cache<'a> {
         meter: &mut Meter,
         budget: &mut Budget,
     ) -> Result<Option<&'a [u8]>, CacheFault>
+        // Where the icon list stands, it gives the name that the list has for the type, if it has one.
         ensures answer { (offsets : Offsets) (icons : List (List ℕ × List ℕ)) → HeaderAt (Stands self.now) offsets →
             PairsAt (Stands self.now) offsets.icons icons →
             IsOkAnd result (λ name. option_map (λ text. text.now) name ≡ looked_up icons kind.now) }
+        // On any bytes it gives a text of the cache.
         ensures text { IfOk result (λ name. IfSome name (λ text. (at : ℕ) × (text_at self.now at ≡ Ok text.now))) }
+        // For an answer the list lies in the cache.
         ensures inside { OnOk result (LiesList self.now (field self.now 0 8) 8) }
+        // A fault is one of the list, or of a text.
         ensures fault { IfErr result (λ e. IsListFault self.now (field self.now 0 8) 8 e ⊎ IsTextFault self.now e) }
+        // It takes nothing of the budget.
         ensures budget { budget.new ≡ budget.old }
+        // The count of records never falls.
         ensures rises { meter.old.nodes ≤ meter.new.nodes }
+        // It visits at most 29 records.
         ensures nodes { meter.new.nodes ≤ meter.old.nodes + 29 }
+        // The count of bytes never falls.
         ensures bytes_rise { meter.old.bytes ≤ meter.new.bytes }
+        // It compares at most 29 texts.
         ensures bytes { meter.new.bytes ≤ meter.old.bytes + 256 * 29 }
     {
         let _ = budget;
@@ -261,16 +285,25 @@ impl<'a> Cache<'a> {
         meter: &mut Meter,
         budget: &mut Budget,
     ) -> Result<Option<&'a [u8]>, CacheFault>
+        // Where the list of generic icons stands, it gives the name that the list has for the type, if it has one.
         ensures answer { (offsets : Offsets) (icons : List (List ℕ × List ℕ)) → HeaderAt (Stands self.now) offsets →
             PairsAt (Stands self.now) offsets.generic_icons icons →
             IsOkAnd result (λ name. option_map (λ text. text.now) name ≡ looked_up icons kind.now) }
+        // On any bytes it gives a text of the cache.
         ensures text { IfOk result (λ name. IfSome name (λ text. (at : ℕ) × (text_at self.now at ≡ Ok text.now))) }
+        // For an answer the list lies in the cache.
         ensures inside { OnOk result (LiesList self.now (field self.now 0 9) 8) }
+        // A fault is one of the list, or of a text.
         ensures fault { IfErr result (λ e. IsListFault self.now (field self.now 0 9) 8 e ⊎ IsTextFault self.now e) }
+        // It takes nothing of the budget.
         ensures budget { budget.new ≡ budget.old }
+        // The count of records never falls.
         ensures rises { meter.old.nodes ≤ meter.new.nodes }
+        // It visits at most 29 records.
         ensures nodes { meter.new.nodes ≤ meter.old.nodes + 29 }
+        // The count of bytes never falls.
         ensures bytes_rise { meter.old.bytes ≤ meter.new.bytes }
+        // It compares at most 29 texts.
         ensures bytes { meter.new.bytes ≤ meter.old.bytes + 256 * 29 }
     {
         let _ = budget;
@@ -296,31 +329,46 @@ impl<'a> Cache<'a> {
         meter: &mut Meter,
         budget: &mut Budget,
     ) -> Result<Option<Parents<'a>>, CacheFault>
+        // Where the parent list stands, it gives the type's entry with its parents, or with none if it is marked; nothing if the type has no parent.
         ensures answer { (offsets : Offsets) (pairs : List (List ℕ × List ℕ)) → HeaderAt (Stands self.now) offsets →
             (stand : ParentsAt (Stands self.now) offsets.parents pairs) → IfOk result
             (IsGiven pairs stand.kinds (is_marked self.now (field self.now 0 2) marks.old kind.now) kind.now) }
+        // On any bytes it gives an entry of the type, and the texts that the entry names.
         ensures read { IfOk result (λ found. IfSome found (IsRead self.now (field self.now 0 2) marks.old kind.now)) }
+        // For an answer the entry is marked, and no other that was not.
         ensures marked { IfOk result (λ found. MatchOption found (marks.new ≡ marks.old) (λ parents.
             (has_place marks.old parents.entry ≡ true) × (marks.new ≡ marks.old)
             ⊎ (has_place marks.old parents.entry ≡ false) × (marks.new ≡ with_place marks.old parents.entry))) }
+        // With a record left for each parent, only memory can be short.
         ensures need { (offsets : Offsets) (pairs : List (List ℕ × List ℕ)) → HeaderAt (Stands self.now) offsets →
             ParentsAt (Stands self.now) offsets.parents pairs → length (unmarked_parents pairs
             (is_marked self.now (field self.now 0 2) marks.old kind.now) kind.now) ≤ budget.old.records →
             IfErr result (λ e. e ≡ CacheFault.OutOfMemory) }
+        // A fault is one of the list, of a text, or of the entry's parents.
         ensures fault { IfErr result
             (IsParentsFault self.now (field self.now 0 2) marks.old kind.now budget.old.records budget.new.records) }
+        // Before a fault nothing is marked.
         ensures marks_stay { OnErr result (marks.new ≡ marks.old) }
+        // Each parent takes a record.
         ensures takes { IfOk result (λ found. MatchOption found (budget.new.records ≡ budget.old.records)
             (λ parents. budget.new.records + length parents.types ≡ budget.old.records)) }
+        // Where the list stands, no more are taken before a fault.
         ensures takes_at_most { (offsets : Offsets) (pairs : List (List ℕ × List ℕ)) → HeaderAt (Stands self.now) offsets →
             ParentsAt (Stands self.now) offsets.parents pairs → budget.old.records ≤ budget.new.records
             + length (unmarked_parents pairs (is_marked self.now (field self.now 0 2) marks.old kind.now) kind.now) }
+        // Records are taken, and never given back.
         ensures records { budget.new.records ≤ budget.old.records }
+        // No value bytes are taken.
         ensures value_bytes { budget.new.value_bytes ≡ budget.old.value_bytes }
+        // The count of records never falls.
         ensures rises { meter.old.nodes ≤ meter.new.nodes }
+        // Each record that is taken adds one node; at most 29 come besides.
         ensures nodes { meter.new.nodes + budget.new.records ≤ meter.old.nodes + budget.old.records + 29 }
+        // Nor does it add fewer, until the sum stops.
         ensures fair { raised meter.old.nodes budget.old.records ≤ meter.new.nodes + budget.new.records }
+        // The count of bytes never falls.
         ensures bytes_rise { meter.old.bytes ≤ meter.new.bytes }
+        // Each record that is taken adds one text; the search compares at most 27.
         ensures bytes { meter.new.bytes + 256 * budget.new.records
             ≤ meter.old.bytes + 256 * budget.old.records + 256 * 27 }
     {
@@ -354,18 +402,24 @@ impl<'a> Cache<'a> {
         meter: &mut Meter,
         budget: &mut Budget,
     ) -> Result<Option<(&'a [u8], u32)>, CacheFault>
+        // Where magic stands, it gives the type and the priority of the first section that holds, if one does.
         ensures answer { (offsets : Offsets) (sections : List PlainSection) → HeaderAt (Stands self.now) offsets →
             are_allowed_sections sections ≡ true → MagicAt (Stands self.now) offsets.magic sections →
             IfOk result (λ found. plain_found found ≡ first_magic sections content.now host) }
+        // On any bytes the type is a text of the cache.
         ensures text { IfOk result (λ found. IfSome found (λ pair. (at : ℕ) × (text_at self.now at ≡ Ok pair.0.now))) }
+        // With a record left for each section and line, and the bytes of their values, there is an answer.
         ensures need { (offsets : Offsets) (sections : List PlainSection) → HeaderAt (Stands self.now) offsets →
             are_allowed_sections sections ≡ true → MagicAt (Stands self.now) offsets.magic sections →
             length sections + matchlet_count sections ≤ budget.old.records →
             value_length sections ≤ budget.old.value_bytes → IsOk result }
+        // A fault is one of the list, of a section or a line, or the budget is spent.
         ensures fault { IfErr result (IsMagicFault self.now (field self.now 0 6) budget.new) }
+        // Where magic stands, no more is taken before a fault.
         ensures takes_at_most { (offsets : Offsets) (sections : List PlainSection) → HeaderAt (Stands self.now) offsets →
             are_allowed_sections sections ≡ true → MagicAt (Stands self.now) offsets.magic sections →
             Takes (length sections + matchlet_count sections) (value_length sections) budget.old budget.new }
+        // A record costs one node and one text, a value byte one comparison for each place of the content; one node comes besides.
         ensures cost { Paid (length content.now) 256 1 budget.old budget.new meter.old meter.new }
     {
         let at = u64::from(self.header[6]);
@@ -377,14 +431,21 @@ impl<'a> Cache<'a> {
     ///
     /// It takes no memory and nothing of the budget.
     pub fn extent(&self, meter: &mut Meter, budget: &mut Budget) -> Result<u32, CacheFault>
+        // Where magic stands, it gives how far into a content its lines can look.
         ensures answer { (offsets : Offsets) (sections : List PlainSection) → HeaderAt (Stands self.now) offsets →
             MagicAt (Stands self.now) offsets.magic sections → IsOkAnd result (λ extent. extent ≡ sections_extent sections) }
+        // On any bytes it gives the number that stands there.
         ensures stated { IfOk result (λ extent. extent ≡ field self.now (field self.now 0 6) 1) }
+        // The only fault is that the head of the list does not lie in the cache.
         ensures fault { IfErr result (λ e. (length self.now < field self.now 0 6 + 12)
             × (e ≡ CacheFault.OutOfRange (field self.now 0 6))) }
+        // It takes nothing of the budget.
         ensures budget { budget.new ≡ budget.old }
+        // The count of records never falls.
         ensures rises { meter.old.nodes ≤ meter.new.nodes }
+        // It visits one record.
         ensures nodes { meter.new.nodes ≤ meter.old.nodes + 1 }
+        // It compares nothing.
         ensures bytes { meter.new.bytes ≡ meter.old.bytes }
     {
         let _ = budget;
@@ -411,22 +472,28 @@ impl<'a> Cache<'a> {
         meter: &mut Meter,
         budget: &mut Budget,
     ) -> Result<Vec<Listed<'a>>, CacheFault>
+        // Where the four parts that have rules stand, it lists the rules, each once, by their stored texts.
         ensures answer { (offsets : Offsets) (rules : List GlobRule) → HeaderAt (Stands self.now) offsets →
             All KeepsLimits rules → LiteralsAt (Stands self.now) offsets.literals rules →
             SuffixTreeAt (Stands self.now) offsets.tree rules → GlobsAt (Stands self.now) offsets.globs rules →
             IfOk result (λ listed. IsListing rules (map plain_listed listed.items)) }
+        // On any bytes each type is a text of the cache, and each pattern is short.
         ensures text { IfOk result (λ listed. All (IsListed self.now) (map plain_listed listed.items)) }
+        // With a record left for each entry and node, only memory can be short.
         ensures need { (offsets : Offsets) (rules : List GlobRule) → HeaderAt (Stands self.now) offsets →
             All KeepsLimits rules → LiteralsAt (Stands self.now) offsets.literals rules →
             SuffixTreeAt (Stands self.now) offsets.tree rules → GlobsAt (Stands self.now) offsets.globs rules →
             length (literal_rules rules) + tree_size rules + length (glob_rules rules) ≤ budget.old.records →
             IfErr result (λ e. e ≡ CacheFault.OutOfMemory) }
+        // A fault is one of the lists, of the tree or of a text, or the budget is spent, or memory is short.
         ensures fault { IfErr result (IsListingFault self.now budget.new.records) }
+        // Where they stand, no more is taken before a fault.
         ensures takes_at_most { (offsets : Offsets) (rules : List GlobRule) → HeaderAt (Stands self.now) offsets →
             All KeepsLimits rules → LiteralsAt (Stands self.now) offsets.literals rules →
             SuffixTreeAt (Stands self.now) offsets.tree rules → GlobsAt (Stands self.now) offsets.globs rules →
             budget.old.records ≤ budget.new.records
             + (length (literal_rules rules) + tree_size rules + length (glob_rules rules)) }
+        // A record costs one node and two texts; four nodes come besides.
         ensures cost { Lists 4 budget.old budget.new meter.old meter.new }
     {
         let literals = u64::from(self.header[3]);

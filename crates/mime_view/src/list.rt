@@ -14,13 +14,20 @@ pub fn count_at(
     size: u64,
     meter: &mut Meter,
 ) -> Result<u64, CacheFault>
+    // The list's offset is a number of 32 bits.
     requires at { at < 2 ^ 32 }
+    // No record has more than four numbers.
     requires size { size ≤ 16 }
+    // It is the number that the list states, and all its records lie in the cache.
     ensures count { IfOk result (λ count. (count ≡ field counted.now at 0)
         × (at + 4 + size * count ≤ length counted.now)) }
+    // Else they don't.
     ensures fault { IfErr result (IsListFault counted.now at size) }
+    // The count of records never falls.
     ensures rises { meter.old.nodes ≤ meter.new.nodes }
+    // It visits one record.
     ensures nodes { meter.new.nodes ≤ meter.old.nodes + 1 }
+    // It compares nothing.
     ensures bytes { meter.new.bytes ≡ meter.old.bytes }
 {
     let [count] = counted.cards::<1>(at, meter)?;

@@ -32,6 +32,7 @@ impl Model for Marks {
 impl Marks {
     /// No places. It takes no memory.
     pub fn new(alloc: Global) -> Marks
+        // There are none.
         ensures { result ≡ [] }
     {
         Marks {
@@ -42,6 +43,7 @@ impl Marks {
 
     /// Whether a place is in the set.
     pub fn contains(&self, place: u32) -> bool
+        // Whether the place was added.
         ensures { result ≡ has_place self.now place }
     {
         match self.first {
@@ -52,8 +54,11 @@ impl Marks {
 
     /// Adds a place.
     pub(crate) fn add(&mut self, place: u32) -> Result<(), CacheFault>
+        // The place is among the marks, and the others stay.
         ensures added { OnOk result (self.new ≡ with_place self.old place) }
+        // Before a fault nothing is marked.
         ensures unchanged { OnErr result (self.new ≡ self.old) }
+        // Only memory can be short.
         ensures fault { IfErr result (λ e. e ≡ CacheFault.OutOfMemory) }
     {
         match self.first {

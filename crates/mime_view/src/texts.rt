@@ -31,6 +31,7 @@ impl<'a> Model for Texts<'a> {
 impl<'a> Texts<'a> {
     /// No texts. It takes no memory.
     pub(crate) fn none(alloc: Global) -> Texts<'a>
+        // There are none.
         ensures { result ≡ [] }
     {
         Texts {
@@ -40,6 +41,7 @@ impl<'a> Texts<'a> {
 
     /// One text. It takes no memory.
     pub(crate) fn one(text: &'a [u8]) -> Texts<'a>
+        // It is the one.
         ensures { result ≡ text.entry.now ∷ [] }
     {
         Texts {
@@ -49,6 +51,7 @@ impl<'a> Texts<'a> {
 
     /// The texts of a list.
     pub(crate) fn of(texts: Vec<&'a [u8]>) -> Texts<'a>
+        // They are those of the list.
         ensures { result ≡ map (λ text. text.now) texts.entry.items }
     {
         Texts {
@@ -58,6 +61,7 @@ impl<'a> Texts<'a> {
 
     /// The texts as a slice.
     pub fn as_slice(&self) -> &[&'a [u8]]
+        // They are the texts, in their order.
         ensures { map (λ text. text.now) result.now ≡ self.now }
     {
         match &self.held {
@@ -68,7 +72,9 @@ impl<'a> Texts<'a> {
 
     /// Puts a text in the place of another, counted from 0. It takes no memory.
     pub fn replace(&mut self, place: usize, text: &'a [u8])
+        // There is such a place.
         requires { place < length self.old }
+        // The text stands at that place, and the others stay.
         ensures { self.new ≡ slice_set self.old place text.entry.now }
     {
         match &mut self.held {

@@ -38,6 +38,7 @@ impl<'a> Model for Listing<'a> {
 impl<'a> Listing<'a> {
     /// No rules. It takes no memory.
     pub fn none(alloc: Global) -> Listing<'a>
+        // There are none.
         ensures { result ≡ [] }
     {
         Listing {
@@ -47,8 +48,11 @@ impl<'a> Listing<'a> {
 
     /// Adds a rule of this type, pattern, and number of weight and flags.
     pub fn add(&mut self, kind: &'a [u8], pattern: Vec<u8>, flags: u32) -> Result<(), CacheFault>
+        // The rule stands after the others.
         ensures added { OnOk result (self.new ≡ self.old ++ listed_by flags kind.now pattern.items ∷ []) }
+        // Before a fault nothing is added.
         ensures stays { OnErr result (self.new ≡ self.old) }
+        // Only memory can be short.
         ensures fault { IfErr result (λ e. e ≡ CacheFault.OutOfMemory) }
     {
         let rule = Listed {
@@ -63,6 +67,7 @@ impl<'a> Listing<'a> {
 
     /// The list of the rules. It takes no memory.
     pub fn into_vec(self) -> Vec<Listed<'a>>
+        // They are the rules that were added, in their order.
         ensures { map plain_listed result.items ≡ self.entry }
     {
         let Listing { rules } = self;
