@@ -119,11 +119,13 @@ pub record IsSpent (count before after : ℕ) (e : CacheFault) : Type 0 where
 
 -- The text whose offset stands at `at` can't be read.
 pub record IsUnread (c : List ℕ) (at before : ℕ) (e : CacheFault) : Type 0 where
-  -- A fault says why no text stands there.
+  -- Some fault of a counted read.
   pub fault : ByteFault
+  -- It is why no text stands there.
   pub no_text : text_at c (field c at 0) ≡ Err fault
+  -- It is the one that is reported.
   pub is : e ≡ cache_fault fault
-  -- There was a record for it.
+  -- There was a record for the text.
   pub some : 0 < before
 
 -- why that text is not taken, with the records that were left before and after

@@ -35,9 +35,11 @@ pub fn list_rules<'a>(
     globs: u64,
     spending: &mut Spending,
 ) -> Result<Vec<Listed<'a>>, CacheFault>
-    // Each offset is a number of 32 bits.
+    // The literal list's offset is a number of 32 bits.
     requires literals { literals < 2 ^ 32 }
+    // So is the tree's.
     requires tree { tree < 2 ^ 32 }
+    // And the glob list's.
     requires globs { globs < 2 ^ 32 }
     // It lists the rules of three lists that stand; an entry and a node take a record each.
     ensures answer { (first last : List GlobRule) (roots : Tree) → ReadsListedRules source.now.counted.now literals first →
@@ -45,7 +47,7 @@ pub fn list_rules<'a>(
         Gives (λ rules. map plain_listed rules.items
         ≡ map listed_rule first ++ (map listed_rule (rules_of roots) ++ map listed_rule last))
         (length first + node_count roots + length last) spending.old spending.new result }
-    // On any bytes it lists rules with a text of the cache as their type and a short pattern, or one of the lists stops it.
+    // On any bytes each rule has a text of the cache as its type and a short pattern, or one of the lists stops it.
     ensures listed { MatchResult result (λ rules. All (IsListed source.now.counted.now) (map plain_listed rules.items))
         (IsListsFault source.now.counted.now literals tree globs spending.new.budget.records) }
     // Each record adds one node and at most 512 bytes, each list one node.
