@@ -1,8 +1,9 @@
 -- What steps cost, one after another.
-use Rattle.std.proofs.Common.{◌≡◌, ℕ, ◌+◌, ◌-◌, ◌*◌, ◌≤◌, ◌∙◌, refl, arith}
+use Rattle.std.proofs.Common.{◌≡◌, ℕ, ◌+◌, ◌-◌, ◌*◌, ◌≤◌, ◌∙◌, ap, refl, arith}
 use Rattle.std.proofs.Math.Nat.{mul-le-mul_left}
 use Rattle.mime_base.specs.Meter.{raised}
 use Rattle.mime_view.specs.Spending.{Looks, Price, Spends}
+use Rattle.mime_view.specs.declared.budget.Budget.{Budget}
 use Rattle.mime_view.specs.declared.spending.Spending.{Spending}
 
 -- no step costs nothing
@@ -21,16 +22,22 @@ spends_none price old = record {
 -- a look at records, and nothing of the budget
 pub spends_looks : (price : Price) (nodes bytes : ℕ) (old new : Spending) → new.budget ≡ old.budget
     → Looks nodes bytes old.meter new.meter → Spends price nodes bytes old new
-spends_looks price nodes bytes old new same looks = rw same in record {
-  records = omega arith;
-  value_bytes = omega arith;
-  untouched = λ free. refl;
-  rises = looks.rises;
-  bytes_rise = looks.bytes_rise;
-  most_nodes = omega (arith, looks.most_nodes);
-  most_bytes = omega (arith, looks.most_bytes);
-  fair = omega (arith, looks.rises);
-}
+spends_looks price nodes bytes old new same looks =
+    let r : new.budget.records ≡ old.budget.records = ap (λ (b : Budget). b.records) same in
+    let v : new.budget.value_bytes ≡ old.budget.value_bytes = ap (λ (b : Budget). b.value_bytes) same in
+    let n = ap (λ (k : ℕ). price.nodes * k) r in
+    let m = ap (λ (k : ℕ). price.bytes * k) r in
+    let w = ap (λ (k : ℕ). price.value_byte * k) v in
+    record {
+      records = omega arith;
+      value_bytes = omega arith;
+      untouched = λ free. v;
+      rises = looks.rises;
+      bytes_rise = looks.bytes_rise;
+      most_nodes = omega (arith, n, looks.most_nodes);
+      most_bytes = omega (arith, m, w, looks.most_bytes);
+      fair = omega (arith, looks.rises);
+    }
 
 -- one step, and then another
 pub spends_then : (price : Price) (nodes bytes later_nodes later_bytes : ℕ) (old mid new : Spending) → Spends price nodes bytes old mid

@@ -12,10 +12,15 @@ mod Headers
 mod Subclasses
 mod ParentLists
 mod AllOf
+mod LineParts
 mod LineRows
 mod LineValues
+mod LinesLeft
+mod SectionParts
 mod SectionRows
+mod SectionsLeft
 mod StandingValues
+mod MagicCosts
 mod MagicLists
 mod Spelled
 mod Costs

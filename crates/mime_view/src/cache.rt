@@ -35,7 +35,7 @@ ghost use Rattle.mime_view.specs.Listing.Faults.{IsListingFault};
 
 use crate::budget::Budget;
 use crate::fault::CacheFault;
-use crate::magic::sniff;
+use crate::magic::{MagicQuery, sniff};
 use crate::marks::Marks;
 use crate::name::{RuleLists, glob_hits};
 use crate::pairs::look_up_pair;
@@ -345,8 +345,19 @@ impl<'a> Cache<'a> {
             Takes (length sections + matchlet_count sections) (value_length sections) budget.old budget.new }
         ensures cost { Paid (length content.now) 256 1 budget.old budget.new meter.old meter.new }
     {
-        let at = u64::from(self.header[6]);
-        sniff(&self.counted, at, content, host, meter, budget)
+        let query = MagicQuery {
+            counted: &self.counted,
+            content,
+            host,
+        };
+        let mut spending = Spending {
+            meter: *meter,
+            budget: *budget,
+        };
+        let found = sniff(&query, self.header[6], &mut spending);
+        *meter = spending.meter;
+        *budget = spending.budget;
+        found
     }
 
     /// How much of a content the lines of magic can look at, as the cache states it, in bytes ("The
