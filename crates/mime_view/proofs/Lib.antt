@@ -20,7 +20,6 @@ mod SectionParts
 mod SectionRows
 mod SectionsLeft
 mod StandingValues
-mod MagicCosts
 mod MagicLists
 mod Spelled
 mod Costs

@@ -1,12 +1,9 @@
 -- What a line answers with its children, from what it answers by itself.
-use Rattle.std.proofs.Common.{◌≡◌, ℕ, zero, suc, ◌+◌, ◌*◌, ◌<◌, ◌≤◌, ◌&&◌, ◌||◌, Bool, true, false, true≢false}
-use Rattle.std.proofs.Common.{List, length, refl, sym, subst, ◌∙◌, arith}
+use Rattle.std.proofs.Common.{◌≡◌, ℕ, suc, ◌<◌, Bool, true, false, true≢false}
+use Rattle.std.proofs.Common.{List, refl, sym, subst, ◌∙◌, arith}
 use Rattle.std.specs.Prelude.{Result, Ok, Err, IfOk}
-use Rattle.std.specs.Result.{IsErrAnd}
 use Rattle.std.proofs.Math.Bool.{or-false}
-use Rattle.std.proofs.lemmas.Result.{err_from_is_err_and}
-use Rattle.mime_base.specs.Format.Magic.{line_count, width}
-use Rattle.mime_base.specs.Format.Packed.{forest_value_length}
+use Rattle.mime_base.specs.Format.Magic.{width}
 use Rattle.mime_base.specs.Magic.{Forest, PlainLine, are_allowed, bare, is_allowed, line}
 use Rattle.mime_base.specs.Magic.Holds.{equals_from, some_holds}
 use Rattle.mime_base.specs.declared.magic.host.Host.{Host}
@@ -94,21 +91,7 @@ module _ (query : MagicQuery) (levels : ℕ) (own : PlainLine) (children : Fores
     };
   }
 
-  -- a line that stops by itself stops
-  pub line_stops : (old new : Spending) (e : CacheFault) (result : Result Bool CacheFault) → IsErrAnd result (λ y. y ≡ e)
-      → AnswersLine query own old new (Err e) → AnswersLines query levels (line own children bare) old new result
-  line_stops old new e result err here =
-      let p = err_from_is_err_and result err in
-      rw (p.1, p.2) record {
-        answer = tt;
-        need = λ allowed records bytes. here.need tt (omega arith) (omega arith);
-        takes = record {
-          most_records = omega (arith, here.takes.most_records);
-          most_value_bytes = omega (arith, here.takes.most_value_bytes);
-        };
-      }
-
-  -- and so does one that is not allowed
+  -- one that is not allowed may stop
   pub line_refused : (old new : Spending) (seen : Seen) (e : CacheFault) → AnswersLine query own old new (Ok seen)
       → (are_allowed levels (line own children bare) ≡ true → ⊥)
       → AnswersLines query levels (line own children bare) old new (Err e)

@@ -1,17 +1,13 @@
 -- What a line answers with those after it.
-use Rattle.std.proofs.Common.{◌≡◌, ℕ, zero, suc, ◌+◌, ◌*◌, ◌<◌, ◌≤◌, ◌&&◌, ◌||◌, Bool, true, false, true≢false}
-use Rattle.std.proofs.Common.{List, length, refl, sym, ap, subst, ◌∙◌, arith}
+use Rattle.std.proofs.Common.{◌≡◌, ℕ, zero, suc, ◌&&◌, ◌||◌, Bool, true, false, true≢false}
+use Rattle.std.proofs.Common.{List, refl, sym, ap, subst, ◌∙◌, arith}
 use Rattle.std.specs.Prelude.{Result, Ok, Err, IfOk}
-use Rattle.std.specs.Result.{IsErrAnd}
 use Rattle.std.proofs.Math.Bool.{or-false}
 use Rattle.std.proofs.lemmas.Bool.{or_left}
-use Rattle.std.proofs.lemmas.Result.{err_from_is_err_and}
-use Rattle.mime_base.specs.Format.Magic.{line_count, width}
-use Rattle.mime_base.specs.Format.Packed.{forest_value_length}
 use Rattle.mime_base.specs.Magic.{Forest, PlainLine, are_allowed, bare, is_allowed, line}
 use Rattle.mime_base.specs.Magic.Holds.{equals_from, is_bare, some_holds}
 use Rattle.mime_base.specs.declared.magic.host.Host.{Host}
-use Rattle.mime_view.specs.Magic.{AnswersLines, ReadsLines}
+use Rattle.mime_view.specs.Magic.{AnswersLines}
 use Rattle.mime_view.specs.declared.fault.CacheFault.{CacheFault}
 use Rattle.mime_view.specs.declared.magic.MagicQuery.{MagicQuery}
 use Rattle.mime_view.specs.declared.spending.Spending.{Spending}

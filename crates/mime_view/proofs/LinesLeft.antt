@@ -70,13 +70,3 @@ module _ {query : MagicQuery} {levels first count : ℕ} {lines : Forest} {old :
         takes = record { most_records = omega arith; most_value_bytes = omega arith };
       }
       by_left (line own children rest) size whole = absurd (omega arith)
-
--- at first all are left
-pub all_left : (query : MagicQuery) (levels first count : ℕ) (lines : Forest) (at : Spending) → width lines ≡ count
-    → ReadsLines query.counted.now first lines → Left query levels first count lines at 0 at
-all_left query levels first count lines at size reads = record {
-  left = lines;
-  size = omega arith;
-  reads = let here : first + 32 * 0 ≡ first = omega arith in rw here reads;
-  whole = λ new result later. later;
-}

@@ -1,21 +1,16 @@
 -- What a section answers, from what its lines do.
-use Rattle.std.proofs.Common.{◌≡◌, ℕ, ◌+◌, ◌≤◌, ◌&&◌, Bool, true, false, cond, List, [], ◌∷◌, length, None, Some, refl, sym, arith}
-use Rattle.std.specs.Prelude.{Result, Ok, Err}
+use Rattle.std.proofs.Common.{◌≡◌, ℕ, ◌+◌, Bool, true, false, cond, List, [], ◌∷◌, None, Some, refl, sym, arith}
+use Rattle.std.specs.Prelude.{Ok}
 use Rattle.std.specs.Borrow.{Bor}
-use Rattle.std.specs.Result.{IsErrAnd}
 use Rattle.std.proofs.lemmas.List.Sums.{sum_by-cons}
-use Rattle.std.proofs.lemmas.Result.{err_from_is_err_and}
 use Rattle.mime_base.specs.Format.Magic.{line_count}
 use Rattle.mime_base.specs.Format.Packed.{forest_value_length, matchlet_count, value_length}
-use Rattle.mime_base.specs.Magic.{PlainSection, are_allowed, are_allowed_sections}
+use Rattle.mime_base.specs.Magic.{PlainSection}
 use Rattle.mime_base.specs.Magic.Holds.{first_magic, some_holds}
 use Rattle.mime_base.specs.declared.magic.host.Host.{Host}
-use Rattle.mime_view.specs.Magic.{AnswersLines, AnswersSections, plain_found}
-use Rattle.mime_view.specs.declared.fault.CacheFault.{CacheFault}
+use Rattle.mime_view.specs.Magic.{AnswersLines, AnswersSections}
 use Rattle.mime_view.specs.declared.magic.MagicQuery.{MagicQuery}
 use Rattle.mime_view.specs.declared.spending.Spending.{Spending}
-use Rattle.mime_view.proofs.AllOf.{both_left}
-use Rattle.mime_view.proofs.SectionRows.{Found}
 
 -- a section gives its type where one of its lines holds
 first_magic-one : (section : PlainSection) (content : List ℕ) (host : Host) (holds : Bool) → holds ≡ some_holds section.lines content host
@@ -59,19 +54,3 @@ module _ (query : MagicQuery) (section : PlainSection) (old mid new : Spending) 
       most_value_bytes = omega (arith, values, step.takes.most_value_bytes);
     };
   }
-
-  -- where its lines stop, it stops
-  pub section_stops : (e : CacheFault) (result : Result Found CacheFault) → IsErrAnd result (λ y. y ≡ e)
-      → AnswersLines query 64 section.lines mid new (Err e) → AnswersSections query (section ∷ []) old new result
-  section_stops e result err step =
-      let p = err_from_is_err_and result err in
-      rw (p.1, p.2) record {
-        answer = tt;
-        need = λ allowed records bytes.
-            step.need (both_left (are_allowed 64 section.lines) (are_allowed_sections []) allowed)
-            (omega (arith, lines)) (omega (arith, values));
-        takes = record {
-          most_records = omega (arith, lines, step.takes.most_records);
-          most_value_bytes = omega (arith, values, step.takes.most_value_bytes);
-        };
-      }

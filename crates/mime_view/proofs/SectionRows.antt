@@ -1,17 +1,15 @@
 -- What a section answers with those after it.
-use Rattle.std.proofs.Common.{◌≡◌, ℕ, ◌+◌, ◌*◌, ◌<◌, ◌≤◌, Bool, true, false, cond, List, [], ◌∷◌, length}
-use Rattle.std.proofs.Common.{Option, None, Some, refl, sym, subst, ◌∙◌, arith}
+use Rattle.std.proofs.Common.{◌≡◌, ℕ, ◌+◌, Bool, true, false, cond, List, [], ◌∷◌}
+use Rattle.std.proofs.Common.{Option, None, Some, refl, sym, subst, arith}
 use Rattle.std.specs.Prelude.{Result, Ok, Err, IfOk}
 use Rattle.std.specs.Borrow.{Bor}
-use Rattle.std.specs.Result.{IsErrAnd}
 use Rattle.std.proofs.lemmas.List.Sums.{sum_by-cons}
-use Rattle.std.proofs.lemmas.Result.{err_from_is_err_and}
 use Rattle.mime_base.specs.Format.Magic.{line_count}
 use Rattle.mime_base.specs.Format.Packed.{forest_value_length, matchlet_count, value_length}
 use Rattle.mime_base.specs.Magic.{PlainSection, are_allowed, are_allowed_sections}
 use Rattle.mime_base.specs.Magic.Holds.{first_magic, some_holds}
 use Rattle.mime_base.specs.declared.magic.host.Host.{Host}
-use Rattle.mime_view.specs.Magic.{AnswersSections, ReadsSection, ReadsSections, plain_found}
+use Rattle.mime_view.specs.Magic.{AnswersSections, plain_found}
 use Rattle.mime_view.specs.declared.fault.CacheFault.{CacheFault}
 use Rattle.mime_view.specs.declared.magic.MagicQuery.{MagicQuery}
 use Rattle.mime_view.specs.declared.spending.Spending.{Spending}

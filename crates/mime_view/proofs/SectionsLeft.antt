@@ -68,17 +68,3 @@ module _ {query : MagicQuery} {first count : ℕ} {sections : List PlainSection}
         takes = record { most_records = omega arith; most_value_bytes = omega arith };
       }
       by_left (section ∷ rest) size whole = absurd (omega arith)
-
--- at first all are left, and what was read before them takes nothing
-pub all_left : (query : MagicQuery) (first count : ℕ) (sections : List PlainSection) (old now : Spending) → now.budget ≡ old.budget
-    → length sections ≡ count → ReadsSections query.counted.now first sections → Left query first count sections old 0 now
-all_left query first count sections old now same size reads = record {
-  left = sections;
-  size = omega arith;
-  reads = let here : first + 16 * 0 ≡ first = omega arith in rw here reads;
-  whole = λ new result later. record {
-    answer = later.answer;
-    need = rw (← same) later.need;
-    takes = rw (← same) later.takes;
-  };
-}

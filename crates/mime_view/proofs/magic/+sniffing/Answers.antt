@@ -1,5 +1,4 @@
-use Rattle.std.proofs.Common.{◌≡◌, ◌+◌, ◌-◌, ℕ, Bool, suc, true, arith, sym, subst}
-use Rattle.std.specs.Prelude.{Ok}
+use Rattle.std.proofs.Common.{◌≡◌, ◌+◌, ◌-◌, ℕ, suc, true, arith, sym, subst}
 use Rattle.mime_base.specs.Magic.{are_allowed, bare, line}
 use Rattle.mime_view.specs.Magic.{AnswersLines, ReadsLines, line_price}
 use Rattle.mime_view.proofs.Costs.{spends_then}
