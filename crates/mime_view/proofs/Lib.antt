@@ -12,9 +12,13 @@ mod Headers
 mod Subclasses
 mod ParentLists
 mod AllOf
+mod LineParts
 mod LineRows
 mod LineValues
+mod LinesLeft
+mod SectionParts
 mod SectionRows
+mod SectionsLeft
 mod StandingValues
 mod MagicLists
 mod Spelled

@@ -1,15 +1,17 @@
--- Lines that stand side by side in a cache, one after another.
-use Rattle.std.proofs.Common.{◌≡◌, ℕ, suc, ◌+◌, ◌*◌, ◌<◌, ◌≤◌, ◌&&◌, ◌||◌, Bool}
-use Rattle.std.proofs.Common.{true, false, true≢false, List, length, refl, sym, ap, ◌∙◌, arith}
+-- What a line answers with those after it.
+use Rattle.std.proofs.Common.{◌≡◌, ℕ, zero, suc, ◌&&◌, ◌||◌, Bool, true, false, true≢false}
+use Rattle.std.proofs.Common.{List, refl, sym, ap, subst, ◌∙◌, arith}
+use Rattle.std.specs.Prelude.{Result, Ok, Err, IfOk}
 use Rattle.std.proofs.Math.Bool.{or-false}
 use Rattle.std.proofs.lemmas.Bool.{or_left}
-use Rattle.mime_base.specs.Format.Magic.{line_count, width}
-use Rattle.mime_base.specs.Format.Packed.{forest_value_length}
 use Rattle.mime_base.specs.Magic.{Forest, PlainLine, are_allowed, bare, is_allowed, line}
 use Rattle.mime_base.specs.Magic.Holds.{equals_from, is_bare, some_holds}
 use Rattle.mime_base.specs.declared.magic.host.Host.{Host}
-use Rattle.mime_view.specs.Magic.{ReadsLines, ReadsParent}
-use Rattle.mime_view.proofs.AllOf.{second, third}
+use Rattle.mime_view.specs.Magic.{AnswersLines}
+use Rattle.mime_view.specs.declared.fault.CacheFault.{CacheFault}
+use Rattle.mime_view.specs.declared.magic.MagicQuery.{MagicQuery}
+use Rattle.mime_view.specs.declared.spending.Spending.{Spending}
+use Rattle.mime_view.proofs.AllOf.{first_of, second, third}
 
 -- a line with its children alone, and those after it
 some_holds-split : (own : PlainLine) (children rest : Forest) (content : List ℕ) (host : Host)
@@ -19,109 +21,70 @@ some_holds-split own children rest content host =
     ap (λ (b : Bool). b || some_holds rest content host)
     (sym (or-false (equals_from own host content own.start own.range && (is_bare children || some_holds children content host))))
 
--- what is left of the lines from the i-th on; r0 and v0 are the records and value bytes before them, r and v those now
-pub record Left (c : List ℕ) (first count : ℕ) (content : List ℕ) (host : Host) (lines : Forest) (r0 v0 i r v : ℕ) : Type 0 where
-  pub rest : Forest
-  pub size : width rest + i ≡ count
-  pub reads : ReadsLines c (first + 32 * i) rest
-  pub alike : some_holds lines content host ≡ some_holds rest content host
-  pub depth : (n : ℕ) → are_allowed (suc n) lines ≡ true → are_allowed (suc n) rest ≡ true
-  pub records : r0 + line_count rest ≤ r + line_count lines
-  pub bytes : v0 + forest_value_length rest ≤ v + forest_value_length lines
+-- no line, none holds
+pub some_holds-bare : (content : List ℕ) (host : Host) → some_holds bare content host ≡ false
+unfolding some_holds
+some_holds-bare content host = refl
 
--- the next line, and what is left after it
-pub record Next (c : List ℕ) (first count : ℕ) (content : List ℕ) (host : Host) (lines : Forest) (r0 v0 i r v : ℕ) : Type 0 where
-  pub own : PlainLine
-  pub children : Forest
-  pub reads : ReadsParent c (first + 32 * i) own children
-  pub depth : (n : ℕ) → are_allowed (suc n) lines ≡ true → are_allowed n children ≡ true
-  pub records : r0 + (1 + line_count children) ≤ r + line_count lines
-  pub bytes : v0 + (length own.value + forest_value_length children) ≤ v + forest_value_length lines
-  pub holds : some_holds (line own children bare) content host ≡ true → some_holds lines content host ≡ true
-  pub later : (r' v' : ℕ) → some_holds (line own children bare) content host ≡ false → r ≤ r' + (1 + line_count children)
-      → v ≤ v' + (length own.value + forest_value_length children) → Left c first count content host lines r0 v0 (i + 1) r' v'
+-- of lines that are allowed, the first is by itself
+allowed_first : (levels : ℕ) (own : PlainLine) (children rest : Forest) → are_allowed levels (line own children rest) ≡ true
+    → are_allowed levels (line own children bare) ≡ true
+allowed_first zero own children rest allowed = allowed
+allowed_first (suc levels) own children rest allowed =
+    rw (
+      first_of (is_allowed own) (are_allowed levels children) (are_allowed (suc levels) rest) allowed,
+      second (is_allowed own) (are_allowed levels children) (are_allowed (suc levels) rest) allowed,
+    ) refl
 
--- of some lines that are left, the first is the next one
-next_of : (c : List ℕ) (first count : ℕ) (content : List ℕ) (host : Host) (lines : Forest) (r0 v0 i r v : ℕ) (rest : Forest)
-    → i < count → width rest + i ≡ count → ReadsLines c (first + 32 * i) rest → some_holds lines content host ≡ some_holds rest content host
-    → ((n : ℕ) → are_allowed (suc n) lines ≡ true → are_allowed (suc n) rest ≡ true)
-    → r0 + line_count rest ≤ r + line_count lines → v0 + forest_value_length rest ≤ v + forest_value_length lines
-    → Next c first count content host lines r0 v0 i r v
-next_of c first count content host lines r0 v0 i r v bare l w reads alike depth records bytes = absurd (omega arith)
-next_of c first count content host lines r0 v0 i r v (line own children rest) l w reads alike depth records bytes = record {
-  own = own;
-  children = children;
-  reads = record { own_line = reads.0; count = reads.1; block = reads.2; below = reads.3 };
-  depth = λ n h. second (is_allowed own) (are_allowed n children) (are_allowed (suc n) rest) (depth n h);
-  records = omega arith;
-  bytes = omega arith;
-  holds = λ h. alike ∙ some_holds-split own children rest content host ∙ or_left _ _ h;
-  later = λ r' v' fails takes spends. record {
-    rest = rest;
-    size = omega arith;
-    reads = let e : first + 32 * (i + 1) ≡ first + 32 * i + 32 = omega arith in rw e reads.4;
-    alike = alike ∙ some_holds-split own children rest content host ∙ ap (λ (b : Bool). b || some_holds rest content host) fails;
-    depth = λ n h. third (is_allowed own) (are_allowed n children) (are_allowed (suc n) rest) (depth n h);
-    records = omega arith;
-    bytes = omega arith;
+-- and so are those after it
+allowed_rest : (levels : ℕ) (own : PlainLine) (children rest : Forest) → are_allowed levels (line own children rest) ≡ true
+    → are_allowed levels rest ≡ true
+allowed_rest zero own children rest allowed = absurd (true≢false (sym allowed))
+allowed_rest (suc levels) own children rest allowed =
+    third (is_allowed own) (are_allowed levels children) (are_allowed (suc levels) rest) allowed
+
+-- where a line doesn't hold, those after it answer for all
+pub lines_then : (query : MagicQuery) (levels : ℕ) (own : PlainLine) (children rest : Forest) (old mid new : Spending)
+    (result : Result Bool CacheFault) → AnswersLines query levels (line own children bare) old mid (Ok false)
+    → AnswersLines query levels rest mid new result → AnswersLines query levels (line own children rest) old new result
+lines_then query levels own children rest old mid new result first later =
+    let alike : some_holds (line own children rest) query.content.now query.host ≡ some_holds rest query.content.now query.host =
+    some_holds-split own children rest query.content.now query.host
+    ∙ ap (λ (b : Bool). b || some_holds rest query.content.now query.host) (sym first.answer) in
+    record {
+      answer = subst (λ (b : Bool). IfOk result (λ holds. holds ≡ b)) (sym alike) later.answer;
+      need = λ allowed records bytes.
+          later.need (allowed_rest levels own children rest allowed) (omega (arith, first.takes.most_records))
+          (omega (arith, first.takes.most_value_bytes));
+      takes = record {
+        most_records = omega (arith, first.takes.most_records, later.takes.most_records);
+        most_value_bytes = omega (arith, first.takes.most_value_bytes, later.takes.most_value_bytes);
+      };
+    }
+
+-- one that holds answers for all
+pub lines_holds_here : (query : MagicQuery) (levels : ℕ) (own : PlainLine) (children rest : Forest) (old new : Spending)
+    → AnswersLines query levels (line own children bare) old new (Ok true)
+    → AnswersLines query levels (line own children rest) old new (Ok true)
+lines_holds_here query levels own children rest old new first = record {
+  answer = sym (some_holds-split own children rest query.content.now query.host ∙ or_left _ _ (sym first.answer));
+  need = λ allowed records bytes. refl;
+  takes = record {
+    most_records = omega (arith, first.takes.most_records);
+    most_value_bytes = omega (arith, first.takes.most_value_bytes);
   };
 }
 
--- while some are left there is a next one
-pub next : (c : List ℕ) (first count : ℕ) (content : List ℕ) (host : Host) (lines : Forest) (r0 v0 i r v : ℕ) → i < count
-    → Left c first count content host lines r0 v0 i r v → Next c first count content host lines r0 v0 i r v
-next c first count content host lines r0 v0 i r v l left =
-    next_of c first count content host lines r0 v0 i r v left.rest l left.size left.reads left.alike left.depth left.records left.bytes
-
--- no line, none holds
-nothing : (rest : Forest) (content : List ℕ) (host : Host) → width rest ≡ 0 → some_holds rest content host ≡ false
-unfolding some_holds
-nothing bare content host w = refl
-nothing (line own children rest) content host w = absurd (omega arith)
-
--- where none is left, none holds
-pub none_left : (c : List ℕ) (first count : ℕ) (content : List ℕ) (host : Host) (lines : Forest) (r0 v0 i r v : ℕ) → count ≤ i
-    → Left c first count content host lines r0 v0 i r v → some_holds lines content host ≡ false
-none_left c first count content host lines r0 v0 i r v l left =
-    let w = left.size in
-    left.alike ∙ nothing left.rest content host (omega arith)
-
--- at first all is left
-pub all_left : (c : List ℕ) (first count : ℕ) (content : List ℕ) (host : Host) (lines : Forest) (r v : ℕ) → width lines ≡ count
-    → ReadsLines c first lines → Left c first count content host lines r v 0 r v
-all_left c first count content host lines r v w reads = record {
-  rest = lines;
-  size = omega arith;
-  reads = let e : first + 32 * 0 ≡ first = omega arith in rw e reads;
-  alike = refl;
-  depth = λ n h. h;
-  records = omega arith;
-  bytes = omega arith;
+-- and so does one that stops
+pub lines_stops_here : (query : MagicQuery) (levels : ℕ) (own : PlainLine) (children rest : Forest) (old new : Spending) (e : CacheFault)
+    → AnswersLines query levels (line own children bare) old new (Err e)
+    → AnswersLines query levels (line own children rest) old new (Err e)
+lines_stops_here query levels own children rest old new e first = record {
+  answer = tt;
+  need = λ allowed records bytes.
+      first.need (allowed_first levels own children rest allowed) (omega arith) (omega arith);
+  takes = record {
+    most_records = omega (arith, first.takes.most_records);
+    most_value_bytes = omega (arith, first.takes.most_value_bytes);
+  };
 }
-
--- a line that does not equal its value does not hold
-pub differs : (own : PlainLine) (children : Forest) (content : List ℕ) (host : Host)
-    → equals_from own host content own.start own.range ≡ false
-    → some_holds (line own children bare) content host ≡ false
-unfolding some_holds
-differs own children content host e = rw e refl
-
--- one without children holds where it equals its value
-pub alone : (own : PlainLine) (children : Forest) (content : List ℕ) (host : Host) → equals_from own host content own.start own.range ≡ true
-    → width children ≡ 0 → some_holds (line own children bare) content host ≡ true
-unfolding some_holds
-alone own bare content host e w = rw e refl
-alone own (line first below rest) content host e w = absurd (omega arith)
-
--- any other where besides some child holds
-pub parent : (own : PlainLine) (children : Forest) (content : List ℕ) (host : Host)
-    → equals_from own host content own.start own.range ≡ true
-    → 0 < width children → some_holds (line own children bare) content host ≡ some_holds children content host
-unfolding some_holds
-parent own bare content host e w = absurd (omega arith)
-parent own (line first below rest) content host e w = rw e (or-false (some_holds (line first below rest) content host))
-
--- where no level is left there is no line
-pub no_level : (lines : Forest) → are_allowed 0 lines ≡ true → width lines ≡ 0
-no_level bare h = refl
-no_level (line own children rest) h = absurd (true≢false (sym h))

@@ -1,18 +1,23 @@
--- The magic list as it is read, what a search of it takes, and why it gives no answer.
-use Rattle.std.specs.Prelude.{◌≡◌, ◌⊎◌, ℕ, ◌+◌, ◌*◌, ◌<◌, ◌≤◌, true, false, if◌then◌else◌, List, [], ◌∷◌}
-use Rattle.std.specs.Prelude.{length, Ok, Option, None, Some}
+-- The magic list as it is read, what sniffing answers of it, what it takes, and why it gives no answer.
+use Rattle.std.specs.Prelude.{◌≡◌, ◌⊎◌, ℕ, ◌+◌, ◌*◌, ◌<◌, ◌≤◌, Bool, true, false, if◌then◌else◌, List, [], ◌∷◌}
+use Rattle.std.specs.Prelude.{length, Result, Ok, IfErr, IfOk, IsOk, Option, None, Some, IfSome}
 use Rattle.std.specs.Borrow.{Bor}
 use Rattle.mime_base.specs.Cache.Bytes.{both_lie, field, lies, optional_mask, value_at}
 use Rattle.mime_base.specs.Cache.Texts.{text_at}
-use Rattle.mime_base.specs.Format.Magic.{width}
-use Rattle.mime_base.specs.Magic.{Forest, PlainLine, PlainSection, bare, line}
-use Rattle.mime_base.specs.Magic.Holds.{bytes_of_mask}
+use Rattle.mime_base.specs.Format.Magic.{line_count, width}
+use Rattle.mime_base.specs.Format.Packed.{forest_value_length, matchlet_count, value_length}
+use Rattle.mime_base.specs.Magic.{Forest, PlainLine, PlainSection, are_allowed, are_allowed_sections, bare, line}
+use Rattle.mime_base.specs.Magic.Holds.{bytes_of_mask, equals_from, first_magic, some_holds}
 use Rattle.mime_base.specs.Meter.{raised}
 use Rattle.mime_base.specs.declared.meter.Meter.{Meter}
 use Rattle.mime_view.specs.Lists.{IsTextFault}
+use Rattle.mime_view.specs.Spending.{Price, Spends}
 use Rattle.mime_view.specs.declared.budget.Budget.{Budget}
 use Rattle.mime_view.specs.declared.fault.CacheFault.{CacheFault}
 use Rattle.mime_view.specs.declared.fault.CacheFault.TheVariants.{OutOfRange, Spent, TooDeep}
+use Rattle.mime_view.specs.declared.magic.MagicQuery.{MagicQuery}
+use Rattle.mime_view.specs.declared.magic.Seen.{Seen}
+use Rattle.mime_view.specs.declared.spending.Spending.{Spending}
 
 -- so many records of a size lie in the cache; no records lie anywhere
 pub record LiesBlock (c : List ℕ) (first size count : ℕ) : Type 0 where
@@ -35,13 +40,6 @@ ReadsLines c at (line own children rest) =
     ReadsLine c at own × (field c at 6 ≡ width children) × LiesBlock c (field c at 7) 32 (width children)
     × ReadsLines c (field c at 7) children × ReadsLines c (at + 32) rest
 
--- a line and its children
-pub record ReadsParent (c : List ℕ) (at : ℕ) (own : PlainLine) (children : Forest) : Type 0 where
-  pub own_line : ReadsLine c at own
-  pub count : field c at 6 ≡ width children
-  pub block : LiesBlock c (field c at 7) 32 (width children)
-  pub below : ReadsLines c (field c at 7) children
-
 -- a section with its lines
 pub record ReadsSection (c : List ℕ) (at : ℕ) (section : PlainSection) : Type 0 where
   pub priority : field c at 0 ≡ section.priority
@@ -62,6 +60,61 @@ pub record ReadsMagic (c : List ℕ) (at : ℕ) (sections : List PlainSection) :
   pub block : LiesBlock c (field c at 2) 16 (length sections)
   pub sections_read : ReadsSections c (field c at 2) sections
 
+-- at most so many records and value bytes are taken
+pub record Takes (records value_bytes : ℕ) (old new : Budget) : Type 0 where
+  pub most_records : old.records ≤ new.records + records
+  pub most_value_bytes : old.value_bytes ≤ new.value_bytes + value_bytes
+
+-- What is answered of lines or sections that stand, and have so many records and so many value bytes.
+pub record Answers {X : Type 0} (Is : X → Type 0) (allowed : Type 0) (records value_bytes : ℕ) (old new : Spending)
+    (result : Result X CacheFault) : Type 0 where
+  -- An answer is the right one.
+  pub answer : IfOk result Is
+  -- There is one, where the lines are allowed and as much is left.
+  pub need : allowed → records ≤ old.budget.records → value_bytes ≤ old.budget.value_bytes → IsOk result
+  -- No more is taken, with an answer or without.
+  pub takes : Takes records value_bytes old.budget new.budget
+
+-- of a line by itself: whether it equals its value at an offset of its range
+abbrev pub AnswersLine : MagicQuery → PlainLine → Spending → Spending → Result Seen CacheFault → Type 0
+AnswersLine query own old new result =
+    Answers (λ seen. seen.equals ≡ equals_from own query.host query.content.now own.start own.range) (Unit {0})
+    1 (length own.value) old new result
+
+-- of lines with their children, of which so many levels are allowed: whether one holds
+abbrev pub AnswersLines : MagicQuery → ℕ → Forest → Spending → Spending → Result Bool CacheFault → Type 0
+AnswersLines query levels lines old new result =
+    Answers (λ holds. holds ≡ some_holds lines query.content.now query.host) (are_allowed levels lines ≡ true)
+    (line_count lines) (forest_value_length lines) old new result
+
+-- a type and a priority that were found, as plain values
+abbrev pub plain_found : Option (Bor (List ℕ) × ℕ) → Option (List ℕ × ℕ)
+plain_found None = None
+plain_found (Some found) = Some (found.0.now, found.1)
+
+-- of sections: the type and the priority of the first that holds
+abbrev pub AnswersSections : MagicQuery → List PlainSection → Spending → Spending
+    → Result (Option (Bor (List ℕ) × ℕ)) CacheFault → Type 0
+AnswersSections query sections old new result =
+    Answers (λ found. plain_found found ≡ first_magic sections query.content.now query.host) (are_allowed_sections sections ≡ true)
+    (length sections + matchlet_count sections) (value_length sections) old new result
+
+-- What a step does on any bytes.
+pub record Ends {X : Type 0} (Fault : Budget → CacheFault → Type 0) (price : Price) (nodes : ℕ) (old new : Spending)
+    (result : Result X CacheFault) : Type 0 where
+  -- Why it gives no answer, with what is left then.
+  pub fault : IfErr result (Fault new.budget)
+  -- What it costs, with an answer or without.
+  pub cost : Spends price nodes 0 old new
+
+-- a line costs a node, and each of its value bytes one byte more than the content has
+abbrev pub line_price : MagicQuery → Price
+line_price query = record { nodes = 1; bytes = 0; value_byte = length query.content.now + 1 }
+
+-- a section costs the text of its type besides
+abbrev pub section_price : MagicQuery → Price
+section_price query = record { nodes = 1; bytes = 256; value_byte = length query.content.now + 1 }
+
 -- What a search of magic costs, for a content of so many bytes: each record adds one node and at most so many bytes of
 -- texts, each value byte at most one byte more than the content has, and so many nodes come besides.
 pub record Paid (content texts more : ℕ) (old new : Budget) (before after : Meter) : Type 0 where
@@ -74,15 +127,16 @@ pub record Paid (content texts more : ℕ) (old new : Budget) (before after : Me
   pub bytes : after.bytes + (content + 1) * new.value_bytes + texts * new.records
       ≤ before.bytes + (content + 1) * old.value_bytes + texts * old.records
 
--- at most so many records and value bytes are taken
-pub record Takes (records value_bytes : ℕ) (old new : Budget) : Type 0 where
-  pub most_records : old.records ≤ new.records + records
-  pub most_value_bytes : old.value_bytes ≤ new.value_bytes + value_bytes
+-- what was seen of a line names its children
+pub record NamesChildren (c : List ℕ) (at : ℕ) (seen : Seen) : Type 0 where
+  -- How many there are.
+  pub count : seen.count ≡ field c at 6
+  -- Where the first stands.
+  pub first : seen.first ≡ field c at 7
 
--- a type and a priority that were found, as plain values
-abbrev pub plain_found : Option (Bor (List ℕ) × ℕ) → Option (List ℕ × ℕ)
-plain_found None = None
-plain_found (Some found) = Some (found.0.now, found.1)
+-- a type that was found is a text of the cache
+abbrev pub NamesText : List ℕ → Option (Bor (List ℕ) × ℕ) → Type 0
+NamesText c found = IfSome found (λ pair. (at : ℕ) × (text_at c at ≡ Ok pair.0.now))
 
 -- the records that a record names do not lie in the cache
 pub record IsBlockFault (c : List ℕ) (first size count : ℕ) (e : CacheFault) : Type 0 where

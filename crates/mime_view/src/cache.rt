@@ -36,7 +36,7 @@ ghost use Rattle.mime_view.specs.Listing.Faults.{IsListingFault};
 use crate::budget::Budget;
 use crate::fault::CacheFault;
 use crate::hits::Case;
-use crate::magic::sniff;
+use crate::magic::{MagicQuery, sniff};
 use crate::marks::Marks;
 use crate::name::{RuleLists, glob_hits};
 use crate::pairs::look_up_pair;
@@ -422,8 +422,19 @@ impl<'a> Cache<'a> {
         // A record costs one node and one text, a value byte one comparison for each place of the content; one node comes besides.
         ensures cost { Paid (length content.now) 256 1 budget.old budget.new meter.old meter.new }
     {
-        let at = u64::from(self.header[6]);
-        sniff(&self.counted, at, content, host, meter, budget)
+        let query = MagicQuery {
+            counted: &self.counted,
+            content,
+            host,
+        };
+        let mut spending = Spending {
+            meter: *meter,
+            budget: *budget,
+        };
+        let found = sniff(&query, self.header[6], &mut spending);
+        *meter = spending.meter;
+        *budget = spending.budget;
+        found
     }
 
     /// How much of a content the lines of magic can look at, as the cache states it, in bytes ("The

@@ -1,84 +1,64 @@
-use Rattle.std.proofs.Common.{◌≡◌, ◌-◌, ℕ, Bool, suc, true, arith, rules, sym, subst, ◌∙◌}
-use Rattle.std.specs.Prelude.{IfOk}
-use Rattle.mime_base.specs.Magic.{are_allowed}
-use Rattle.mime_view.specs.Magic.{ReadsLines}
-use Rattle.mime_view.proofs.LineRows.{alone, differs, next, no_level, none_left, parent}
+use Rattle.std.proofs.Common.{◌≡◌, ◌+◌, ◌-◌, ℕ, suc, true, arith, sym, subst}
+use Rattle.mime_base.specs.Magic.{are_allowed, bare, line}
+use Rattle.mime_view.specs.Magic.{AnswersLines, ReadsLines, line_price}
+use Rattle.mime_view.proofs.Costs.{spends_then}
+use Rattle.mime_view.proofs.LineParts.{last_level, line_alone, line_differs, line_parent, line_refused}
+use Rattle.mime_view.proofs.LinesLeft.{ended, next}
 use Rattle.mime_view.proofs.magic.+sniffing.Goals as goal
 
-pub line_holds-returns-then-not-equals-clause-answer : goal.line_holds-returns-then-not-equals-clause-answer
-line_holds-returns-then-not-equals-clause-answer t c = λ own children reads.
-    sym (differs own children c.args.content.now c.args.host
-    (sym (c.in_ok-equals.ensures.answer own reads.own_line) ∙ c.if-not-equals.true))
+pub line_holds-returns-then-not-equals-clause-line : goal.line_holds-returns-then-not-equals-clause-line
+line_holds-returns-then-not-equals-clause-line t c = λ own children reads.
+    line_differs c.args.query.now (64 - c.args.level) own children c.args.spending.now c.see_line.new.spending _
+    (c.in_ok-equals.ensures.line own reads.0) c.if-not-equals.true
 
-pub line_holds-returns-then-count-eq0-clause-answer : goal.line_holds-returns-then-count-eq0-clause-answer
-line_holds-returns-then-count-eq0-clause-answer t c = λ own children reads.
-    sym (alone own children c.args.content.now c.args.host
-    (sym (c.in_ok-equals.ensures.answer own reads.own_line) ∙ c.if-not-equals.false)
-    (omega (arith, reads.count, c.in_ok-equals.ensures.count.0)))
+pub line_holds-returns-then-count-eq0-clause-line : goal.line_holds-returns-then-count-eq0-clause-line
+line_holds-returns-then-count-eq0-clause-line t c = λ own children reads.
+    line_alone c.args.query.now (64 - c.args.level) own children c.args.spending.now c.see_line.new.spending _
+    (c.in_ok-equals.ensures.line own reads.0) c.if-not-equals.false
+    (omega (arith, reads.1, c.in_ok-equals.ensures.children.count))
 
-pub line_holds-returns-then-level-eq-LAST_LEVEL-clause-need : goal.line_holds-returns-then-level-eq-LAST_LEVEL-clause-need
-line_holds-returns-then-level-eq-LAST_LEVEL-clause-need t c = λ own children levels reads depth allowed records bytes.
-    let zero : levels ≡ 0 = omega arith in
-    let none = no_level children (subst (λ (n : ℕ). are_allowed n children ≡ true) zero allowed) in
-    absurd (omega (arith, none, reads.count, c.in_ok-equals.ensures.count.0))
+pub line_holds-returns-then-level-eq-LAST_LEVEL-clause-line : goal.line_holds-returns-then-level-eq-LAST_LEVEL-clause-line
+line_holds-returns-then-level-eq-LAST_LEVEL-clause-line t c = λ own children reads.
+    let last : 64 - c.args.level ≡ 1 = omega arith in
+    line_refused c.args.query.now (64 - c.args.level) own children c.args.spending.now c.see_line.new.spending _ _
+    (c.in_ok-equals.ensures.line own reads.0)
+    (λ allowed.
+    let none = last_level own children (subst (λ (n : ℕ). are_allowed n (line own children bare) ≡ true) last allowed) in
+    omega (arith, none, reads.1, c.in_ok-equals.ensures.children.count))
 
-pub line_holds-returns-clause-answer : goal.line_holds-returns-clause-answer
-line_holds-returns-clause-answer t c = λ own children reads.
-    let some = parent own children c.args.content.now c.args.host
-    (sym (c.in_ok-equals.ensures.answer own reads.own_line) ∙ c.if-not-equals.false)
-    (omega (arith, reads.count, c.in_ok-equals.ensures.count.0)) in
-    let below = subst (λ (n : ℕ). ReadsLines c.args.counted.now n children) (sym c.in_ok-equals.ensures.first.0) reads.below in
-    subst (λ (b : Bool). IfOk c.some_child_holds.result (λ holds. holds ≡ b)) (sym some)
-    (c.some_child_holds.ensures.answer children (omega (arith, reads.count, c.in_ok-equals.ensures.count.0)) below)
+pub line_holds-returns-clause-line : goal.line_holds-returns-clause-line
+line_holds-returns-clause-line t c = λ own children reads.
+    let deeper : 64 - c.args.level ≡ suc (64 - (c.args.level + 1)) = omega arith in
+    let below = subst (λ (n : ℕ). ReadsLines c.args.query.now.counted.now n children) (sym c.in_ok-equals.ensures.children.first) reads.3 in
+    subst
+    (λ (n : ℕ). AnswersLines c.args.query.now n (line own children bare) c.args.spending.now
+    c.some_child_holds.new.spending c.some_child_holds.result)
+    (sym deeper)
+    (line_parent c.args.query.now (64 - (c.args.level + 1)) own children c.args.spending.now c.see_line.new.spending
+    c.some_child_holds.new.spending _ c.some_child_holds.result (c.in_ok-equals.ensures.line own reads.0) c.if-not-equals.false
+    (omega (arith, reads.1, c.in_ok-equals.ensures.children.count))
+    (c.some_child_holds.ensures.lines children (omega (arith, reads.1, c.in_ok-equals.ensures.children.count)) below))
 
-pub some_line_holds-returns-in_err-line_holds-clause-need : goal.some_line_holds-returns-in_err-line_holds-clause-need
-some_line_holds-returns-in_err-line_holds-clause-need t c = λ lines levels width reads depth allowed records bytes.
-    let n = next c.args.counted.now c.args.first c.args.count c.args.content.now c.args.host lines _ _ c.loop-i.i _ _
-    c.loop-i-test.true (c.loop-i.invariant.left lines width reads) in
-    let m : ℕ = levels - 1 in
-    let deeper : levels ≡ suc m = omega arith in
-    let below = n.depth m (subst (λ (k : ℕ). are_allowed k lines ≡ true) deeper allowed) in
-    absurd (cc (c.in_err-line_holds.ensures.need n.own n.children m n.reads (omega arith) below
-    (omega (arith, n.records)) (omega (arith, n.bytes))))
+pub some_line_holds-returns-in_err-line_holds-clause-lines : goal.some_line_holds-returns-in_err-line_holds-clause-lines
+some_line_holds-returns-in_err-line_holds-clause-lines t c = λ lines size reads.
+    let n = next (c.loop-i.invariant.left lines size reads) (omega (arith, c.loop-i-test.true)) in
+    n.stops c.line_holds.new.spending _ c.from_residual.result c.from_residual.ensures.1
+    (c.in_err-line_holds.ensures.line n.own n.children n.reads)
 
-pub some_line_holds-returns-in_err-line_holds-clause-takes : goal.some_line_holds-returns-in_err-line_holds-clause-takes
-some_line_holds-returns-in_err-line_holds-clause-takes t c = λ lines width reads.
-    let n = next c.args.counted.now c.args.first c.args.count c.args.content.now c.args.host lines _ _ c.loop-i.i _ _
-    c.loop-i-test.true (c.loop-i.invariant.left lines width reads) in
-    let takes = c.in_err-line_holds.ensures.takes n.own n.children n.reads in
-    record {
-      most_records = omega (arith, n.records, takes.most_records);
-      most_value_bytes = omega (arith, n.bytes, takes.most_value_bytes);
-    }
-
-pub some_line_holds-returns-then-branch-clause-answer : goal.some_line_holds-returns-then-branch-clause-answer
-some_line_holds-returns-then-branch-clause-answer t c = λ lines width reads.
-    let n = next c.args.counted.now c.args.first c.args.count c.args.content.now c.args.host lines _ _ c.loop-i.i _ _
-    c.loop-i-test.true (c.loop-i.invariant.left lines width reads) in
-    sym (n.holds (sym (c.in_ok-line_holds.ensures.answer n.own n.children n.reads) ∙ c.if-branch.true))
-
-pub some_line_holds-returns-then-branch-clause-takes : goal.some_line_holds-returns-then-branch-clause-takes
-some_line_holds-returns-then-branch-clause-takes t c = λ lines width reads.
-    let n = next c.args.counted.now c.args.first c.args.count c.args.content.now c.args.host lines _ _ c.loop-i.i _ _
-    c.loop-i-test.true (c.loop-i.invariant.left lines width reads) in
-    let takes = c.in_ok-line_holds.ensures.takes n.own n.children n.reads in
-    record {
-      most_records = omega (arith, n.records, takes.most_records);
-      most_value_bytes = omega (arith, n.bytes, takes.most_value_bytes);
-    }
+pub some_line_holds-returns-then-branch-clause-lines : goal.some_line_holds-returns-then-branch-clause-lines
+some_line_holds-returns-then-branch-clause-lines t c = λ lines size reads.
+    let n = next (c.loop-i.invariant.left lines size reads) (omega (arith, c.loop-i-test.true)) in
+    n.holds c.line_holds.new.spending (rw c.if-branch.true at (c.in_ok-line_holds.ensures.line n.own n.children n.reads))
 
 pub some_line_holds-loop-i-preserved : goal.some_line_holds-loop-i-preserved
 some_line_holds-loop-i-preserved t c = record {
-  left = λ lines width reads.
-      let n = next c.args.counted.now c.args.first c.args.count c.args.content.now c.args.host lines _ _ c.loop-i.i _ _
-      c.loop-i-test.true (c.loop-i.invariant.left lines width reads) in
-      let takes = c.in_ok-line_holds.ensures.takes n.own n.children n.reads in
-      n.later _ _ (sym (c.in_ok-line_holds.ensures.answer n.own n.children n.reads) ∙ c.if-branch.false)
-      takes.most_records takes.most_value_bytes;
-  cost = search rules;
+  left = λ lines size reads.
+      let n = next (c.loop-i.invariant.left lines size reads) (omega (arith, c.loop-i-test.true)) in
+      n.later c.line_holds.new.spending (rw c.if-branch.false at (c.in_ok-line_holds.ensures.line n.own n.children n.reads));
+  cost = spends_then (line_price c.args.query.now) 0 0 0 0 c.args.spending.now c.loop-i.spending c.line_holds.new.spending
+      c.loop-i.invariant.cost c.in_ok-line_holds.ensures.ends.cost;
 }
 
-pub some_line_holds-returns-clause-answer : goal.some_line_holds-returns-clause-answer
-some_line_holds-returns-clause-answer t c = λ lines width reads.
-    sym (none_left c.args.counted.now c.args.first c.args.count c.args.content.now c.args.host lines _ _ c.loop-i.i _ _
-    c.loop-i-test.false (c.loop-i.invariant.left lines width reads))
+pub some_line_holds-returns-clause-lines : goal.some_line_holds-returns-clause-lines
+some_line_holds-returns-clause-lines t c = λ lines size reads.
+    ended (c.loop-i.invariant.left lines size reads) (omega (arith, c.loop-i-test.false))

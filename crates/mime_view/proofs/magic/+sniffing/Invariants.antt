@@ -1,8 +1,9 @@
-use Rattle.std.proofs.Common.{◌≡◌, ◌+◌, ◌-◌, ◌*◌, length}
+use Rattle.std.proofs.Common.{◌≡◌, ◌+◌, ◌-◌, ◌*◌}
 use Rattle.mime_base.specs.Format.Magic.{width}
 use Rattle.mime_base.specs.Magic.{Forest}
-use Rattle.mime_view.specs.Magic.{Paid, ReadsLines}
-use Rattle.mime_view.proofs.LineRows.{Left}
+use Rattle.mime_view.specs.Magic.{ReadsLines, line_price}
+use Rattle.mime_view.specs.Spending.{Spends}
+use Rattle.mime_view.proofs.LinesLeft.{Left}
 use Rattle.mime_view.proofs.magic.+sniffing.Given as goal
 
 abbrev pub decreases-line_holds : goal.decreases-line_holds
@@ -16,8 +17,7 @@ decreases-some_child_holds l = 3 * (64 - l.level) + 2
 
 abbrev pub invariant-some_line_holds-loop-i : goal.invariant-some_line_holds-loop-i
 invariant-some_line_holds-loop-i l = record {
-  left : (lines : Forest) → width lines ≡ l.count → ReadsLines l.counted l.first lines
-      → Left l.counted l.first l.count l.content l.fn.host lines
-      l.initial.budget.records l.initial.budget.value_bytes l.i l.budget.records l.budget.value_bytes;
-  cost : Paid (length l.content) 0 0 l.initial.budget l.budget l.initial.meter l.meter;
+  left : (lines : Forest) → width lines ≡ l.count → ReadsLines l.query.counted.now l.first lines
+      → Left l.query (64 - l.level) l.start l.count lines l.initial.spending l.i l.spending;
+  cost : Spends (line_price l.query) 0 0 l.initial.spending l.spending;
 }

@@ -1,13 +1,13 @@
-use Rattle.std.proofs.Common.{◌≡◌, List, length}
+use Rattle.std.proofs.Common.{List}
 use Rattle.mime_base.specs.Magic.{PlainSection}
-use Rattle.mime_view.specs.Magic.{Paid, ReadsSections}
-use Rattle.mime_view.proofs.SectionRows.{Left}
+use Rattle.mime_view.specs.Magic.{ReadsMagic, section_price}
+use Rattle.mime_view.specs.Spending.{Spends}
+use Rattle.mime_view.proofs.SectionsLeft.{Left}
 use Rattle.mime_view.proofs.magic.sniff.Given as goal
 
 abbrev pub invariant-loop-i : goal.invariant-loop-i
 invariant-loop-i l = record {
-  left : (sections : List PlainSection) → length sections ≡ l.count → ReadsSections l.counted l.first sections
-      → Left l.counted l.first l.count l.content l.fn.host sections
-      l.fn.budget.records l.fn.budget.value_bytes l.i l.budget.records l.budget.value_bytes;
-  cost : Paid (length l.content) 256 1 l.fn.budget l.budget l.fn.meter l.meter;
+  left : (sections : List PlainSection) → ReadsMagic l.query.counted.now l.at sections
+      → Left l.query l.first l.count sections l.fn.spending l.i l.spending;
+  cost : Spends (section_price l.query) 1 0 l.fn.spending l.spending;
 }
