@@ -11,21 +11,23 @@ import sys
 import tempfile
 
 TOP = os.path.dirname(os.path.dirname(os.path.abspath(__file__)))
-# Stands for the toolchain's clang: compiles as asked, and a second time to assembly text, which goes to the file `kept`.
+# Stands for the toolchain's clang: compiles to assembly text, which goes to the file `kept`, and then to an object: a library's as it
+# is asked to, since that is tested, and a program's of the text, which is quicker.
 CLANG = """#!/bin/bash
 set -e
 real=%s
 kept=%s
-"$real" "$@"
 for word; do
     case $word in
         -c) word=-S ;;
-        *.o) word=$kept ;;
+        *.o) object=$word word=$kept ;;
     esac
     words+=("$word")
 done
 "$real" "${words[@]}" -fno-addrsig -fno-verbose-asm
+%s
 """
+AS_ASKED, OF_TEXT = 'exec "$real" "$@"', 'exec "$real" "$1" -c -o "$object" "$kept"'
 
 
 def crate_named(name):
@@ -46,7 +48,7 @@ def is_left_by_gate(crate):
     return max(map(os.path.getmtime, files)) < os.path.getmtime(crate.rlib)
 
 
-def watched(kit, folder, kept):
+def watched(kit, folder, kept, makes_object):
     """A folder that stands for the toolchain's own, with the script CLANG in place of its clang."""
     os.mkdir(f"{folder}/bin")
     os.symlink(f"{kit}/toolchain/lib", f"{folder}/lib")
@@ -54,7 +56,7 @@ def watched(kit, folder, kept):
         if name != "clang":
             os.symlink(f"{kit}/toolchain/bin/{name}", f"{folder}/bin/{name}")
     with open(f"{folder}/bin/clang", "w", encoding="ascii") as file:
-        file.write(CLANG % (shlex.quote(f"{kit}/toolchain/bin/clang"), shlex.quote(kept)))
+        file.write(CLANG % (shlex.quote(f"{kit}/toolchain/bin/clang"), shlex.quote(kept), makes_object))
     os.chmod(f"{folder}/bin/clang", 0o755)
     return folder
 
@@ -70,11 +72,11 @@ def prove_below(crate):
 
 
 def build(name):
-    """Builds out/NAME.o of a program or out/libNAME.a of a library, and returns the file of its assembly text."""
+    """Builds a program, or out/libNAME.a of a library, and returns the file of its assembly text."""
     crate, rtlib = crate_named(name)
     kept, stamp = f"{crate.folder}/out/{name}.s", f"{crate.folder}/out/{name}.s.stamp"
-    made = f"out/lib{name}.a" if crate.is_static else f"out/{name}.o"
-    if rtlib.text_of(stamp) == crate.stamp() and os.path.exists(f"{crate.folder}/{made}"):
+    archive = f"out/lib{name}.a"
+    if rtlib.text_of(stamp) == crate.stamp() and (not crate.is_static or os.path.exists(f"{crate.folder}/{archive}")):
         return kept
     is_left = all(map(is_left_by_gate, crate.below()))
     if not is_left:
@@ -82,7 +84,8 @@ def build(name):
     os.makedirs(f"{crate.folder}/out", exist_ok=True)
     with tempfile.TemporaryDirectory() as folder:
         words = crate.words(["--jobs", "2"], keeps=not is_left) + ([] if is_left else rtlib.KEPT)
-        words += ["--toolchain", watched(rtlib.KIT, folder, kept), "--backend", "llvm", "-o", made]
+        stands_in = watched(rtlib.KIT, folder, kept, AS_ASKED if crate.is_static else OF_TEXT)
+        words += ["--toolchain", stands_in, "--backend", "llvm", "-o", archive if crate.is_static else f"{folder}/{name}.o"]
         how = {"stdout": subprocess.PIPE, "stderr": subprocess.STDOUT, "text": True}
         done = subprocess.run([rtlib.RATTLE, "build", *words], cwd=crate.folder, **how)
     if done.returncode != 0:
