@@ -9,7 +9,7 @@ use Rattle.mime_base.specs.Format.Sorted.{IsSortedByText, with_key}
 use Rattle.mime_base.specs.Format.Stored.{reversed_ending, tree_rules}
 use Rattle.mime_base.specs.Format.Tree.{InOrder, Tree, leaves_at}
 use Rattle.mime_base.specs.declared.database.rule.GlobRule.{GlobRule}
-use Rattle.mime_view.specs.Listing.Reads.{rules_of}
+use Rattle.mime_view.specs.Listing.Reads.{rules_in}
 use Rattle.mime_view.proofs.SameKeys.{bytes_eq-same, first_of, others, permuted}
 use Rattle.mime_view.proofs.TreeLeaves.{Leaf, leaves, leaves-at, path_of, rule_of, rules-leaves}
 use Rattle.mime_view.proofs.TreeOrder.{Keyed, ends_before, leaves_sorted}
@@ -59,15 +59,15 @@ keys_of text (x ∷ xs) keyed =
 -- the rules of the tree are listed by their endings
 pub listed_by_ending : (rules : List GlobRule) (tree : Tree) → InOrder 0 tree
     → ((path : List ℕ) → leaves_at path tree ≡ with_key reversed_ending path (tree_rules rules)) → All KeepsLimits rules
-    → IsSortedByText reversed_ending (tree_rules rules) (rules_of tree)
+    → IsSortedByText reversed_ending (tree_rules rules) (rules_in tree)
 listed_by_ending rules tree order same fit =
     let keyed : All Keyed (leaves tree) =
     All-weaker (λ x. IsEnded (path_of x) (rule_of x)) Keyed (λ x end. end.key) (leaves tree) (ended_leaves rules tree same fit) in
-    let ties : (text : List ℕ) → with_key reversed_ending text (rules_of tree) ≡ with_key reversed_ending text (tree_rules rules) =
+    let ties : (text : List ℕ) → with_key reversed_ending text (rules_in tree) ≡ with_key reversed_ending text (tree_rules rules) =
     λ text. ap (with_key reversed_ending text) (sym (rules-leaves tree)) ∙ keys_of text (leaves tree) keyed
     ∙ leaves-at text tree ∙ same text in
     record {
-      permuted = permuted reversed_ending (tree_rules rules) (rules_of tree) (λ text. sym (ties text));
+      permuted = permuted reversed_ending (tree_rules rules) (rules_in tree) (λ text. sym (ties text));
       in_order = subst (IsSortedBy ends_before) (rules-leaves tree) (leaves_sorted tree order keyed);
       ties = ties;
     }

@@ -6,7 +6,7 @@ use Rattle.std.proofs.lemmas.List.{length-map}
 use Rattle.mime_base.specs.Cache.Bytes.{field}
 use Rattle.mime_base.specs.Cache.Texts.{text_at}
 use Rattle.mime_view.specs.Lists.{KeysAt, ReadsKeys, place_of}
-use Rattle.mime_view.specs.Pairs.{PairsAt, ReadsPairs, looked_up}
+use Rattle.mime_view.specs.Pairs.{ReadsPairEntries, ReadsPairs, looked_up}
 
 -- a text and what it gives
 abbrev pub Pair : Type 0
@@ -21,7 +21,7 @@ abbrev pub names : List Pair → List (List ℕ)
 names pairs = map (λ pair. pair.0) pairs
 
 -- the first names of pairs that stand are keys that stand
-keys_at : (c : List ℕ) (at : ℕ) (pairs : List Pair) → PairsAt c at pairs → KeysAt c at 8 (names pairs)
+keys_at : (c : List ℕ) (at : ℕ) (pairs : List Pair) → ReadsPairEntries c at pairs → KeysAt c at 8 (names pairs)
 keys_at c at [] stand = stand
 keys_at c at (pair ∷ pairs) stand = (stand.0, keys_at c (at + 8) pairs stand.2)
 
@@ -38,7 +38,7 @@ reads_keys c at pairs reads =
     }
 
 -- the second name of the pair i stands at the second number of the record i
-pub target_at : (c : List ℕ) (at : ℕ) (pairs : List Pair) (i : ℕ) → PairsAt c at pairs → i < length pairs
+pub target_at : (c : List ℕ) (at : ℕ) (pairs : List Pair) (i : ℕ) → ReadsPairEntries c at pairs → i < length pairs
     → text_at c (field c (at + 8 * i) 1) ≡ Ok (get_or pairs i none).1
 target_at c at [] i stand l = absurd (omega arith)
 target_at c at (p ∷ ps) zero stand l = let e : at + 8 * 0 ≡ at = omega arith in rw e stand.1

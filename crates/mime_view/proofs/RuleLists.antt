@@ -18,7 +18,7 @@ use Rattle.mime_base.specs.Format.Tree.{Tree, node_count}
 use Rattle.mime_base.specs.declared.database.rule.GlobRule.{GlobRule}
 use Rattle.mime_view.specs.Listing.{IsListing, PlainListed, listed_rule}
 use Rattle.mime_view.specs.Listing.Faults.{IsListingFault, IsListsFault}
-use Rattle.mime_view.specs.Listing.Reads.{ReadsEntries, ReadsEntry, ReadsListedRules, ReadsSuffixTree, rules_of}
+use Rattle.mime_view.specs.Listing.Reads.{ReadsEntries, ReadsEntry, ReadsListedRules, ReadsSuffixTree, rules_in}
 use Rattle.mime_view.specs.declared.fault.CacheFault.{CacheFault}
 use Rattle.mime_view.proofs.Headers.{header_read}
 use Rattle.mime_view.proofs.Records.{count_read, list_inside, numbers_read, record_inside, text_read}
@@ -82,7 +82,7 @@ pub record AllRead (c : List ℕ) (literals tree globs : ℕ) (rules : List Glob
   pub first : List GlobRule
   pub roots : Tree
   pub by_text : IsSortedByText stored_text (literal_rules rules) first
-  pub by_ending : IsSortedByText reversed_ending (tree_rules rules) (rules_of roots)
+  pub by_ending : IsSortedByText reversed_ending (tree_rules rules) (rules_in roots)
   pub literals_read : ReadsListedRules c literals first
   pub tree_reads : ReadsSuffixTree c tree roots
   pub globs_read : ReadsListedRules c globs (glob_rules rules)
@@ -131,16 +131,16 @@ all_read c d literals tree globs offsets rules same is3 is4 is5 header fit by_li
 -- what is listed then
 pub are_listed : (c : List ℕ) (literals tree globs : ℕ) (rules : List GlobRule) (listed : List PlainListed)
     → (read : AllRead c literals tree globs rules)
-    → listed ≡ map listed_rule read.first ++ (map listed_rule (rules_of read.roots) ++ map listed_rule (glob_rules rules))
+    → listed ≡ map listed_rule read.first ++ (map listed_rule (rules_in read.roots) ++ map listed_rule (glob_rules rules))
     → IsListing rules listed
 are_listed c literals tree globs rules listed read is = record {
   literals = read.first;
-  leaves = rules_of read.roots;
+  leaves = rules_in read.roots;
   sorted_literals = read.by_text;
   sorted_leaves = read.by_ending;
   is = is ∙ ap (λ (xs : List PlainListed). map listed_rule read.first ++ xs)
-      (sym (map-append listed_rule (rules_of read.roots) (glob_rules rules)))
-      ∙ sym (map-append listed_rule read.first (rules_of read.roots ++ glob_rules rules));
+      (sym (map-append listed_rule (rules_in read.roots) (glob_rules rules)))
+      ∙ sym (map-append listed_rule read.first (rules_in read.roots ++ glob_rules rules));
 }
 
 -- why nothing is listed, by the numbers of the header

@@ -7,7 +7,7 @@ use Rattle.mime_base.specs.Cache.Bytes.{field}
 use Rattle.mime_base.specs.Format.Tree.{Tree, bare, leaf, node, node_count, sibling_count}
 use Rattle.mime_base.specs.declared.database.rule.GlobRule.{GlobRule}
 use Rattle.mime_view.specs.Listing.{PlainListed, listed_rule}
-use Rattle.mime_view.specs.Listing.Reads.{ReadsLeaf, ReadsListedTree, rules_of}
+use Rattle.mime_view.specs.Listing.Reads.{ReadsListedLeaf, ReadsListedTree, rules_in}
 use Rattle.mime_view.specs.Magic.{LiesBlock}
 use Rattle.mime_view.specs.Spending.{Gives}
 use Rattle.mime_view.specs.declared.fault.CacheFault.{CacheFault}
@@ -17,12 +17,12 @@ use Rattle.mime_view.specs.declared.spending.Spending.{Spending}
 -- a sibling whose first number is 0 is a leaf
 pub record IsLeaf (c : List ℕ) (at : ℕ) (ending : List ℕ) (one : Tree) : Type 0 where
   pub rule : GlobRule
-  pub reads : ReadsLeaf c at ending rule
-  pub alone : rules_of one ≡ rule ∷ []
+  pub reads : ReadsListedLeaf c at ending rule
+  pub alone : rules_in one ≡ rule ∷ []
   pub size : node_count one ≡ 1
 
 -- without a sibling there is no rule and no node
-none_after : (rest : Tree) → sibling_count rest ≡ 0 → (rules_of rest ≡ []) × (node_count rest ≡ 0)
+none_after : (rest : Tree) → sibling_count rest ≡ 0 → (rules_in rest ≡ []) × (node_count rest ≡ 0)
 none_after bare none = (refl, refl)
 none_after (leaf rule rest) none = absurd (omega arith)
 none_after (node character below rest) none = absurd (omega arith)
@@ -48,7 +48,7 @@ pub record IsParent (c : List ℕ) (at : ℕ) (ending : List ℕ) (one : Tree) :
   pub count : sibling_count below ≡ field c at 1
   pub block : LiesBlock c (field c at 2) 12 (field c at 1)
   pub reads : ReadsListedTree c (field c at 2) (field c at 0 ∷ ending) below
-  pub alone : rules_of one ≡ rules_of below
+  pub alone : rules_in one ≡ rules_in below
   pub size : node_count one ≡ 1 + node_count below
 
 -- and any other as a node
@@ -64,7 +64,7 @@ node_read c at ending (node character below rest) alone reads some =
       count = sym reads.4;
       block = rw reads.4 reads.5;
       reads = rw reads.0 reads.6;
-      alone = ap (λ (xs : List GlobRule). rules_of below ++ xs) none.0 ∙ append-nil (rules_of below);
+      alone = ap (λ (xs : List GlobRule). rules_in below ++ xs) none.0 ∙ append-nil (rules_in below);
       size = omega (arith, none.1);
     }
 
@@ -89,7 +89,7 @@ pub record IsBelow (c : List ℕ) (first count : ℕ) (grown : List ℕ) (one : 
   pub below : Tree
   pub wide : sibling_count below ≡ count
   pub reads : ReadsListedTree c first grown below
-  pub alone : rules_of one ≡ rules_of below
+  pub alone : rules_in one ≡ rules_in below
   pub size : node_count one ≡ 1 + node_count below
 
 -- by these numbers what is below it is read
@@ -110,8 +110,8 @@ below_read c at ending one character count first grown alone reads some is0 is1 
 pub node_gives : {X : Type 0} {c : List ℕ} {first count : ℕ} {grown : List ℕ} {one : Tree} (before after : List PlainListed)
     {old mid new : Spending} {r : Result X CacheFault} → (n : IsBelow c first count grown one)
     → mid.budget.records + 1 ≡ old.budget.records
-    → Gives (λ _. after ≡ before ++ map listed_rule (rules_of n.below)) (node_count n.below) mid new r
-    → Gives (λ _. after ≡ before ++ map listed_rule (rules_of one)) (node_count one) old new r
+    → Gives (λ _. after ≡ before ++ map listed_rule (rules_in n.below)) (node_count n.below) mid new r
+    → Gives (λ _. after ≡ before ++ map listed_rule (rules_in one)) (node_count one) old new r
 node_gives before after {r = r} n taken gives =
     let rules = ap (λ (xs : List GlobRule). before ++ map listed_rule xs) (sym n.alone) in
     record {

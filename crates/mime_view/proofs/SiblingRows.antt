@@ -4,7 +4,7 @@ use Rattle.std.specs.Prelude.{map}
 use Rattle.std.proofs.lemmas.List.{append-nil, map-append}
 use Rattle.mime_base.specs.Format.Tree.{Tree, bare, leaf, node, node_count, sibling_count}
 use Rattle.mime_view.specs.Listing.{PlainListed, listed_rule}
-use Rattle.mime_view.specs.Listing.Reads.{ReadsListedTree, rules_of}
+use Rattle.mime_view.specs.Listing.Reads.{ReadsListedTree, rules_in}
 
 -- what is left of the siblings from the i-th on; `old` and r0 are the list and the records before all, `now` and r those now
 pub record Left (c : List ℕ) (first count : ℕ) (ending : List ℕ) (tree : Tree) (old : List PlainListed) (r0 i : ℕ)
@@ -12,7 +12,7 @@ pub record Left (c : List ℕ) (first count : ℕ) (ending : List ℕ) (tree : T
   pub rest : Tree
   pub size : sibling_count rest + i ≡ count
   pub reads : ReadsListedTree c (first + 12 * i) ending rest
-  pub listed : now ++ map listed_rule (rules_of rest) ≡ old ++ map listed_rule (rules_of tree)
+  pub listed : now ++ map listed_rule (rules_in rest) ≡ old ++ map listed_rule (rules_in tree)
   pub records : r0 + node_count rest ≤ r + node_count tree
 
 -- the next sibling, and what is left after it
@@ -22,13 +22,13 @@ pub record Next (c : List ℕ) (first count : ℕ) (ending : List ℕ) (tree : T
   pub alone : sibling_count one ≡ 1
   pub reads : ReadsListedTree c (first + 12 * i) ending one
   pub records : r0 + node_count one ≤ r + node_count tree
-  pub later : (new : List PlainListed) (r' : ℕ) → new ≡ now ++ map listed_rule (rules_of one) → r ≤ r' + node_count one
+  pub later : (new : List PlainListed) (r' : ℕ) → new ≡ now ++ map listed_rule (rules_in one) → r ≤ r' + node_count one
       → Left c first count ending tree old r0 (i + 1) new r'
 
 -- of some siblings that are left, the first is the next one
 next_of : (c : List ℕ) (first count : ℕ) (ending : List ℕ) (tree : Tree) (old : List PlainListed) (r0 i : ℕ) (now : List PlainListed)
     (r : ℕ) (rest : Tree) → i < count → sibling_count rest + i ≡ count → ReadsListedTree c (first + 12 * i) ending rest
-    → now ++ map listed_rule (rules_of rest) ≡ old ++ map listed_rule (rules_of tree) → r0 + node_count rest ≤ r + node_count tree
+    → now ++ map listed_rule (rules_in rest) ≡ old ++ map listed_rule (rules_in tree) → r0 + node_count rest ≤ r + node_count tree
     → Next c first count ending tree old r0 i now r
 next_of c first count ending tree old r0 i now r bare l size reads listed records = absurd (omega arith)
 next_of c first count ending tree old r0 i now r (leaf rule rest) l size reads listed records = record {
@@ -40,7 +40,7 @@ next_of c first count ending tree old r0 i now r (leaf rule rest) l size reads l
     rest = rest;
     size = omega arith;
     reads = let e : first + 12 * (i + 1) ≡ first + 12 * i + 12 = omega arith in rw e reads.2;
-    listed = rw is (append_assoc now (listed_rule rule ∷ []) (map listed_rule (rules_of rest)) ∙ listed);
+    listed = rw is (append_assoc now (listed_rule rule ∷ []) (map listed_rule (rules_in rest)) ∙ listed);
     records = omega arith;
   };
 }
@@ -54,11 +54,11 @@ next_of c first count ending tree old r0 i now r (node character below rest) l s
     size = omega arith;
     reads = let e : first + 12 * (i + 1) ≡ first + 12 * i + 12 = omega arith in rw e reads.7;
     listed =
-        let here : map listed_rule (rules_of below ++ []) ≡ map listed_rule (rules_of below) =
-        ap (map listed_rule) (append-nil (rules_of below)) in
-        let both = map-append listed_rule (rules_of below) (rules_of rest) in
-        ap (λ (xs : List PlainListed). xs ++ map listed_rule (rules_of rest)) (is ∙ ap (λ (xs : List PlainListed). now ++ xs) here)
-        ∙ append_assoc now (map listed_rule (rules_of below)) (map listed_rule (rules_of rest))
+        let here : map listed_rule (rules_in below ++ []) ≡ map listed_rule (rules_in below) =
+        ap (map listed_rule) (append-nil (rules_in below)) in
+        let both = map-append listed_rule (rules_in below) (rules_in rest) in
+        ap (λ (xs : List PlainListed). xs ++ map listed_rule (rules_in rest)) (is ∙ ap (λ (xs : List PlainListed). now ++ xs) here)
+        ∙ append_assoc now (map listed_rule (rules_in below)) (map listed_rule (rules_in rest))
         ∙ ap (λ (xs : List PlainListed). now ++ xs) (sym both) ∙ listed;
     records = omega arith;
   };
@@ -71,7 +71,7 @@ next c first count ending tree old r0 i now r l left =
     next_of c first count ending tree old r0 i now r left.rest l left.size left.reads left.listed left.records
 
 -- where no sibling is left, no rule is added
-nothing : (rest : Tree) (now : List PlainListed) → sibling_count rest ≡ 0 → now ++ map listed_rule (rules_of rest) ≡ now
+nothing : (rest : Tree) (now : List PlainListed) → sibling_count rest ≡ 0 → now ++ map listed_rule (rules_in rest) ≡ now
 nothing bare now none = append-nil now
 nothing (leaf rule rest) now none = absurd (omega arith)
 nothing (node character below rest) now none = absurd (omega arith)
@@ -79,7 +79,7 @@ nothing (node character below rest) now none = absurd (omega arith)
 -- after the last sibling all their rules are listed
 pub none_left : (c : List ℕ) (first count : ℕ) (ending : List ℕ) (tree : Tree) (old : List PlainListed) (r0 i : ℕ)
     (now : List PlainListed) (r : ℕ) → count ≤ i → Left c first count ending tree old r0 i now r
-    → now ≡ old ++ map listed_rule (rules_of tree)
+    → now ≡ old ++ map listed_rule (rules_in tree)
 none_left c first count ending tree old r0 i now r l left =
     let size = left.size in
     sym (nothing left.rest now (omega arith)) ∙ left.listed

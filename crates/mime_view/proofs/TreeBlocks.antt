@@ -6,7 +6,7 @@ use Rattle.mime_base.specs.Cache.Bytes.{field}
 use Rattle.mime_base.specs.Format.Tree.{InOrder, Tree, bare, leaf, node, sibling_count}
 use Rattle.mime_view.specs.Magic.{LiesBlock}
 use Rattle.mime_view.specs.SuffixTree.{IsCharacterPlace, ReadsBlock, ReadsTree, below_character}
-use Rattle.mime_view.specs.declared.suffixes.Block.{Block}
+use Rattle.mime_view.specs.declared.suffixes.Siblings.{Siblings}
 
 -- two numbers that differ
 apart : (a b : ℕ) → (a ≡ b → ⊥) → (a == b) ≡ false
@@ -108,7 +108,7 @@ below_character-found c at b (suc place) before (node character below rest) some
     (below_character-found c (at + 12) b place character rest some order.3 reads.4 (omega arith) same)
 
 -- a block without the character, by the place where it would stand
-pub none_below : (c : List ℕ) (block : Block) (b place : ℕ) (tree : Tree) → 0 < b → ReadsBlock c block tree
+pub none_below : (c : List ℕ) (block : Siblings) (b place : ℕ) (tree : Tree) → 0 < b → ReadsBlock c block tree
     → IsCharacterPlace c block b place → (place < block.count → field c (block.first + 12 * place) 0 ≡ b → ⊥)
     → below_character b tree ≡ bare
 none_below c block b place tree some reads is other =
@@ -116,7 +116,7 @@ none_below c block b place tree some reads is other =
     (λ within. let l : place < block.count = omega (arith, reads.size) in lt_of_le-ne (is.after l) (λ e. other l (sym e)))
 
 -- a block with the character, at this place
-pub node_below : (c : List ℕ) (block : Block) (b place : ℕ) (tree : Tree) → 0 < b → ReadsBlock c block tree
+pub node_below : (c : List ℕ) (block : Siblings) (b place : ℕ) (tree : Tree) → 0 < b → ReadsBlock c block tree
     → IsCharacterPlace c block b place → (place ≡ block.count → ⊥) → field c (block.first + 12 * place) 0 ≡ b
     → ReadsNode c (block.first + 12 * place) (below_character b tree)
 node_below c block b place tree some reads is within same =
@@ -124,7 +124,7 @@ node_below c block b place tree some reads is within same =
     below_character-found c block.first b place 0 tree some reads.ordered reads.siblings (omega (arith, reads.size)) same
 
 -- a node is read as the block below it
-pub block_read : (c : List ℕ) (at : ℕ) (block : Block) (tree : Tree) → block.first ≡ field c at 2 → block.count ≡ field c at 1
+pub block_read : (c : List ℕ) (at : ℕ) (block : Siblings) (tree : Tree) → block.first ≡ field c at 2 → block.count ≡ field c at 1
     → ReadsNode c at tree → ReadsBlock c block tree
 block_read c at block tree first count reads = record {
   size = sym reads.count ∙ sym count;

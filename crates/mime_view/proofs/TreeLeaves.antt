@@ -7,7 +7,7 @@ use Rattle.std.proofs.lemmas.Simd.{map-map}
 use Rattle.mime_base.specs.Format.Sorted.{with_key}
 use Rattle.mime_base.specs.Format.Tree.{Tree, bare, leaf, leaf_count, leaves_at, node}
 use Rattle.mime_base.specs.declared.database.rule.GlobRule.{GlobRule}
-use Rattle.mime_view.specs.Listing.Reads.{rules_of}
+use Rattle.mime_view.specs.Listing.Reads.{rules_in}
 
 -- a path of characters, and the rule to which it leads
 abbrev pub Leaf : Type 0
@@ -32,7 +32,7 @@ leaves (leaf rule rest) = ([], rule) ∷ leaves rest
 leaves (node character below rest) = map (under character) (leaves below) ++ leaves rest
 
 -- their rules are those of the tree
-pub rules-leaves : (tree : Tree) → map rule_of (leaves tree) ≡ rules_of tree
+pub rules-leaves : (tree : Tree) → map rule_of (leaves tree) ≡ rules_in tree
 rules-leaves bare = refl
 rules-leaves (leaf rule rest) = ap (λ (xs : List GlobRule). rule ∷ xs) (rules-leaves rest)
 rules-leaves (node character below rest) =
@@ -47,7 +47,7 @@ length-leaves (node character below rest) =
     let both = ap (λ (xs : List GlobRule). length xs) (rules-leaves (node character below rest)) in
     let first = ap (λ (xs : List GlobRule). length xs) (rules-leaves below) in
     let last = ap (λ (xs : List GlobRule). length xs) (rules-leaves rest) in
-    omega (arith, both, first, last, length-leaves below, length-leaves rest, length-append (rules_of below) (rules_of rest))
+    omega (arith, both, first, last, length-leaves below, length-leaves rest, length-append (rules_in below) (rules_in rest))
 
 -- no leaf below a character is at the empty path
 none_here : (character : ℕ) (xs : List Leaf) → with_key path_of [] (map (under character) xs) ≡ []

@@ -18,7 +18,7 @@ use Rattle.mime_view.specs.SuffixTree.{IsSuffixRule, ReadsBlock, admitted, below
 use Rattle.mime_view.specs.declared.fault.CacheFault.{CacheFault}
 use Rattle.mime_view.specs.declared.hits.Case.{Case}
 use Rattle.mime_view.specs.declared.query.Progress.{Progress}
-use Rattle.mime_view.specs.declared.suffixes.Block.{Block}
+use Rattle.mime_view.specs.declared.suffixes.Siblings.{Siblings}
 use Rattle.mime_view.proofs.Steps.{finds_err, finds_none, finds_then, finds_within}
 use Rattle.mime_view.proofs.TreeRules.{suffix_rules}
 use Rattle.mime_view.proofs.TreeStands.{along_name, roots_read, whole_walk}
@@ -39,13 +39,13 @@ WholeWalk c case rules name old new result =
     FindsRules c (All FitsRank rules) (tree_hits case name rules) (visits case * tree_visits name rules) old new result
 
 -- what the leaves below a character give
-abbrev pub Descends : List ℕ → Case → ℕ → Tree → Progress → Progress → Result (Option Block) CacheFault → Type 0
+abbrev pub Descends : List ℕ → Case → ℕ → Tree → Progress → Progress → Result (Option Siblings) CacheFault → Type 0
 Descends c case long below now new result =
     FindsRules c (All (IsSuffixRule long) (leaves_at [] below)) (admitted case (leaves_at [] below)) (visits case * scan_visits below)
     now new result
 
 -- what is left of a walk after so many characters: whatever is found of that, the whole search finds
-pub record WalkLeft (c : List ℕ) (case : Case) (rules : List GlobRule) (name : List ℕ) (old : Progress) (block : Block) (depth : ℕ)
+pub record WalkLeft (c : List ℕ) (case : Case) (rules : List GlobRule) (name : List ℕ) (old : Progress) (block : Siblings) (depth : ℕ)
     (now : Progress) : Type 0 where
   pub tree : Tree
   pub reads : ReadsBlock c block tree
@@ -54,7 +54,7 @@ pub record WalkLeft (c : List ℕ) (case : Case) (rules : List GlobRule) (name :
       → WholeWalk c case rules name old new result
 
 -- at first all is left
-pub all_left : (c : List ℕ) (at : ℕ) (case : Case) (rules : List GlobRule) (name : List ℕ) (block : Block) (now : Progress)
+pub all_left : (c : List ℕ) (at : ℕ) (case : Case) (rules : List GlobRule) (name : List ℕ) (block : Siblings) (now : Progress)
     → block.first ≡ field c at 1 → block.count ≡ field c at 0 → SuffixTreeAt (Stands c) at rules
     → WalkLeft c case rules name now block 0 now
 all_left c at case rules name block now first count stand = record {
@@ -81,11 +81,11 @@ path_next name depth l =
     ∙ ap₂ (λ (b : ℕ) (path : List ℕ). b ∷ path) (get_or-reverse name depth 0 l) (ap (λ (n : ℕ). drop n (reverse name)) e)
 
 -- the next character, and what is left after it
-pub record WalkNext (c : List ℕ) (case : Case) (rules : List GlobRule) (name : List ℕ) (old : Progress) (block : Block) (depth : ℕ)
+pub record WalkNext (c : List ℕ) (case : Case) (rules : List GlobRule) (name : List ℕ) (old : Progress) (block : Siblings) (depth : ℕ)
     (now : Progress) (b : ℕ) : Type 0 where
   pub tree : Tree
   pub reads : ReadsBlock c block tree
-  pub later : (lower : Block) (new : Progress) → ReadsBlock c lower (below_character b tree)
+  pub later : (lower : Siblings) (new : Progress) → ReadsBlock c lower (below_character b tree)
       → Descends c case (depth + 2) (below_character b tree) now new (Ok (Some lower))
       → WalkLeft c case rules name old lower (depth + 1) new
   pub done : (new : Progress) → below_character b tree ≡ bare
@@ -94,7 +94,7 @@ pub record WalkNext (c : List ℕ) (case : Case) (rules : List GlobRule) (name :
       → Descends c case (depth + 2) (below_character b tree) now new (Err e) → WholeWalk c case rules name old new result
 
 -- the next character of what is left
-pub next : {c : List ℕ} {case : Case} {rules : List GlobRule} {name : List ℕ} {old : Progress} {block : Block} {depth : ℕ} {now : Progress}
+pub next : {c : List ℕ} {case : Case} {rules : List GlobRule} {name : List ℕ} {old : Progress} {block : Siblings} {depth : ℕ} {now : Progress}
     (b : ℕ) → depth < length name → b ≡ get_or name (length name - 1 - depth) 0 → WalkLeft c case rules name old block depth now
     → WalkNext c case rules name old block depth now b
 next {c} {case} {rules} {name} {old} {block} {depth} {now} b l is left =
@@ -141,7 +141,7 @@ next {c} {case} {rules} {name} {old} {block} {depth} {now} b l is left =
     }
 
 -- the name is at its end
-pub none_left : {c : List ℕ} {case : Case} {rules : List GlobRule} {name : List ℕ} {old : Progress} {block : Block} {depth : ℕ}
+pub none_left : {c : List ℕ} {case : Case} {rules : List GlobRule} {name : List ℕ} {old : Progress} {block : Siblings} {depth : ℕ}
     {now : Progress} → length name ≤ depth → WalkLeft c case rules name old block depth now
     → WholeWalk c case rules name old now (Ok tt)
 none_left {c} {case} {rules} {name} {now = now} l left =

@@ -13,7 +13,7 @@ use Rattle.mime_view.specs.SuffixTree.{IsSuffixRule, ReadsLeaf, ReadsTree, admit
 use Rattle.mime_view.specs.declared.fault.CacheFault.{CacheFault}
 use Rattle.mime_view.specs.declared.hits.Case.{Case}
 use Rattle.mime_view.specs.declared.query.Progress.{Progress}
-use Rattle.mime_view.specs.declared.suffixes.Block.{Block}
+use Rattle.mime_view.specs.declared.suffixes.Siblings.{Siblings}
 use Rattle.mime_view.proofs.Steps.{finds_err, finds_none, finds_then, finds_within}
 
 -- siblings after a node have no leaf
@@ -38,7 +38,7 @@ Scans c case long whole tree old new result =
     old new result
 
 -- what is left of the siblings from the i-th on: whatever a scan of those finds, the scan of the whole block does
-pub record ScanLeft (c : List ℕ) (block : Block) (case : Case) (long : ℕ) (tree : Tree) (old : Progress) (i : ℕ) (now : Progress) : Type 0
+pub record ScanLeft (c : List ℕ) (block : Siblings) (case : Case) (long : ℕ) (tree : Tree) (old : Progress) (i : ℕ) (now : Progress) : Type 0
   where
     pub rest : Tree
     pub size : sibling_count rest + i ≡ block.count
@@ -48,7 +48,7 @@ pub record ScanLeft (c : List ℕ) (block : Block) (case : Case) (long : ℕ) (t
     pub whole : (new : Progress) (result : Result (Unit {0}) CacheFault) → Scans c case long tree rest now new result
         → Scans c case long tree tree old new result
 
-module _ {c : List ℕ} {block : Block} {case : Case} {long : ℕ} {tree : Tree} {old : Progress} {i : ℕ} {now : Progress}
+module _ {c : List ℕ} {block : Siblings} {case : Case} {long : ℕ} {tree : Tree} {old : Progress} {i : ℕ} {now : Progress}
     (left : ScanLeft c block case long tree old i now) where
   -- what the rest finds is found
   abbrev Whole : Tree → Type 0

@@ -11,7 +11,7 @@ use Rattle.mime_base.specs.declared.database.rule.GlobRule.{GlobRule}
 use Rattle.mime_view.specs.Hits.{ending_rules, tree_visits}
 use Rattle.mime_view.specs.Magic.{LiesBlock}
 use Rattle.mime_view.specs.SuffixTree.{ReadsBlock, ReadsTree}
-use Rattle.mime_view.specs.declared.suffixes.Block.{Block}
+use Rattle.mime_view.specs.declared.suffixes.Siblings.{Siblings}
 use Rattle.mime_view.proofs.Records.{first_read, numbers_read, record_inside, second_read, text_read}
 use Rattle.mime_view.proofs.TreeWalks.{flat_map-same, leaves_along, walk_few, walk_visits, walk_within}
 
@@ -73,7 +73,7 @@ roots_inside c at rules stand =
     }
 
 -- the roots are read
-pub roots_read : (c : List ℕ) (at : ℕ) (rules : List GlobRule) (block : Block) → block.first ≡ field c at 1 → block.count ≡ field c at 0
+pub roots_read : (c : List ℕ) (at : ℕ) (rules : List GlobRule) (block : Siblings) → block.first ≡ field c at 1 → block.count ≡ field c at 0
     → (stand : SuffixTreeAt (Stands c) at rules) → ReadsBlock c block stand.tree
 roots_read c at rules block first count stand =
     let at_first : block.first ≡ stand.first = first ∙ second_read c at (sibling_count stand.tree) stand.first [] stand.head in

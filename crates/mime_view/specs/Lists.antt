@@ -9,7 +9,7 @@ use Rattle.mime_base.specs.Cache.Bytes.{field}
 use Rattle.mime_base.specs.Cache.Texts.{text_at}
 use Rattle.mime_base.specs.declared.cache.byte_fault.ByteFault.{ByteFault}
 use Rattle.mime_view.specs.Faults.{cache_fault}
-use Rattle.mime_view.specs.declared.entry.Entry.{Entry}
+use Rattle.mime_view.specs.declared.entry.NamedEntry.{NamedEntry}
 use Rattle.mime_view.specs.declared.search.Sought.{Sought}
 use Rattle.mime_view.specs.declared.fault.CacheFault.{CacheFault}
 use Rattle.mime_view.specs.declared.fault.CacheFault.TheVariants.{OutOfRange}
@@ -85,7 +85,7 @@ abbrev pub IsSearchFault : List ℕ → ℕ → CacheFault → Type 0
 IsSearchFault c at e = IsListFault c at 8 e ⊎ IsTextFault c e
 
 -- An entry of the list at `at`, of two numbers an entry, whose text is the key.
-pub record IsEntryOf (c : List ℕ) (at : ℕ) (key : List ℕ) (entry : Entry) : Type 0 where
+pub record IsEntryOf (c : List ℕ) (at : ℕ) (key : List ℕ) (entry : NamedEntry) : Type 0 where
   -- It is one of the list's entries.
   pub within : entry.place < field c at 0
   -- Its first number names the key.
@@ -94,7 +94,7 @@ pub record IsEntryOf (c : List ℕ) (at : ℕ) (key : List ℕ) (entry : Entry) 
   pub second : entry.target ≡ field c (at + 4 + 8 * entry.place) 1
 
 -- What is found for a key in the list at `at`, on any bytes.
-pub record IsFound (c : List ℕ) (at : ℕ) (key : List ℕ) (found : Option Entry) : Type 0 where
+pub record IsFound (c : List ℕ) (at : ℕ) (key : List ℕ) (found : Option NamedEntry) : Type 0 where
   -- The list lies in the cache.
   pub inside : LiesList c at 8
   -- What is found, if anything is, is an entry of the key.

@@ -11,16 +11,16 @@ looked_up [] key = None
 looked_up (pair ∷ pairs) key = if bytes_eq pair.0 key then Some pair.1 else looked_up pairs key
 
 -- the pairs stand one behind another from `at` on, each as the offsets of its two names
-abbrev pub PairsAt : List ℕ → ℕ → List (List ℕ × List ℕ) → Type 0
-PairsAt c at [] = Unit {0}
-PairsAt c at (pair ∷ pairs) =
-    (text_at c (field c at 0) ≡ Ok pair.0) × (text_at c (field c at 1) ≡ Ok pair.1) × PairsAt c (at + 8) pairs
+abbrev pub ReadsPairEntries : List ℕ → ℕ → List (List ℕ × List ℕ) → Type 0
+ReadsPairEntries c at [] = Unit {0}
+ReadsPairEntries c at (pair ∷ pairs) =
+    (text_at c (field c at 0) ≡ Ok pair.0) × (text_at c (field c at 1) ≡ Ok pair.1) × ReadsPairEntries c (at + 8) pairs
 
 -- the list at `at` is of these pairs, sorted by their first names
 pub record ReadsPairs (c : List ℕ) (at : ℕ) (pairs : List (List ℕ × List ℕ)) : Type 0 where
   pub count : field c at 0 ≡ length pairs
   pub inside : at + 4 + 8 * length pairs ≤ length c
-  pub entries : PairsAt c (at + 4) pairs
+  pub entries : ReadsPairEntries c (at + 4) pairs
   pub sorted : AreSorted (map (λ pair. pair.0) pairs)
 
 -- What is given from the list at `at`, on any bytes.

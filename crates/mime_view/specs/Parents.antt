@@ -112,7 +112,7 @@ pub record IsNamedFault (c : List ℕ) (at : ℕ) (e : CacheFault) : Type 0 wher
   pub is : e ≡ cache_fault fault
 
 -- a list of more records than there were left took all of them
-pub record IsSpent (count before after : ℕ) (e : CacheFault) : Type 0 where
+pub record IsShortOfRecords (count before after : ℕ) (e : CacheFault) : Type 0 where
   pub more : before < count
   pub none_left : after ≡ 0
   pub is : e ≡ Spent
@@ -135,7 +135,7 @@ IsTextUntaken c at before after e = (e ≡ Spent) × (before ≡ 0) × (after �
 -- why the parents at `at` are not given, with the records that were left before and after
 abbrev pub IsTextsFault : List ℕ → ℕ → ℕ → ℕ → CacheFault → Type 0
 IsTextsFault c at before after e =
-    IsListFault c at 4 e ⊎ IsNamedFault c at e ⊎ IsSpent (field c at 0) before after e ⊎ (e ≡ OutOfMemory)
+    IsListFault c at 4 e ⊎ IsNamedFault c at e ⊎ IsShortOfRecords (field c at 0) before after e ⊎ (e ≡ OutOfMemory)
 
 -- an entry of the type is not marked, and its parents are not given
 pub record IsEntryFault (c : List ℕ) (at : ℕ) (marks kind : List ℕ) (before after : ℕ) (e : CacheFault) : Type 0 where

@@ -12,7 +12,7 @@ use Rattle.mime_view.specs.Magic.{IsBlockFault, LiesBlock}
 use Rattle.mime_view.specs.declared.fault.CacheFault.{CacheFault}
 use Rattle.mime_view.specs.declared.fault.CacheFault.TheVariants.{OutOfRange}
 use Rattle.mime_view.specs.declared.hits.Case.{Case}
-use Rattle.mime_view.specs.declared.suffixes.Block.{Block}
+use Rattle.mime_view.specs.declared.suffixes.Siblings.{Siblings}
 
 -- The record at `at` is that of a leaf of this rule.
 pub record ReadsLeaf (c : List ℕ) (at : ℕ) (rule : GlobRule) : Type 0 where
@@ -32,7 +32,7 @@ ReadsTree c at (node character below rest) =
     × ReadsTree c (field c at 2) below × ReadsTree c (at + 12) rest
 
 -- A block is of these siblings, in the order of the format.
-pub record ReadsBlock (c : List ℕ) (block : Block) (tree : Tree) : Type 0 where
+pub record ReadsBlock (c : List ℕ) (block : Siblings) (tree : Tree) : Type 0 where
   -- It is that many.
   pub size : sibling_count tree ≡ block.count
   -- They stand one after another.
@@ -41,7 +41,7 @@ pub record ReadsBlock (c : List ℕ) (block : Block) (tree : Tree) : Type 0 wher
   pub ordered : InOrder 0 tree
 
 -- The place of the first sibling of a block whose character is not less.
-pub record IsCharacterPlace (c : List ℕ) (block : Block) (character place : ℕ) : Type 0 where
+pub record IsCharacterPlace (c : List ℕ) (block : Siblings) (character place : ℕ) : Type 0 where
   -- It is a place of the block, or the one after the last.
   pub within : place ≤ block.count
   -- The character of the sibling before it is less.
@@ -56,12 +56,12 @@ below_character b (leaf rule rest) = below_character b rest
 below_character b (node character below rest) = if character == b then below else below_character b rest
 
 -- the block below a character, or none where there is none
-abbrev pub IsBelow : List ℕ → Tree → Option Block → Type 0
+abbrev pub IsBelow : List ℕ → Tree → Option Siblings → Type 0
 IsBelow c tree None = tree ≡ bare
 IsBelow c tree (Some block) = ReadsBlock c block tree
 
 -- The block below a character of another, if there is one.
-pub record IsBlockBelow (c : List ℕ) (block : Block) (character : ℕ) (below : Option Block) : Type 0 where
+pub record IsBlockBelow (c : List ℕ) (block : Siblings) (character : ℕ) (below : Option Siblings) : Type 0 where
   -- It lies in the cache.
   pub lies : IfSome below (λ lower. LiesBlock c lower.first 12 lower.count)
   -- It is of the siblings below the character, wherever those of the block stand.

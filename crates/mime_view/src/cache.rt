@@ -42,7 +42,7 @@ use crate::name::{RuleLists, glob_hits};
 use crate::pairs::look_up_pair;
 use crate::parents::{Parents, parents_of};
 use crate::query::Query;
-use crate::rules::{Listed, Source, list_rules};
+use crate::rules::{Listed, ListingSource, list_rules};
 use crate::spending::Spending;
 use crate::texts::Texts;
 use mime_base::{Counted, Host, Meter};
@@ -510,7 +510,7 @@ impl<'a> Cache<'a> {
         let literals = u64::from(self.header[3]);
         let tree = u64::from(self.header[4]);
         let globs = u64::from(self.header[5]);
-        let source = Source {
+        let source = ListingSource {
             alloc,
             counted: &self.counted,
         };

@@ -11,7 +11,7 @@ use mime_base::{Counted, Meter};
 
 /// An entry of a list.
 #[derive(Clone, Copy)]
-pub struct Entry {
+pub struct NamedEntry {
     /// Which of the list's entries it is, counted from 0.
     pub place: u32,
     /// Its second number.
@@ -26,7 +26,7 @@ pub fn find_entry(
     at: u64,
     key: &[u8],
     meter: &mut Meter,
-) -> Result<Option<Entry>, CacheFault>
+) -> Result<Option<NamedEntry>, CacheFault>
     // The list's offset is a number of 32 bits.
     requires at { at < 2 ^ 32 }
     // No offset needs more than 32 bits.
@@ -47,7 +47,7 @@ pub fn find_entry(
     let sought = sought?;
     if sought.equal {
         let [_, target] = counted.cards_within::<2>(first + 8 * sought.place, meter);
-        return Ok(Some(Entry {
+        return Ok(Some(NamedEntry {
             place: sought.place as u32,
             target,
         }));

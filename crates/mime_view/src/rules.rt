@@ -16,7 +16,7 @@ ghost use Rattle.mime_base.specs.Format.Tree.{Tree, node_count};
 ghost use Rattle.mime_base.specs.declared.database.rule.GlobRule.{GlobRule};
 ghost use Rattle.mime_view.specs.Listing.{IsListed, listed_rule, plain_listed};
 ghost use Rattle.mime_view.specs.Listing.Faults.{IsListsFault};
-ghost use Rattle.mime_view.specs.Listing.Reads.{ReadsListedRules, ReadsSuffixTree, rules_of};
+ghost use Rattle.mime_view.specs.Listing.Reads.{ReadsListedRules, ReadsSuffixTree, rules_in};
 ghost use Rattle.mime_view.specs.Spending.{Gives, Spends, per_record};
 
 use crate::fault::CacheFault;
@@ -25,11 +25,11 @@ use crate::rules::listing::Listing;
 use crate::rules::tree::add_tree;
 use crate::spending::Spending;
 pub use listing::Listed;
-pub use source::Source;
+pub use source::ListingSource;
 
 /// All rules: by the literal list, the suffix tree and the glob list at these offsets.
 pub fn list_rules<'a>(
-    source: &Source<'_, 'a>,
+    source: &ListingSource<'_, 'a>,
     literals: u64,
     tree: u64,
     globs: u64,
@@ -45,7 +45,7 @@ pub fn list_rules<'a>(
     ensures answer { (first last : List GlobRule) (roots : Tree) → ReadsListedRules source.now.counted.now literals first →
         ReadsSuffixTree source.now.counted.now tree roots → ReadsListedRules source.now.counted.now globs last →
         Gives (λ rules. map plain_listed rules.items
-        ≡ map listed_rule first ++ (map listed_rule (rules_of roots) ++ map listed_rule last))
+        ≡ map listed_rule first ++ (map listed_rule (rules_in roots) ++ map listed_rule last))
         (length first + node_count roots + length last) spending.old spending.new result }
     // On any bytes each rule has a text of the cache as its type and a short pattern, or one of the lists stops it.
     ensures listed { MatchResult result (λ rules. All (IsListed source.now.counted.now) (map plain_listed rules.items))

@@ -31,7 +31,7 @@ use mime_base::{Class, Counted, Meter, rank_of};
 
 /// Siblings that lie in the cache.
 #[derive(Clone, Copy)]
-struct Block {
+struct Siblings {
     first: u64,
     count: u64,
 }
@@ -78,7 +78,7 @@ pub fn tree_hits(query: &Query<'_, '_>, at: u32, progress: &mut Progress) -> Res
 }
 
 /// That many siblings from an offset on, if they lie in the cache. No siblings lie anywhere.
-fn block_of(counted: &Counted<'_>, first: u32, count: u32) -> Result<Block, CacheFault>
+fn block_of(counted: &Counted<'_>, first: u32, count: u32) -> Result<Siblings, CacheFault>
     // It is of these numbers.
     ensures block { IfOk result (λ block. (block.first ≡ first) × (block.count ≡ count)) }
     // It lies in the cache.
@@ -91,7 +91,7 @@ fn block_of(counted: &Counted<'_>, first: u32, count: u32) -> Result<Block, Cach
     if count > 0 && counted.length() < first + 12 * count {
         return Err(CacheFault::OutOfRange(first));
     }
-    Ok(Block { first, count })
+    Ok(Siblings { first, count })
 }
 
 /// Whether a walk along the name seeks a character: it has a last byte, and that is not zero.
@@ -110,11 +110,11 @@ fn seeks_character(name: &[u8]) -> bool
 #[inline(always)]
 fn descend(
     query: &Query<'_, '_>,
-    block: Block,
+    block: Siblings,
     byte: u8,
     pattern_length: u16,
     progress: &mut Progress,
-) -> Result<Option<Block>, CacheFault>
+) -> Result<Option<Siblings>, CacheFault>
     // The siblings lie in the cache.
     requires lies { LiesBlock query.now.counted.now block.first 12 block.count }
     // It gives the block below the character.
@@ -139,10 +139,10 @@ fn descend(
 #[inline(always)]
 fn block_below(
     query: &Query<'_, '_>,
-    block: Block,
+    block: Siblings,
     byte: u8,
     progress: &mut Progress,
-) -> Result<Option<Block>, CacheFault>
+) -> Result<Option<Siblings>, CacheFault>
     // The siblings lie in the cache.
     requires lies { LiesBlock query.now.counted.now block.first 12 block.count }
     // It gives the block below the character.
@@ -173,7 +173,7 @@ fn block_below(
 /// The place of the first sibling whose character is not less than the byte.
 // Always inlined, so that the sums stay in registers.
 #[inline(always)]
-fn first_not_below(query: &Query<'_, '_>, block: Block, byte: u8, meter: &mut Meter) -> u64
+fn first_not_below(query: &Query<'_, '_>, block: Siblings, byte: u8, meter: &mut Meter) -> u64
     // The siblings lie in the cache.
     requires lies { LiesBlock query.now.counted.now block.first 12 block.count }
     // Which place it is.
@@ -205,7 +205,7 @@ fn first_not_below(query: &Query<'_, '_>, block: Block, byte: u8, meter: &mut Me
 #[inline(always)]
 fn leaf_hits(
     query: &Query<'_, '_>,
-    block: Block,
+    block: Siblings,
     pattern_length: u16,
     progress: &mut Progress,
 ) -> Result<(), CacheFault>

@@ -26,13 +26,13 @@ pub record ReadsListedRules (c : List ℕ) (at : ℕ) (rules : List GlobRule) : 
   pub entries : ReadsEntries c (at + 4) rules
 
 -- the rules of the leaves, a node's before those of the siblings after it
-abbrev pub rules_of : Tree → List GlobRule
-rules_of bare = []
-rules_of (leaf rule rest) = rule ∷ rules_of rest
-rules_of (node character below rest) = rules_of below ++ rules_of rest
+abbrev pub rules_in : Tree → List GlobRule
+rules_in bare = []
+rules_in (leaf rule rest) = rule ∷ rules_in rest
+rules_in (node character below rest) = rules_in below ++ rules_in rest
 
 -- the record at `at` is a leaf below an ending, which is that of its rule
-pub record ReadsLeaf (c : List ℕ) (at : ℕ) (ending : List ℕ) (rule : GlobRule) : Type 0 where
+pub record ReadsListedLeaf (c : List ℕ) (at : ℕ) (ending : List ℕ) (rule : GlobRule) : Type 0 where
   pub some : 0 < length ending
   pub kind : text_at c (field c at 1) ≡ Ok rule.kind
   pub flags : field c at 2 ≡ weight_and_flags rule
@@ -43,7 +43,7 @@ pub record ReadsLeaf (c : List ℕ) (at : ℕ) (ending : List ℕ) (rule : GlobR
 abbrev pub ReadsListedTree : List ℕ → ℕ → List ℕ → Tree → Type 0
 ReadsListedTree c at ending bare = Unit {0}
 ReadsListedTree c at ending (leaf rule rest) =
-    (field c at 0 ≡ 0) × ReadsLeaf c at ending rule × ReadsListedTree c (at + 12) ending rest
+    (field c at 0 ≡ 0) × ReadsListedLeaf c at ending rule × ReadsListedTree c (at + 12) ending rest
 ReadsListedTree c at ending (node character below rest) =
     (field c at 0 ≡ character) × (0 < character) × (character < 256) × (length ending < 254)
     × (field c at 1 ≡ sibling_count below) × LiesBlock c (field c at 2) 12 (sibling_count below)

@@ -8,12 +8,12 @@ use std::marker::Model;
 
 /// An ending of names.
 #[derive(Drop)]
-pub struct Ending {
+pub struct NameEnding {
     /// Its bytes, from the last to the first.
     path: Vec<u8>,
 }
 
-impl Model for Ending {
+impl Model for NameEnding {
     ghost use Rattle.std.specs.Prelude.{ℕ, List, reverse};
 
     ghost Value = { List ℕ };
@@ -21,12 +21,12 @@ impl Model for Ending {
     ghost view = { λ ending. reverse ending.path.items };
 }
 
-impl Ending {
+impl NameEnding {
     /// The ending of no bytes. It takes no memory.
-    pub fn none(alloc: Global) -> Ending
+    pub fn none(alloc: Global) -> NameEnding
         ensures { result ≡ [] }
     {
-        Ending {
+        NameEnding {
             path: Vec::new(alloc),
         }
     }

@@ -11,12 +11,12 @@ use crate::fault::CacheFault;
 use crate::list::count_at;
 use crate::rules::listing::Listing;
 use crate::rules::row::take_row;
-use crate::rules::source::Source;
+use crate::rules::source::ListingSource;
 use crate::spending::Spending;
 
 /// Adds the rules of the list at `at`, each with a record of the budget.
 pub fn add_entries<'a>(
-    source: &Source<'_, 'a>,
+    source: &ListingSource<'_, 'a>,
     at: u64,
     listing: &mut Listing<'a>,
     spending: &mut Spending,
@@ -40,7 +40,7 @@ pub fn add_entries<'a>(
 
 /// Adds the rule of the entry at `at`.
 fn add_entry<'a>(
-    source: &Source<'_, 'a>,
+    source: &ListingSource<'_, 'a>,
     at: u64,
     listing: &mut Listing<'a>,
     spending: &mut Spending,

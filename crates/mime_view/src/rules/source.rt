@@ -7,7 +7,7 @@ use std::alloc::Global;
 
 /// The bytes of a cache, and an allocator.
 #[derive(Clone, Copy)]
-pub struct Source<'s, 'a> {
+pub struct ListingSource<'s, 'a> {
     /// For the list, the patterns and the endings.
     pub alloc: Global,
     /// The bytes.

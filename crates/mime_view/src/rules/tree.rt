@@ -9,17 +9,17 @@ ghost use Rattle.mime_base.specs.Format.Tree.{Tree, node_count, sibling_count};
 ghost use Rattle.mime_base.specs.declared.database.rule.GlobRule.{GlobRule};
 ghost use Rattle.mime_view.specs.Listing.{Adds, IsListed, listed_rule};
 ghost use Rattle.mime_view.specs.Listing.Faults.{IsSiblingsFault, IsListedTreeFault};
-ghost use Rattle.mime_view.specs.Listing.Reads.{ReadsLeaf, ReadsSuffixTree, ReadsListedTree, rules_of};
+ghost use Rattle.mime_view.specs.Listing.Reads.{ReadsListedLeaf, ReadsSuffixTree, ReadsListedTree, rules_in};
 ghost use Rattle.mime_view.specs.Lists.{IsTextFault};
 ghost use Rattle.mime_view.specs.Magic.{LiesBlock};
 ghost use Rattle.mime_view.specs.Spending.{Gives, Looks};
 
 use crate::fault::CacheFault;
 use crate::magic::check_block;
-use crate::rules::ending::Ending;
+use crate::rules::ending::NameEnding;
 use crate::rules::listing::Listing;
 use crate::rules::row::{Row, take_row};
-use crate::rules::source::Source;
+use crate::rules::source::ListingSource;
 use crate::spending::Spending;
 use mime_base::Meter;
 
@@ -28,7 +28,7 @@ const DEEPEST: usize = 254;
 
 /// Adds the rules of the tree at `at`, each node with a record of the budget.
 pub fn add_tree<'a>(
-    source: &Source<'_, 'a>,
+    source: &ListingSource<'_, 'a>,
     at: u64,
     listing: &mut Listing<'a>,
     spending: &mut Spending,
@@ -37,7 +37,7 @@ pub fn add_tree<'a>(
     requires at { at < 2 ^ 32 }
     // It adds the rules of a tree that stands, of which each node takes a record.
     ensures answer { (tree : Tree) → ReadsSuffixTree source.now.counted.now at tree →
-        Gives (λ _. listing.new ≡ listing.old ++ map listed_rule (rules_of tree)) (node_count tree)
+        Gives (λ _. listing.new ≡ listing.old ++ map listed_rule (rules_in tree)) (node_count tree)
         spending.old spending.new result }
     // On any bytes it adds such rules, and looks at the tree's head besides.
     ensures adds { Adds source.now.counted.now (IsListedTreeFault source.now.counted.now at) 1
@@ -47,7 +47,7 @@ pub fn add_tree<'a>(
     let count = u64::from(count);
     let first = u64::from(first);
     check_block(source.counted, first, 12, count)?;
-    let mut ending = Ending::none(source.alloc);
+    let mut ending = NameEnding::none(source.alloc);
     add_siblings(source, first, count, &mut ending, listing, spending)?;
     Ok(())
 }
@@ -55,10 +55,10 @@ pub fn add_tree<'a>(
 /// Adds the rules of the `count` siblings from `first` on, to which an ending leads.
 #[cycle(siblings)]
 fn add_siblings<'a>(
-    source: &Source<'_, 'a>,
+    source: &ListingSource<'_, 'a>,
     first: u64,
     count: u64,
-    ending: &mut Ending,
+    ending: &mut NameEnding,
     listing: &mut Listing<'a>,
     spending: &mut Spending,
 ) -> Result<(), CacheFault>
@@ -68,7 +68,7 @@ fn add_siblings<'a>(
     requires depth { length ending.old ≤ 254 }
     // It adds the rules of siblings that stand, of which each node takes a record.
     ensures answer { (tree : Tree) → sibling_count tree ≡ count → ReadsListedTree source.now.counted.now first ending.old tree →
-        Gives (λ _. listing.new ≡ listing.old ++ map listed_rule (rules_of tree)) (node_count tree)
+        Gives (λ _. listing.new ≡ listing.old ++ map listed_rule (rules_in tree)) (node_count tree)
         spending.old spending.new result }
     // The ending is then as it was.
     ensures ending_stays { OnOk result (ending.new ≡ ending.old) }
@@ -86,9 +86,9 @@ fn add_siblings<'a>(
 #[cycle(siblings)]
 #[tactic(auto, using(crate::proofs::SiblingNodes::some_node))]
 fn add_sibling<'a>(
-    source: &Source<'_, 'a>,
+    source: &ListingSource<'_, 'a>,
     at: u64,
-    ending: &mut Ending,
+    ending: &mut NameEnding,
     listing: &mut Listing<'a>,
     spending: &mut Spending,
 ) -> Result<(), CacheFault>
@@ -98,7 +98,7 @@ fn add_sibling<'a>(
     requires depth { length ending.old ≤ 254 }
     // It adds the rules of a sibling that stands, of which each node takes a record.
     ensures answer { (tree : Tree) → sibling_count tree ≡ 1 → ReadsListedTree source.now.counted.now at ending.old tree →
-        Gives (λ _. listing.new ≡ listing.old ++ map listed_rule (rules_of tree)) (node_count tree)
+        Gives (λ _. listing.new ≡ listing.old ++ map listed_rule (rules_in tree)) (node_count tree)
         spending.old spending.new result }
     // The ending is then as it was.
     ensures ending_stays { OnOk result (ending.new ≡ ending.old) }
@@ -128,9 +128,9 @@ fn add_sibling<'a>(
 
 /// Adds the rule of a leaf, unless it is a root.
 fn add_leaf<'a>(
-    source: &Source<'_, 'a>,
+    source: &ListingSource<'_, 'a>,
     row: Row,
-    ending: &Ending,
+    ending: &NameEnding,
     listing: &mut Listing<'a>,
     meter: &mut Meter,
 ) -> Result<(), CacheFault>
@@ -138,7 +138,7 @@ fn add_leaf<'a>(
     requires depth { length ending.now ≤ 254 }
     // It adds the rule of a leaf that stands, or is out of memory.
     ensures answer { (at : ℕ) (rule : GlobRule) → row.second ≡ field source.now.counted.now at 1 →
-        ReadsLeaf source.now.counted.now at ending.now rule →
+        ReadsListedLeaf source.now.counted.now at ending.now rule →
         MatchResult result (λ _. row.third ≡ field source.now.counted.now at 2 → listing.new ≡ listing.old ++ listed_rule rule ∷ [])
         (λ e. e ≡ CacheFault.OutOfMemory) }
     // On any bytes it adds a rule with a text of the cache as its type, and a short pattern.
