@@ -81,14 +81,14 @@ uses_up_where {P} {Q} {c} {nodes} weaker is = record {
 }
 
 -- all that a lookup promises of bytes, by what it answers or why it stops
-module _ {tally : Bor (List ℕ) → Option Tally} (c name : List ℕ) (content after : Option (Bor (List ℕ))) (order : Order) where
+module _ (c name : List ℕ) (content after : Option (Bor (List ℕ))) (order : Order) where
   abbrev NotThere : Type 0
   NotThere = ◌≡◌ {A = Option (List ℕ)} (content_of content) None
 
   near_content : (b : PlainDatabase) → GlobsDecide b name order NotThere → GlobsDecide b name order (content ≡ None)
   near_content b = decides b name order NotThere (content ≡ None) (none_of content)
 
-  pub promised : (result : Result Answer Stopped)
+  pub promised : {tally : Bor (List ℕ) → Option Tally} (result : Result Answer Stopped)
       → IfOk result (λ answer. AnswersLookUp (λ (s : Bor (List ℕ)). Some s.now) c name content Little order answer.kind.now)
       → StopsLookUp c name order content after result
       → ReadsLookUp (λ (s : Bor (List ℕ)). Some s.now) tally (λ _. sound) c name order content after (read_in result) (cause_in result)

@@ -1,5 +1,5 @@
 -- What a front of a content gives after the name, by the step that was last, and which databases the steps answer for.
-use Rattle.std.proofs.Common.{◌≡◌, ◌∙◌, ℕ, true, false, List, [], Option, inl, inr, ap, sym}
+use Rattle.std.proofs.Common.{◌≡◌, ◌∙◌, ℕ, true, false, List, Option, inl, inr, ap, sym}
 use Rattle.std.specs.Prelude.{None, Some, ⊤}
 use Rattle.mime_base.specs.Cache.Bytes.{Stands}
 use Rattle.mime_base.specs.Database.{PlainDatabase, pairs_of}

@@ -1,5 +1,5 @@
 -- What a name gives, why it gives nothing, and what it costs, by what is kept of it.
-use Rattle.std.proofs.Common.{◌≡◌, ℕ, ◌*◌, ◌≤◌, true, false, List, [], get_or, Result, Ok, Err, Some, refl, sym, subst, arith}
+use Rattle.std.proofs.Common.{◌≡◌, ℕ, ◌*◌, true, false, List, [], get_or, Result, Ok, Err, Some, refl, sym, subst, arith}
 use Rattle.std.specs.Prelude.{IsErrAnd}
 use denote.Bor.{Bor}
 use Rattle.mime_base.specs.Database.{PlainDatabase, pairs_of}

@@ -1,8 +1,6 @@
 -- What a lookup promises of its outcome, from what it promises of the type or the cause alone.
-use Rattle.std.proofs.Common.{◌≡◌, ◌⊎◌, ℕ, ◌<◌, ◌≤◌, List, length, Option, None, Result, Ok, Err, inl, inr, refl, arith}
-use Rattle.std.specs.Prelude.{IfOk, IsErrAnd, OnOk}
-use denote.Bor.{Bor}
-use Rattle.mime_base.specs.Database.{PlainDatabase}
+use Rattle.std.proofs.Common.{◌≡◌, ◌⊎◌, ℕ, ◌≤◌, List, length, Option, None, Result, Ok, Err, inl, inr, arith}
+use Rattle.std.specs.Prelude.{IfOk}
 use Rattle.mime_base.specs.Format.Packed.{Packed}
 use Rattle.mime_base.specs.declared.magic.host.Host.{Host}
 use Rattle.mime_base.specs.declared.meter.Meter.{Meter}
@@ -17,7 +15,7 @@ use Rattle.mime_lookup.specs.declared.order.Order.{Order}
 use Rattle.mime_lookup.specs.declared.stopped.Cause.{Cause}
 use Rattle.mime_lookup.specs.declared.stopped.Cause.TheVariants as cause
 use Rattle.mime_lookup.specs.declared.stopped.Stopped.{Stopped}
-use Rattle.mime_view.specs.Opening.{IsOpenFault, Opens}
+use Rattle.mime_view.specs.Opening.{IsOpenFault}
 use Rattle.mime_view.specs.declared.fault.CacheFault.{CacheFault}
 
 module _ {R : Type 0} {remaining : R → Option (List ℕ)} {tally : R → Option Tally} {health : R → Health} {c name : List ℕ} {order : Order}

@@ -1,5 +1,5 @@
 -- What the steps of a lookup over a cache have in common: which databases they answer for, and why they stop.
-use Rattle.std.specs.Prelude.{◌≡◌, ◌⊎◌, ℕ, List, [], Option, None}
+use Rattle.std.specs.Prelude.{◌≡◌, ◌⊎◌, ℕ, List, []}
 use Rattle.mime_base.specs.Database.{PlainDatabase}
 use Rattle.mime_base.specs.Database.Limits.{IsWithinLimits}
 use Rattle.mime_base.specs.Format.Spells.{Spells}

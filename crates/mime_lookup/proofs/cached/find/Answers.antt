@@ -1,8 +1,8 @@
-use Rattle.std.proofs.Common.{◌≡◌, ◌+◌, ℕ, Ok, None, ap, arith, inl, length, option_map, max}
+use Rattle.std.proofs.Common.{◌≡◌, Ok, None, ap, arith, inl, length, option_map, max}
 use Rattle.mime_base.specs.declared.meter.Meter.{Meter}
 use Rattle.mime_lookup.specs.Bounds.{stated_extent}
 use Rattle.mime_lookup.specs.Cached.{cause_of}
-use Rattle.mime_lookup.specs.Costs.{glob_cost, record_cost}
+use Rattle.mime_lookup.specs.Costs.{glob_cost}
 use Rattle.mime_lookup.specs.Content.{known_content}
 use Rattle.mime_lookup.proofs.ByContents.{suffices_globs, used_for}
 use Rattle.mime_lookup.proofs.CostLemmas.{costs_more, costs_then}

@@ -1,4 +1,4 @@
-use Rattle.std.proofs.Common.{Ok, Err, refl, arith}
+use Rattle.std.proofs.Common.{Ok, Err, arith}
 use Rattle.mime_lookup.proofs.Outcomes.{headline, reads_answer, reads_cause, stops_cause}
 use Rattle.mime_lookup.proofs.cached.look_up.Goals as goal
 

@@ -1,4 +1,4 @@
-use Rattle.std.proofs.Common.{◌≡◌, None, length, max, ap, arith}
+use Rattle.std.proofs.Common.{◌≡◌, None, length, max, arith}
 use Rattle.std.proofs.lemmas.Result.{IfErr-weaker, on_ok_weaker}
 use Rattle.mime_lookup.specs.Bounds.{stated_extent}
 use Rattle.mime_lookup.specs.Cached.{cause_of}

@@ -1,4 +1,4 @@
-use Rattle.std.proofs.Common.{◌+◌, ◌≤◌, ℕ, length, arith, inl}
+use Rattle.std.proofs.Common.{arith, inl}
 use Rattle.std.specs.Prelude.{⊤}
 use Rattle.mime_base.specs.Database.{pairs_of}
 use Rattle.mime_lookup.specs.Cached.{cause_of, plain_finding}

@@ -1,5 +1,4 @@
 use Rattle.std.proofs.Common.{inl, arith}
-use Rattle.mime_lookup.specs.Cached.{cause_of}
 use Rattle.mime_lookup.specs.StepFaults.{of_globs}
 use Rattle.mime_lookup.proofs.ByNames.{costs_passed, gives_all, gives_one, gives_others, owing_kept, owing_nothing}
 use Rattle.mime_lookup.proofs.StepStops.{passed_on, stops_for}

@@ -1,4 +1,4 @@
-use Rattle.std.proofs.Common.{◌≡◌, ◌∙◌, ◌+◌, ◌≤◌, length, inr, sym, ap, arith, ℕ}
+use Rattle.std.proofs.Common.{◌∙◌, ◌+◌, ◌≤◌, length, inr, sym, ap, arith, ℕ}
 use Rattle.std.proofs.lemmas.Bool.{true≢false}
 use Rattle.mime_base.specs.declared.meter.Meter.{Meter}
 use Rattle.mime_lookup.specs.Costs.{Costs}
