@@ -13,6 +13,7 @@ use crate::magic::matchlet::Matchlet;
 ///
 /// Past it no line looks. It takes no memory.
 pub fn extent(database: &Database) -> u64
+    // It is the greatest sum of start, range and length of value over the lines at all depths, and 0 without lines.
     ensures { result ≡ extent (plain_database database.now) }
 {
     sections_extent(&database.sections)

@@ -27,12 +27,17 @@ pub fn value_in_range(
     range: usize,
     meter: &mut Meter,
 ) -> bool
+    // No offset overflows.
     requires fits { start + range < 2 ^ 64 }
+    // It says whether some window of the range lies in the content and equals the value.
     ensures equal { result ≡ equals_from (line_from start range word value.now (Some mask.now))
         host content.now start range }
+    // No record is counted.
     ensures nodes { meter.new.nodes ≡ meter.old.nodes }
+    // For each window tried it counts the bytes compared, including the first mismatch.
     ensures bytes { meter.new.bytes ≡ raised meter.old.bytes
         (compared_from (line_from start range word value.now (Some mask.now)) host content.now start range) }
+    // The count of bytes never falls, since it stops at the greatest number.
     ensures rises { meter.old.bytes ≤ meter.new.bytes }
 {
     if content.len() < value.len() || content.len() - value.len() < start {

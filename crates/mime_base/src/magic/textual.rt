@@ -13,6 +13,7 @@ const LOOKED_AT: usize = 128;
 /// takes no memory.
 #[tactic(auto, unfolding(crate::specs::Magic::Textual::looks_textual))]
 pub fn looks_textual(content: &[u8]) -> bool
+    // It is true exactly where each control byte among the first 128 bytes is a tab, a newline or a carriage return.
     ensures { result ≡ looks_textual content.now }
 {
     let front = &content[..LOOKED_AT.min(content.len())];

@@ -45,7 +45,9 @@ pub struct Kept<T> {
 impl<T: Kinded> Kept<T> {
     /// That of no directories.
     pub fn new(alloc: Global) -> Kept<T>
+        // Nothing is kept yet.
         ensures items { result.items.items ≡ [] }
+        // No type is discarded yet.
         ensures deleted { result.deleted ≡ [] }
     {
         Kept {
@@ -61,8 +63,10 @@ impl<T: Kinded> Kept<T> {
         items: Vec<T>,
         deleted: &[TypeName],
     ) -> Result<(), OutOfMemory>
+        // Its items come after the others, without those whose types more preferred directories discard.
         ensures items { OnOk result
             (self.new.items.items ≡ self.old.items.items ++ without T.kind_of self.old.deleted items.items) }
+        // Its own markers discard types of the directories after it.
         ensures deleted { OnOk result (self.new.deleted ≡ with_kinds self.old.deleted deleted.now) }
     {
         self.keep(items)?;
