@@ -137,7 +137,7 @@ impl<'a> Counted<'a> {
     /// ends before that. It adds the bytes that it read, at most 256.
     #[tactic(auto, unfolding(crate::specs::Cache::Texts::text_at, crate::specs::Cache::Texts::text_cost))]
     pub fn text_at(&self, at: u64, meter: &mut Meter) -> Result<&'a [u8], ByteFault>
-        // The text ends at the first zero of 256 bytes; without one the fault says if they are too many or cut off.
+        // It ends at the first zero among 256 bytes; else it is `LongText`, or `OutOfRange` where fewer lie there.
         ensures text { MatchResult result
             (λ text. text_at self.now at ≡ Ok text.now) (λ fault. text_at self.now at ≡ Err fault) }
         // No record is counted.
@@ -173,7 +173,7 @@ impl<'a> Counted<'a> {
     /// How the text at `at` compares with a key, byte by byte.
     ///
     /// The faults are those of [`Counted::text_at`], where neither a zero nor a difference comes
-    /// first. It adds the text's bytes up to and with the first difference or the zero, at most 256.
+    /// first. It adds the text's bytes up to and including the first difference or the zero, at most 256.
     #[tactic(auto, unfolding(crate::specs::Cache::Texts::text_at, crate::specs::Cache::Texts::order_at, crate::specs::Cache::Texts::order_cost))]
     #[inline(always)]
     pub fn compare_text(
@@ -220,7 +220,7 @@ impl<'a> Counted<'a> {
     /// A mask's offset of 0 is no mask. `size` and `word` are as [`Counted::cards`] gives them. On a
     /// little-endian host each group of `word` bytes of value and mask is reversed first, if `word` is
     /// 2 or 4 and divides `size`. A value of no bytes needs no place; of any other, first the value and
-    /// then the mask is needed whole. It adds the window's bytes up to and with the first that
+    /// then the mask is needed whole. It adds the window's bytes up to and including the first that
     /// differs, else all; before a fault nothing.
     pub fn value_equals(
         &self,
@@ -267,7 +267,7 @@ impl<'a> Counted<'a> {
     /// Whether the window at one of `range` offsets of the content from `start` on equals a value.
     ///
     /// The numbers are as [`Counted::cards`] gives them. It answers, refuses and adds what
-    /// [`Counted::value_equals`] does of each window that lies in the content, up to and with the first
+    /// [`Counted::value_equals`] does of each window that lies in the content, up to and including the first
     /// that equals: where none lies there, no value is needed and nothing added.
     #[inline]
     pub fn value_in_range(

@@ -12,7 +12,7 @@ ghost use Rattle.mime_base.specs.Format.Spells.{Spells};
 pub fn sample_is_spelled()
     // A cache that was written by hand from the public specification spells the database that it was meant to.
     ensures spells { Spells sample sample_database }
-    // It has a record or a byte for all that a reader's budget is counted by.
+    // The records that a reader may visit, and the values, take no more bytes than the cache has.
     ensures packed { Packed sample sample_database }
 {}
 

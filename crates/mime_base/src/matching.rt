@@ -219,7 +219,7 @@ fn slide<'a>(pattern: &'a [u8], endless: usize, cased: bool, name: &[u8]) -> Rea
 }
 
 /// How many places of a name refuse the byte that a pattern begins with, up to the first that doesn't. Where
-/// that byte may be compared as another, none is passed over.
+/// that byte may be compared as another, none is skipped.
 fn count_refused(pattern: &[u8], cased: bool, name: &[u8]) -> usize
     ensures same { matches (any_bytes ∷ elements (compared cased pattern.now)) (compared cased name.now)
         ≡ matches (any_bytes ∷ elements (compared cased pattern.now)) (compared cased (drop result name.now)) }

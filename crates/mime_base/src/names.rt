@@ -17,10 +17,10 @@ use thiserror::Error;
 /// The longest type name, pattern and icon name, in bytes.
 const LONGEST: usize = 255;
 
-/// Type names and icon names of so many bytes need no allocation.
+/// Type names and icon names of at most that many bytes need no allocation.
 const SHORT_NAME: usize = 24;
 
-/// Patterns of so many bytes need no allocation.
+/// Patterns of at most that many bytes need no allocation.
 const SHORT_PATTERN: usize = 16;
 
 /// The shortest type name, in bytes.

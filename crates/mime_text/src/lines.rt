@@ -86,7 +86,7 @@ pub fn is_passed(line: &[u8]) -> bool
 pub fn fields<'a, 's>(line: &'a [u8], separator: &'s [u8]) -> Split<'a, 's>
     // The separator is one byte.
     requires { length separator.now ≡ 1 }
-    // The fields are what is between the separators, in their order; there is always a first.
+    // The fields are what is between the separators, in their order.
     ensures { result ≡ line_fields (slice_index separator.now 0) line.now }
 {
     line.split_str(separator)

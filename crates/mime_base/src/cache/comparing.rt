@@ -94,7 +94,7 @@ fn common_of_eight(left: &[u8], right: &[u8]) -> usize
 pub fn early_stop(rest: &[u8], key: &[u8]) -> Option<usize>
     // There is a byte at the offset.
     requires { 0 < length rest.now }
-    // A place that is given is where text and key stop to agree, and lies before the text's 256th byte ends.
+    // A place that is given is where text and key stop to agree, among the text's first 256 bytes.
     ensures { IfSome result (λ place. (place ≡ shared (take 256 rest.now) key.now)
         × (place < length (take 256 rest.now))) }
 {

@@ -14,8 +14,7 @@ use memchr::memchr;
 
 /// Whether the window at one of `range` offsets from `start` on equals a value under its mask.
 ///
-/// It adds, of each window up to and with the first that equals, the bytes up to and with the first
-/// that differs.
+/// For each window tried it adds the bytes compared, including the first mismatch.
 #[inline]
 pub fn value_in_range(
     value: &[u8],
@@ -170,7 +169,7 @@ fn length_before(byte: u8, bytes: &[u8]) -> usize
     memchr(byte, bytes).unwrap_or(bytes.len())
 }
 
-/// Whether a window equals a value under its mask. It adds the bytes up to and with the first that
+/// Whether a window equals a value under its mask. It adds the bytes up to and including the first that
 /// differs.
 fn value_is(
     value: &[u8],

@@ -19,6 +19,7 @@ pub trait LineEntry: Drop {
 
     /// The entry that a line spells, or `None` where it is malformed.
     fn read(alloc: Global, line: &[u8]) -> Result<Option<Self>, OutOfMemory>
+        // It is the entry of the line, or none where the line is malformed.
         ensures { IfOk result (λ entry. entry ≡ entry_of line.now) };
 }
 

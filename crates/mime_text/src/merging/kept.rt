@@ -14,6 +14,7 @@ pub trait Kinded: Drop {
 
     /// The type that it gives.
     fn kind(&self) -> &TypeName
+        // The type whose markers discard it.
         ensures { result.now ≡ kind_of self.now };
 }
 
