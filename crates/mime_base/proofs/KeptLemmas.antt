@@ -66,9 +66,11 @@ cased_if_any-is rules = by_cases (any_cased rules) refl
 abbrev by_class : GlobRule → ℕ
 by_class rule = earliness (class_of rule.pattern)
 
+-- the weight of a rule
 abbrev by_weight : GlobRule → ℕ
 by_weight rule = by_class rule * 256 + rule.weight
 
+-- the length of a rule's pattern
 abbrev by_length : GlobRule → ℕ
 by_length rule = by_weight rule * 65536 + length rule.pattern
 

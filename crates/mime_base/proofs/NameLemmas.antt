@@ -20,6 +20,7 @@ abbrev pub wrong_lanes : ℕ → List ℕ → List Bool
 wrong_lanes n xs = map (top 7)
     (zip2 bit_or (zip2 (λ a b. cond (leb a b) 255 0) xs (replicate n 32)) (zip2 (λ a b. cond (a == b) 255 0) xs (replicate n 58)))
 
+-- there is a lane for each byte
 pub wrong_lanes-length : (n : ℕ) (xs : List ℕ) → length xs ≡ n → length (wrong_lanes n xs) ≡ n
 wrong_lanes-length zero [] long = refl
 wrong_lanes-length zero (x ∷ xs) long = absurd (omega arith)

@@ -66,6 +66,7 @@ impl<'a> Model for Counted<'a> {
 impl<'a> Counted<'a> {
     /// A cache of these bytes.
     pub fn new(bytes: &'a [u8]) -> Counted<'a>
+        // The cache has just these bytes.
         ensures { result ≡ bytes.now }
     {
         Counted { bytes }
@@ -74,6 +75,7 @@ impl<'a> Counted<'a> {
     /// How many bytes the cache has. It adds nothing.
     #[inline]
     pub fn length(&self) -> u64
+        // It is exactly how many bytes there are.
         ensures { result ≡ length self.now }
     {
         self.bytes.len() as u64
@@ -83,13 +85,19 @@ impl<'a> Counted<'a> {
     /// the cache. It adds one node, also before a fault.
     #[inline]
     pub fn cards<const N: usize>(&self, at: u64, meter: &mut Meter) -> Result<[u32; N], ByteFault>
+        // At most ten numbers are read at once.
         requires { N ≤ 10 }
+        // An answer means that the record lies in the cache; it gives the record's big-endian numbers in their order.
         ensures numbers { IfOk result
             (λ numbers. (at + 4 * N ≤ length self.now) × (numbers ≡ fields self.now at N)) }
+        // A fault means that the record goes past the end of the cache; it names the offset that was asked for.
         ensures fault { IfErr result
             (λ fault. (length self.now < at + 4 * N) × (fault ≡ ByteFault.OutOfRange at)) }
+        // One record is counted, also before a fault.
         ensures nodes { meter.new.nodes ≡ raised meter.old.nodes 1 }
+        // The count of records never falls, since it stops at the greatest number.
         ensures rises { meter.old.nodes ≤ meter.new.nodes }
+        // No byte is counted.
         ensures bytes { meter.new.bytes ≡ meter.old.bytes }
     {
         let length = self.length();
@@ -103,11 +111,17 @@ impl<'a> Counted<'a> {
     /// The same of a record that is known to lie in the cache.
     #[inline]
     pub fn cards_within<const N: usize>(&self, at: u64, meter: &mut Meter) -> [u32; N]
+        // At most ten numbers are read at once.
         requires most { N ≤ 10 }
+        // The caller knows that the record lies in the cache.
         requires inside { at + 4 * N ≤ length self.now }
+        // It can't fail, and gives the record's big-endian numbers in their order.
         ensures numbers { result ≡ fields self.now at N }
+        // One record is counted.
         ensures nodes { meter.new.nodes ≡ raised meter.old.nodes 1 }
+        // The count of records never falls, since it stops at the greatest number.
         ensures rises { meter.old.nodes ≤ meter.new.nodes }
+        // No byte is counted.
         ensures bytes { meter.new.bytes ≡ meter.old.bytes }
     {
         meter.add_node();
@@ -123,11 +137,16 @@ impl<'a> Counted<'a> {
     /// ends before that. It adds the bytes that it read, at most 256.
     #[tactic(auto, unfolding(crate::specs::Cache::Texts::text_at, crate::specs::Cache::Texts::text_cost))]
     pub fn text_at(&self, at: u64, meter: &mut Meter) -> Result<&'a [u8], ByteFault>
+        // It ends at the first zero among 256 bytes; else it is `LongText`, or `OutOfRange` where fewer lie there.
         ensures text { MatchResult result
             (λ text. text_at self.now at ≡ Ok text.now) (λ fault. text_at self.now at ≡ Err fault) }
+        // No record is counted.
         ensures nodes { meter.new.nodes ≡ meter.old.nodes }
+        // It counts the text and its zero; before a fault, the bytes that lie there.
         ensures bytes { meter.new.bytes ≡ raised meter.old.bytes (text_cost self.now at) }
+        // It counts at most 256 bytes.
         ensures limit { text_cost self.now at ≤ 256 }
+        // The count of bytes never falls, since it stops at the greatest number.
         ensures rises { meter.old.bytes ≤ meter.new.bytes }
     {
         if self.length() <= at {
@@ -154,7 +173,7 @@ impl<'a> Counted<'a> {
     /// How the text at `at` compares with a key, byte by byte.
     ///
     /// The faults are those of [`Counted::text_at`], where neither a zero nor a difference comes
-    /// first. It adds the text's bytes up to and with the first difference or the zero, at most 256.
+    /// first. It adds the text's bytes up to and including the first difference or the zero, at most 256.
     #[tactic(auto, unfolding(crate::specs::Cache::Texts::text_at, crate::specs::Cache::Texts::order_at, crate::specs::Cache::Texts::order_cost))]
     #[inline(always)]
     pub fn compare_text(
@@ -163,14 +182,20 @@ impl<'a> Counted<'a> {
         key: &[u8],
         meter: &mut Meter,
     ) -> Result<Ordering, ByteFault>
+        // The first difference decides, also where no zero follows; a fault comes where neither is among 256 bytes.
         ensures order { result ≡ order_at self.now at key.now }
-        // The order of a text that stands there, and a fault of the text alone.
+        // Where a text stands, the answer is its order against the key.
         ensures text { (text : List ℕ) → text_at self.now at ≡ Ok text →
             result ≡ Ok (slice_cmp nat_cmp text key.now) }
+        // A fault means that no text stands there, and is the fault of reading one.
         ensures fault { IfErr result (λ fault. text_at self.now at ≡ Err fault) }
+        // No record is counted.
         ensures nodes { meter.new.nodes ≡ meter.old.nodes }
+        // It counts the bytes up to and including the first difference or the zero; before a fault, all that lie there.
         ensures bytes { meter.new.bytes ≡ raised meter.old.bytes (order_cost self.now at key.now) }
+        // It counts at most 256 bytes.
         ensures limit { order_cost self.now at key.now ≤ 256 }
+        // The count of bytes never falls, since it stops at the greatest number.
         ensures rises { meter.old.bytes ≤ meter.new.bytes }
     {
         if self.length() <= at {
@@ -195,7 +220,7 @@ impl<'a> Counted<'a> {
     /// A mask's offset of 0 is no mask. `size` and `word` are as [`Counted::cards`] gives them. On a
     /// little-endian host each group of `word` bytes of value and mask is reversed first, if `word` is
     /// 2 or 4 and divides `size`. A value of no bytes needs no place; of any other, first the value and
-    /// then the mask is needed whole. It adds the window's bytes up to and with the first that
+    /// then the mask is needed whole. It adds the window's bytes up to and including the first that
     /// differs, else all; before a fault nothing.
     pub fn value_equals(
         &self,
@@ -207,18 +232,26 @@ impl<'a> Counted<'a> {
         host: Host,
         meter: &mut Meter,
     ) -> Result<bool, ByteFault>
+        // The window has as many bytes as the value.
         requires { size ≡ length window.now }
+        // An answer means that value and mask lie in the cache, and says whether the window equals the value.
         ensures equal { IfOk result (λ equal. (both_lie self.now at mask_at size ≡ true)
             × (equal ≡ window_equals (value_at self.now at size)
             (optional_mask self.now mask_at size) word host window.now)) }
+        // A fault names the value's offset where the value isn't in the cache, and the mask's where only that isn't.
         ensures fault { IfErr result (λ fault. (both_lie self.now at mask_at size ≡ false)
             × (fault ≡ ByteFault.OutOfRange (if lies self.now at size then mask_at else at))) }
+        // No record is counted.
         ensures nodes { meter.new.nodes ≡ meter.old.nodes }
+        // With an answer it counts the window's bytes up to and including the first that differs, else all of them.
         ensures bytes { OnOk result (meter.new.bytes ≡ raised meter.old.bytes
             (min (equal_bytes (value_at self.now at size)
             (optional_mask self.now mask_at size) word host window.now + 1) size)) }
+        // Before a fault no byte is counted.
         ensures bytes_at_fault { OnErr result (meter.new.bytes ≡ meter.old.bytes) }
+        // It counts at most as many bytes as the value has.
         ensures limit { meter.new.bytes ≤ meter.old.bytes + size }
+        // The count of bytes never falls, since it stops at the greatest number.
         ensures rises { meter.old.bytes ≤ meter.new.bytes }
     {
         if window.is_empty() {
@@ -234,7 +267,7 @@ impl<'a> Counted<'a> {
     /// Whether the window at one of `range` offsets of the content from `start` on equals a value.
     ///
     /// The numbers are as [`Counted::cards`] gives them. It answers, refuses and adds what
-    /// [`Counted::value_equals`] does of each window that lies in the content, up to and with the first
+    /// [`Counted::value_equals`] does of each window that lies in the content, up to and including the first
     /// that equals: where none lies there, no value is needed and nothing added.
     #[inline]
     pub fn value_in_range(
@@ -246,19 +279,28 @@ impl<'a> Counted<'a> {
         host: Host,
         meter: &mut Meter,
     ) -> Result<bool, ByteFault>
+        // Where value and mask lie in the cache, it says whether some window of the range equals the value.
         ensures equal { both_lie self.now value.at value.mask_at value.size ≡ true → IsOkAnd result (λ equal.
             equal ≡ equals_from (stated_line self.now value start range) host content.now start range) }
+        // Where no window of the range lies in the content, it is `false`, and neither value nor mask is needed.
         ensures outside { window_fits value.size start range content.now ≡ false → result ≡ Ok false }
+        // Where some window does, an answer means that value and mask lie in the cache.
         ensures needs { window_fits value.size start range content.now ≡ true →
             OnOk result (both_lie self.now value.at value.mask_at value.size ≡ true) }
+        // A fault names the value's offset where the value isn't in the cache, and the mask's where only that isn't.
         ensures fault { IfErr result (λ fault. (both_lie self.now value.at value.mask_at value.size ≡ false)
             × (fault ≡ ByteFault.OutOfRange (if lies self.now value.at value.size then value.mask_at else value.at))) }
+        // No record is counted.
         ensures nodes { meter.new.nodes ≡ meter.old.nodes }
+        // For each window tried it counts the bytes compared, including the first mismatch.
         ensures bytes { both_lie self.now value.at value.mask_at value.size ≡ true → meter.new.bytes ≡ raised meter.old.bytes
             (compared_from (stated_line self.now value start range) host content.now start range) }
+        // Where value or mask isn't in the cache, no byte is counted.
         ensures bytes_outside { both_lie self.now value.at value.mask_at value.size ≡ false →
             meter.new.bytes ≡ meter.old.bytes }
+        // It counts at most one byte more than the content has, for each byte of the value.
         ensures limit { meter.new.bytes ≤ meter.old.bytes + (length content.now + 1) * value.size }
+        // The count of bytes never falls, since it stops at the greatest number.
         ensures rises { meter.old.bytes ≤ meter.new.bytes }
     {
         let StatedValue {

@@ -51,11 +51,17 @@ pub struct Database {
 impl Database {
     /// A database of glob rules alone.
     pub fn of_rules(alloc: Global, rules: Vec<GlobRule>) -> Database
+        // The rules are those that were given, in their order.
         ensures rules { result.rules.items ≡ rules.items }
+        // There is no alias.
         ensures aliases { result.aliases.items ≡ [] }
+        // There is no pair of a type and its parent.
         ensures parents { result.parents.items ≡ [] }
+        // There is no magic.
         ensures sections { result.sections.items ≡ [] }
+        // There is no icon.
         ensures icons { result.icons.items ≡ [] }
+        // There is no generic icon.
         ensures generic_icons { result.generic_icons.items ≡ [] }
     {
         Database {

@@ -10,13 +10,17 @@ ghost use Rattle.mime_base.specs.Format.Spells.{Spells};
 
 /// A cache of 240 bytes spells its database, and is packed.
 pub fn sample_is_spelled()
+    // A cache that was written by hand from the public specification spells the database that it was meant to.
     ensures spells { Spells sample sample_database }
+    // The records that a reader may visit, and the values, take no more bytes than the cache has.
     ensures packed { Packed sample sample_database }
 {}
 
 /// The bytes that this database and the empty one take where no text is shared.
 #[tactic(auto, unfolding(crate::specs::Kept::class_of))]
 pub fn rooms()
+    // The sample takes 256 bytes where no text is shared.
     ensures sample { room sample_database ≡ 256 }
+    // The empty database takes 88 bytes: header, counts and heads.
     ensures empty { room empty_database ≡ 88 }
 {}

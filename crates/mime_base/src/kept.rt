@@ -23,6 +23,7 @@ use std::marker::Model;
 /// The length is that of the pattern, in bytes.
 #[tactic(auto, unfolding(crate::specs::Kept::rank))]
 pub fn rank_of(class: Class, weight: u8, length: u16, cased: bool) -> u32
+    // The rank orders by class, then by weight, then by length, then case-sensitive rules first, as one number.
     ensures { result ≡ rank class weight length cased }
 {
     // A weight is below 256, a length below 65,536 and the flag below 2.
@@ -36,7 +37,9 @@ pub fn rank_of(class: Class, weight: u8, length: u16, cased: bool) -> u32
 
 /// The rank of a rule that matches.
 pub fn rank_of_rule(rule: &GlobRule) -> u32
+    // It is the rank of the rule's class, weight, length of pattern and case.
     ensures rank { result ≡ rank_of_rule rule.now }
+    // Weight and length have room in a rank, for every rule.
     ensures limits { FitsRank rule.now }
 {
     let pattern = rule.pattern.bytes();
@@ -50,6 +53,7 @@ pub fn rank_of_rule(rule: &GlobRule) -> u32
 
 /// The law of ranks: the hits of the greatest rank are those that are preferred.
 pub fn greatest_rank_is_preferred()
+    // Of any rules that match, those of the greatest rank are those that the four preferences keep, one after another.
     ensures { GreatestRankIsPreferred }
 {}
 
@@ -80,6 +84,7 @@ impl<T> Model for Best<T> {
 impl<T: Drop> Best<T> {
     /// Nothing yet.
     pub fn new(alloc: Global) -> Best<T>
+        // Nothing was offered.
         ensures { result ≡ [] }
     {
         Best {
@@ -91,6 +96,7 @@ impl<T: Drop> Best<T> {
     /// Whether an item of this rank would be kept: unless something kept has a greater rank. Where
     /// nothing is kept, any would.
     pub fn wants(&self, rank: u32) -> bool
+        // It is true exactly where no kept item has a greater rank.
         ensures { result ≡ list_all (λ offer. nat_le offer.0 rank) self.now }
     {
         self.rank <= rank
@@ -98,9 +104,12 @@ impl<T: Drop> Best<T> {
 
     /// Keeps the item unless something kept has a greater rank, and drops what has a lesser one.
     pub fn offer(&mut self, rank: u32, item: T) -> Result<(), OutOfMemory>
+        // What is kept are the offers of the greatest rank so far, in the order in which they came.
         ensures kept { (offers : List (ℕ × T)) → self.old ≡ best offers →
             OnOk result (self.new ≡ best (offers ++ (rank, item) ∷ [])) }
+        // Where memory runs out, all is as it was.
         ensures unchanged { OnErr result (self.new ≡ self.old) }
+        // At most one item more is kept.
         ensures one_more { length self.new ≤ length self.old + 1 }
     {
         if rank < self.rank {
@@ -116,6 +125,7 @@ impl<T: Drop> Best<T> {
 
     /// The items that were kept.
     pub fn into_items(self) -> Vec<T>
+        // They are all that was kept, in the order in which it came.
         ensures { result.items ≡ map (λ offer. offer.1) self }
     {
         let Best { rank: _, items } = self;

@@ -42,13 +42,20 @@ use memchr::memchr;
 /// bytes: exactly as many as the definition `rule_tests` says, whether the name matches or not. A
 /// test reads its element and no more of the pattern.
 pub fn glob_matches(pattern: &[u8], cased: bool, name: &[u8], meter: &mut Meter) -> bool
+    // The answer is computed by the definition, so worked rows can be checked.
     ensures answer { result ≡ rule_matches pattern.now cased name.now }
+    // It is true exactly where the pattern's elements match the name, as they are or folded.
     ensures meaning { IsTrue result ↔ RuleMatches pattern.now cased name.now }
+    // No record is counted.
     ensures nodes { meter.new.nodes ≡ meter.old.nodes }
+    // Each test of an element against a byte, or against the end of the name, counts one byte, and nothing else does.
     ensures tests { meter.new.bytes ≡ raised meter.old.bytes (rule_tests pattern.now cased name.now) }
+    // A name that matches takes a test for each element that takes a byte, any other takes one if there is an element.
     ensures least { raised meter.old.bytes (least_tests result (elements (compared cased pattern.now)))
         ≤ meter.new.bytes }
+    // The count of bytes never falls, since it stops at the greatest number.
     ensures rises { meter.old.bytes ≤ meter.new.bytes }
+    // For a pattern of p and a name of n bytes there are at most (p + 1)·(n + 1) tests.
     ensures cost { meter.new.bytes ≤ meter.old.bytes + (length pattern.now + 1) * (length name.now + 1) }
 {
     let searched = search(pattern, cased, name);
@@ -212,7 +219,7 @@ fn slide<'a>(pattern: &'a [u8], endless: usize, cased: bool, name: &[u8]) -> Rea
 }
 
 /// How many places of a name refuse the byte that a pattern begins with, up to the first that doesn't. Where
-/// that byte may be compared as another, none is passed over.
+/// that byte may be compared as another, none is skipped.
 fn count_refused(pattern: &[u8], cased: bool, name: &[u8]) -> usize
     ensures same { matches (any_bytes ∷ elements (compared cased pattern.now)) (compared cased name.now)
         ≡ matches (any_bytes ∷ elements (compared cased pattern.now)) (compared cased (drop result name.now)) }

@@ -15,6 +15,7 @@ pub struct Meter {
 impl Meter {
     /// A meter of zeros.
     pub fn new() -> Meter
+        // Both counts are zero.
         ensures { result ≡ record { nodes = 0; bytes = 0 } }
     {
         Meter { nodes: 0, bytes: 0 }
@@ -23,7 +24,9 @@ impl Meter {
     /// Counts one record.
     #[inline]
     pub fn add_node(&mut self)
+        // One record is counted and no byte, up to the greatest number.
         ensures added { self.new ≡ record self.old { nodes = raised self.old.nodes 1 } }
+        // The count of records never falls.
         ensures rises { self.old.nodes ≤ self.new.nodes }
     {
         self.nodes = self.nodes.saturating_add(1);
@@ -32,7 +35,9 @@ impl Meter {
     /// Counts bytes or tests.
     #[inline]
     pub fn add_bytes(&mut self, count: u64)
+        // That many bytes are counted and no record, up to the greatest number.
         ensures added { self.new ≡ record self.old { bytes = raised self.old.bytes count } }
+        // The count of bytes never falls.
         ensures rises { self.old.bytes ≤ self.new.bytes }
     {
         self.bytes = self.bytes.saturating_add(count);

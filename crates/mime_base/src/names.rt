@@ -17,10 +17,10 @@ use thiserror::Error;
 /// The longest type name, pattern and icon name, in bytes.
 const LONGEST: usize = 255;
 
-/// Type names and icon names of so many bytes need no allocation.
+/// Type names and icon names of at most that many bytes need no allocation.
 const SHORT_NAME: usize = 24;
 
-/// Patterns of so many bytes need no allocation.
+/// Patterns of at most that many bytes need no allocation.
 const SHORT_PATTERN: usize = 16;
 
 /// The shortest type name, in bytes.
@@ -71,8 +71,10 @@ impl Model for TypeName {
 impl TypeName {
     /// A copy of the bytes as a name, or [`NameFault::BadType`] where they are past its limits.
     pub fn new(alloc: Global, bytes: &[u8]) -> Result<TypeName, NameFault>
+        // Bytes within the limits are copied whole, unless memory runs out.
         ensures accepted { is_type_name bytes.now ≡ true →
             MatchResult result (λ name. name ≡ bytes.now) (λ fault. fault ≡ NameFault.OutOfMemory) }
+        // Any other bytes are `BadType`, however little memory there is.
         ensures refused { is_type_name bytes.now ≡ false → result ≡ Err NameFault.BadType }
     {
         if !is_type_name(bytes) {
@@ -86,7 +88,9 @@ impl TypeName {
 
     /// The text of the name.
     pub fn bytes(&self) -> &[u8]
+        // They are the bytes that the name was made of.
         ensures text { result.now ≡ self.now }
+        // They are within the limits of a type name.
         ensures limits { is_type_name self.now ≡ true }
     {
         &self.text
@@ -120,8 +124,10 @@ impl Model for Pattern {
 impl Pattern {
     /// A copy of the bytes as a pattern, or [`NameFault::BadPattern`] where they are past its limits.
     pub fn new(alloc: Global, bytes: &[u8]) -> Result<Pattern, NameFault>
+        // Bytes within the limits are copied whole, unless memory runs out.
         ensures accepted { is_pattern bytes.now ≡ true →
             MatchResult result (λ pattern. pattern ≡ bytes.now) (λ fault. fault ≡ NameFault.OutOfMemory) }
+        // Any other bytes are `BadPattern`, however little memory there is.
         ensures refused { is_pattern bytes.now ≡ false → result ≡ Err NameFault.BadPattern }
     {
         if !is_pattern(bytes) {
@@ -135,7 +141,9 @@ impl Pattern {
 
     /// The text of the pattern.
     pub fn bytes(&self) -> &[u8]
+        // They are the bytes that the pattern was made of.
         ensures text { result.now ≡ self.now }
+        // They are within the limits of a pattern.
         ensures limits { is_pattern self.now ≡ true }
     {
         &self.glob
@@ -165,8 +173,10 @@ impl IconName {
     /// A copy of the bytes as the name of an icon, or [`NameFault::BadIcon`] where they are past its
     /// limits.
     pub fn new(alloc: Global, bytes: &[u8]) -> Result<IconName, NameFault>
+        // Bytes within the limits are copied whole, unless memory runs out.
         ensures accepted { is_icon_name bytes.now ≡ true →
             MatchResult result (λ icon. icon ≡ bytes.now) (λ fault. fault ≡ NameFault.OutOfMemory) }
+        // Any other bytes are `BadIcon`, however little memory there is.
         ensures refused { is_icon_name bytes.now ≡ false → result ≡ Err NameFault.BadIcon }
     {
         if !is_icon_name(bytes) {
@@ -180,7 +190,9 @@ impl IconName {
 
     /// The text of the name.
     pub fn bytes(&self) -> &[u8]
+        // They are the bytes that the name was made of.
         ensures text { result.now ≡ self.now }
+        // They are within the limits of an icon's name.
         ensures limits { is_icon_name self.now ≡ true }
     {
         &self.name

@@ -2,7 +2,8 @@ pub mod Namespaces
 pub mod Written
 pub mod Views
 pub mod Lines
-pub mod Endings
-pub mod Paths
+pub mod Lists
+pub mod SuffixTree
+pub mod Texts
 pub mod Runs
 pub mod Parts

@@ -7,7 +7,7 @@ use Rattle.mime_base.specs.Magic.{plain_sections}
 use Rattle.mime_base.specs.Database.PlainPairs.{plain_icons, plain_pairs}
 use Rattle.mime_base.specs.declared.database.Database as code
 use Rattle.mime_base.specs.declared.magic.Section.{Section}
-use Rattle.mime_store.specs.Endings.{AreEndings, entries_room, ending_entry}
+use Rattle.mime_store.specs.SuffixTree.{AreEndings, entries_room, ending_entry}
 use Rattle.mime_store.specs.Runs.{plain_run, runs_room}
 use Rattle.mime_store.specs.Views.{first_text, pair_texts, rule_of}
 use Rattle.mime_store.specs.declared.run.Run.{Run}

@@ -25,7 +25,3 @@ rule_of stored = stored.rule.now
 -- what the texts of a rule take
 abbrev pub rule_texts_room : GlobRule → ℕ
 rule_texts_room rule = text_room (stored_text rule) + text_room rule.kind
-
--- the second text alone
-abbrev pub second_view : TextPair → List ℕ
-second_view pair = pair.second.now

@@ -7,17 +7,21 @@ ghost use Rattle.std.specs.Prelude.{◌≡◌, true, ◌+◌, ◌-◌, ◌*◌, 
 ghost use Rattle.mime_base.specs.Cache.Bytes.{AreCards, Stands, card_bytes, cards};
 ghost use Rattle.mime_base.specs.Format.Records.{CardsAt, TextAt};
 ghost use Rattle.mime_base.specs.Format.Room.{padded, text_room};
-ghost use Rattle.mime_store.specs.Paths.{fits_text};
+ghost use Rattle.mime_store.specs.Texts.{fits_text};
 ghost use Rattle.mime_store.specs.Written.{Grew, Written};
 
 use byteorder::{BigEndian, ByteOrder};
 use mime_base::OutOfMemory;
 
-/// Numbers of 32 bits, one after another; answers where the first stands.
+/// Numbers of 32 bits, one after another; returns the offset of the first.
 pub fn append_numbers(out: &mut Vec<u8>, numbers: &[u32]) -> Result<u32, OutOfMemory>
+    // The bytes stay within what a number of 32 bits can point to.
     requires room { length out.old.items + 4 * length numbers.now < 2 ^ 32 }
+    // The header has its place.
     requires begun { 40 ≤ length out.old.items }
+    // The bytes grow by four for each number, and what was there stays.
     ensures grew { OnOk result (Grew out.old.items out.new.items (4 * length numbers.now)) }
+    // The numbers stand, big-endian, at the offset that is returned.
     ensures stand { IfOk result (λ at. CardsAt (Written out.new.items) at numbers.now) }
 {
     let at = place_of(out);
@@ -25,12 +29,17 @@ pub fn append_numbers(out: &mut Vec<u8>, numbers: &[u32]) -> Result<u32, OutOfMe
     Ok(at)
 }
 
-/// A count, and the numbers of so many records after it; answers where the count stands.
+/// A count, and the numbers of that many records after it; returns the offset of the count.
 pub fn append_list(out: &mut Vec<u8>, count: u32, numbers: &[u32]) -> Result<u32, OutOfMemory>
+    // The bytes stay within what a number of 32 bits can point to.
     requires room { length out.old.items + (4 + 4 * length numbers.now) < 2 ^ 32 }
+    // The header has its place.
     requires begun { 40 ≤ length out.old.items }
+    // The bytes grow by four for the count and for each number, and what was there stays.
     ensures grew { OnOk result (Grew out.old.items out.new.items (4 + 4 * length numbers.now)) }
+    // The count stands at the offset that is returned.
     ensures count { IfOk result (λ at. CardsAt (Written out.new.items) at (count ∷ [])) }
+    // The numbers stand right after the count.
     ensures numbers { IfOk result (λ at. CardsAt (Written out.new.items) (at + 4) numbers.now) }
 {
     let at = place_of(out);
@@ -39,11 +48,15 @@ pub fn append_list(out: &mut Vec<u8>, count: u32, numbers: &[u32]) -> Result<u32
     Ok(at)
 }
 
-/// Bytes, and zeros up to a multiple of 4; answers where the bytes stand.
+/// Bytes, and zeros up to a multiple of 4; returns the offset of the bytes.
 pub fn append_value(out: &mut Vec<u8>, bytes: &[u8]) -> Result<u32, OutOfMemory>
+    // The bytes stay within what a number of 32 bits can point to.
     requires room { length out.old.items + padded (length bytes.now) < 2 ^ 32 }
+    // The header has its place.
     requires begun { 40 ≤ length out.old.items }
+    // The bytes grow by the value's length, rounded up to a multiple of 4, and what was there stays.
     ensures grew { OnOk result (Grew out.old.items out.new.items (padded (length bytes.now))) }
+    // The value stands at the offset that is returned.
     ensures stands { IfOk result (λ at. Written out.new.items at bytes.now) }
 {
     let at = place_of(out);
@@ -52,12 +65,17 @@ pub fn append_value(out: &mut Vec<u8>, bytes: &[u8]) -> Result<u32, OutOfMemory>
     Ok(at)
 }
 
-/// A text, its zero, and zeros up to a multiple of 4; answers where the text stands.
+/// A text, its zero, and zeros up to a multiple of 4; returns the offset of the text.
 pub fn append_text(out: &mut Vec<u8>, text: &[u8]) -> Result<u32, OutOfMemory>
+    // The bytes stay within what a number of 32 bits can point to.
     requires room { length out.old.items + text_room text.now < 2 ^ 32 }
+    // The header has its place.
     requires begun { 40 ≤ length out.old.items }
+    // The text has at most 255 bytes, and none of them is zero.
     requires fits { fits_text text.now ≡ true }
+    // The bytes grow by the text and its zero, rounded up to a multiple of 4, and what was there stays.
     ensures grew { OnOk result (Grew out.old.items out.new.items (text_room text.now)) }
+    // The text and its zero stand at the offset that is returned.
     ensures stands { IfOk result (λ at. TextAt (Written out.new.items) at text.now) }
 {
     let at = place_of(out);
@@ -69,8 +87,11 @@ pub fn append_text(out: &mut Vec<u8>, text: &[u8]) -> Result<u32, OutOfMemory>
 
 /// Numbers of 32 bits in place of the first bytes.
 pub fn patch(out: &mut Vec<u8>, numbers: &[u32])
+    // There are as many bytes as the numbers take.
     requires { 4 * length numbers.now ≤ length out.old.items }
+    // The first bytes are now the numbers, big-endian, and all after them stays.
     ensures after { out.new.items ≡ cards numbers.now ++ drop (4 * length numbers.now) out.old.items }
+    // The numbers stand at offset 0.
     ensures stand { CardsAt (Stands out.new.items) 0 numbers.now }
 {
     overwrite(out, numbers);
@@ -78,6 +99,7 @@ pub fn patch(out: &mut Vec<u8>, numbers: &[u32])
 
 /// Zeros.
 pub fn append_zeros(out: &mut Vec<u8>, count: usize) -> Result<(), OutOfMemory>
+    // Just that many zeros are appended.
     ensures { OnOk result (out.new.items ≡ out.old.items ++ replicate count 0) }
 {
     for _ in 0..count {
@@ -88,7 +110,9 @@ pub fn append_zeros(out: &mut Vec<u8>, count: usize) -> Result<(), OutOfMemory>
 
 /// How many bytes are missing to a multiple of 4.
 pub fn padding(count: usize) -> usize
+    // The next multiple of 4 is a number of the machine.
     requires { count < 2 ^ 33 }
+    // It is what is missing to the next multiple of 4, which is 0 at one.
     ensures { result ≡ padded count - count }
 {
     (4 - count % 4) % 4

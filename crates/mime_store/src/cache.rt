@@ -15,14 +15,14 @@ ghost use Rattle.mime_store.specs.Views.{pair_texts};
 
 use crate::bytes::{append_list, append_zeros, patch};
 use crate::fault::StoreFault;
-use crate::globs::write_rules;
+use crate::list::{take_list, write_list};
 use crate::magic::write_magic;
-use crate::pairs::write_pairs;
-use crate::parents::{runs, write_parents};
+use crate::parents::runs;
 use crate::parts::{Parts, parts_of};
-use crate::room::{take_pairs, take_rules, take_runs, take_sections, take_tree};
+use crate::room::take_tree;
 use crate::run::Run;
 use crate::suffix_tree::write_tree;
+use crate::text_pair::TextPair;
 use mime_base::{Database, OutOfMemory};
 use std::alloc::Global;
 
@@ -49,11 +49,17 @@ const FIXED_ROOM: usize = 88;
 /// It is refused as [`StoreFault::TooLarge`] where the database, its texts not shared, takes more than
 /// `limit` bytes, or than the 268,435,456 that a cache may have. The same database gives the same bytes.
 pub fn write_cache(alloc: Global, database: &Database, limit: usize) -> Result<Vec<u8>, StoreFault>
+    // The bytes spell the database: each part, read by the format's own definition, says just what the database does.
     ensures spells { IfOk result (λ cache. Spells cache.items (plain_database database.now)) }
+    // The records that a reader may visit, and the values, take no more bytes than the cache has.
     ensures packed { IfOk result (λ cache. Packed cache.items (plain_database database.now)) }
+    // The list of namespaces is empty.
     ensures no_namespaces { IfOk result (λ cache. HasNoNamespaces cache.items) }
+    // The cache has at most the bytes that the database takes where no text is shared.
     ensures long { IfOk result (λ cache. length cache.items ≤ room (plain_database database.now)) }
+    // There is a cache only where the database takes at most the limit, and at most 268,435,456 bytes.
     ensures fits { IfOk result (λ cache. room (plain_database database.now) ≤ min limit cache_limit) }
+    // A database is too large only where it takes more than the limit, or more than 268,435,456 bytes.
     ensures too_large { IfErr result
         (λ fault. fault ≡ StoreFault.TooLarge → min limit cache_limit < room (plain_database database.now)) }
 {
@@ -72,7 +78,7 @@ fn lesser(left: usize, right: usize) -> usize
     if left < right { left } else { right }
 }
 
-/// How many bytes a database takes, where they are at most so many.
+/// How many bytes a database takes, where they are at most the limit.
 fn size_within(
     limit: usize,
     database: &Database,
@@ -100,18 +106,18 @@ fn take_room(
         (λ rest. rest + parts_room parts.now runs.now database.now.sections.items ≡ left) }
 {
     let left = left.checked_sub(FIXED_ROOM)?;
-    let left = take_pairs(left, &parts.aliases)?;
-    let left = take_runs(left, runs)?;
-    let left = take_rules(left, &parts.literals)?;
+    let left = take_list::<2, TextPair<'_>>(left, &parts.aliases)?;
+    let left = take_list(left, runs)?;
+    let left = take_list(left, &parts.literals)?;
     let left = take_tree(left, &parts.endings)?;
-    let left = take_rules(left, &parts.globs)?;
-    let left = take_sections(left, &database.sections)?;
-    let left = take_pairs(left, &parts.icons)?;
-    take_pairs(left, &parts.generic_icons)
+    let left = take_list(left, &parts.globs)?;
+    let left = take_list(left, &database.sections)?;
+    let left = take_list::<2, TextPair<'_>>(left, &parts.icons)?;
+    take_list::<2, TextPair<'_>>(left, &parts.generic_icons)
 }
 
 /// The parts, and then the header in the place that was kept for it; they are `size` bytes.
-#[tactic(auto, using(crate::proofs::Written::grew_length, crate::proofs::Spelling::kept_length))]
+#[tactic(auto, using(crate::proofs::BytesLemmas::Written::grew_length, crate::proofs::CacheLemmas::Spelling::kept_length))]
 fn write_parts(
     alloc: Global,
     size: usize,
@@ -129,15 +135,15 @@ fn write_parts(
 {
     let mut out = Vec::with_capacity(alloc, size)?;
     append_zeros(&mut out, HEADER_LENGTH)?;
-    let aliases = write_pairs(alloc, &mut out, &parts.aliases)?;
-    let parents = write_parents(alloc, &mut out, runs)?;
-    let literals = write_rules(alloc, &mut out, &parts.literals)?;
+    let aliases = write_list::<2, TextPair<'_>>(alloc, &mut out, &parts.aliases)?;
+    let parents = write_list(alloc, &mut out, runs)?;
+    let literals = write_list(alloc, &mut out, &parts.literals)?;
     let tree = write_tree(alloc, &mut out, &parts.endings)?;
-    let globs = write_rules(alloc, &mut out, &parts.globs)?;
+    let globs = write_list(alloc, &mut out, &parts.globs)?;
     let magic = write_magic(alloc, &mut out, &database.sections)?;
     let namespaces = append_list(&mut out, 0, &[])?;
-    let icons = write_pairs(alloc, &mut out, &parts.icons)?;
-    let generic_icons = write_pairs(alloc, &mut out, &parts.generic_icons)?;
+    let icons = write_list::<2, TextPair<'_>>(alloc, &mut out, &parts.icons)?;
+    let generic_icons = write_list::<2, TextPair<'_>>(alloc, &mut out, &parts.generic_icons)?;
     patch(
         &mut out,
         &[

@@ -2,7 +2,7 @@
 
 ghost use Rattle.std.specs.Prelude.{◌≡◌, ◌<◌, true, length};
 ghost use Rattle.mime_base.specs.Format.Stored.{reversed_ending};
-ghost use Rattle.mime_store.specs.Paths.{has_no_zero};
+ghost use Rattle.mime_store.specs.Texts.{has_no_zero};
 
 use mime_base::GlobRule;
 

@@ -18,6 +18,7 @@ mod cache;
 mod ending;
 mod fault;
 mod globs;
+mod list;
 mod magic;
 mod pairs;
 mod parents;

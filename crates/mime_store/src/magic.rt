@@ -1,35 +1,39 @@
 //! The magic list: sections, their lines as a forest, and how far they look at a content.
 
 ghost use Rattle.std.specs.Prelude.{◌≡◌, ◌+◌, ◌^◌, ◌<◌, ◌≤◌, true, length, max, OnOk, IfOk};
-ghost use Rattle.mime_base.specs.Format.Magic.{IsSection, LinesAt, MagicAt, MaskAt};
+ghost use Rattle.mime_base.specs.Format.Magic.{LinesAt, MagicAt, MaskAt};
 ghost use Rattle.mime_base.specs.Format.Room.{lines_room, mask_room, sections_room};
 ghost use Rattle.mime_base.specs.Magic.Extent.{forest_extent, sections_extent};
 ghost use Rattle.mime_base.specs.Magic.{are_allowed_sections, forest_of, mask_bytes, plain_matchlet, plain_matchlets};
-ghost use Rattle.mime_base.specs.Magic.{plain_section, plain_sections};
-ghost use Rattle.mime_store.specs.Lines.{IsLineRecord, matchlet_extent, matchlet_parts_room, section_parts_room};
+ghost use Rattle.mime_base.specs.Magic.{plain_sections};
+ghost use Rattle.mime_store.specs.Lines.{IsLineRecord, matchlet_extent, matchlet_parts_room};
+ghost use Rattle.mime_store.specs.Lists.{IsRow};
 ghost use Rattle.mime_store.specs.Written.{Grew, Written};
 
 use crate::bytes::{append_numbers, append_text, append_value};
+use crate::list::{Entry, gather};
+use crate::room::{take_lines, take_text};
 use mime_base::{Matchlet, OutOfMemory, Section};
 use std::alloc::Global;
 
-/// The sections with all that belongs to them, then the head of the list; answers where the head stands.
+/// The sections with all that belongs to them, then the head of the list; returns the offset of the head.
 pub fn write_magic(
     alloc: Global,
     out: &mut Vec<u8>,
     sections: &[Section],
 ) -> Result<u32, OutOfMemory>
+    // The bytes stay within what a number of 32 bits can point to.
     requires room { length out.old.items + (12 + sections_room (plain_sections sections.now)) < 2 ^ 32 }
+    // The header has its place.
     requires begun { 40 ≤ length out.old.items }
+    // Each line is one that `magic` allows, so that its numbers fit 32 bits.
     requires allowed { are_allowed_sections (plain_sections sections.now) ≡ true }
+    // The bytes grow by the head and by what the sections take, and what was there stays.
     ensures grew { OnOk result (Grew out.old.items out.new.items (12 + sections_room (plain_sections sections.now))) }
+    // The head of the magic list stands at the offset that is returned, with the sections in their order.
     ensures stands { IfOk result (λ at. MagicAt (Written out.new.items) at (plain_sections sections.now)) }
 {
-    let mut records = Vec::new(alloc);
-    for section in sections {
-        let record = write_section(alloc, out, section)?;
-        records.extend_from_slice(&record)?;
-    }
+    let records = gather(alloc, out, sections)?;
     let first = append_numbers(out, &records)?;
     let at = append_numbers(
         out,
@@ -38,24 +42,39 @@ pub fn write_magic(
     Ok(at)
 }
 
-/// The type of a section and its lines; answers the section's record.
-#[tactic(auto, using(crate::proofs::Fits::type_fits))]
-fn write_section(
-    alloc: Global,
-    out: &mut Vec<u8>,
-    section: &Section,
-) -> Result<[u32; 4], OutOfMemory>
-    requires room { length out.old.items + section_parts_room (plain_section section.now) < 2 ^ 32 }
-    requires begun { 40 ≤ length out.old.items }
-    ensures grew { OnOk result (Grew out.old.items out.new.items (section_parts_room (plain_section section.now))) }
-    ensures row { IfOk result (λ row. IsSection (Written out.new.items) (plain_section section.now) row) }
-{
-    let kind = append_text(out, section.kind.bytes())?;
-    let first = write_lines(alloc, out, &section.lines)?;
-    Ok([section.priority, kind, section.lines.len() as u32, first])
+impl Entry<4> for Section {
+    ghost use Rattle.mime_base.specs.Format.Magic.{IsSection};
+    ghost use Rattle.mime_base.specs.Magic.{PlainSection, plain_section};
+    ghost use Rattle.mime_store.specs.Lines.{section_parts_room};
+    ghost use Rattle.std.proofs.Common.{lit<, lit≤};
+
+    ghost Plain = { PlainSection };
+
+    ghost plain = { plain_section };
+
+    ghost room = { section_parts_room };
+
+    ghost IsRecord = { IsSection };
+
+    fn take_room(&self, left: usize) -> Option<usize> {
+        let left = left.checked_sub(16)?;
+        let left = take_text(left, self.kind.bytes())?;
+        take_lines(left, &self.lines)
+    }
+
+    #[tactic(auto, using(crate::proofs::RulesLemmas::Fits::type_fits))]
+    fn write(&self, alloc: Global, out: &mut Vec<u8>) -> Result<[u32; 4], OutOfMemory> {
+        let kind = append_text(out, self.kind.bytes())?;
+        let first = write_lines(alloc, out, &self.lines)?;
+        Ok([self.priority, kind, self.lines.len() as u32, first])
+    }
+
+    ghost some = { lit< tt };
+
+    ghost few = { lit≤ tt };
 }
 
-/// What belongs to the lines, then their records; answers where the first one stands.
+/// What belongs to the lines, then their records; returns the offset of the first one.
 #[cycle(lines)]
 fn write_lines(alloc: Global, out: &mut Vec<u8>, lines: &[Matchlet]) -> Result<u32, OutOfMemory>
     requires room { length out.old.items + lines_room (forest_of (plain_matchlets lines.now)) < 2 ^ 32 }
@@ -72,13 +91,13 @@ fn write_lines(alloc: Global, out: &mut Vec<u8>, lines: &[Matchlet]) -> Result<u
     Ok(at)
 }
 
-/// What belongs to a line; answers its record.
+/// What belongs to a line; returns its record.
 #[cycle(lines)]
 fn write_parts(alloc: Global, out: &mut Vec<u8>, line: &Matchlet) -> Result<[u32; 8], OutOfMemory>
     requires room { length out.old.items + matchlet_parts_room (plain_matchlet line.now) < 2 ^ 32 }
     requires begun { 40 ≤ length out.old.items }
     ensures grew { OnOk result (Grew out.old.items out.new.items (matchlet_parts_room (plain_matchlet line.now))) }
-    ensures row { IfOk result (λ row. IsLineRecord (Written out.new.items) (plain_matchlet line.now) row) }
+    ensures row { IfOk result (λ row. IsRow IsLineRecord 8 out.new.items (plain_matchlet line.now) row) }
 {
     let value = append_value(out, &line.value)?;
     let mask = write_mask(out, &line.mask)?;
@@ -90,7 +109,7 @@ fn write_parts(alloc: Global, out: &mut Vec<u8>, line: &Matchlet) -> Result<[u32
     ])
 }
 
-/// The mask, if there is one; answers where it stands, or 0.
+/// The mask, if there is one; returns its offset, or 0.
 fn write_mask(out: &mut Vec<u8>, mask: &Option<Vec<u8>>) -> Result<u32, OutOfMemory>
     requires room { length out.old.items + mask_room (mask_bytes mask.now) < 2 ^ 32 }
     requires begun { 40 ≤ length out.old.items }

@@ -1,15 +1,14 @@
 //! The parent list: each type that has a parent once, with all its parents.
 
-ghost use Rattle.std.specs.Prelude.{◌+◌, ◌^◌, ◌<◌, ◌≤◌, length, map, take, drop, OnOk, IfOk};
+ghost use Rattle.std.specs.Prelude.{◌≤◌, length, map, take, drop, IfOk};
 ghost use Rattle.std.specs.List.Sorted.{IsSortedBy};
-ghost use Rattle.mime_base.specs.Format.Parents.{IsName};
-ghost use Rattle.mime_base.specs.Format.Records.{ListAt};
 ghost use Rattle.mime_base.specs.Format.Sorted.{text_lt};
-ghost use Rattle.mime_store.specs.Runs.{AreRuns, EndsRun, IsRun, OfKind, plain_run, run_parts_room, runs_room, second_text, seconds_room};
+ghost use Rattle.mime_store.specs.Runs.{AreRuns, EndsRun, OfKind, plain_run};
 ghost use Rattle.mime_store.specs.Views.{pair_texts};
-ghost use Rattle.mime_store.specs.Written.{Grew, Written};
 
-use crate::bytes::{append_list, append_text};
+use crate::bytes::append_text;
+use crate::list::{Entry, take_list, write_list};
+use crate::room::take_text;
 use crate::run::Run;
 use crate::text_pair::TextPair;
 use mime_base::OutOfMemory;
@@ -20,7 +19,9 @@ pub fn runs<'p, 'a>(
     alloc: Global,
     pairs: &'p [TextPair<'a>],
 ) -> Result<Vec<Run<'p, 'a>>, OutOfMemory>
+    // The pairs are sorted by their first texts.
     requires sorted { IsSortedBy (λ left right. text_lt left.0 right.0) (map pair_texts pairs.now) }
+    // The runs one after another are the pairs, and no first text has two runs.
     ensures { IfOk result (λ runs. AreRuns (map plain_run runs.items) (map pair_texts pairs.now)) }
 {
     let mut runs = Vec::new(alloc);
@@ -53,55 +54,62 @@ fn run_length(pairs: &[TextPair<'_>], kind: &[u8]) -> usize
     count
 }
 
-/// The types and the lists of their parents, then the count and the entries; answers where the count stands.
-pub fn write_parents(
-    alloc: Global,
-    out: &mut Vec<u8>,
-    runs: &[Run<'_, '_>],
-) -> Result<u32, OutOfMemory>
-    requires room { length out.old.items + (4 + runs_room (map plain_run runs.now)) < 2 ^ 32 }
-    requires begun { 40 ≤ length out.old.items }
-    ensures grew { OnOk result (Grew out.old.items out.new.items (4 + runs_room (map plain_run runs.now))) }
-    ensures stands { IfOk result (λ at. ListAt (Written out.new.items) 8 (IsRun (Written out.new.items)) at (map plain_run runs.now)) }
-{
-    let mut entries = Vec::new(alloc);
-    for run in runs {
-        let entry = write_run(alloc, out, run)?;
-        entries.extend_from_slice(&entry)?;
+impl Entry<2> for Run<'_, '_> {
+    ghost use Rattle.mime_store.specs.Runs.{IsRun, PlainRun, plain_run, run_parts_room};
+    ghost use Rattle.std.proofs.Common.{lit<, lit≤};
+
+    ghost Plain = { PlainRun };
+
+    ghost plain = { plain_run };
+
+    ghost room = { run_parts_room };
+
+    ghost IsRecord = { IsRun };
+
+    fn take_room(&self, left: usize) -> Option<usize> {
+        let left = left.checked_sub(12)?;
+        let left = take_text(left, self.kind)?;
+        take_list::<1, TextPair<'_>>(left, self.pairs)
     }
-    let at = append_list(out, runs.len() as u32, &entries)?;
-    Ok(at)
+
+    fn write(&self, alloc: Global, out: &mut Vec<u8>) -> Result<[u32; 2], OutOfMemory> {
+        let kind = append_text(out, self.kind)?;
+        let parents = write_list::<1, TextPair<'_>>(alloc, out, self.pairs)?;
+        Ok([kind, parents])
+    }
+
+    ghost some = { lit< tt };
+
+    ghost few = { lit≤ tt };
 }
 
-/// A type and the list of its parents; answers the entry.
-fn write_run(alloc: Global, out: &mut Vec<u8>, run: &Run<'_, '_>) -> Result<[u32; 2], OutOfMemory>
-    requires room { length out.old.items + run_parts_room (plain_run run.now) < 2 ^ 32 }
-    requires begun { 40 ≤ length out.old.items }
-    ensures grew { OnOk result (Grew out.old.items out.new.items (run_parts_room (plain_run run.now))) }
-    ensures entry { IfOk result (λ entry. IsRun (Written out.new.items) (plain_run run.now) entry) }
-{
-    let kind = append_text(out, run.kind)?;
-    let list = write_seconds(alloc, out, run.pairs)?;
-    Ok([kind, list])
-}
+/// In the list of a type's parents, the second text alone.
+impl Entry<1> for TextPair<'_> {
+    ghost use Rattle.std.specs.Prelude.{ℕ, List};
+    ghost use Rattle.mime_base.specs.Format.Parents.{IsName};
+    ghost use Rattle.mime_base.specs.Format.Room.{text_room};
+    ghost use Rattle.mime_store.specs.Views.{pair_texts};
+    ghost use Rattle.std.proofs.Common.{lit<, lit≤};
 
-/// The second texts, then the count and their offsets; answers where the count stands.
-fn write_seconds(
-    alloc: Global,
-    out: &mut Vec<u8>,
-    pairs: &[TextPair<'_>],
-) -> Result<u32, OutOfMemory>
-    requires room { length out.old.items + (4 + seconds_room (map pair_texts pairs.now)) < 2 ^ 32 }
-    requires begun { 40 ≤ length out.old.items }
-    ensures grew { OnOk result (Grew out.old.items out.new.items (4 + seconds_room (map pair_texts pairs.now))) }
-    ensures stands { IfOk result (λ at.
-        ListAt (Written out.new.items) 4 (IsName (Written out.new.items)) at (map second_text (map pair_texts pairs.now))) }
-{
-    let mut offsets = Vec::new(alloc);
-    for pair in pairs {
-        let offset = append_text(out, pair.second)?;
-        offsets.push(offset)?;
+    ghost Plain = { List ℕ × List ℕ };
+
+    ghost plain = { pair_texts };
+
+    ghost room = { λ pair. text_room pair.1 };
+
+    ghost IsRecord = { λ S pair row. IsName S pair.1 row };
+
+    fn take_room(&self, left: usize) -> Option<usize> {
+        let left = left.checked_sub(4)?;
+        take_text(left, self.second)
     }
-    let at = append_list(out, pairs.len() as u32, &offsets)?;
-    Ok(at)
+
+    fn write(&self, _alloc: Global, out: &mut Vec<u8>) -> Result<[u32; 1], OutOfMemory> {
+        let second = append_text(out, self.second)?;
+        Ok([second])
+    }
+
+    ghost some = { lit< tt };
+
+    ghost few = { lit≤ tt };
 }

@@ -26,6 +26,7 @@ pub struct Parts<'a> {
 
 /// The parts of a database.
 pub fn parts_of(alloc: Global, database: &Database) -> Result<Parts<'_>, OutOfMemory>
+    // Each part holds just what the database has of it, in the order of the cache.
     ensures { IfOk result (λ parts. AreParts parts database.now) }
 {
     let mut aliases = texts_of_pairs(alloc, &database.aliases)?;

@@ -15,8 +15,9 @@ use std::alloc::Global;
 const CASED: u32 = 0x100;
 
 /// The rules of the literal list, in merged order.
-#[tactic(auto, using(crate::proofs::Entries::passed_more, crate::proofs::Entries::failed_more))]
+#[tactic(auto, using(crate::proofs::ListLemmas::Entries::passed_more, crate::proofs::ListLemmas::Entries::failed_more))]
 pub fn literal_rules(alloc: Global, rules: &[GlobRule]) -> Result<Vec<StoredRule<'_>>, OutOfMemory>
+    // They are the literal rules, in merged order.
     ensures { IfOk result (λ found. map rule_of found.items ≡ literal_rules rules.now) }
 {
     let mut found = Vec::new(alloc);
@@ -29,8 +30,9 @@ pub fn literal_rules(alloc: Global, rules: &[GlobRule]) -> Result<Vec<StoredRule
 }
 
 /// The rules of the glob list, in merged order.
-#[tactic(auto, using(crate::proofs::Entries::passed_more, crate::proofs::Entries::failed_more))]
+#[tactic(auto, using(crate::proofs::ListLemmas::Entries::passed_more, crate::proofs::ListLemmas::Entries::failed_more))]
 pub fn glob_rules(alloc: Global, rules: &[GlobRule]) -> Result<Vec<StoredRule<'_>>, OutOfMemory>
+    // They are the rules that are neither literal nor in the suffix tree, in merged order.
     ensures { IfOk result (λ found. map rule_of found.items ≡ glob_rules rules.now) }
 {
     let mut found = Vec::new(alloc);
@@ -44,6 +46,7 @@ pub fn glob_rules(alloc: Global, rules: &[GlobRule]) -> Result<Vec<StoredRule<'_
 
 /// Sorts rules by their stored texts; those of one text stay in merged order.
 pub fn sort_rules(rules: &mut Vec<StoredRule<'_>>) -> Result<(), OutOfMemory>
+    // They are the same rules by rising stored texts, and those of one text stay in merged order.
     ensures { OnOk result (IsSortedByText stored_text (map rule_of rules.old.items) (map rule_of rules.new.items)) }
 {
     rules.sort_by(|left, right| left.text.cmp(&right.text))?;
@@ -51,8 +54,9 @@ pub fn sort_rules(rules: &mut Vec<StoredRule<'_>>) -> Result<(), OutOfMemory>
 }
 
 /// Bytes as they are, or folded.
-#[tactic(auto, using(crate::proofs::Texts::compared_cased))]
+#[tactic(auto, using(crate::proofs::RulesLemmas::Texts::compared_cased))]
 pub fn compared(alloc: Global, cased: bool, bytes: &[u8]) -> Result<Vec<u8>, OutOfMemory>
+    // A case-sensitive rule stores the bytes as they are, any other stores them folded.
     ensures { IfOk result (λ text. text.items ≡ compared cased bytes.now) }
 {
     if cased {
@@ -65,6 +69,7 @@ pub fn compared(alloc: Global, cased: bool, bytes: &[u8]) -> Result<Vec<u8>, Out
 
 /// The weight in the low 8 bits, and the flag of a case-sensitive rule.
 pub fn weight_and_flags(rule: &GlobRule) -> u32
+    // The weight is in the low 8 bits, and bit 8 is set for a case-sensitive rule.
     ensures { result ≡ weight_and_flags rule.now }
 {
     if rule.cased {
@@ -76,6 +81,7 @@ pub fn weight_and_flags(rule: &GlobRule) -> u32
 
 /// Whether the rule is a suffix rule other than `*`.
 pub fn is_in_tree(rule: &GlobRule) -> bool
+    // The rule is a suffix rule, and its pattern is not `*` alone.
     ensures { result ≡ is_in_tree rule.now }
 {
     matches!(class_of(&rule.pattern), Class::Suffix) && rule.pattern.bytes().len() != 1
@@ -97,7 +103,7 @@ fn is_in_literals(rule: &GlobRule) -> bool
     matches!(class_of(&rule.pattern), Class::Literal)
 }
 
-#[tactic(auto, using(crate::proofs::Fits::compared_fits))]
+#[tactic(auto, using(crate::proofs::RulesLemmas::Fits::compared_fits))]
 fn stored_rule(alloc: Global, rule: &GlobRule) -> Result<StoredRule<'_>, OutOfMemory>
     ensures { IfOk result (λ stored. rule_of stored ≡ rule.now) }
 {

@@ -1,7 +1,7 @@
 //! The pairs of one type.
 
 ghost use Rattle.std.specs.Prelude.{◌≡◌, true};
-ghost use Rattle.mime_store.specs.Paths.{fits_text};
+ghost use Rattle.mime_store.specs.Texts.{fits_text};
 
 use crate::text_pair::TextPair;
 

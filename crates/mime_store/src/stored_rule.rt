@@ -2,7 +2,7 @@
 
 ghost use Rattle.std.specs.Prelude.{◌≡◌, true};
 ghost use Rattle.mime_base.specs.Format.Stored.{stored_text};
-ghost use Rattle.mime_store.specs.Paths.{fits_text};
+ghost use Rattle.mime_store.specs.Texts.{fits_text};
 
 use mime_base::GlobRule;
 

@@ -7,9 +7,9 @@
 
 ghost use Rattle.std.specs.Prelude.{◌≡◌, ◌+◌, ◌^◌, ◌<◌, ◌≤◌, [], true, length, map, take, drop, OnOk, IfOk};
 ghost use Rattle.mime_base.specs.Format.Stored.{reversed_ending, tree_rules};
-ghost use Rattle.mime_store.specs.Endings.{AreEndings, ClearOf, IsBlock, Rises, StartAll, TreeOf, WritesSibling, ending_rule, entries_room};
-ghost use Rattle.mime_store.specs.Endings.{ending_entry};
-ghost use Rattle.mime_store.specs.Paths.{has_no_zero};
+ghost use Rattle.mime_store.specs.SuffixTree.{AreEndings, ClearOf, IsBlock, Rises, StartAll, TreeOf, WritesSibling, ending_rule, entries_room};
+ghost use Rattle.mime_store.specs.SuffixTree.{ending_entry};
+ghost use Rattle.mime_store.specs.Texts.{has_no_zero};
 ghost use Rattle.mime_store.specs.Written.{Grew, Written};
 
 use crate::bytes::{append_numbers, append_text};
@@ -36,8 +36,9 @@ struct Sibling {
 }
 
 /// The suffix rules other than `*`, in merged order.
-#[tactic(auto, using(crate::proofs::Entries::passed_more, crate::proofs::Entries::failed_more))]
+#[tactic(auto, using(crate::proofs::ListLemmas::Entries::passed_more, crate::proofs::ListLemmas::Entries::failed_more))]
 pub fn endings(alloc: Global, rules: &[GlobRule]) -> Result<Vec<Ending<'_>>, OutOfMemory>
+    // They are the rules of the suffix tree, in merged order.
     ensures { IfOk result (λ found. map ending_rule found.items ≡ tree_rules rules.now) }
 {
     let mut found = Vec::new(alloc);
@@ -51,22 +52,28 @@ pub fn endings(alloc: Global, rules: &[GlobRule]) -> Result<Vec<Ending<'_>>, Out
 
 /// Sorts endings by their paths; those of one path stay in merged order.
 pub fn sort_endings(endings: &mut Vec<Ending<'_>>) -> Result<(), OutOfMemory>
+    // They are the same rules by rising paths, and those of one path stay in merged order.
     ensures { OnOk result (AreEndings (map (ending_entry 0) endings.new.items) (map ending_rule endings.old.items)) }
 {
     endings.sort_by(|left, right| left.path.cmp(&right.path))?;
     Ok(())
 }
 
-/// The tree of sorted endings, then its head; answers where the head stands.
+/// The tree of sorted endings, then its head; returns the offset of the head.
 pub fn write_tree(
     alloc: Global,
     out: &mut Vec<u8>,
     endings: &[Ending<'_>],
 ) -> Result<u32, OutOfMemory>
+    // The bytes stay within what a number of 32 bits can point to.
     requires room { length out.old.items + (8 + entries_room (map (ending_entry 0) endings.now)) < 2 ^ 32 }
+    // The header has its place.
     requires begun { 40 ≤ length out.old.items }
+    // The paths rise.
     requires rises { Rises [] (map (ending_entry 0) endings.now) }
+    // The bytes grow by the head, the nodes and the types of the leaves, and what was there stays.
     ensures grew { OnOk result (Grew out.old.items out.new.items (8 + entries_room (map (ending_entry 0) endings.now))) }
+    // The head of the tree stands at the offset that is returned, and each rule is a leaf at the end of its path.
     ensures stands { IfOk result (λ at. TreeOf (Written out.new.items) at (map (ending_entry 0) endings.now)) }
 {
     let roots = write_siblings(alloc, out, endings, 0)?;
@@ -104,7 +111,7 @@ fn write_siblings(
 
 /// What belongs to the first sibling.
 #[cycle(tree)]
-#[tactic(auto, using(crate::proofs::Fits::type_fits))]
+#[tactic(auto, using(crate::proofs::RulesLemmas::Fits::type_fits))]
 fn write_sibling(
     alloc: Global,
     out: &mut Vec<u8>,
@@ -162,7 +169,7 @@ fn ending_of(alloc: Global, rule: &GlobRule) -> Result<Ending<'_>, OutOfMemory>
 }
 
 /// The stored ending of a rule, from the last byte to the first.
-#[tactic(auto, using(crate::proofs::Texts::some_pattern))]
+#[tactic(auto, using(crate::proofs::RulesLemmas::Texts::some_pattern))]
 fn path_of(alloc: Global, rule: &GlobRule) -> Result<Vec<u8>, OutOfMemory>
     ensures { IfOk result (λ path. (path.items ≡ reversed_ending rule.now) × (length path.items < 256)
         × (has_no_zero path.items ≡ true)) }

@@ -1,7 +1,7 @@
 //! Two texts that belong together.
 
 ghost use Rattle.std.specs.Prelude.{◌≡◌, true};
-ghost use Rattle.mime_store.specs.Paths.{fits_text};
+ghost use Rattle.mime_store.specs.Texts.{fits_text};
 
 /// Two texts that belong together, each of which a cache may hold.
 #[derive(Drop)]

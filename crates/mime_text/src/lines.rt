@@ -34,6 +34,7 @@ impl<'a> Model for Lines<'a> {
 impl<'a> Lines<'a> {
     /// The lines of this text.
     pub fn new(text: &'a [u8]) -> Lines<'a>
+        // Going over them gives the lines of the text, in their order.
         ensures { result ≡ lines text.now }
     {
         Lines { rest: text }
@@ -72,6 +73,7 @@ fn cut_line(text: &[u8]) -> (&[u8], &[u8])
 
 /// Whether a line is empty or a comment.
 pub fn is_passed(line: &[u8]) -> bool
+    // It is true of a line without a byte and of one that begins with `#`.
     ensures { result ≡ is_passed line.now }
 {
     match line.first() {
@@ -82,7 +84,9 @@ pub fn is_passed(line: &[u8]) -> bool
 
 /// The fields of a line, which stand between the separators.
 pub fn fields<'a, 's>(line: &'a [u8], separator: &'s [u8]) -> Split<'a, 's>
+    // The separator is one byte.
     requires { length separator.now ≡ 1 }
+    // The fields are what is between the separators, in their order.
     ensures { result ≡ line_fields (slice_index separator.now 0) line.now }
 {
     line.split_str(separator)

@@ -77,6 +77,7 @@ pub struct Lists {
 /// Sections then stand by falling priority, those of one priority in their order. Of the pairs of an
 /// alias, of equal subclass pairs and of the icons of a type, the first counts.
 pub fn merge(alloc: Global, dirs: Vec<DirFiles>) -> Result<Database, OutOfMemory>
+    // The database is the merging of what the directories say, the most preferred first.
     ensures merged { IfOk result (λ database. plain_database database ≡ merged (plain_dirs dirs.items)) }
 {
     let Lists {

@@ -23,10 +23,12 @@ common-passed (suc n) (suc k) (x ∷ xs) (y ∷ ys) is =
 
 -- the lowest place of a mask
 
+-- a map that changes nothing
 map-same : (ms : List Bool) → map (λ m. m) ms ≡ ms
 map-same [] = refl
 map-same (m ∷ ms) = ap (λ ms. m ∷ ms) (map-same ms)
 
+-- the lowest bit of a mask is its first lane
 pub first-place : (ms : List Bool) (places : ℕ) → length ms ≤ 64 → places ≡ mask_l ms % 2 ^ 64 → 0 < places →
     count_trailing_zeros 64 places ≡ prefix_len (λ m. not m) ms
 first-place ms places short is some =
@@ -39,6 +41,7 @@ pub no-place : (ms : List Bool) (places : ℕ) → length ms ≤ 64 → places �
 no-place ms places short is none =
     leading_from_mask_l (λ m. m) ms (ap mask_l (map-same ms) ∙ sym (mask_l-mod ms 64 short) ∙ sym is ∙ none)
 
+-- the first lane that differs ends the common front
 lanes-common : (xs ys : List ℕ) → prefix_len (λ m. not m) (zip2 (λ a b. not (a == b)) xs ys) ≡ common_prefix_len nat_eq xs ys
 lanes-common [] ys = refl
 lanes-common (x ∷ xs) [] = refl
@@ -60,10 +63,12 @@ common-found xs ys places long as_long is some =
     let found = first-place (zip2 (λ a b. not (a == b)) xs ys) places (omega (arith, size, long)) is some ∙ lanes-common xs ys in
     (found, omega (arith, found, (common_prefix_len-le nat_eq xs ys).0, long))
 
+-- whether each byte of two texts stops their comparison
 abbrev pub stop_lanes : ℕ → List ℕ → List ℕ → List Bool
 stop_lanes n xs ys = map (top 7)
     (zip2 bit_or (zip2 (λ a b. cond (not (a == b)) 255 0) xs ys) (zip2 (λ a b. cond (a == b) 255 0) xs (replicate n 0)))
 
+-- the first lane that stops ends the shared bytes
 lanes-shared : (n : ℕ) (xs ys : List ℕ) → length xs ≡ n → length ys ≡ n → prefix_len (λ m. not m) (stop_lanes n xs ys) ≡ shared xs ys
 lanes-shared zero [] ys long as_long = refl
 lanes-shared zero (x ∷ xs) ys long as_long = absurd (omega arith)
@@ -81,6 +86,7 @@ lanes-shared (suc n) (x ∷ xs) (y ∷ ys) long as_long =
     step true false e k zs h = rw e (omega (arith, h))
     step false false e k zs h = rw e refl
 
+-- there is a lane for each byte
 stop_lanes-length : (n : ℕ) (xs ys : List ℕ) → length xs ≡ n → length ys ≡ n → length (stop_lanes n xs ys) ≡ n
 stop_lanes-length zero [] ys long as_long = refl
 stop_lanes-length zero (x ∷ xs) ys long as_long = absurd (omega arith)

@@ -40,15 +40,18 @@ fields-read c record_bytes numbers at n is read size =
     read k (omega arith) ∙ ap (λ b. big_number 4 (drop (4 * k) b)) is ∙ number-of_record c at k n below
     ∙ ap (field c at) (omega arith))
 
+-- a number takes four bytes
 pub length-card_bytes : (n : ℕ) → length (card_bytes n) ≡ 4
 unfolding card_bytes
 length-card_bytes n = length-bytes_high_first 4 n
 
+-- a number that was written is the field that is read
 field-written : (c : List ℕ) (at i n : ℕ) (rest : List ℕ) → n < 2 ^ 32
     → drop (at + 4 * i) c ≡ card_bytes n ++ rest → field c at i ≡ n
 unfolding field card_bytes
 field-written c at i n rest small is = ap (big_number 4) is ∙ big_number-reads_back 4 n rest small
 
+-- so are numbers one after another
 fields_from-written : (c : List ℕ) (at i : ℕ) (numbers back : List ℕ) → AreCards numbers
     → drop (at + 4 * i) c ≡ cards numbers ++ back → fields_from c at i (length numbers) ≡ numbers
 fields_from-written c at i [] back small is = refl
@@ -71,12 +74,14 @@ fields-standing c at numbers small s =
     fields_from-written c at 0 numbers s.back small
     (ap (λ (k : ℕ). drop k c) (omega arith) ∙ drop-standing c at (cards numbers) s)
 
+-- a field reads the same while more is appended
 field-more : (c more : List ℕ) (at i : ℕ) → at + 4 * i + 4 ≤ length c → field (c ++ more) at i ≡ field c at i
 unfolding field
 field-more c more at i inside =
     ap (big_number 4) (drop-append-le (at + 4 * i) c more (omega arith))
     ∙ big_from-append 4 (drop (at + 4 * i) c) more (omega (arith, length-drop (at + 4 * i) c))
 
+-- so do fields one after another
 fields_from-more : (c more : List ℕ) (at i n : ℕ) → at + 4 * (i + n) ≤ length c
     → fields_from (c ++ more) at i n ≡ fields_from c at i n
 fields_from-more c more at i zero inside = refl

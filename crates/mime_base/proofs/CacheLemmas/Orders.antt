@@ -15,6 +15,7 @@ abbrev stopped : ℕ → List ℕ → Ordering
 stopped b [] = cond (b == 0) Equal Greater
 stopped b (y ∷ _) = cond (b == 0 || nat_lt b y) Less Greater
 
+-- where the first byte stops, it gives the order
 order-first : (b : ℕ) (xs ys : List ℕ) → shared (b ∷ xs) ys ≡ 0 → slice_cmp nat_cmp (before_zero (b ∷ xs)) ys ≡ stopped b ys
 order-first b xs [] none = step (b == 0)
   where
@@ -33,6 +34,7 @@ order-first b xs (y ∷ ys) none = step (b == 0) (b == y) refl (omega (arith, sh
     step false true e none = absurd (omega arith)
     step false false e none = rw e (later (nat_lt b y) (slice_cmp nat_cmp (before_zero xs) ys))
 
+-- where a later byte stops, it gives the order
 order-stopped : (room k : ℕ) (bytes ys : List ℕ) → k ≡ shared (take room bytes) ys → k < length (take room bytes) →
     slice_cmp nat_cmp (before_zero (take room bytes)) ys ≡ stopped (get_or bytes k 0) (drop k ys)
 order-stopped room k bytes ys is within =

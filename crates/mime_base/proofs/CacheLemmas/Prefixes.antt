@@ -28,6 +28,7 @@ equal_by_prefix (x ∷ xs) (y ∷ ys) left right =
     let rest = equal_by_prefix xs ys a.1 b.1 in
     rw (first, rest) refl
 
+-- a test of two numbers, one less each
 eqb-suc : (n k : ℕ) → (1 + n == suc k) ≡ (n == k)
 eqb-suc n k = grind (arith, nat_tests)
 
@@ -55,6 +56,7 @@ front_by_prefix (x ∷ xs) (y ∷ ys) whole =
     let rest = front_by_prefix xs ys a.1 in
     rw (first, rest) refl
 
+-- a text that another begins with is their common front
 pub prefix_by_front : (xs ys : List ℕ) → take (length xs) ys ≡ xs → common_prefix_len nat_eq xs ys ≡ length xs
 prefix_by_front [] ys is = refl
 prefix_by_front (x ∷ xs) [] is = absurd cc

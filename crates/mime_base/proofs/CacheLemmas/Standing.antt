@@ -37,6 +37,7 @@ pub value_at-standing : (c : List ℕ) (at : ℕ) (bytes : List ℕ) → Stands 
 value_at-standing c at bytes s =
     ap (take (length bytes)) (drop-standing c at bytes s) ∙ take-append_seam bytes s.back
 
+-- a value reads the same while more is appended
 pub value_at-more : (c more : List ℕ) (at size : ℕ) → at + size ≤ length c
     → value_at (c ++ more) at size ≡ value_at c at size
 value_at-more c more at size inside =

@@ -52,9 +52,11 @@ shared-room room xs ys short =
     most : (k : ℕ) → k ≤ room → min room k ≡ k
     most k l = omega arith
 
+-- a first byte that is equal leaves the order to the others
 same-order : (x y : ℕ) (xs ys : List ℕ) → (x == y) ≡ true → slice_cmp nat_cmp (x ∷ xs) (y ∷ ys) ≡ slice_cmp nat_cmp xs ys
 same-order x y xs ys same = rw (sym (nat_cmp_is x y Equal (eqb-true x y same))) refl
 
+-- a comparison that goes on neither ended nor differed
 goes_on : (ends same : Bool) (n k : ℕ) → suc k ≤ cond ends 0 (cond same (1 + n) 0) → (ends ≡ false) × (same ≡ true) × (k ≤ n)
 goes_on true same n k within = absurd (omega arith)
 goes_on false true n k within = (refl, refl, omega arith)

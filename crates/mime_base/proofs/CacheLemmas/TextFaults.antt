@@ -18,6 +18,7 @@ before_zero-none : (bytes : List ℕ) → HasNoZero bytes → before_zero bytes 
 before_zero-none [] none = refl
 before_zero-none (b ∷ bytes) none = rw (ne_eqb b 0 none.0, before_zero-none bytes none.1) refl
 
+-- bytes that no zero cuts have none
 none_if_whole : (bytes : List ℕ) → length bytes ≤ length (before_zero bytes) → HasNoZero bytes
 none_if_whole [] whole = tt
 none_if_whole (b ∷ bytes) whole = each (b == 0) refl whole (λ h. none_if_whole bytes h)

@@ -7,6 +7,7 @@ use Rattle.std.proofs.lemmas.Bool.{le-ltb, ltb-false}
 use Rattle.std.proofs.lemmas.List.Sums.{common_prefix_len-le}
 use Rattle.mime_base.specs.Cache.Texts.{before_zero, shared, text_in, unended}
 
+-- a test that can't pass fails
 not_true : (test : Bool) → (test ≡ true → ⊥) → test ≡ false
 not_true true differs = absurd (differs refl)
 not_true false differs = refl
@@ -69,6 +70,7 @@ length-before_zero (b ∷ bytes) = shorter (b == 0) (length-before_zero bytes)
     shorter true rest = omega arith
     shorter false rest = omega arith
 
+-- a test that told nothing failed
 told : {X : Type 0} (test : Bool) (x : X) → None ≡ cond test (Some x) None → test ≡ false
 told true x e = absurd cc
 told false x e = refl

@@ -17,6 +17,7 @@ use Rattle.mime_base.specs.Format.Spells.{Spells}
 use Rattle.mime_base.proofs.FormatLemmas.SampleParts.{stands, cards_at, text_at, one_is_sorted, first_text, unmoved, no_icons}
 use Rattle.mime_base.proofs.FormatLemmas.SampleTree.{suffix_tree}
 
+-- where the lists of the sample stand
 abbrev offsets : Offsets
 offsets = record {
   aliases = 40;
@@ -30,10 +31,12 @@ offsets = record {
   generic_icons = 216;
 }
 
+-- the header of the sample
 header : HeaderAt (Stands sample) offsets
 unfolding card_bytes
 header = cards_at 0 _ refl refl refl
 
+-- its aliases
 aliases : PairsAt (Stands sample) 40 sample_database.aliases
 unfolding card_bytes
 aliases = record {
@@ -45,6 +48,7 @@ aliases = record {
   };
 }
 
+-- the parents of its one subclass
 kind_parents : ListAt (Stands sample) 4 (IsName (Stands sample)) 64 (parents sample_database.parents (codes "t/g"))
 unfolding card_bytes parents
 kind_parents = record {
@@ -52,6 +56,7 @@ kind_parents = record {
   records = (_, cards_at 68 _ refl refl refl, (224, refl, text_at 224 _ refl refl refl refl), tt);
 }
 
+-- its subclass pairs
 parent_list : ParentsAt (Stands sample) 52 sample_database.parents
 unfolding card_bytes
 parent_list = record {
@@ -64,6 +69,7 @@ parent_list = record {
   };
 }
 
+-- its literal list
 literals : LiteralsAt (Stands sample) 72 sample_database.rules
 unfolding card_bytes class_of
 literals = record {
@@ -75,10 +81,12 @@ literals = record {
   };
 }
 
+-- its glob list
 globs : GlobsAt (Stands sample) 144 sample_database.rules
 unfolding card_bytes class_of
 globs = record { count = cards_at 144 _ refl refl refl; records = tt }
 
+-- its magic list
 magic : MagicAt (Stands sample) 148 sample_database.sections
 unfolding card_bytes
 magic = record {
@@ -98,14 +106,17 @@ magic = record {
   );
 }
 
+-- its icons: none
 no_icons_at_212 : PairsAt (Stands sample) 212 []
 unfolding card_bytes
 no_icons_at_212 = no_icons 212 (cards_at 212 _ refl refl refl)
 
+-- its generic icons: none
 no_icons_at_216 : PairsAt (Stands sample) 216 []
 unfolding card_bytes
 no_icons_at_216 = no_icons 216 (cards_at 216 _ refl refl refl)
 
+-- the sample spells its database
 pub sample_is_spelled : Spells sample sample_database
 sample_is_spelled = record {
   within = lit≤ tt;
@@ -121,10 +132,7 @@ sample_is_spelled = record {
   generic_icons = no_icons_at_216;
 }
 
+-- and is packed
 pub sample_is_packed : Packed sample sample_database
 unfolding class_of
 sample_is_packed = record { records = lit≤ tt; values = lit≤ tt }
-
-pub sample_room : room sample_database ≡ 256
-unfolding class_of
-sample_room = refl

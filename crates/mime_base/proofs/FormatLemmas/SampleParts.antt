@@ -23,12 +23,14 @@ are_cards [] all i = lit< tt
 are_cards (n ∷ numbers) all zero = ltb-true n 4294967296 (and_parts _ _ all).0
 are_cards (n ∷ numbers) all (suc i) = are_cards numbers (and_parts _ _ all).1 i
 
+-- numbers of the sample, found by computing
 pub cards_at : (at : ℕ) (numbers : List ℕ) → list_all (λ n. nat_lt n 4294967296) numbers ≡ true
     → sample ≡ take at sample ++ (cards numbers ++ drop (at + length (cards numbers)) sample)
     → length (take at sample) ≡ at → CardsAt (Stands sample) at numbers
 cards_at at numbers all split place =
     record { small = are_cards numbers all; stand = stands at (cards numbers) split place }
 
+-- the test of a text's bytes is right
 no_zero : (text : List ℕ) → list_all (λ b. nat_lt 0 b) text ≡ true → HasNoZero text
 no_zero [] all = tt
 no_zero (b ∷ text) all = (λ e. absurd (omega (arith, ltb-true 0 b (and_parts _ _ all).0, e)), no_zero text (and_parts _ _ all).1)
@@ -42,12 +44,15 @@ text_at at text all short split place = record {
   stand = stands at (ended text) split place;
 }
 
+-- a list of one is sorted
 pub one_is_sorted : {X : Type 0} (key : X → List ℕ) (x : X) → IsSortedBy (λ left right. text_lt (key left) (key right)) (x ∷ [])
 one_is_sorted key x k d low within = absurd (omega (arith, within))
 
+-- so is the empty list
 pub none_is_sorted : {X : Type 0} (key : X → List ℕ) → IsSortedBy (λ left right. text_lt (key left) (key right)) []
 none_is_sorted key k d low within = absurd (omega (arith, within))
 
+-- the first text of a pair
 abbrev pub first_text : List ℕ × List ℕ → List ℕ
 first_text pair = pair.0
 

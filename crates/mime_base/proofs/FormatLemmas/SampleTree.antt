@@ -15,6 +15,7 @@ abbrev chain : List ℕ → GlobRule → Tree
 chain [] rule = leaf rule bare
 chain (b ∷ path) rule = node b (chain path rule) bare
 
+-- two tests in turn are both at once
 joined : (x y : Bool) (rules : List GlobRule) → cond x (cond y rules []) [] ≡ cond (x && y) rules []
 joined true y rules = refl
 joined false y rules = refl

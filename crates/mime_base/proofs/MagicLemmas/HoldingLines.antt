@@ -85,6 +85,7 @@ is_bare-none : (lines : List Matchlet) → length lines ≡ 0 → is_bare (fores
 is_bare-none [] none = refl
 is_bare-none (m ∷ lines) none = absurd (omega arith)
 
+-- a forest of some lines is not bare
 is_bare-some : (lines : List Matchlet) → 0 < length lines → is_bare (forest_of (plain_matchlets lines)) ≡ false
 is_bare-some [] some = absurd (omega arith)
 is_bare-some (m ∷ lines) some = refl

@@ -5,11 +5,13 @@ use Rattle.mime_base.specs.Magic.Mirrored.{mirrored}
 use Rattle.mime_base.specs.declared.magic.host.Host.{Host}
 use Rattle.mime_base.proofs.MagicLemmas.Mirroring.{mirrors}
 
+-- a mask leaves the length as it is
 length-masked : (bytes mask : List ℕ) → length (masked bytes mask) ≡ length bytes
 length-masked [] mask = refl
 length-masked (b ∷ bytes) [] = refl
 length-masked (b ∷ bytes) (m ∷ mask) = ap suc (length-masked bytes mask)
 
+-- the byte at a place under the mask
 get_or-masked : (bytes mask : List ℕ) (i : ℕ) → i < length bytes → i < length mask
     → get_or (masked bytes mask) i 0 ≡ bit_and (get_or bytes i 0) (get_or mask i 255)
 get_or-masked [] mask i below in_mask = absurd (omega arith)
@@ -17,11 +19,13 @@ get_or-masked (b ∷ bytes) [] i below in_mask = absurd (omega arith)
 get_or-masked (b ∷ bytes) (m ∷ mask) zero below in_mask = refl
 get_or-masked (b ∷ bytes) (m ∷ mask) (suc i) below in_mask = get_or-masked bytes mask i (omega arith) (omega arith)
 
+-- a mask over a value is as long as the value
 length-mask_over : (value mask : List ℕ) → length (mask_over value mask) ≡ length value
 length-mask_over [] mask = refl
 length-mask_over (v ∷ value) [] = ap suc (length-mask_over value [])
 length-mask_over (v ∷ value) (m ∷ mask) = ap suc (length-mask_over value mask)
 
+-- it has the mask's bits at each place of the value
 get_or-mask_over : (value mask : List ℕ) (i : ℕ) → i < length value
     → get_or (mask_over value mask) i 255 ≡ get_or mask i 255
 get_or-mask_over [] mask i below = absurd (omega arith)

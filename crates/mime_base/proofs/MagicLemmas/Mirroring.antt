@@ -7,11 +7,13 @@ use Rattle.mime_base.specs.Magic.Mirrored.{mirrored}
 use Rattle.mime_base.specs.declared.magic.host.Host.{Host}
 use Rattle.mime_base.specs.declared.magic.host.Host.TheVariants.{Little, Big}
 
+-- reversing pairs leaves the length as it is
 length-reversed_twos : (bytes : List ℕ) → length (reversed_twos bytes) ≡ length bytes
 length-reversed_twos [] = refl
 length-reversed_twos (a ∷ []) = refl
 length-reversed_twos (a ∷ b ∷ rest) = ap (λ (n : ℕ). suc (suc n)) (length-reversed_twos rest)
 
+-- reversing fours leaves the length as it is
 length-reversed_fours : (bytes : List ℕ) → length (reversed_fours bytes) ≡ length bytes
 length-reversed_fours [] = refl
 length-reversed_fours (a ∷ []) = refl
@@ -19,6 +21,7 @@ length-reversed_fours (a ∷ b ∷ []) = refl
 length-reversed_fours (a ∷ b ∷ c ∷ []) = refl
 length-reversed_fours (a ∷ b ∷ c ∷ d ∷ rest) = ap (λ (n : ℕ). suc (suc (suc (suc n)))) (length-reversed_fours rest)
 
+-- where the byte at a place comes from, in pairs
 get_or-reversed_twos : (bytes : List ℕ) (i e : ℕ) → length bytes % 2 ≡ 0 → i < length bytes
     → get_or (reversed_twos bytes) i e ≡ get_or bytes (i + 1 - 2 * (i % 2)) e
 get_or-reversed_twos [] i e even below = absurd (omega arith)
@@ -29,6 +32,7 @@ get_or-reversed_twos (a ∷ b ∷ rest) (suc (suc i)) e even below =
     let place : suc (suc (i + 1 - 2 * (i % 2))) ≡ suc (suc i) + 1 - 2 * (suc (suc i) % 2) = omega arith in
     get_or-reversed_twos rest i e (omega arith) (omega arith) ∙ ap (λ (n : ℕ). get_or (a ∷ b ∷ rest) n e) place
 
+-- where the byte at a place comes from, in fours
 get_or-reversed_fours : (bytes : List ℕ) (i e : ℕ) → length bytes % 4 ≡ 0 → i < length bytes
     → get_or (reversed_fours bytes) i e ≡ get_or bytes (i + 3 - 2 * (i % 4)) e
 get_or-reversed_fours [] i e even below = absurd (omega arith)
@@ -52,6 +56,7 @@ pub record Mirrors (group : ℕ) (bytes : List ℕ) : Type 0 where
       → get_or (reversed_groups group bytes) i e ≡ get_or bytes (mirrored group i) e
   pub within : (i : ℕ) → i < length bytes → mirrored group i < length bytes
 
+-- reversed pairs mirror each group of 2
 by_twos : (bytes : List ℕ) → length bytes % 2 ≡ 0 → Mirrors 2 bytes
 by_twos bytes even = record {
   size = length-reversed_twos bytes;
@@ -59,6 +64,7 @@ by_twos bytes even = record {
   within = λ i below. omega arith;
 }
 
+-- reversed fours mirror each group of 4
 by_fours : (bytes : List ℕ) → length bytes % 4 ≡ 0 → Mirrors 4 bytes
 by_fours bytes even = record {
   size = length-reversed_fours bytes;
@@ -66,13 +72,16 @@ by_fours bytes even = record {
   within = λ i below. omega arith;
 }
 
+-- groups of one byte are mirrored as they are
 by_ones : (bytes : List ℕ) → Mirrors 1 bytes
 by_ones bytes = record { size = refl; moved = λ i e below. refl; within = λ i below. below }
 
+-- a test that a group divides the size, passed
 divides : (group size : ℕ) (test : Bool) → (test && (size % group == 0)) ≡ true → size % group ≡ 0
 divides group size true h = eqb-true (size % group) 0 h
 divides group size false h = absurd cc
 
+-- the host's order on a little-endian host mirrors each group
 little : (bytes : List ℕ) (two four : Bool) → (two ≡ true → length bytes % 2 ≡ 0)
     → (four ≡ true → length bytes % 4 ≡ 0)
     → Mirrors (cond two 2 (cond four 4 1)) bytes

@@ -18,6 +18,7 @@ same_truth false false h k = refl
 
 -- where they halt at once
 
+-- why elements go no further decides whether they match
 halts-decided : (halt : Halt) (es : List Element) (name : List ℕ) (after : List Element) → HaltsAt halt es name after →
     matches es name ≡ decided halt after name
 halts-decided BothEnd es name after (none, over) = rw (none, over) (matches-nil [])

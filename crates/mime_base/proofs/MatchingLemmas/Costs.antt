@@ -15,6 +15,7 @@ last-paid p n start tests more h k l = grind arith
 
 -- what goes on after a star, so much of the pattern and of the name, is paid too
 
+-- the bound on tests is kept from one star to the next
 paid_on : (spare more after start passed left tests : ℕ) → tests ≤ start * (more + after + 1 + spare) →
     tests + more + after * (left + 1) ≤ (more + after + 1 + spare) * (start + passed + left + 1)
 paid_on spare more after start passed left tests h = omega arith

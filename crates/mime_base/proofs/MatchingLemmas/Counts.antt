@@ -9,10 +9,12 @@ use Rattle.mime_base.specs.declared.matching.attempt.Halt.{Halt}
 use Rattle.mime_base.specs.declared.matching.attempt.Halt.TheVariants.{BothEnd, PatternEnds, NameEnds, Star, Refused}
 use Rattle.mime_base.proofs.MatchingLemmas.Attempts.{refused-within}
 
+-- without elements nothing is tested
 tests_of-nil : (name : List ℕ) → tests_of [] name ≡ 0
 unfolding tests_of
 tests_of-nil name = refl
 
+-- an element that takes a byte is tested once, and then the others
 tests_of-one : (w : OneByte) (es : List Element) (name : List ℕ) → tests_of (one w ∷ es) name ≡ tests_of_one w (tests_of es) name
 unfolding tests_of
 tests_of-one w es name = refl
@@ -61,6 +63,7 @@ refused-is (suc k) (any_bytes ∷ es) name after goes = absurd goes
 refused-is (suc k) (one w ∷ es) [] after goes = absurd goes
 refused-is (suc k) (one w ∷ es) (b ∷ name) after goes = rw goes.0 (refused-is k es name after goes.1)
 
+-- elements that halt for another reason were not refused at once
 goes-unrefused : (halt : Halt) (k : ℕ) (es : List Element) (name : List ℕ) (after : List Element) → Goes halt k es name after →
     (halt ≡ Refused → ⊥) → is_refused es name ≡ false
 goes-unrefused BothEnd zero es name after goes r = rw goes.0 refl

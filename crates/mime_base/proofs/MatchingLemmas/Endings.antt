@@ -33,10 +33,12 @@ literal-size (x ∷ xs) h =
     let rest = literal-size xs parts.1 in
     rw (elements-itself x xs (not-true _ parts.0)) (rest.0, ap suc rest.1)
 
+-- a common front that goes on
 equal-next : (test : Bool) (n k : ℕ) → cond test (1 + n) 0 ≡ suc k → (test ≡ true) × (n ≡ k)
 equal-next true n k e = (refl, omega arith)
 equal-next false n k e = absurd (omega arith)
 
+-- a common front that stops at once
 equal-none : (test : Bool) (n : ℕ) → cond test (1 + n) 0 ≡ 0 → test ≡ false
 equal-none true n e = absurd (omega arith)
 equal-none false n e = refl
@@ -65,6 +67,7 @@ literal-part (suc k) (x ∷ xs) (y ∷ ys) h same is short =
     let next = equal-next (x == y) _ k is in
     rw (elements-itself x xs (not-true _ parts.0)) (next.0, literal-part k xs ys parts.1 (omega arith) next.1 (omega arith))
 
+-- comparing byte by byte is comparing the compared texts
 common-compared : (cased : Bool) (xs ys : List ℕ) →
     common_prefix_len nat_eq (compared cased xs) (compared cased ys) ≡ common_prefix_len (λ x y. agrees cased (x, y)) xs ys
 common-compared cased [] ys = refl

@@ -13,11 +13,7 @@ no_end-drop count zero text none = none
 no_end-drop count (suc k) [] none = none
 no_end-drop count (suc k) (b ∷ rest) none = no_end-drop count k rest none.1
 
--- the bytes after a `[`, without a negation
-pub no_end-body : (count : ℕ) (negated : Bool) (text : List ℕ) → HasNoEnd count text → HasNoEnd count (cond negated (drop 1 text) text)
-no_end-body count true text none = no_end-drop count 1 text none
-no_end-body count false text none = none
-
+-- no end is among so many bytes
 no_end-prefix : (count : ℕ) (text : List ℕ) → HasNoEnd count text → length text ≤ count →
     prefix_len (λ b. not (b == 93)) text ≡ length text
 no_end-prefix count [] none short = refl
@@ -31,6 +27,7 @@ no_end-position count text none short =
     let whole = no_end-prefix count text none short in
     rw (whole, le-ltb (length text) (length text) (omega arith)) refl
 
+-- what no place of the last bytes is an end of has none
 no_end-from : (count : ℕ) (text : List ℕ) →
     ((i : ℕ) → length text ≤ i + count → i < length text → get_or text i 0 ≡ 93 → ⊥) → HasNoEnd count text
 no_end-from count [] others = tt

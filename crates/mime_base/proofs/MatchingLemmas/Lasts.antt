@@ -73,6 +73,7 @@ singles-size (one w ∷ es) none = ap suc (singles-size es none)
 
 -- what an attempt at that place tells, where the size of the elements is known
 
+-- nothing is found but at both ends, or after a star
 undecided : (halt : Halt) (after : List Element) (name : List ℕ) → (halt ≡ BothEnd → ⊥) → (halt ≡ Star → ⊥) →
     decided halt after name ≡ false
 undecided BothEnd after name b s = absurd (b refl)
@@ -81,6 +82,7 @@ undecided NameEnds after name b s = refl
 undecided Star after name b s = absurd (s refl)
 undecided Refused after name b s = refl
 
+-- nothing is left to test but after a star
 untested : (halt : Halt) (after : List Element) (name : List ℕ) → (halt ≡ Star → ⊥) → tests_after halt after name ≡ 0
 untested BothEnd after name s = refl
 untested PatternEnds after name s = refl
@@ -88,6 +90,7 @@ untested NameEnds after name s = refl
 untested Star after name s = absurd (s refl)
 untested Refused after name s = refl
 
+-- what is owed where nothing is found
 unfound-owed : (halt : Halt) (es after : List Element) → (halt ≡ BothEnd → ⊥) → (halt ≡ Star → ⊥) → owed halt es after ≡ min 1 (singles es)
 unfound-owed BothEnd es after b s = absurd (b refl)
 unfound-owed PatternEnds es after b s = refl

@@ -29,12 +29,14 @@ pub rule_matches-compared : (pattern : List ℕ) (cased : Bool) (name : List ℕ
 unfolding rule_matches
 rule_matches-compared pattern cased name = refl
 
+-- an ending that passes the test is some ending
 some_ending-cut : (test : List ℕ → Bool) (cut : ℕ) (name : List ℕ) → test (drop cut name) ≡ true → some_ending test name ≡ true
 some_ending-cut test zero [] h = h
 some_ending-cut test (suc cut) [] h = h
 some_ending-cut test zero (b ∷ name) h = or_left _ _ h
 some_ending-cut test (suc cut) (b ∷ name) h = or_right _ _ (some_ending-cut test cut name h)
 
+-- some ending that passes is an ending from some place on
 cut_of : (test : List ℕ → Bool) (name : List ℕ) → some_ending test name ≡ true → (cut : ℕ) × (test (drop cut name) ≡ true)
 cut_of test [] h = (0, h)
 cut_of test (b ∷ name) h = elim (or_cases _ _ h) [
@@ -56,6 +58,7 @@ star_cut rest name h = cut_of (matches rest) name (sym (matches-star rest name) 
 
 -- the relation and the test
 
+-- the test finds only matches
 Matches-from : (es : List Element) (name : List ℕ) → matches es name ≡ true → Matches es name
 Matches-from [] [] h = refl
 Matches-from [] (b ∷ name) h = absurd (true≢false (sym h ∙ matches-nil (b ∷ name)))
@@ -64,6 +67,7 @@ Matches-from (one w ∷ rest) [] h = absurd (true≢false (sym h ∙ matches-one
 Matches-from (one w ∷ rest) (b ∷ name) h =
     (let both = and_parts _ _ (sym (matches-one w rest (b ∷ name)) ∙ h) in (both.0, Matches-from rest name both.1))
 
+-- each match passes the test
 matches-from : (es : List Element) (name : List ℕ) → Matches es name → matches es name ≡ true
 matches-from [] name h = rw h (matches-nil [])
 matches-from (any_bytes ∷ rest) name h = star_from rest h.0 name (matches-from rest (drop h.0 name) h.1)

@@ -11,6 +11,7 @@ use Rattle.mime_base.specs.Matching.Attempt.{Goes, HaltsAt, TakesOne, refuses, t
 use Rattle.mime_base.specs.declared.matching.attempt.Halt.{Halt}
 use Rattle.mime_base.proofs.MatchingLemmas.Sets.{compared_byte-mark}
 
+-- elements after some bytes are those of what is left
 elements_after-drop : (k : ℕ) (text : List ℕ) → elements_after k text ≡ elements (drop k text)
 unfolding elements
 elements_after-drop zero [] = refl
@@ -33,6 +34,7 @@ pub elements-star : (cased : Bool) (rest : List ℕ) → elements (compared case
 elements-star true rest = elements-cons 42 (compared true rest)
 elements-star false rest = elements-cons 42 (compared false rest)
 
+-- the first element of a text that begins with no star
 elements-one : (first : ℕ) (rest : List ℕ) → (first ≡ 42 → ⊥) →
     elements (first ∷ rest) ≡ one (one_byte first rest) ∷ elements (drop (width_after first rest) rest)
 elements-one first rest other =
@@ -51,6 +53,7 @@ elements-taker cased first rest other =
 
 -- at most one element a byte
 
+-- there are no more elements than bytes
 singles-after : (k : ℕ) (text : List ℕ) → singles (elements_after k text) ≤ length text
 singles-after k [] = omega arith
 singles-after zero (b ∷ rest) = step (b == 42) (singles-after (width_after b rest) rest)
@@ -69,10 +72,6 @@ singles-length cased text = omega (arith, singles-after 0 (compared cased text),
 -- what is known of all elements and the whole name, once these are left of both
 pub record Reached (all : List Element) (name : List ℕ) (passed : ℕ) (left : List Element) (rest : List ℕ) : Type 0 where
   pub onward : (halt : Halt) (k : ℕ) (after : List Element) → Goes halt k left rest after → Goes halt (passed + k) all name after
-
--- nothing is passed at the start
-pub reached-none : (all : List Element) (name : List ℕ) → Reached all name 0 all name
-reached-none all name = record { onward = λ halt k after goes. rw (zero-add k) goes }
 
 -- one element more took its byte
 pub reached-one : (all : List Element) (name : List ℕ) (passed : ℕ) (left : List Element) (rest : List ℕ)

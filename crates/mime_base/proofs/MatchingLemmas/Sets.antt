@@ -16,21 +16,25 @@ pub compared_byte-mark : (cased : Bool) (b mark : ℕ) → (mark < 65) ⊎ ((90 
 compared_byte-mark true b mark h = refl
 compared_byte-mark false b mark h = grind (arith, nat_tests)
 
+-- a test that a map doesn't change stops at the same place
 prefix_len-map : (p : ℕ → Bool) (f : ℕ → ℕ) (same : (b : ℕ) → p (f b) ≡ p b) (xs : List ℕ) →
     prefix_len p (map f xs) ≡ prefix_len p xs
 prefix_len-map p f same [] = refl
 prefix_len-map p f same (x ∷ xs) = rw (same x, prefix_len-map p f same xs)
 
+-- folding moves no end of a set
 position-compared : (cased : Bool) (xs : List ℕ) → position (λ b. b == 93) (compared cased xs) ≡ position (λ b. b == 93) xs
 position-compared cased xs =
     let mark = λ (b : ℕ). ap not (compared_byte-mark cased b 93 (inr (lit< tt, lit< tt))) in
     rw (prefix_len-map (λ b. not (b == 93)) (compared_byte cased) mark xs, length-map xs (compared_byte cased))
 
+-- nor does it change a negation
 is_negated-compared : (cased : Bool) (after : List ℕ) → is_negated (compared cased after) ≡ is_negated after
 is_negated-compared cased [] = refl
 is_negated-compared cased (b ∷ rest) =
     rw (compared_byte-mark cased b 33 (inl (lit< tt)), compared_byte-mark cased b 94 (inr (lit< tt, lit< tt)))
 
+-- the bytes of a set are folded with the text
 body-compared : (cased : Bool) (after : List ℕ) → body (compared cased after) ≡ compared cased (body after)
 body-compared cased after = rw (is_negated-compared cased after) (pulled (is_negated after))
   where
@@ -39,18 +43,21 @@ body-compared cased after = rw (is_negated-compared cased after) (pulled (is_neg
     pulled true = drop-map (compared_byte cased) 1 after
     pulled false = refl
 
+-- the end of a set is at the same place
 end_of_set-compared : (cased : Bool) (after : List ℕ) → end_of_set (compared cased after) ≡ end_of_set after
 end_of_set-compared cased after =
     ap (λ text. position (λ b. b == 93) (drop 1 text)) (body-compared cased after)
     ∙ ap (position (λ b. b == 93)) (drop-map (compared_byte cased) 1 (body after))
     ∙ position-compared cased (drop 1 (body after))
 
+-- a test and its negation, by the flag
 negated_or_not : (negated inside : Bool) → cond negated (not inside) inside ≡ not (beq inside negated)
 negated_or_not true true = refl
 negated_or_not true false = refl
 negated_or_not false true = refl
 negated_or_not false false = refl
 
+-- a set admits what its ranges have, unless it is negated
 admits-set_of : (negated : Bool) (ranges : List (ℕ × ℕ)) (b : ℕ) →
     admits (cond negated (none_of ranges) (one_of ranges)) b
     ≡ not (beq (in_ranges ranges b) negated)
@@ -72,6 +79,7 @@ pub width_after-set : (first : ℕ) (cased : Bool) (after : List ℕ) (negated :
 width_after-set first cased after negated members rest is (k, end, _, _, is_rest) =
     rw (is, end_of_set-compared cased after, end, is_negated-compared cased after) is_rest
 
+-- the test for a `[` from either side
 swapped : (b : ℕ) → (91 == b) ≡ (b == 91)
 swapped b = grind (arith, nat_tests)
 

@@ -13,10 +13,12 @@ use Rattle.mime_base.specs.declared.matching.attempt.Halt.TheVariants.{BothEnd, 
 use Rattle.mime_base.proofs.MatchingLemmas.Attempts.{goes-after_star, refused-after_star}
 use Rattle.mime_base.proofs.MatchingLemmas.Counts.{tests-refused, tests-unrefused}
 
+-- dropping from the compared name is comparing what is dropped to
 drop-compared : (cased : Bool) (start k : ℕ) (name : List ℕ) →
     drop k (compared cased (drop start name)) ≡ compared cased (drop (start + k) name)
 drop-compared cased start k name = drop-map (compared_byte cased) k (drop start name) ∙ ap (compared cased) (drop-drop k start name)
 
+-- how much of the name is left
 length-left : (cased : Bool) (start : ℕ) (name : List ℕ) → length (compared cased (drop start name)) ≡ length name - start
 length-left cased start name = length-map (drop start name) (compared_byte cased) ∙ length-drop start name
 
@@ -87,9 +89,3 @@ answered-none PatternEnds after name found is = refl
 answered-none NameEnds after name found is = refl
 answered-none Star after name found is = cc
 answered-none Refused after name found is = refl
-
--- where one is left that makes least_tests of the rest, all are made
-pub least-last : (found : Bool) (es rest : List Element) (tests last : ℕ) → singles es ≤ raised tests (singles rest) →
-    least_tests found rest ≤ last → least_tests found es ≤ raised tests last
-least-last true es rest tests last h k = omega arith
-least-last false es rest tests last h k = omega arith

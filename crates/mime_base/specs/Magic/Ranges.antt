@@ -9,7 +9,7 @@ use Rattle.mime_base.specs.declared.cache.stated_value.StatedValue.{StatedValue}
 use Rattle.mime_base.specs.declared.magic.host.Host.{Host}
 use Rattle.mime_base.specs.declared.magic.host.Host.TheVariants.{Little}
 
--- how many bytes of the window at an offset are compared: up to and with the first that differs, else all; none where
+-- how many bytes of the window at an offset are compared: up to and including the first that differs, else all; none where
 -- the window does not lie wholly in the content
 abbrev pub compared_at : PlainLine → Host → List ℕ → ℕ → ℕ
 compared_at own host content at =
@@ -18,7 +18,7 @@ compared_at own host content at =
     (length own.value)
     else 0
 
--- how many are compared at so many offsets from this one on, up to and with the first whose window equals the value
+-- how many are compared at so many offsets from this one on, up to and including the first whose window equals the value
 unfoldable pub compared_from : PlainLine → Host → List ℕ → ℕ → ℕ → ℕ
 compared_from own host content at zero = 0
 compared_from own host content at (suc range) =

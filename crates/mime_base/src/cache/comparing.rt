@@ -16,11 +16,16 @@ use std::simd::prelude::*;
 /// Whether two names are equal. It adds the length of their common front and one, so at most 256
 /// for names that [`crate::Counted::text_at`] gave.
 pub fn same_name(left: &[u8], right: &[u8], meter: &mut Meter) -> bool
+    // It is true exactly of two equal names.
     ensures same { IsTrue result ↔ (left.now ≡ right.now) }
+    // No record is counted.
     ensures nodes { meter.new.nodes ≡ meter.old.nodes }
+    // It counts the bytes of the common front, and one.
     ensures bytes { meter.new.bytes
         ≡ raised meter.old.bytes (common_prefix_len nat_eq left.now right.now + 1) }
+    // The common front is no longer than the first name, so at most its length and one are counted.
     ensures limit { common_prefix_len nat_eq left.now right.now ≤ length left.now }
+    // The count of bytes never falls, since it stops at the greatest number.
     ensures rises { meter.old.bytes ≤ meter.new.bytes }
 {
     let common = common_length(left, right);
@@ -30,8 +35,11 @@ pub fn same_name(left: &[u8], right: &[u8], meter: &mut Meter) -> bool
 
 /// How many bytes from the front are equal.
 pub fn common_length(left: &[u8], right: &[u8]) -> usize
+    // It is the length of the longest common front.
     ensures common { result ≡ common_prefix_len nat_eq left.now right.now }
+    // It is no more than the length of the first.
     ensures left { result ≤ length left.now }
+    // It is no more than the length of the second.
     ensures right { result ≤ length right.now }
 {
     let start = common_by_eight(left, right);
@@ -84,7 +92,9 @@ fn common_of_eight(left: &[u8], right: &[u8]) -> usize
 /// tell: at the first byte that differs, or is the text's zero.
 #[inline(always)]
 pub fn early_stop(rest: &[u8], key: &[u8]) -> Option<usize>
+    // There is a byte at the offset.
     requires { 0 < length rest.now }
+    // A place that is given is where text and key stop to agree, among the text's first 256 bytes.
     ensures { IfSome result (λ place. (place ≡ shared (take 256 rest.now) key.now)
         × (place < length (take 256 rest.now))) }
 {
@@ -110,11 +120,17 @@ pub fn order_at_stop(
     place: usize,
     meter: &mut Meter,
 ) -> Result<Ordering, ByteFault>
+    // The place is where text and key stop to agree.
     requires place { place ≡ shared (take 256 rest.now) key.now }
+    // It is the place of a byte.
     requires inside { place < length (take 256 rest.now) }
+    // The answer is the order of the text against the key.
     ensures order { result ≡ Ok (slice_cmp nat_cmp (before_zero (take 256 rest.now)) key.now) }
+    // No record is counted.
     ensures nodes { meter.new.nodes ≡ meter.old.nodes }
+    // It counts the bytes that agree, and the one that stops them.
     ensures bytes { meter.new.bytes ≡ raised meter.old.bytes (place + 1) }
+    // The count of bytes never falls, since it stops at the greatest number.
     ensures rises { meter.old.bytes ≤ meter.new.bytes }
 {
     meter.add_bytes(place as u64 + 1);
@@ -171,8 +187,10 @@ fn shared_by_eights(rest: &[u8], key: &[u8]) -> usize
 /// How what stands in the front, up to its first zero, compares with a key, and how many bytes were looked at:
 /// none tells, where all of them are equal to the key's and none is zero.
 pub fn compare_all(front: &[u8], key: &[u8]) -> (Option<Ordering>, usize)
+    // An order is given where some byte of the front stops the agreement, else none.
     ensures order { result.0 ≡ (if nat_lt (shared front.now key.now) (length front.now)
         then Some (slice_cmp nat_cmp (before_zero front.now) key.now) else None) }
+    // It says how many bytes were looked at: those that agree and the one that stops them, or all.
     ensures count { result.1 ≡ min (shared front.now key.now + 1) (length front.now) }
 {
     let start = shared_by_eight(front, key);

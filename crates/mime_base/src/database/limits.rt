@@ -11,8 +11,9 @@ use crate::database::Database;
 use crate::database::rule::GlobRule;
 
 /// The law of limits: each rule of a database, and each line of its magic, is one that the text files
-/// can spell. It takes no memory.
+/// can spell. It never allocates.
 pub fn database_keeps_limits(database: &Database)
+    // Each weight, each pattern's length and each of its bytes fits a byte, and each magic line is an allowed one.
     ensures { IsWithinLimits (plain_database database.now) }
 {
     for rule in &database.rules {

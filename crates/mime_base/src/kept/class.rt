@@ -21,6 +21,7 @@ pub enum Class {
 
 /// The class of a pattern: [`Class::Suffix`] of `*.txt`.
 pub fn class_of(pattern: &Pattern) -> Class
+    // Literal without `*`, `?`, `[` and `\`; Suffix with a `*` before such a text; else Full.
     ensures { result ≡ class_of pattern.now }
 {
     class_of_bytes(pattern.bytes())
@@ -29,6 +30,7 @@ pub fn class_of(pattern: &Pattern) -> Class
 /// The class of any text, by the same rule.
 #[tactic(auto, unfolding(crate::specs::Kept::class_of))]
 pub fn class_of_bytes(text: &[u8]) -> Class
+    // Literal without `*`, `?`, `[` and `\`; Suffix with a `*` before such a text; else Full.
     ensures { result ≡ class_of text.now }
 {
     match text {

@@ -11,8 +11,9 @@ use crate::magic::matchlet::Matchlet;
 
 /// The greatest sum of start, range and length of value over all lines of a database; 0 without any.
 ///
-/// Past it no line looks. It takes no memory.
+/// Past it no line looks. It never allocates.
 pub fn extent(database: &Database) -> u64
+    // It is the greatest sum of start, range and length of value over the lines at all depths, and 0 without lines.
     ensures { result ≡ extent (plain_database database.now) }
 {
     sections_extent(&database.sections)

@@ -18,8 +18,11 @@ use crate::meter::Meter;
 /// the bytes that were compared, with no promised bound, and no node.
 #[cycle(holding)]
 pub fn line_matches(line: &Matchlet, content: &[u8], host: Host, meter: &mut Meter) -> bool
+    // At some offset of the range the window equals the value under the mask; some child holds, if there is one.
     ensures holds { result ≡ line_holds (plain_matchlet line.now) content.now host }
+    // No record is counted.
     ensures nodes { meter.new.nodes ≡ meter.old.nodes }
+    // The count of bytes never falls, since it stops at the greatest number.
     ensures rises { meter.old.bytes ≤ meter.new.bytes }
 {
     if !equals_in_range(line, content, host, meter) {
@@ -31,8 +34,11 @@ pub fn line_matches(line: &Matchlet, content: &[u8], host: Host, meter: &mut Met
 /// Whether one of the lines holds for a content.
 #[cycle(holding)]
 pub fn some_line_matches(lines: &[Matchlet], content: &[u8], host: Host, meter: &mut Meter) -> bool
+    // It is true exactly where at least one of the lines holds.
     ensures holds { result ≡ some_holds (forest_of (plain_matchlets lines.now)) content.now host }
+    // No record is counted.
     ensures nodes { meter.new.nodes ≡ meter.old.nodes }
+    // The count of bytes never falls, since it stops at the greatest number.
     ensures rises { meter.old.bytes ≤ meter.new.bytes }
 {
     for line in lines {

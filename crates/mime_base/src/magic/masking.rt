@@ -11,9 +11,13 @@ use crate::magic::host::Host;
 /// On a little-endian host each group of `word` bytes of value and mask is reversed, if `word` is 2
 /// or 4 and divides the value. Past the mask's end all bits count.
 pub fn equal_bytes(value: &[u8], mask: &[u8], word: u32, host: Host, window: &[u8]) -> usize
+    // The window has as many bytes as the value.
     requires { length window.now ≡ length value.now }
+    // It is how many bytes agree under the mask before the first that differs.
     ensures equal { result ≡ equal_bytes value.now mask.now word host window.now }
+    // All of them agree exactly where the window equals the value.
     ensures all { (result == length window.now) ≡ window_equals value.now mask.now word host window.now }
+    // It is no more than the window's length.
     ensures limit { result ≤ length window.now }
 {
     let group = group_of(word, host, value.len());
@@ -29,6 +33,7 @@ pub fn equal_bytes(value: &[u8], mask: &[u8], word: u32, host: Host, window: &[u
 
 /// How many bytes are a group that is reversed.
 pub fn group_of(word: u32, host: Host, size: usize) -> usize
+    // Words of 2 or 4 bytes that divide the value are reversed on a little-endian host; else a group is one byte.
     ensures { result ≡ group_of word host size }
 {
     match host {

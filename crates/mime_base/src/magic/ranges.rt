@@ -14,8 +14,7 @@ use memchr::memchr;
 
 /// Whether the window at one of `range` offsets from `start` on equals a value under its mask.
 ///
-/// It adds, of each window up to and with the first that equals, the bytes up to and with the first
-/// that differs.
+/// For each window tried it adds the bytes compared, including the first mismatch.
 #[inline]
 pub fn value_in_range(
     value: &[u8],
@@ -27,12 +26,17 @@ pub fn value_in_range(
     range: usize,
     meter: &mut Meter,
 ) -> bool
+    // No offset overflows.
     requires fits { start + range < 2 ^ 64 }
+    // It says whether some window of the range lies in the content and equals the value.
     ensures equal { result ≡ equals_from (line_from start range word value.now (Some mask.now))
         host content.now start range }
+    // No record is counted.
     ensures nodes { meter.new.nodes ≡ meter.old.nodes }
+    // For each window tried it counts the bytes compared, including the first mismatch.
     ensures bytes { meter.new.bytes ≡ raised meter.old.bytes
         (compared_from (line_from start range word value.now (Some mask.now)) host content.now start range) }
+    // The count of bytes never falls, since it stops at the greatest number.
     ensures rises { meter.old.bytes ≤ meter.new.bytes }
 {
     if content.len() < value.len() || content.len() - value.len() < start {
@@ -165,7 +169,7 @@ fn length_before(byte: u8, bytes: &[u8]) -> usize
     memchr(byte, bytes).unwrap_or(bytes.len())
 }
 
-/// Whether a window equals a value under its mask. It adds the bytes up to and with the first that
+/// Whether a window equals a value under its mask. It adds the bytes up to and including the first that
 /// differs.
 fn value_is(
     value: &[u8],

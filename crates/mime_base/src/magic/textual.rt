@@ -10,9 +10,10 @@ const LOOKED_AT: usize = 128;
 ///
 /// A control byte is one below 32 except tab, newline and carriage return. The public specification
 /// asks for a test of the first bytes; which bytes count, and how many, is this project's own. It
-/// takes no memory.
+/// never allocates.
 #[tactic(auto, unfolding(crate::specs::Magic::Textual::looks_textual))]
 pub fn looks_textual(content: &[u8]) -> bool
+    // It is true exactly where each control byte among the first 128 bytes is a tab, a newline or a carriage return.
     ensures { result ≡ looks_textual content.now }
 {
     let front = &content[..LOOKED_AT.min(content.len())];

@@ -26,6 +26,7 @@ pub enum Halt {
 impl Halt {
     /// Whether the name matches, if that is decided.
     pub fn answer(self) -> Option<bool>
+        // Only a star leaves it open; else the name matches exactly where it ends with the pattern.
         ensures { result ≡ answer self }
     {
         match self {
@@ -63,13 +64,20 @@ pub struct Reach<'a> {
 ///
 /// None of the last `endless` bytes of the pattern is a `]`.
 pub fn attempt<'a>(pattern: &'a [u8], endless: usize, cased: bool, name: &[u8]) -> Reach<'a>
+    // None of the last `endless` bytes is a `]`.
     requires { HasNoEnd endless pattern.now }
+    // The elements that took a byte, and why the next one didn't.
     ensures goes { Goes result.halt result.passed (elements (compared cased pattern.now))
         (compared cased name.now) (elements (compared cased result.after.now)) }
+    // Each of them took a byte of the name.
     ensures passed { result.passed ≤ length name.now }
+    // There is a test for each, and one more where an element refused a byte or found the name's end.
     ensures tests { result.tests ≡ result.passed + last_tests result.halt }
+    // There are no more tests than the pattern has bytes.
     ensures most { result.tests ≤ length pattern.now }
+    // At a star the tests are fewer than the bytes of the pattern that are done with.
     ensures star { result.halt ≡ Halt.Star → result.tests + length result.after.now < length pattern.now }
+    // None of the last `endless` bytes of the rest is a `]`.
     ensures endless { HasNoEnd endless result.after.now }
 {
     let mut pattern = pattern;

@@ -27,8 +27,11 @@ pub fn after_admitting<'a>(
     cased: bool,
     byte: u8,
 ) -> Option<&'a [u8]>
+    // None of the last `endless` bytes is a `]`.
     requires { HasNoEnd endless after.now }
+    // There is a rest exactly where the element admits the byte.
     ensures admits { is_some result ≡ admits (one_byte first (compared cased after.now)) byte }
+    // The rest is what comes after the element.
     ensures after { IfSome result (λ rest. rest.now
         ≡ drop (width_after first (compared cased after.now)) after.now) }
 {
@@ -50,7 +53,9 @@ pub fn after_admitting<'a>(
 
 /// What stands after an element, which begins with the byte `first` as it is compared, and is no `*`.
 pub fn after_element<'a>(first: u8, after: &'a [u8], endless: usize) -> &'a [u8]
+    // None of the last `endless` bytes is a `]`.
     requires { HasNoEnd endless after.now }
+    // The rest is what comes after the element, whether the texts are folded or not.
     ensures after { (cased : Bool) → result.now ≡ drop (width_after first (compared cased after.now)) after.now }
 {
     match first {
@@ -68,6 +73,7 @@ pub fn after_element<'a>(first: u8, after: &'a [u8], endless: usize) -> &'a [u8]
 
 /// How many bytes stand after the last `]` of a text, or all.
 pub fn count_endless(text: &[u8]) -> usize
+    // None of that many last bytes of the text is a `]`.
     ensures { HasNoEnd result text.now }
 {
     match memrchr(b']', text) {
@@ -174,6 +180,7 @@ fn first_range<'a>(members: &'a [u8]) -> Option<Range<'a>>
 
 /// Whether each byte of a text stands for itself.
 pub fn is_literal_text(text: &[u8]) -> bool
+    // It is true exactly where no byte is `*`, `?`, `[` or `\`.
     ensures { result ≡ is_literal_text text.now }
 {
     text.iter().all(|byte| !is_special(*byte))
@@ -191,10 +198,14 @@ fn is_special(byte: u8) -> bool
 /// match. This is the first test of [`crate::glob_matches`], which counts it.
 #[inline]
 pub fn begins_otherwise(pattern: &[u8], cased: bool, name: &[u8]) -> bool
+    // The pattern's first byte stands for itself, and the name's is compared as another.
     ensures exact { result ≡ begins_otherwise cased pattern.now name.now }
+    // Then the pattern doesn't match the name.
     ensures other { IsTrue result → rule_matches pattern.now cased name.now ≡ false }
+    // Then it was the first test that refused it.
     ensures refused { IsTrue result
         → refuses (elements (compared cased pattern.now)) (compared cased name.now) ≡ true }
+    // Then the pattern has a byte.
     ensures some { IsTrue result → 0 < length pattern.now }
 {
     let Some((first, _after)) = pattern.split_first() else {
@@ -208,9 +219,12 @@ pub fn begins_otherwise(pattern: &[u8], cased: bool, name: &[u8]) -> bool
 
 /// The byte that a pattern begins with, if it stands for itself and folding makes it of no other byte.
 pub fn first_itself(pattern: &[u8]) -> Option<u8>
+    // It is the pattern's first byte, where that is below the letters and stands for itself.
     ensures exact { result ≡ first_itself pattern.now }
+    // With one, the pattern refuses each name that begins with another byte at its first test.
     ensures refused { IfSome result (λ first. (cased : Bool) (byte : ℕ) (rest : List ℕ) → (byte == first) ≡ false →
         refuses (elements (compared cased pattern.now)) (compared cased (byte ∷ rest)) ≡ true) }
+    // With one, the pattern has a byte.
     ensures some { IfSome result (λ first. 0 < length pattern.now) }
 {
     match pattern.split_first() {

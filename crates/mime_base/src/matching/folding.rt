@@ -12,6 +12,7 @@ use std::alloc::Global;
 
 /// A copy in which each of `A` to `Z` is its small letter, and every other byte as it was.
 pub fn fold(alloc: Global, bytes: &[u8]) -> Result<Vec<u8>, OutOfMemory>
+    // The copy is as long, and only the capitals of ASCII are changed.
     ensures { IfOk result (λ text. text.items ≡ map folded bytes.now) }
 {
     let mut text = Vec::with_capacity(alloc, bytes.len())?;
@@ -24,6 +25,7 @@ pub fn fold(alloc: Global, bytes: &[u8]) -> Result<Vec<u8>, OutOfMemory>
 /// The byte, or the small letter of a capital.
 #[inline]
 pub fn fold_byte(byte: u8) -> u8
+    // The capitals of ASCII become small letters, and every other byte stays.
     ensures { result ≡ folded byte }
 {
     if b'A' <= byte && byte <= b'Z' {
@@ -36,6 +38,7 @@ pub fn fold_byte(byte: u8) -> u8
 /// What is compared of a byte.
 #[inline]
 pub fn as_compared(cased: bool, byte: u8) -> u8
+    // A case-sensitive rule compares the byte as it is, any other folds it.
     ensures { result ≡ compared_byte cased byte }
 {
     if cased { byte } else { fold_byte(byte) }
@@ -44,8 +47,11 @@ pub fn as_compared(cased: bool, byte: u8) -> u8
 /// How many bytes from the front of two texts are compared as equal.
 #[inline]
 pub fn common_compared(cased: bool, left: &[u8], right: &[u8]) -> usize
+    // The two texts are equally long.
     requires { length left.now ≡ length right.now }
+    // It is the length of the front on which the texts agree, as they are or folded.
     ensures common { result ≡ common_prefix_len (λ x y. agrees cased (x, y)) left.now right.now }
+    // It is no more than their length.
     ensures within { result ≤ length left.now }
 {
     for i in 0..left.len() {

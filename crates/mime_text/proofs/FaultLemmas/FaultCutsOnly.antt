@@ -39,6 +39,7 @@ length_cut [] short = refl
 length_cut (b ∷ []) short = refl
 length_cut (b ∷ c ∷ cut) short = absurd (omega (arith, short))
 
+-- a value that the text's end cuts is a cut
 value_cut : (high low : ℕ) (cut : List ℕ) → length cut < 256 * high + low → value_at (high ∷ low ∷ cut) ≡ Err (fault_at Truncated 0)
 unfolding value_at
 value_cut high low cut less = bytes_cut (256 * high + low) cut less

@@ -33,6 +33,7 @@ byte_fails want b wrong f bytes e =
 abbrev number_and_byte_found : ℕ → Fault → List ℕ → Result (ℕ × List ℕ) Fault
 number_and_byte_found want wrong bytes = number_at bytes >>= λ n. byte_at want wrong n.1 >>= λ rest. Ok (n.0, rest)
 
+-- a fault at a number and the byte after it is one or the other's
 behind_number_fails : (want : ℕ) (wrong f : Fault) (bytes : List ℕ) → number_and_byte_found want wrong bytes ≡ Err f
     → (number_at bytes ≡ Err f) ⊎ ((wrong ≡ f) × Unmarked want bytes)
 behind_number_fails want wrong f bytes e =

@@ -33,6 +33,7 @@ digit_front : (front tail : List ℕ) → StartsDigit front → StartsDigit (fro
 digit_front [] tail starts = absurd starts
 digit_front (b ∷ front) tail starts = starts
 
+-- digits that have an end begin a number
 pub ended_starts : (text line : List ℕ) (next : ℕ) → AreDigits text → 0 < length text → IsEnded text next line → StartsDigit line
 ended_starts text line next are some ended =
     subst StartsDigit (sym ended.whole) (digit_front text (next ∷ ended.after) (digits_start text are some))
@@ -64,21 +65,27 @@ indent_starts (d ∷ indent) tail n is = or_right (eqb d 62) (is_digit d) is.dig
 to_indent : (limit : ℕ) (text : List ℕ) → IsToIndent limit text → StartsLine text
 to_indent limit text i = subst StartsLine (sym i.whole) (indent_starts i.indent [] i.depth i.indent_is)
 
+-- a line up to its start begins a line
 to_start : (limit : ℕ) (text : List ℕ) → IsToStart limit text → StartsLine text
 to_start limit text s = of_front text s.before (s.start ++ 61 ∷ []) s.whole (to_indent limit s.before s.before_is)
 
+-- so does a line up to its value
 to_value : (limit size : ℕ) (text : List ℕ) → IsToValue limit size text → StartsLine text
 to_value limit size text v = of_front text v.before (v.high ∷ v.low ∷ v.value) v.whole (to_start limit v.before v.before_is)
 
+-- so does a line up to its mask
 to_mask : (limit size : ℕ) (text : List ℕ) → IsToMask limit size text → StartsLine text
 to_mask limit size text m = of_front text m.before m.mask m.whole (to_value limit size m.before m.before_is)
 
+-- so does a line up to its word
 to_word : (limit size : ℕ) (text : List ℕ) → IsToWord limit size text → StartsLine text
 to_word limit size text w = of_front text w.before w.word w.whole (to_mask limit size w.before w.before_is)
 
+-- so does a line up to its end
 to_end : (limit : ℕ) (own : PlainLine) (next : ℕ) (text : List ℕ) → IsToEnd limit own next text → StartsLine text
 to_end limit own next text e = of_front text e.before e.body e.whole (to_indent limit e.before e.before_is)
 
+-- so does what comes before a number
 to_number : (limit : ℕ) (text : List ℕ) → IsBeforeNumber limit text → StartsLine text
 to_number limit text (before_start i) = to_indent limit text i
 to_number limit text (before_word size before is m) = of_front text before (126 ∷ []) is (to_mask limit size before m)
@@ -109,6 +116,7 @@ misnumbered_starts limit line at (large_sum before after own is end large e) =
 indented_starts : (depth : ℕ) (line : List ℕ) → IsIndented depth line → StartsLine line
 indented_starts depth line i = subst StartsLine (sym i.whole) (indent_starts i.indent i.after depth i.indent_is)
 
+-- so does a line with a wrong indent
 misindented_starts : (limit : ℕ) (line : List ℕ) (at : ℕ) → IsMisindented limit line at → StartsLine line
 misindented_starts limit line at (no_mark indent n next num ended other e) =
     digit_line line (ended_starts indent line next num.digits num.some ended)

@@ -52,17 +52,22 @@ places_first kind text at e = record { at = λ n. ap (λ (k : ℕ). Malformed ki
 
 -- ---- kinds that are neither of a missing header nor of a cut
 
+-- a wrong section stays wrong
 pub section_final : IsFinal (Malformed BadSection 0)
 section_final = (λ e. cc, λ e. cc)
 
+-- so does a wrong number
 pub number_final : IsFinal (Malformed BadNumber 0)
 number_final = (λ e. cc, λ e. cc)
 
+-- so does a wrong word
 pub word_final : IsFinal (Malformed BadWord 0)
 word_final = (λ e. cc, λ e. cc)
 
+-- so does a wrong indent
 pub indent_final : IsFinal (Malformed BadIndent 0)
 indent_final = (λ e. cc, λ e. cc)
 
+-- so does a line that is too deep
 pub deep_final : IsFinal (Malformed TooDeep 0)
 deep_final = (λ e. cc, λ e. cc)

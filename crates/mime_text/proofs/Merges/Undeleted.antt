@@ -14,14 +14,17 @@ use Rattle.mime_text.specs.Merging.Gathering.{AddsPart, KeepsParts}
 
 -- ---- tests
 
+-- a test or one that fails
 or-false : (b : Bool) → (b || false) ≡ b
 or-false true = refl
 or-false false = refl
 
+-- three tests, of which one passes
 or-assoc : (a b c : Bool) → ((a || b) || c) ≡ (a || (b || c))
 or-assoc true b c = refl
 or-assoc false b c = refl
 
+-- neither of two tests
 not-or : (a b : Bool) → (not b && not a) ≡ not (a || b)
 not-or true true = refl
 not-or true false = refl

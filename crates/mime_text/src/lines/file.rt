@@ -19,6 +19,7 @@ pub trait LineEntry: Drop {
 
     /// The entry that a line spells, or `None` where it is malformed.
     fn read(alloc: Global, line: &[u8]) -> Result<Option<Self>, OutOfMemory>
+        // It is the entry of the line, or none where the line is malformed.
         ensures { IfOk result (λ entry. entry ≡ entry_of line.now) };
 }
 
@@ -45,7 +46,9 @@ pub struct LineFile<T> {
 /// Reads a line file.
 #[tactic(auto, unfolding(crate::specs::Lines::File::entries_by, crate::specs::Lines::skipped_of))]
 pub fn read_lines<T: LineEntry>(alloc: Global, bytes: &[u8]) -> Result<LineFile<T>, OutOfMemory>
+    // The entries are those that the lines spell, in their order, repetitions kept.
     ensures entries { IfOk result (λ file. file.entries.items ≡ entries_by T.entry_of bytes.now) }
+    // The numbers of the malformed lines, rising; the first line is 1, and empty lines and comments count too.
     ensures skipped { IfOk result (λ file. file.skipped.items
         ≡ skipped_of (λ line. is_malformed (line_by T.entry_of line)) bytes.now) }
 {

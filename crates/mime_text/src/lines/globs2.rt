@@ -57,8 +57,11 @@ const CASED: &[u8] = b"cs";
 /// A malformed line is told by its number. Empty lines and comments are passed over.
 #[tactic(auto, unfolding(crate::specs::Lines::Globs2::rules_of, crate::specs::Lines::Globs2::markers_of))]
 pub fn read_globs2(alloc: Global, bytes: &[u8]) -> Result<GlobsFile, OutOfMemory>
+    // The rules are those that the lines spell, in their order, repetitions kept.
     ensures rules { IfOk result (λ file. file.rules.items ≡ rules_of bytes.now) }
+    // A type is deleted exactly where some line is a marker of it; in which order and how often is left open.
     ensures deleted { IfOk result (λ file. HasJust file.deleted.items (markers_of bytes.now)) }
+    // The numbers of the malformed lines, rising; the first line is 1, and empty lines and comments count too.
     ensures skipped { IfOk result (λ file. file.skipped.items ≡ skipped_of is_malformed_rule bytes.now) }
 {
     let read: LineFile<GlobEntry> = read_lines(alloc, bytes)?;

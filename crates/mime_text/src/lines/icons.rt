@@ -26,7 +26,9 @@ pub struct IconsFile {
 ///
 /// A malformed line is told by its number. Empty lines and comments are passed over.
 pub fn read_icons(alloc: Global, bytes: &[u8]) -> Result<IconsFile, OutOfMemory>
+    // The icons are those that the lines spell, in order, repetitions kept: a type, and all after the first colon.
     ensures icons { IfOk result (λ file. file.icons.items ≡ icons_in bytes.now) }
+    // The numbers of the malformed lines, rising; the first line is 1, and empty lines and comments count too.
     ensures skipped { IfOk result (λ file. file.skipped.items ≡ skipped_of is_malformed_icon bytes.now) }
 {
     let file: LineFile<Icon> = read_lines(alloc, bytes)?;

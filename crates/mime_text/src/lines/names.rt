@@ -9,7 +9,9 @@ use std::alloc::Global;
 
 /// The type name that a field spells, or `None` where it is past the limits of one.
 pub fn type_name_of(alloc: Global, field: &[u8]) -> Result<Option<TypeName>, OutOfMemory>
+    // It is the field as a type name, or none where the field is past the limits of one.
     ensures name { IfOk result (λ name. name ≡ name_by is_type_name field.now) }
+    // Past the limits there is no name, however little memory there is.
     ensures refused { is_type_name field.now ≡ false → result ≡ Ok None }
 {
     match TypeName::new(alloc, field) {
@@ -21,7 +23,9 @@ pub fn type_name_of(alloc: Global, field: &[u8]) -> Result<Option<TypeName>, Out
 
 /// The pattern that a field spells, or `None` where it is past the limits of one.
 pub fn pattern_of(alloc: Global, field: &[u8]) -> Result<Option<Pattern>, OutOfMemory>
+    // It is the field as a pattern, or none where the field is past the limits of one.
     ensures pattern { IfOk result (λ pattern. pattern ≡ name_by is_pattern field.now) }
+    // Past the limits there is no pattern, however little memory there is.
     ensures refused { is_pattern field.now ≡ false → result ≡ Ok None }
 {
     match Pattern::new(alloc, field) {
@@ -33,7 +37,9 @@ pub fn pattern_of(alloc: Global, field: &[u8]) -> Result<Option<Pattern>, OutOfM
 
 /// The name of an icon that a field spells, or `None` where it is past the limits of one.
 pub fn icon_name_of(alloc: Global, field: &[u8]) -> Result<Option<IconName>, OutOfMemory>
+    // It is the field as the name of an icon, or none where the field is past the limits of one.
     ensures name { IfOk result (λ name. name ≡ name_by is_icon_name field.now) }
+    // Past the limits there is no name, however little memory there is.
     ensures refused { is_icon_name field.now ≡ false → result ≡ Ok None }
 {
     match IconName::new(alloc, field) {

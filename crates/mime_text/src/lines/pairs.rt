@@ -25,7 +25,9 @@ pub struct PairsFile {
 ///
 /// A malformed line is told by its number. Empty lines and comments are passed over.
 pub fn read_pairs(alloc: Global, bytes: &[u8]) -> Result<PairsFile, OutOfMemory>
+    // The pairs are those that the lines spell, in their order, repetitions kept.
     ensures pairs { IfOk result (λ file. file.pairs.items ≡ pairs_in bytes.now) }
+    // The numbers of the malformed lines, rising; the first line is 1, and empty lines and comments count too.
     ensures skipped { IfOk result (λ file. file.skipped.items ≡ skipped_of is_malformed_pair bytes.now) }
 {
     let file: LineFile<Pair> = read_lines(alloc, bytes)?;

@@ -67,6 +67,7 @@ impl Fault {
 
     /// The fault of a text of so many bytes, with its offset.
     pub fn placed(self, size: usize) -> MagicFault
+        // The offset is how many bytes of the text were read.
         ensures { result ≡ placed size self }
     {
         MagicFault::Malformed {
@@ -78,6 +79,7 @@ impl Fault {
 
 /// What is wrong at the first of the bytes that are left.
 pub fn fault_at(kind: MagicFaultKind, rest: &[u8]) -> Fault
+    // The fault carries how many bytes are left, from which its offset is found.
     ensures { result ≡ fault_at kind (length rest.now) }
 {
     Fault {
@@ -96,6 +98,7 @@ pub enum ReadError {
 impl ReadError {
     /// The same with its offset in a text of so many bytes.
     pub fn placed(self, size: usize) -> MagicFault
+        // A fault of the text gets its offset; out of memory stays what it is.
         ensures { result ≡ placed_error size self }
     {
         match self {

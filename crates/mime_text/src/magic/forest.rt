@@ -105,6 +105,7 @@ fn matchlets(alloc: Global, roots: Vec<Root>) -> Result<Vec<Matchlet>, AllocErro
 /// The forest of the entries.
 #[tactic(auto, unfolding(crate::specs::Magic::Forest::forest))]
 pub fn grow(alloc: Global, entries: Vec<Entry>) -> Result<Vec<Matchlet>, AllocError>
+    // Each entry has the run of deeper entries after it as its children.
     ensures { IfOk result (λ v. forest_of (plain_matchlets v.items) ≡ forest (plain_entries entries.items)) }
 {
     let mut entries = entries;

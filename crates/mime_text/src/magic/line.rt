@@ -27,6 +27,7 @@ pub struct RawLine<'a> {
 
 /// The bytes before the next newline, and those after it.
 pub fn row(bytes: &[u8]) -> Result<(&[u8], &[u8]), Fault>
+    // The row ends before the next newline; without one the text is truncated.
     ensures { Agrees (λ x. (x.0.now, x.1.now)) result (row_at bytes.now) }
 {
     let Some(end) = memchr(b'\n', bytes) else {
@@ -206,6 +207,7 @@ fn end<'a>(
 /// A line whose indent may be at most `limit`, and what comes after it.
 #[tactic(auto, unfolding(crate::specs::Magic::Reading::line_at))]
 pub fn line(alloc: Global, limit: u32, bytes: &[u8]) -> Result<(Entry, &[u8]), ReadError>
+    // It is the line that the definition reads here, with what is left, or its first fault, or memory ran out.
     ensures { AgreesIfMemory (λ x. (plain_entry x.0, x.1.now)) result (line_at limit bytes.now) }
 {
     let (indent, rest) = indent(bytes)?;

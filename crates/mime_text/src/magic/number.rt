@@ -9,6 +9,7 @@ use super::fault::{Fault, MagicFaultKind, fault_at};
 pub const LIMIT: u64 = 4_294_967_296;
 
 pub fn is_digit(b: u8) -> bool
+    // The digits are the bytes `0` to `9`.
     ensures { result ≡ is_digit b }
 {
     b'0' <= b && b <= b'9'
@@ -34,6 +35,7 @@ fn digits(bytes: &[u8]) -> (u64, &[u8])
 /// A number and what comes after it. It ends at the first byte that is no digit, and is judged there.
 #[tactic(auto, unfolding(crate::specs::Magic::Reading::number_at, crate::specs::Magic::Reading::judged))]
 pub fn number(bytes: &[u8]) -> Result<(u32, &[u8]), Fault>
+    // It is the number that the definition reads here, with what is left, or its fault.
     ensures { Agrees (λ x. (x.0, x.1.now)) result (number_at bytes.now) }
 {
     let (value, rest) = digits(bytes);
@@ -49,6 +51,7 @@ pub fn number(bytes: &[u8]) -> Result<(u32, &[u8]), Fault>
 /// What comes after the byte `want`, which has to stand here.
 #[tactic(auto, unfolding(crate::specs::Magic::Reading::byte_at))]
 pub fn byte(want: u8, wrong: Fault, bytes: &[u8]) -> Result<&[u8], Fault>
+    // What is left after that byte, or else the fault that was handed in, or a cut at the text's end.
     ensures { Agrees (λ x. x.now) result (byte_at want wrong bytes.now) }
 {
     let Some((b, rest)) = bytes.split_first() else {

@@ -102,13 +102,13 @@ fn file(alloc: Global, text: &[u8]) -> Result<MagicFile, ReadError>
 ///
 /// The first fault of the text, or [`MagicFault::OutOfMemory`] where an allocation was refused.
 pub fn read_magic(alloc: Global, text: &[u8]) -> Result<MagicFile, MagicFault>
-    // What is read is spelled so.
+    // What is read is spelled so: the sections that keep a line, in order, and just the types that markers delete.
     ensures found { IfOk result (λ file.
         (flat_sections : List PlainFlatSection) × MagicText text.now flat_sections × IsFileOf flat_sections file) }
     // What is spelled so is read, unless memory runs out.
     ensures only { (flat_sections : List PlainFlatSection) → MagicText text.now flat_sections →
         MatchResult result (λ file. IsFileOf flat_sections file) (λ fault. fault ≡ MagicFault.OutOfMemory) }
-    // Which fault it is, and where.
+    // A fault is the text's first one, with its kind and offset, or memory ran out.
     ensures exact { IfErr result (λ fault. IsFaultOf text.now fault) }
 {
     match file(alloc, text) {

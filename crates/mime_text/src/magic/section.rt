@@ -14,6 +14,7 @@ use std::alloc::Global;
 
 /// The bytes after a prefix, where they have it.
 pub fn after_prefix<'a>(prefix: &[u8], bytes: &'a [u8]) -> Option<&'a [u8]>
+    // There are bytes after it exactly where the bytes begin with the prefix.
     ensures { slice_bytes result ≡ after_prefix prefix.now bytes.now }
 {
     bytes.strip_prefix(prefix)
@@ -133,6 +134,7 @@ fn head(alloc: Global, bytes: &[u8]) -> Result<((u32, TypeName), &[u8]), ReadErr
 /// A section and what comes after it.
 #[tactic(auto, unfolding(crate::specs::Magic::Reading::section_at))]
 pub fn section(alloc: Global, bytes: &[u8]) -> Result<(FlatSection, &[u8]), ReadError>
+    // It is the section that the definition reads here, with what is left, or its first fault, or memory ran out.
     ensures { AgreesIfMemory (λ x. (plain_flat_section x.0, x.1.now)) result (section_at bytes.now) }
 {
     let ((priority, kind), rest) = head(alloc, bytes)?;

@@ -25,6 +25,7 @@ fn sections(alloc: Global, bytes: &[u8]) -> Result<Vec<FlatSection>, ReadError>
 /// The sections that the text spells, or its first fault.
 #[tactic(auto, unfolding(crate::specs::Magic::Reading::whole))]
 pub fn flat_sections(alloc: Global, text: &[u8]) -> Result<Vec<FlatSection>, ReadError>
+    // They are the sections that the definition reads of the whole text, or its first fault, or memory ran out.
     ensures { AgreesIfMemory (λ v. plain_flat_sections v.items) result (whole text.now) }
 {
     if text.is_empty() {

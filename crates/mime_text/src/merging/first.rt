@@ -51,6 +51,7 @@ pub fn first_of_each<T: Drop, K: Key<T>>(
     alloc: Global,
     entries: Vec<T>,
 ) -> Result<Vec<T>, OutOfMemory>
+    // Of the entries of one key the first is kept, and the kept ones stay in their order.
     ensures { IfOk result (λ kept. kept.items ≡ once (has_same_key K.key_of) entries.items) }
 {
     let marks = first_marks::<T, K>(alloc, &entries)?;

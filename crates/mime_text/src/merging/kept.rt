@@ -14,6 +14,7 @@ pub trait Kinded: Drop {
 
     /// The type that it gives.
     fn kind(&self) -> &TypeName
+        // The type whose markers discard it.
         ensures { result.now ≡ kind_of self.now };
 }
 
@@ -45,7 +46,9 @@ pub struct Kept<T> {
 impl<T: Kinded> Kept<T> {
     /// That of no directories.
     pub fn new(alloc: Global) -> Kept<T>
+        // Nothing is kept yet.
         ensures items { result.items.items ≡ [] }
+        // No type is discarded yet.
         ensures deleted { result.deleted ≡ [] }
     {
         Kept {
@@ -61,8 +64,10 @@ impl<T: Kinded> Kept<T> {
         items: Vec<T>,
         deleted: &[TypeName],
     ) -> Result<(), OutOfMemory>
+        // Its items come after the others, without those whose types more preferred directories discard.
         ensures items { OnOk result
             (self.new.items.items ≡ self.old.items.items ++ without T.kind_of self.old.deleted items.items) }
+        // Its own markers discard types of the directories after it.
         ensures deleted { OnOk result (self.new.deleted ≡ with_kinds self.old.deleted deleted.now) }
     {
         self.keep(items)?;

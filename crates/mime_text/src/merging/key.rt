@@ -11,6 +11,7 @@ pub trait Key<T> {
 
     /// The key of an entry.
     fn of(entry: &T) -> (&[u8], &[u8])
+        // Entries of equal keys count as the same.
         ensures { (result.0.now, result.1.now) ≡ key_of entry.now };
 }
 

@@ -7,6 +7,7 @@ use mime_base::{OutOfMemory, Section};
 
 /// The sections by falling priority; those of one priority stay in their order.
 pub fn by_priority(sections: Vec<Section>) -> Result<Vec<Section>, OutOfMemory>
+    // The greatest priority comes first, and those of one priority keep their order.
     ensures { IfOk result (λ sorted. sorted.items ≡ falling (λ section. section.priority) sections.items) }
 {
     let mut sorted = sections;

@@ -25,6 +25,7 @@ impl Model for Types {
 impl Types {
     /// No types.
     pub fn new(alloc: Global) -> Types
+        // It holds no type.
         ensures { result ≡ [] }
     {
         Types {
@@ -34,6 +35,7 @@ impl Types {
 
     /// Whether it holds this type.
     pub fn contains(&self, kind: &TypeName) -> bool
+        // It is true exactly of a type that was added.
         ensures { result ≡ is_among self.now kind.now }
     {
         !self.names.is_empty() && self.names.contains(kind.bytes())
@@ -41,6 +43,7 @@ impl Types {
 
     /// Adds a type.
     pub fn add(&mut self, alloc: Global, kind: &TypeName) -> Result<(), OutOfMemory>
+        // The type is held besides all others, unless memory runs out.
         ensures { OnOk result (self.new ≡ with_kind self.old kind.now) }
     {
         self.names.insert(Vec::from_slice(alloc, kind.bytes())?)?;

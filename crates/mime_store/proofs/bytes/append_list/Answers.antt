@@ -1,7 +1,7 @@
 use Rattle.std.proofs.Common.{arith, length-append}
 use Rattle.mime_base.specs.Cache.Bytes.{card_bytes}
-use Rattle.mime_store.proofs.Lists.{list_grew, list_numbers}
-use Rattle.mime_store.proofs.Records.{length-card}
+use Rattle.mime_store.proofs.BytesLemmas.Lists.{list_grew, list_numbers}
+use Rattle.mime_store.proofs.BytesLemmas.Records.{length-card}
 use Rattle.mime_store.proofs.bytes.append_list.Goals as goal
 
 pub append_cards-requires : goal.append_cards-requires

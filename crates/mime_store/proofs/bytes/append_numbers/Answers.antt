@@ -1,6 +1,6 @@
 use Rattle.mime_base.specs.Cache.Bytes.{cards}
-use Rattle.mime_store.proofs.Records.{length-cards}
-use Rattle.mime_store.proofs.Written.{grew_by}
+use Rattle.mime_store.proofs.BytesLemmas.Records.{length-cards}
+use Rattle.mime_store.proofs.BytesLemmas.Written.{grew_by}
 use Rattle.mime_store.proofs.bytes.append_numbers.Goals as goal
 
 pub returns-clause-grew : goal.returns-clause-grew

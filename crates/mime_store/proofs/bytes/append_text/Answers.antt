@@ -1,4 +1,4 @@
-use Rattle.mime_store.proofs.Fits.{text_stands}
+use Rattle.mime_store.proofs.RulesLemmas.Fits.{text_stands}
 use Rattle.mime_store.proofs.bytes.append_text.Goals as goal
 
 pub returns-clause-stands : goal.returns-clause-stands

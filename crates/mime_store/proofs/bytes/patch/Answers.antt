@@ -1,5 +1,5 @@
 use Rattle.std.proofs.Common.{arith, ◌∙◌}
-use Rattle.mime_store.proofs.Lists.{patch_stands, written_back}
+use Rattle.mime_store.proofs.BytesLemmas.Lists.{patch_stands, written_back}
 use Rattle.mime_store.proofs.bytes.patch.Goals as goal
 
 pub returns-clause-after : goal.returns-clause-after

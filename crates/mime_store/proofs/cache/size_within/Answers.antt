@@ -1,5 +1,5 @@
 use Rattle.std.proofs.Common.{arith}
-use Rattle.mime_store.proofs.Spelled.{parts_room-is}
+use Rattle.mime_store.proofs.CacheLemmas.Spelled.{parts_room-is}
 use Rattle.mime_store.proofs.cache.size_within.Goals as goal
 
 pub returns-in_err-left : goal.returns-in_err-left

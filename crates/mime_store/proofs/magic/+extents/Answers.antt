@@ -1,7 +1,7 @@
 use Rattle.std.proofs.Common.{arith}
 use Rattle.mime_base.specs.declared.magic.matchlet.Matchlet.TheViews.{out-Matchlet}
-use Rattle.mime_store.proofs.Extents.{extent-more}
-use Rattle.mime_store.proofs.Lines.{extent_out}
+use Rattle.mime_store.proofs.MagicLemmas.Extents.{extent-more}
+use Rattle.mime_store.proofs.MagicLemmas.Lines.{extent_out}
 use Rattle.mime_store.proofs.magic.+extents.Goals as goal
 
 pub extent_of_lines-loop-line-preserved : goal.extent_of_lines-loop-line-preserved

@@ -4,10 +4,10 @@ use Rattle.mime_base.proofs.magic.matchlet.Matchlet.TheLaws.{the_size}
 use Rattle.mime_base.specs.Magic.{plain_matchlet}
 use Rattle.mime_base.specs.declared.magic.matchlet.Matchlet.TheViews.{out-Matchlet}
 use Rattle.mime_store.specs.Lines.{IsLineRecord, matchlet_parts_room}
-use Rattle.mime_store.proofs.Gather.{gather_end, gather_push}
-use Rattle.mime_store.proofs.Lines.{line_keeps, line_row, line_sized, lines_from_records, room-lines, room_out}
-use Rattle.mime_store.proofs.Loops.{grew_all, grew_more, next_fits}
-use Rattle.mime_store.proofs.Written.{grew_length, grew_on, grew_to}
+use Rattle.mime_store.proofs.ListLemmas.Gather.{gather_all, gather_end, gather_push}
+use Rattle.mime_store.proofs.MagicLemmas.Lines.{line_row, lines_from_records, room-lines, room_out}
+use Rattle.mime_store.proofs.ListLemmas.Loops.{grew_all, grew_more, next_fits}
+use Rattle.mime_store.proofs.BytesLemmas.Written.{grew_length, grew_on, grew_to}
 use Rattle.mime_store.proofs.magic.+lines.Goals as goal
 
 pub write_lines-write_parts-requires : goal.write_lines-write_parts-requires
@@ -29,7 +29,7 @@ write_lines-loop-line-preserved t c =
     record {
       grew = grew_more plain_matchlet matchlet_parts_room c.args.lines.now c.loop-line.line-index c.line-item.result
           c.args.out.now.items _ _ c.loop-line-test.true c.line-item.is c.loop-line.invariant.grew c.in_ok-record.ensures.grew;
-      gathered = rw c.in_ok-extend_from_slice.ensures.items (gather_push plain_matchlet IsLineRecord line_keeps _ _ _ _ _
+      gathered = rw c.in_ok-extend_from_slice.ensures.items (gather_push plain_matchlet IsLineRecord 8 _ _ _ _ _
           c.args.lines.now _ _ c.loop-line-test.true c.line-item.is c.in_ok-record.ensures.grew
           c.loop-line.invariant.gathered c.in_ok-record.ensures.row);
       count = search rules;
@@ -55,8 +55,9 @@ write_lines-returns-clause-grew t c =
 pub write_lines-returns-clause-stand : goal.write_lines-returns-clause-stand
 write_lines-returns-clause-stand t c =
     lines_from_records _ _ (map plain_matchlet c.args.lines.now)
-    (gather_end plain_matchlet IsLineRecord line_keeps 32 line_sized _ _ _ c.loop-line.out.items _ _ c.args.lines.now
-    c.loop-line-test.false c.in_ok-at.ensures.grew c.loop-line.invariant.gathered
+    (gather_end IsLineRecord 8 _ _ c.loop-line.out.items _ _ (map plain_matchlet c.args.lines.now)
+    c.in_ok-at.ensures.grew
+    (gather_all plain_matchlet IsLineRecord 8 _ _ c.args.lines.now _ c.loop-line-test.false c.loop-line.invariant.gathered)
     (rw (← c.deref.ensures.value) c.in_ok-at.ensures.stand))
 
 pub write_parts-overflow_cast-count : goal.write_parts-overflow_cast-count

@@ -1,5 +1,5 @@
 use Rattle.std.proofs.Common.{arith}
-use Rattle.mime_store.proofs.Extents.{extent_of-more}
+use Rattle.mime_store.proofs.MagicLemmas.Extents.{extent_of-more}
 use Rattle.mime_store.proofs.magic.extent.Goals as goal
 
 pub loop-section-preserved : goal.loop-section-preserved

@@ -4,7 +4,7 @@ use Rattle.std.proofs.lemmas.Cmp.{nat_list_cmp_total}
 use Rattle.mime_base.specs.Format.Sorted.{text_lt}
 use Rattle.mime_store.specs.Views.{first_text, pair_texts}
 use Rattle.mime_store.specs.declared.text_pair.TextPair.{TextPair}
-use Rattle.mime_store.proofs.Sorting.{sorted_by_text}
+use Rattle.mime_store.proofs.RulesLemmas.Sorting.{sorted_by_text}
 use Rattle.mime_store.proofs.pairs.sort_pairs.Goals as goal
 
 pub returns : goal.returns

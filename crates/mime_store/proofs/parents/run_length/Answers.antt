@@ -1,5 +1,5 @@
 use Rattle.std.proofs.Common.{ap, ℕ, ◌+◌}
-use Rattle.mime_store.proofs.RunLoops.{of_kind_more, same_texts}
+use Rattle.mime_store.proofs.ParentsLemmas.RunLoops.{of_kind_more, same_texts}
 use Rattle.mime_store.proofs.parents.run_length.Goals as goal
 
 pub loop-pair-preserved : goal.loop-pair-preserved

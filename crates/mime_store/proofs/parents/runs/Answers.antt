@@ -1,6 +1,6 @@
 use Rattle.std.proofs.Common.{arith, ◌≡◌, ◌≤◌, ◌+◌, ◌-◌, length, drop, refl}
 use Rattle.std.proofs.lemmas.List.{length-drop, take_rest}
-use Rattle.mime_store.proofs.RunLoops.{runs_end, runs_more, taken_some}
+use Rattle.mime_store.proofs.ParentsLemmas.RunLoops.{runs_end, runs_more, taken_some}
 use Rattle.mime_store.proofs.parents.runs.Goals as goal
 
 pub loop-at-preserved : goal.loop-at-preserved

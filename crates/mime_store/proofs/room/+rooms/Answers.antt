@@ -4,8 +4,8 @@ use Rattle.mime_base.specs.Format.Room.{lines_room}
 use Rattle.mime_store.specs.Lines.{matchlet_parts_room}
 use Rattle.mime_base.specs.declared.magic.matchlet.Matchlet.TheViews.{out-Matchlet}
 use Rattle.mime_base.specs.Magic.{forest_of, plain_matchlet, plain_matchlets}
-use Rattle.mime_store.proofs.Loops.{room_more, room_within}
-use Rattle.mime_store.proofs.Lines.{room-lines, room_out}
+use Rattle.mime_store.proofs.ListLemmas.Loops.{room_more, room_within}
+use Rattle.mime_store.proofs.MagicLemmas.Lines.{room-lines, room_out}
 use Rattle.mime_store.proofs.room.+rooms.Goals as goal
 
 pub take_lines-returns-in_err-rest : goal.take_lines-returns-in_err-rest

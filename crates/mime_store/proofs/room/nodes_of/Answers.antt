@@ -1,5 +1,5 @@
 use Rattle.std.proofs.Common.{arith}
-use Rattle.mime_store.proofs.EntryRooms.{common-is}
+use Rattle.mime_store.proofs.SuffixTreeLemmas.EntryRooms.{common-is}
 use Rattle.mime_store.proofs.room.nodes_of.Goals as goal
 
 pub returns-clause-nodes : goal.returns-clause-nodes

@@ -1,5 +1,5 @@
 use Rattle.std.proofs.Common.{arith, sym, ◌∙◌, ◌+◌}
-use Rattle.mime_store.proofs.EntryRooms.{entries_more, entries_within, last_more}
+use Rattle.mime_store.proofs.SuffixTreeLemmas.EntryRooms.{entries_more, entries_within, last_more}
 use Rattle.mime_store.proofs.room.take_tree.Goals as goal
 
 pub loop-ending-preserved : goal.loop-ending-preserved

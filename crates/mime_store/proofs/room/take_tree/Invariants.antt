@@ -1,6 +1,6 @@
 use Rattle.std.proofs.Common.{◌≡◌, ◌+◌, [], map, take}
-use Rattle.mime_store.specs.Endings.{entries_room, ending_entry}
-use Rattle.mime_store.proofs.Paths.{last_path}
+use Rattle.mime_store.specs.SuffixTree.{entries_room, ending_entry}
+use Rattle.mime_store.proofs.SuffixTreeLemmas.Paths.{last_path}
 use Rattle.mime_store.proofs.room.take_tree.Given as goal
 
 abbrev pub invariant-loop-ending : goal.invariant-loop-ending

@@ -5,7 +5,7 @@ use Rattle.mime_base.specs.Format.Sorted.{text_lt}
 use Rattle.mime_base.specs.Format.Stored.{stored_text}
 use Rattle.mime_store.specs.Views.{rule_of}
 use Rattle.mime_store.specs.declared.stored_rule.StoredRule.{StoredRule}
-use Rattle.mime_store.proofs.Sorting.{sorted_by_own_text}
+use Rattle.mime_store.proofs.RulesLemmas.Sorting.{sorted_by_own_text}
 use Rattle.mime_store.proofs.rules.sort_rules.Goals as goal
 
 pub returns : goal.returns

@@ -2,11 +2,11 @@ use Rattle.std.proofs.Common.{arith, map, length, drop, List, [], ◌∷◌, ◌
 use Rattle.std.specs.List.{between}
 use Rattle.std.proofs.lemmas.List.{length-map, drop-drop, drop_all, get_or_default, take_rest, length-drop}
 use Rattle.std.proofs.lemmas.Slice.{first_rest}
-use Rattle.mime_store.specs.Endings.{Entry, WritesSibling, entries_room, ending_entry}
+use Rattle.mime_store.specs.SuffixTree.{Entry, WritesSibling, entries_room, ending_entry}
 use Rattle.mime_store.specs.declared.ending.Ending.{Ending}
-use Rattle.mime_store.proofs.Groups.{a_group, first_fits, first_group, first_leaf, group_room, rest_is, starts}
-use Rattle.mime_store.proofs.SoFar.{sofar_all, sofar_grew, sofar_more, sofar_none}
-use Rattle.mime_store.proofs.Written.{grew_length}
+use Rattle.mime_store.proofs.SuffixTreeLemmas.Groups.{a_group, first_fits, first_group, first_leaf, group_room, rest_is, starts}
+use Rattle.mime_store.proofs.SuffixTreeLemmas.SoFar.{sofar_all, sofar_grew, sofar_more, sofar_none}
+use Rattle.mime_store.proofs.BytesLemmas.Written.{grew_length}
 use Rattle.mime_store.proofs.suffix_tree.+tree.Goals as goal
 
 pub write_sibling-append_text-requires-clause-room : goal.write_sibling-append_text-requires-clause-room

@@ -1,6 +1,6 @@
 use Rattle.std.proofs.Common.{length, ◌-◌, ◌+◌, ◌*◌, ◌≤◌, map, drop}
-use Rattle.mime_store.specs.Endings.{ending_entry}
-use Rattle.mime_store.proofs.SoFar.{Sofar}
+use Rattle.mime_store.specs.SuffixTree.{ending_entry}
+use Rattle.mime_store.proofs.SuffixTreeLemmas.SoFar.{Sofar}
 use Rattle.mime_store.proofs.suffix_tree.+tree.Given as goal
 
 abbrev pub decreases-write_sibling : goal.decreases-write_sibling

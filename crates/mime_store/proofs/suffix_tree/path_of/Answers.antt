@@ -1,6 +1,6 @@
 use Rattle.std.proofs.Common.{drop, ap, ◌∙◌}
 use Rattle.std.proofs.lemmas.List.{take_rest}
-use Rattle.mime_store.proofs.Texts.{path_fits}
+use Rattle.mime_store.proofs.RulesLemmas.Texts.{path_fits}
 use Rattle.mime_store.proofs.suffix_tree.path_of.Goals as goal
 
 pub returns : goal.returns

@@ -1,8 +1,8 @@
 use Rattle.std.proofs.Common.{arith, sym, ap, ◌∙◌, ◌+◌, ◌<◌, length}
 use Rattle.std.proofs.lemmas.List.{get_or_default}
-use Rattle.mime_store.specs.Endings.{ending_entry}
-use Rattle.mime_store.proofs.Loops.{views_more}
-use Rattle.mime_store.proofs.Groups.{start_push, starts}
+use Rattle.mime_store.specs.SuffixTree.{ending_entry}
+use Rattle.mime_store.proofs.ListLemmas.Loops.{views_more}
+use Rattle.mime_store.proofs.SuffixTreeLemmas.Groups.{start_push, starts}
 use Rattle.mime_store.proofs.suffix_tree.run_length.Goals as goal
 
 pub loop-ending-preserved : goal.loop-ending-preserved

@@ -1,5 +1,5 @@
 use Rattle.std.proofs.Common.{◌≡◌, map, take}
-use Rattle.mime_store.specs.Endings.{StartAll, ending_entry}
+use Rattle.mime_store.specs.SuffixTree.{StartAll, ending_entry}
 use Rattle.mime_store.proofs.suffix_tree.run_length.Given as goal
 
 abbrev pub invariant-loop-ending : goal.invariant-loop-ending

@@ -3,7 +3,7 @@ use Rattle.std.proofs.lemmas.List.Sorted.{ranks_by, answers_always}
 use Rattle.std.proofs.lemmas.Cmp.{nat_list_cmp_total}
 use Rattle.mime_base.specs.Format.Sorted.{text_lt}
 use Rattle.mime_store.specs.declared.ending.Ending.{Ending}
-use Rattle.mime_store.proofs.Rooted.{sorted_endings}
+use Rattle.mime_store.proofs.SuffixTreeLemmas.Rooted.{sorted_endings}
 use Rattle.mime_store.proofs.suffix_tree.sort_endings.Goals as goal
 
 pub returns : goal.returns

@@ -1,6 +1,6 @@
 use Rattle.std.proofs.Common.{arith}
-use Rattle.mime_store.proofs.OneSibling.{tree_head}
-use Rattle.mime_store.proofs.Written.{grew_length, grew_on, grew_to}
+use Rattle.mime_store.proofs.SuffixTreeLemmas.OneSibling.{tree_head}
+use Rattle.mime_store.proofs.BytesLemmas.Written.{grew_length, grew_on, grew_to}
 use Rattle.mime_store.proofs.suffix_tree.write_tree.Goals as goal
 
 pub append_numbers-requires-clause-room : goal.append_numbers-requires-clause-room

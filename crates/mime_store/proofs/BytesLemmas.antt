@@ -1,0 +1,5 @@
+-- What was written stands, and stays.
+pub mod Written
+pub mod Records
+pub mod Lists
+pub mod Header

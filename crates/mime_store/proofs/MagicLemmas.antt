@@ -1,0 +1,4 @@
+-- Sections and lines of magic.
+pub mod Lines
+pub mod Sections
+pub mod Extents
