@@ -33,10 +33,14 @@ pub trait Content: Read {
     /// Reads bytes to the front of a buffer, and answers how many. None come only at the end of the
     /// content and for an empty buffer.
     fn read_piece(&mut self, buffer: &mut [u8]) -> Result<usize, ReadFault>
+        // No more bytes are read than the buffer has.
         ensures bound { ReadsAtMost result buffer.new }
+        // They are the next of those that remain.
         ensures bytes { ReadConsumes (Self.remaining self.old) (Self.remaining self.new)
             result buffer.new }
+        // A read is counted by what it gave.
         ensures told { Counts (tally self.old) (tally self.new) result }
+        // A sound content goes on, and a broken one fails.
         ensures healthy { KeepsHealth (health self.old) (health self.new) result };
 }
 

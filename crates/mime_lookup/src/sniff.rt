@@ -27,6 +27,7 @@ pub struct Sniffed<'a> {
 /// The law of fronts: one of at least 128 bytes and the database's extent, or the whole content, is
 /// sniffed as the whole.
 pub fn front_is_enough()
+    // The law.
     ensures { FrontIsEnough }
 {}
 
