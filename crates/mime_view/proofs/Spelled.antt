@@ -7,16 +7,16 @@ use Rattle.std.proofs.lemmas.List.{get_or-map, length-map}
 use Rattle.mime_base.specs.Cache.Bytes.{Stands}
 use Rattle.mime_base.specs.Cache.Texts.{text_at}
 use Rattle.mime_base.specs.Database.Subclass.{resolved}
-use Rattle.mime_base.specs.Format.Pairs.{IsPair, ReadsPairEntries}
+use Rattle.mime_base.specs.Format.Pairs.{IsPair, PairsAt}
 use Rattle.mime_base.specs.Format.Records.{RecordsAt}
 use Rattle.mime_base.specs.Format.Sorted.{IsSortedByText, text_lt, with_key}
-use Rattle.mime_view.specs.Pairs.{ReadsPairEntries as ReadPairsAt, ReadsPairs, looked_up}
+use Rattle.mime_view.specs.Pairs.{ReadsPairEntries, ReadsPairs, looked_up}
 use Rattle.mime_view.specs.Lists.{AreSorted, is_less}
 use Rattle.mime_view.proofs.PairTexts.{Pair, names, none}
 use Rattle.mime_view.proofs.Records.{count_read, first_read, list_inside, second_read, text_read}
 
 -- pairs in records are read by the offsets that their numbers name
-pairs_read : (c : List ℕ) (at : ℕ) (pairs : List Pair) → RecordsAt (Stands c) 8 (IsPair (Stands c)) at pairs → ReadPairsAt c at pairs
+pairs_read : (c : List ℕ) (at : ℕ) (pairs : List Pair) → RecordsAt (Stands c) 8 (IsPair (Stands c)) at pairs → ReadsPairEntries c at pairs
 pairs_read c at [] stand = stand
 pairs_read c at (pair ∷ pairs) (numbers, here, (first, second, are, name, target), rest) =
     let here = rw are at here in
@@ -55,7 +55,7 @@ names_sorted entries sorted k d low within =
     ap₂ is_less (name (k + 1) (omega arith)) (name k (omega arith)) ∙ sorted k none low (omega arith)
 
 -- a list of pairs that stands is read as its entries
-pub pairs_reads : (c : List ℕ) (at : ℕ) (pairs : List Pair) → (stand : ReadsPairEntries (Stands c) at pairs) → ReadsPairs c at stand.entries
+pub pairs_reads : (c : List ℕ) (at : ℕ) (pairs : List Pair) → (stand : PairsAt (Stands c) at pairs) → ReadsPairs c at stand.entries
 pairs_reads c at pairs stand = record {
   count = count_read c 8 (IsPair (Stands c)) at stand.entries stand.stand;
   inside = list_inside c 8 (IsPair (Stands c)) at stand.entries (pair_size c) stand.stand;
