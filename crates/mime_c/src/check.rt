@@ -12,8 +12,11 @@ use mime_view::Cache;
 /// Below 40 bytes it is truncated, else of another version unless that is 1.2, else too large above 268,435,456 bytes.
 #[unsafe(no_mangle)]
 pub extern "C" fn mimelook_check(cache: &[u8]) -> Report
+    // The status says whether the bytes open as a cache, and else the first thing that is wrong.
     ensures opened { IsCheck cache.now result }
+    // At most the header is visited.
     ensures nodes { result.nodes ≤ 1 }
+    // Nothing is compared.
     ensures bytes { result.bytes ≡ 0 }
 {
     let mut meter = Meter::new();

@@ -33,6 +33,7 @@ pub extern "C" fn mimelook_icons(
     generic: &mut [u8],
     lengths: &mut IconLengths,
 ) -> Report
+    // It is what `icon_of` answers for such a type and cache; the buffers are written only with an answer, and where both names fit.
     ensures promises { IsAskedIcons cache.now kind.now
         (record { icon = icon.old; generic = generic.old; lengths = lengths.old })
         (record { icon = icon.new; generic = generic.new; lengths = lengths.new }) result }

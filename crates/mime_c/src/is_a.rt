@@ -19,6 +19,7 @@ pub extern "C" fn mimelook_is_a(
     base: &[u8],
     is: &mut bool,
 ) -> Report
+    // It is what `is_a` answers for such types and cache; the flag is written only with an answer.
     ensures promises { IsAsked cache.now kind.now base.now is.old is.new result }
 {
     let kind = match type_name(alloc, kind) {

@@ -32,8 +32,10 @@ pub extern "C" fn mimelook_look_up<'a>(
     magic_first: bool,
     kind: &mut Text<'a>,
 ) -> Report
+    // It is what `look_up` answers over a content that is bytes, of which no read fails; the text is written only with an answer.
     ensures promises { IsLookedUp cache.now name.now (available_content has_content content.now) (order_by_flag magic_first)
         kind.old kind.new result }
+    // On any bytes it keeps to the bounds, and over a cache that was written it gives the type of the checking order.
     ensures headline { IsHeadline cache.now name.now (available_content has_content content.now) (order_by_flag magic_first)
         kind.new.bytes.now result }
 {

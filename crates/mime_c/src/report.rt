@@ -33,6 +33,7 @@ pub struct Report {
 
 /// A report of a status, and of what was read, visited and compared.
 pub fn status_report(status: u32, read: u64, meter: Meter) -> Report
+    // A report of these numbers, with no fault.
     ensures { result ≡ status_report status read meter }
 {
     Report {
@@ -48,6 +49,7 @@ pub fn status_report(status: u32, read: u64, meter: Meter) -> Report
 
 /// A report of an answer.
 pub fn answered(read: u64, meter: Meter) -> Report
+    // A report of the status of an answer.
     ensures { result ≡ status_report 0 read meter }
 {
     status_report(ANSWERED, read, meter)
@@ -55,6 +57,7 @@ pub fn answered(read: u64, meter: Meter) -> Report
 
 /// A report of a fault of the cache.
 pub fn fault_report(fault: CacheFault, read: u64, meter: Meter) -> Report
+    // A report of the fault's status and its place.
     ensures { result ≡ fault_report fault read meter }
 {
     match fault {
@@ -81,7 +84,9 @@ pub fn fault_report(fault: CacheFault, read: u64, meter: Meter) -> Report
 
 /// A report of a lookup that stopped; bytes never fail to be read.
 pub fn stop_report(stopped: Stopped) -> Report
+    // No read failed: a content of bytes has no such stop.
     requires readable { stopped.cause ≢ Cause.Read }
+    // A report of the cause, and of what was read and looked at.
     ensures { IsStopReport stopped.cause stopped.read stopped.meter result }
 {
     match stopped.cause {

@@ -57,6 +57,7 @@ pub extern "C" fn mimelook_wanted(
     magic_first: bool,
     wanted: &mut u64,
 ) -> Report
+    // It is how much of a content a lookup of the name reads at most: nothing where the globs give the type.
     ensures promises { IsAskedWanted cache.now name.now (order_by_flag magic_first) wanted.old wanted.new result }
 {
     match find(alloc, cache, name, order_by_flag(magic_first)) {
