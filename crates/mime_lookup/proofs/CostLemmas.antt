@@ -67,21 +67,6 @@ pub costs_more : {each value more : ℕ} {old new : Budget} {before after : Mete
 costs_more {each} {value} {more} {old} {new} {before} {after} later is less =
     costs_wider each each value value more later old new before after (omega arith) (omega arith) less is
 
--- a search for hits
-pub costs_charged : (each value more : ℕ) (old new : Budget) (before after : Meter) → Charged each more old new before after
-    → Costs each value more old new before after
-costs_charged each value more old new before after is =
-    let v : value * new.value_bytes ≡ value * old.value_bytes = ap (λ (n : ℕ). value * n) is.value_bytes in
-    record {
-      records = is.records;
-      value_bytes = omega (arith, is.value_bytes);
-      rises = is.rises;
-      nodes = omega arith;
-      fair = is.fair;
-      bytes_rise = is.bytes_rise;
-      bytes = omega arith;
-    }
-
 -- a search of magic
 pub costs_paid : (content texts more : ℕ) (old new : Budget) (before after : Meter) → Paid content texts more old new before after
     → Costs texts (content + 1) more old new before after

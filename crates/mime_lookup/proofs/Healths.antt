@@ -5,20 +5,6 @@ use Rattle.mime_lookup.specs.Content.{Health, KeepsHealth, broken, sound, untold
 use Rattle.mime_lookup.specs.declared.content.ReadFault.{ReadFault}
 use Rattle.mime_lookup.specs.declared.content.ReadFault.TheVariants.{Failed}
 
--- a read of a sound reader
-pub of_sound : (before after : Health) (result : Result ℕ ReadFault) → KeepsHealth before after result → before ≡ sound →
-    IsOk result × (after ≡ sound)
-of_sound sound after result kept is = kept
-of_sound broken after result kept is = absurd cc
-of_sound untold after result kept is = absurd cc
-
--- a read of a broken reader
-pub of_broken : (before after : Health) (result : Result ℕ ReadFault) → KeepsHealth before after result → before ≡ broken →
-    (result ≡ Err Failed) × (after ≡ broken)
-of_broken sound after result kept is = absurd cc
-of_broken broken after result kept is = kept
-of_broken untold after result kept is = absurd cc
-
 -- of a reader that is sound or untold, by whether all is well: bytes were given and it tells the same
 pub tells_on : (before after : Bool) (count : ℕ) → before ≡ after →
     KeepsHealth (cond before sound untold) (cond after sound untold) (Ok count)

@@ -17,7 +17,6 @@ pub mod CostLemmas
 pub mod SpelledParts
 pub mod Findings
 pub mod FoundFronts
-pub mod Stops
 pub mod KeptTypes
 pub mod Openings
 pub mod OpenFaults
@@ -42,4 +41,5 @@ pub mod ByNames
 pub mod ByContents
 pub mod FrontLemmas
 pub mod LookUps
+pub mod ReadHalves
 pub mod Outcomes

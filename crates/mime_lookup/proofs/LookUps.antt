@@ -1,21 +1,26 @@
 -- What a lookup promises, put together from what its two halves and the reading promise.
-use Rattle.std.proofs.Common.{◌≡◌, ℕ, true, false, List, Option, None, Some, inl, inr}
+use Rattle.std.proofs.Common.{◌≡◌, ℕ, true, false, List, Option, None, Some, inl, inr, arith, length, ◌+◌, ◌≤◌}
 use Rattle.std.specs.Prelude.{IfSome}
 use denote.Bor.{Bor}
 use Rattle.mime_base.specs.Database.{PlainDatabase}
 use Rattle.mime_base.specs.declared.magic.host.Host.{Host}
+use Rattle.mime_lookup.specs.Affords.{Affords, rule_records}
 use Rattle.mime_lookup.specs.CheckingOrder.{Chooses, GlobsDecide, front_size, globs_suffice, read_of}
 use Rattle.mime_lookup.specs.Content.{known_content}
 use Rattle.mime_lookup.specs.Fronts.{ReadsFront}
-use Rattle.mime_lookup.specs.Halves.{Gives, order_of}
-use Rattle.mime_lookup.specs.Spelling.{SpellsMagic}
-use Rattle.mime_lookup.specs.Steps.{Suffices, SufficesForContent}
+use Rattle.mime_lookup.specs.Halves.{AffordsRest, Gives, Leaves, order_of, owed_records}
+use Rattle.mime_lookup.specs.Spelling.{SpellsGlobs, SpellsMagic}
+use Rattle.mime_lookup.specs.Spent.{IsUsedUp}
+use Rattle.mime_lookup.specs.Steps.{Stops, Suffices, SufficesForContent}
 use Rattle.mime_lookup.specs.declared.cached.by_name.ByName.TheVariants.{Decided, Left}
 use Rattle.mime_lookup.specs.declared.cached.by_name.Candidates.{Candidates}
 use Rattle.mime_lookup.specs.declared.order.Order.{Order}
-use Rattle.mime_lookup.proofs.ByContents.{without}
+use Rattle.mime_lookup.specs.declared.stopped.Cause.{Cause}
+use Rattle.mime_lookup.proofs.ByContents.{suffices_globs, used_for, without}
 use Rattle.mime_lookup.proofs.FrontLemmas.{chooses_known, size_known}
 use Rattle.mime_lookup.proofs.SpelledParts.{spelled_magic}
+use Rattle.mime_lookup.proofs.StepStops.{stops_then}
+use Rattle.mime_view.specs.declared.budget.Budget.{Budget}
 
 -- what implies that there is no content
 decide_for : (b : PlainDatabase) (name : List ℕ) (order : Order) (A B : Type 0) → (A → B) → GlobsDecide b name order A
@@ -81,3 +86,28 @@ module _ {R : Type 0} (remaining : R → Option (List ℕ)) (c name : List ℕ) 
       read_front spelled =
           front_read b name order (known_content remaining content) read gives.0
           (size_known b (known_content remaining content) front read reads.size (reads.enough b spelled))
+
+-- the front gave nothing
+module _ {R : Type 0} (remaining : R → Option (List ℕ)) (c name : List ℕ) (content : Option R) (order : Order) (candidates : Candidates)
+    (gives : (b : PlainDatabase) → SpellsGlobs c b → Gives b name order (Left candidates)) (read : ℕ) (front : Option (List ℕ))
+    (reads : ReadsFront remaining c content read front)
+  where
+    pub stops_front : (old kept after : Budget) (stop : Cause) → kept.value_bytes ≡ old.value_bytes
+        → ((b : PlainDatabase) → SpellsGlobs c b → old.records + owed_records b candidates ≤ kept.records + rule_records b)
+        → Stops c (IsUsedUp c (front ≡ None) after)
+        (λ b. Suffices c name (order_of candidates) (front ≡ None) b × Leaves b name candidates × AffordsRest b candidates kept) (λ _. ⊥)
+        stop
+        → Stops c (IsUsedUp c (content ≡ None) after) (λ b. Suffices c name order (content ≡ None) b × Affords b old)
+        (λ b. GlobsDecide b name order (content ≡ None) → ⊥) stop
+    stops_front old kept after stop same takes is =
+        stops_then c stop is (used_for c after reads.absent)
+        (λ b enough.
+        let globs = suffices_globs c name (content ≡ None) b order enough.0 in (
+          front_stands remaining c name content order candidates b (gives b globs) read front reads enough.0,
+          (gives b globs).2,
+          record {
+            records = omega (arith, enough.1.records, takes b globs);
+            value_bytes = omega (arith, enough.1.value_bytes, same);
+          },
+        ))
+        (λ b enough none. absurd none)

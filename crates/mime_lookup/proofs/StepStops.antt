@@ -2,12 +2,11 @@
 use Rattle.std.proofs.Common.{◌≡◌, ◌⊎◌, ℕ, List, Result, Ok, Err, ap, inl, inr, refl, subst, sym}
 use Rattle.std.specs.Prelude.{IfErr, IsErrAnd, OnOk}
 use Rattle.mime_base.specs.Database.{PlainDatabase}
-use Rattle.mime_lookup.specs.Cached.{cause_of}
+use Rattle.mime_lookup.specs.Cached.{IsStop, cause_of}
 use Rattle.mime_lookup.specs.StepFaults.{IsAliasFault, IsLookUpFault, IsSearchFault, of_search}
 use Rattle.mime_lookup.specs.Steps.{Stops}
 use Rattle.mime_lookup.specs.declared.stopped.Cause.{Cause}
 use Rattle.mime_lookup.specs.declared.stopped.Cause.TheVariants as cause
-use Rattle.mime_lookup.proofs.Stops.{stop_of_fault}
 use Rattle.mime_view.specs.declared.budget.Budget.{Budget}
 use Rattle.mime_view.specs.declared.fault.CacheFault.{CacheFault}
 use Rattle.mime_view.specs.declared.fault.CacheFault.TheVariants as fault
@@ -44,6 +43,17 @@ no_read_fault (fault.LongText at) same = cc
 no_read_fault fault.Spent same = cc
 no_read_fault fault.TooDeep same = cc
 no_read_fault fault.OutOfMemory same = cc
+
+-- a fault of a cache, as a cause
+stop_of_fault : (IsFault : CacheFault → Type 0) (e : CacheFault) → IsFault e → IsStop IsFault (cause_of e)
+stop_of_fault IsFault fault.Truncated is = inr (inr (fault.Truncated, refl, (λ same. absurd cc), is))
+stop_of_fault IsFault (fault.Version major minor) is = inr (inr (fault.Version major minor, refl, (λ same. absurd cc), is))
+stop_of_fault IsFault fault.TooLarge is = inr (inr (fault.TooLarge, refl, (λ same. absurd cc), is))
+stop_of_fault IsFault (fault.OutOfRange at) is = inr (inr (fault.OutOfRange at, refl, (λ same. absurd cc), is))
+stop_of_fault IsFault (fault.LongText at) is = inr (inr (fault.LongText at, refl, (λ same. absurd cc), is))
+stop_of_fault IsFault fault.Spent is = inr (inr (fault.Spent, refl, (λ same. absurd cc), is))
+stop_of_fault IsFault fault.TooDeep is = inr (inr (fault.TooDeep, refl, (λ same. absurd cc), is))
+stop_of_fault IsFault fault.OutOfMemory is = inr (inl refl)
 
 -- a fault of a step
 pub stops_for : (c : List ℕ) (IsUsed : Type 0) (IsEnough IsRead : PlainDatabase → Type 0) (e : CacheFault) → IsLookUpFault c e

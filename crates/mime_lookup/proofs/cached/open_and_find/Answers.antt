@@ -7,8 +7,8 @@ use Rattle.mime_lookup.proofs.BoundLemmas.{keeps_bounds}
 use Rattle.mime_lookup.proofs.ByContents.{suffices_globs}
 use Rattle.mime_lookup.proofs.OpenFaults.{header_without_fault, on_ok, refused_for}
 use Rattle.mime_lookup.proofs.PlacedFaults.{no_header}
-use Rattle.mime_lookup.proofs.ReadsLemmas.{no_read, not_asked}
-use Rattle.mime_lookup.proofs.StepStops.{no_read_fault, not_ok, passed_on, stops_for, stops_then}
+use Rattle.mime_lookup.proofs.ReadHalves.{reads_early}
+use Rattle.mime_lookup.proofs.StepStops.{not_ok, passed_on, stops_for, stops_then}
 use Rattle.mime_lookup.proofs.UsedUp.{uses_up}
 use Rattle.mime_lookup.proofs.cached.open_and_find.Goals as goal
 
@@ -28,15 +28,8 @@ returns-in_err-cache-clause-stops g c =
 
 pub returns-in_err-cache-clause-reads : goal.returns-in_err-cache-clause-reads
 returns-in_err-cache-clause-reads g c =
-    let fault = c.in_err-cache.field-0.0 in
-    let passed = c.from_residual.ensures.1 in
-    record {
-      reader = no_read g.R.Read.remaining g.R.Content.tally g.R.Content.health (max 128 (stated_extent c.args.cache))
-          c.args.content.now c.args.read.now (cause_of fault) c.from_residual.result passed (no_read_fault fault) c.requires.none;
-      asks = λ b globs. not_asked g.R.Content.health _ c.args.content.now c.args.content.now (cause_of fault) c.from_residual.result
-          passed (no_read_fault fault);
-      exact = λ b within spells. not_ok _ _ c.from_residual.result passed;
-    }
+    reads_early g.R.Read.remaining g.R.Content.tally g.R.Content.health c.args.cache c.args.name.now c.args.order c.args.content.now
+    c.args.read.now c.in_err-cache.field-0.0 c.from_residual.result c.from_residual.ensures.1 c.requires.none
 
 pub returns-in_err-cache-clause-costs : goal.returns-in_err-cache-clause-costs
 returns-in_err-cache-clause-costs g c =

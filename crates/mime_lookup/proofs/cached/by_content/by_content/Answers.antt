@@ -1,7 +1,6 @@
 use Rattle.std.proofs.Common.{◌≡◌, ◌∙◌, None, Some, length, inl, inr, ap, sym, arith}
 use Rattle.mime_base.specs.declared.meter.Meter.{Meter}
 use Rattle.mime_lookup.specs.Cached.{cause_of, plain_finding}
-use Rattle.mime_lookup.specs.Costs.{record_cost}
 use Rattle.mime_lookup.specs.Halves.{bytes_of}
 use Rattle.mime_lookup.specs.declared.cached.by_name.Candidates.TheVariants.{Kept, Unasked}
 use Rattle.mime_lookup.specs.declared.order.Order.TheVariants.{GlobsFirst, MagicFirst}
@@ -10,7 +9,7 @@ use Rattle.mime_lookup.proofs.CostLemmas.{costs_more, costs_then}
 use Rattle.mime_lookup.proofs.GlobsFirst.{with_content}
 use Rattle.mime_lookup.proofs.MagicFirst.{by_high_magic, by_low_magic}
 use Rattle.mime_lookup.proofs.NearLemmas.{decide_without, none_kept}
-use Rattle.mime_lookup.proofs.StepStops.{choice_fault, not_ok, passed_on, stops_for, stops_then}
+use Rattle.mime_lookup.proofs.StepStops.{choice_fault, passed_on, stops_for, stops_then}
 use Rattle.mime_lookup.proofs.UsedUp.{choice_spent}
 use Rattle.mime_lookup.proofs.cached.by_content.by_content.Goals as goal
 
@@ -26,12 +25,8 @@ returns-in_err-finding-clause-stops c =
     ))
     (λ b enough read. read))
 
-pub returns-in_err-finding-clause-near : goal.returns-in_err-finding-clause-near
-returns-in_err-finding-clause-near c b globs leaves decide = not_ok _ _ c.from_residual.result c.from_residual.ensures.1
-
 pub returns-in_err-finding-clause-cost : goal.returns-in_err-finding-clause-cost
-returns-in_err-finding-clause-cost c =
-    costs_more _ (c.sniff_front.ensures.cost (record_cost (length c.args.name.now)) (omega arith)) (omega arith)
+returns-in_err-finding-clause-cost c = costs_more _ (c.sniff_front.ensures.cost _ (omega arith)) (omega arith)
 
 pub choose-requires-clause-texts : goal.choose-requires-clause-texts
 choose-requires-clause-texts c = rw c.as_slice.ensures (rw c.in-Kept.is at c.requires.texts)
@@ -50,15 +45,10 @@ returns-in_err-kind-in-Kept-clause-stops c =
     ))
     (λ b enough read. read)))
 
-pub returns-in_err-kind-in-Kept-clause-near : goal.returns-in_err-kind-in-Kept-clause-near
-returns-in_err-kind-in-Kept-clause-near c b globs leaves decide =
-    not_ok _ _ c.from_residual-in_err-kind-in-Kept.result c.from_residual-in_err-kind-in-Kept.ensures.1
-
 pub returns-in_err-kind-in-Kept-clause-cost : goal.returns-in_err-kind-in-Kept-clause-cost
 returns-in_err-kind-in-Kept-clause-cost c =
-    let each = record_cost (length c.args.name.now) in
-    rw c.in-Kept.is (costs_more _ (costs_then (c.in_ok-finding.ensures.cost each (omega arith))
-    ((rw c.as_slice.ensures at c.in_err-kind-in-Kept.ensures.cost) each _ (omega arith))) (omega arith))
+    rw c.in-Kept.is (costs_more _ (costs_then (c.in_ok-finding.ensures.cost _ (omega arith))
+    ((rw c.as_slice.ensures at c.in_err-kind-in-Kept.ensures.cost) _ _ (omega arith))) (omega arith))
 
 pub returns-in_err-kind-in-Unasked-clause-stops : goal.returns-in_err-kind-in-Unasked-clause-stops
 returns-in_err-kind-in-Unasked-clause-stops c =
@@ -72,14 +62,9 @@ returns-in_err-kind-in-Unasked-clause-stops c =
     let globs = suffices_globs c.args.cache.now c.args.name.now (bytes_of c.args.front ≡ None) b MagicFirst enough.0 in
     absurd (step.ensures.answer b globs.offsets globs.header globs.aliases))))
 
-pub returns-in_err-kind-in-Unasked-clause-near : goal.returns-in_err-kind-in-Unasked-clause-near
-returns-in_err-kind-in-Unasked-clause-near c b globs leaves decide =
-    not_ok _ _ c.from_residual-in_err-kind-in-Unasked.result c.from_residual-in_err-kind-in-Unasked.ensures.1
-
 pub returns-in_err-kind-in-Unasked-clause-cost : goal.returns-in_err-kind-in-Unasked-clause-cost
 returns-in_err-kind-in-Unasked-clause-cost c =
-    let each = record_cost (length c.args.name.now) in
-    costs_more _ (costs_then (c.in_ok-finding.ensures.cost each (omega arith)) (c.resolve.ensures.cost each _)) (omega arith)
+    costs_more _ (costs_then (c.in_ok-finding.ensures.cost _ (omega arith)) (c.resolve.ensures.cost _ _)) (omega arith)
 
 pub returns-then-is_high-clause-chosen : goal.returns-then-is_high-clause-chosen
 returns-then-is_high-clause-chosen c =
@@ -98,8 +83,7 @@ returns-then-is_high-clause-near c =
 
 pub returns-then-is_high-clause-cost : goal.returns-then-is_high-clause-cost
 returns-then-is_high-clause-cost c =
-    let each = record_cost (length c.args.name.now) in
-    costs_more _ (costs_then (c.in_ok-finding.ensures.cost each (omega arith)) (c.resolve.ensures.cost each _)) (omega arith)
+    costs_more _ (costs_then (c.in_ok-finding.ensures.cost _ (omega arith)) (c.resolve.ensures.cost _ _)) (omega arith)
 
 pub returns-in_err-kind-in-Unasked-2-clause-stops : goal.returns-in_err-kind-in-Unasked-2-clause-stops
 returns-in_err-kind-in-Unasked-2-clause-stops c =
@@ -115,14 +99,9 @@ returns-in_err-kind-in-Unasked-2-clause-stops c =
     ))
     (λ b enough read. read)))
 
-pub returns-in_err-kind-in-Unasked-2-clause-near : goal.returns-in_err-kind-in-Unasked-2-clause-near
-returns-in_err-kind-in-Unasked-2-clause-near c b globs leaves decide =
-    not_ok _ _ c.from_residual-in_err-kind-in-Unasked-2.result c.from_residual-in_err-kind-in-Unasked-2.ensures.1
-
 pub returns-in_err-kind-in-Unasked-2-clause-cost : goal.returns-in_err-kind-in-Unasked-2-clause-cost
 returns-in_err-kind-in-Unasked-2-clause-cost c =
-    let each = record_cost (length c.args.name.now) in
-    rw c.in-Unasked.is (costs_more _ (costs_then (c.in_ok-finding.ensures.cost each (omega arith))
+    rw c.in-Unasked.is (costs_more _ (costs_then (c.in_ok-finding.ensures.cost _ (omega arith))
     (c.in_err-kind-in-Unasked-2.ensures.cost _)) (omega arith))
 
 pub returns-in_ok-kind-in-Kept-clause-chosen : goal.returns-in_ok-kind-in-Kept-clause-chosen
@@ -143,9 +122,8 @@ returns-in_ok-kind-in-Kept-clause-near c =
 
 pub returns-in_ok-kind-in-Kept-clause-cost : goal.returns-in_ok-kind-in-Kept-clause-cost
 returns-in_ok-kind-in-Kept-clause-cost c =
-    let each = record_cost (length c.args.name.now) in
-    rw c.in-Kept.is (costs_more _ (costs_then (c.in_ok-finding.ensures.cost each (omega arith))
-    ((rw c.as_slice.ensures at c.in_ok-kind-in-Kept.ensures.cost) each _ (omega arith))) (omega arith))
+    rw c.in-Kept.is (costs_more _ (costs_then (c.in_ok-finding.ensures.cost _ (omega arith))
+    ((rw c.as_slice.ensures at c.in_ok-kind-in-Kept.ensures.cost) _ _ (omega arith))) (omega arith))
 
 pub returns-in_ok-kind-in-Unasked-2-clause-chosen : goal.returns-in_ok-kind-in-Unasked-2-clause-chosen
 returns-in_ok-kind-in-Unasked-2-clause-chosen c =
@@ -168,6 +146,5 @@ returns-in_ok-kind-in-Unasked-2-clause-near c =
 
 pub returns-in_ok-kind-in-Unasked-2-clause-cost : goal.returns-in_ok-kind-in-Unasked-2-clause-cost
 returns-in_ok-kind-in-Unasked-2-clause-cost c =
-    let each = record_cost (length c.args.name.now) in
-    rw c.in-Unasked.is (costs_more _ (costs_then (c.in_ok-finding.ensures.cost each (omega arith))
+    rw c.in-Unasked.is (costs_more _ (costs_then (c.in_ok-finding.ensures.cost _ (omega arith))
     (c.in_ok-kind-in-Unasked-2.ensures.cost _)) (omega arith))

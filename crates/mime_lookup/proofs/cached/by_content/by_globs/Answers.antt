@@ -23,9 +23,6 @@ returns-in_err-kept-clause-stops c =
     (λ same. inl (globs_spent c.args.cache.now c.keep.new.budget keep.field-0.0 keep.ensures.fault same))
     (λ b enough. keep.ensures.need b (suffices_globs c.args.cache.now c.args.name.now ⊤ b GlobsFirst enough.0) (omega (arith, enough.1))))
 
-pub returns-in_err-kept-clause-near : goal.returns-in_err-kept-clause-near
-returns-in_err-kept-clause-near c b globs decide = not_ok _ _ c.from_residual.result c.from_residual.ensures.1
-
 pub returns-in_err-kept-clause-cost : goal.returns-in_err-kept-clause-cost
 returns-in_err-kept-clause-cost c value = costs_more _ (c.in_err-kept.ensures.cost value) (omega arith)
 
@@ -61,10 +58,6 @@ returns-in_err-kind-in-Others-clause-stops c =
       omega (arith, enough.1, c.in_ok-kept.ensures.takes_within b globs),
     ))
     (λ b enough read. read))
-
-pub returns-in_err-kind-in-Others-clause-near : goal.returns-in_err-kind-in-Others-clause-near
-returns-in_err-kind-in-Others-clause-near c b globs decide =
-    not_ok _ _ c.from_residual-in_err-kind-in-Others.result c.from_residual-in_err-kind-in-Others.ensures.1
 
 pub returns-in_err-kind-in-Others-clause-cost : goal.returns-in_err-kind-in-Others-clause-cost
 returns-in_err-kind-in-Others-clause-cost c value =
