@@ -3,6 +3,7 @@
 ghost use Rattle.std.specs.Prelude.{◌≡◌, ◌+◌, ◌*◌, ◌^◌, ◌<◌, ◌≤◌, length, IfErr, IfOk};
 ghost use Rattle.mime_base.specs.Cache.Bytes.{field};
 ghost use Rattle.mime_view.specs.Lists.{IsListFault};
+ghost use Rattle.mime_view.specs.Spending.{Looks};
 
 use crate::fault::CacheFault;
 use mime_base::{Counted, Meter};
@@ -16,19 +17,15 @@ pub fn count_at(
 ) -> Result<u64, CacheFault>
     // The list's offset is a number of 32 bits.
     requires at { at < 2 ^ 32 }
-    // No record has more than four numbers.
+    // A record has four numbers at most.
     requires size { size ≤ 16 }
-    // It is the number that the list states, and all its records lie in the cache.
+    // It gives the list's count where all its records lie in the cache.
     ensures count { IfOk result (λ count. (count ≡ field counted.now at 0)
         × (at + 4 + size * count ≤ length counted.now)) }
-    // Else they don't.
+    // Elsewhere it says that they don't.
     ensures fault { IfErr result (IsListFault counted.now at size) }
-    // The count of records never falls.
-    ensures rises { meter.old.nodes ≤ meter.new.nodes }
-    // It visits one record.
-    ensures nodes { meter.new.nodes ≤ meter.old.nodes + 1 }
-    // It compares nothing.
-    ensures bytes { meter.new.bytes ≡ meter.old.bytes }
+    // It looks at the count.
+    ensures cost { Looks 1 0 meter.old meter.new }
 {
     let [count] = counted.cards::<1>(at, meter)?;
     let count = u64::from(count);
