@@ -1,9 +1,9 @@
 -- What steps cost, one after another.
-use Rattle.std.proofs.Common.{◌≡◌, ℕ, ◌+◌, ◌-◌, ◌*◌, ◌≤◌, ◌∙◌, refl, arith}
+use Rattle.std.proofs.Common.{◌≡◌, ℕ, ◌+◌, ◌-◌, ◌*◌, ◌≤◌, ◌∙◌, refl, ap, arith}
 use Rattle.std.proofs.Math.Nat.{mul-le-mul_left}
 use Rattle.mime_base.specs.Meter.{raised}
-use Rattle.mime_view.specs.Hits.{Charged}
-use Rattle.mime_view.specs.Spending.{Looks, Price, Spends, per_record}
+use Rattle.mime_view.specs.Spending.{Looks, Price, Spends}
+use Rattle.mime_view.specs.declared.budget.Budget.{Budget}
 use Rattle.mime_view.specs.declared.spending.Spending.{Spending}
 
 -- no step costs nothing
@@ -22,16 +22,19 @@ spends_none price old = record {
 -- a look at records, and nothing of the budget
 pub spends_looks : (price : Price) (nodes bytes : ℕ) (old new : Spending) → new.budget ≡ old.budget
     → Looks nodes bytes old.meter new.meter → Spends price nodes bytes old new
-spends_looks price nodes bytes old new same looks = rw same record {
-  records = omega arith;
-  value_bytes = omega arith;
-  untouched = λ free. refl;
-  rises = looks.rises;
-  bytes_rise = looks.bytes_rise;
-  most_nodes = omega (arith, looks.most_nodes);
-  most_bytes = omega (arith, looks.most_bytes);
-  fair = omega (arith, looks.rises);
-}
+spends_looks price nodes bytes old new same looks =
+    let records : new.budget.records ≡ old.budget.records = ap (λ (budget : Budget). budget.records) same in
+    let value_bytes : new.budget.value_bytes ≡ old.budget.value_bytes = ap (λ (budget : Budget). budget.value_bytes) same in
+    record {
+      records = omega arith;
+      value_bytes = omega arith;
+      untouched = λ free. value_bytes;
+      rises = looks.rises;
+      bytes_rise = looks.bytes_rise;
+      most_nodes = rw records (omega (arith, looks.most_nodes));
+      most_bytes = rw (records, value_bytes) (omega (arith, looks.most_bytes));
+      fair = omega (arith, looks.rises);
+    }
 
 -- one step, and then another
 pub spends_then : (price : Price) (nodes bytes later_nodes later_bytes : ℕ) (old mid new : Spending) → Spends price nodes bytes old mid
@@ -82,16 +85,3 @@ spends_dearer nodes bytes dear value_byte more_nodes more_bytes old new cheaper 
       most_bytes = rw split (omega (arith, is.most_bytes));
       fair = is.fair;
     }
-
--- what a search spends is what is charged for it
-pub charged : (each more : ℕ) (old new : Spending) → Spends (per_record each) more (256 * more) old new
-    → Charged each more old.budget new.budget old.meter new.meter
-charged each more old new is = record {
-  records = is.records;
-  value_bytes = is.untouched refl;
-  rises = is.rises;
-  nodes = omega (arith, is.most_nodes);
-  fair = is.fair;
-  bytes_rise = is.bytes_rise;
-  bytes = omega (arith, is.most_bytes);
-}
