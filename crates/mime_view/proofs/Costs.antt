@@ -2,8 +2,7 @@
 use Rattle.std.proofs.Common.{◌≡◌, ℕ, ◌+◌, ◌-◌, ◌*◌, ◌≤◌, ◌∙◌, refl, ap, arith}
 use Rattle.std.proofs.Math.Nat.{mul-le-mul_left}
 use Rattle.mime_base.specs.Meter.{raised}
-use Rattle.mime_view.specs.Hits.{Charged}
-use Rattle.mime_view.specs.Spending.{Looks, Price, Spends, per_record}
+use Rattle.mime_view.specs.Spending.{Looks, Price, Spends}
 use Rattle.mime_view.specs.declared.budget.Budget.{Budget}
 use Rattle.mime_view.specs.declared.spending.Spending.{Spending}
 
@@ -86,16 +85,3 @@ spends_dearer nodes bytes dear value_byte more_nodes more_bytes old new cheaper 
       most_bytes = rw split (omega (arith, is.most_bytes));
       fair = is.fair;
     }
-
--- what a search spends is what is charged for it
-pub charged : (each more : ℕ) (old new : Spending) → Spends (per_record each) more (256 * more) old new
-    → Charged each more old.budget new.budget old.meter new.meter
-charged each more old new is = record {
-  records = is.records;
-  value_bytes = is.untouched refl;
-  rises = is.rises;
-  nodes = omega (arith, is.most_nodes);
-  fair = is.fair;
-  bytes_rise = is.bytes_rise;
-  bytes = omega (arith, is.most_bytes);
-}

@@ -23,6 +23,7 @@ mod StandingValues
 mod MagicLists
 mod Spelled
 mod Costs
+mod Charges
 mod OffersLemmas
 mod Steps
 mod StoredRules

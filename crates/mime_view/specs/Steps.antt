@@ -9,8 +9,8 @@ use Rattle.mime_view.specs.declared.fault.CacheFault.TheVariants.{OutOfMemory, S
 use Rattle.mime_view.specs.declared.query.Progress.{Progress}
 
 -- why a step stops: a fault of what it reads, no records left, or no memory
-abbrev pub IsStop : (CacheFault → Type 0) → Progress → CacheFault → Type 0
-IsStop Fault new e = Fault e ⊎ ((e ≡ Spent) × (new.spending.budget.records ≡ 0)) ⊎ (e ≡ OutOfMemory)
+abbrev pub IsSearchStop : (CacheFault → Type 0) → Progress → CacheFault → Type 0
+IsSearchStop Fault new e = Fault e ⊎ ((e ≡ Spent) × (new.spending.budget.records ≡ 0)) ⊎ (e ≡ OutOfMemory)
 
 -- why the entries of a list of rules can't be read: the list, or a text that an entry names
 abbrev pub IsEntriesFault : List ℕ → ℕ → CacheFault → Type 0
@@ -30,7 +30,7 @@ pub record FindsRules {X : Type 0} (c : List ℕ) (fits : Type 0) (rules : List 
 pub record Searches {X : Type 0} (Fault : CacheFault → Type 0) (each more : ℕ) (old new : Progress) (result : Result X CacheFault)
     : Type 0 where
   -- Why it stops.
-  pub fault : IfErr result (IsStop Fault new)
+  pub fault : IfErr result (IsSearchStop Fault new)
   -- Each hit that it adds was paid for by a record.
   pub few : OnOk result (length new.hits + new.spending.budget.records ≤ length old.hits + old.spending.budget.records)
   -- A record costs a node and at most `each` bytes; `more` nodes come besides, each with at most 256 bytes.

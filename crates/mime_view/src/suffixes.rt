@@ -53,7 +53,7 @@ pub fn tree_hits(query: &Query<'_, '_>, at: u32, progress: &mut Progress) -> Res
     ensures finds { (rules : List GlobRule) → SuffixTreeAt (Stands query.now.counted.now) at rules →
         FindsRules query.now.counted.now (All FitsRank rules) (tree_hits query.now.case query.now.key.now rules)
         (visits query.now.case * tree_visits query.now.key.now rules) progress.old progress.new result }
-    // A leaf costs no text; the halving among siblings comes besides, once for each byte of the name.
+    // A leaf costs its visit; the halving among siblings comes besides, once for each byte of the name.
     ensures searches { Searches (IsTreeFault query.now.counted.now at) 256 (29 * length query.now.key.now + 1)
         progress.old progress.new result }
 {

@@ -2,7 +2,7 @@ use Rattle.std.proofs.Common.{◌≡◌, ℕ, ◌+◌, ◌*◌, List, Ok, get_or
 use Rattle.std.specs.List.{All}
 use Rattle.std.specs.Prelude.{IfOk}
 use Rattle.mime_base.specs.Cache.Texts.{text_at}
-use Rattle.mime_view.proofs.Costs.{charged}
+use Rattle.mime_view.proofs.Charges.{charged}
 use Rattle.mime_view.proofs.NameLists.{rules_named}
 use Rattle.mime_view.proofs.VisitCounts.{visits_near, visits_within}
 use Rattle.mime_view.proofs.cache.Cache.glob_hits.Goals as goal
