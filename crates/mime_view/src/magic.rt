@@ -178,7 +178,7 @@ fn line_holds(
         return Err(CacheFault::TooDeep);
     }
     check_block(query.counted, u64::from(first), 32, u64::from(count))?;
-    some_child_holds(query, first, count, level + 1, spending)
+    some_child_holds(*query, first, count, level + 1, spending)
 }
 
 /// Whether a line by itself holds, and where its children stand.
@@ -235,23 +235,23 @@ fn see_line(
 }
 
 /// Whether one of the `count` children from `first` on holds.
-// The one call that calls itself, so that the loops above need no stack.
+// The one call that calls itself. The query goes by value, so that the loops above have theirs in registers.
 #[cycle(sniffing)]
 #[inline(never)]
 fn some_child_holds(
-    query: &MagicQuery<'_, '_>,
+    query: MagicQuery<'_, '_>,
     first: u32,
     count: u32,
     level: u32,
     spending: &mut Spending,
 ) -> Result<bool, CacheFault>
     requires level { level ≤ 63 }
-    requires block { LiesBlock query.now.counted.now first 32 count }
+    requires block { LiesBlock query.counted.now first 32 count }
     // Children that stand answer whether one holds.
-    ensures lines { (lines : Forest) → width lines ≡ count → ReadsLines query.now.counted.now first lines →
-        AnswersLines query.now (64 - level) lines spending.old spending.new result }
+    ensures lines { (lines : Forest) → width lines ≡ count → ReadsLines query.entry.counted.now first lines →
+        AnswersLines query.entry (64 - level) lines spending.old spending.new result }
     // On any bytes: why there is no answer, and what the step costs.
-    ensures ends { Ends (IsLinesFault query.now.counted.now) (line_price query.now) 0 spending.old spending.new result }
+    ensures ends { Ends (IsLinesFault query.entry.counted.now) (line_price query.entry) 0 spending.old spending.new result }
 {
-    some_line_holds(query, first, count, level, spending)
+    some_line_holds(&query, first, count, level, spending)
 }
