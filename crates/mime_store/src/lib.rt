@@ -10,7 +10,8 @@
 //! ```
 //!
 //! Read `cache` first: it writes each part with what the part points to before it. `parts` sorts, `room`
-//! counts bytes before any is written, and each other module writes the part of its name.
+//! counts bytes before any is written, `list` writes a list whatever its members are, and each other module
+//! writes the part of its name.
 #![tactic(auto)]
 
 mod bytes;
