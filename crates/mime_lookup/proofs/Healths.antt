@@ -1,9 +1,7 @@
 -- What a read of a reader that tells its health can be.
-use Rattle.std.proofs.Common.{◌≡◌, ℕ, Bool, true, false, cond, Result, Ok, Err, refl}
-use Rattle.std.specs.Prelude.{IsOk}
-use Rattle.mime_lookup.specs.Content.{Health, KeepsHealth, broken, sound, untold}
+use Rattle.std.proofs.Common.{◌≡◌, ℕ, Bool, true, false, cond, Result, Ok, refl}
+use Rattle.mime_lookup.specs.Content.{Health, KeepsHealth, sound, untold}
 use Rattle.mime_lookup.specs.declared.content.ReadFault.{ReadFault}
-use Rattle.mime_lookup.specs.declared.content.ReadFault.TheVariants.{Failed}
 
 -- of a reader that is sound or untold, by whether all is well: bytes were given and it tells the same
 pub tells_on : (before after : Bool) (count : ℕ) → before ≡ after →

@@ -1,5 +1,5 @@
 -- What a lookup promises, put together from what its two halves and the reading promise.
-use Rattle.std.proofs.Common.{◌≡◌, ℕ, true, false, List, Option, None, Some, inl, inr, arith, length, ◌+◌, ◌≤◌}
+use Rattle.std.proofs.Common.{◌≡◌, ℕ, true, false, List, Option, None, Some, inl, inr, arith, ◌+◌, ◌≤◌}
 use Rattle.std.specs.Prelude.{IfSome}
 use denote.Bor.{Bor}
 use Rattle.mime_base.specs.Database.{PlainDatabase}

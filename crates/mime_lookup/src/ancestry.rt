@@ -30,7 +30,9 @@ pub fn first_of<'a>(
     base: &[u8],
     meter: &mut Meter,
 ) -> Result<&'a [u8], OutOfMemory>
+    // No record of a cache is visited.
     ensures nodes { meter.new.nodes ≡ meter.old.nodes }
+    // It is the first of the types that is the base or a subclass of it, else the default.
     ensures first { IfOk result (λ kind. IsFirst (pairs_of (plain_database database.entry.now))
         base.now default.entry.now (kinds_of kinds.now) kind.now) }
 {

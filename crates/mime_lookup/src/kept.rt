@@ -17,8 +17,10 @@ pub fn kept_rules<'a>(
     name: &[u8],
     meter: &mut Meter,
 ) -> Result<Vec<&'a GlobRule>, OutOfMemory>
+    // These are the rules that are kept of the name, in merged order.
     ensures kept { IfOk result
         (λ kept. map (λ rule. rule.now) kept.items ≡ kept_rules rules.now name.now) }
+    // No record of a cache is visited.
     ensures nodes { meter.new.nodes ≡ meter.old.nodes }
 {
     let mut best = Best::new(alloc);
@@ -37,8 +39,10 @@ pub fn kept_kinds<'a>(
     name: &[u8],
     meter: &mut Meter,
 ) -> Result<Vec<&'a [u8]>, OutOfMemory>
+    // These are the types of the rules that are kept of the name, each after one alias step.
     ensures kept { IfOk result (λ kinds. kinds_of kinds.items
         ≡ kept (pairs_of (plain_database database.entry.now)) database.entry.now.rules.items name.now) }
+    // No record of a cache is visited.
     ensures nodes { meter.new.nodes ≡ meter.old.nodes }
 {
     let rules = kept_rules(alloc, &database.rules, name, meter)?;

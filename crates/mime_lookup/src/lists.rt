@@ -44,10 +44,10 @@ pub fn look_up_plain<'a, R: Content>(
     host: Host,
     order: Order,
 ) -> Result<Answer<'a>, Stopped>
-    // An answer is the type that the order gives to the name and the content over the database.
+    // The type is the one that the checking order gives to the name and the whole content.
     ensures chosen { IfOk result (λ answer. IfSome (known_content R.remaining content.old)
         (λ known. Chooses (plain_database database.entry.now) name.now known host order answer.kind.now)) }
-    // As much of the content is read as the order says.
+    // As many bytes are read as that order says.
     ensures read { IfOk result (λ answer. IfSome (known_content R.remaining content.old)
         (λ known. answer.read ≡ read_of (plain_database database.entry.now) name.now known order)) }
     // A name of more than 4,096 bytes is too long, before anything else.
@@ -56,32 +56,32 @@ pub fn look_up_plain<'a, R: Content>(
       read = 0;
       meter = record { nodes = 0; bytes = 0 };
     })) }
-    // For another name a read failed, or memory was refused.
+    // For another name it stops only for a read or for memory, so never for a cache.
     ensures otherwise { length name.now ≤ 4096 → IfErr result
         (λ stopped. (stopped.cause ≡ Cause.Read) ⊎ (stopped.cause ≡ Cause.OutOfMemory)) }
-    // A read failed only as its reader tells, or after the 1,000th interruption.
+    // It stops for a read only where one failed, or was interrupted once more than is tried again.
     ensures gives_up { IfErr result (λ stopped. stopped.cause ≡ Cause.Read →
         OfReader (λ before after. GivesUp (R.tally before) (R.tally after) 1000) ⊥ content.old content.new) }
-    // For an answer each interrupted read was tried again.
+    // Where there is an answer, no read failed, and few enough were interrupted.
     ensures goes { OnOk result (OfReader
         (λ before after. Retries (R.tally before) (R.tally after) 1000) ⊤ content.old content.new) }
-    // A reader whose reads all fail was asked only where the globs didn't suffice, and then there is no answer.
+    // A reader whose reads all fail was not asked where there is an answer: the globs sufficed.
     ensures answers { OnOk result (OfReader (λ before _. R.health before ≡ broken →
         globs_suffice (plain_database database.entry.now) name.now order ≡ true) ⊤ content.old content.new) }
-    // No read of a sound reader fails, and none fails where the globs suffice.
+    // It stops for a read only of a reader that can fail, and where the globs do not suffice.
     ensures fails { IfErr result (λ stopped. stopped.cause ≡ Cause.Read → OfReader (λ before _. (R.health before ≢ sound)
         × (globs_suffice (plain_database database.entry.now) name.now order ≡ false)) ⊥ content.old content.new) }
-    // The reader goes on by the bytes that were read.
+    // The reader gave as many bytes as were read, also where the lookup stops.
     ensures advances { MatchResult result
         (λ answer. OfReader (λ before after. Advances (R.remaining before) (R.remaining after) answer.read)
         (answer.read ≡ 0) content.old content.new)
         (λ stopped. OfReader (λ before after. Advances (R.remaining before) (R.remaining after) stopped.read)
         (stopped.read ≡ 0) content.old content.new) }
-    // They are at most 128, or the database's extent.
+    // No more is read than magic and the test for text can look at.
     ensures limit { MatchResult result
         (λ answer. answer.read ≤ read_limit (plain_database database.entry.now))
         (λ stopped. stopped.read ≤ read_limit (plain_database database.entry.now)) }
-    // There is no record to visit.
+    // No record of a cache is visited.
     ensures nodes { MatchResult result
         (λ answer. answer.meter.nodes ≡ 0) (λ stopped. stopped.meter.nodes ≡ 0) }
 {

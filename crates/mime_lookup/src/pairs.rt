@@ -8,6 +8,7 @@ use mime_base::Pair;
 
 /// Whether two types are the same.
 pub fn is_same(left: &[u8], right: &[u8]) -> bool
+    // It says whether the bytes are equal.
     ensures { result ≡ bytes_eq left.now right.now }
 {
     left == right
@@ -15,6 +16,7 @@ pub fn is_same(left: &[u8], right: &[u8]) -> bool
 
 /// A type after one alias step.
 pub fn resolve<'a>(aliases: &'a [Pair], kind: &'a [u8]) -> &'a [u8]
+    // It is the type after one alias step.
     ensures { result.now ≡ resolved (plain_pairs aliases.entry.now) kind.entry.now }
 {
     for pair in aliases {

@@ -27,7 +27,9 @@ pub struct Places<'a> {
 
 /// The places of some pairs.
 pub fn places_of<'a>(alloc: Global, pairs: &'a [Pair]) -> Result<Places<'a>, OutOfMemory>
+    // The places are of these pairs.
     ensures pairs { IfOk result (λ places. places.pairs.now ≡ pairs.entry.now) }
+    // Each name has its first place, and each place the next of its name.
     ensures indexed { IfOk result (λ places.
         IsIndexed places.pairs.now 0 (place_in places.first) places.next.items) }
 {
@@ -46,6 +48,7 @@ pub fn places_of<'a>(alloc: Global, pairs: &'a [Pair]) -> Result<Places<'a>, Out
 /// A type after one alias step.
 pub fn resolve_at<'a>(aliases: &Places<'a>, kind: &'a [u8]) -> &'a [u8]
     requires indexed { IsIndexed aliases.now.pairs.now 0 (place_in aliases.now.first) aliases.now.next.items }
+    // It is the type after one alias step.
     ensures { result.now ≡ resolved (plain_pairs aliases.now.pairs.now) kind.entry.now }
 {
     match aliases.first.get(kind).copied() {
@@ -72,8 +75,10 @@ pub fn push_parents<'a>(
 ) -> Result<(), OutOfMemory>
     requires aliases { IsIndexed aliases.now.pairs.now 0 (place_in aliases.now.first) aliases.now.next.items }
     requires parents { IsIndexed parents.now.pairs.now 0 (place_in parents.now.first) parents.now.next.items }
+    // The parents that the pairs name come to the end of the queue, each after one alias step.
     ensures queue { OnOk result (kinds_of queue.new.items ≡ kinds_of queue.old.items
         ++ map (resolved (plain_pairs aliases.now.pairs.now)) (above.parents (plain_pairs parents.now.pairs.now) kind.now)) }
+    // The queue is longer by as many.
     ensures longer { OnOk result (deque_len queue.new
         ≡ deque_len queue.old + length (above.parents (plain_pairs parents.now.pairs.now) kind.now)) }
 {

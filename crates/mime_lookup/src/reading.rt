@@ -25,15 +25,24 @@ pub fn read_front<R: Content>(
     read: &mut u64,
 ) -> Result<Vec<u8>, Cause>
     requires none { read.old ≡ 0 }
+    // The front is what the reader gave, and as many bytes as were read.
     ensures front { IfOk result (λ front.
         (length front.items ≡ read.new) × Consumes (R.remaining reader.old) (R.remaining reader.new) front.items) }
+    // Where fewer were read than the limit, the content is at its end.
     ensures whole { OnOk result (read.new < limit → IsAtEnd (R.remaining reader.new)) }
+    // Where there is a front, no read failed, and few enough were interrupted.
     ensures goes { OnOk result (Retries (R.tally reader.old) (R.tally reader.new) 1000) }
+    // It stops for a read only where one failed, or was interrupted once more than is tried again.
     ensures gives_up { IfErr result (λ cause. cause ≡ Cause.Read → GivesUp (R.tally reader.old) (R.tally reader.new) 1000) }
+    // A reader whose reads all give bytes is never given up.
     ensures sound { IfErr result (λ cause. cause ≡ Cause.Read → R.health reader.old ≢ sound) }
+    // A reader whose reads all fail gives no front, unless nothing is asked.
     ensures broken { OnOk result (0 < limit → R.health reader.old ≢ broken) }
+    // It stops only for a read or for memory.
     ensures causes { IfErr result (λ cause. (cause ≡ Cause.Read) ⊎ (cause ≡ Cause.OutOfMemory)) }
+    // The reader gave as many bytes as were read, also where it stops.
     ensures advances { Advances (R.remaining reader.old) (R.remaining reader.new) read.new }
+    // No more is read than the limit.
     ensures limit { read.new ≤ limit }
 {
     let mut front = Vec::new(alloc);

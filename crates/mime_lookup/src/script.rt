@@ -38,9 +38,9 @@ pub struct Script<'a> {
 impl<'a> Script<'a> {
     /// A content whose reads meet these steps.
     pub fn new(steps: &'a [Step<'a>]) -> Script<'a>
-        // No read has begun.
+        // No piece is begun.
         ensures piece { result.piece.now ≡ [] }
-        // Its reads meet these steps.
+        // All steps are still to come.
         ensures steps { result.steps.now ≡ steps.entry.now }
         // None was met.
         ensures met { result.met ≡ 0 }

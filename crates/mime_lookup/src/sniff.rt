@@ -27,7 +27,7 @@ pub struct Sniffed<'a> {
 /// The law of fronts: one of at least 128 bytes and the database's extent, or the whole content, is
 /// sniffed as the whole.
 pub fn front_is_enough()
-    // The law.
+    // A front that is long enough, or the whole, is sniffed as the whole.
     ensures { FrontIsEnough }
 {}
 
@@ -40,9 +40,12 @@ pub fn sniff<'a>(
     host: Host,
     meter: &mut Meter,
 ) -> Sniffed<'a>
+    // The type is what the content is sniffed as.
     ensures kind { result.kind.now ≡ sniffed (plain_database database.entry.now) (Some content.now) host }
+    // It is of high priority where it comes before the globs if magic is asked first.
     ensures is_high { (if result.is_high then Some result.kind.now else None)
         ≡ before_globs (plain_database database.entry.now) (Some content.now) host Order.MagicFirst }
+    // No record of a cache is visited.
     ensures nodes { meter.new.nodes ≡ meter.old.nodes }
 {
     match first_section(&database.sections, content, host, meter) {
@@ -78,6 +81,7 @@ fn first_section<'a>(
 
 /// The type of a content for which no section holds.
 pub fn by_bytes(content: &[u8]) -> &'static [u8]
+    // It is the type by the bytes alone: empty, text or other bytes.
     ensures { result.now ≡ sniffed_by_bytes content.now }
 {
     if content.is_empty() {

@@ -13,9 +13,13 @@ use mime_base::{Meter, same_name};
 /// `application/octet-stream`.
 #[tactic(auto, unfolding(mime_base::specs::Database::Subclass::is_by_itself))]
 pub fn is_by_itself(kind: &[u8], base: &[u8], meter: &mut Meter) -> bool
+    // It says whether the type is under the base without any pair.
     ensures answer { result ≡ is_by_itself kind.now base.now }
+    // No record is visited.
     ensures nodes { meter.new.nodes ≡ meter.old.nodes }
+    // The bytes never fall.
     ensures rises { meter.old.bytes ≤ meter.new.bytes }
+    // At most the bytes of the base, and 52 for the words that it is compared with, are compared.
     ensures bytes { meter.new.bytes ≤ meter.old.bytes + (length base.now + 52) }
 {
     same_name(base, kind, meter)

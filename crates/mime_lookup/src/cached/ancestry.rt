@@ -37,12 +37,17 @@ pub fn first_of<'a>(
     budget: &mut Budget,
 ) -> Result<&'a [u8], CacheFault>
     requires base { length base.now ≤ 255 }
+    // Where the pairs stand, it is the first of the types that is the base or a subclass of it, else the default.
     ensures answer { (b : PlainDatabase) → SpellsPairs cache.now b → IfOk result
         (λ kind. IsFirst (pairs_of b) base.now default.entry.now (kinds_of kinds.now) kind.now) }
+    // It is the default, or one of the types.
     ensures one { IfOk result (λ kind. Contains (default.entry.now ∷ kinds_of kinds.now) kind.now) }
+    // Where the pairs stand and a record is left for each parent, only memory is refused.
     ensures need { (b : PlainDatabase) → SpellsPairs cache.now b → length b.parents ≤ budget.old.records →
         IfErr result (λ e. e ≡ CacheFault.OutOfMemory) }
+    // The parents of a type, an alias step or memory shows the fault.
     ensures fault { IfErr result (IsSearchFault cache.now budget.new) }
+    // It costs 29 nodes for each type, and 59 for each record that it takes.
     ensures cost { (each value : ℕ) → 256 * 59 ≤ each →
         Costs each value (29 * length kinds.now) budget.old budget.new meter.old meter.new }
 {
@@ -66,20 +71,26 @@ pub fn leads_to<'a>(
     budget: &mut Budget,
 ) -> Result<bool, CacheFault>
     requires base { length base.now ≤ 255 }
+    // Where the pairs stand and no marked type leads to the base, it says whether this type does.
     ensures answer { (b : PlainDatabase) → SpellsPairs cache.now b →
         NoneLeadsTo (is_marked cache.now (field cache.now 0 2) marks.old) (pairs_of b) base.now →
         IfOk result (λ is. IsTrue is ↔ IsA (pairs_of b) kind.entry.now base.now) }
+    // Where it does not, none leads there of those that are marked then.
     ensures marked { (b : PlainDatabase) → SpellsPairs cache.now b →
         NoneLeadsTo (is_marked cache.now (field cache.now 0 2) marks.old) (pairs_of b) base.now →
         IfOk result (λ is. is ≡ false
         → NoneLeadsTo (is_marked cache.now (field cache.now 0 2) marks.new) (pairs_of b) base.now) }
+    // Where the pairs stand and a record is left for each pair whose type is not marked, only memory is refused.
     ensures need { (b : PlainDatabase) → SpellsPairs cache.now b →
         unmarked b.parents (is_marked cache.now (field cache.now 0 2) marks.old) ≤ budget.old.records →
         IfErr result (λ e. e ≡ CacheFault.OutOfMemory) }
+    // A record that is taken is of a pair whose type is marked for it.
     ensures owed { (b : PlainDatabase) → SpellsPairs cache.now b → OnOk result
         (unmarked b.parents (is_marked cache.now (field cache.now 0 2) marks.new) + budget.old.records
         ≤ unmarked b.parents (is_marked cache.now (field cache.now 0 2) marks.old) + budget.new.records) }
+    // The parents of a type, an alias step or memory shows the fault.
     ensures fault { IfErr result (IsSearchFault cache.now budget.new) }
+    // It costs 29 nodes, and 59 for each record that it takes.
     ensures cost { Costs search_cost 0 29 budget.old budget.new meter.old meter.new }
 {
     let mut queue = VecDeque::new(alloc);

@@ -38,8 +38,7 @@ pub fn by_content<'a>(
 ) -> Result<&'a [u8], CacheFault>
     requires short { length name.now ≤ 4096 }
     requires texts { AreTexts cache.now candidates }
-    // Where enough of a database stands that leaves these candidates, it is the type that the order gives to the name and
-    // the front as a content.
+    // Where enough of a database stands that leaves these candidates, the order gives this type to the name and the front.
     ensures chosen { (b : PlainDatabase) → Suffices cache.now name.now (order_of candidates.entry) (bytes_of front.entry ≡ None) b →
         Leaves b name.now candidates.entry → IfOk result (λ kind. Chooses b name.now
         (bytes_of front.entry) host (order_of candidates.entry) kind.now) }

@@ -33,25 +33,25 @@ pub struct Icons {
 /// That is this project's own. [`Cause::Cache`] says what is wrong with the cache, where one of the three lists
 /// does not lie in it or a text does not stand; no content is read.
 pub fn icon_of<'a>(alloc: Global, cache: Counted<'a>, kind: &'a TypeName) -> Result<Icons, Stopped>
-    // Where the alias list and both icon lists stand, they are the names that the lists have for the type, or those that stand in.
+    // Where the aliases and both lists of icons stand, these are the icons of the type.
     ensures answer { (b : PlainDatabase) → SpellsIcons cache.entry b → IfOk result
         (λ icons. plain_icons_of icons ≡ icons_of b kind.entry.now) }
-    // For an answer the bytes open as a cache.
+    // Where there is an answer, the bytes open as a cache.
     ensures opened { OnOk result (Opens cache.entry) }
-    // Bytes that don't open are refused for that.
+    // Bytes that don't are refused for that.
     ensures refused { (e : CacheFault) → IsOpenFault cache.entry e →
         IsErrAnd result (λ stopped. stopped.cause ≡ Cause.Cache e) }
-    // For an answer all three lists lie in the cache.
+    // Where there is an answer, all three lists lie in the cache.
     ensures lists { OnOk result (HasIconLists cache.entry) }
-    // Where they stand, only memory can be short.
+    // Where the aliases and both lists of icons of a database stand, only memory is refused.
     ensures need { (b : PlainDatabase) → SpellsIcons cache.entry b → length cache.entry ≤ 268435456 →
         IfErr result (λ stopped. stopped.cause ≡ Cause.OutOfMemory) }
-    // A fault is one of the header, of a list or of a text, or memory is short.
+    // It stops for memory, or for a fault that the header, a list or a text shows.
     ensures fault { IfErr result (λ stopped. (stopped.cause ≡ Cause.OutOfMemory)
         ⊎ ((e : CacheFault) × (stopped.cause ≡ Cause.Cache e) × (e ≢ CacheFault.OutOfMemory) × IsIconFault cache.entry e)) }
     // No content is read.
     ensures read { IfErr result (λ stopped. stopped.read ≡ 0) }
-    // Whatever the bytes are, it keeps to the bounds of a lookup without a name.
+    // Whatever the bytes are, the nodes and the bytes keep to the bounds of an empty name without content.
     ensures bounds { MatchResult result
         (λ icons. KeepsBounds 0 cache.entry 0 icons.meter) (λ stopped. KeepsBounds 0 cache.entry 0 stopped.meter) }
 {

@@ -38,16 +38,24 @@ pub fn keep<'a>(
     budget: &mut Budget,
 ) -> Result<Kept<'a>, CacheFault>
     requires short { length name.now ≤ 4096 }
+    // Where the glob rules stand, these are the kept types of the name.
     ensures answer { (b : PlainDatabase) → SpellsGlobs cache.now b → IfOk result (IsKept (kept (pairs_of b) b.rules name.now)) }
+    // They are texts of the cache.
     ensures text { IfOk result (AreCacheTexts cache.now) }
+    // Where the glob rules stand and each record that they may take is left, only memory is refused.
     ensures need { (b : PlainDatabase) → SpellsGlobs cache.now b → rule_records b ≤ budget.old.records →
         IfErr result (λ e. e ≡ CacheFault.OutOfMemory) }
+    // The lists of rules, the tree of suffixes or an alias step shows the fault.
     ensures fault { IfErr result (IsGlobsFault cache.now budget.new) }
+    // Where the glob rules stand, no more records are taken than they have.
     ensures takes_within { (b : PlainDatabase) → SpellsGlobs cache.now b →
         budget.old.records ≤ budget.new.records + rule_records b }
+    // No value byte is taken.
     ensures value_bytes { budget.new.value_bytes ≡ budget.old.value_bytes }
+    // Where the glob rules stand, the nodes keep to the bound by the rules near the name, with an alias step to spare.
     ensures near { (b : PlainDatabase) → SpellsGlobs cache.now b → OnOk result
         (meter.new.nodes + 29 < meter.old.nodes + near_max (length name.now) (near name.now b.rules)) }
+    // Whatever the bytes are, it costs a search, and leaves enough to try each type that is kept.
     ensures cost { (value : ℕ) → MatchResult result
         (λ kept. CostsAhead (others_count kept) (record_cost (length name.now)) value (glob_cost (length name.now))
         budget.old budget.new meter.old meter.new)

@@ -32,6 +32,7 @@ pub enum Finding<'a> {
 
 /// Whether a section of a priority of 80 or more gave it.
 pub fn is_high(finding: Finding<'_>) -> bool
+    // So it is where the first section that holds has a priority of 80 or more.
     ensures { result ≡ is_high (plain_finding finding.entry) }
 {
     match finding {
@@ -48,13 +49,19 @@ pub fn resolve<'a>(
     budget: &mut Budget,
 ) -> Result<&'a [u8], CacheFault>
     requires finding { IsFinding cache.now finding }
+    // Where the aliases stand, there is an answer: the type after one alias step.
     ensures answer { (b : PlainDatabase) (offsets : Offsets) → HeaderAt (Stands cache.now) offsets →
         PairsAt (Stands cache.now) offsets.aliases b.aliases → IsOkAnd result
         (λ kind. kind.now ≡ resolved_finding b.aliases (plain_finding finding.entry)) }
+    // It is a text of the cache, or fixed.
     ensures kind { IfOk result (λ kind. IsKind cache.now kind.now) }
+    // The list of aliases or a text shows the fault.
     ensures fault { IfErr result (IsAliasFault cache.now) }
+    // Nothing is taken of the budget.
     ensures budget { budget.new ≡ budget.old }
+    // At most 29 records are visited.
     ensures nodes { meter.new.nodes ≤ meter.old.nodes + 29 }
+    // Each of them costs at most 256 bytes.
     ensures cost { (each value : ℕ) → Costs each value 29 budget.old budget.new meter.old meter.new }
 {
     match finding {

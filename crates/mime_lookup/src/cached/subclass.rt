@@ -27,26 +27,26 @@ pub fn is_a<'a>(
     kind: &'a TypeName,
     base: &'a TypeName,
 ) -> Result<(bool, Meter), Stopped>
-    // Where the aliases and the parents stand, it is whether a path of parents leads from the type to the other.
+    // Where the aliases and the parents stand, it says whether the one type is the other or a subclass of it, each resolved.
     ensures answer { (b : PlainDatabase) → SpellsPairs cache.entry b → IfOk result
         (λ found. IsTrue found.0 ↔ IsA (pairs_of b) (resolved b.aliases kind.entry.now) (resolved b.aliases base.entry.now)) }
-    // For an answer the bytes open as a cache.
+    // Where there is an answer, the bytes open as a cache.
     ensures opened { OnOk result (Opens cache.entry) }
-    // Bytes that don't open are refused for that.
+    // Bytes that don't are refused for that.
     ensures refused { (e : CacheFault) → IsOpenFault cache.entry e →
         IsErrAnd result (λ stopped. stopped.cause ≡ Cause.Cache e) }
-    // Where the aliases and the parents stand and the cache is packed, only memory can be short.
+    // Where the aliases and the parents of a packed database stand, only memory is refused.
     ensures need { (b : PlainDatabase) → SpellsPairs cache.entry b → length cache.entry ≤ 268435456 → Packed cache.entry b →
         IfErr result (λ stopped. stopped.cause ≡ Cause.OutOfMemory) }
-    // A fault is one of the header, of a list or of a text, or the budget is spent, or memory is short.
+    // It stops for memory, or for a fault that the header or another part of the cache shows.
     ensures fault { IfErr result (λ stopped. (stopped.cause ≡ Cause.OutOfMemory)
         ⊎ ((e : CacheFault) × (stopped.cause ≡ Cause.Cache e) × (e ≢ CacheFault.OutOfMemory) × IsLookUpFault cache.entry e)) }
     // No content is read.
     ensures read { IfErr result (λ stopped. stopped.read ≡ 0) }
-    // It is spent only after more records than the budget has.
+    // It is spent only where more records were visited than a quarter of the cache's length.
     ensures spent { IfErr result (λ stopped. stopped.cause ≡ Cause.Cache CacheFault.Spent
         → length cache.entry / 4 < stopped.meter.nodes) }
-    // Whatever the bytes are, it keeps to the bounds of a lookup without a name.
+    // Whatever the bytes are, the nodes and the bytes keep to the bounds of an empty name without content.
     ensures bounds { MatchResult result
         (λ found. KeepsBounds 0 cache.entry 0 found.1) (λ stopped. KeepsBounds 0 cache.entry 0 stopped.meter) }
 {

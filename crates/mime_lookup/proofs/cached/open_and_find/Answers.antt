@@ -1,6 +1,5 @@
-use Rattle.std.proofs.Common.{◌≡◌, None, length, max, arith}
+use Rattle.std.proofs.Common.{◌≡◌, None, length, arith}
 use Rattle.std.proofs.lemmas.Result.{IfErr-weaker, on_ok_weaker}
-use Rattle.mime_lookup.specs.Bounds.{stated_extent}
 use Rattle.mime_lookup.specs.Cached.{cause_of}
 use Rattle.mime_lookup.specs.StepFaults.{of_header}
 use Rattle.mime_lookup.proofs.BoundLemmas.{keeps_bounds}

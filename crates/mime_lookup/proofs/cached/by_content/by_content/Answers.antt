@@ -1,4 +1,4 @@
-use Rattle.std.proofs.Common.{◌≡◌, ◌∙◌, None, Some, length, inl, inr, ap, sym, arith}
+use Rattle.std.proofs.Common.{◌≡◌, ◌∙◌, None, Some, inl, inr, ap, sym, arith}
 use Rattle.mime_base.specs.declared.meter.Meter.{Meter}
 use Rattle.mime_lookup.specs.Cached.{cause_of, plain_finding}
 use Rattle.mime_lookup.specs.Halves.{bytes_of}

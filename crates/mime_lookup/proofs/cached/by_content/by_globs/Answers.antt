@@ -11,7 +11,7 @@ use Rattle.mime_lookup.proofs.ByContents.{suffices_choice, suffices_globs}
 use Rattle.mime_lookup.proofs.CostLemmas.{costs_more}
 use Rattle.mime_lookup.proofs.GlobsCosts.{costs_chosen}
 use Rattle.mime_lookup.proofs.NearLemmas.{none_kept}
-use Rattle.mime_lookup.proofs.StepStops.{not_ok, passed_on, stops_for, stops_then}
+use Rattle.mime_lookup.proofs.StepStops.{passed_on, stops_for, stops_then}
 use Rattle.mime_lookup.proofs.UsedUp.{globs_spent}
 use Rattle.mime_lookup.proofs.cached.by_content.by_globs.Goals as goal
 
