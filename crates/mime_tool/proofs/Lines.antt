@@ -1,5 +1,5 @@
 -- From what a file comes to, to its line.
-use Rattle.std.proofs.Common.{◌≡◌, ℕ, Bool, List, [], inl, Ok, Err, Result, refl, subst, sym}
+use Rattle.std.proofs.Common.{◌≡◌, ℕ, List, [], inl, Ok, Err, Result, refl, subst, sym}
 use Rattle.mime_base.specs.Database.{PlainDatabase}
 use Rattle.mime_request.specs.declared.request.Options.{Options}
 use Rattle.mime_tool.specs.Desk.{Ends}

@@ -1,5 +1,5 @@
 -- From what is asked, read or made, and a run over it, to the run of a command.
-use Rattle.std.proofs.Common.{◌≡◌, ℕ, List, [], inl, inr, Option, Result, Ok, Err, Vec, ap, refl}
+use Rattle.std.proofs.Common.{ℕ, List, [], inl, inr, Option, Result, Ok, Err, Vec, ap, refl}
 use Rattle.std.specs.declared.alloc.Global.{Global}
 use Rattle.mime_base.specs.Database.{PlainDatabase, plain_database}
 use Rattle.mime_base.specs.Database.Limits.{IsWithinLimits}

@@ -163,7 +163,7 @@ static USERS: [Row; 8] = [
         words: &["list"],
         environment: Some(Environment {
             data_home: Some("/own:b"),
-            data_dirs: Some("/t:/t"),
+            data_dirs: Some("/t"),
             ..UNSET
         }),
         out: "50:t/colon:a\n50:t/t:b\n",

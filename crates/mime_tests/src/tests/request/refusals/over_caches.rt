@@ -3,7 +3,7 @@
 use super::{Refused, are_refused};
 use clap::error::ErrorKind;
 
-static REFUSED: [Refused; 20] = [
+static REFUSED: [Refused; 21] = [
     Refused {
         name: "-c without CACHE",
         words: &["list", "-c"],
