@@ -4,8 +4,8 @@ use Rattle.clap.specs.Walk.{Row, Text, Walk, finished, nothing_held, used, walk_
 use Rattle.clap.specs.Simple.{filled, with_index}
 use Rattle.clap.proofs.OnLiterals.{clap_on_literals}
 use Rattle.mime_request.specs.CommandLine.{output_rule}
-use Rattle.mime_request.specs.Request.{asks, build, build_meaning, meaning_of, parts}
-use Rattle.mime_request.specs.Spelling.{build_words, build_words_output_first, is_option}
+use Rattle.mime_request.specs.Request.{asks, build, build_meaning, meaning_of, named, parts, user}
+use Rattle.mime_request.specs.Spelling.{build_words, build_words_of_user, build_words_output_first, is_option}
 use Rattle.mime_request.proofs.CommandWords.{meaning_of-met}
 use Rattle.mime_request.proofs.OptionWords.{directories_used}
 use Rattle.mime_request.proofs.PlainWords.{IsPlainWord, plain_word}
@@ -71,23 +71,41 @@ unfolding clap_on_literals
 output_first_fits dirs file = refl
 
 output_last_means : (dirs file : Text) → build_meaning (finished build_shape.rules (output_last dirs file).held)
-    ≡ asks (build (parts dirs) file)
+    ≡ asks (build (named (parts dirs)) file)
 unfolding clap_on_literals
 output_last_means dirs file = refl
 
 output_first_means : (dirs file : Text)
-    → build_meaning (finished build_shape.rules (output_first dirs file).held) ≡ asks (build (parts dirs) file)
+    → build_meaning (finished build_shape.rules (output_first dirs file).held) ≡ asks (build (named (parts dirs)) file)
 unfolding clap_on_literals
 output_first_means dirs file = refl
 
 pub meaning_of-usual_build : (dirs file : Text) → is_option dirs ≡ false → is_option file ≡ false
-    → meaning_of (build_words dirs file) ≡ asks (build (parts dirs) file)
+    → meaning_of (build_words dirs file) ≡ asks (build (named (parts dirs)) file)
 meaning_of-usual_build dirs file d f =
     meaning_of-met build_met _ (output_last dirs file) _ (output_last_walk dirs file (plain_word dirs d) (plain_word file f))
     (output_last_fits dirs file) (output_last_means dirs file)
 
 pub meaning_of-output_first : (dirs file : Text) → is_option dirs ≡ false → is_option file ≡ false
-    → meaning_of (build_words_output_first dirs file) ≡ asks (build (parts dirs) file)
+    → meaning_of (build_words_output_first dirs file) ≡ asks (build (named (parts dirs)) file)
 meaning_of-output_first dirs file d f =
     meaning_of-met build_met _ (output_first dirs file) _ (output_first_walk dirs file (plain_word dirs d) (plain_word file f))
     (output_first_fits dirs file) (output_first_means dirs file)
+
+-- without `-d DIRS`
+abbrev output_alone : Text → Walk
+output_alone = after_value (codes "output") []
+
+output_alone_fits : (file : Text) → end_fault build_shape false (output_alone file).held ≡ []
+unfolding clap_on_literals
+output_alone_fits file = refl
+
+output_alone_means : (file : Text) → build_meaning (finished build_shape.rules (output_alone file).held) ≡ asks (build user file)
+unfolding clap_on_literals
+output_alone_means file = refl
+
+pub meaning_of-build_of_user : (file : Text) → is_option file ≡ false → meaning_of (build_words_of_user file) ≡ asks (build user file)
+meaning_of-build_of_user file f =
+    meaning_of-met build_met _ (output_alone file) _
+    (goes _ _ _ _ _ option_o (goes _ _ _ _ _ (output [] file (plain_word file f)) (ends (output_alone file))))
+    (output_alone_fits file) (output_alone_means file)

@@ -9,6 +9,8 @@ pub mod OptionWords
 pub mod PlainEnds
 pub mod PlainWords
 pub mod Shapes
+pub mod SourceWords
+pub mod TypeEnds
 pub mod TypeWords
 pub mod UsualWords
 pub mod ValueWords

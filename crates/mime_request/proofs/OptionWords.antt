@@ -4,6 +4,7 @@ use Rattle.clap.specs.Walk.{Row, Text, Walk, idle, nothing_held, used, walk_from
 use Rattle.clap.specs.Simple.{filled, with_index}
 use Rattle.clap.proofs.OnLiterals.{clap_on_literals}
 use Rattle.mime_request.specs.CommandLine.{directories_rule, magic_first_rule, name_only_rule}
+use Rattle.mime_request.specs.Request.{PlainDirectories, named, parts, user}
 use Rattle.mime_request.specs.Spelling.{plain_flags}
 use Rattle.mime_request.proofs.FileWords.{in_files}
 use Rattle.mime_request.proofs.PlainWords.{IsPlainWord}
@@ -11,15 +12,17 @@ use Rattle.mime_request.proofs.Shapes.{plain_shape}
 use Rattle.mime_request.proofs.ValueWords.{positional_takes, value_taken}
 use Rattle.mime_request.proofs.Walks.{Steps, Leads, after_value, before_value, between, flag_used, goes}
 
--- whether the flags stand after `-d DIRS` or before it
+-- whether the flags stand after `-d DIRS` or before it, or there is no `-d DIRS`
 pub data Order : Type 0 where
   directories_first : Order
   flags_first : Order
+  flags_alone : Order
 
 -- the words after `plain`
 abbrev pub option_words : Order → Bool → Bool → Text → List Text → List Text
 option_words directories_first n m dirs files = codes "-d" ∷ dirs ∷ (plain_flags n m ++ files)
 option_words flags_first n m dirs files = plain_flags n m ++ codes "-d" ∷ dirs ∷ files
+option_words flags_alone n m dirs files = plain_flags n m ++ files
 
 abbrev flags_used : Bool → Bool → List Row → List Row
 flags_used n m rows = flag_used m magic_first_rule (flag_used n name_only_rule rows)
@@ -30,6 +33,13 @@ directories_used dirs = used (with_index 1 (filled directories_rule)) (dirs ∷ 
 abbrev pub option_rows : Order → Bool → Bool → Text → List Row
 option_rows directories_first n m dirs = flags_used n m (directories_used dirs [])
 option_rows flags_first n m dirs = directories_used dirs (flags_used n m [])
+option_rows flags_alone n m dirs = flags_used n m []
+
+-- the directories that they name
+abbrev pub directories_of : Order → Text → PlainDirectories
+directories_of directories_first dirs = named (parts dirs)
+directories_of flags_first dirs = named (parts dirs)
+directories_of flags_alone dirs = user
 
 -- before DIRS, and after it
 abbrev before_dirs : List Row → Walk
@@ -118,3 +128,5 @@ over_options directories_first n m dirs file files end d f rest =
 over_options flags_first n m dirs file files end d f rest =
     over_first_flags n m (codes "-d" ∷ dirs ∷ file ∷ files) end (goes _ _ _ _ _ (option_d (flags_used n m []))
     (goes _ _ _ _ _ (directories (flags_used n m []) dirs d) (goes _ _ _ _ _ (file_after_dirs n m dirs file f) rest)))
+over_options flags_alone n m dirs file files end d f rest =
+    over_first_flags n m (file ∷ files) end (goes _ _ _ _ _ (file_after_flags (flags_used n m []) file f) rest)

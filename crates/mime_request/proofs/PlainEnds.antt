@@ -3,9 +3,9 @@ use Rattle.std.proofs.Common.{◌≡◌, Bool, true, false, List, [], ◌∷◌,
 use Rattle.clap.specs.Walk.{Row, Text, finished, settled}
 use Rattle.clap.specs.Faults.{check_fault, defaults_fault}
 use Rattle.clap.proofs.OnLiterals.{clap_on_literals}
-use Rattle.mime_request.specs.Request.{asks, parts, plain, plain_meaning}
+use Rattle.mime_request.specs.Request.{asks, plain, plain_meaning}
 use Rattle.mime_request.proofs.FileWords.{files_fit, in_files}
-use Rattle.mime_request.proofs.OptionWords.{Order, directories_first, flags_first, option_rows}
+use Rattle.mime_request.proofs.OptionWords.{Order, directories_first, directories_of, flags_alone, flags_first, option_rows}
 use Rattle.mime_request.proofs.Shapes.{plain_shape, plain_takes}
 use Rattle.mime_request.proofs.Walks.{end_fault, neither_fault}
 
@@ -21,6 +21,10 @@ defaults_fit flags_first true true dirs file files = refl
 defaults_fit flags_first true false dirs file files = refl
 defaults_fit flags_first false true dirs file files = refl
 defaults_fit flags_first false false dirs file files = refl
+defaults_fit flags_alone true true dirs file files = refl
+defaults_fit flags_alone true false dirs file files = refl
+defaults_fit flags_alone false true dirs file files = refl
+defaults_fit flags_alone false false dirs file files = refl
 
 abbrev rows_at_end : Order → Bool → Bool → Text → List Text → List Row
 rows_at_end o n m dirs files = finished plain_shape.rules (in_files (option_rows o n m dirs) files).held
@@ -36,6 +40,10 @@ nothing_missing flags_first true true dirs file files = refl
 nothing_missing flags_first true false dirs file files = refl
 nothing_missing flags_first false true dirs file files = refl
 nothing_missing flags_first false false dirs file files = refl
+nothing_missing flags_alone true true dirs file files = refl
+nothing_missing flags_alone true false dirs file files = refl
+nothing_missing flags_alone false true dirs file files = refl
+nothing_missing flags_alone false false dirs file files = refl
 
 pub ends_well : (o : Order) (n m : Bool) (dirs file : Text) (files : List Text) → length (file ∷ files) < 2 ^ 64
     → end_fault plain_shape false (in_files (option_rows o n m dirs) (file ∷ files)).held ≡ []
@@ -44,7 +52,7 @@ ends_well o n m dirs file files few =
     (neither_fault _ _ (defaults_fit o n m dirs file files) (nothing_missing o n m dirs file files))
 
 pub rows_mean : (o : Order) (n m : Bool) (dirs file : Text) (files : List Text)
-    → plain_meaning (rows_at_end o n m dirs (file ∷ files)) ≡ asks (plain (parts dirs) n m (file ∷ files))
+    → plain_meaning (rows_at_end o n m dirs (file ∷ files)) ≡ asks (plain (directories_of o dirs) (record { name_only = n; magic_first = m; cost = false }) (file ∷ files))
 unfolding clap_on_literals
 rows_mean directories_first true true dirs file files = refl
 rows_mean directories_first true false dirs file files = refl
@@ -54,3 +62,7 @@ rows_mean flags_first true true dirs file files = refl
 rows_mean flags_first true false dirs file files = refl
 rows_mean flags_first false true dirs file files = refl
 rows_mean flags_first false false dirs file files = refl
+rows_mean flags_alone true true dirs file files = refl
+rows_mean flags_alone true false dirs file files = refl
+rows_mean flags_alone false true dirs file files = refl
+rows_mean flags_alone false false dirs file files = refl

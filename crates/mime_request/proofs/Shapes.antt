@@ -25,7 +25,7 @@ icon_shape = below icon_app
 abbrev pub type_shape : Shape
 type_shape = below type_app
 
--- a command over a cache
+-- a command over a cache, or over directories that one is made of
 pub data OverCache : Type 0 where
   list_over : OverCache
   is_a_over : OverCache

@@ -1,24 +1,24 @@
 -- The command line of mimelook: its commands and what each takes.
 use Rattle.std.specs.Prelude.{Some, true, codes}
 use Rattle.clap.specs.Lexer.{usize_max}
-use Rattle.clap.specs.Walk.{Rule}
+use Rattle.clap.specs.Walk.{Rule, Text}
 use Rattle.clap.specs.Simple.{App, new_app, new_rule, on_top, with_rule, with_subcommand}
 use Rattle.clap.specs.declared.builder.action.ArgAction.TheVariants.{SetTrue}
 
--- `-d DIRS`
+-- `-d DIRS`, or `--data-dirs DIRS`
 abbrev pub directories_rule : Rule
 directories_rule = record (new_rule (codes "dirs")) {
+  long = Some (codes "data-dirs");
   short = Some 100;
   value_names = 1;
-  required = true;
 }
 
--- `-c CACHE`
+-- `-c CACHE`, or `--cache CACHE`
 abbrev pub cache_rule : Rule
 cache_rule = record (new_rule (codes "cache")) {
+  long = Some (codes "cache");
   short = Some 99;
   value_names = 1;
-  required = true;
 }
 
 -- `--name-only`
@@ -50,9 +50,10 @@ files_rule = record (new_rule (codes "file")) {
   required = true;
 }
 
--- `-o FILE`
+-- `-o FILE`, or `--output FILE`
 abbrev pub output_rule : Rule
 output_rule = record (new_rule (codes "output")) {
+  long = Some (codes "output");
   short = Some 111;
   value_names = 1;
   required = true;
@@ -66,30 +67,34 @@ kind_rule = record (new_rule (codes "type")) { value_names = 1; required = true 
 abbrev pub base_rule : Rule
 base_rule = record (new_rule (codes "base")) { value_names = 1; required = true }
 
--- `build -d DIRS -o FILE`
+-- `build [-d DIRS] -o FILE`
 abbrev pub build_app : App
 build_app = with_rule (with_rule (new_app (codes "build")) directories_rule) output_rule
 
--- `plain -d DIRS [--name-only] [--magic-first] FILE...`
+-- `plain [-d DIRS] [--name-only] [--magic-first] FILE...`
 abbrev pub plain_app : App
 plain_app = with_rule (with_rule (with_rule (with_rule (new_app (codes "plain")) directories_rule)
     name_only_rule) magic_first_rule) files_rule
 
--- `list -c CACHE`
+-- a command of this name that takes `[-c CACHE | -d DIRS]`
+abbrev pub app_of_source : Text → App
+app_of_source name = with_rule (with_rule (new_app name) cache_rule) directories_rule
+
+-- `list [-c CACHE | -d DIRS]`
 abbrev pub list_app : App
-list_app = with_rule (new_app (codes "list")) cache_rule
+list_app = app_of_source (codes "list")
 
--- `isa -c CACHE TYPE BASE`
+-- `isa [-c CACHE | -d DIRS] TYPE BASE`
 abbrev pub is_a_app : App
-is_a_app = with_rule (with_rule (with_rule (new_app (codes "isa")) cache_rule) kind_rule) base_rule
+is_a_app = with_rule (with_rule (app_of_source (codes "isa")) kind_rule) base_rule
 
--- `icon -c CACHE TYPE`
+-- `icon [-c CACHE | -d DIRS] TYPE`
 abbrev pub icon_app : App
-icon_app = with_rule (with_rule (new_app (codes "icon")) cache_rule) kind_rule
+icon_app = with_rule (app_of_source (codes "icon")) kind_rule
 
--- `type -c CACHE [--name-only] [--cost] [--magic-first] FILE...`
+-- `type [-c CACHE | -d DIRS] [--name-only] [--cost] [--magic-first] FILE...`
 abbrev pub type_app : App
-type_app = with_rule (with_rule (with_rule (with_rule (with_rule (new_app (codes "type")) cache_rule)
+type_app = with_rule (with_rule (with_rule (with_rule (app_of_source (codes "type"))
     name_only_rule) cost_rule) magic_first_rule) files_rule
 
 -- `mimelook`, without its own name among the words: it has a version and wants a command

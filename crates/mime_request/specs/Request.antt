@@ -13,25 +13,38 @@ use Rattle.clap.specs.Values.{kind_of}
 use Rattle.clap.specs.declared.error.Error.{Error}
 use Rattle.clap.specs.declared.error.kind.ErrorKind.TheVariants as kind
 use Rattle.mime_request.specs.CommandLine.{mimelook}
+use Rattle.mime_request.specs.declared.request.Directories.{Directories}
+use Rattle.mime_request.specs.declared.request.Directories.TheVariants as directories
+use Rattle.mime_request.specs.declared.request.Options.{Options}
 use Rattle.mime_request.specs.declared.request.Request.{Request}
 use Rattle.mime_request.specs.declared.request.Request.TheVariants as request
+use Rattle.mime_request.specs.declared.request.Source.{Source}
+use Rattle.mime_request.specs.declared.request.Source.TheVariants as source
+
+-- data directories, most preferred first: these, or the user's
+pub data PlainDirectories : Type 0 where
+  named : List Text → PlainDirectories
+  user : PlainDirectories
+
+-- what is asked: the cache in this file, or the one that is made of these directories
+pub data PlainSource : Type 0 where
+  cache_of : Text → PlainSource
+  made_of : PlainDirectories → PlainSource
 
 -- what can be asked for
 pub data PlainRequest : Type 0 where
-  -- the cache of these directories, most preferred first, written to this file
-  build : List Text → Text → PlainRequest
-  -- from these directories, most preferred first, whether by names alone, whether content of high
-  -- priority comes before the globs, and the files whose types are asked for
-  plain : List Text → Bool → Bool → List Text → PlainRequest
+  -- the cache of these directories, written to this file
+  build : PlainDirectories → Text → PlainRequest
+  -- from these directories, with these options, the types of these files
+  plain : PlainDirectories → Options → List Text → PlainRequest
   -- the glob rules of this cache
-  list : Text → PlainRequest
+  list : PlainSource → PlainRequest
   -- by this cache, whether the first type is the second
-  is_a : Text → Text → Text → PlainRequest
+  is_a : PlainSource → Text → Text → PlainRequest
   -- by this cache, the icons of the type
-  icon : Text → Text → PlainRequest
-  -- from this cache, whether by names alone, whether the costs are told, whether content of high
-  -- priority comes before the globs, and the files whose types are asked for
-  type_of : Text → Bool → Bool → Bool → List Text → PlainRequest
+  icon : PlainSource → Text → PlainRequest
+  -- from this cache, with these options, the types of these files
+  type_of : PlainSource → Options → List Text → PlainRequest
 
 -- what words mean: they ask for something, or are answered by an error of one of these kinds, among
 -- them help and the version
@@ -43,14 +56,45 @@ pub data Meaning : Type 0 where
 abbrev pub parts : Text → List Text
 parts dirs = filter (λ part. not (is_empty part)) (slice_split (λ b. b == 58) dirs)
 
--- the parts of DIRS, none where it is missing
-abbrev pub parts_of : Option Text → List Text
-parts_of None = []
-parts_of (Some dirs) = parts dirs
+-- the directories that DIRS names, or the user's where it is missing
+abbrev pub directories_by : Option Text → PlainDirectories
+directories_by None = user
+directories_by (Some dirs) = named (parts dirs)
+
+-- what is asked by CACHE and DIRS, where not both are given
+abbrev pub source_by : Option Text → Option Text → Option PlainSource
+source_by None dirs = Some (made_of (directories_by dirs))
+source_by (Some cache) None = Some (cache_of cache)
+source_by (Some cache) (Some dirs) = None
+
+-- the directories and the source that clap found
+abbrev pub directories_in : List Row → PlainDirectories
+directories_in rows = directories_by (first_of (codes "dirs") rows)
+
+abbrev pub source_in : List Row → Option PlainSource
+source_in rows = source_by (first_of (codes "cache") rows) (first_of (codes "dirs") rows)
 
 -- whether the flag is given: its text is `true`
 abbrev pub is_on : Option Text → Bool
 is_on flag = option_map_or (λ text. bytes_eq text (codes "true")) flag false
+
+-- the options that clap found
+abbrev pub options_in : List Row → Options
+options_in rows = record {
+  name_only = is_on (first_of (codes "name-only") rows);
+  magic_first = is_on (first_of (codes "magic-first") rows);
+  cost = is_on (first_of (codes "cost") rows);
+}
+
+-- what is asked of a source; where both CACHE and DIRS are given the words are refused
+abbrev pub sourced : Option PlainSource → (PlainSource → Meaning) → Meaning
+sourced None means = refused (kind.ArgumentConflict ∷ [])
+sourced (Some source) means = means source
+
+-- the kinds of error by a source, none where there is one
+abbrev pub conflicts : Option PlainSource → Kinds
+conflicts None = kind.ArgumentConflict ∷ []
+conflicts (Some source) = []
 
 -- what is asked for by an argument that must be given; without it the words are refused
 abbrev pub given : {A : Type 0} → Option A → (A → Meaning) → Meaning
@@ -65,36 +109,32 @@ missing (Some x) = []
 -- what `build` means by what clap found after it
 abbrev pub build_meaning : List Row → Meaning
 build_meaning rows = given (first_of (codes "output") rows) (λ file.
-    asks (build (parts_of (first_of (codes "dirs") rows)) file))
+    asks (build (directories_in rows) file))
 
 -- what `plain` means by what clap found after it
 abbrev pub plain_meaning : List Row → Meaning
 plain_meaning rows = given (all_of (codes "file") rows) (λ files.
-    asks (plain (parts_of (first_of (codes "dirs") rows))
-    (is_on (first_of (codes "name-only") rows))
-    (is_on (first_of (codes "magic-first") rows)) files))
+    asks (plain (directories_in rows) (options_in rows) files))
 
 -- what `list` means by what clap found after it
 abbrev pub list_meaning : List Row → Meaning
-list_meaning rows = given (first_of (codes "cache") rows) (λ cache. asks (list cache))
+list_meaning rows = sourced (source_in rows) (λ source. asks (list source))
 
 -- what `isa` means by what clap found after it
 abbrev pub is_a_meaning : List Row → Meaning
-is_a_meaning rows = given (first_of (codes "cache") rows) (λ cache.
+is_a_meaning rows = sourced (source_in rows) (λ source.
     given (first_of (codes "type") rows) (λ kind.
-    given (first_of (codes "base") rows) (λ base. asks (is_a cache kind base))))
+    given (first_of (codes "base") rows) (λ base. asks (is_a source kind base))))
 
 -- what `icon` means by what clap found after it
 abbrev pub icon_meaning : List Row → Meaning
-icon_meaning rows = given (first_of (codes "cache") rows) (λ cache.
-    given (first_of (codes "type") rows) (λ kind. asks (icon cache kind)))
+icon_meaning rows = sourced (source_in rows) (λ source.
+    given (first_of (codes "type") rows) (λ kind. asks (icon source kind)))
 
 -- what `type` means by what clap found after it
 abbrev pub type_meaning : List Row → Meaning
-type_meaning rows = given (first_of (codes "cache") rows) (λ cache.
-    given (all_of (codes "file") rows) (λ files.
-    asks (type_of cache (is_on (first_of (codes "name-only") rows))
-    (is_on (first_of (codes "cost") rows)) (is_on (first_of (codes "magic-first") rows)) files)))
+type_meaning rows = sourced (source_in rows) (λ source.
+    given (all_of (codes "file") rows) (λ files. asks (type_of source (options_in rows) files)))
 
 -- the commands: the name of each, and what it means
 abbrev pub commands : List (Text × (List Row → Meaning))
@@ -127,16 +167,24 @@ abbrev pub Finds : List Text → Result ArgMatches Error → Type 0
 Finds words r = MatchResult r (λ m. (fault_of mimelook words ≡ [])
     × (subcommand_rows_of m ≡ subcommand_of mimelook words)) (HasKind (fault_of mimelook words))
 
+-- the plain value of directories
+abbrev pub plain_directories : Directories → PlainDirectories
+plain_directories (directories.Named dirs) = named (texts dirs.items)
+plain_directories directories.User = user
+
+-- the plain value of a source
+abbrev pub plain_source : Source → PlainSource
+plain_source (source.Cache path) = cache_of path.now
+plain_source (source.Directories dirs) = made_of (plain_directories dirs)
+
 -- the plain value of a request
 abbrev pub plain_request : Request → PlainRequest
-plain_request (request.Build directories file) = build (texts directories.items) file.now
-plain_request (request.Plain directories name_only magic_first files) =
-    plain (texts directories.items) name_only magic_first (texts files.items)
-plain_request (request.List cache) = list cache.now
-plain_request (request.IsA cache kind base) = is_a cache.now kind.now base.now
-plain_request (request.Icon cache kind) = icon cache.now kind.now
-plain_request (request.Type cache name_only cost magic_first files) =
-    type_of cache.now name_only cost magic_first (texts files.items)
+plain_request (request.Build dirs file) = build (plain_directories dirs) file.now
+plain_request (request.Plain dirs options files) = plain (plain_directories dirs) options (texts files.items)
+plain_request (request.List from) = list (plain_source from)
+plain_request (request.IsA from kind base) = is_a (plain_source from) kind.now base.now
+plain_request (request.Icon from kind) = icon (plain_source from) kind.now
+plain_request (request.Type from options files) = type_of (plain_source from) options (texts files.items)
 
 -- the request is what the words mean, unless memory ran out
 abbrev pub Means : Meaning → Result Request Error → Type 0

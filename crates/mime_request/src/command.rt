@@ -3,7 +3,7 @@
 ghost use Rattle.std.specs.Prelude.{◌≡◌, IfOk, false};
 ghost use Rattle.clap.specs.Words.{app_of, rule_of};
 ghost use Rattle.clap.specs.declared.builder.command.Command.TheViews.{out-Command};
-ghost use Rattle.mime_request.specs.CommandLine.{base_rule, build_app, cache_rule, cost_rule, directories_rule};
+ghost use Rattle.mime_request.specs.CommandLine.{app_of_source, base_rule, build_app, cache_rule, cost_rule, directories_rule};
 ghost use Rattle.mime_request.specs.CommandLine.{files_rule, icon_app, is_a_app, kind_rule, list_app, magic_first_rule};
 ghost use Rattle.mime_request.specs.CommandLine.{mimelook, mimelook_alone, mimelook_of_directories, name_only_rule};
 ghost use Rattle.mime_request.specs.CommandLine.{output_rule, plain_app, type_app};
@@ -12,7 +12,10 @@ mod texts;
 
 use clap::{Arg, ArgAction, Command};
 use std::alloc::{AllocError, Global};
-use texts::{BUILD, COST, DIRS, HelpTexts, ICON, IS_A, LIST, MIMELOOK, OUTPUT, PLAIN, TYPE};
+use texts::{
+    BUILD, COST, DIRS, FILES, HelpTexts, ICON, IS_A, LIST, MAGIC_FIRST, MIMELOOK, NAME_ONLY,
+    OUTPUT, PLAIN, TYPE,
+};
 
 /// What `mimelook --version` prints after the program's name.
 const VERSION: &str = "0.1.0";
@@ -33,8 +36,8 @@ fn directories<'a>(alloc: Global) -> Arg<'a>
 {
     Arg::new(alloc, "dirs")
         .short('d')
+        .long("data-dirs")
         .value_name("DIRS")
-        .required(true)
         .help(DIRS)
 }
 
@@ -44,8 +47,8 @@ fn cache<'a>(alloc: Global) -> Arg<'a>
 {
     Arg::new(alloc, "cache")
         .short('c')
+        .long("cache")
         .value_name("CACHE")
-        .required(true)
         .help("The cache to read, such as /usr/share/mime/mime.cache")
 }
 
@@ -56,7 +59,7 @@ fn name_only<'a>(alloc: Global) -> Arg<'a>
     Arg::new(alloc, "name-only")
         .long("name-only")
         .action(ArgAction::SetTrue)
-        .help("Go by the names alone: no FILE is opened")
+        .help(NAME_ONLY)
 }
 
 fn magic_first<'a>(alloc: Global) -> Arg<'a>
@@ -66,7 +69,7 @@ fn magic_first<'a>(alloc: Global) -> Arg<'a>
     Arg::new(alloc, "magic-first")
         .long("magic-first")
         .action(ArgAction::SetTrue)
-        .help("Let content of high priority (80 or more) decide before names")
+        .help(MAGIC_FIRST)
 }
 
 fn cost<'a>(alloc: Global) -> Arg<'a>
@@ -87,7 +90,7 @@ fn files<'a>(alloc: Global) -> Arg<'a>
         .value_name("FILE")
         .required(true)
         .num_args(1..)
-        .help("The files to tell the types of; put -- before one that begins with -")
+        .help(FILES)
 }
 
 fn output<'a>(alloc: Global) -> Arg<'a>
@@ -96,6 +99,7 @@ fn output<'a>(alloc: Global) -> Arg<'a>
 {
     Arg::new(alloc, "output")
         .short('o')
+        .long("output")
         .value_name("FILE")
         .required(true)
         .help(OUTPUT)
@@ -145,14 +149,27 @@ fn plain_command<'a>(alloc: Global) -> Result<Command<'a>, AllocError>
     Ok(command)
 }
 
+// A command with `-c CACHE` and `-d DIRS`.
+fn command_of_source<'a>(
+    alloc: Global,
+    name: &'a str,
+    texts: HelpTexts<'a>,
+) -> Result<Command<'a>, AllocError>
+    ensures app { IfOk result (λ c. app_of c ≡ app_of_source name.entry.now) }
+    ensures local { IfOk result (λ c. (out-Command c).has_globals ≡ false) }
+{
+    let command = with_help(Command::new(alloc, name), texts);
+    let command = command.arg(cache(alloc))?;
+    let command = command.arg(directories(alloc))?;
+    Ok(command)
+}
+
 // The command `list`, likewise.
 fn list_command<'a>(alloc: Global) -> Result<Command<'a>, AllocError>
     ensures app { IfOk result (λ c. app_of c ≡ list_app) }
     ensures local { IfOk result (λ c. (out-Command c).has_globals ≡ false) }
 {
-    let command = with_help(Command::new(alloc, "list"), LIST);
-    let command = command.arg(cache(alloc))?;
-    Ok(command)
+    command_of_source(alloc, "list", LIST)
 }
 
 // The command `isa`, likewise.
@@ -160,8 +177,7 @@ fn is_a_command<'a>(alloc: Global) -> Result<Command<'a>, AllocError>
     ensures app { IfOk result (λ c. app_of c ≡ is_a_app) }
     ensures local { IfOk result (λ c. (out-Command c).has_globals ≡ false) }
 {
-    let command = with_help(Command::new(alloc, "isa"), IS_A);
-    let command = command.arg(cache(alloc))?;
+    let command = command_of_source(alloc, "isa", IS_A)?;
     let command = command.arg(kind(alloc))?;
     let command = command.arg(base(alloc))?;
     Ok(command)
@@ -172,8 +188,7 @@ fn icon_command<'a>(alloc: Global) -> Result<Command<'a>, AllocError>
     ensures app { IfOk result (λ c. app_of c ≡ icon_app) }
     ensures local { IfOk result (λ c. (out-Command c).has_globals ≡ false) }
 {
-    let command = with_help(Command::new(alloc, "icon"), ICON);
-    let command = command.arg(cache(alloc))?;
+    let command = command_of_source(alloc, "icon", ICON)?;
     let command = command.arg(kind(alloc))?;
     Ok(command)
 }
@@ -183,8 +198,7 @@ fn type_command<'a>(alloc: Global) -> Result<Command<'a>, AllocError>
     ensures app { IfOk result (λ c. app_of c ≡ type_app) }
     ensures local { IfOk result (λ c. (out-Command c).has_globals ≡ false) }
 {
-    let command = with_help(Command::new(alloc, "type"), TYPE);
-    let command = command.arg(cache(alloc))?;
+    let command = command_of_source(alloc, "type", TYPE)?;
     let command = command.arg(name_only(alloc))?;
     let command = command.arg(cost(alloc))?;
     let command = command.arg(magic_first(alloc))?;

@@ -6,15 +6,17 @@
 //! ```text
 //! let words = ["plain", "-d", "/usr/local/share:/usr/share", "--name-only", "notes.txt"];
 //! match request_of(alloc, &words) {
-//!     Ok(Request::Plain { directories, name_only, magic_first, files }) => ..,
+//!     Ok(Request::Plain { directories, options, files }) => ..,
 //!     Err(error) => ..,
 //! }
 //! ```
 //!
-//! Here `directories` is `["/usr/local/share", "/usr/share"]`, `name_only` is on, `magic_first` is
-//! off, and `files` is `["notes.txt"]`. `build -d DIRS -o FILE` gives a [`Request::Build`]. Over a
-//! cache, `list -c CACHE` gives a [`Request::List`], `isa -c CACHE TYPE BASE` a [`Request::IsA`],
-//! `icon -c CACHE TYPE` a [`Request::Icon`], and `type -c CACHE FILE...` a [`Request::Type`].
+//! Here `directories` names `/usr/local/share` and `/usr/share`, `options.name_only` is on, the other
+//! options are off, and `files` is `["notes.txt"]`. `build -d DIRS -o FILE` gives a
+//! [`Request::Build`]. Over a cache, `list -c CACHE` gives a [`Request::List`], `isa -c CACHE TYPE
+//! BASE` a [`Request::IsA`], `icon -c CACHE TYPE` a [`Request::Icon`], and `type -c CACHE FILE...` a
+//! [`Request::Type`]; these four take `-d DIRS` in place of `-c CACHE`. Without either, any command is
+//! over the user's data directories.
 //!
 //! Read `specs/Request.antt` first for what words mean, then [`request_of`]; `command` describes the
 //! options to clap, and `spelling` has the laws that say what usual words mean with no word of clap.
@@ -24,9 +26,10 @@ mod command;
 mod request;
 mod spelling;
 
-pub use request::{Request, request_of};
+pub use request::{Directories, Options, Request, Source, request_of};
 pub use spelling::{
     flags_first_spelling_of_plain, output_first_spelling_of_build, parts_of_directories,
-    usual_spelling_of_build, usual_spelling_of_icon, usual_spelling_of_is_a,
-    usual_spelling_of_list, usual_spelling_of_plain, usual_spelling_of_type, words_without_files,
+    spelling_of_build_of_user, spelling_of_plain_of_user, usual_spelling_of_build,
+    usual_spelling_of_icon, usual_spelling_of_is_a, usual_spelling_of_list,
+    usual_spelling_of_plain, usual_spelling_of_type, words_without_files,
 };

@@ -5,48 +5,78 @@ ghost use Rattle.clap.specs.Words.{subcommand_rows_of};
 ghost use Rattle.mime_request.specs.Request.{Finds, Means, meaning_of, subcommand_meaning};
 
 mod cache;
-mod directories;
+mod data;
 mod found;
+mod over_directories;
 
 use crate::command::mimelook_command;
 use cache::{request_of_icon, request_of_is_a, request_of_list, request_of_type};
 use clap::error::ErrorKind;
 use clap::{ArgMatches, Error};
-use directories::{request_of_build, request_of_plain};
 use found::{refusal, subcommand_of};
+use over_directories::{request_of_build, request_of_plain};
 use std::alloc::Global;
 use std::convert::AsStr;
+
+/// Data directories, most preferred first: those that are named, or the user's.
+///
+/// There may be none, and none that is named is empty.
+#[derive(Debug, Drop)]
+pub enum Directories<'a> {
+    /// These.
+    Named(Vec<&'a str>),
+    /// The user's, which the environment tells.
+    User,
+}
+
+/// What is asked.
+#[derive(Debug, Drop)]
+pub enum Source<'a> {
+    /// The cache in this file.
+    Cache(&'a str),
+    /// The cache that is made of the text files of data directories.
+    Directories(Directories<'a>),
+}
+
+/// How files are looked up, and what is told of them.
+#[derive(Clone, Copy, Debug)]
+pub struct Options {
+    /// The names alone decide: no file is opened.
+    pub name_only: bool,
+    /// Content is asked before the globs, where its priority is high (80 or more).
+    pub magic_first: bool,
+    /// What each answer cost is told.
+    pub cost: bool,
+}
 
 /// What the words of a command line ask for.
 #[derive(Debug, Drop)]
 pub enum Request<'a> {
     /// A cache of the text files of data directories.
     Build {
-        /// The directories, most preferred first. There may be none, and none is empty.
-        directories: Vec<&'a str>,
+        /// The directories.
+        directories: Directories<'a>,
         /// The file that the cache is written to.
         file: &'a str,
     },
     /// The types of files, from the text files of data directories.
     Plain {
-        /// The directories, most preferred first. There may be none, and none is empty.
-        directories: Vec<&'a str>,
-        /// The names alone decide: no file is opened.
-        name_only: bool,
-        /// Content is asked before the globs, where its priority is high (80 or more).
-        magic_first: bool,
+        /// The directories.
+        directories: Directories<'a>,
+        /// The options. No cost is told.
+        options: Options,
         /// The files, as they were written. There is at least one.
         files: Vec<&'a str>,
     },
     /// The glob rules of a cache.
     List {
-        /// The file of the cache.
-        cache: &'a str,
+        /// The cache.
+        source: Source<'a>,
     },
     /// Whether one type is another, by a cache.
     IsA {
-        /// The file of the cache.
-        cache: &'a str,
+        /// The cache.
+        source: Source<'a>,
         /// The type that is asked about, as it was written.
         kind: &'a str,
         /// The type that it may be, as it was written.
@@ -54,21 +84,17 @@ pub enum Request<'a> {
     },
     /// The icons of a type, from a cache.
     Icon {
-        /// The file of the cache.
-        cache: &'a str,
+        /// The cache.
+        source: Source<'a>,
         /// The type, as it was written.
         kind: &'a str,
     },
     /// The types of files, from a cache.
     Type {
-        /// The file of the cache.
-        cache: &'a str,
-        /// The names alone decide: no file is opened.
-        name_only: bool,
-        /// What each answer cost is told.
-        cost: bool,
-        /// Content is asked before the globs, where its priority is high (80 or more).
-        magic_first: bool,
+        /// The cache.
+        source: Source<'a>,
+        /// The options.
+        options: Options,
         /// The files, as they were written. There is at least one.
         files: Vec<&'a str>,
     },

@@ -10,15 +10,20 @@ mod cache;
 mod directories;
 mod plain;
 
-pub use build::{output_first_spelling_of_build, usual_spelling_of_build};
+pub use build::{
+    output_first_spelling_of_build, spelling_of_build_of_user, usual_spelling_of_build,
+};
 pub use cache::{
     usual_spelling_of_icon, usual_spelling_of_is_a, usual_spelling_of_list, usual_spelling_of_type,
 };
 pub use directories::parts_of_directories;
-pub use plain::{flags_first_spelling_of_plain, usual_spelling_of_plain};
+pub use plain::{
+    flags_first_spelling_of_plain, spelling_of_plain_of_user, usual_spelling_of_plain,
+};
 
 /// `--help`, alone or after a command, asks for help, and `--version` for the version; no words at
-/// all are a mistake, and so are words without what a command needs, or with an option twice.
+/// all are a mistake, and so are words without what a command needs, with an option twice, or with
+/// both CACHE and DIRS.
 pub fn words_without_files()
     ensures help { meaning_of (codes "--help" ∷ []) ≡ refused (DisplayHelp ∷ []) }
     ensures help_of_build { meaning_of (codes "build" ∷ codes "--help" ∷ [])
@@ -39,7 +44,8 @@ pub fn words_without_files()
         ≡ refused (MissingRequiredArgument ∷ []) }
     ensures no_file { meaning_of (codes "plain" ∷ codes "--name-only" ∷ codes "-d" ∷ [] ∷ [])
         ≡ refused (MissingRequiredArgument ∷ []) }
-    ensures no_cache { meaning_of (codes "list" ∷ []) ≡ refused (MissingRequiredArgument ∷ []) }
+    ensures two_sources { meaning_of (codes "list" ∷ codes "-c" ∷ [] ∷ codes "-d" ∷ [] ∷ [])
+        ≡ refused (ArgumentConflict ∷ []) }
     ensures no_type { meaning_of (codes "icon" ∷ codes "-c" ∷ [] ∷ [])
         ≡ refused (MissingRequiredArgument ∷ []) }
     ensures no_base { meaning_of (codes "isa" ∷ codes "-c" ∷ [] ∷ [] ∷ [])

@@ -21,6 +21,7 @@ pub mod Messages
 pub mod Programs
 pub mod Runs
 pub mod Sinks
+pub mod SourceCommands
 pub mod Spelled
 pub mod Texts
 pub mod AnswersFrom

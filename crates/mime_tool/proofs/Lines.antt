@@ -1,6 +1,7 @@
 -- From what a file comes to, to its line.
-use Rattle.std.proofs.Common.{◌≡◌, ℕ, Bool, List, [], inl, Ok, Err, Result, refl, subst, sym}
+use Rattle.std.proofs.Common.{◌≡◌, ℕ, List, [], inl, Ok, Err, Result, refl, subst, sym}
 use Rattle.mime_base.specs.Database.{PlainDatabase}
+use Rattle.mime_request.specs.declared.request.Options.{Options}
 use Rattle.mime_tool.specs.Desk.{Ends}
 use Rattle.mime_tool.specs.Files.{Stored}
 use Rattle.mime_tool.specs.Finish.{Sinks}
@@ -15,9 +16,9 @@ use Rattle.mime_tool.proofs.Ends.{writes_same}
 use Rattle.mime_tool.proofs.Programs.{ends_weaker}
 
 -- no file has no line
-pub no_lines : (stored : List ℕ → Stored) (name_only magic_first : Bool) (database : PlainDatabase)
-    → (run : Run) × AreTypeLines stored name_only magic_first database [] run
-no_lines stored name_only magic_first database = (silent, refl)
+pub no_lines : (stored : List ℕ → Stored) (options : Options) (database : PlainDatabase)
+    → (run : Run) × AreTypeLines stored options database [] run
+no_lines stored options database = (silent, refl)
 
 -- it came to nothing: its data are refused, or memory ran out
 pub comes_undone : (lookup : PlainLookup) (stored : List ℕ → Stored) (file : List ℕ) (a b : Sinks) (s : Stop)

@@ -1,12 +1,14 @@
 -- What `build` stores, and what it says.
-use Rattle.std.specs.Prelude.{◌≡◌, ◌≢◌, ◌⊎◌, ◌<◌, ◌≤◌, ℕ, true, List, [], ◌++◌, Some, Result, Ok, Err, Vec, codes, length, string_bytes}
+use Rattle.std.specs.Prelude.{◌≡◌, ◌≢◌, ◌⊎◌, ◌<◌, ◌≤◌, ℕ, true, List, [], ◌++◌, Option, Some, Result, Ok, Err, Vec, codes, length, string_bytes}
 use Rattle.std.specs.declared.alloc.Global.{Global}
 use Rattle.mime_base.specs.Database.{PlainDatabase}
 use Rattle.mime_base.specs.Format.Packed.{Packed}
 use Rattle.mime_base.specs.Format.Room.{room}
 use Rattle.mime_base.specs.Format.Spells.{Spells, cache_limit}
 use Rattle.mime_tool.specs.Desk.{Ends, State}
-use Rattle.mime_tool.specs.Directories.{IsCommand, IsDatabase}
+use Rattle.mime_request.specs.Request.{PlainDirectories}
+use Rattle.mime_tool.specs.Directories.{IsCommand, IsDatabaseOf}
+use Rattle.mime_tool.specs.Environment.{PlainEnvironment}
 use Rattle.mime_tool.specs.Files.{Replaced, Stored, Untouched, Writing, fails, succeeds}
 use Rattle.mime_tool.specs.Run.{Run, cannot_write, cut_short, silent, stopped, stops}
 use Rattle.mime_tool.specs.declared.stop.Stop.{Stop}
@@ -52,18 +54,18 @@ IsBuildOver file writing old new database run =
     ⊎ (Untouched (temp_of file) old new × (run ≡ cut_short))))
 
 -- the run of `build` over these directories; where it stops, the file is as it was
-abbrev pub IsBuild : List (List ℕ) → List ℕ → (List ℕ → List ℕ → Writing) → (List ℕ → Stored) → (List ℕ → Stored)
-    → List (List ℕ) → Run → Type 0
-IsBuild dirs file writes old new files run =
-    IsCommand old dirs (λ database _. IsBuildOver file (writing_of writes file) old new database) files run
+abbrev pub IsBuild : Option PlainEnvironment → PlainDirectories → List ℕ → (List ℕ → List ℕ → Writing) → (List ℕ → Stored)
+    → (List ℕ → Stored) → List (List ℕ) → Run → Type 0
+IsBuild environment dirs file writes old new files run =
+    IsCommand old environment dirs (λ database _. IsBuildOver file (writing_of writes file) old new database) files run
     × (stops run ≡ true → Untouched (temp_of file) old new)
 
 -- what `build` may leave stored, however it ends: the file is as it was, or it is a cache of the database
 -- of these directories
-abbrev pub LeavesBuilt : List (List ℕ) → List ℕ → (List ℕ → Stored) → (List ℕ → Stored) → Type 0
-LeavesBuilt dirs file old new =
+abbrev pub LeavesBuilt : Option PlainEnvironment → PlainDirectories → List ℕ → (List ℕ → Stored) → (List ℕ → Stored) → Type 0
+LeavesBuilt environment dirs file old new =
     Untouched (temp_of file) old new
-    ⊎ ((database : PlainDatabase) × (messages : List ℕ) × IsDatabase old dirs (Some database) messages
+    ⊎ ((database : PlainDatabase) × (messages : List ℕ) × IsDatabaseOf old environment dirs (Some database) messages
     × IsBuilt file old new database)
 
 -- ---- the parts of `build`
@@ -90,7 +92,8 @@ pub record BuildsOver (database : PlainDatabase) (file : List ℕ) (before after
   pub leaves : LeavesOver file before.stored after.stored database result
 
 -- the run of `build`, up to the message of a stop
-pub record Builds (dirs : List (List ℕ)) (file : List ℕ) (before after : State) (result : Result ℕ Stop) : Type 0 where
+pub record Builds (environment : Option PlainEnvironment) (dirs : PlainDirectories) (file : List ℕ) (before after : State)
+    (result : Result ℕ Stop) : Type 0 where
   pub same_setting : after.setting ≡ before.setting
-  pub sinks : Ends (IsBuild dirs file before.setting.writes before.stored after.stored) [] before.sinks after.sinks result
-  pub leaves : LeavesBuilt dirs file before.stored after.stored
+  pub sinks : Ends (IsBuild environment dirs file before.setting.writes before.stored after.stored) [] before.sinks after.sinks result
+  pub leaves : LeavesBuilt environment dirs file before.stored after.stored

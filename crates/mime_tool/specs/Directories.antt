@@ -19,6 +19,8 @@ use Rattle.mime_text.specs.declared.magic.fault.MagicFault.TheVariants as fault
 use Rattle.mime_text.specs.declared.magic.fault.MagicFaultKind.{MagicFaultKind}
 use Rattle.mime_text.specs.declared.magic.fault.MagicFaultKind.TheVariants as kind
 use Rattle.mime_text.specs.declared.magic.file.MagicFile.{MagicFile}
+use Rattle.mime_request.specs.Request.{PlainDirectories, named, user}
+use Rattle.mime_tool.specs.Environment.{PlainEnvironment, user_directories}
 use Rattle.mime_tool.specs.Files.{IsTextOf, Stored}
 use Rattle.mime_tool.specs.Loading.{◌>>=◌, Gives}
 use Rattle.mime_tool.specs.Run.{Run, cannot_read, joined, said, silent, stopped}
@@ -155,6 +157,20 @@ IsDatabase stored dirs = do
   plain_dirs ← AreDirectories stored dirs
   Gives (merged plain_dirs)
 
+-- the message where a variable of the environment is no text
+abbrev pub not_text : List ℕ
+not_text = codes "mimelook: XDG_DATA_HOME, HOME or XDG_DATA_DIRS is not text (UTF-8)\n"
+
+-- the database of the user's directories, where the variables that name them are text
+abbrev pub IsUserDatabase : (List ℕ → Stored) → Option PlainEnvironment → Option PlainDatabase → List ℕ → Type 0
+IsUserDatabase stored None found messages = (found ≡ None) × (messages ≡ not_text)
+IsUserDatabase stored (Some environment) found messages = IsDatabase stored (user_directories environment) found messages
+
+-- the database of the directories that are named, or of the user's
+abbrev pub IsDatabaseOf : (List ℕ → Stored) → Option PlainEnvironment → PlainDirectories → Option PlainDatabase → List ℕ → Type 0
+IsDatabaseOf stored environment (named dirs) = IsDatabase stored dirs
+IsDatabaseOf stored environment user = IsUserDatabase stored environment
+
 -- ---- a command over a database
 
 -- the run after loading, which had these messages; IsOver says what a run over files is by a database
@@ -164,7 +180,8 @@ IsAfterLoading (Some database) messages IsOver files run =
     (rest : Run) × IsOver database files rest × (run ≡ joined (said messages) rest)
 
 -- the run of a command over the database of these directories
-abbrev pub IsCommand : (List ℕ → Stored) → List (List ℕ) → (PlainDatabase → List (List ℕ) → Run → Type 0) → List (List ℕ) → Run → Type 0
-IsCommand stored dirs IsOver files run =
-    (database : Option PlainDatabase) × (messages : List ℕ) × IsDatabase stored dirs database messages
+abbrev pub IsCommand : (List ℕ → Stored) → Option PlainEnvironment → PlainDirectories
+    → (PlainDatabase → List (List ℕ) → Run → Type 0) → List (List ℕ) → Run → Type 0
+IsCommand stored environment dirs IsOver files run =
+    (database : Option PlainDatabase) × (messages : List ℕ) × IsDatabaseOf stored environment dirs database messages
     × IsAfterLoading database messages IsOver files run

@@ -1,13 +1,16 @@
 -- What `icon` prints.
-use Rattle.std.specs.Prelude.{◌≡◌, ℕ, List, [], ◌∷◌, ◌++◌, codes, ⊤}
+use Rattle.std.specs.Prelude.{◌≡◌, ℕ, List, [], ◌∷◌, ◌++◌, codes, ⊤, Option}
 use Rattle.mime_base.specs.Database.{PlainDatabase}
 use Rattle.mime_base.specs.Format.Spells.{Spells}
 use Rattle.mime_lookup.specs.Icons.{PlainIcons, icons_of}
 use Rattle.mime_lookup.specs.StepFaults.{IsIconFault}
 use Rattle.mime_view.specs.declared.fault.CacheFault.{CacheFault}
-use Rattle.mime_tool.specs.Cache.{IsAnsweredOr, IsCacheCommand, IsRefused}
+use Rattle.mime_request.specs.Request.{PlainSource}
+use Rattle.mime_tool.specs.Cache.{IsAnsweredOr, IsRefused}
+use Rattle.mime_tool.specs.Environment.{PlainEnvironment}
 use Rattle.mime_tool.specs.Files.{Stored}
 use Rattle.mime_tool.specs.Run.{Run, printed}
+use Rattle.mime_tool.specs.Sources.{IsSourceCommand}
 use Rattle.mime_tool.specs.TypeNames.{IsRunOfTypes}
 
 -- `icon: NAME` and `generic: NAME`
@@ -31,5 +34,6 @@ abbrev pub IsIconOver : List ℕ → List ℕ → List ℕ → List (List ℕ) �
 IsIconOver path kind cache files run = IsAnsweredOr path (RefusesIcons cache) (AreIconLines cache kind) run
 
 -- the run of `icon`: the word is looked at before the cache is read
-abbrev pub IsIcon : (List ℕ → Stored) → List ℕ → List ℕ → List (List ℕ) → Run → Type 0
-IsIcon stored path kind files = IsRunOfTypes (kind ∷ []) (IsCacheCommand stored path (IsIconOver path kind) files)
+abbrev pub IsIcon : (List ℕ → Stored) → Option PlainEnvironment → PlainSource → List ℕ → List (List ℕ) → Run → Type 0
+IsIcon stored environment source kind files =
+    IsRunOfTypes (kind ∷ []) (IsSourceCommand stored environment source (λ path. IsIconOver path kind) files)

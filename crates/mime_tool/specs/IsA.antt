@@ -1,13 +1,16 @@
 -- What `isa` prints.
-use Rattle.std.specs.Prelude.{◌≡◌, ◌↔◌, ℕ, Bool, true, false, IsTrue, List, [], ◌∷◌, codes, ⊤}
+use Rattle.std.specs.Prelude.{◌≡◌, ◌↔◌, ℕ, Bool, true, false, IsTrue, List, [], ◌∷◌, codes, ⊤, Option}
 use Rattle.mime_base.specs.Database.{PlainDatabase, pairs_of}
 use Rattle.mime_base.specs.Database.Subclass.{IsA, resolved}
 use Rattle.mime_base.specs.Format.Spells.{Spells}
 use Rattle.mime_lookup.specs.StepFaults.{IsLookUpFault}
 use Rattle.mime_view.specs.declared.fault.CacheFault.{CacheFault}
-use Rattle.mime_tool.specs.Cache.{IsAnsweredOr, IsCacheCommand, IsRefused}
+use Rattle.mime_request.specs.Request.{PlainSource}
+use Rattle.mime_tool.specs.Cache.{IsAnsweredOr, IsRefused}
+use Rattle.mime_tool.specs.Environment.{PlainEnvironment}
 use Rattle.mime_tool.specs.Files.{Stored}
 use Rattle.mime_tool.specs.Run.{Run, printed}
+use Rattle.mime_tool.specs.Sources.{IsSourceCommand}
 use Rattle.mime_tool.specs.TypeNames.{IsRunOfTypes}
 
 -- `yes`, or `no` with status 1
@@ -33,6 +36,6 @@ abbrev pub IsAnswerOver : List ℕ → List ℕ → List ℕ → List ℕ → Li
 IsAnswerOver path kind base cache files run = IsAnsweredOr path (RefusesPairs cache) (IsAnswerOf cache kind base) run
 
 -- the run of `isa`: the words are looked at before the cache is read
-abbrev pub IsIsA : (List ℕ → Stored) → List ℕ → List ℕ → List ℕ → List (List ℕ) → Run → Type 0
-IsIsA stored path kind base files =
-    IsRunOfTypes (kind ∷ base ∷ []) (IsCacheCommand stored path (IsAnswerOver path kind base) files)
+abbrev pub IsIsA : (List ℕ → Stored) → Option PlainEnvironment → PlainSource → List ℕ → List ℕ → List (List ℕ) → Run → Type 0
+IsIsA stored environment source kind base files =
+    IsRunOfTypes (kind ∷ base ∷ []) (IsSourceCommand stored environment source (λ path. IsAnswerOver path kind base) files)

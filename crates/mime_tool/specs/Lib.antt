@@ -2,6 +2,7 @@ pub mod Build
 pub mod Cache
 pub mod Desk
 pub mod Directories
+pub mod Environment
 pub mod Files
 pub mod Finish
 pub mod Icon
@@ -13,6 +14,7 @@ pub mod Loading
 pub mod Plain
 pub mod Program
 pub mod Run
+pub mod Sources
 pub mod Sink
 pub mod Stop
 pub mod TypeNames

@@ -12,19 +12,19 @@ use Rattle.mime_tool.specs.declared.line.Outcome.{Outcome}
 use Rattle.mime_tool.specs.declared.line.Outcome.TheVariants as outcome
 use Rattle.mime_tool.specs.declared.line.lookup.Cost.{Cost}
 use Rattle.mime_tool.specs.declared.line.lookup.Lookup.{Lookup}
-use Rattle.mime_tool.specs.declared.line.lookup.Source.{Source}
-use Rattle.mime_tool.specs.declared.line.lookup.Source.TheVariants as source
+use Rattle.mime_tool.specs.declared.line.lookup.Data.{Data}
+use Rattle.mime_tool.specs.declared.line.lookup.Data.TheVariants as data_of
 use Rattle.mime_tool.specs.declared.stop.Stop.{Stop}
 use Rattle.mime_tool.specs.declared.stop.Stop.TheVariants as stop
 
 -- how FILEs are looked up in this data
-abbrev pub lookup_in : Source → Lookup → PlainLookup
-lookup_in (source.Database database) lookup = lookup_over lookup.name_only lookup.order (plain_database database.now)
-lookup_in (source.Cache path bytes cost) lookup = lookup_by path.now lookup.name_only cost lookup.order bytes.now
+abbrev pub lookup_in : Data → Lookup → PlainLookup
+lookup_in (data_of.Database database) lookup = lookup_over lookup.name_only lookup.order (plain_database database.now)
+lookup_in (data_of.Cache path bytes cost) lookup = lookup_by path.now lookup.name_only cost lookup.order bytes.now
 
 -- the plain value of a lookup
 abbrev pub plain_lookup : Lookup → PlainLookup
-plain_lookup lookup = lookup_in lookup.source lookup
+plain_lookup lookup = lookup_in lookup.by lookup
 
 -- what is told of a cost
 abbrev pub tail_of : Option Cost → List ℕ

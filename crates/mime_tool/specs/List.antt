@@ -1,5 +1,5 @@
 -- What `list` prints.
-use Rattle.std.specs.Prelude.{◌≡◌, ◌⊎◌, ℕ, Bool, true, false, All, List, [], ◌++◌, codes, decimal}
+use Rattle.std.specs.Prelude.{◌≡◌, ◌⊎◌, ℕ, Bool, true, false, All, List, [], ◌++◌, codes, decimal, Option}
 use Rattle.std.specs.List.{flat_map}
 use Rattle.mime_base.specs.Database.{PlainDatabase}
 use Rattle.mime_base.specs.Format.Spells.{Spells}
@@ -8,9 +8,12 @@ use Rattle.mime_view.specs.Listing.{IsListed, IsListing, PlainListed}
 use Rattle.mime_view.specs.Listing.Faults.{IsListingFault}
 use Rattle.mime_view.specs.Opening.{IsOpenFault}
 use Rattle.mime_view.specs.declared.fault.CacheFault.{CacheFault}
-use Rattle.mime_tool.specs.Cache.{IsAnsweredOr, IsCacheCommand, IsRefused}
+use Rattle.mime_request.specs.Request.{PlainSource}
+use Rattle.mime_tool.specs.Cache.{IsAnsweredOr, IsRefused}
+use Rattle.mime_tool.specs.Environment.{PlainEnvironment}
 use Rattle.mime_tool.specs.Files.{Stored}
 use Rattle.mime_tool.specs.Run.{Run, printed}
+use Rattle.mime_tool.specs.Sources.{IsSourceCommand}
 
 -- `:cs` behind a rule that is case-sensitive
 abbrev pub cased_mark : Bool → List ℕ
@@ -48,5 +51,5 @@ abbrev pub IsListOver : List ℕ → List ℕ → List (List ℕ) → Run → Ty
 IsListOver path cache files run = IsAnsweredOr path (RefusesRules cache) (AreRuleLines cache) run
 
 -- the run of `list`
-abbrev pub IsList : (List ℕ → Stored) → List ℕ → List (List ℕ) → Run → Type 0
-IsList stored path = IsCacheCommand stored path (IsListOver path)
+abbrev pub IsList : (List ℕ → Stored) → Option PlainEnvironment → PlainSource → List (List ℕ) → Run → Type 0
+IsList stored environment source = IsSourceCommand stored environment source IsListOver

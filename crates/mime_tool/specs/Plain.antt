@@ -4,7 +4,10 @@ use Rattle.mime_base.specs.Database.{PlainDatabase}
 use Rattle.mime_base.specs.declared.magic.host.Host.TheVariants.{Little}
 use Rattle.mime_lookup.specs.CheckingOrder.{Chooses, globs_suffice}
 use Rattle.mime_lookup.specs.declared.order.Order.{Order}
+use Rattle.mime_request.specs.Request.{PlainDirectories}
+use Rattle.mime_request.specs.declared.request.Options.{Options}
 use Rattle.mime_tool.specs.Directories.{IsCommand}
+use Rattle.mime_tool.specs.Environment.{PlainEnvironment}
 use Rattle.mime_tool.specs.Files.{Stored}
 use Rattle.mime_tool.specs.Line.{IsTypeLine, PlainLookup, base_name, order_of, type_line}
 use Rattle.mime_tool.specs.Run.{IsEach, Run, cannot_read, printed, unanswered}
@@ -32,11 +35,11 @@ lookup_over name_only order database = record {
   IsGuessed = IsGuessed;
 }
 
--- the lines of FILEs over this data, where this is stored at each path
-abbrev pub AreTypeLines : (List ℕ → Stored) → Bool → Bool → PlainDatabase → List (List ℕ) → Run → Type 0
-AreTypeLines stored name_only magic_first database =
-    IsEach (IsTypeLine (lookup_over name_only (order_of magic_first) database) stored)
+-- the lines of FILEs over this data with these options, where this is stored at each path
+abbrev pub AreTypeLines : (List ℕ → Stored) → Options → PlainDatabase → List (List ℕ) → Run → Type 0
+AreTypeLines stored options database =
+    IsEach (IsTypeLine (lookup_over options.name_only (order_of options.magic_first) database) stored)
 
--- the run of `plain` over these directories with these flags, for FILEs: `--name-only`, `--magic-first`
-abbrev pub IsPlain : (List ℕ → Stored) → List (List ℕ) → Bool → Bool → List (List ℕ) → Run → Type 0
-IsPlain stored dirs name_only magic_first = IsCommand stored dirs (AreTypeLines stored name_only magic_first)
+-- the run of `plain` over these directories with these options, for FILEs
+abbrev pub IsPlain : (List ℕ → Stored) → Option PlainEnvironment → PlainDirectories → Options → List (List ℕ) → Run → Type 0
+IsPlain stored environment dirs options = IsCommand stored environment dirs (AreTypeLines stored options)

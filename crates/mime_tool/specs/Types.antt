@@ -11,10 +11,14 @@ use Rattle.mime_lookup.specs.CheckingOrder.{Chooses, globs_suffice, read_of}
 use Rattle.mime_lookup.specs.StepFaults.{IsLookUpFault}
 use Rattle.mime_lookup.specs.declared.order.Order.{Order}
 use Rattle.mime_view.specs.declared.fault.CacheFault.{CacheFault}
-use Rattle.mime_tool.specs.Cache.{IsAnsweredOr, IsCacheCommand, IsRefused}
+use Rattle.mime_request.specs.Request.{PlainSource}
+use Rattle.mime_request.specs.declared.request.Options.{Options}
+use Rattle.mime_tool.specs.Cache.{IsAnsweredOr, IsRefused}
+use Rattle.mime_tool.specs.Environment.{PlainEnvironment}
 use Rattle.mime_tool.specs.Files.{Stored}
 use Rattle.mime_tool.specs.Line.{IsTypeLine, PlainLookup, base_name, order_of, type_line}
 use Rattle.mime_tool.specs.Run.{IsEach, Run, cannot_read, printed, unanswered}
+use Rattle.mime_tool.specs.Sources.{IsSourceCommand}
 
 -- what `--cost` tells of an answer: the records that were visited, the bytes that were compared, and those that were read
 abbrev pub cost_text : Meter → ℕ → List ℕ
@@ -69,12 +73,11 @@ lookup_by path name_only cost order cache = record {
       (λ run. IsLine cache cost file (λ _ _ _. ⊤) run ⊎ CannotBeRead cache order file run);
 }
 
--- the lines of FILEs by a cache, where this is stored at each path
-abbrev pub AreLinesBy : (List ℕ → Stored) → List ℕ → Bool → Bool → Bool → List ℕ → List (List ℕ) → Run → Type 0
-AreLinesBy stored path name_only cost magic_first cache =
-    IsEach (IsTypeLine (lookup_by path name_only cost (order_of magic_first) cache) stored)
+-- the lines of FILEs by a cache at this path with these options, where this is stored at each path
+abbrev pub AreLinesBy : (List ℕ → Stored) → Options → List ℕ → List ℕ → List (List ℕ) → Run → Type 0
+AreLinesBy stored options path cache =
+    IsEach (IsTypeLine (lookup_by path options.name_only options.cost (order_of options.magic_first) cache) stored)
 
--- the run of `type` over the cache at this path with these flags, for FILEs: `--name-only`, `--cost`, `--magic-first`
-abbrev pub IsType : (List ℕ → Stored) → List ℕ → Bool → Bool → Bool → List (List ℕ) → Run → Type 0
-IsType stored path name_only cost magic_first =
-    IsCacheCommand stored path (AreLinesBy stored path name_only cost magic_first)
+-- the run of `type` over what is asked with these options, for FILEs
+abbrev pub IsType : (List ℕ → Stored) → Option PlainEnvironment → PlainSource → Options → List (List ℕ) → Run → Type 0
+IsType stored environment source options = IsSourceCommand stored environment source (AreLinesBy stored options)

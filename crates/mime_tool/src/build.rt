@@ -2,16 +2,19 @@
 //!
 //! That the cache takes the place of a file whole, by way of a file beside it, is this project's own.
 
-ghost use Rattle.clap.specs.Walk.{texts};
 ghost use Rattle.mime_base.specs.Database.{plain_database};
+ghost use Rattle.mime_request.specs.Request.{plain_directories};
 ghost use Rattle.mime_tool.specs.Build.{Builds, BuildsOver, GivesCache, too_large};
+ghost use Rattle.mime_tool.specs.Environment.{known_environment};
 ghost use Rattle.mime_tool.specs.Stop.{IsRefusal};
 
 use crate::desk::Desk;
 use crate::directories::load;
+use crate::environment::Environment;
 use crate::status::ANSWERED;
 use crate::stop::Stop;
 use mime_base::Database;
+use mime_request::Directories;
 use mime_store::{StoreFault, write_cache};
 use std::alloc::Global;
 
@@ -22,10 +25,16 @@ const CACHE_LIMIT: usize = 268_435_456;
 ///
 /// It is written to a file of this path and `.new`, which is then renamed. Where the database is too
 /// large for a cache, or the cache can't be written, the file is as it was.
-pub(crate) fn build<D: Desk>(desk: &mut D, directories: &[&str], file: &str) -> Result<u8, Stop>
-    ensures { Builds (texts directories.now) file.now (D.state desk.old) (D.state desk.new) result }
+pub(crate) fn build<D: Desk>(
+    desk: &mut D,
+    environment: Option<Environment<'_>>,
+    directories: &Directories<'_>,
+    file: &str,
+) -> Result<u8, Stop>
+    ensures { Builds (known_environment environment.entry) (plain_directories directories.now) file.now
+        (D.state desk.old) (D.state desk.new) result }
 {
-    let database = load(desk, directories)?;
+    let database = load(desk, environment, directories)?;
     store(desk, &database, file)
 }
 
@@ -39,7 +48,8 @@ fn store<D: Desk>(desk: &mut D, database: &Database, file: &str) -> Result<u8, S
     Ok(ANSWERED)
 }
 
-fn cache_of(alloc: Global, database: &Database) -> Result<Vec<u8>, Stop>
+/// The cache of a database, in memory.
+pub(crate) fn cache_of(alloc: Global, database: &Database) -> Result<Vec<u8>, Stop>
     ensures { GivesCache (plain_database database.now) result }
 {
     match write_cache(alloc, database, CACHE_LIMIT) {

@@ -10,25 +10,77 @@ ghost use Rattle.clap.specs.Walk.{texts};
 ghost use Rattle.mime_base.specs.Database.{plain_database};
 ghost use Rattle.mime_text.specs.Merging.{plain_dir, plain_dirs};
 ghost use Rattle.mime_tool.specs.Desk.{Works};
-ghost use Rattle.mime_tool.specs.Directories.{AreDirectories, IsDatabase, IsDirectory, path_of};
+ghost use Rattle.mime_request.specs.Request.{plain_directories};
+ghost use Rattle.mime_tool.specs.Directories.{AreDirectories, IsDatabase, IsDatabaseOf, IsDirectory, IsUserDatabase, not_text};
+ghost use Rattle.mime_tool.specs.Directories.{path_of};
+ghost use Rattle.mime_tool.specs.Environment.{known_environment, plain_environment, user_directories};
 ghost use Rattle.mime_tool.specs.Loading.{Loads};
+ghost use Rattle.mime_tool.specs.Stop.{IsRefusal};
 
 mod line_file;
 mod magic_file;
 
 use crate::desk::Desk;
+use crate::environment::{Environment, all_directories, data_dirs_of, own_directory};
 use crate::stop::Stop;
 use line_file::read_lines;
 use magic_file::read_magic_in;
 use mime_base::{Database, OutOfMemory};
+use mime_request::Directories;
 use mime_text::{DirFiles, merge};
 use std::alloc::{AllocError, Global};
 
-/// The database of data directories, the most preferred first.
+/// The database of data directories, those that are named or the user's.
+pub(crate) fn load<D: Desk>(
+    desk: &mut D,
+    environment: Option<Environment<'_>>,
+    directories: &Directories<'_>,
+) -> Result<Database, Stop>
+    ensures { Works (Loads plain_database (IsDatabaseOf (D.state desk.old).stored (known_environment environment.entry)
+        (plain_directories directories.now))) (D.state desk.old) (D.state desk.new) result }
+{
+    match directories {
+        Directories::Named(directories) => load_these(desk, directories.as_slice()),
+        Directories::User => load_users(desk, environment),
+    }
+}
+
+fn load_users<D: Desk>(desk: &mut D, environment: Option<Environment<'_>>) -> Result<Database, Stop>
+    ensures { Works (Loads plain_database (IsUserDatabase (D.state desk.old).stored (known_environment environment.entry)))
+        (D.state desk.old) (D.state desk.new) result }
+{
+    match environment {
+        Some(environment) => load_by(desk, environment),
+        None => Err(not_text(desk.alloc())),
+    }
+}
+
+fn not_text(alloc: Global) -> Stop
+    ensures { IsRefusal not_text result }
+{
+    match format!(in alloc;
+        "mimelook: XDG_DATA_HOME, HOME or XDG_DATA_DIRS is not text (UTF-8)\n"
+    ) {
+        Ok(message) => Stop::Refused(message),
+        Err(_) => Stop::OutOfMemory,
+    }
+}
+
+fn load_by<D: Desk>(desk: &mut D, environment: Environment<'_>) -> Result<Database, Stop>
+    ensures { Works (Loads plain_database (IsDatabase (D.state desk.old).stored
+        (user_directories (plain_environment environment.entry)))) (D.state desk.old) (D.state desk.new) result }
+{
+    let own = own_directory(desk.alloc(), environment)?;
+    let dirs = data_dirs_of(environment);
+    let directories = all_directories(desk.alloc(), own.as_str(), dirs)?;
+    load_these(desk, directories.as_slice())
+}
+
+/// The database of these data directories, the most preferred first.
 ///
 /// Of each directory `mime/globs2`, `mime/magic`, `mime/aliases`, `mime/subclasses`, `mime/icons` and
 /// `mime/generic-icons` are read, in this order, up to the first that stops.
-pub(crate) fn load<D: Desk>(desk: &mut D, directories: &[&str]) -> Result<Database, Stop>
+fn load_these<D: Desk>(desk: &mut D, directories: &[&str]) -> Result<Database, Stop>
     ensures { Works (Loads plain_database
         (IsDatabase (D.state desk.old).stored (texts directories.now)))
         (D.state desk.old) (D.state desk.new) result }

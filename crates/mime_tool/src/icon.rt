@@ -2,39 +2,55 @@
 
 ghost use Rattle.std.specs.Prelude.{[]};
 ghost use Rattle.mime_lookup.specs.Icons.{plain_icons_of};
-ghost use Rattle.mime_tool.specs.Cache.{GivesOrRefuses, IsCacheCommand};
+ghost use Rattle.mime_request.specs.Request.{plain_source};
+ghost use Rattle.mime_tool.specs.Cache.{GivesOrRefuses};
 ghost use Rattle.mime_tool.specs.Desk.{Does, Ends, Works};
+ghost use Rattle.mime_tool.specs.Environment.{known_environment};
 ghost use Rattle.mime_tool.specs.Icon.{AreIconsOf, IsIcon, IsIconOver, RefusesIcons, printed_icons};
 ghost use Rattle.mime_tool.specs.Run.{printed};
+ghost use Rattle.mime_tool.specs.Sources.{IsSourceCommand};
 
 use crate::cache::stopped_for;
 use crate::desk::Desk;
+use crate::environment::Environment;
+use crate::sources::{path_of, read_source};
 use crate::status::ANSWERED;
 use crate::stop::Stop;
 use crate::type_names::{refuse, type_name};
 use mime_base::{Counted, TypeName};
 use mime_lookup::{Icons, icon_of};
+use mime_request::Source;
 use std::alloc::Global;
 
-/// Prints `icon: NAME` and `generic: NAME` for a type, by the cache at this path, and gives the status.
+/// Prints `icon: NAME` and `generic: NAME` for a type, by a cache, and gives the status.
 ///
 /// A word that is no type name is reported, before the cache is read.
-pub(crate) fn icon<D: Desk>(desk: &mut D, path: &str, kind: &str) -> Result<u8, Stop>
-    ensures { Works (Ends (IsIcon (D.state desk.old).stored path.now kind.now) [])
+pub(crate) fn icon<D: Desk>(
+    desk: &mut D,
+    environment: Option<Environment<'_>>,
+    source: &Source<'_>,
+    kind: &str,
+) -> Result<u8, Stop>
+    ensures { Works (Ends (IsIcon (D.state desk.old).stored (known_environment environment.entry) (plain_source source.now) kind.now) [])
         (D.state desk.old) (D.state desk.new) result }
 {
     let Some(name) = type_name(desk.alloc(), kind)? else {
         return refuse(desk, kind);
     };
-    icon_by(desk, path, &name)
+    icon_by(desk, environment, source, &name)
 }
 
-fn icon_by<D: Desk>(desk: &mut D, path: &str, kind: &TypeName) -> Result<u8, Stop>
-    ensures { Works (Ends (IsCacheCommand (D.state desk.old).stored path.now (IsIconOver path.now kind.now)) [])
-        (D.state desk.old) (D.state desk.new) result }
+fn icon_by<D: Desk>(
+    desk: &mut D,
+    environment: Option<Environment<'_>>,
+    source: &Source<'_>,
+    kind: &TypeName,
+) -> Result<u8, Stop>
+    ensures { Works (Ends (IsSourceCommand (D.state desk.old).stored (known_environment environment.entry) (plain_source source.now)
+        (λ path. IsIconOver path kind.now)) []) (D.state desk.old) (D.state desk.new) result }
 {
-    let cache = desk.read_bytes(path)?;
-    answer(desk, path, cache.as_slice(), kind)
+    let cache = read_source(desk, environment, source)?;
+    answer(desk, path_of(source), cache.as_slice(), kind)
 }
 
 fn answer<D: Desk>(desk: &mut D, path: &str, cache: &[u8], kind: &TypeName) -> Result<u8, Stop>

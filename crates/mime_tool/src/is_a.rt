@@ -1,26 +1,38 @@
 //! The command `isa`: whether one type is another, by a cache.
 
 ghost use Rattle.std.specs.Prelude.{◌≡◌, []};
-ghost use Rattle.mime_tool.specs.Cache.{GivesOrRefuses, IsCacheCommand};
+ghost use Rattle.mime_request.specs.Request.{plain_source};
+ghost use Rattle.mime_tool.specs.Cache.{GivesOrRefuses};
 ghost use Rattle.mime_tool.specs.Desk.{Does, Ends, Works};
+ghost use Rattle.mime_tool.specs.Environment.{known_environment};
 ghost use Rattle.mime_tool.specs.IsA.{IsAnswerOver, IsIsA, IsSaid, RefusesPairs, answer_run};
 ghost use Rattle.mime_tool.specs.Run.{printed};
+ghost use Rattle.mime_tool.specs.Sources.{IsSourceCommand};
 
 use crate::cache::stopped_for;
 use crate::desk::Desk;
+use crate::environment::Environment;
+use crate::sources::{path_of, read_source};
 use crate::status::{ANSWERED, NOT_ANSWERED};
 use crate::stop::Stop;
 use crate::type_names::{refuse, type_name};
 use mime_base::{Counted, TypeName};
+use mime_request::Source;
 use std::alloc::Global;
 
-/// Prints `yes` where the type is the base or a subclass of it, by the cache at this path, else `no`,
+/// Prints `yes` where the type is the base or a subclass of it, by a cache, else `no`,
 /// and gives the status: that of a file that was answered, or that of one that wasn't.
 ///
 /// The first of the two words that is no type name is reported, before the cache is read.
-pub(crate) fn is_a<D: Desk>(desk: &mut D, path: &str, kind: &str, base: &str) -> Result<u8, Stop>
-    ensures { Works (Ends (IsIsA (D.state desk.old).stored path.now kind.now base.now) [])
-        (D.state desk.old) (D.state desk.new) result }
+pub(crate) fn is_a<D: Desk>(
+    desk: &mut D,
+    environment: Option<Environment<'_>>,
+    source: &Source<'_>,
+    kind: &str,
+    base: &str,
+) -> Result<u8, Stop>
+    ensures { Works (Ends (IsIsA (D.state desk.old).stored (known_environment environment.entry) (plain_source source.now)
+        kind.now base.now) []) (D.state desk.old) (D.state desk.new) result }
 {
     let Some(kind_name) = type_name(desk.alloc(), kind)? else {
         return refuse(desk, kind);
@@ -28,15 +40,21 @@ pub(crate) fn is_a<D: Desk>(desk: &mut D, path: &str, kind: &str, base: &str) ->
     let Some(base_name) = type_name(desk.alloc(), base)? else {
         return refuse(desk, base);
     };
-    is_a_by(desk, path, &kind_name, &base_name)
+    is_a_by(desk, environment, source, &kind_name, &base_name)
 }
 
-fn is_a_by<D: Desk>(desk: &mut D, path: &str, kind: &TypeName, base: &TypeName) -> Result<u8, Stop>
-    ensures { Works (Ends (IsCacheCommand (D.state desk.old).stored path.now (IsAnswerOver path.now kind.now base.now)) [])
-        (D.state desk.old) (D.state desk.new) result }
+fn is_a_by<D: Desk>(
+    desk: &mut D,
+    environment: Option<Environment<'_>>,
+    source: &Source<'_>,
+    kind: &TypeName,
+    base: &TypeName,
+) -> Result<u8, Stop>
+    ensures { Works (Ends (IsSourceCommand (D.state desk.old).stored (known_environment environment.entry) (plain_source source.now)
+        (λ path. IsAnswerOver path kind.now base.now)) []) (D.state desk.old) (D.state desk.new) result }
 {
-    let cache = desk.read_bytes(path)?;
-    answer(desk, path, cache.as_slice(), kind, base)
+    let cache = read_source(desk, environment, source)?;
+    answer(desk, path_of(source), cache.as_slice(), kind, base)
 }
 
 fn answer<D: Desk>(

@@ -8,7 +8,7 @@
 //! let mut out = Stream(rt.stdout());
 //! let mut err = Stream(rt.stderr());
 //! let words = ["plain", "--name-only", "-d", "", "a"];
-//! let status = run(alloc, &words, &mut files, &mut out, &mut err);
+//! let status = run(alloc, &words, None, &mut files, &mut out, &mut err);
 //! ```
 //!
 //! This prints `a: application/octet-stream`, and the status is 0.
@@ -22,6 +22,7 @@ mod build;
 mod cache;
 mod desk;
 mod directories;
+mod environment;
 mod files;
 mod from_texts;
 mod icon;
@@ -31,12 +32,14 @@ mod list;
 mod plain;
 mod program;
 mod sink;
+mod sources;
 mod status;
 mod stop;
 mod system;
 mod type_names;
 mod types;
 
+pub use environment::Environment;
 pub use files::{FileFault, Files};
 pub use from_texts::{AnswerFault, DirBytes, OwnedAnswer, answer};
 pub use program::run;

@@ -14,7 +14,7 @@ use crate::desk::{Desk, report};
 use crate::status::{ANSWERED, NOT_ANSWERED};
 use crate::stop::Stop;
 use lookup::find;
-pub(crate) use lookup::{Cost, Lookup, Source, order_of};
+pub(crate) use lookup::{Cost, Data, Lookup, order_of};
 use std::alloc::{AllocError, Global};
 
 /// What a FILE comes to.

@@ -8,28 +8,37 @@ ghost use Rattle.mime_base.specs.Database.{PlainDatabase};
 ghost use Rattle.mime_base.specs.Format.Packed.{Packed};
 ghost use Rattle.mime_base.specs.Format.Spells.{Spells};
 ghost use Rattle.mime_view.specs.Listing.{plain_listed};
+ghost use Rattle.mime_request.specs.Request.{plain_source};
 ghost use Rattle.mime_tool.specs.Cache.{GivesOrRefuses};
 ghost use Rattle.mime_tool.specs.Desk.{Does, Ends, Works};
+ghost use Rattle.mime_tool.specs.Environment.{known_environment};
 ghost use Rattle.mime_tool.specs.List.{AreRulesOf, HasListedRules, IsList, IsListFault, IsListOver};
 ghost use Rattle.mime_tool.specs.List.{RefusesRules, cased_mark, rule_line};
 ghost use Rattle.mime_tool.specs.Run.{printed};
 
 use crate::cache::faulty;
 use crate::desk::Desk;
+use crate::environment::Environment;
+use crate::sources::{path_of, read_source};
 use crate::status::ANSWERED;
 use crate::stop::Stop;
 use mime_base::{Counted, Meter};
+use mime_request::Source;
 use mime_view::{Budget, Cache, CacheFault, Listed};
 use std::alloc::Global;
 
-/// Prints a line `WEIGHT:TYPE:PATTERN` for each glob rule of the cache at this path, and `:cs` behind
-/// one that is case-sensitive, and gives the status. Where the cache is refused nothing is printed.
-pub(crate) fn list<D: Desk>(desk: &mut D, path: &str) -> Result<u8, Stop>
-    ensures { Works (Ends (IsList (D.state desk.old).stored path.now) [])
+/// Prints a line `WEIGHT:TYPE:PATTERN` for each glob rule of a cache, and `:cs` behind one that is
+/// case-sensitive, and gives the status. Where the cache is refused nothing is printed.
+pub(crate) fn list<D: Desk>(
+    desk: &mut D,
+    environment: Option<Environment<'_>>,
+    source: &Source<'_>,
+) -> Result<u8, Stop>
+    ensures { Works (Ends (IsList (D.state desk.old).stored (known_environment environment.entry) (plain_source source.now)) [])
         (D.state desk.old) (D.state desk.new) result }
 {
-    let cache = desk.read_bytes(path)?;
-    list_cache(desk, path, cache.as_slice())
+    let cache = read_source(desk, environment, source)?;
+    list_cache(desk, path_of(source), cache.as_slice())
 }
 
 fn list_cache<D: Desk>(desk: &mut D, path: &str, cache: &[u8]) -> Result<u8, Stop>

@@ -1,33 +1,36 @@
 //! The command `plain`: the types of files, from the text files of data directories.
 
 ghost use Rattle.clap.specs.Walk.{texts};
+ghost use Rattle.mime_request.specs.Request.{plain_directories};
 ghost use Rattle.mime_tool.specs.Desk.{Ends, Works};
+ghost use Rattle.mime_tool.specs.Environment.{known_environment};
 ghost use Rattle.mime_tool.specs.Plain.{IsPlain};
 
 use crate::desk::Desk;
 use crate::directories::load;
-use crate::line::{Lookup, Source, order_of, print_lines};
+use crate::environment::Environment;
+use crate::line::{Data, Lookup, order_of, print_lines};
 use crate::stop::Stop;
+use mime_request::{Directories, Options};
 
 /// Prints a line `FILE: TYPE` for each file, by the data of the directories, and gives the status.
 ///
-/// With `name_only` no file is opened. With `magic_first` content of high priority decides before
-/// the names. A file that has no line is reported.
+/// A file that has no line is reported.
 pub(crate) fn print_types<D: Desk>(
     desk: &mut D,
-    directories: &[&str],
-    name_only: bool,
-    magic_first: bool,
+    environment: Option<Environment<'_>>,
+    directories: &Directories<'_>,
+    options: Options,
     files: &[&str],
 ) -> Result<u8, Stop>
-    ensures { Works (Ends (IsPlain (D.state desk.old).stored (texts directories.now)
-        name_only magic_first) (texts files.now)) (D.state desk.old) (D.state desk.new) result }
+    ensures { Works (Ends (IsPlain (D.state desk.old).stored (known_environment environment.entry)
+        (plain_directories directories.now) options) (texts files.now)) (D.state desk.old) (D.state desk.new) result }
 {
-    let database = load(desk, directories)?;
+    let database = load(desk, environment, directories)?;
     let lookup = Lookup {
-        source: Source::Database(&database),
-        name_only,
-        order: order_of(magic_first),
+        by: Data::Database(&database),
+        name_only: options.name_only,
+        order: order_of(options.magic_first),
     };
     print_lines(desk, lookup, files)
 }

@@ -1,26 +1,21 @@
 //! The whole program: from words, files and sinks to written bytes and an exit status. This
 //! project's own.
 
-ghost use Rattle.std.specs.Prelude.{◌≡◌, ◌≢◌, ℕ, Bool, List, [], false, is_some, map, true};
+ghost use Rattle.std.specs.Prelude.{◌≡◌, ◌≢◌, [], false, is_some, map, true};
 ghost use Rattle.clap.specs.Values.{kind_of};
-ghost use Rattle.mime_request.specs.Request.{asks, meaning_of, parts, plain_request};
-ghost use Rattle.mime_request.specs.Spelling.{AreUsual, build_words, icon_words, is_a_words, is_option, list_words};
-ghost use Rattle.mime_request.specs.Spelling.{plain_words, type_words};
-ghost use Rattle.mime_tool.specs.Build.{IsBuild};
+ghost use Rattle.mime_request.specs.Request.{PlainRequest, asks, meaning_of, plain_request};
 ghost use Rattle.mime_tool.specs.Desk.{Does, Ends, Works};
+ghost use Rattle.mime_tool.specs.Environment.{known_environment};
 ghost use Rattle.mime_tool.specs.Finish.{Finishes};
-ghost use Rattle.mime_tool.specs.Icon.{IsIcon};
-ghost use Rattle.mime_tool.specs.IsA.{IsIsA};
-ghost use Rattle.mime_tool.specs.List.{IsList};
-ghost use Rattle.mime_tool.specs.Plain.{IsPlain};
-ghost use Rattle.mime_tool.specs.Program.{Answers, IsAnswer, IsShown, Leaves, files_of, is_help, shown};
+ghost use Rattle.mime_tool.specs.Program.{Answers, IsAnswer, IsAskedRun, IsShown, Leaves, asked_files, files_of, is_help};
+ghost use Rattle.mime_tool.specs.Program.{shown};
 ghost use Rattle.mime_tool.specs.Run.{printed};
 ghost use Rattle.mime_tool.specs.Sink.{IsHandedOn, Wrote};
 ghost use Rattle.mime_tool.specs.Stop.{IsFlushed};
-ghost use Rattle.mime_tool.specs.Types.{IsType};
 
 use crate::build::build;
 use crate::desk::{Desk, Streams};
+use crate::environment::Environment;
 use crate::files::Files;
 use crate::icon::icon;
 use crate::is_a::is_a;
@@ -37,6 +32,9 @@ use std::convert::AsStr;
 
 /// Runs the program on the words after its name, and gives the exit status.
 ///
+/// Data directories that are not named are the user's, by `environment`; it is `None` where some
+/// variable of it is not text.
+///
 /// The status is 0 where every file was answered, a cache was stored, what was asked of a cache was
 /// printed, or help was shown; 1 where some file can't be opened or read or has a name that is too
 /// long, or `isa` says no; 2 where the words are wrong; 3 where the data or the cache can't be read or
@@ -46,92 +44,55 @@ use std::convert::AsStr;
 pub fn run<F: Files, O: Sink, E: Sink, S: AsStr>(
     alloc: Global,
     words: &[S],
+    environment: Option<Environment<'_>>,
     files: &mut F,
     out: &mut O,
     err: &mut E,
 ) -> u8
     // Whatever the words mean, where it is known what standard output holds.
     ensures answers { is_some (O.holds out.old) ≡ true
-        → Finishes (IsAnswer (F.writes files.old) (F.tells files.old) (F.tells files.new)
+        → Finishes (IsAnswer (known_environment environment.entry) (F.writes files.old) (F.tells files.old) (F.tells files.new)
         (meaning_of (map S.text words.now)))
         (files_of (meaning_of (map S.text words.now)))
         (E.capacity err.old) (record { out = O.holds out.old; err = E.holds err.old })
         (record { out = O.holds out.new; err = E.holds err.new }) result }
 
-    // `plain -d DIRS [--name-only] [--magic-first] FILE...`, with no word of the parser of command lines.
-    ensures plain { is_some (O.holds out.old) ≡ true
-        → (dirs : List ℕ) (name_only magic_first : Bool) (names : List (List ℕ))
-        → map S.text words.now ≡ plain_words dirs name_only magic_first names → AreUsual dirs names
-        → Finishes (IsPlain (F.tells files.old) (parts dirs) name_only magic_first) names
-        (E.capacity err.old) (record { out = O.holds out.old; err = E.holds err.old })
-        (record { out = O.holds out.new; err = E.holds err.new }) result }
-
-    // `build -d DIRS -o FILE`, likewise.
-    ensures build { is_some (O.holds out.old) ≡ true
-        → (dirs file : List ℕ) → map S.text words.now ≡ build_words dirs file
-        → is_option dirs ≡ false → is_option file ≡ false
-        → Finishes (IsBuild (parts dirs) file (F.writes files.old) (F.tells files.old) (F.tells files.new)) []
-        (E.capacity err.old) (record { out = O.holds out.old; err = E.holds err.old })
-        (record { out = O.holds out.new; err = E.holds err.new }) result }
-
-    // `list -c CACHE`
-    ensures list { is_some (O.holds out.old) ≡ true
-        → (cache : List ℕ) → map S.text words.now ≡ list_words cache → is_option cache ≡ false
-        → Finishes (IsList (F.tells files.old) cache) []
-        (E.capacity err.old) (record { out = O.holds out.old; err = E.holds err.old })
-        (record { out = O.holds out.new; err = E.holds err.new }) result }
-
-    // `isa -c CACHE TYPE BASE`
-    ensures is_a { is_some (O.holds out.old) ≡ true
-        → (cache kind base : List ℕ) → map S.text words.now ≡ is_a_words cache kind base
-        → is_option cache ≡ false → is_option kind ≡ false → is_option base ≡ false
-        → Finishes (IsIsA (F.tells files.old) cache kind base) []
-        (E.capacity err.old) (record { out = O.holds out.old; err = E.holds err.old })
-        (record { out = O.holds out.new; err = E.holds err.new }) result }
-
-    // `icon -c CACHE TYPE`
-    ensures icon { is_some (O.holds out.old) ≡ true
-        → (cache kind : List ℕ) → map S.text words.now ≡ icon_words cache kind
-        → is_option cache ≡ false → is_option kind ≡ false
-        → Finishes (IsIcon (F.tells files.old) cache kind) []
-        (E.capacity err.old) (record { out = O.holds out.old; err = E.holds err.old })
-        (record { out = O.holds out.new; err = E.holds err.new }) result }
-
-    // `type -c CACHE [--name-only] [--cost] [--magic-first] FILE...`
-    ensures type_of { is_some (O.holds out.old) ≡ true
-        → (cache : List ℕ) (name_only cost magic_first : Bool) (names : List (List ℕ))
-        → map S.text words.now ≡ type_words cache name_only cost magic_first names → AreUsual cache names
-        → Finishes (IsType (F.tells files.old) cache name_only cost magic_first) names
+    // The same of words that ask for something; what usual words ask for is told by the laws of `mime_request`.
+    ensures asked { is_some (O.holds out.old) ≡ true
+        → (q : PlainRequest) → meaning_of (map S.text words.now) ≡ asks q
+        → Finishes (IsAskedRun (known_environment environment.entry) (F.writes files.old) (F.tells files.old) (F.tells files.new) q)
+        (asked_files q)
         (E.capacity err.old) (record { out = O.holds out.old; err = E.holds err.old })
         (record { out = O.holds out.new; err = E.holds err.new }) result }
 
     // What is left stored, however the run ends: all that was, but for what `build` replaces.
-    ensures leaves { Leaves (meaning_of (map S.text words.now)) (F.tells files.old) (F.tells files.new) }
+    ensures leaves { Leaves (known_environment environment.entry) (meaning_of (map S.text words.now)) (F.tells files.old) (F.tells files.new) }
 
     // The last that standard output was asked is to hand on what it held back.
     ensures flushed { is_some (O.holds out.old) ≡ true → IsHandedOn result (O.flushed out.new) }
 {
-    finish(alloc, words, files, out, err)
+    finish(alloc, words, environment, files, out, err)
 }
 
 // Does what the words ask for, hands on what was printed, and says why it stopped.
 fn finish<F: Files, O: Sink, E: Sink, S: AsStr>(
     alloc: Global,
     words: &[S],
+    environment: Option<Environment<'_>>,
     files: &mut F,
     out: &mut O,
     err: &mut E,
 ) -> u8
     ensures answers { is_some (O.holds out.old) ≡ true
-        → Finishes (IsAnswer (F.writes files.old) (F.tells files.old) (F.tells files.new)
+        → Finishes (IsAnswer (known_environment environment.entry) (F.writes files.old) (F.tells files.old) (F.tells files.new)
         (meaning_of (map S.text words.now)))
         (files_of (meaning_of (map S.text words.now)))
         (E.capacity err.old) (record { out = O.holds out.old; err = E.holds err.old })
         (record { out = O.holds out.new; err = E.holds err.new }) result }
-    ensures leaves { Leaves (meaning_of (map S.text words.now)) (F.tells files.old) (F.tells files.new) }
+    ensures leaves { Leaves (known_environment environment.entry) (meaning_of (map S.text words.now)) (F.tells files.old) (F.tells files.new) }
     ensures flushed { is_some (O.holds out.old) ≡ true → IsHandedOn result (O.flushed out.new) }
 {
-    let ended = perform(alloc, words, files, out, err);
+    let ended = perform(alloc, words, environment, files, out, err);
     match flush_after(ended, out) {
         Ok(status) => status,
         Err(stop) => tell(&stop, err),
@@ -142,18 +103,19 @@ fn finish<F: Files, O: Sink, E: Sink, S: AsStr>(
 fn perform<F: Files, O: Sink, E: Sink, S: AsStr>(
     alloc: Global,
     words: &[S],
+    environment: Option<Environment<'_>>,
     files: &mut F,
     out: &mut O,
     err: &mut E,
 ) -> Result<u8, Stop>
     ensures ended { Ends
-        (IsAnswer (F.writes files.old) (F.tells files.old) (F.tells files.new)
+        (IsAnswer (known_environment environment.entry) (F.writes files.old) (F.tells files.old) (F.tells files.new)
         (meaning_of (map S.text words.now)))
         (files_of (meaning_of (map S.text words.now)))
         (record { out = O.holds out.old; err = E.holds err.old })
         (record { out = O.holds out.new; err = E.holds err.new }) result }
     ensures capacity { E.capacity err.new ≡ E.capacity err.old }
-    ensures leaves { Leaves (meaning_of (map S.text words.now)) (F.tells files.old) (F.tells files.new) }
+    ensures leaves { Leaves (known_environment environment.entry) (meaning_of (map S.text words.now)) (F.tells files.old) (F.tells files.new) }
 {
     let mut desk = Streams {
         alloc,
@@ -161,7 +123,7 @@ fn perform<F: Files, O: Sink, E: Sink, S: AsStr>(
         out,
         err,
     };
-    answer_words(&mut desk, words)
+    answer_words(&mut desk, words, environment)
 }
 
 // Hands on what was printed, also before a stop.
@@ -177,50 +139,43 @@ fn flush_after<O: Sink>(ended: Result<u8, Stop>, out: &mut O) -> Result<u8, Stop
 }
 
 // Does what the words ask for, or shows help or what is wrong with them.
-fn answer_words<D: Desk, S: AsStr>(desk: &mut D, words: &[S]) -> Result<u8, Stop>
-    ensures { Answers (meaning_of (map S.text words.now))
+fn answer_words<D: Desk, S: AsStr>(
+    desk: &mut D,
+    words: &[S],
+    environment: Option<Environment<'_>>,
+) -> Result<u8, Stop>
+    ensures { Answers (known_environment environment.entry) (meaning_of (map S.text words.now))
         (D.state desk.old) (D.state desk.new) result }
 {
     match request_of(desk.alloc(), words) {
-        Ok(request) => answer(desk, &request),
+        Ok(request) => answer(desk, environment, &request),
         Err(error) => show(desk, error),
     }
 }
 
-fn answer<D: Desk>(desk: &mut D, request: &Request<'_>) -> Result<u8, Stop>
-    ensures { Answers (asks (plain_request request.now)) (D.state desk.old) (D.state desk.new) result }
+fn answer<D: Desk>(
+    desk: &mut D,
+    environment: Option<Environment<'_>>,
+    request: &Request<'_>,
+) -> Result<u8, Stop>
+    ensures { Answers (known_environment environment.entry) (asks (plain_request request.now))
+        (D.state desk.old) (D.state desk.new) result }
 {
     match request {
-        Request::Build { directories, file } => build(desk, directories.as_slice(), *file),
+        Request::Build { directories, file } => build(desk, environment, directories, *file),
         Request::Plain {
             directories,
-            name_only,
-            magic_first,
+            options,
             files,
-        } => plain::print_types(
-            desk,
-            directories.as_slice(),
-            *name_only,
-            *magic_first,
-            files.as_slice(),
-        ),
-        Request::List { cache } => list(desk, *cache),
-        Request::IsA { cache, kind, base } => is_a(desk, *cache, *kind, *base),
-        Request::Icon { cache, kind } => icon(desk, *cache, *kind),
+        } => plain::print_types(desk, environment, directories, *options, files.as_slice()),
+        Request::List { source } => list(desk, environment, source),
+        Request::IsA { source, kind, base } => is_a(desk, environment, source, *kind, *base),
+        Request::Icon { source, kind } => icon(desk, environment, source, *kind),
         Request::Type {
-            cache,
-            name_only,
-            cost,
-            magic_first,
+            source,
+            options,
             files,
-        } => types::print_types(
-            desk,
-            *cache,
-            *name_only,
-            *cost,
-            *magic_first,
-            files.as_slice(),
-        ),
+        } => types::print_types(desk, environment, source, *options, files.as_slice()),
     }
 }
 

@@ -7,5 +7,6 @@ mod files;
 mod from_texts;
 mod ran;
 mod rows;
+mod sources;
 mod system;
 mod texts;

@@ -2,7 +2,9 @@
 //! system's files and the standard streams go to [`run`], which gives the exit status.
 #![tactic(auto)]
 
-use mime_tool::{Stream, SystemFiles, run};
+use mime_tool::{Environment, Stream, SystemFiles, run};
+use std::alloc::AllocError;
+use std::env::VarError;
 use std::io::{BufWriter, ErrorKind};
 use std::process::ExitCode;
 use std::{env, io};
@@ -27,10 +29,58 @@ fn main(rt: HostRuntime) -> ExitCode {
 fn run_system(rt: &HostRuntime) -> io::Result<u8> {
     let alloc = rt.alloc();
     let words = env::args(rt)?.skip(1).collect::<Vec<String>>(alloc)?;
+    let variables = match Variables::read(rt) {
+        Ok(variables) => Some(variables),
+        Err(VarError::OutOfMemory) => return Err(io::Error::from(AllocError)),
+        Err(_) => None,
+    };
+    let environment = variables.as_ref().map(|variables| variables.environment());
     let mut files = SystemFiles::new(rt);
     let mut out = Stream(BufWriter::with_capacity(alloc, BUFFER, rt.stdout())?);
     let mut err = Stream(rt.stderr());
-    Ok(run(alloc, words.as_slice(), &mut files, &mut out, &mut err))
+    Ok(run(
+        alloc,
+        words.as_slice(),
+        environment,
+        &mut files,
+        &mut out,
+        &mut err,
+    ))
+}
+
+// The variables that name data directories, each if it is set.
+#[derive(Drop)]
+struct Variables {
+    data_home: Option<String>,
+    home: Option<String>,
+    data_dirs: Option<String>,
+}
+
+impl Variables {
+    // An error tells that memory ran out, or that some variable is no text.
+    fn read(rt: &HostRuntime) -> Result<Variables, VarError> {
+        Ok(Variables {
+            data_home: variable(rt, "XDG_DATA_HOME")?,
+            home: variable(rt, "HOME")?,
+            data_dirs: variable(rt, "XDG_DATA_DIRS")?,
+        })
+    }
+
+    fn environment(&self) -> Environment<'_> {
+        Environment {
+            data_home: self.data_home.as_deref(),
+            home: self.home.as_deref(),
+            data_dirs: self.data_dirs.as_deref(),
+        }
+    }
+}
+
+fn variable(rt: &HostRuntime, name: &str) -> Result<Option<String>, VarError> {
+    match env::var(rt, name) {
+        Ok(text) => Ok(Some(text)),
+        Err(VarError::NotPresent) => Ok(None),
+        Err(error) => Err(error),
+    }
 }
 
 // Says why there was no run.

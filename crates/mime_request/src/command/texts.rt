@@ -12,9 +12,10 @@ pub(crate) const MIMELOOK: HelpTexts<'static> = HelpTexts {
     about: "Tells the MIME types of files",
     usage: "mimelook <COMMAND>",
     after_help: "\
-Messages go to standard error. The --help of a command says more of its exit statuses.
-A pipe can't be opened or read, as FILE, cache or text file; nor can /dev/stdin if it
-is one.
+Messages go to standard error. The --help of a command says more of its exit
+statuses. Without -c CACHE and -d DIRS, each command asks the user's data
+directories: XDG_DATA_HOME, or else .local/share below HOME, and then those of
+XDG_DATA_DIRS, or else /usr/local/share and /usr/share.
 
 Exit status:
   0  what was asked for was done; or help or the version was printed
@@ -24,43 +25,46 @@ Exit status:
   4  out of memory
 
 Examples:
+  $ mimelook type notes.txt
+  notes.txt: text/plain
   $ mimelook type -c /usr/share/mime/mime.cache notes.txt
   notes.txt: text/plain
-  $ mimelook plain -d /usr/local/share:/usr/share notes.txt
-  notes.txt: text/plain
-  $ mimelook build -d /usr/local/share:/usr/share -o /usr/share/mime/mime.cache",
+  $ mimelook build -d /usr/local/share:/usr/share -o mime.cache",
 };
 
 pub(crate) const BUILD: HelpTexts<'static> = HelpTexts {
     about: "Writes a mime.cache from the text files of data directories",
-    usage: "mimelook build -d DIRS -o FILE",
+    usage: "mimelook build [-d DIRS] -o FILE",
     after_help: "\
 Messages go to standard error. The files are DIR/mime/globs2, magic, aliases,
-subclasses, icons and generic-icons; a missing one counts as empty.
+subclasses, icons and generic-icons; a missing one counts as empty. Without -d
+the directories are the user's (see mimelook --help).
 
 Exit status:
   0  FILE was written; or help was printed
   2  the command line is wrong, or a word of it is not UTF-8
-  3  the data can't be read or is refused, the database is too large, or FILE can't
-     be written
+  3  the data can't be read or is refused, the database is too large, or FILE
+     can't be written
   4  out of memory
 
 Example:
-  $ mimelook build -d /usr/local/share:/usr/share -o /usr/share/mime/mime.cache",
+  $ mimelook build -d /usr/local/share:/usr/share -o mime.cache",
 };
 
 pub(crate) const PLAIN: HelpTexts<'static> = HelpTexts {
-    about: "Prints a line FILE: TYPE for each FILE, from the text files of data directories",
-    usage: "mimelook plain -d DIRS [--name-only] [--magic-first] FILE...",
+    about: "Prints FILE: TYPE for each FILE, with no cache between",
+    usage: "mimelook plain [-d DIRS] [--name-only] [--magic-first] FILE...",
     after_help: "\
 Messages go to standard error. The files are DIR/mime/globs2, magic, aliases,
-subclasses, icons and generic-icons; a missing one counts as empty.
-A FILE that is not UTF-8 refuses the whole call. A FILE that is a pipe can't be opened.
+subclasses, icons and generic-icons; a missing one counts as empty. Without -d
+the directories are the user's (see mimelook --help).
+A FILE that is not UTF-8 refuses the whole call. A FILE that is a pipe can't be
+opened.
 
 Exit status:
   0  every FILE was answered; or help was printed
-  1  some FILE can't be opened or read, or its name is too long (above 4096 bytes);
-     the others were answered
+  1  some FILE can't be opened or read, or its name is too long (above 4096
+     bytes); the others were answered
   2  the command line is wrong, or a word of it is not UTF-8
   3  the data can't be read or is refused, or the output can't be written
   4  out of memory
@@ -72,14 +76,16 @@ Example:
 
 pub(crate) const LIST: HelpTexts<'static> = HelpTexts {
     about: "Prints a line WEIGHT:TYPE:PATTERN for each glob rule of a cache",
-    usage: "mimelook list -c CACHE",
+    usage: "mimelook list [-c CACHE | -d DIRS]",
     after_help: "\
-Messages go to standard error. A line ends in :cs where the rule is case-sensitive.
+Messages go to standard error. A line ends in :cs where the rule is
+case-sensitive. With -d the cache is made of DIRS, as build makes it; without -c
+and -d, of the user's data directories (see mimelook --help).
 
 Exit status:
   0  every rule was printed; or help was printed
   2  the command line is wrong, or a word of it is not UTF-8
-  3  CACHE can't be read or is refused, or the output can't be written
+  3  the data can't be read or is refused, or the output can't be written
   4  out of memory
 
 Example:
@@ -88,73 +94,95 @@ Example:
 };
 
 pub(crate) const IS_A: HelpTexts<'static> = HelpTexts {
-    about: "Prints yes where TYPE is BASE or is derived from it, by a cache, and else no",
-    usage: "mimelook isa -c CACHE TYPE BASE",
+    about: "Prints yes where TYPE is BASE or is derived from it, and else no",
+    usage: "mimelook isa [-c CACHE | -d DIRS] TYPE BASE",
     after_help: "\
-Messages go to standard error. TYPE is BASE where they are the same type, or a parent
-of TYPE in CACHE is BASE. Any text type is text/plain, and any type but those of inode
-is application/octet-stream. TYPE and BASE may be aliases.
+Messages go to standard error. TYPE is BASE where they are the same type, or a
+parent of TYPE is BASE. Any text type is text/plain, and any type but those of
+inode is application/octet-stream. TYPE and BASE may be aliases. With -d the
+cache is made of DIRS, as build makes it; without -c and -d, of the user's data
+directories (see mimelook --help).
 
 Exit status:
   0  yes was printed; or help was printed
   1  no was printed
-  2  the command line is wrong, a word of it is not UTF-8, or TYPE or BASE is no type
-  3  CACHE can't be read or is refused, or the output can't be written
+  2  the command line is wrong, a word of it is not UTF-8, or TYPE or BASE is no
+     type
+  3  the data can't be read or is refused, or the output can't be written
   4  out of memory
 
 Example:
-  $ mimelook isa -c /usr/share/mime/mime.cache text/html text/plain
+  $ mimelook isa text/html text/plain
   yes",
 };
 
 pub(crate) const ICON: HelpTexts<'static> = HelpTexts {
-    about: "Prints the icon and the generic icon of a type, from a cache",
-    usage: "mimelook icon -c CACHE TYPE",
+    about: "Prints the icon and the generic icon of a type",
+    usage: "mimelook icon [-c CACHE | -d DIRS] TYPE",
     after_help: "\
-Messages go to standard error. Where CACHE names no icon, it is TYPE with - in place
-of /; the generic one is then the part before the / and -x-generic. TYPE may be an alias.
+Messages go to standard error. Where the cache names no icon, it is TYPE with -
+in place of /; the generic one is then the part before the / and -x-generic.
+TYPE may be an alias. With -d the cache is made of DIRS, as build makes it;
+without -c and -d, of the user's data directories (see mimelook --help).
 
 Exit status:
   0  both were printed; or help was printed
   2  the command line is wrong, a word of it is not UTF-8, or TYPE is no type
-  3  CACHE can't be read or is refused, or the output can't be written
+  3  the data can't be read or is refused, or the output can't be written
   4  out of memory
 
 Example:
-  $ mimelook icon -c /usr/share/mime/mime.cache text/html
+  $ mimelook icon text/html
   icon: text-html
   generic: text-x-generic",
 };
 
 pub(crate) const TYPE: HelpTexts<'static> = HelpTexts {
-    about: "Prints a line FILE: TYPE for each FILE, from a cache",
-    usage: "mimelook type -c CACHE [--name-only] [--cost] [--magic-first] FILE...",
+    about: "Prints FILE: TYPE for each FILE, by a cache",
+    usage: "\
+mimelook type [-c CACHE | -d DIRS] [--name-only] [--cost]
+                     [--magic-first] FILE...",
     after_help: "\
-Messages go to standard error. A FILE that is not UTF-8 refuses the whole call.
-A FILE that is a pipe can't be opened, and a CACHE that is one can't be read.
+Messages go to standard error. With -d the cache is made of DIRS, as build makes
+it; without -c and -d, of the user's data directories (see mimelook --help).
+A FILE that is not UTF-8 refuses the whole call. A FILE that is a pipe can't be
+opened, and a CACHE that is one can't be read.
 
 Exit status:
   0  every FILE was answered; or help was printed
-  1  some FILE can't be opened or read, or its name is too long (above 4096 bytes);
-     the others were answered
+  1  some FILE can't be opened or read, or its name is too long (above 4096
+     bytes); the others were answered
   2  the command line is wrong, or a word of it is not UTF-8
-  3  CACHE can't be read or is refused, or the output can't be written
+  3  the data can't be read or is refused, or the output can't be written
   4  out of memory
 
 Example:
-  $ mimelook type -c /usr/share/mime/mime.cache notes.txt
+  $ mimelook type notes.txt
   notes.txt: text/plain",
 };
 
 pub(crate) const DIRS: &str = "\
-Data directories, most preferred first, with colons between them, such as
-/usr/local/share:/usr/share; an empty part is passed over";
+Data directories, most preferred first, with colons
+between them, such as /usr/local/share:/usr/share; an
+empty part is skipped";
 
 pub(crate) const OUTPUT: &str = "\
-The cache to write, such as /usr/share/mime/mime.cache;
-it is written as FILE.new and then renamed";
+The cache to write; it is written as FILE.new and then
+renamed";
+
+pub(crate) const FILES: &str = "\
+The files to tell the types of; put -- before one that begins
+with -";
 
 pub(crate) const COST: &str = "\
-Print behind each TYPE what the answer cost: nodes=N, records of CACHE that were
-visited; bytes=B, bytes that were read or compared; read=R, bytes of FILE that
+Print behind each TYPE what the answer cost: nodes=N,
+records of the cache that were visited; bytes=B, bytes
+that were read or compared; read=R, bytes of FILE that
 were read";
+
+pub(crate) const NAME_ONLY: &str = "\
+Go by the names alone: no FILE is opened";
+
+pub(crate) const MAGIC_FIRST: &str = "\
+Let content of high priority (80 or more) decide
+before names";

@@ -4,11 +4,10 @@ ghost use Rattle.clap.specs.Words.{found_of, rows_of};
 ghost use Rattle.mime_request.specs.Request.{Means, icon_meaning, is_a_meaning, list_meaning, type_meaning};
 
 use super::Request;
-use super::found::{files_of, given, is_on, value_of};
+use super::data::source_of;
+use super::found::{files_of, given, options_of};
 use clap::{ArgMatches, Error};
 use std::alloc::Global;
-
-const GIVE_CACHE: &str = "give -c CACHE";
 
 const GIVE_TYPE: &str = "give a TYPE";
 
@@ -18,8 +17,8 @@ pub(super) fn request_of_list<'a>(
 ) -> Result<Request<'a>, Error>
     ensures { Means (list_meaning (rows_of (found_of matches.now))) result }
 {
-    let cache = given(alloc, matches, "cache", GIVE_CACHE)?;
-    Ok(Request::List { cache })
+    let source = source_of(alloc, matches)?;
+    Ok(Request::List { source })
 }
 
 pub(super) fn request_of_is_a<'a>(
@@ -28,10 +27,10 @@ pub(super) fn request_of_is_a<'a>(
 ) -> Result<Request<'a>, Error>
     ensures { Means (is_a_meaning (rows_of (found_of matches.now))) result }
 {
-    let cache = given(alloc, matches, "cache", GIVE_CACHE)?;
+    let source = source_of(alloc, matches)?;
     let kind = given(alloc, matches, "type", GIVE_TYPE)?;
     let base = given(alloc, matches, "base", "give a BASE")?;
-    Ok(Request::IsA { cache, kind, base })
+    Ok(Request::IsA { source, kind, base })
 }
 
 pub(super) fn request_of_icon<'a>(
@@ -40,9 +39,9 @@ pub(super) fn request_of_icon<'a>(
 ) -> Result<Request<'a>, Error>
     ensures { Means (icon_meaning (rows_of (found_of matches.now))) result }
 {
-    let cache = given(alloc, matches, "cache", GIVE_CACHE)?;
+    let source = source_of(alloc, matches)?;
     let kind = given(alloc, matches, "type", GIVE_TYPE)?;
-    Ok(Request::Icon { cache, kind })
+    Ok(Request::Icon { source, kind })
 }
 
 pub(super) fn request_of_type<'a>(
@@ -51,13 +50,11 @@ pub(super) fn request_of_type<'a>(
 ) -> Result<Request<'a>, Error>
     ensures { Means (type_meaning (rows_of (found_of matches.now))) result }
 {
-    let cache = given(alloc, matches, "cache", GIVE_CACHE)?;
+    let source = source_of(alloc, matches)?;
     let files = files_of(alloc, matches)?;
     Ok(Request::Type {
-        cache,
-        name_only: is_on(value_of(matches, "name-only")),
-        cost: is_on(value_of(matches, "cost")),
-        magic_first: is_on(value_of(matches, "magic-first")),
+        source,
+        options: options_of(matches),
         files,
     })
 }

@@ -5,8 +5,9 @@ ghost use Rattle.clap.specs.Words.{all_of, first_of, found_of, rows_of, subcomma
 ghost use Rattle.clap.specs.Walk.{texts};
 ghost use Rattle.clap.specs.Kinds.{HasKind};
 ghost use Rattle.clap.specs.Values.{kind_of};
-ghost use Rattle.mime_request.specs.Request.{is_on, missing};
+ghost use Rattle.mime_request.specs.Request.{is_on, missing, options_in};
 
+use super::Options;
 use crate::command::mimelook_command;
 use clap::error::ErrorKind;
 use clap::{ArgMatches, Error};
@@ -69,7 +70,18 @@ fn values_of<'m, 'a>(matches: &'m ArgMatches<'a>, id: &str) -> Option<&'m [&'a s
     matches.get_strs(id)
 }
 
-pub(super) fn is_on(flag: Option<&str>) -> bool
+// The options that are given.
+pub(super) fn options_of(matches: &ArgMatches<'_>) -> Options
+    ensures { result ≡ options_in (rows_of (found_of matches.now)) }
+{
+    Options {
+        name_only: is_on(value_of(matches, "name-only")),
+        magic_first: is_on(value_of(matches, "magic-first")),
+        cost: is_on(value_of(matches, "cost")),
+    }
+}
+
+fn is_on(flag: Option<&str>) -> bool
     ensures { result ≡ is_on (option_map (λ s. s.now) flag.entry) }
 {
     match flag {

@@ -2,14 +2,20 @@
 
 ghost use Rattle.std.specs.Prelude.{◌≡◌, false};
 ghost use Rattle.clap.specs.Walk.{Text};
-ghost use Rattle.mime_request.specs.Request.{asks, build, meaning_of, parts};
-ghost use Rattle.mime_request.specs.Spelling.{build_words, build_words_output_first, is_option};
+ghost use Rattle.mime_request.specs.Request.{asks, build, meaning_of, named, parts, user};
+ghost use Rattle.mime_request.specs.Spelling.{build_words, build_words_of_user, build_words_output_first, is_option};
 
 /// `build -d DIRS -o FILE` asks for a cache of the directories of DIRS in their order, to be written
 /// to this file.
 pub fn usual_spelling_of_build()
     ensures { (dirs file : Text) → is_option dirs ≡ false → is_option file ≡ false
-        → meaning_of (build_words dirs file) ≡ asks (build (parts dirs) file) }
+        → meaning_of (build_words dirs file) ≡ asks (build (named (parts dirs)) file) }
+{}
+
+/// `build -o FILE` asks for a cache of the user's directories.
+pub fn spelling_of_build_of_user()
+    ensures { (file : Text) → is_option file ≡ false
+        → meaning_of (build_words_of_user file) ≡ asks (build user file) }
 {}
 
 /// `build -o FILE -d DIRS` asks for the same.

@@ -17,7 +17,7 @@ use std::alloc::Global;
 
 /// What FILEs are looked up in.
 #[derive(Clone, Copy)]
-pub(crate) enum Source<'a> {
+pub(crate) enum Data<'a> {
     Database(&'a Database),
     Cache {
         path: &'a str,
@@ -30,7 +30,7 @@ pub(crate) enum Source<'a> {
 /// How FILEs are looked up.
 #[derive(Clone, Copy)]
 pub(crate) struct Lookup<'a> {
-    pub(crate) source: Source<'a>,
+    pub(crate) by: Data<'a>,
     /// Whether by their names alone: then none is opened.
     pub(crate) name_only: bool,
     pub(crate) order: Order,
@@ -65,13 +65,13 @@ pub(super) fn find<'a, R: Content + Drop>(
         → LooksUp (plain_lookup lookup.entry) stored file.now result }
 {
     let Lookup {
-        source,
+        by,
         name_only: _,
         order,
     } = lookup;
-    match source {
-        Source::Database(database) => find_in_database(alloc, database, order, file, content),
-        Source::Cache { path, bytes, cost } => {
+    match by {
+        Data::Database(database) => find_in_database(alloc, database, order, file, content),
+        Data::Cache { path, bytes, cost } => {
             find_in_cache(alloc, path, bytes, cost, order, file, content)
         }
     }

@@ -1,7 +1,7 @@
 //! Runs of the program, and values that have to be alike.
 
 use crate::{Entry, FailingSink, Shelf};
-use mime_tool::{Files, Sink, SinkFault, run};
+use mime_tool::{Environment, Files, Sink, SinkFault, run};
 use std::alloc::Global;
 use std::fmt::Debug;
 use std::process::Abort;
@@ -12,6 +12,13 @@ pub fn alike<T: PartialEq + Debug + Drop>(rt: &impl Abort, name: &str, found: T,
     assert_eq!(rt; found, wanted, "{name}");
 }
 
+/// Variables of the environment, of which none is set.
+pub const UNSET: Environment<'static> = Environment {
+    data_home: None,
+    home: None,
+    data_dirs: None,
+};
+
 /// A run, of which nothing is known.
 pub fn ran<F: Files, O: Sink, E: Sink>(
     alloc: Global,
@@ -20,7 +27,7 @@ pub fn ran<F: Files, O: Sink, E: Sink>(
     out: &mut O,
     err: &mut E,
 ) -> u8 {
-    run(alloc, words, files, out, err)
+    run(alloc, words, Some(UNSET), files, out, err)
 }
 
 /// A run's status, and what it prints and says.

@@ -1,4 +1,4 @@
-//! What the words of the commands over a cache ask for.
+//! What the words of the commands over a cache ask for, and words without a source.
 
 use crate::tests::checked::alike;
 use mime_request::{Request, request_of};
@@ -14,100 +14,163 @@ struct Asked {
     request: &'static str,
 }
 
-static LISTS: [Asked; 4] = [
+static USERS: [Asked; 2] = [
+    Asked {
+        name: "build of the user's directories",
+        words: &["build", "-o", "c"],
+        request: r#"Build { directories: User, file: "c" }"#,
+    },
+    Asked {
+        name: "plain of the user's directories",
+        words: &["plain", "--name-only", "x"],
+        request: r#"Plain { directories: User, options: Options { name_only: true, magic_first: false, cost: false }, files: ["x"] }"#,
+    },
+];
+
+static LISTS: [Asked; 7] = [
+    Asked {
+        name: "no source",
+        words: &["list"],
+        request: r#"List { source: Directories(User) }"#,
+    },
+    Asked {
+        name: "DIRS",
+        words: &["list", "-d", "b::a"],
+        request: r#"List { source: Directories(Named(["b", "a"])) }"#,
+    },
+    Asked {
+        name: "long names",
+        words: &["list", "--data-dirs="],
+        request: r#"List { source: Directories(Named([])) }"#,
+    },
     Asked {
         name: "usual words",
         words: &["list", "-c", "c"],
-        request: r#"List { cache: "c" }"#,
+        request: r#"List { source: Cache("c") }"#,
     },
     Asked {
         name: "CACHE in the option's word",
         words: &["list", "-cc/d"],
-        request: r#"List { cache: "c/d" }"#,
+        request: r#"List { source: Cache("c/d") }"#,
     },
     Asked {
         name: "empty CACHE",
         words: &["list", "-c", ""],
-        request: r#"List { cache: "" }"#,
+        request: r#"List { source: Cache("") }"#,
     },
     Asked {
         name: "command's name",
         words: &["list", "-c", "list"],
-        request: r#"List { cache: "list" }"#,
+        request: r#"List { source: Cache("list") }"#,
     },
 ];
 
-static IS_AS: [Asked; 6] = [
+static IS_AS: [Asked; 8] = [
+    Asked {
+        name: "no source",
+        words: &["isa", "t/h", "t/m"],
+        request: r#"IsA { source: Directories(User), kind: "t/h", base: "t/m" }"#,
+    },
+    Asked {
+        name: "DIRS between",
+        words: &["isa", "t/h", "-da", "t/m"],
+        request: r#"IsA { source: Directories(Named(["a"])), kind: "t/h", base: "t/m" }"#,
+    },
     Asked {
         name: "usual words",
         words: &["isa", "-c", "c", "t/h", "t/m"],
-        request: r#"IsA { cache: "c", kind: "t/h", base: "t/m" }"#,
+        request: r#"IsA { source: Cache("c"), kind: "t/h", base: "t/m" }"#,
     },
     Asked {
         name: "-c last",
         words: &["isa", "t/h", "t/m", "-c", "c"],
-        request: r#"IsA { cache: "c", kind: "t/h", base: "t/m" }"#,
+        request: r#"IsA { source: Cache("c"), kind: "t/h", base: "t/m" }"#,
     },
     Asked {
         name: "-c between",
         words: &["isa", "t/h", "-cc", "t/m"],
-        request: r#"IsA { cache: "c", kind: "t/h", base: "t/m" }"#,
+        request: r#"IsA { source: Cache("c"), kind: "t/h", base: "t/m" }"#,
     },
     Asked {
         name: "words that are no types",
         words: &["isa", "-c", "c", "h", ""],
-        request: r#"IsA { cache: "c", kind: "h", base: "" }"#,
+        request: r#"IsA { source: Cache("c"), kind: "h", base: "" }"#,
     },
     Asked {
         name: "hyphens",
         words: &["isa", "-c", "c", "--", "-h", "--cost"],
-        request: r#"IsA { cache: "c", kind: "-h", base: "--cost" }"#,
+        request: r#"IsA { source: Cache("c"), kind: "-h", base: "--cost" }"#,
     },
     Asked {
         name: "command's name",
         words: &["isa", "-c", "isa", "isa", "isa"],
-        request: r#"IsA { cache: "isa", kind: "isa", base: "isa" }"#,
+        request: r#"IsA { source: Cache("isa"), kind: "isa", base: "isa" }"#,
     },
 ];
 
-static ICONS: [Asked; 3] = [
+static ICONS: [Asked; 5] = [
+    Asked {
+        name: "no source",
+        words: &["icon", "t/h"],
+        request: r#"Icon { source: Directories(User), kind: "t/h" }"#,
+    },
+    Asked {
+        name: "DIRS",
+        words: &["icon", "-d", "a", "t/h"],
+        request: r#"Icon { source: Directories(Named(["a"])), kind: "t/h" }"#,
+    },
     Asked {
         name: "usual words",
         words: &["icon", "-c", "c", "t/h"],
-        request: r#"Icon { cache: "c", kind: "t/h" }"#,
+        request: r#"Icon { source: Cache("c"), kind: "t/h" }"#,
     },
     Asked {
         name: "-c last",
         words: &["icon", "t/h", "-c", "c"],
-        request: r#"Icon { cache: "c", kind: "t/h" }"#,
+        request: r#"Icon { source: Cache("c"), kind: "t/h" }"#,
     },
     Asked {
         name: "a word that is no type",
         words: &["icon", "-c", "c", "h"],
-        request: r#"Icon { cache: "c", kind: "h" }"#,
+        request: r#"Icon { source: Cache("c"), kind: "h" }"#,
     },
 ];
 
-static TYPES: [Asked; 10] = [
+static TYPES: [Asked; 13] = [
+    Asked {
+        name: "no source",
+        words: &["type", "x"],
+        request: r#"Type { source: Directories(User), options: Options { name_only: false, magic_first: false, cost: false }, files: ["x"] }"#,
+    },
+    Asked {
+        name: "DIRS",
+        words: &["type", "-d", "a", "--cost", "x"],
+        request: r#"Type { source: Directories(Named(["a"])), options: Options { name_only: false, magic_first: false, cost: true }, files: ["x"] }"#,
+    },
+    Asked {
+        name: "CACHE in long",
+        words: &["type", "--cache", "c", "x"],
+        request: r#"Type { source: Cache("c"), options: Options { name_only: false, magic_first: false, cost: false }, files: ["x"] }"#,
+    },
     Asked {
         name: "no flag",
         words: &["type", "-c", "c", "x", "y"],
-        request: r#"Type { cache: "c", name_only: false, cost: false, magic_first: false, files: ["x", "y"] }"#,
+        request: r#"Type { source: Cache("c"), options: Options { name_only: false, magic_first: false, cost: false }, files: ["x", "y"] }"#,
     },
     Asked {
         name: "names alone",
         words: &["type", "-c", "c", "--name-only", "x"],
-        request: r#"Type { cache: "c", name_only: true, cost: false, magic_first: false, files: ["x"] }"#,
+        request: r#"Type { source: Cache("c"), options: Options { name_only: true, magic_first: false, cost: false }, files: ["x"] }"#,
     },
     Asked {
         name: "cost",
         words: &["type", "-c", "c", "--cost", "x"],
-        request: r#"Type { cache: "c", name_only: false, cost: true, magic_first: false, files: ["x"] }"#,
+        request: r#"Type { source: Cache("c"), options: Options { name_only: false, magic_first: false, cost: true }, files: ["x"] }"#,
     },
     Asked {
         name: "magic first",
         words: &["type", "-c", "c", "--magic-first", "x"],
-        request: r#"Type { cache: "c", name_only: false, cost: false, magic_first: true, files: ["x"] }"#,
+        request: r#"Type { source: Cache("c"), options: Options { name_only: false, magic_first: true, cost: false }, files: ["x"] }"#,
     },
     Asked {
         name: "all flags",
@@ -120,7 +183,7 @@ static TYPES: [Asked; 10] = [
             "--magic-first",
             "x",
         ],
-        request: r#"Type { cache: "c", name_only: true, cost: true, magic_first: true, files: ["x"] }"#,
+        request: r#"Type { source: Cache("c"), options: Options { name_only: true, magic_first: true, cost: true }, files: ["x"] }"#,
     },
     Asked {
         name: "flags the other way round",
@@ -133,27 +196,27 @@ static TYPES: [Asked; 10] = [
             "c",
             "x",
         ],
-        request: r#"Type { cache: "c", name_only: true, cost: true, magic_first: true, files: ["x"] }"#,
+        request: r#"Type { source: Cache("c"), options: Options { name_only: true, magic_first: true, cost: true }, files: ["x"] }"#,
     },
     Asked {
         name: "options last",
         words: &["type", "x", "y", "--cost", "-cc/d"],
-        request: r#"Type { cache: "c/d", name_only: false, cost: true, magic_first: false, files: ["x", "y"] }"#,
+        request: r#"Type { source: Cache("c/d"), options: Options { name_only: false, magic_first: false, cost: true }, files: ["x", "y"] }"#,
     },
     Asked {
         name: "hyphens",
         words: &["type", "-c", "c", "--", "-x", "--"],
-        request: r#"Type { cache: "c", name_only: false, cost: false, magic_first: false, files: ["-x", "--"] }"#,
+        request: r#"Type { source: Cache("c"), options: Options { name_only: false, magic_first: false, cost: false }, files: ["-x", "--"] }"#,
     },
     Asked {
         name: "command's name",
         words: &["type", "-c", "type", "type"],
-        request: r#"Type { cache: "type", name_only: false, cost: false, magic_first: false, files: ["type"] }"#,
+        request: r#"Type { source: Cache("type"), options: Options { name_only: false, magic_first: false, cost: false }, files: ["type"] }"#,
     },
     Asked {
         name: "empty FILE",
         words: &["type", "-c", "c", ""],
-        request: r#"Type { cache: "c", name_only: false, cost: false, magic_first: false, files: [""] }"#,
+        request: r#"Type { source: Cache("c"), options: Options { name_only: false, magic_first: false, cost: false }, files: [""] }"#,
     },
 ];
 
@@ -175,6 +238,11 @@ fn asks(rt: &impl Abort, alloc: Global, rows: &[Asked]) -> Result<(), Fail> {
         alike(rt, row.name, found.as_str(), row.request);
     }
     Ok(())
+}
+
+#[test]
+fn asks_for_the_users_directories(rt: HostRuntime) -> Result<(), Fail> {
+    asks(&rt, rt.alloc(), &USERS)
 }
 
 #[test]

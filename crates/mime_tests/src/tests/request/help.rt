@@ -12,17 +12,15 @@ const OF_MIMELOOK: &str = "Tells the MIME types of files";
 
 const OF_BUILD: &str = "Writes a mime.cache from the text files of data directories";
 
-const OF_PLAIN: &str =
-    "Prints a line FILE: TYPE for each FILE, from the text files of data directories";
+const OF_PLAIN: &str = "Prints FILE: TYPE for each FILE, with no cache between";
 
 const OF_LIST: &str = "Prints a line WEIGHT:TYPE:PATTERN for each glob rule of a cache";
 
-const OF_IS_A: &str =
-    "Prints yes where TYPE is BASE or is derived from it, by a cache, and else no";
+const OF_IS_A: &str = "Prints yes where TYPE is BASE or is derived from it, and else no";
 
-const OF_ICON: &str = "Prints the icon and the generic icon of a type, from a cache";
+const OF_ICON: &str = "Prints the icon and the generic icon of a type";
 
-const OF_TYPE: &str = "Prints a line FILE: TYPE for each FILE, from a cache";
+const OF_TYPE: &str = "Prints FILE: TYPE for each FILE, by a cache";
 
 /// Words, and the first line of the help that answers them.
 struct Help {

@@ -18,7 +18,7 @@ struct Refused {
     kind: ErrorKind,
 }
 
-static REFUSED: [Refused; 24] = [
+static REFUSED: [Refused; 22] = [
     Refused {
         name: "no words",
         words: &[],
@@ -55,11 +55,6 @@ static REFUSED: [Refused; 24] = [
         kind: ErrorKind::MissingRequiredArgument,
     },
     Refused {
-        name: "no -d",
-        words: &["plain", "--name-only", "x"],
-        kind: ErrorKind::MissingRequiredArgument,
-    },
-    Refused {
         name: "-d without DIRS",
         words: &["plain", "--name-only", "x", "-d"],
         kind: ErrorKind::InvalidValue,
@@ -72,11 +67,6 @@ static REFUSED: [Refused; 24] = [
     Refused {
         name: "no -o",
         words: &["build", "-d", "a"],
-        kind: ErrorKind::MissingRequiredArgument,
-    },
-    Refused {
-        name: "no -d of build",
-        words: &["build", "-o", "c"],
         kind: ErrorKind::MissingRequiredArgument,
     },
     Refused {
@@ -171,7 +161,7 @@ error: unexpected argument '--names' found
 
   tip: a similar argument exists: '--name-only'
 
-Usage: mimelook plain -d DIRS [--name-only] [--magic-first] FILE...
+Usage: mimelook plain [-d DIRS] [--name-only] [--magic-first] FILE...
 
 For more information, try '--help'.
 ";

@@ -1,7 +1,7 @@
 //! What words ask for: a cache that is built, or the types of files.
 
 use clap::Error;
-use mime_request::{Request, request_of};
+use mime_request::{Directories, Request, request_of};
 use std::process::Abort;
 
 #[derive(Clone, Copy)]
@@ -12,7 +12,13 @@ struct Built {
     file: &'static str,
 }
 
-static BUILT: [Built; 7] = [
+static BUILT: [Built; 8] = [
+    Built {
+        name: "long names",
+        words: &["build", "--output", "c", "--data-dirs=b:a"],
+        directories: &["b", "a"],
+        file: "c",
+    },
     Built {
         name: "two directories",
         words: &["build", "-d", "b:a", "-o", "c"],
@@ -57,11 +63,19 @@ static BUILT: [Built; 7] = [
     },
 ];
 
+/// Whether these directories are named.
+fn are_named(directories: &Directories<'_>, wanted: &[&str]) -> bool {
+    match directories {
+        Directories::Named(found) => found.as_slice() == wanted,
+        Directories::User => false,
+    }
+}
+
 /// Whether a request is the one of a row.
 fn is_built(row: &Built, request: &Request<'_>) -> bool {
     match request {
         Request::Build { directories, file } => {
-            directories.as_slice() == row.directories && *file == row.file
+            are_named(directories, row.directories) && *file == row.file
         }
         _ => false,
     }
@@ -225,13 +239,13 @@ fn is_asked(row: &Asked, request: &Request<'_>) -> bool {
     match request {
         Request::Plain {
             directories,
-            name_only,
-            magic_first,
+            options,
             files,
         } => {
-            directories.as_slice() == row.directories
-                && *name_only == row.name_only
-                && *magic_first == row.magic_first
+            are_named(directories, row.directories)
+                && options.name_only == row.name_only
+                && options.magic_first == row.magic_first
+                && !options.cost
                 && files.as_slice() == row.files
         }
         _ => false,

@@ -3,6 +3,8 @@ use Rattle.std.proofs.lemmas.Result.{err_from_is_err_and}
 use Rattle.clap.specs.Walk.{texts}
 use Rattle.mime_base.specs.Database.{plain_database}
 use Rattle.mime_base.specs.declared.database.Database.{Database}
+use Rattle.mime_request.specs.Request.{plain_directories}
+use Rattle.mime_tool.specs.Environment.{known_environment}
 use Rattle.mime_tool.specs.Plain.{AreTypeLines}
 use Rattle.mime_tool.proofs.Commands.{command_over, command_unloaded}
 use Rattle.mime_tool.proofs.Lines.{no_lines}
@@ -13,13 +15,12 @@ returns-in_err-database g c =
     let e = err_from_is_err_and c.from_residual.result c.from_residual.ensures.1 in
     let load = c.in_err-database.ensures in
     let stored = (g.D.Desk.state c.args.desk.now).stored in
-    let name_only = c.args.name_only in
-    let magic_first = c.args.magic_first in
     rw (e.1, e.2) (record {
       same_files = load.same_files;
       same_setting = load.same_setting;
-      sinks = command_unloaded Database plain_database stored (texts c.args.directories.now) (AreTypeLines stored name_only magic_first)
-          (texts c.args.files.now) _ _ _ (no_lines stored name_only magic_first) load.sinks;
+      sinks = command_unloaded Database plain_database stored (known_environment c.args.environment)
+          (plain_directories c.args.directories.now) (AreTypeLines stored c.args.options) (texts c.args.files.now) _ _ _
+          (no_lines stored c.args.options) load.sinks;
     })
 
 pub returns : goal.returns
@@ -28,12 +29,11 @@ returns g c =
     let lines = c.print_lines.ensures in
     let here = rw (load.same_files, c.order_of.ensures) at lines in
     let stored = (g.D.Desk.state c.args.desk.now).stored in
-    let name_only = c.args.name_only in
-    let magic_first = c.args.magic_first in
     record {
       same_files = lines.same_files ∙ load.same_files;
       same_setting = lines.same_setting ∙ load.same_setting;
-      sinks = command_over Database plain_database stored (texts c.args.directories.now) (AreTypeLines stored name_only magic_first)
-          (texts c.args.files.now) c.in_ok-database.database _ _ _ _
-          (no_lines stored name_only magic_first (plain_database c.in_ok-database.database)) load.sinks here.sinks;
+      sinks = command_over Database plain_database stored (known_environment c.args.environment)
+          (plain_directories c.args.directories.now) (AreTypeLines stored c.args.options) (texts c.args.files.now)
+          c.in_ok-database.database _ _ _ _ (no_lines stored c.args.options (plain_database c.in_ok-database.database)) load.sinks
+          here.sinks;
     }

@@ -12,19 +12,20 @@ Usage: mimelook <COMMAND>
 
 Commands:
   build  Writes a mime.cache from the text files of data directories
-  plain  Prints a line FILE: TYPE for each FILE, from the text files of data directories
+  plain  Prints FILE: TYPE for each FILE, with no cache between
   list   Prints a line WEIGHT:TYPE:PATTERN for each glob rule of a cache
-  isa    Prints yes where TYPE is BASE or is derived from it, by a cache, and else no
-  icon   Prints the icon and the generic icon of a type, from a cache
-  type   Prints a line FILE: TYPE for each FILE, from a cache
+  isa    Prints yes where TYPE is BASE or is derived from it, and else no
+  icon   Prints the icon and the generic icon of a type
+  type   Prints FILE: TYPE for each FILE, by a cache
 
 Options:
   -h, --help     Print help
   -V, --version  Print version
 
-Messages go to standard error. The --help of a command says more of its exit statuses.
-A pipe can't be opened or read, as FILE, cache or text file; nor can /dev/stdin if it
-is one.
+Messages go to standard error. The --help of a command says more of its exit
+statuses. Without -c CACHE and -d DIRS, each command asks the user's data
+directories: XDG_DATA_HOME, or else .local/share below HOME, and then those of
+XDG_DATA_DIRS, or else /usr/local/share and /usr/share.
 
 Exit status:
   0  what was asked for was done; or help or the version was printed
@@ -34,62 +35,69 @@ Exit status:
   4  out of memory
 
 Examples:
+  $ mimelook type notes.txt
+  notes.txt: text/plain
   $ mimelook type -c /usr/share/mime/mime.cache notes.txt
   notes.txt: text/plain
-  $ mimelook plain -d /usr/local/share:/usr/share notes.txt
-  notes.txt: text/plain
-  $ mimelook build -d /usr/local/share:/usr/share -o /usr/share/mime/mime.cache
+  $ mimelook build -d /usr/local/share:/usr/share -o mime.cache
 ";
 
 const BUILD_HELP: &str = "\
 Writes a mime.cache from the text files of data directories
 
-Usage: mimelook build -d DIRS -o FILE
+Usage: mimelook build [-d DIRS] -o FILE
 
 Options:
-  -d <DIRS>   Data directories, most preferred first, with colons between them, such as
-              /usr/local/share:/usr/share; an empty part is passed over
-  -o <FILE>   The cache to write, such as /usr/share/mime/mime.cache;
-              it is written as FILE.new and then renamed
-  -h, --help  Print help
+  -d, --data-dirs <DIRS>  Data directories, most preferred first, with colons
+                          between them, such as /usr/local/share:/usr/share; an
+                          empty part is skipped
+  -o, --output <FILE>     The cache to write; it is written as FILE.new and then
+                          renamed
+  -h, --help              Print help
 
 Messages go to standard error. The files are DIR/mime/globs2, magic, aliases,
-subclasses, icons and generic-icons; a missing one counts as empty.
+subclasses, icons and generic-icons; a missing one counts as empty. Without -d
+the directories are the user's (see mimelook --help).
 
 Exit status:
   0  FILE was written; or help was printed
   2  the command line is wrong, or a word of it is not UTF-8
-  3  the data can't be read or is refused, the database is too large, or FILE can't
-     be written
+  3  the data can't be read or is refused, the database is too large, or FILE
+     can't be written
   4  out of memory
 
 Example:
-  $ mimelook build -d /usr/local/share:/usr/share -o /usr/share/mime/mime.cache
+  $ mimelook build -d /usr/local/share:/usr/share -o mime.cache
 ";
 
 const PLAIN_HELP: &str = "\
-Prints a line FILE: TYPE for each FILE, from the text files of data directories
+Prints FILE: TYPE for each FILE, with no cache between
 
-Usage: mimelook plain -d DIRS [--name-only] [--magic-first] FILE...
+Usage: mimelook plain [-d DIRS] [--name-only] [--magic-first] FILE...
 
 Arguments:
-  <FILE>...  The files to tell the types of; put -- before one that begins with -
+  <FILE>...  The files to tell the types of; put -- before one that begins
+             with -
 
 Options:
-  -d <DIRS>          Data directories, most preferred first, with colons between them, such as
-                     /usr/local/share:/usr/share; an empty part is passed over
-      --name-only    Go by the names alone: no FILE is opened
-      --magic-first  Let content of high priority (80 or more) decide before names
-  -h, --help         Print help
+  -d, --data-dirs <DIRS>  Data directories, most preferred first, with colons
+                          between them, such as /usr/local/share:/usr/share; an
+                          empty part is skipped
+      --name-only         Go by the names alone: no FILE is opened
+      --magic-first       Let content of high priority (80 or more) decide
+                          before names
+  -h, --help              Print help
 
 Messages go to standard error. The files are DIR/mime/globs2, magic, aliases,
-subclasses, icons and generic-icons; a missing one counts as empty.
-A FILE that is not UTF-8 refuses the whole call. A FILE that is a pipe can't be opened.
+subclasses, icons and generic-icons; a missing one counts as empty. Without -d
+the directories are the user's (see mimelook --help).
+A FILE that is not UTF-8 refuses the whole call. A FILE that is a pipe can't be
+opened.
 
 Exit status:
   0  every FILE was answered; or help was printed
-  1  some FILE can't be opened or read, or its name is too long (above 4096 bytes);
-     the others were answered
+  1  some FILE can't be opened or read, or its name is too long (above 4096
+     bytes); the others were answered
   2  the command line is wrong, or a word of it is not UTF-8
   3  the data can't be read or is refused, or the output can't be written
   4  out of memory

@@ -24,19 +24,9 @@ For more information, try '--help'.
 
 const NO_OUTPUT: &str = "\
 error: the following required arguments were not provided:
-  -o <FILE>
+  --output <FILE>
 
-Usage: mimelook build -d DIRS -o FILE
-
-For more information, try '--help'.
-";
-
-const NO_DIRECTORY_NO_FILE: &str = "\
-error: the following required arguments were not provided:
-  -d <DIRS>
-  <FILE>...
-
-Usage: mimelook plain -d DIRS [--name-only] [--magic-first] FILE...
+Usage: mimelook build [-d DIRS] -o FILE
 
 For more information, try '--help'.
 ";
@@ -45,30 +35,21 @@ const NO_FILE: &str = "\
 error: the following required arguments were not provided:
   <FILE>...
 
-Usage: mimelook plain -d DIRS [--name-only] [--magic-first] FILE...
-
-For more information, try '--help'.
-";
-
-const NO_DIRECTORY: &str = "\
-error: the following required arguments were not provided:
-  -d <DIRS>
-
-Usage: mimelook plain -d DIRS [--name-only] [--magic-first] FILE...
+Usage: mimelook plain [-d DIRS] [--name-only] [--magic-first] FILE...
 
 For more information, try '--help'.
 ";
 
 const NO_VALUE: &str = "\
-error: a value is required for '-d <DIRS>' but none was supplied
+error: a value is required for '--data-dirs <DIRS>' but none was supplied
 
 For more information, try '--help'.
 ";
 
 const OPTION_TWICE: &str = "\
-error: the argument '-d <DIRS>' cannot be used multiple times
+error: the argument '--data-dirs <DIRS>' cannot be used multiple times
 
-Usage: mimelook plain -d DIRS [--name-only] [--magic-first] FILE...
+Usage: mimelook plain [-d DIRS] [--name-only] [--magic-first] FILE...
 
 For more information, try '--help'.
 ";
@@ -78,12 +59,12 @@ error: unexpected argument '--cost' found
 
   tip: to pass '--cost' as a value, use '-- --cost'
 
-Usage: mimelook plain -d DIRS [--name-only] [--magic-first] FILE...
+Usage: mimelook plain [-d DIRS] [--name-only] [--magic-first] FILE...
 
 For more information, try '--help'.
 ";
 
-static MISTAKES: [Row<'static>; 9] = [
+static MISTAKES: [Row<'static>; 8] = [
     Row {
         name: "no command",
         words: &[],
@@ -103,21 +84,15 @@ static MISTAKES: [Row<'static>; 9] = [
         ..SAID
     },
     Row {
-        name: "neither -d nor FILE",
+        name: "plain alone",
         words: &["plain"],
-        err: NO_DIRECTORY_NO_FILE,
+        err: NO_FILE,
         ..SAID
     },
     Row {
         name: "no FILE",
         words: &["plain", "--name-only", "-d", ""],
         err: NO_FILE,
-        ..SAID
-    },
-    Row {
-        name: "no -d",
-        words: &["plain", "--name-only", "a"],
-        err: NO_DIRECTORY,
         ..SAID
     },
     Row {

@@ -3,12 +3,7 @@
 use super::{Refused, are_refused};
 use clap::error::ErrorKind;
 
-static REFUSED: [Refused; 23] = [
-    Refused {
-        name: "no words after list",
-        words: &["list"],
-        kind: ErrorKind::MissingRequiredArgument,
-    },
+static REFUSED: [Refused; 21] = [
     Refused {
         name: "-c without CACHE",
         words: &["list", "-c"],
@@ -25,18 +20,23 @@ static REFUSED: [Refused; 23] = [
         kind: ErrorKind::UnknownArgument,
     },
     Refused {
-        name: "an option of plain after list",
+        name: "both -c and -d",
         words: &["list", "-c", "c", "-d", "a"],
+        kind: ErrorKind::ArgumentConflict,
+    },
+    Refused {
+        name: "both in long",
+        words: &["type", "--data-dirs", "", "x", "--cache", ""],
+        kind: ErrorKind::ArgumentConflict,
+    },
+    Refused {
+        name: "an option of plain after list",
+        words: &["list", "-c", "c", "--name-only"],
         kind: ErrorKind::UnknownArgument,
     },
     Refused {
         name: "no words after isa",
         words: &["isa"],
-        kind: ErrorKind::MissingRequiredArgument,
-    },
-    Refused {
-        name: "no -c of isa",
-        words: &["isa", "t/h", "t/m"],
         kind: ErrorKind::MissingRequiredArgument,
     },
     Refused {
@@ -60,11 +60,6 @@ static REFUSED: [Refused; 23] = [
         kind: ErrorKind::ArgumentConflict,
     },
     Refused {
-        name: "no -c of icon",
-        words: &["icon", "t/h"],
-        kind: ErrorKind::MissingRequiredArgument,
-    },
-    Refused {
         name: "no TYPE of icon",
         words: &["icon", "-c", "c"],
         kind: ErrorKind::MissingRequiredArgument,
@@ -82,11 +77,6 @@ static REFUSED: [Refused; 23] = [
     Refused {
         name: "no words after type",
         words: &["type"],
-        kind: ErrorKind::MissingRequiredArgument,
-    },
-    Refused {
-        name: "no -c of type",
-        words: &["type", "x"],
         kind: ErrorKind::MissingRequiredArgument,
     },
     Refused {

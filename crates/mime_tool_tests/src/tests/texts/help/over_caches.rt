@@ -6,18 +6,23 @@ use std::test::Fail;
 const LIST_HELP: &str = "\
 Prints a line WEIGHT:TYPE:PATTERN for each glob rule of a cache
 
-Usage: mimelook list -c CACHE
+Usage: mimelook list [-c CACHE | -d DIRS]
 
 Options:
-  -c <CACHE>  The cache to read, such as /usr/share/mime/mime.cache
-  -h, --help  Print help
+  -c, --cache <CACHE>     The cache to read, such as /usr/share/mime/mime.cache
+  -d, --data-dirs <DIRS>  Data directories, most preferred first, with colons
+                          between them, such as /usr/local/share:/usr/share; an
+                          empty part is skipped
+  -h, --help              Print help
 
-Messages go to standard error. A line ends in :cs where the rule is case-sensitive.
+Messages go to standard error. A line ends in :cs where the rule is
+case-sensitive. With -d the cache is made of DIRS, as build makes it; without -c
+and -d, of the user's data directories (see mimelook --help).
 
 Exit status:
   0  every rule was printed; or help was printed
   2  the command line is wrong, or a word of it is not UTF-8
-  3  CACHE can't be read or is refused, or the output can't be written
+  3  the data can't be read or is refused, or the output can't be written
   4  out of memory
 
 Example:
@@ -26,91 +31,111 @@ Example:
 ";
 
 const IS_A_HELP: &str = "\
-Prints yes where TYPE is BASE or is derived from it, by a cache, and else no
+Prints yes where TYPE is BASE or is derived from it, and else no
 
-Usage: mimelook isa -c CACHE TYPE BASE
+Usage: mimelook isa [-c CACHE | -d DIRS] TYPE BASE
 
 Arguments:
   <TYPE>  The type that is asked about, such as text/html
   <BASE>  The type that it may be, such as text/plain
 
 Options:
-  -c <CACHE>  The cache to read, such as /usr/share/mime/mime.cache
-  -h, --help  Print help
+  -c, --cache <CACHE>     The cache to read, such as /usr/share/mime/mime.cache
+  -d, --data-dirs <DIRS>  Data directories, most preferred first, with colons
+                          between them, such as /usr/local/share:/usr/share; an
+                          empty part is skipped
+  -h, --help              Print help
 
-Messages go to standard error. TYPE is BASE where they are the same type, or a parent
-of TYPE in CACHE is BASE. Any text type is text/plain, and any type but those of inode
-is application/octet-stream. TYPE and BASE may be aliases.
+Messages go to standard error. TYPE is BASE where they are the same type, or a
+parent of TYPE is BASE. Any text type is text/plain, and any type but those of
+inode is application/octet-stream. TYPE and BASE may be aliases. With -d the
+cache is made of DIRS, as build makes it; without -c and -d, of the user's data
+directories (see mimelook --help).
 
 Exit status:
   0  yes was printed; or help was printed
   1  no was printed
-  2  the command line is wrong, a word of it is not UTF-8, or TYPE or BASE is no type
-  3  CACHE can't be read or is refused, or the output can't be written
+  2  the command line is wrong, a word of it is not UTF-8, or TYPE or BASE is no
+     type
+  3  the data can't be read or is refused, or the output can't be written
   4  out of memory
 
 Example:
-  $ mimelook isa -c /usr/share/mime/mime.cache text/html text/plain
+  $ mimelook isa text/html text/plain
   yes
 ";
 
 const ICON_HELP: &str = "\
-Prints the icon and the generic icon of a type, from a cache
+Prints the icon and the generic icon of a type
 
-Usage: mimelook icon -c CACHE TYPE
+Usage: mimelook icon [-c CACHE | -d DIRS] TYPE
 
 Arguments:
   <TYPE>  The type that is asked about, such as text/html
 
 Options:
-  -c <CACHE>  The cache to read, such as /usr/share/mime/mime.cache
-  -h, --help  Print help
+  -c, --cache <CACHE>     The cache to read, such as /usr/share/mime/mime.cache
+  -d, --data-dirs <DIRS>  Data directories, most preferred first, with colons
+                          between them, such as /usr/local/share:/usr/share; an
+                          empty part is skipped
+  -h, --help              Print help
 
-Messages go to standard error. Where CACHE names no icon, it is TYPE with - in place
-of /; the generic one is then the part before the / and -x-generic. TYPE may be an alias.
+Messages go to standard error. Where the cache names no icon, it is TYPE with -
+in place of /; the generic one is then the part before the / and -x-generic.
+TYPE may be an alias. With -d the cache is made of DIRS, as build makes it;
+without -c and -d, of the user's data directories (see mimelook --help).
 
 Exit status:
   0  both were printed; or help was printed
   2  the command line is wrong, a word of it is not UTF-8, or TYPE is no type
-  3  CACHE can't be read or is refused, or the output can't be written
+  3  the data can't be read or is refused, or the output can't be written
   4  out of memory
 
 Example:
-  $ mimelook icon -c /usr/share/mime/mime.cache text/html
+  $ mimelook icon text/html
   icon: text-html
   generic: text-x-generic
 ";
 
 const TYPE_HELP: &str = "\
-Prints a line FILE: TYPE for each FILE, from a cache
+Prints FILE: TYPE for each FILE, by a cache
 
-Usage: mimelook type -c CACHE [--name-only] [--cost] [--magic-first] FILE...
+Usage: mimelook type [-c CACHE | -d DIRS] [--name-only] [--cost]
+                     [--magic-first] FILE...
 
 Arguments:
-  <FILE>...  The files to tell the types of; put -- before one that begins with -
+  <FILE>...  The files to tell the types of; put -- before one that begins
+             with -
 
 Options:
-  -c <CACHE>         The cache to read, such as /usr/share/mime/mime.cache
-      --name-only    Go by the names alone: no FILE is opened
-      --cost         Print behind each TYPE what the answer cost: nodes=N, records of CACHE that were
-                     visited; bytes=B, bytes that were read or compared; read=R, bytes of FILE that
-                     were read
-      --magic-first  Let content of high priority (80 or more) decide before names
-  -h, --help         Print help
+  -c, --cache <CACHE>     The cache to read, such as /usr/share/mime/mime.cache
+  -d, --data-dirs <DIRS>  Data directories, most preferred first, with colons
+                          between them, such as /usr/local/share:/usr/share; an
+                          empty part is skipped
+      --name-only         Go by the names alone: no FILE is opened
+      --cost              Print behind each TYPE what the answer cost: nodes=N,
+                          records of the cache that were visited; bytes=B, bytes
+                          that were read or compared; read=R, bytes of FILE that
+                          were read
+      --magic-first       Let content of high priority (80 or more) decide
+                          before names
+  -h, --help              Print help
 
-Messages go to standard error. A FILE that is not UTF-8 refuses the whole call.
-A FILE that is a pipe can't be opened, and a CACHE that is one can't be read.
+Messages go to standard error. With -d the cache is made of DIRS, as build makes
+it; without -c and -d, of the user's data directories (see mimelook --help).
+A FILE that is not UTF-8 refuses the whole call. A FILE that is a pipe can't be
+opened, and a CACHE that is one can't be read.
 
 Exit status:
   0  every FILE was answered; or help was printed
-  1  some FILE can't be opened or read, or its name is too long (above 4096 bytes);
-     the others were answered
+  1  some FILE can't be opened or read, or its name is too long (above 4096
+     bytes); the others were answered
   2  the command line is wrong, or a word of it is not UTF-8
-  3  CACHE can't be read or is refused, or the output can't be written
+  3  the data can't be read or is refused, or the output can't be written
   4  out of memory
 
 Example:
-  $ mimelook type -c /usr/share/mime/mime.cache notes.txt
+  $ mimelook type notes.txt
   notes.txt: text/plain
 ";
 

@@ -3,28 +3,26 @@
 use crate::tests::texts::{Row, SAID, are_answered};
 use std::test::Fail;
 
-const LIST_ALONE: &str = "\
-error: the following required arguments were not provided:
-  -c <CACHE>
+const TWO_SOURCES: &str = "\
+error: give -c CACHE or -d DIRS, not both
 
-Usage: mimelook list -c CACHE
+Usage: mimelook <COMMAND>
 
 For more information, try '--help'.
 ";
 
 const NO_CACHE: &str = "\
-error: a value is required for '-c <CACHE>' but none was supplied
+error: a value is required for '--cache <CACHE>' but none was supplied
 
 For more information, try '--help'.
 ";
 
 const IS_A_ALONE: &str = "\
 error: the following required arguments were not provided:
-  -c <CACHE>
   <TYPE>
   <BASE>
 
-Usage: mimelook isa -c CACHE TYPE BASE
+Usage: mimelook isa [-c CACHE | -d DIRS] TYPE BASE
 
 For more information, try '--help'.
 ";
@@ -33,15 +31,15 @@ const NO_BASE: &str = "\
 error: the following required arguments were not provided:
   <BASE>
 
-Usage: mimelook isa -c CACHE TYPE BASE
+Usage: mimelook isa [-c CACHE | -d DIRS] TYPE BASE
 
 For more information, try '--help'.
 ";
 
 const CACHE_TWICE: &str = "\
-error: the argument '-c <CACHE>' cannot be used multiple times
+error: the argument '--cache <CACHE>' cannot be used multiple times
 
-Usage: mimelook isa -c CACHE TYPE BASE
+Usage: mimelook isa [-c CACHE | -d DIRS] TYPE BASE
 
 For more information, try '--help'.
 ";
@@ -50,7 +48,7 @@ const NO_TYPE: &str = "\
 error: the following required arguments were not provided:
   <TYPE>
 
-Usage: mimelook icon -c CACHE TYPE
+Usage: mimelook icon [-c CACHE | -d DIRS] TYPE
 
 For more information, try '--help'.
 ";
@@ -58,17 +56,17 @@ For more information, try '--help'.
 const SECOND_TYPE: &str = "\
 error: unexpected argument 't/m' found
 
-Usage: mimelook icon -c CACHE TYPE
+Usage: mimelook icon [-c CACHE | -d DIRS] TYPE
 
 For more information, try '--help'.
 ";
 
 const TYPE_ALONE: &str = "\
 error: the following required arguments were not provided:
-  -c <CACHE>
   <FILE>...
 
-Usage: mimelook type -c CACHE [--name-only] [--cost] [--magic-first] FILE...
+Usage: mimelook type [-c CACHE | -d DIRS] [--name-only] [--cost]
+                     [--magic-first] FILE...
 
 For more information, try '--help'.
 ";
@@ -77,7 +75,8 @@ const NO_FILE_OF_TYPE: &str = "\
 error: the following required arguments were not provided:
   <FILE>...
 
-Usage: mimelook type -c CACHE [--name-only] [--cost] [--magic-first] FILE...
+Usage: mimelook type [-c CACHE | -d DIRS] [--name-only] [--cost]
+                     [--magic-first] FILE...
 
 For more information, try '--help'.
 ";
@@ -85,16 +84,17 @@ For more information, try '--help'.
 const COST_TWICE: &str = "\
 error: the argument '--cost' cannot be used multiple times
 
-Usage: mimelook type -c CACHE [--name-only] [--cost] [--magic-first] FILE...
+Usage: mimelook type [-c CACHE | -d DIRS] [--name-only] [--cost]
+                     [--magic-first] FILE...
 
 For more information, try '--help'.
 ";
 
 static MISTAKES: [Row<'static>; 10] = [
     Row {
-        name: "list alone",
-        words: &["list"],
-        err: LIST_ALONE,
+        name: "both -c and -d",
+        words: &["list", "-d", "/s", "--cache", "c"],
+        err: TWO_SOURCES,
         ..SAID
     },
     Row {

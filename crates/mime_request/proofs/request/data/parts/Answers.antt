@@ -2,7 +2,7 @@ use Rattle.std.proofs.Common.{rules, lit<, length, not, ◌==◌}
 use Rattle.std.specs.Iterator.Adapters.{filter_source}
 use Rattle.std.proofs.lemmas.Iterator.Consumers.{YieldsList-from_filter, map_from_collect}
 use Rattle.std.proofs.lemmas.Iterator.Splits.{YieldsList-from_str_split}
-use Rattle.mime_request.proofs.request.directories.parts.Goals as goal
+use Rattle.mime_request.proofs.request.data.parts.Goals as goal
 
 pub returns : goal.returns
 returns c = map_from_collect _ c.collect.ensures.ran

@@ -1,7 +1,7 @@
 use Rattle.std.proofs.lemmas.Result.{err_from_is_err_and}
 use Rattle.clap.specs.Walk.{texts}
 use Rattle.mime_tool.proofs.Commands.{database_merged, database_unmerged, database_unread}
-use Rattle.mime_tool.proofs.directories.load.Goals as goal
+use Rattle.mime_tool.proofs.directories.load_these.Goals as goal
 
 pub returns-in_err-dirs : goal.returns-in_err-dirs
 returns-in_err-dirs g c =

@@ -1,0 +1,35 @@
+//! The commands over data directories.
+
+ghost use Rattle.clap.specs.Words.{found_of, rows_of};
+ghost use Rattle.mime_request.specs.Request.{Means, build_meaning, plain_meaning};
+
+use super::Request;
+use super::data::directories_of;
+use super::found::{files_of, given, options_of};
+use clap::{ArgMatches, Error};
+use std::alloc::Global;
+
+pub(super) fn request_of_build<'a>(
+    alloc: Global,
+    matches: &ArgMatches<'a>,
+) -> Result<Request<'a>, Error>
+    ensures { Means (build_meaning (rows_of (found_of matches.now))) result }
+{
+    let file = given(alloc, matches, "output", "give -o FILE")?;
+    let directories = directories_of(alloc, matches)?;
+    Ok(Request::Build { directories, file })
+}
+
+pub(super) fn request_of_plain<'a>(
+    alloc: Global,
+    matches: &ArgMatches<'a>,
+) -> Result<Request<'a>, Error>
+    ensures { Means (plain_meaning (rows_of (found_of matches.now))) result }
+{
+    let files = files_of(alloc, matches)?;
+    Ok(Request::Plain {
+        directories: directories_of(alloc, matches)?,
+        options: options_of(matches),
+        files,
+    })
+}
