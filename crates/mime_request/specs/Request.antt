@@ -71,6 +71,7 @@ source_by (Some cache) (Some dirs) = None
 abbrev pub directories_in : List Row → PlainDirectories
 directories_in rows = directories_by (first_of (codes "dirs") rows)
 
+-- the cache or the directories that the options name, unless they name both
 abbrev pub source_in : List Row → Option PlainSource
 source_in rows = source_by (first_of (codes "cache") rows) (first_of (codes "dirs") rows)
 
