@@ -52,7 +52,8 @@ ends_well o n m dirs file files few =
     (neither_fault _ _ (defaults_fit o n m dirs file files) (nothing_missing o n m dirs file files))
 
 pub rows_mean : (o : Order) (n m : Bool) (dirs file : Text) (files : List Text)
-    → plain_meaning (rows_at_end o n m dirs (file ∷ files)) ≡ asks (plain (directories_of o dirs) (record { name_only = n; magic_first = m; cost = false }) (file ∷ files))
+    → plain_meaning (rows_at_end o n m dirs (file ∷ files))
+    ≡ asks (plain (directories_of o dirs) (record { name_only = n; magic_first = m; cost = false }) (file ∷ files))
 unfolding clap_on_literals
 rows_mean directories_first true true dirs file files = refl
 rows_mean directories_first true false dirs file files = refl

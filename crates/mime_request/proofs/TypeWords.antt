@@ -106,7 +106,8 @@ type_walk n k m by file files usual =
 
 -- what `type [-c CACHE | -d DIRS] [--name-only] [--cost] [--magic-first] FILE...` means
 pub meaning_of-usual_type : (by : Named) (name_only cost magic_first : Bool) (files : List Text) → AreUsual (source_word by) files
-    → meaning_of (type_words by name_only cost magic_first files) ≡ asks (type_of (source_of by) (record { name_only = name_only; magic_first = magic_first; cost = cost }) files)
+    → meaning_of (type_words by name_only cost magic_first files)
+    ≡ asks (type_of (source_of by) (record { name_only = name_only; magic_first = magic_first; cost = cost }) files)
 meaning_of-usual_type by n k m [] usual = let never : false ≡ true = usual.plain_files in absurd (cc)
 meaning_of-usual_type by n k m (file ∷ files) usual =
     let rows = flag_rows n k m by in

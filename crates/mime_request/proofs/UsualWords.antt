@@ -22,14 +22,16 @@ usual_walk o n m dirs file files usual =
     (over_files plain_shape plain_takes (option_rows o n m dirs) (file ∷ []) files both.1)
 
 pub meaning_of-ordered : (o : Order) (n m : Bool) (dirs : Text) (files : List Text) → AreUsual dirs files
-    → meaning_of (codes "plain" ∷ option_words o n m dirs files) ≡ asks (plain (directories_of o dirs) (record { name_only = n; magic_first = m; cost = false }) files)
+    → meaning_of (codes "plain" ∷ option_words o n m dirs files)
+    ≡ asks (plain (directories_of o dirs) (record { name_only = n; magic_first = m; cost = false }) files)
 meaning_of-ordered o n m dirs [] usual = let never : false ≡ true = usual.plain_files in absurd (cc)
 meaning_of-ordered o n m dirs (file ∷ files) usual =
     meaning_of-met plain_met (option_words o n m dirs (file ∷ files)) (in_files (option_rows o n m dirs) (file ∷ files)) _
     (usual_walk o n m dirs file files usual) (ends_well o n m dirs file files usual.few) (rows_mean o n m dirs file files)
 
 pub meaning_of-usual : (dirs : Text) (name_only magic_first : Bool) (files : List Text) → AreUsual dirs files
-    → meaning_of (plain_words dirs name_only magic_first files) ≡ asks (plain (named (parts dirs)) (record { name_only = name_only; magic_first = magic_first; cost = false }) files)
+    → meaning_of (plain_words dirs name_only magic_first files)
+    ≡ asks (plain (named (parts dirs)) (record { name_only = name_only; magic_first = magic_first; cost = false }) files)
 meaning_of-usual dirs n m files usual = meaning_of-ordered directories_first n m dirs files usual
 
 pub meaning_of-plain_of_user : (name_only magic_first : Bool) (files : List Text) → AreUsual [] files

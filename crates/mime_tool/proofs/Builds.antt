@@ -17,7 +17,8 @@ use Rattle.mime_tool.proofs.BuildOvers.{can_be_over, untouched_same}
 use Rattle.mime_tool.proofs.Commands.{command_over, command_unloaded}
 
 -- a run that stops leaves the file as it was
-stops_untouched : (e : Option PlainEnvironment) (dirs : PlainDirectories) (file : List ℕ) (writes : List ℕ → List ℕ → Writing) (old new : List ℕ → Stored) (a b : Sinks)
+stops_untouched : (e : Option PlainEnvironment) (dirs : PlainDirectories) (file : List ℕ)
+    (writes : List ℕ → List ℕ → Writing) (old new : List ℕ → Stored) (a b : Sinks)
     (s : Stop) → Untouched (temp_of file) old new
     → Ends (IsCommand old e dirs (λ database _. IsBuildOver file (writing_of writes file) old new database)) [] a b (Err s)
     → Ends (IsBuild e dirs file writes old new) [] a b (Err s)
@@ -47,7 +48,8 @@ builds_unloaded e dirs file a b s p =
     }
 
 -- it is, and a run over it comes to its end
-over_loaded : (e : Option PlainEnvironment) (dirs : PlainDirectories) (file : List ℕ) (writes : List ℕ → List ℕ → Writing) (old new : List ℕ → Stored) (a c : Sinks)
+over_loaded : (e : Option PlainEnvironment) (dirs : PlainDirectories) (file : List ℕ)
+    (writes : List ℕ → List ℕ → Writing) (old new : List ℕ → Stored) (a c : Sinks)
     (database : PlainDatabase) (r : Result ℕ Stop) → LeavesOver file old new database r
     → Ends (IsCommand old e dirs (λ d _. IsBuildOver file (writing_of writes file) old new d)) [] a c r
     → Ends (IsBuild e dirs file writes old new) [] a c r
@@ -55,7 +57,8 @@ over_loaded e dirs file writes old new a c database (Ok status) leaves p =
     (p.0, (p.1, λ is. absurd (false≢true (sym p.2 ∙ is))), p.2, p.3, p.4)
 over_loaded e dirs file writes old new a c database (Err s) leaves p = stops_untouched e dirs file writes old new a c s leaves p
 
-leaves_loaded : (e : Option PlainEnvironment) (dirs : PlainDirectories) (file : List ℕ) (old new : List ℕ → Stored) (database : PlainDatabase) (messages : List ℕ)
+leaves_loaded : (e : Option PlainEnvironment) (dirs : PlainDirectories) (file : List ℕ)
+    (old new : List ℕ → Stored) (database : PlainDatabase) (messages : List ℕ)
     (r : Result ℕ Stop) → IsDatabaseOf old e dirs (Some database) messages → LeavesOver file old new database r → LeavesBuilt e dirs file old new
 leaves_loaded e dirs file old new database messages (Ok status) is leaves = inr (database, messages, is, leaves)
 leaves_loaded e dirs file old new database messages (Err s) is leaves = inl leaves

@@ -91,7 +91,8 @@ unloaded_cut stored e dirs IsOver files a b none (Some database) messages is w =
     )
 
 -- the database isn't loaded
-pub command_unloaded : (X : Type 0) (plain : X → PlainDatabase) (stored : List ℕ → Stored) (e : Option PlainEnvironment) (dirs : PlainDirectories) (IsOver : Over)
+pub command_unloaded : (X : Type 0) (plain : X → PlainDatabase) (stored : List ℕ → Stored)
+    (e : Option PlainEnvironment) (dirs : PlainDirectories) (IsOver : Over)
     (files : List (List ℕ)) (a b : Sinks) (s : Stop) → ((database : PlainDatabase) → (run : Run) × IsOver database [] run)
     → Loads plain (IsDatabaseOf stored e dirs) a b (Err s) → Ends (IsCommand stored e dirs IsOver) files a b (Err s)
 command_unloaded X plain stored e dirs IsOver files a b stop.OutOfMemory none p =
