@@ -68,7 +68,9 @@ owed_near b name Unasked = near_max (length name) (near name b.rules)
 
 -- the records and the value bytes that are left to be taken after a name was asked
 pub record AffordsRest (b : PlainDatabase) (candidates : Candidates) (budget : Budget) : Type 0 where
+  -- A record for each glob rule that is still to be asked, for each section and line of magic, and for each parent.
   pub records : owed_records b candidates + magic_records b + length b.parents ≤ budget.records
+  -- A byte for each byte of the values of magic.
   pub value_bytes : value_length b.sections ≤ budget.value_bytes
 
 -- what is owed after a name was asked: by its candidates, and nothing by a type or a fault
