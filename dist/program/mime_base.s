@@ -55,7 +55,7 @@
 	pushq	%r13
 	pushq	%r12
 	pushq	%rbx
-	subq	$24, %rsp
+	subq	$40, %rsp
 	testq	%rsi, %rsi
 	je	7f
 	movq	%r8, %rbx
@@ -119,10 +119,11 @@
 	incq	%rax
 	cmpq	%r10, %rax
 	cmovaeq	%r10, %rax
-	movq	%rbx, 16(%rsp)
-	movq	%r9, (%rsp)
-	movq	%rax, 8(%rsp)
-	movq	%r15, %r9
+	movq	%rbx, 24(%rsp)
+	movq	%r9, 8(%rsp)
+	movq	%r15, (%rsp)
+	movq	%rax, 16(%rsp)
+	xorl	%r9d, %r9d
 	callq	"mime_base::magic::ranges::value_in_windows"
 	testb	%al, %al
 	je	2b
@@ -142,7 +143,7 @@
 	xorl	%ebp, %ebp
 8:
 	movl	%ebp, %eax
-	addq	$24, %rsp
+	addq	$40, %rsp
 	popq	%rbx
 	popq	%r12
 	popq	%r13
@@ -164,245 +165,253 @@
 	pushq	%r12
 	pushq	%rbx
 	subq	$72, %rsp
-	movq	%rcx, %r14
+	movq	%rcx, %rbx
 	movq	%rdx, %r10
-	movq	%rsi, %r12
-	movq	144(%rsp), %rbx
-	movq	136(%rsp), %r11
-	movq	128(%rsp), %r15
+	movq	%rsi, %r15
+	movq	152(%rsp), %r11
+	movq	136(%rsp), %r14
+	movq	128(%rsp), %r13
 	testq	%rcx, %rcx
 	setne	%al
 	testq	%rsi, %rsi
 	sete	%cl
 	orb	%al, %cl
-	movq	%r9, 16(%rsp)
-	movq	%rdx, 8(%rsp)
-	movq	%rdi, (%rsp)
+	movq	%rdx, 16(%rsp)
+	movq	%rdi, 24(%rsp)
 	jne	3f
+	testb	%r9b, %r9b
+	je	2f
+1:
+	movzbl	(%rdi), %eax
+	leaq	(%r14,%r13), %rsi
+	movq	144(%rsp), %r13
+	subq	%r14, %r13
+	cmpq	$1, %r13
+	jne	20f
+	xorl	%edx, %edx
+	cmpb	%al, (%rsi)
+	setne	%dl
+	jmp	21f
+2:
 	cmpl	$2, %r8d
 	sete	%al
-	testb	$1, %r12b
+	testb	$1, %r15b
 	sete	%cl
 	testb	%al, %cl
 	jne	3f
 	cmpl	$4, %r8d
 	sete	%al
-	testb	$3, %r12b
+	testb	$3, %r15b
 	sete	%cl
 	testb	%al, %cl
-	jne	3f
-	movzbl	(%rdi), %eax
-	leaq	(%r9,%r15), %rsi
-	movq	%r11, %rbp
-	subq	%r15, %rbp
-	cmpq	$1, %rbp
-	jne	1f
-	xorl	%edx, %edx
-	cmpb	%al, (%rsi)
-	setne	%dl
-	jmp	2f
-1:
-	movzbl	%al, %edi
-	movq	%rbp, %rdx
-	movl	%r8d, %ebx
-	callq	"memchr::bytes::memchr"
-	movq	136(%rsp), %r11
-	movq	(%rsp), %rdi
-	movq	8(%rsp), %r10
-	movq	16(%rsp), %r9
-	movl	%ebx, %r8d
-	movq	144(%rsp), %rbx
-	testb	$1, %al
-	cmoveq	%rbp, %rdx
-2:
-	movq	8(%rbx), %rax
-	addq	%rdx, %rax
-	movq	$-1, %rcx
-	cmovaeq	%rax, %rcx
-	movq	%rcx, 8(%rbx)
-	addq	%rdx, %r15
+	je	1b
 3:
-	cmpq	%r11, %r15
-	jae	20f
-	testq	%r12, %r12
+	cmpq	144(%rsp), %r14
+	jae	22f
+4:
+	testq	%r15, %r15
 	sete	%al
-	testq	%r14, %r14
-	setne	%cl
+	testq	%rbx, %rbx
+	setne	%bpl
+	testb	%r9b, %r9b
+	sete	%cl
 	cmpl	$2, %r8d
 	sete	%dl
-	testb	$1, %r12b
+	testb	$1, %r15b
 	sete	%sil
 	andb	%dl, %sil
 	cmpl	$4, %r8d
 	sete	%dl
-	testb	$3, %r12b
+	testb	$3, %r15b
 	sete	%r8b
 	andb	%dl, %r8b
-	movzbl	%r8b, %r8d
-	leaq	(%r8,%r8,2), %rdx
-	incq	%rdx
-	testb	%sil, %sil
-	movl	$2, %r13d
-	cmoveq	%rdx, %r13
-	movq	%r13, 56(%rsp)
-	orb	%al, %cl
-	orb	%cl, %r8b
 	orb	%sil, %r8b
-	movq	%r8, 64(%rsp)
+	andb	%cl, %r8b
+	xorb	$1, %sil
+	movzbl	%sil, %ecx
+	leaq	2(,%rcx,2), %rcx
+	testb	%r8b, %r8b
+	movl	$1, %edx
+	cmovneq	%rcx, %rdx
+	movq	%rdx, 64(%rsp)
+	orb	%al, %bpl
+	orb	%r8b, %bpl
+	movb	%bpl, 15(%rsp)
 	leaq	3(%r10), %rax
-	movq	%rax, 48(%rsp)
+	movq	%rax, 56(%rsp)
 	leaq	3(%rdi), %rax
-	movq	%rax, 40(%rsp)
+	movq	%rax, 48(%rsp)
 	leaq	1(%r10), %rax
-	movq	%rax, 32(%rsp)
+	movq	%rax, 40(%rsp)
 	leaq	1(%rdi), %rax
-	movq	%rax, 24(%rsp)
-	jmp	7f
+	movq	%rax, 32(%rsp)
+	movq	144(%rsp), %r10
+	jmp	8f
 	.p2align	4
-4:
-	movzbl	%al, %edi
-	movq	%rbx, %rdx
-	callq	"memchr::bytes::memchr"
-	movq	136(%rsp), %r11
-	movq	(%rsp), %rdi
-	movq	8(%rsp), %r10
-	movq	16(%rsp), %r9
-	testb	$1, %al
-	cmoveq	%rbx, %rdx
 5:
-	addq	%rdx, %r13
-	movq	$-1, %rax
-	cmovaeq	%r13, %rax
-	movq	144(%rsp), %rbx
-	movq	%rax, 8(%rbx)
-	addq	%rdx, %r15
+	movzbl	%al, %edi
+	movq	%r13, %rdx
+	callq	"memchr::bytes::memchr"
+	movq	144(%rsp), %r10
+	movq	152(%rsp), %r11
+	movq	24(%rsp), %rdi
+	testb	$1, %al
+	cmoveq	%r13, %rdx
 6:
-	cmpq	%r11, %r15
-	jae	21f
+	addq	%rdx, %r12
+	movq	$-1, %rax
+	cmovaeq	%r12, %rax
+	movq	%rax, 8(%r11)
+	addq	%rdx, %r14
+	movq	128(%rsp), %r13
 7:
-	testq	%r12, %r12
-	je	10f
-	leaq	(%r9,%r15), %rcx
-	movq	56(%rsp), %rax
-	cmpl	$2, %eax
+	cmpq	%r10, %r14
+	jae	23f
+8:
+	testq	%r15, %r15
 	je	11f
+	leaq	(%r14,%r13), %rcx
+	movq	64(%rsp), %rax
+	cmpl	$2, %eax
+	je	12f
 	cmpl	$4, %eax
-	jne	17f
+	jne	15f
 	xorl	%edx, %edx
 	xorl	%eax, %eax
-	movq	48(%rsp), %r13
-	movq	40(%rsp), %rbp
+	movq	56(%rsp), %r12
+	movq	48(%rsp), %rbp
 	.p2align	4
-8:
+9:
 	movl	%edx, %esi
 	andl	$6, %esi
 	movq	%rax, %r8
 	subq	%rsi, %r8
 	addq	$3, %r8
-	movb	$-1, %r11b
-	cmpq	%r14, %r8
-	jae	9f
-	movq	%r13, %r8
+	movb	$-1, %r9b
+	cmpq	%rbx, %r8
+	jae	10f
+	movq	%r12, %r8
 	subq	%rsi, %r8
-	movzbl	(%r8,%rax), %r11d
-9:
+	movzbl	(%r8,%rax), %r9d
+10:
 	movq	%rbp, %r8
 	subq	%rsi, %r8
 	movzbl	(%r8,%rax), %esi
 	xorb	(%rcx,%rax), %sil
-	testb	%r11b, %sil
-	jne	15f
+	testb	%r9b, %sil
+	jne	19f
 	incq	%rax
 	addq	$2, %rdx
-	cmpq	%rax, %r12
-	jne	8b
-	jmp	14f
-	.p2align	4
-10:
-	xorl	%eax, %eax
-	jmp	16f
+	cmpq	%rax, %r15
+	jne	9b
+	jmp	18f
 	.p2align	4
 11:
-	xorl	%edx, %edx
 	xorl	%eax, %eax
-	movq	32(%rsp), %r13
-	movq	24(%rsp), %rbp
+	jmp	19f
 	.p2align	4
 12:
+	xorl	%edx, %edx
+	xorl	%eax, %eax
+	movq	40(%rsp), %r12
+	movq	32(%rsp), %rbp
+	.p2align	4
+13:
 	movl	%edx, %esi
 	andl	$2, %esi
 	movq	%rax, %r8
 	subq	%rsi, %r8
 	incq	%r8
-	movb	$-1, %r11b
-	cmpq	%r14, %r8
-	jae	13f
-	movq	%r13, %r8
+	movb	$-1, %r9b
+	cmpq	%rbx, %r8
+	jae	14f
+	movq	%r12, %r8
 	subq	%rsi, %r8
-	movzbl	(%r8,%rax), %r11d
-13:
+	movzbl	(%r8,%rax), %r9d
+14:
 	movq	%rbp, %r8
 	subq	%rsi, %r8
 	movzbl	(%r8,%rax), %esi
 	xorb	(%rcx,%rax), %sil
-	testb	%r11b, %sil
-	jne	15f
+	testb	%r9b, %sil
+	jne	19f
 	incq	%rax
 	addq	$2, %rdx
-	cmpq	%rax, %r12
-	jne	12b
-14:
-	movq	%r12, %rax
+	cmpq	%rax, %r15
+	jne	13b
+	jmp	18f
+	.p2align	4
 15:
-	movq	136(%rsp), %r11
-16:
-	movq	%rax, %r13
-	incq	%r13
-	movq	$-1, %rcx
-	cmoveq	%rcx, %r13
-	cmpq	%r13, %r12
-	cmovbq	%r12, %r13
-	addq	8(%rbx), %r13
-	cmovbq	%rcx, %r13
-	movq	%r13, 8(%rbx)
-	cmpq	%r12, %rax
-	sete	%bpl
-	je	21f
-	incq	%r15
-	cmpb	$0, 64(%rsp)
-	jne	6b
-	movzbl	(%rdi), %eax
-	leaq	(%r9,%r15), %rsi
-	movq	%r11, %rbx
-	subq	%r15, %rbx
-	cmpq	$1, %rbx
-	jne	4b
-	xorl	%edx, %edx
-	cmpb	%al, (%rsi)
-	setne	%dl
-	jmp	5b
-	.p2align	4
-17:
 	xorl	%eax, %eax
+	movq	16(%rsp), %r8
 	.p2align	4
-18:
+16:
 	movb	$-1, %dl
-	cmpq	%r14, %rax
-	jae	19f
-	movzbl	(%r10,%rax), %edx
-19:
+	cmpq	%rbx, %rax
+	jae	17f
+	movzbl	(%r8,%rax), %edx
+17:
 	movzbl	(%rdi,%rax), %esi
 	xorb	(%rcx,%rax), %sil
 	testb	%dl, %sil
-	jne	16b
+	jne	19f
 	incq	%rax
-	cmpq	%rax, %r12
-	jne	18b
-	movq	%r12, %rax
-	jmp	16b
+	cmpq	%rax, %r15
+	jne	16b
+18:
+	movq	%r15, %rax
+19:
+	movq	%rax, %r12
+	incq	%r12
+	movq	$-1, %rcx
+	cmoveq	%rcx, %r12
+	cmpq	%r12, %r15
+	cmovbq	%r15, %r12
+	addq	8(%r11), %r12
+	cmovbq	%rcx, %r12
+	movq	%r12, 8(%r11)
+	cmpq	%r15, %rax
+	sete	%bpl
+	je	23f
+	incq	%r14
+	cmpb	$0, 15(%rsp)
+	jne	7b
+	movzbl	(%rdi), %eax
+	leaq	(%r14,%r13), %rsi
+	movq	%r10, %r13
+	subq	%r14, %r13
+	cmpq	$1, %r13
+	jne	5b
+	xorl	%edx, %edx
+	cmpb	%al, (%rsi)
+	setne	%dl
+	jmp	6b
 20:
-	xorl	%ebp, %ebp
+	movzbl	%al, %edi
+	movq	%r13, %rdx
+	movl	%r8d, %ebp
+	movl	%r9d, %r12d
+	callq	"memchr::bytes::memchr"
+	movq	152(%rsp), %r11
+	movq	24(%rsp), %rdi
+	movl	%r12d, %r9d
+	movl	%ebp, %r8d
+	movq	16(%rsp), %r10
+	testb	$1, %al
+	cmoveq	%r13, %rdx
 21:
+	movq	8(%r11), %rax
+	addq	%rdx, %rax
+	movq	$-1, %rcx
+	cmovaeq	%rax, %rcx
+	movq	%rcx, 8(%r11)
+	addq	%rdx, %r14
+	movq	128(%rsp), %r13
+	cmpq	144(%rsp), %r14
+	jb	4b
+22:
+	xorl	%ebp, %ebp
+23:
 	movl	%ebp, %eax
 	addq	$72, %rsp
 	popq	%rbx
@@ -412,8 +421,8 @@
 	popq	%r15
 	popq	%rbp
 	retq
-22:
-	.size	"mime_base::magic::ranges::value_in_windows", 22b-"mime_base::magic::ranges::value_in_windows"
+24:
+	.size	"mime_base::magic::ranges::value_in_windows", 24b-"mime_base::magic::ranges::value_in_windows"
 
 	.text
 	.p2align	4

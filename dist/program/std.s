@@ -1,5 +1,278 @@
 # Made by dist/refresh of what is proved.
 
+	.text
+	.p2align	4
+	.type	"std::env::read_string::<#e5598224a48578b0>",@function
+"std::env::read_string::<#e5598224a48578b0>":
+	pushq	%rbp
+	pushq	%r15
+	pushq	%r14
+	pushq	%r13
+	pushq	%r12
+	pushq	%rbx
+	subq	$3072, %rsp
+	movq	$0, (%rsp)
+	subq	$3072, %rsp
+	movq	$0, (%rsp)
+	subq	$2136, %rsp
+	movq	%r8, %r15
+	movq	%rcx, 56(%rsp)
+	movq	%rdx, 64(%rsp)
+	movq	%rdi, 8(%rsp)
+	leaq	-1(%r8), %rax
+	cmpq	$4094, %rax
+	movl	$4094, %ecx
+	cmovbq	%rax, %rcx
+	incq	%rcx
+	movq	%rcx, 72(%rsp)
+	xorl	%r14d, %r14d
+	movl	$256, %r13d
+	movl	%esi, 28(%rsp)
+	jmp	2f
+	.p2align	4
+1:
+	movq	%r13, %rax
+	addq	%r13, %rax
+	movq	$-1, %r13
+	cmovaeq	%rax, %r13
+	incl	%r14d
+	cmpl	$64, %r14d
+	movl	28(%rsp), %esi
+	je	19f
+2:
+	leaq	7(%rsp), %rdx
+	movq	%rdx, 32(%rsp)
+	xorps	%xmm0, %xmm0
+	leaq	40(%rsp), %rax
+	movups	%xmm0, (%rax)
+	testq	%r13, %r13
+	jne	6f
+	xorl	%r12d, %r12d
+	cmpb	$2, %sil
+	je	8f
+3:
+	movzbl	%sil, %eax
+	cmpl	$1, %eax
+	jne	4f
+	movq	64(%rsp), %rdi
+	movq	%rdx, %rbx
+	movq	%rdx, %rsi
+	movq	%r12, %rdx
+	callq	rattle_env_at@PLT
+	jmp	5f
+	.p2align	4
+4:
+	movq	64(%rsp), %rdi
+	movq	%rdx, %rbx
+	movq	%rdx, %rsi
+	movq	%r12, %rdx
+	callq	rattle_arg@PLT
+5:
+	movq	%rax, %rbp
+	cmpq	$-1, %rax
+	movl	$22, %eax
+	movl	$36, %ecx
+	cmovel	%eax, %ecx
+	xorl	%edi, %edi
+	testq	%rbp, %rbp
+	cmovsl	%ecx, %edi
+	callq	rattle_set_errno@PLT
+	callq	rattle_errno@PLT
+	cmpl	$36, %eax
+	je	17f
+	jmp	18f
+6:
+	movl	%esi, %ebp
+	leaq	32(%rsp), %rdi
+	movq	%r13, %rsi
+	callq	"std_alloc::vec::Vec::grow_amortized::<#1d775b5957dec42c>"
+	testb	%al, %al
+	je	29f
+	movq	32(%rsp), %rdx
+	movq	40(%rsp), %rdi
+	leaq	(%rdi,%r13), %r12
+	cmpq	%r12, %rdi
+	jae	7f
+	addq	%rdx, %rdi
+	movq	%rdx, %rbx
+	xorl	%esi, %esi
+	movq	%r13, %rdx
+	callq	memset@PLT
+	movq	%rbx, %rdx
+7:
+	movl	%ebp, %esi
+	cmpb	$2, %sil
+	jne	3b
+	.p2align	4
+8:
+	testq	%r15, %r15
+	je	11f
+	xorl	%eax, %eax
+	movq	56(%rsp), %rsi
+	.p2align	4
+9:
+	movzbl	(%rsi,%rax), %ecx
+	testl	%ecx, %ecx
+	je	23f
+	cmpl	$61, %ecx
+	je	23f
+	incq	%rax
+	cmpq	%rax, %r15
+	jne	9b
+	xorl	%eax, %eax
+	.p2align	4
+10:
+	cmpb	$0, (%rsi,%rax)
+	je	12f
+	incq	%rax
+	cmpq	%rax, %r15
+	jne	10b
+	movq	%r12, 16(%rsp)
+	movq	%rdx, %rbx
+	jmp	14f
+11:
+	movq	%r12, 16(%rsp)
+	movq	%rdx, %rbx
+	leaq	80(%rsp), %rdi
+	movl	$4095, %edx
+	xorl	%esi, %esi
+	callq	memset@PLT
+	jmp	15f
+12:
+	movq	%rdx, %rbx
+	cmpq	%r15, %rax
+	jae	13f
+	movl	$22, %edi
+	callq	rattle_set_errno@PLT
+	xorl	%r12d, %r12d
+	jmp	16f
+13:
+	movq	%r12, 16(%rsp)
+14:
+	leaq	80(%rsp), %rdi
+	movl	$4095, %edx
+	xorl	%esi, %esi
+	callq	memset@PLT
+	leaq	80(%rsp), %rdi
+	movq	56(%rsp), %rsi
+	movq	72(%rsp), %rdx
+	callq	memcpy@PLT
+15:
+	movb	$0, 4175(%rsp)
+	leaq	4184(%rsp), %rbp
+	leaq	80(%rsp), %rsi
+	movl	$4096, %edx
+	movq	%rbp, %rdi
+	callq	memcpy@PLT
+	movq	%rbp, %rdi
+	movq	%rbx, %rsi
+	movq	16(%rsp), %rbp
+	movq	%rbp, %rdx
+	callq	rattle_env@PLT
+	cmpq	$-1, %rax
+	movl	$22, %ecx
+	movl	$36, %edi
+	cmovel	%ecx, %edi
+	cmpq	%rbp, %rax
+	cmovbq	%rax, %rbp
+	xorl	%r12d, %r12d
+	testq	%rax, %rax
+	cmovnsl	%r12d, %edi
+	cmovgq	%rbp, %r12
+	callq	rattle_set_errno@PLT
+16:
+	callq	rattle_errno@PLT
+	cmpl	$36, %eax
+	jne	20f
+17:
+	cmpq	$0, 48(%rsp)
+	je	1b
+	movq	%rbx, %rdi
+	callq	rattle_dealloc@PLT
+	jmp	1b
+18:
+	testl	%eax, %eax
+	movq	%rbx, %rdx
+	jne	23f
+	cmpq	%r12, %rbp
+	cmovbq	%rbp, %r12
+	xorl	%eax, %eax
+	testq	%rbp, %rbp
+	cmovgq	%r12, %rax
+	movq	%rax, %r12
+	jmp	21f
+19:
+	movb	$2, %bl
+	jmp	25f
+20:
+	testl	%eax, %eax
+	movq	%rbx, %rdx
+	jne	23f
+21:
+	movq	48(%rsp), %r14
+	xorps	%xmm0, %xmm0
+	movaps	%xmm0, 80(%rsp)
+	movq	$0, 96(%rsp)
+	leaq	80(%rsp), %rdi
+	movq	%rdx, %r15
+	movq	%rdx, %rsi
+	movq	%r12, %rdx
+	callq	"core::str::utf8::from_utf8"
+	cmpb	$1, 80(%rsp)
+	jne	27f
+	movb	$1, %bl
+	testq	%r14, %r14
+	je	22f
+	movq	%r15, %rdi
+	callq	rattle_dealloc@PLT
+22:
+	xorl	%r15d, %r15d
+	xorl	%r12d, %r12d
+	xorl	%r14d, %r14d
+	jmp	28f
+23:
+	cmpq	$0, 48(%rsp)
+	je	24f
+	movq	%rdx, %rdi
+	callq	rattle_dealloc@PLT
+24:
+	xorl	%ebx, %ebx
+25:
+	movq	8(%rsp), %rax
+	movb	$1, (%rax)
+	movb	%bl, 1(%rax)
+	xorps	%xmm0, %xmm0
+	movups	%xmm0, 8(%rax)
+	movq	$0, 24(%rax)
+26:
+	addq	$8280, %rsp
+	popq	%rbx
+	popq	%r12
+	popq	%r13
+	popq	%r14
+	popq	%r15
+	popq	%rbp
+	retq
+27:
+	xorl	%ebx, %ebx
+28:
+	movq	8(%rsp), %rax
+	movb	%bl, (%rax)
+	movb	%bl, 1(%rax)
+	movq	%r15, 8(%rax)
+	movq	%r12, 16(%rax)
+	movq	%r14, 24(%rax)
+	jmp	26b
+29:
+	movb	$2, %bl
+	cmpq	$0, 48(%rsp)
+	je	25b
+	movq	32(%rsp), %rdi
+	callq	rattle_dealloc@PLT
+	jmp	25b
+30:
+	.size	"std::env::read_string::<#e5598224a48578b0>", 30b-"std::env::read_string::<#e5598224a48578b0>"
+
 	.section	.rodata.cst16,"aM",@progbits,16
 	.p2align	4, 0x0
 1:

@@ -457,6 +457,328 @@
 
 	.text
 	.p2align	4
+	.type	"std_alloc::string::String::format::<#27a24f97cf48c160>",@function
+"std_alloc::string::String::format::<#27a24f97cf48c160>":
+	pushq	%rbp
+	pushq	%r15
+	pushq	%r14
+	pushq	%r13
+	pushq	%r12
+	pushq	%rbx
+	subq	$152, %rsp
+	movq	%rsi, %rax
+	movq	%rdi, %rbx
+	movq	(%rsi), %rsi
+	movq	8(%rax), %rdx
+	movq	16(%rax), %r15
+	movq	24(%rax), %r14
+	xorps	%xmm0, %xmm0
+	movups	%xmm0, 127(%rsp)
+	movaps	%xmm0, 112(%rsp)
+	movups	%xmm0, 24(%rsp)
+	movl	$0, 73(%rsp)
+	movl	$0, 76(%rsp)
+	leaq	15(%rsp), %r13
+	movq	%r13, 16(%rsp)
+	movl	$32, 40(%rsp)
+	movq	$0, 44(%rsp)
+	movl	$0, 52(%rsp)
+	movq	$-1, 56(%rsp)
+	movq	$0, 64(%rsp)
+	movb	$0, 72(%rsp)
+	movl	40(%rsp), %eax
+	movl	%eax, 80(%rsp)
+	movq	44(%rsp), %rax
+	movq	%rax, 84(%rsp)
+	movl	52(%rsp), %eax
+	movl	%eax, 92(%rsp)
+	movq	$-1, 96(%rsp)
+	movl	$32, 40(%rsp)
+	movq	$0, 44(%rsp)
+	movl	$0, 52(%rsp)
+	movq	24(%rsp), %rax
+	movq	32(%rsp), %r12
+	movq	%r12, %rcx
+	subq	%rax, %rcx
+	cmpq	%rcx, %rdx
+	ja	18f
+1:
+	leaq	44(%rsp), %r11
+	leaq	(%rax,%rdx), %rbp
+	leaq	(%rax,%r13), %rdi
+	movq	%rdi, %rcx
+	subq	%rsi, %rcx
+	cmpq	%rdx, %rcx
+	jae	7f
+	cmpq	$4, %rdx
+	jb	2f
+	cmpq	$32, %rcx
+	jae	12f
+2:
+	xorl	%ecx, %ecx
+3:
+	movq	%rdx, %r9
+	movq	%rcx, %r8
+	andq	$3, %r9
+	je	5f
+	movq	%rcx, %r8
+	.p2align	4
+4:
+	movzbl	(%rsi,%r8), %r10d
+	movb	%r10b, (%rdi,%r8)
+	incq	%r8
+	decq	%r9
+	jne	4b
+5:
+	subq	%rdx, %rcx
+	cmpq	$-4, %rcx
+	ja	8f
+	addq	%r13, %rax
+	addq	$3, %rax
+	.p2align	4
+6:
+	movzbl	(%rsi,%r8), %ecx
+	movb	%cl, -3(%rax,%r8)
+	movzbl	1(%rsi,%r8), %ecx
+	movb	%cl, -2(%rax,%r8)
+	movzbl	2(%rsi,%r8), %ecx
+	movb	%cl, -1(%rax,%r8)
+	movzbl	3(%rsi,%r8), %ecx
+	movb	%cl, (%rax,%r8)
+	addq	$4, %r8
+	cmpq	%r8, %rdx
+	jne	6b
+	jmp	8f
+7:
+	callq	memmove@PLT
+	leaq	44(%rsp), %r11
+8:
+	movq	%rbp, 24(%rsp)
+	movq	%r12, 32(%rsp)
+	movl	$32, 40(%rsp)
+	movl	$0, 8(%r11)
+	movq	$0, (%r11)
+	movq	$-1, 56(%rsp)
+	cmpq	$0, 64(%rsp)
+	jne	19f
+	movq	%r12, %rax
+	subq	%rbp, %rax
+	cmpq	%rax, %r14
+	ja	31f
+9:
+	leaq	(%r14,%rbp), %r9
+	movq	%r13, %rdi
+	addq	%rbp, %rdi
+	movq	%rdi, %rax
+	subq	%r15, %rax
+	cmpq	%r14, %rax
+	jae	10f
+	cmpq	$4, %r14
+	jae	11f
+	xorl	%eax, %eax
+	leaq	40(%rsp), %r8
+	jmp	24f
+10:
+	movq	%r15, %rsi
+	movq	%r14, %rdx
+	movq	%r9, %r14
+	callq	memmove@PLT
+	movq	%r14, %r9
+	leaq	40(%rsp), %r8
+	jmp	28f
+11:
+	cmpq	$32, %rax
+	leaq	40(%rsp), %r8
+	jae	13f
+	xorl	%eax, %eax
+	jmp	24f
+12:
+	cmpq	$32, %rdx
+	jae	14f
+	xorl	%ecx, %ecx
+	jmp	16f
+13:
+	cmpq	$32, %r14
+	jae	20f
+	xorl	%eax, %eax
+	jmp	22f
+14:
+	movq	%rdx, %rcx
+	andq	$-32, %rcx
+	leaq	(%rax,%r13), %r8
+	addq	$16, %r8
+	xorl	%r9d, %r9d
+	.p2align	4
+15:
+	movups	(%rsi,%r9), %xmm0
+	movups	16(%rsi,%r9), %xmm1
+	movups	%xmm0, -16(%r8,%r9)
+	movups	%xmm1, (%r8,%r9)
+	addq	$32, %r9
+	cmpq	%r9, %rcx
+	jne	15b
+	cmpq	%rcx, %rdx
+	je	8b
+	testb	$28, %dl
+	je	3b
+16:
+	movq	%rcx, %r8
+	movq	%rdx, %rcx
+	andq	$-4, %rcx
+	.p2align	4
+17:
+	movl	(%rsi,%r8), %r9d
+	movl	%r9d, (%rdi,%r8)
+	addq	$4, %r8
+	cmpq	%r8, %rcx
+	jne	17b
+	cmpq	%rcx, %rdx
+	je	8b
+	jmp	3b
+18:
+	movq	%rsi, 144(%rsp)
+	leaq	16(%rsp), %rdi
+	movq	%rdx, %rbp
+	movq	%rdx, %rsi
+	callq	"std_alloc::vec::Vec::grow_amortized::<#06f9579a8fe94b13>"
+	testb	%al, %al
+	je	32f
+	movq	16(%rsp), %r13
+	movq	24(%rsp), %rax
+	movq	32(%rsp), %r12
+	movq	144(%rsp), %rsi
+	movq	%rbp, %rdx
+	jmp	1b
+19:
+	leaq	16(%rsp), %rdi
+	movq	%r15, %rsi
+	movq	%r14, %rdx
+	callq	"core::fmt::formatter::Formatter::write_indented::<#d910c43882378494>"
+	movaps	80(%rsp), %xmm0
+	leaq	40(%rsp), %rdx
+	movups	%xmm0, (%rdx)
+	movq	96(%rsp), %rcx
+	movq	%rcx, 16(%rdx)
+	testb	%al, %al
+	jne	32f
+	jmp	29f
+20:
+	movq	%r14, %rax
+	andq	$-32, %rax
+	leaq	16(,%r13), %rcx
+	addq	%rbp, %rcx
+	xorl	%edx, %edx
+	.p2align	4
+21:
+	movups	(%r15,%rdx), %xmm0
+	movups	16(%r15,%rdx), %xmm1
+	movups	%xmm0, -16(%rcx,%rdx)
+	movups	%xmm1, (%rcx,%rdx)
+	addq	$32, %rdx
+	cmpq	%rdx, %rax
+	jne	21b
+	cmpq	%rax, %r14
+	je	28f
+	testb	$28, %r14b
+	je	24f
+22:
+	movq	%rax, %rcx
+	movq	%r14, %rax
+	andq	$-4, %rax
+	.p2align	4
+23:
+	movl	(%r15,%rcx), %edx
+	movl	%edx, (%rdi,%rcx)
+	addq	$4, %rcx
+	cmpq	%rcx, %rax
+	jne	23b
+	cmpq	%rax, %r14
+	je	28f
+24:
+	movq	%r14, %rdx
+	movq	%rax, %rcx
+	andq	$3, %rdx
+	je	26f
+	movq	%rax, %rcx
+	.p2align	4
+25:
+	movzbl	(%r15,%rcx), %esi
+	movb	%sil, (%rdi,%rcx)
+	incq	%rcx
+	decq	%rdx
+	jne	25b
+26:
+	subq	%r14, %rax
+	cmpq	$-4, %rax
+	ja	28f
+	leaq	3(,%r13), %rax
+	addq	%rbp, %rax
+	.p2align	4
+27:
+	movzbl	(%r15,%rcx), %edx
+	movb	%dl, -3(%rax,%rcx)
+	movzbl	1(%r15,%rcx), %edx
+	movb	%dl, -2(%rax,%rcx)
+	movzbl	2(%r15,%rcx), %edx
+	movb	%dl, -1(%rax,%rcx)
+	movzbl	3(%r15,%rcx), %edx
+	movb	%dl, (%rax,%rcx)
+	addq	$4, %rcx
+	cmpq	%rcx, %r14
+	jne	27b
+28:
+	movq	%r9, 24(%rsp)
+	movq	%r12, 32(%rsp)
+	movq	96(%rsp), %rax
+	movq	%rax, 16(%r8)
+	movaps	80(%rsp), %xmm0
+	movups	%xmm0, (%r8)
+29:
+	movq	32(%rsp), %rax
+	movq	%rax, 135(%rsp)
+	movq	16(%rsp), %rax
+	movq	%rax, 119(%rsp)
+	movq	24(%rsp), %rax
+	movq	%rax, 127(%rsp)
+	xorl	%ebp, %ebp
+30:
+	movb	%bpl, (%rbx)
+	movq	119(%rsp), %rax
+	movq	%rax, 8(%rbx)
+	movq	127(%rsp), %rax
+	movq	%rax, 16(%rbx)
+	movq	135(%rsp), %rax
+	movq	%rax, 24(%rbx)
+	addq	$152, %rsp
+	popq	%rbx
+	popq	%r12
+	popq	%r13
+	popq	%r14
+	popq	%r15
+	popq	%rbp
+	retq
+31:
+	leaq	16(%rsp), %rdi
+	movq	%r14, %rsi
+	callq	"std_alloc::vec::Vec::grow_amortized::<#06f9579a8fe94b13>"
+	testb	%al, %al
+	je	32f
+	movq	16(%rsp), %r13
+	movq	24(%rsp), %rbp
+	movq	32(%rsp), %r12
+	jmp	9b
+32:
+	movb	$1, %bpl
+	cmpq	$0, 32(%rsp)
+	je	30b
+	movq	16(%rsp), %rdi
+	callq	rattle_dealloc@PLT
+	jmp	30b
+33:
+	.size	"std_alloc::string::String::format::<#27a24f97cf48c160>", 33b-"std_alloc::string::String::format::<#27a24f97cf48c160>"
+
+	.text
+	.p2align	4
 	.type	"std_alloc::string::String::format::<#404683268f87e58f>",@function
 "std_alloc::string::String::format::<#404683268f87e58f>":
 	pushq	%rbp
@@ -1893,58 +2215,41 @@
 	movq	%r14, %rdi
 	subq	%rcx, %rdi
 	cmpq	%rdi, %rdx
-	ja	11f
+	ja	15f
 1:
 	leaq	(%rcx,%rdx), %r15
 	leaq	(%rax,%rcx), %rdi
 	movq	%rdi, %r8
 	subq	%rsi, %r8
 	cmpq	%rdx, %r8
-	jae	2f
-	cmpq	$8, %r8
-	jae	3f
-	xorl	%r8d, %r8d
-	jmp	5f
+	jae	7f
+	cmpq	$4, %rdx
+	jb	2f
+	cmpq	$32, %r8
+	jae	10f
 2:
-	callq	memmove@PLT
-	jmp	9f
+	xorl	%r8d, %r8d
 3:
-	movl	%edx, %r8d
-	andl	$24, %r8d
-	movq	(%rsi), %r9
-	movq	%r9, (%rdi)
-	cmpq	$8, %r8
-	je	4f
-	movq	8(%rsi), %r9
-	movq	%r9, 8(%rdi)
-	cmpl	$16, %r8d
-	je	4f
-	movq	16(%rsi), %r9
-	movq	%r9, 16(%rdi)
-4:
-	cmpq	%r8, %rdx
-	je	9f
-5:
 	movq	%rdx, %r10
 	movq	%r8, %r9
 	andq	$3, %r10
-	je	7f
+	je	5f
 	movq	%r8, %r9
 	.p2align	4
-6:
+4:
 	movzbl	(%rsi,%r9), %r11d
 	movb	%r11b, (%rdi,%r9)
 	incq	%r9
 	decq	%r10
-	jne	6b
-7:
+	jne	4b
+5:
 	subq	%rdx, %r8
 	cmpq	$-4, %r8
-	ja	9f
+	ja	8f
 	addq	%rcx, %rax
 	addq	$3, %rax
 	.p2align	4
-8:
+6:
 	movzbl	(%rsi,%r9), %ecx
 	movb	%cl, -3(%rax,%r9)
 	movzbl	1(%rsi,%r9), %ecx
@@ -1955,8 +2260,11 @@
 	movb	%cl, (%rax,%r9)
 	addq	$4, %r9
 	cmpq	%r9, %rdx
-	jne	8b
-9:
+	jne	6b
+	jmp	8f
+7:
+	callq	memmove@PLT
+8:
 	movq	%r15, 24(%rsp)
 	movq	%r14, 32(%rsp)
 	movq	%r14, 103(%rsp)
@@ -1965,7 +2273,7 @@
 	movq	24(%rsp), %rax
 	movq	%rax, 95(%rsp)
 	xorl	%ebp, %ebp
-10:
+9:
 	movb	%bpl, (%rbx)
 	movq	87(%rsp), %rax
 	movq	%rax, 8(%rbx)
@@ -1980,29 +2288,67 @@
 	popq	%r15
 	popq	%rbp
 	retq
+10:
+	cmpq	$32, %rdx
+	jae	11f
+	xorl	%r8d, %r8d
+	jmp	13f
 11:
+	movq	%rdx, %r8
+	andq	$-32, %r8
+	leaq	(%rcx,%rax), %r9
+	addq	$16, %r9
+	xorl	%r10d, %r10d
+	.p2align	4
+12:
+	movups	(%rsi,%r10), %xmm0
+	movups	16(%rsi,%r10), %xmm1
+	movups	%xmm0, -16(%r9,%r10)
+	movups	%xmm1, (%r9,%r10)
+	addq	$32, %r10
+	cmpq	%r10, %r8
+	jne	12b
+	cmpq	%r8, %rdx
+	je	8b
+	testb	$28, %dl
+	je	3b
+13:
+	movq	%r8, %r9
+	movq	%rdx, %r8
+	andq	$-4, %r8
+	.p2align	4
+14:
+	movl	(%rsi,%r9), %r10d
+	movl	%r10d, (%rdi,%r9)
+	addq	$4, %r9
+	cmpq	%r9, %r8
+	jne	14b
+	cmpq	%r8, %rdx
+	je	8b
+	jmp	3b
+15:
 	movq	%rsi, %r15
 	leaq	16(%rsp), %rdi
 	movq	%rdx, %r12
 	movq	%rdx, %rsi
 	callq	"std_alloc::vec::Vec::grow_amortized::<#06f9579a8fe94b13>"
 	testb	%al, %al
-	je	12f
+	je	16f
 	movq	16(%rsp), %rax
 	movq	24(%rsp), %rcx
 	movq	32(%rsp), %r14
 	movq	%r12, %rdx
 	movq	%r15, %rsi
 	jmp	1b
-12:
+16:
 	movb	$1, %bpl
 	cmpq	$0, 32(%rsp)
-	je	10b
+	je	9b
 	movq	16(%rsp), %rdi
 	callq	rattle_dealloc@PLT
-	jmp	10b
-13:
-	.size	"std_alloc::string::String::format::<#cba637970f1a6228>", 13b-"std_alloc::string::String::format::<#cba637970f1a6228>"
+	jmp	9b
+17:
+	.size	"std_alloc::string::String::format::<#cba637970f1a6228>", 17b-"std_alloc::string::String::format::<#cba637970f1a6228>"
 
 	.text
 	.p2align	4
@@ -9691,6 +10037,70 @@
 
 	.section	.text.unlikely,"ax",@progbits
 	.p2align	4
+	.type	"std_alloc::vec::Vec::grow_amortized::<#a658b02dc117231d>",@function
+"std_alloc::vec::Vec::grow_amortized::<#a658b02dc117231d>":
+	movq	%rsi, %rax
+	movq	8(%rdi), %rsi
+	addq	%rsi, %rax
+	jae	1f
+	xorl	%eax, %eax
+	retq
+1:
+	pushq	%r14
+	pushq	%rbx
+	pushq	%rax
+	movq	16(%rdi), %rcx
+	cmpq	$5, %rax
+	movl	$4, %ebx
+	cmovaeq	%rax, %rbx
+	movq	%rcx, %rdx
+	shrq	$62, %rdx
+	leaq	(%rcx,%rcx), %rax
+	cmpq	%rax, %rbx
+	cmovaq	%rbx, %rax
+	testq	%rdx, %rdx
+	cmoveq	%rax, %rbx
+	movq	%rbx, %rdx
+	shrq	$59, %rdx
+	jne	4f
+	testq	%rcx, %rcx
+	je	3f
+	movq	%rdi, %r14
+	movq	(%rdi), %rdi
+	shlq	$4, %rsi
+	movq	%rbx, %rdx
+	shlq	$4, %rdx
+	movl	$8, %ecx
+	callq	rattle_realloc@PLT
+	testb	$1, %al
+	je	4f
+2:
+	movq	%rdx, (%r14)
+	movq	%rbx, 16(%r14)
+	movb	$1, %al
+	addq	$8, %rsp
+	popq	%rbx
+	popq	%r14
+	retq
+3:
+	movq	%rdi, %r14
+	shlq	$4, %rax
+	movl	$8, %esi
+	movq	%rax, %rdi
+	callq	rattle_alloc@PLT
+	testb	$1, %al
+	jne	2b
+4:
+	xorl	%eax, %eax
+	addq	$8, %rsp
+	popq	%rbx
+	popq	%r14
+	retq
+5:
+	.size	"std_alloc::vec::Vec::grow_amortized::<#a658b02dc117231d>", 5b-"std_alloc::vec::Vec::grow_amortized::<#a658b02dc117231d>"
+
+	.section	.text.unlikely,"ax",@progbits
+	.p2align	4
 	.type	"std_alloc::vec::Vec::grow_amortized::<#aac2e341597f1126>",@function
 "std_alloc::vec::Vec::grow_amortized::<#aac2e341597f1126>":
 	movq	8(%rdi), %rax
@@ -9818,70 +10228,6 @@
 	retq
 5:
 	.size	"std_alloc::vec::Vec::grow_amortized::<#af4d00d87a514b9c>", 5b-"std_alloc::vec::Vec::grow_amortized::<#af4d00d87a514b9c>"
-
-	.section	.text.unlikely,"ax",@progbits
-	.p2align	4
-	.type	"std_alloc::vec::Vec::grow_amortized::<#b016ce8179397618>",@function
-"std_alloc::vec::Vec::grow_amortized::<#b016ce8179397618>":
-	movq	%rsi, %rax
-	movq	8(%rdi), %rsi
-	addq	%rsi, %rax
-	jae	1f
-	xorl	%eax, %eax
-	retq
-1:
-	pushq	%r14
-	pushq	%rbx
-	pushq	%rax
-	movq	16(%rdi), %rcx
-	cmpq	$5, %rax
-	movl	$4, %ebx
-	cmovaeq	%rax, %rbx
-	movq	%rcx, %rdx
-	shrq	$62, %rdx
-	leaq	(%rcx,%rcx), %rax
-	cmpq	%rax, %rbx
-	cmovaq	%rbx, %rax
-	testq	%rdx, %rdx
-	cmoveq	%rax, %rbx
-	movq	%rbx, %rdx
-	shrq	$59, %rdx
-	jne	4f
-	testq	%rcx, %rcx
-	je	3f
-	movq	%rdi, %r14
-	movq	(%rdi), %rdi
-	shlq	$4, %rsi
-	movq	%rbx, %rdx
-	shlq	$4, %rdx
-	movl	$8, %ecx
-	callq	rattle_realloc@PLT
-	testb	$1, %al
-	je	4f
-2:
-	movq	%rdx, (%r14)
-	movq	%rbx, 16(%r14)
-	movb	$1, %al
-	addq	$8, %rsp
-	popq	%rbx
-	popq	%r14
-	retq
-3:
-	movq	%rdi, %r14
-	shlq	$4, %rax
-	movl	$8, %esi
-	movq	%rax, %rdi
-	callq	rattle_alloc@PLT
-	testb	$1, %al
-	jne	2b
-4:
-	xorl	%eax, %eax
-	addq	$8, %rsp
-	popq	%rbx
-	popq	%r14
-	retq
-5:
-	.size	"std_alloc::vec::Vec::grow_amortized::<#b016ce8179397618>", 5b-"std_alloc::vec::Vec::grow_amortized::<#b016ce8179397618>"
 
 	.section	.text.unlikely,"ax",@progbits
 	.p2align	4
