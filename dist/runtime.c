@@ -4,6 +4,8 @@
 #include <stdlib.h>
 #include <string.h>
 
+extern char **environ;
+
 static size_t count;
 static char **words;
 
@@ -29,6 +31,16 @@ long rattle_arg(size_t at, char *to, size_t room) {
 
 long rattle_env(const char *name, char *to, size_t room) {
     return give(getenv(name), to, room);
+}
+
+/* An entry of the environment, NAME=VALUE, counted from 0. */
+long rattle_env_at(size_t at, char *to, size_t room) {
+    char **entry = environ;
+    while (entry != NULL && *entry != NULL && at > 0) {
+        entry++;
+        at--;
+    }
+    return give(entry == NULL ? NULL : *entry, to, room);
 }
 
 int rattle_errno(void) {
