@@ -2,7 +2,7 @@
 //! what no clause says.
 //!
 //! There is a module for each library, and below it one for each subject. The tests of the other
-//! libraries, and why none has its own, stand in `mime_tests`.
+//! libraries, and why none has its own, stand in `mime_text_tests`.
 #![tactic(auto)]
 
 #[cfg(test)]

@@ -2,7 +2,7 @@
 use Rattle.std.proofs.Common.{◌≡◌, ℕ, ◌+◌, List, [], ◌∷◌, ◌++◌, length, length-append, Err, refl, sym, ap, subst, ◌∙◌, arith, inl, inr}
 use Rattle.mime_text.specs.declared.magic.fault.Fault.{Fault}
 use Rattle.mime_text.specs.declared.magic.fault.MagicFaultKind.TheVariants.{BadNumber, BadWord}
-use Rattle.mime_text.specs.Magic.Reading.{number_at, start_at, value_at, mask_at, word_at, range_at, body_at}
+use Rattle.mime_text.specs.Magic.Reading.{number_at, start_at, sized_at, mask_at, word_at, range_at, body_at}
 use Rattle.mime_text.specs.Magic.FaultTable.{IsToIndent, IsToStart, IsToValue, IsToMask, IsToWord, IsBeforeNumber, before_start}
 use Rattle.mime_text.specs.Magic.FaultTable.{before_word, before_range, in_number, in_length, in_value, in_mask, bad_number, no_equals}
 use Rattle.mime_text.proofs.FaultLemmas.FaultSteps.{bind_err, places_behind}
@@ -75,7 +75,7 @@ from_mask limit size line before tail f is v e =
 
 -- a value that fails
 from_value : (limit : ℕ) (line before tail : List ℕ) (f : Fault) → line ≡ before ++ tail → IsToStart limit before
-    → value_at tail ≡ Err f → LineFails limit line f
+    → sized_at tail ≡ Err f → LineFails limit line f
 from_value limit line before tail f is s e =
     let v = value_fails tail f e in
     elim v.1 [
@@ -108,7 +108,7 @@ body_fails limit line before tail f is i e =
       | inl h ↦ from_start limit line before tail f is i h
       | inr a ↦
           let start = grow_start limit line before tail a.0 is i a.1 in
-          elim (bind_err (value_at a.0.1) _ f a.2) [
+          elim (bind_err (sized_at a.0.1) _ f a.2) [
             | inl h ↦ from_value limit line start.0 a.0.1 f start.1 start.2 h
             | inr b ↦
                 let value = grow_value limit line start.0 a.0.1 b.0 start.1 start.2 b.1 in

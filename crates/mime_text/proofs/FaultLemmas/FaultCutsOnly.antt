@@ -7,7 +7,7 @@ use Rattle.mime_base.specs.Magic.{PlainLine}
 use Rattle.mime_text.specs.declared.magic.fault.Fault.{Fault}
 use Rattle.mime_text.specs.declared.magic.fault.MagicFaultKind.TheVariants.{Truncated}
 use Rattle.mime_text.specs.declared.magic.fault.MagicFaultKind.{MagicFaultKind}
-use Rattle.mime_text.specs.Magic.Reading.{fault_at, bytes_at, value_at, mask_at, word_at, range_at, row_at, body_at, end_at, line_at}
+use Rattle.mime_text.specs.Magic.Reading.{fault_at, bytes_at, sized_at, mask_at, word_at, range_at, row_at, body_at, end_at, line_at}
 use Rattle.mime_text.specs.Magic.Text.{NoNewline}
 use Rattle.mime_text.specs.Magic.FaultTable.{IsToEnd, IsCutLine, in_indent, in_number}
 use Rattle.mime_text.specs.Magic.FaultTable.{in_length, in_value, in_mask, before_end, before_newline}
@@ -33,15 +33,15 @@ unfolding bytes_at
 bytes_cut n cut less = cond-true (ltb (length cut) n) _ _ (lt-ltb _ _ less)
 
 -- a length or a value
-length_cut : (cut : List ℕ) → length cut < 2 → value_at cut ≡ Err (fault_at Truncated 0)
-unfolding value_at
+length_cut : (cut : List ℕ) → length cut < 2 → sized_at cut ≡ Err (fault_at Truncated 0)
+unfolding sized_at
 length_cut [] short = refl
 length_cut (b ∷ []) short = refl
 length_cut (b ∷ c ∷ cut) short = absurd (omega (arith, short))
 
 -- a value that the text's end cuts is a cut
-value_cut : (high low : ℕ) (cut : List ℕ) → length cut < 256 * high + low → value_at (high ∷ low ∷ cut) ≡ Err (fault_at Truncated 0)
-unfolding value_at
+value_cut : (high low : ℕ) (cut : List ℕ) → length cut < 256 * high + low → sized_at (high ∷ low ∷ cut) ≡ Err (fault_at Truncated 0)
+unfolding sized_at
 value_cut high low cut less = bytes_cut (256 * high + low) cut less
 
 -- a mask
@@ -79,12 +79,12 @@ cut_line limit line (in_number before digits is place are) =
 cut_line limit line (in_length before cut is s short) =
     ap (line_at limit) is ∙ start_then limit before s cut (fault_at Truncated 0)
     (λ size start. fail_so size (fault_at Truncated 0) (after_start start cut)
-    (bind_fails (value_at cut) _ (fault_at Truncated 0) (length_cut cut short)))
+    (bind_fails (sized_at cut) _ (fault_at Truncated 0) (length_cut cut short)))
 cut_line limit line (in_value before high low cut is s less) =
     let tail : List ℕ = high ∷ low ∷ cut in
     ap (line_at limit) is ∙ start_then limit before s tail (fault_at Truncated 0)
     (λ size start. fail_so size (fault_at Truncated 0) (after_start start tail)
-    (bind_fails (value_at tail) _ (fault_at Truncated 0) (value_cut high low cut less)))
+    (bind_fails (sized_at tail) _ (fault_at Truncated 0) (value_cut high low cut less)))
 cut_line limit line (in_mask size before cut is v less) =
     ap (line_at limit) is ∙ value_then limit size before v (38 ∷ cut) (fault_at Truncated 0)
     (λ bytes start value same. fail_so bytes (fault_at Truncated 0) (after_value start value (38 ∷ cut))

@@ -4,7 +4,7 @@ use Rattle.std.proofs.Common.{arith, inl, inr}
 use Rattle.std.proofs.lemmas.List.{append-nil}
 use Rattle.mime_base.specs.Magic.{PlainLine, fits_word}
 use Rattle.mime_text.specs.declared.magic.fault.MagicFaultKind.TheVariants.{BadWord}
-use Rattle.mime_text.specs.Magic.Reading.{◌>>=◌, fault_at, number_at, start_at, value_at, mask_at, word_at, range_at, body_at}
+use Rattle.mime_text.specs.Magic.Reading.{◌>>=◌, fault_at, number_at, start_at, sized_at, mask_at, word_at, range_at, body_at}
 use Rattle.mime_text.specs.Magic.FaultTable.{IsToIndent, IsToStart, IsToValue, IsToMask, IsToWord}
 use Rattle.mime_text.proofs.MagicLemmas.Steps.{bind_ok, chosen, ok_is}
 use Rattle.mime_text.proofs.MagicLemmas.Numbers.{number_found}
@@ -28,7 +28,7 @@ grow_start limit line before tail x is i e =
 
 -- a value with its length
 pub grow_value : (limit : ℕ) (line before tail : List ℕ) (x : List ℕ × List ℕ) → line ≡ before ++ tail → IsToStart limit before
-    → value_at tail ≡ Ok x → (front : List ℕ) × (line ≡ front ++ x.1) × IsToValue limit (length x.0) front
+    → sized_at tail ≡ Ok x → (front : List ℕ) × (line ≡ front ++ x.1) × IsToValue limit (length x.0) front
 grow_value limit line before tail x is s e =
     let v = value_found tail x e in (
       before ++ (v.0 ∷ v.1 ∷ x.0),
@@ -95,7 +95,7 @@ pub ends_at_mask : (limit : ℕ) (line before tail : List ℕ) (x : PlainLine ×
 unfolding body_at
 ends_at_mask limit line before tail x is i e none =
     let a = bind_ok (start_at tail) _ x e in
-    let b = bind_ok (value_at a.0.1) _ x a.2 in
+    let b = bind_ok (sized_at a.0.1) _ x a.2 in
     let c = bind_ok (mask_at (length b.0.0) b.0.1) _ x b.2 in
     let d = bind_ok (word_at (length b.0.0) c.0.1) _ x c.2 in
     let f =

@@ -5,7 +5,7 @@ use Rattle.std.proofs.lemmas.Bool.{le-ltb, lt-leb, cond-false}
 use Rattle.mime_base.specs.Magic.{PlainLine, line_from}
 use Rattle.mime_text.specs.declared.magic.fault.Fault.{Fault}
 use Rattle.mime_text.specs.Magic.Entries.{PlainEntry}
-use Rattle.mime_text.specs.Magic.Reading.{◌>>=◌, number_at, indent_at, start_at, value_at, mask_at, word_at, range_at, body_at, end_at}
+use Rattle.mime_text.specs.Magic.Reading.{◌>>=◌, number_at, indent_at, start_at, sized_at, mask_at, word_at, range_at, body_at, end_at}
 use Rattle.mime_text.specs.Magic.Reading.{line_at}
 use Rattle.mime_text.specs.Magic.Text.{IsOptional}
 use Rattle.mime_text.specs.Magic.FaultTable.{IsToIndent, IsToStart, IsToValue, IsToMask, IsToWord, IsBeforeNumber, before_start}
@@ -29,7 +29,7 @@ after_value start value tail = mask_at (length value) tail >>= λ mask. after_ma
 
 -- after the start
 abbrev pub after_start : ℕ → List ℕ → Result (PlainLine × List ℕ) Fault
-after_start start tail = value_at tail >>= λ value. after_value start value.0 value.1
+after_start start tail = sized_at tail >>= λ value. after_value start value.0 value.1
 
 -- the rest of the line after its parts
 abbrev pub after_body : ℕ → ℕ → PlainLine × List ℕ → Result (PlainEntry × List ℕ) Fault
@@ -84,7 +84,7 @@ value_then limit size front v tail f h =
     let rest : List ℕ = v.high ∷ v.low ∷ (v.value ++ tail) in
     ap (line_at limit) (ungrown v.before (v.high ∷ v.low ∷ v.value) tail front v.whole)
     ∙ start_then limit v.before v.before_is rest f
-    (λ left start. step left f (value_at rest) (v.value, tail) (λ value. after_value start value.0 value.1)
+    (λ left start. step left f (sized_at rest) (v.value, tail) (λ value. after_value start value.0 value.1)
     (value_only v.high v.low v.value tail (v.size_is ∙ sym v.length_is)) (h left start v.value v.size_is))
 
 -- the next byte, if there is one, is not this

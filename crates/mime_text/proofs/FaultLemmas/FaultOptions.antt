@@ -4,7 +4,7 @@ use Rattle.std.proofs.lemmas.Bool.{ltb-true, eqb-true, eqb-false}
 use Rattle.mime_base.specs.Magic.{fits_word}
 use Rattle.mime_text.specs.declared.magic.fault.Fault.{Fault}
 use Rattle.mime_text.specs.declared.magic.fault.MagicFaultKind.TheVariants.{Truncated, BadWord}
-use Rattle.mime_text.specs.Magic.Reading.{fault_at, number_at, bytes_at, value_at, mask_at, word_at, range_at, row_at}
+use Rattle.mime_text.specs.Magic.Reading.{fault_at, number_at, bytes_at, sized_at, mask_at, word_at, range_at, row_at}
 use Rattle.mime_text.specs.Magic.Text.{IsNumber, NoNewline}
 use Rattle.mime_text.specs.Magic.FaultTable.{IsEnded}
 use Rattle.mime_text.proofs.MagicLemmas.Steps.{chosen}
@@ -21,10 +21,10 @@ bytes_fail n bytes f e =
     ]
 
 -- a value with its length
-pub value_fails : (bytes : List ℕ) (f : Fault) → value_at bytes ≡ Err f
+pub value_fails : (bytes : List ℕ) (f : Fault) → sized_at bytes ≡ Err f
     → (f ≡ fault_at Truncated 0) × ((length bytes < 2)
     ⊎ ((high : ℕ) × (low : ℕ) × (cut : List ℕ) × (bytes ≡ high ∷ low ∷ cut) × (length cut < 256 * high + low)))
-unfolding value_at
+unfolding sized_at
 value_fails [] f e = (sym (fault_is (fault_at Truncated 0) f e), inl (omega arith))
 value_fails (high ∷ []) f e = (sym (fault_is (fault_at Truncated 0) f e), inl (omega arith))
 value_fails (high ∷ low ∷ bytes) f e = let b = bytes_fail (256 * high + low) bytes f e in (b.0, inr (high, low, bytes, refl, b.1))

@@ -1,7 +1,7 @@
 -- From the start of a line to its range, against the grammar: what is read is spelled so.
 use Rattle.std.proofs.Common.{◌≡◌, ℕ, List, ◌∷◌, ◌++◌, length, Ok, refl, sym, ap, subst, ◌∙◌, append_assoc}
 use Rattle.mime_base.specs.Magic.{PlainLine, line_from}
-use Rattle.mime_text.specs.Magic.Reading.{start_at, value_at, mask_at, word_at, range_at, body_at}
+use Rattle.mime_text.specs.Magic.Reading.{start_at, sized_at, mask_at, word_at, range_at, body_at}
 use Rattle.mime_text.specs.Magic.Text.{AreOptions, IsBody}
 use Rattle.mime_text.proofs.MagicLemmas.Steps.{bind_ok, ok_is}
 use Rattle.mime_text.proofs.MagicLemmas.PartsFound.{start_found, value_found}
@@ -27,7 +27,7 @@ pub body_found : (bytes : List ℕ) (x : PlainLine × List ℕ) → body_at byte
 unfolding body_at
 body_found bytes x e =
     let a = bind_ok (start_at bytes) _ x e in
-    let b = bind_ok (value_at a.0.1) _ x a.2 in
+    let b = bind_ok (sized_at a.0.1) _ x a.2 in
     let c = bind_ok (mask_at (length b.0.0) b.0.1) _ x b.2 in
     let d = bind_ok (word_at (length b.0.0) c.0.1) _ x c.2 in
     let f = bind_ok (range_at d.0.1) (λ range. Ok (line_from a.0.0 range.0 d.0.0 b.0.0 c.0.0, range.1)) x d.2 in

@@ -5,7 +5,7 @@ use Rattle.std.proofs.lemmas.List.{map_push, append-nil}
 use Rattle.mime_base.specs.declared.magic.matchlet.Matchlet.{Matchlet}
 use Rattle.mime_base.specs.declared.magic.Section.{Section}
 use Rattle.mime_base.specs.Magic.{Forest, bare, line, PlainSection, forest_of, plain_matchlets, plain_section, plain_sections}
-use Rattle.mime_text.specs.declared.magic.entry.Entry.{Entry}
+use Rattle.mime_text.specs.declared.magic.entry.MagicEntry.{MagicEntry}
 use Rattle.mime_text.specs.declared.magic.entry.FlatSection.{FlatSection}
 use Rattle.mime_text.specs.Magic.Entries.{PlainFlatSection, plain_role, plain_entries, plain_flat_section, plain_flat_sections}
 use Rattle.mime_text.specs.Magic.File.{with_forest, unless_bare, kept_sections, is_marker, holds_marker, deleted_kinds}
@@ -66,11 +66,11 @@ leaves kept ss s m so_far is none =
 -- ---- deleted types
 
 -- whether entries of the code hold a marker
-abbrev pub any_marker : List Entry → Bool
+abbrev pub any_marker : List MagicEntry → Bool
 any_marker es = list_any (λ e. is_marker (plain_role e.role)) es
 
 -- that is whether their plain values hold one
-any_marker-holds : (es : List Entry) → any_marker es ≡ list_any (λ i. is_marker i.role) (plain_entries es)
+any_marker-holds : (es : List MagicEntry) → any_marker es ≡ list_any (λ i. is_marker i.role) (plain_entries es)
 any_marker-holds [] = refl
 any_marker-holds (e ∷ es) = ap (λ (b : Bool). is_marker (plain_role e.role) || b) (any_marker-holds es)
 

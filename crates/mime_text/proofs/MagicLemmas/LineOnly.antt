@@ -4,7 +4,7 @@ use Rattle.std.proofs.Common.{append_assoc, arith}
 use Rattle.std.proofs.lemmas.Bool.{le-ltb, lt-leb, ne_eqb, cond-false}
 use Rattle.mime_base.specs.Magic.{PlainLine}
 use Rattle.mime_text.specs.Magic.Entries.{PlainRole, kept, ignored, marker, PlainEntry}
-use Rattle.mime_text.specs.Magic.Reading.{indent_at, start_at, value_at, mask_at, word_at, range_at, row_at, end_at, body_at, line_at}
+use Rattle.mime_text.specs.Magic.Reading.{indent_at, start_at, sized_at, mask_at, word_at, range_at, row_at, end_at, body_at, line_at}
 use Rattle.mime_text.specs.Magic.Text.{IsBody, IsEnd, IsLine}
 use Rattle.mime_text.proofs.MagicLemmas.Steps.{bind_on}
 use Rattle.mime_text.proofs.MagicLemmas.Prefixes.{row_only}
@@ -48,7 +48,7 @@ body_only text own b tail body =
     ∙ ap (λ (t : List ℕ). body.start ++ (61 ∷ body.high ∷ body.low ∷ (own.value ++ t))) options in
     ap body_at whole
     ∙ bind_on (start_at (body.start ++ 61 ∷ s1)) (own.start, s1) _ (own, r1) (start_only body.start own.start s1 body.start_is)
-    (bind_on (value_at s1) (own.value, v1) _ (own, r1) (value_only body.high body.low own.value v1 body.size)
+    (bind_on (sized_at s1) (own.value, v1) _ (own, r1) (value_only body.high body.low own.value v1 body.size)
     (bind_on (mask_at (length own.value) v1) (own.mask, m1) _ (own, r1)
     (mask_only (length own.value) o.mask own.mask m1 o.mask_is
     (mask_passes o.mask o.word o.range own.word own.range b tail o.ends o.word_is o.range_is))

@@ -5,7 +5,7 @@ use Rattle.std.proofs.lemmas.Bool.{ltb-false, eqb-true}
 use Rattle.std.proofs.lemmas.List.{take-append-drop, length-take}
 use Rattle.mime_text.specs.declared.magic.fault.Fault.{Fault}
 use Rattle.mime_text.specs.declared.magic.fault.MagicFaultKind.TheVariants.{Truncated, BadNumber, BadIndent}
-use Rattle.mime_text.specs.Magic.Reading.{◌>>=◌, fault_at, number_at, byte_at, indent_at, start_at, bytes_at, value_at}
+use Rattle.mime_text.specs.Magic.Reading.{◌>>=◌, fault_at, number_at, byte_at, indent_at, start_at, bytes_at, sized_at}
 use Rattle.mime_text.specs.Magic.Text.{IsNumber, IsIndent}
 use Rattle.mime_text.proofs.MagicLemmas.Steps.{bind_ok, guard_off, guard_on, chosen, ok_is}
 use Rattle.mime_text.proofs.MagicLemmas.Numbers.{number_found}
@@ -69,9 +69,9 @@ bytes_found n bytes x e =
     (sym (take-append-drop n bytes), omega (arith, length-take n bytes))
 
 -- a value that is read stands after the two bytes of its length
-pub value_found : (bytes : List ℕ) (x : List ℕ × List ℕ) → value_at bytes ≡ Ok x
+pub value_found : (bytes : List ℕ) (x : List ℕ × List ℕ) → sized_at bytes ≡ Ok x
     → (high : ℕ) × (low : ℕ) × (bytes ≡ high ∷ low ∷ (x.0 ++ x.1)) × (length x.0 ≡ 256 * high + low)
-unfolding value_at
+unfolding sized_at
 value_found [] x e = absurd cc
 value_found (high ∷ []) x e = absurd cc
 value_found (high ∷ low ∷ bytes) x e =

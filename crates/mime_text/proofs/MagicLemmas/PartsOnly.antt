@@ -5,7 +5,7 @@ use Rattle.std.proofs.lemmas.Bool.{le-ltb, ne_eqb, and_parts, leb-true, cond-tru
 use Rattle.std.proofs.lemmas.List.{take_at, drop_at}
 use Rattle.mime_text.specs.declared.magic.fault.Fault.{Fault}
 use Rattle.mime_text.specs.declared.magic.fault.MagicFaultKind.TheVariants.{BadNumber, BadIndent}
-use Rattle.mime_text.specs.Magic.Reading.{fault_at, is_digit, number_at, byte_at, indent_at, start_at, bytes_at, value_at}
+use Rattle.mime_text.specs.Magic.Reading.{fault_at, is_digit, number_at, byte_at, indent_at, start_at, bytes_at, sized_at}
 use Rattle.mime_text.specs.Magic.Text.{IsNumber, IsIndent}
 use Rattle.mime_text.proofs.MagicLemmas.Numbers.{number_only}
 use Rattle.mime_text.proofs.MagicLemmas.Steps.{bind_on}
@@ -47,6 +47,6 @@ bytes_only n v rest len =
     rw (long, take_at v rest n len, drop_at v rest n len) refl
 
 -- a value after the two bytes of its length is read
-pub value_only : (high low : ℕ) (v rest : List ℕ) → length v ≡ 256 * high + low → value_at (high ∷ low ∷ (v ++ rest)) ≡ Ok (v, rest)
-unfolding value_at
+pub value_only : (high low : ℕ) (v rest : List ℕ) → length v ≡ 256 * high + low → sized_at (high ∷ low ∷ (v ++ rest)) ≡ Ok (v, rest)
+unfolding sized_at
 value_only high low v rest size = bytes_only (256 * high + low) v rest size

@@ -3,10 +3,10 @@ use Rattle.std.specs.Prelude.{ℕ, List, map, Option, Some, None}
 use Rattle.std.specs.Borrow.{Bor}
 use Rattle.mime_base.specs.Magic.{PlainLine, line_from, mask_bytes}
 use Rattle.mime_text.specs.declared.magic.line.RawLine.{RawLine}
-use Rattle.mime_text.specs.declared.magic.entry.Line.{Line}
+use Rattle.mime_text.specs.declared.magic.entry.MagicLine.{MagicLine}
 use Rattle.mime_text.specs.declared.magic.entry.Role.{Role}
 use Rattle.mime_text.specs.declared.magic.entry.Role.TheVariants as role
-use Rattle.mime_text.specs.declared.magic.entry.Entry.{Entry}
+use Rattle.mime_text.specs.declared.magic.entry.MagicEntry.{MagicEntry}
 use Rattle.mime_text.specs.declared.magic.entry.FlatSection.{FlatSection}
 
 -- what a line is: one that is kept, one that is ignored, or a deletion marker
@@ -38,7 +38,7 @@ abbrev pub plain_raw_line : RawLine → PlainLine
 plain_raw_line b = line_from b.start b.range b.word b.value.now (slice_bytes b.mask)
 
 -- a line that is kept
-abbrev pub plain_line : Line → PlainLine
+abbrev pub plain_line : MagicLine → PlainLine
 plain_line l = line_from l.start l.range l.word l.value.items (mask_bytes l.mask)
 
 -- a role of the code
@@ -48,11 +48,11 @@ plain_role role.Ignored = ignored
 plain_role role.Marker = marker
 
 -- an entry of the code
-abbrev pub plain_entry : Entry → PlainEntry
+abbrev pub plain_entry : MagicEntry → PlainEntry
 plain_entry e = record { indent = e.indent; role = plain_role e.role }
 
 -- entries of the code
-abbrev pub plain_entries : List Entry → List PlainEntry
+abbrev pub plain_entries : List MagicEntry → List PlainEntry
 plain_entries entries = map plain_entry entries
 
 -- a section of the code

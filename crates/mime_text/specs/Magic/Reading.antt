@@ -87,10 +87,10 @@ bytes_at n bytes =
     if nat_lt (length bytes) n then Err (fault_at Truncated 0) else Ok (take n bytes, drop n bytes)
 
 -- two bytes of length, the higher first, and that many bytes
-unfoldable pub value_at : List ℕ → Result (List ℕ × List ℕ) Fault
-value_at [] = Err (fault_at Truncated 0)
-value_at (high ∷ []) = Err (fault_at Truncated 0)
-value_at (high ∷ low ∷ bytes) = bytes_at (256 * high + low) bytes
+unfoldable pub sized_at : List ℕ → Result (List ℕ × List ℕ) Fault
+sized_at [] = Err (fault_at Truncated 0)
+sized_at (high ∷ []) = Err (fault_at Truncated 0)
+sized_at (high ∷ low ∷ bytes) = bytes_at (256 * high + low) bytes
 
 -- nothing, or `&` and so many bytes
 unfoldable pub mask_at : ℕ → List ℕ → Result (Option (List ℕ) × List ℕ) Fault
@@ -122,7 +122,7 @@ row_at (b ∷ bytes) = if b == 10 then Ok ([], bytes) else (do
 unfoldable pub body_at : List ℕ → Result (PlainLine × List ℕ) Fault
 body_at bytes = do
   start ← start_at bytes
-  value ← value_at start.1
+  value ← sized_at start.1
   mask ← mask_at (length value.0) value.1
   word ← word_at (length value.0) mask.1
   range ← range_at word.1

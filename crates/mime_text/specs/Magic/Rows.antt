@@ -6,7 +6,7 @@ use Rattle.mime_text.specs.declared.magic.fault.Fault.{Fault}
 use Rattle.mime_text.specs.declared.magic.fault.MagicFault.TheVariants.{Malformed}
 use Rattle.mime_text.specs.declared.magic.fault.MagicFaultKind.TheVariants.{NoHeader, Truncated, BadSection, BadNumber, BadWord, BadIndent}
 use Rattle.mime_text.specs.declared.magic.fault.MagicFaultKind.TheVariants.{TooDeep}
-use Rattle.mime_text.specs.Magic.Reading.{◌>>=◌, digits_at, judged, number_at, byte_at, indent_at, start_at, bytes_at, value_at, mask_at}
+use Rattle.mime_text.specs.Magic.Reading.{◌>>=◌, digits_at, judged, number_at, byte_at, indent_at, start_at, bytes_at, sized_at, mask_at}
 use Rattle.mime_text.specs.Magic.Reading.{word_at, range_at, row_at, body_at, end_at, line_at, after_prefix, marker_at, entry_at, lines_at}
 use Rattle.mime_text.specs.Magic.Reading.{kind_of, head_of, head_at, section_at, sections_at, header, whole, magic_fault}
 use Rattle.mime_text.specs.Magic.Forest.{roots_of, forest}
@@ -14,7 +14,7 @@ use Rattle.mime_text.specs.Magic.File.{kept_sections, deleted_kinds}
 
 -- what a line computes with
 unfoldable computing_line : Unit {0}
-unfolding digits_at judged number_at byte_at indent_at start_at bytes_at value_at mask_at word_at range_at row_at body_at end_at line_at
+unfolding digits_at judged number_at byte_at indent_at start_at bytes_at sized_at mask_at word_at range_at row_at body_at end_at line_at
 computing_line = tt
 
 -- what a section computes with

@@ -4,7 +4,7 @@ use mime_base::TypeName;
 
 /// A line that is kept, without its children.
 #[derive(Debug, Drop)]
-pub struct Line {
+pub struct MagicLine {
     pub start: u32,
     pub range: u32,
     pub word: u32,
@@ -15,7 +15,7 @@ pub struct Line {
 /// What a line of a section is.
 #[derive(Debug, Drop)]
 pub enum Role {
-    Kept(Line),
+    Kept(MagicLine),
     /// A line with an unknown byte where its newline is expected.
     Ignored,
     /// The deletion marker.
@@ -24,7 +24,7 @@ pub enum Role {
 
 /// A line of a section with its indent.
 #[derive(Debug, Drop)]
-pub struct Entry {
+pub struct MagicEntry {
     pub indent: u32,
     pub role: Role,
 }
@@ -34,5 +34,5 @@ pub struct Entry {
 pub struct FlatSection {
     pub priority: u32,
     pub kind: TypeName,
-    pub entries: Vec<Entry>,
+    pub entries: Vec<MagicEntry>,
 }

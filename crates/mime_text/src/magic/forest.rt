@@ -9,7 +9,7 @@ ghost use Rattle.mime_base.specs.Magic.{forest_of, plain_matchlets};
 ghost use Rattle.mime_text.specs.Magic.Entries.{plain_entries, plain_role};
 ghost use Rattle.mime_text.specs.Magic.Forest.{deeper, forest, kept_matchlets, others, stack, plain_root, matchlet_of};
 
-use super::entry::{Entry, Role};
+use super::entry::{MagicEntry, Role};
 use mime_base::Matchlet;
 use std::alloc::{AllocError, Global};
 
@@ -59,7 +59,7 @@ fn take_deeper(
 }
 
 /// The entry as a root over its children.
-fn root_over(entry: Entry, children: Vec<Matchlet>) -> Root
+fn root_over(entry: MagicEntry, children: Vec<Matchlet>) -> Root
     ensures { plain_root result ≡ record {
       indent = entry.indent;
       matchlet = matchlet_of (plain_role entry.role) (forest_of (plain_matchlets children.items));
@@ -104,7 +104,7 @@ fn matchlets(alloc: Global, roots: Vec<Root>) -> Result<Vec<Matchlet>, AllocErro
 
 /// The forest of the entries.
 #[tactic(auto, unfolding(crate::specs::Magic::Forest::forest))]
-pub fn grow(alloc: Global, entries: Vec<Entry>) -> Result<Vec<Matchlet>, AllocError>
+pub fn grow(alloc: Global, entries: Vec<MagicEntry>) -> Result<Vec<Matchlet>, AllocError>
     // Each entry has the run of deeper entries after it as its children.
     ensures { IfOk result (λ v. forest_of (plain_matchlets v.items) ≡ forest (plain_entries entries.items)) }
 {

@@ -4,9 +4,9 @@ ghost use Rattle.std.specs.Prelude.{◌≡◌, Ok};
 ghost use Rattle.mime_base.specs.Magic.{fits_word, mask_bytes};
 ghost use Rattle.mime_text.specs.Magic.Entries.{plain_raw_line, plain_entry, plain_line, plain_role, slice_bytes};
 ghost use Rattle.mime_text.specs.Magic.Reading.{Agrees, AgreesIfMemory, body_at, bytes_at, end_at, indent_at, line_at, mask_at, range_at};
-ghost use Rattle.mime_text.specs.Magic.Reading.{row_at, start_at, value_at, word_at};
+ghost use Rattle.mime_text.specs.Magic.Reading.{row_at, start_at, sized_at, word_at};
 
-use super::entry::{Entry, Line, Role};
+use super::entry::{MagicEntry, MagicLine, Role};
 use super::fault::{Fault, MagicFaultKind, ReadError, fault_at};
 use super::number::{LIMIT, byte, number};
 use memchr::memchr;
@@ -70,9 +70,9 @@ fn some_bytes(bytes: &[u8], n: usize) -> Result<(&[u8], &[u8]), Fault>
     Ok(bytes.split_at(n))
 }
 
-#[tactic(auto, unfolding(crate::specs::Magic::Reading::value_at))]
+#[tactic(auto, unfolding(crate::specs::Magic::Reading::sized_at))]
 fn value(bytes: &[u8]) -> Result<(&[u8], &[u8]), Fault>
-    ensures { Agrees (λ x. (x.0.now, x.1.now)) result (value_at bytes.now) }
+    ensures { Agrees (λ x. (x.0.now, x.1.now)) result (sized_at bytes.now) }
 {
     match bytes {
         [] => Err(Fault::TRUNCATED),
@@ -159,12 +159,12 @@ fn copied_mask(alloc: Global, mask: Option<&[u8]>) -> Result<Option<Vec<u8>>, Re
 }
 
 /// The line as it is kept, with copies of its bytes.
-fn copied(alloc: Global, body: RawLine) -> Result<Line, ReadError>
+fn copied(alloc: Global, body: RawLine) -> Result<MagicLine, ReadError>
     ensures { AgreesIfMemory plain_line result (Ok (plain_raw_line body.entry)) }
 {
     let value = Vec::from_slice(alloc, body.value)?;
     let mask = copied_mask(alloc, body.mask)?;
-    Ok(Line {
+    Ok(MagicLine {
         start: body.start,
         range: body.range,
         word: body.word,
@@ -206,7 +206,7 @@ fn end<'a>(
 
 /// A line whose indent may be at most `limit`, and what comes after it.
 #[tactic(auto, unfolding(crate::specs::Magic::Reading::line_at))]
-pub fn line(alloc: Global, limit: u32, bytes: &[u8]) -> Result<(Entry, &[u8]), ReadError>
+pub fn line(alloc: Global, limit: u32, bytes: &[u8]) -> Result<(MagicEntry, &[u8]), ReadError>
     // It is the line that the definition reads here, with what is left, or its first fault, or memory ran out.
     ensures { AgreesIfMemory (λ x. (plain_entry x.0, x.1.now)) result (line_at limit bytes.now) }
 {
@@ -219,5 +219,5 @@ pub fn line(alloc: Global, limit: u32, bytes: &[u8]) -> Result<(Entry, &[u8]), R
     }
     let (body, rest) = body(rest)?;
     let (role, rest) = end(alloc, bytes.len(), body, rest)?;
-    Ok((Entry { indent, role }, rest))
+    Ok((MagicEntry { indent, role }, rest))
 }

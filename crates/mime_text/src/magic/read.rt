@@ -8,7 +8,7 @@ ghost use Rattle.mime_text.specs.Magic.File.{ReadsFile, IsFaultOf, IsFileOf, del
 ghost use Rattle.mime_text.specs.Magic.Reading.{whole};
 ghost use Rattle.mime_text.specs.Magic.Text.{MagicText};
 
-use super::entry::{Entry, FlatSection, Role};
+use super::entry::{FlatSection, MagicEntry, Role};
 use super::fault::{MagicFault, ReadError};
 use super::file::MagicFile;
 use super::forest::grow;
@@ -16,7 +16,7 @@ use super::text::flat_sections;
 use mime_base::{Section, TypeName};
 use std::alloc::{AllocError, Global};
 
-fn holds_marker(entries: &[Entry]) -> bool
+fn holds_marker(entries: &[MagicEntry]) -> bool
     ensures { result ≡ list_any (λ e. is_marker (plain_role e.role)) entries.now }
 {
     entries

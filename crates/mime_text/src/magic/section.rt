@@ -5,7 +5,7 @@ ghost use Rattle.mime_text.specs.Magic.Entries.{plain_entry, plain_entries, plai
 ghost use Rattle.mime_text.specs.Magic.Reading.{AgreesIfMemory, after_prefix, entry_at, head_at, head_of, kind_of, lines_at};
 ghost use Rattle.mime_text.specs.Magic.Reading.{marker_at, may_be_marker, section_at, starts_line};
 
-use super::entry::{Entry, FlatSection, Role};
+use super::entry::{FlatSection, MagicEntry, Role};
 use super::fault::{Fault, MagicFaultKind, ReadError, fault_at};
 use super::line::{line, row};
 use super::number::{byte, is_digit, number};
@@ -46,11 +46,11 @@ fn may_be_marker(bytes: &[u8]) -> bool
 
 /// A marker, or a line whose indent may be at most `limit`.
 #[tactic(auto, unfolding(crate::specs::Magic::Reading::entry_at))]
-fn entry(alloc: Global, limit: u32, bytes: &[u8]) -> Result<(Entry, &[u8]), ReadError>
+fn entry(alloc: Global, limit: u32, bytes: &[u8]) -> Result<(MagicEntry, &[u8]), ReadError>
     ensures { AgreesIfMemory (λ x. (plain_entry x.0, x.1.now)) result (entry_at limit bytes.now) }
 {
     if let Some(rest) = marker(bytes) {
-        let entry = Entry {
+        let entry = MagicEntry {
             indent: 0,
             role: Role::Marker,
         };
@@ -66,7 +66,7 @@ fn starts_line(b: u8) -> bool
 }
 
 /// The lines of a section, up to a byte that starts none.
-fn lines(alloc: Global, bytes: &[u8]) -> Result<(Vec<Entry>, &[u8]), ReadError>
+fn lines(alloc: Global, bytes: &[u8]) -> Result<(Vec<MagicEntry>, &[u8]), ReadError>
     ensures { AgreesIfMemory (λ x. (plain_entries x.0.items, x.1.now)) result
         (lines_at (length bytes.now) 0 bytes.now) }
 {
