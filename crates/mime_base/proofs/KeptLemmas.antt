@@ -3,9 +3,13 @@
 pub mod Greatest
 pub mod Both
 pub mod Offers
+pub mod Spellings
+pub mod ByText
+pub mod Lesser
+pub mod Hidden
 use Rattle.std.proofs.Common.{◌≡◌, ℕ, ◌+◌, ◌*◌, ◌<◌, ◌≤◌, Bool, true, false, cond, ◌&&◌, ◌||◌, ◌==◌, nat_lt, List, []}
 use Rattle.std.proofs.Common.{◌∷◌, length, get_or, max, refl, sym, ap, ◌∙◌, arith}
-use Rattle.std.specs.List.{filter}
+use Rattle.std.specs.List.{All, filter}
 use Rattle.std.proofs.lemmas.Bool.{and_parts, leb-true, true≢false}
 use Rattle.std.proofs.lemmas.List.Elements.{All-weaker, filter_agree}
 use Rattle.mime_base.specs.Kept.{class_of, greatest, of_greatest, earliness, any_cased, of_first_class, heaviest}
@@ -62,29 +66,41 @@ cased_if_any-is rules = by_cases (any_cased rules) refl
         rw (greatest-flag rules, is) (filter_agree (λ rule. rule.cased) (λ rule. flag rule == 1) (λ rule. by_flag rule.cased) rules)
     by_cases false is = rw (greatest-flag rules, is) (sym (none_cased rules is))
 
--- the number of the first preference, of the first two and of the first three
+-- the number of the first preference
 abbrev by_class : GlobRule → ℕ
 by_class rule = earliness (class_of rule.pattern)
 
--- the weight of a rule
-abbrev by_weight : GlobRule → ℕ
-by_weight rule = by_class rule * 256 + rule.weight
+-- the four as one number, where weights are below `heavy` and lengths below `long`
+module _ (heavy long : ℕ) where
+  -- the first two preferences
+  abbrev by_weight : GlobRule → ℕ
+  by_weight rule = by_class rule * heavy + rule.weight
 
--- the length of a rule's pattern
-abbrev by_length : GlobRule → ℕ
-by_length rule = by_weight rule * 65536 + length rule.pattern
+  -- the first three
+  abbrev by_length : GlobRule → ℕ
+  by_length rule = by_weight rule * long + length rule.pattern
 
--- one preference after another
+  -- all four
+  abbrev pub by_case : GlobRule → ℕ
+  by_case rule = by_length rule * 2 + flag rule
+
+  -- one preference after another
+  pub of_greatest-by_case : (rules : List GlobRule) → All (λ r. r.weight < heavy) rules → All (λ r. length r.pattern < long) rules →
+      of_greatest by_case rules ≡ preferred rules
+  unfolding preferred
+  of_greatest-by_case rules light short =
+      sym (cased_if_any-is (longest (heaviest (of_first_class rules)))
+      ∙ ap (λ kept. of_greatest flag (longest kept)) (of_greatest-of_greatest heavy by_class (λ r. r.weight) rules light)
+      ∙ ap (of_greatest flag) (of_greatest-of_greatest long by_weight (λ r. length r.pattern) rules short)
+      ∙ of_greatest-of_greatest 2 by_length flag rules (λ k d h. below_two (get_or rules k d).cased))
+    where
+      below_two : (b : Bool) → cond b 1 0 < 2
+      below_two true = omega arith
+      below_two false = omega arith
+
+-- a rank is that number where weights are below 256 and lengths below 65,536
 pub of_greatest-rank_of_rule : GreatestRankIsPreferred
-unfolding rank preferred
+unfolding rank
 of_greatest-rank_of_rule rules ranked =
-    let light = All-weaker FitsRank (λ r. r.weight < 256) (λ r is. is.0) rules ranked in
-    let short = All-weaker FitsRank (λ r. length r.pattern < 65536) (λ r is. is.1) rules ranked in
-    sym (cased_if_any-is (longest (heaviest (of_first_class rules)))
-    ∙ ap (λ kept. of_greatest flag (longest kept)) (of_greatest-of_greatest 256 by_class (λ r. r.weight) rules light)
-    ∙ ap (of_greatest flag) (of_greatest-of_greatest 65536 by_weight (λ r. length r.pattern) rules short)
-    ∙ of_greatest-of_greatest 2 by_length flag rules (λ k d h. below_two (get_or rules k d).cased))
-  where
-    below_two : (b : Bool) → cond b 1 0 < 2
-    below_two true = omega arith
-    below_two false = omega arith
+    of_greatest-by_case 256 65536 rules (All-weaker FitsRank (λ r. r.weight < 256) (λ r is. is.0) rules ranked)
+    (All-weaker FitsRank (λ r. length r.pattern < 65536) (λ r is. is.1) rules ranked)

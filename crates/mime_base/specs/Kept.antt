@@ -1,6 +1,8 @@
 -- The rules that are kept of those that match a name: the first class that has one, then the greatest
 -- weight, then the longest pattern, then the case-sensitive ones if any is.
 pub mod Rows
+pub mod Hidden
+pub mod HiddenRows
 use Rattle.std.specs.Prelude.{◌≡◌, ℕ, ◌+◌, ◌*◌, ◌<◌, Bool, false, ◌&&◌, ◌||◌, ◌==◌, if◌then◌else◌, List, [], ◌∷◌, length, max, filter, All}
 use Rattle.mime_base.specs.Matching.Elements.{is_literal_text}
 use Rattle.mime_base.specs.Matching.Matches.{rule_matches}

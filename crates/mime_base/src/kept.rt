@@ -7,6 +7,7 @@
 //! comparison of the four, and a [`Best`] keeps what is preferred in one pass.
 
 pub mod class;
+pub mod hidden;
 
 ghost use Rattle.std.specs.Prelude.{◌≡◌, ℕ, ◌+◌, ◌≤◌, nat_le, List, [], ◌∷◌, ◌++◌, length, map, OnOk, OnErr};
 ghost use Rattle.std.specs.List.{list_all};

@@ -9,7 +9,7 @@ use Rattle.mime_base.specs.Kept.{greatest, of_greatest}
 
 module _ {X : Type 0} (f : X → ℕ) where
   -- no element has a number above the greatest
-  filter-above : (n : ℕ) (xs : List X) → greatest f xs < n → filter (λ x. f x == n) xs ≡ []
+  pub filter-above : (n : ℕ) (xs : List X) → greatest f xs < n → filter (λ x. f x == n) xs ≡ []
   filter-above n [] above = refl
   filter-above n (x ∷ xs) above =
       rw (ne_eqb (f x) n (λ e. omega arith), filter-above n xs (omega arith))
