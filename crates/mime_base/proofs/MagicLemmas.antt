@@ -4,7 +4,10 @@ pub mod Mirroring
 pub mod Windows
 pub mod HoldingLines
 pub mod Ranges
+pub mod Lanes
+pub mod PassedPairs
 pub mod Skipping
+pub mod SecondBytes
 pub mod MostCompared
 pub mod StatedLines
 pub mod Fronts

@@ -5,6 +5,7 @@ pub mod Extent
 pub mod Holds
 pub mod HoldsRows
 pub mod Ranges
+pub mod Pairs
 pub mod Textual
 use Rattle.std.specs.Prelude.{ℕ, zero, suc, ◌+◌, ◌%◌, Bool, true, false, ◌&&◌, ◌||◌, ◌==◌, nat_lt, List, [], ◌∷◌, map}
 use Rattle.std.specs.Prelude.{length, Option, Some, None}

@@ -6,6 +6,7 @@ pub mod holding;
 pub mod host;
 pub mod masking;
 pub mod matchlet;
+pub mod pairs;
 pub mod ranges;
 pub mod textual;
 

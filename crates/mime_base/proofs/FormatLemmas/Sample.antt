@@ -1,5 +1,5 @@
 -- The cache that was made by hand spells its database, and is packed.
-use Rattle.std.proofs.Common.{◌≡◌, [], ◌∷◌, refl, lit≤, codes}
+use Rattle.std.proofs.Common.{[], ◌∷◌, refl, lit≤, codes}
 use Rattle.mime_base.specs.Cache.Bytes.{Stands, card_bytes}
 use Rattle.mime_base.specs.Kept.{class_of}
 use Rattle.mime_base.specs.Database.Subclass.{parents}
@@ -9,7 +9,6 @@ use Rattle.mime_base.specs.Format.Packed.{Packed}
 use Rattle.mime_base.specs.Format.Pairs.{PairsAt}
 use Rattle.mime_base.specs.Format.Parents.{IsName, ParentsAt}
 use Rattle.mime_base.specs.Format.Records.{ListAt}
-use Rattle.mime_base.specs.Format.Room.{room}
 use Rattle.mime_base.specs.Format.Rules.{GlobsAt, LiteralsAt}
 use Rattle.mime_base.specs.Format.Sample.{mk_rule, sample, sample_database}
 use Rattle.mime_base.specs.Format.Stored.{stored_text}

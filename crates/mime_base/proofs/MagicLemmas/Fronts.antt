@@ -1,10 +1,10 @@
 -- What holds for a content and for a front of it that is long enough.
-use Rattle.std.proofs.Common.{◌≡◌, ℕ, zero, suc, ◌+◌, ◌≤◌, ◌&&◌, ◌||◌, Bool, true, false, not, max, List, [], ◌∷◌, ◌++◌}
+use Rattle.std.proofs.Common.{◌≡◌, ℕ, zero, suc, ◌+◌, ◌≤◌, ◌&&◌, ◌||◌, not, List, [], ◌∷◌, ◌++◌}
 use Rattle.std.proofs.Common.{length, take, drop, Some, refl, sym, ap, ◌∙◌, arith, cond}
 use Rattle.std.proofs.lemmas.Bool.{le-leb}
 use Rattle.std.proofs.lemmas.List.{drop-append-le, length-append, length-drop, take-append-le}
 use Rattle.std.specs.List.{list_any}
-use Rattle.mime_base.specs.Magic.Extent.{extent, forest_extent, line_extent, sections_extent}
+use Rattle.mime_base.specs.Magic.Extent.{forest_extent, sections_extent}
 use Rattle.mime_base.specs.Magic.Holds.{bytes_of_mask, equals_at, equals_from, first_magic, is_bare, some_holds}
 use Rattle.mime_base.specs.Magic.{Forest, PlainLine, PlainSection, bare, line}
 use Rattle.mime_base.specs.Magic.Masking.{window_equals}

@@ -18,7 +18,7 @@ use Rattle.mime_base.proofs.MagicLemmas.Ranges.{compared_from-none, compared_fro
 use Rattle.mime_base.proofs.MagicLemmas.Windows.{counted, stops}
 
 -- all bits of a byte
-whole_byte : (b : ℕ) → b < 256 → bit_and b 255 ≡ b
+pub whole_byte : (b : ℕ) → b < 256 → bit_and b 255 ≡ b
 whole_byte b small = let rest = and_numeral b 254 refl in omega arith
 
 -- a search for a byte passes over what is not the byte
@@ -36,7 +36,7 @@ module _ (value : List ℕ) (word : ℕ) (host : Host) (content : List ℕ) (som
   own = line_from 0 0 word value (Some [])
 
   -- a window of which the first byte is not the value's
-  differs : (bytes : List ℕ) → length bytes ≡ length value → get_or bytes 0 0 < 256
+  pub differs : (bytes : List ℕ) → length bytes ≡ length value → get_or bytes 0 0 < 256
       → (get_or bytes 0 0 ≡ get_or value 0 0 → ⊥)
       → (equal_bytes value [] word host bytes ≡ 0) × (window_equals value [] word host bytes ≡ false)
   differs bytes same small other =
@@ -47,7 +47,7 @@ module _ (value : List ℕ) (word : ℕ) (host : Host) (content : List ℕ) (som
       (sym told.0, sym told.1 ∙ ne_eqb 0 (length bytes) (λ e. omega arith))
 
   -- the first byte of a window
-  first_byte : (at : ℕ) → get_or (take (length value) (drop at content)) 0 0 ≡ get_or content at 0
+  pub first_byte : (at : ℕ) → get_or (take (length value) (drop at content)) 0 0 ≡ get_or content at 0
   first_byte at =
       let place : at + 0 ≡ at = omega arith in
       get_or-take (length value) (drop at content) 0 0 some ∙ get_or-drop at content 0 0

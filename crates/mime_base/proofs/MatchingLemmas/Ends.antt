@@ -1,6 +1,6 @@
 -- Where no `]` stands at the end of a pattern: what is left of the pattern has none there either, and a `[` there
 -- begins no set.
-use Rattle.std.proofs.Common.{◌≡◌, ℕ, zero, suc, ◌+◌, ◌-◌, ◌<◌, ◌≤◌, Bool, true, false, cond, not, ◌==◌, List, [], ◌∷◌}
+use Rattle.std.proofs.Common.{◌≡◌, ℕ, zero, suc, ◌+◌, ◌-◌, ◌<◌, ◌≤◌, false, not, ◌==◌, List, [], ◌∷◌}
 use Rattle.std.proofs.Common.{length, drop, get_or, None, Some, refl, arith}
 use Rattle.std.specs.List.{prefix_len, position}
 use Rattle.std.proofs.lemmas.Bool.{eq-eqb, le-ltb, ne_eqb}

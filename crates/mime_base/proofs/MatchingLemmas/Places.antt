@@ -1,6 +1,6 @@
 -- The elements of what stands at a place of a pattern, and how far they have gone.
 use Rattle.std.proofs.Common.{◌≡◌, ℕ, suc, zero, ◌+◌, Bool, true, false, cond, not, ◌==◌, ◌≤◌, List, [], ◌∷◌, length}
-use Rattle.std.proofs.Common.{drop, refl, ap, sym, ◌∙◌, inl, arith, lit<, add-zero, zero-add, eq-eqb, ◌<◌, length-drop}
+use Rattle.std.proofs.Common.{drop, refl, ap, sym, ◌∙◌, inl, arith, lit<, add-zero, eq-eqb, ◌<◌, length-drop}
 use Rattle.std.proofs.lemmas.Bool.{ne_eqb, eqb-true}
 use Rattle.std.proofs.lemmas.List.{drop-map, length-map, nil_from_length}
 use Rattle.mime_base.specs.Matching.Elements.{Element, any_bytes, one, admits, element, elements, elements_after}

@@ -1,12 +1,11 @@
 -- What an attempt at a place of a name says of the name from that place on.
-use Rattle.std.proofs.Common.{◌≡◌, ℕ, ◌+◌, ◌-◌, ◌<◌, ◌≤◌, Bool, true, false, Some, None, List, ◌∷◌, length, drop, refl}
+use Rattle.std.proofs.Common.{◌≡◌, ℕ, ◌+◌, ◌-◌, ◌<◌, Bool, true, false, Some, None, List, ◌∷◌, length, drop, refl}
 use Rattle.std.proofs.Common.{ap, ◌∙◌, arith, length-drop}
 use Rattle.std.proofs.lemmas.List.{drop-drop, drop-map, length-map}
 use Rattle.mime_base.specs.Matching.Attempt.{Goes, answer, decided, last_tests, owed, tests_after}
 use Rattle.mime_base.specs.Matching.Count.{has_star, tests_of}
-use Rattle.mime_base.specs.Matching.Elements.{Element, any_bytes, singles}
+use Rattle.mime_base.specs.Matching.Elements.{Element, any_bytes}
 use Rattle.mime_base.specs.Matching.Folding.{compared, compared_byte}
-use Rattle.mime_base.specs.Meter.{raised}
 use Rattle.mime_base.specs.Matching.Matches.{least_tests, matches}
 use Rattle.mime_base.specs.declared.matching.attempt.Halt.{Halt}
 use Rattle.mime_base.specs.declared.matching.attempt.Halt.TheVariants.{BothEnd, PatternEnds, NameEnds, Star, Refused}

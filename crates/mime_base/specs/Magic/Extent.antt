@@ -1,5 +1,5 @@
 -- How much of a content the lines of magic can look at.
-use Rattle.std.specs.Prelude.{◌≡◌, refl, ℕ, ◌+◌, zero, max, List, [], ◌∷◌, length, None, codes}
+use Rattle.std.specs.Prelude.{◌≡◌, refl, ℕ, ◌+◌, max, List, [], ◌∷◌, length, None, codes}
 use Rattle.mime_base.specs.Database.{PlainDatabase}
 use Rattle.mime_base.specs.Magic.{Forest, PlainLine, PlainSection, bare, line, line_from}
 

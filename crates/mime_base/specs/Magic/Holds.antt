@@ -1,10 +1,9 @@
 -- When a line of magic holds for a content, and which section is the first that does.
-use Rattle.std.specs.Prelude.{◌≡◌, refl, ℕ, ◌+◌, zero, suc, Bool, true, false, ◌&&◌, ◌||◌, nat_le, if◌then◌else◌, List}
-use Rattle.std.specs.Prelude.{[], ◌∷◌, length, take, drop, Option, Some, None, codes}
-use Rattle.mime_base.specs.Magic.{Forest, PlainLine, PlainMatchlet, PlainSection, bare, line, line_from}
+use Rattle.std.specs.Prelude.{ℕ, ◌+◌, zero, suc, Bool, true, false, ◌&&◌, ◌||◌, nat_le, if◌then◌else◌, List}
+use Rattle.std.specs.Prelude.{[], ◌∷◌, length, take, drop, Option, Some, None}
+use Rattle.mime_base.specs.Magic.{Forest, PlainLine, PlainMatchlet, PlainSection, bare, line}
 use Rattle.mime_base.specs.Magic.Masking.{window_equals}
 use Rattle.mime_base.specs.declared.magic.host.Host.{Host}
-use Rattle.mime_base.specs.declared.magic.host.Host.TheVariants.{Little, Big}
 
 -- the bytes of a mask; without one all bits count, as past a mask's end
 abbrev pub bytes_of_mask : Option (List ℕ) → List ℕ

@@ -1,9 +1,8 @@
 -- Worked rows of lines of magic, which compute.
-use Rattle.std.specs.Prelude.{◌≡◌, refl, ℕ, Bool, true, false, List, [], ◌∷◌, Some, None, codes}
+use Rattle.std.specs.Prelude.{◌≡◌, refl, true, false, [], ◌∷◌, Some, None, codes}
 use Rattle.mime_base.specs.Magic.Holds.{equals_from, first_magic, some_holds}
-use Rattle.mime_base.specs.Magic.{Forest, PlainSection, bare, line, line_from}
+use Rattle.mime_base.specs.Magic.{Forest, bare, line, line_from}
 use Rattle.mime_base.specs.Magic.Masking.{window_equals}
-use Rattle.mime_base.specs.declared.magic.host.Host.{Host}
 use Rattle.mime_base.specs.declared.magic.host.Host.TheVariants.{Little, Big}
 
 -- `>4=` 00 02 `ab` `&` DF DF `+3`: the window `AB` at the offsets 4 to 6, not at 7

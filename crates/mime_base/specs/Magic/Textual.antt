@@ -1,5 +1,5 @@
 -- Whether a content looks like text.
-use Rattle.std.specs.Prelude.{◌≡◌, refl, ℕ, ◌+◌, Bool, true, false, not, ◌&&◌, ◌==◌, nat_lt, List, [], ◌∷◌, ◌++◌, take, replicate, codes}
+use Rattle.std.specs.Prelude.{◌≡◌, refl, ℕ, Bool, true, false, not, ◌&&◌, ◌==◌, nat_lt, List, [], ◌∷◌, ◌++◌, take, replicate}
 use Rattle.std.specs.List.{list_any}
 
 -- below 32, and no tab (9), newline (10) or carriage return (13)

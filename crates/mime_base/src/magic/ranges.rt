@@ -1,14 +1,15 @@
 //! Values that are sought at the offsets of a range ("The magic files").
 
-ghost use Rattle.std.specs.Prelude.{◌≡◌, ◌≢◌, ℕ, ◌+◌, ◌-◌, ◌^◌, ◌<◌, ◌≤◌, length, min, slice_index, true, false, Some};
+ghost use Rattle.std.specs.Prelude.{◌≡◌, ℕ, ◌+◌, ◌-◌, ◌^◌, ◌<◌, ◌≤◌, [], length, min, true, false, Some};
 ghost use Rattle.mime_base.specs.Magic.Holds.{equals_from};
 ghost use Rattle.mime_base.specs.Magic.{line_from};
-ghost use Rattle.mime_base.specs.Magic.Masking.{equal_bytes, window_equals};
+ghost use Rattle.mime_base.specs.Magic.Masking.{equal_bytes, group_of, window_equals};
 ghost use Rattle.mime_base.specs.Magic.Ranges.{compared_from};
 ghost use Rattle.mime_base.specs.Meter.{raised};
 
 use crate::magic::host::Host;
 use crate::magic::masking::{equal_bytes, group_of};
+use crate::magic::pairs::{Passed, pass_pairs};
 use crate::meter::Meter;
 use memchr::memchr;
 
@@ -86,46 +87,23 @@ fn value_in_windows(
     ensures bytes { meter.new.bytes ≡ raised meter.old.bytes
         (compared_from (line_from 0 0 word value.now (Some mask.now)) host content.now start (end - start)) }
 {
-    let first = next_window(value, mask, word, host, content, start, end, meter);
-    if first == end {
-        return false;
-    }
-    value_from(value, mask, word, host, content, first, end, meter)
-}
-
-/// The same, where the first window may equal the value.
-#[inline]
-fn value_from(
-    value: &[u8],
-    mask: &[u8],
-    word: u32,
-    host: Host,
-    content: &[u8],
-    start: usize,
-    end: usize,
-    meter: &mut Meter,
-) -> bool
-    requires order { start ≤ end }
-    requires inside { end + length value.now ≤ length content.now + 1 }
-    ensures equal { result ≡ equals_from (line_from 0 0 word value.now (Some mask.now))
-        host content.now start (end - start) }
-    ensures nodes { meter.new.nodes ≡ meter.old.nodes }
-    ensures bytes { meter.new.bytes ≡ raised meter.old.bytes
-        (compared_from (line_from 0 0 word value.now (Some mask.now)) host content.now start (end - start)) }
-{
-    let mut at = start;
-    while at < end {
+    let mut start = start;
+    while start < end {
+        let at = next_window(value, mask, word, host, content, start, end, meter);
+        if at == end {
+            return false;
+        }
         let window = &content[at..at + value.len()];
         if value_is(value, mask, word, host, window, meter) {
             return true;
         }
-        at = next_window(value, mask, word, host, content, at + 1, end, meter);
+        start = at + 1;
     }
     false
 }
 
-/// The next offset up to `end` whose window may equal the value. It adds one for each window before
-/// it, of which already the first byte differs.
+/// The next offset up to `end` whose window may equal the value. It adds the bytes compared in each window before it: one, or
+/// two where the first byte is the value's.
 #[inline]
 fn next_window(
     value: &[u8],
@@ -144,33 +122,50 @@ fn next_window(
     ensures equal { equals_from (line_from 0 0 word value.now (Some mask.now)) host content.now at (end - at)
         ≡ equals_from (line_from 0 0 word value.now (Some mask.now)) host content.now result (end - result) }
     ensures nodes { meter.new.nodes ≡ meter.old.nodes }
-    ensures bytes { meter.new.bytes ≡ raised meter.old.bytes (result - at) }
-    ensures counted { compared_from (line_from 0 0 word value.now (Some mask.now)) host content.now at (end - at)
-        ≡ result - at + compared_from (line_from 0 0 word value.now (Some mask.now)) host content.now result (end - result) }
+    ensures bytes { raised meter.old.bytes
+        (compared_from (line_from 0 0 word value.now (Some mask.now)) host content.now at (end - at))
+        ≡ raised meter.new.bytes
+        (compared_from (line_from 0 0 word value.now (Some mask.now)) host content.now result (end - result)) }
+    ensures most { meter.new.bytes < 2 ^ 64 }
 {
-    if !mask.is_empty() || value.is_empty() || group_of(word, host, value.len()) != 1 {
+    if end - at <= 1 || !mask.is_empty() || value.is_empty() {
         return at;
     }
-    let passed = length_before(value[0], &content[at..end]);
-    meter.add_bytes(passed as u64);
-    at + passed
+    if group_of(word, host, value.len()) != 1 {
+        return at;
+    }
+    let passed = pass_windows(value, content, at, end);
+    meter.add_bytes(passed.length as u64);
+    meter.add_bytes(passed.firsts as u64);
+    at + passed.length
 }
 
-/// How many bytes stand before the first of this value, or at all. Most ranges have one offset, and of
-/// one byte no search is begun.
+/// The offsets from `at` on whose windows differ from a value in its first byte or, where it has two, in one of its first two:
+/// up to the first that may equal it, or to `end`.
 #[inline]
-fn length_before(byte: u8, bytes: &[u8]) -> usize
-    ensures limit { result ≤ length bytes.now }
-    ensures differ { (i : ℕ) → i < result → slice_index bytes.now i ≢ byte }
+fn pass_windows(value: &[u8], content: &[u8], at: usize, end: usize) -> Passed
+    requires some { 0 < length value.now }
+    requires order { at ≤ end }
+    requires inside { end + length value.now ≤ length content.now + 1 }
+    ensures limit { at + result.length ≤ end }
+    ensures equal { (word : ℕ) (host : Host) → group_of word host (length value.now) ≡ 1 →
+        equals_from (line_from 0 0 word value.now (Some [])) host content.now at (end - at)
+        ≡ equals_from (line_from 0 0 word value.now (Some [])) host content.now (at + result.length) (end - (at + result.length)) }
+    ensures counted { (word : ℕ) (host : Host) → group_of word host (length value.now) ≡ 1 →
+        compared_from (line_from 0 0 word value.now (Some [])) host content.now at (end - at) ≡ result.length + result.firsts
+        + compared_from (line_from 0 0 word value.now (Some [])) host content.now (at + result.length) (end - (at + result.length)) }
 {
-    if bytes.len() == 1 {
-        return usize::from(bytes[0] != byte);
+    if value.len() == 1 {
+        let bytes = &content[at..end];
+        let length = memchr(value[0], bytes).unwrap_or(bytes.len());
+        return Passed { length, firsts: 0 };
     }
-    memchr(byte, bytes).unwrap_or(bytes.len())
+    pass_pairs(value[0], value[1], &content[at..], end - at)
 }
 
 /// Whether a window equals a value under its mask. It adds the bytes up to and including the first that
 /// differs.
+#[inline(never)]
 fn value_is(
     value: &[u8],
     mask: &[u8],

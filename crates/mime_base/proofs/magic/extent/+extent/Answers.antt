@@ -1,4 +1,4 @@
-use Rattle.std.proofs.Common.{◌≡◌, ◌+◌, max, drop, ap, ◌∙◌, arith}
+use Rattle.std.proofs.Common.{ap, arith}
 use Rattle.std.proofs.lemmas.List.{drop_all}
 use Rattle.mime_base.specs.Magic.Extent.{forest_extent}
 use Rattle.mime_base.specs.Magic.{forest_of, plain_matchlets}

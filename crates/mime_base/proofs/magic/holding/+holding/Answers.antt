@@ -1,7 +1,7 @@
-use Rattle.std.proofs.Common.{◌≡◌, ◌+◌, ◌||◌, true, false, ◌<◌, sym, ap, ◌∙◌, arith, drop, vec_len}
+use Rattle.std.proofs.Common.{◌≡◌, ◌+◌, ◌||◌, sym, ap, ◌∙◌, arith, drop, vec_len}
 use Rattle.std.proofs.lemmas.Bool.{eqb-false, eqb-true, or_left}
 use Rattle.std.proofs.lemmas.List.{drop_all}
-use Rattle.mime_base.specs.Magic.Holds.{is_bare, line_holds, some_holds}
+use Rattle.mime_base.specs.Magic.Holds.{some_holds}
 use Rattle.mime_base.specs.Magic.{forest_of, plain_matchlet, plain_matchlets}
 use Rattle.mime_base.specs.declared.magic.matchlet.Matchlet.TheViews.{out-Matchlet}
 use Rattle.mime_base.proofs.MagicLemmas.HoldingLines.{line_holds-alone, line_holds-differs, line_holds-parent}

@@ -1,5 +1,5 @@
-use Rattle.std.proofs.Common.{◌≡◌, ℕ, List, Some, ap, ◌∙◌}
-use Rattle.mime_base.specs.Magic.Holds.{bytes_of_mask, equals_from}
+use Rattle.std.proofs.Common.{ℕ, List, Some, ap, ◌∙◌}
+use Rattle.mime_base.specs.Magic.Holds.{equals_from}
 use Rattle.mime_base.specs.Magic.{line_from, mask_bytes}
 use Rattle.mime_base.specs.declared.magic.matchlet.Matchlet.TheViews.{out-Matchlet}
 use Rattle.mime_base.proofs.MagicLemmas.HoldingLines.{equals_from-mask, plain_matchlet-out}

@@ -1,0 +1,13 @@
+use Rattle.std.proofs.Common.{◌-◌, ◌≤◌}
+use Rattle.mime_base.specs.Magic.Pairs.{PassesPairs}
+use Rattle.mime_base.proofs.magic.pairs.pass_blocks.Given as goal
+
+abbrev pub invariant-loop-length : goal.invariant-loop-length
+invariant-loop-length l = record {
+  passed : PassesPairs l.first l.second l.bytes l.length l.firsts;
+  few : l.firsts ≤ l.length;
+  limit : l.length ≤ l.count;
+}
+
+abbrev pub decreases-loop-length : goal.decreases-loop-length
+decreases-loop-length l = l.count - l.length

@@ -1,0 +1,10 @@
+-- Places at which two bytes stand side by side.
+use Rattle.std.specs.Prelude.{◌≡◌, ℕ, ◌+◌, ◌<◌, ◌==◌, List, take, slice_index}
+use Rattle.std.specs.List.{count_by}
+
+-- so many places from the front on were passed over, and the first byte stands at so many of them
+pub record PassesPairs (first second : ℕ) (bytes : List ℕ) (passed firsts : ℕ) : Type 0 where
+  -- Both bytes stand at none of them.
+  pub none : (i : ℕ) → i < passed → slice_index bytes i ≡ first → slice_index bytes (i + 1) ≡ second → ⊥
+  -- The first is counted.
+  pub counted : firsts ≡ count_by (λ b. b == first) (take passed bytes)
