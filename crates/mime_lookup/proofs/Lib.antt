@@ -30,7 +30,6 @@ pub mod Queues
 pub mod SearchCosts
 pub mod MagicFirst
 pub mod BoundLemmas
-pub mod GlobsCosts
 pub mod NearLemmas
 pub mod ShortTexts
 pub mod CauseLemmas

@@ -8,11 +8,11 @@ use Rattle.mime_lookup.specs.Affords.{Affords, rule_records}
 use Rattle.mime_lookup.specs.CheckingOrder.{Chooses, GlobsDecide, front_size, globs_suffice, read_of}
 use Rattle.mime_lookup.specs.Content.{known_content}
 use Rattle.mime_lookup.specs.Fronts.{ReadsFront}
-use Rattle.mime_lookup.specs.Halves.{AffordsRest, Gives, Leaves, order_of, owed_records}
+use Rattle.mime_lookup.specs.Halves.{AffordsRest, Decides, Leaves, order_of, owed_records}
 use Rattle.mime_lookup.specs.Spelling.{SpellsGlobs, SpellsMagic}
 use Rattle.mime_lookup.specs.Spent.{IsUsedUp}
 use Rattle.mime_lookup.specs.Steps.{Stops, Suffices, SufficesForContent}
-use Rattle.mime_lookup.specs.declared.cached.by_name.ByName.TheVariants.{Decided, Left}
+use Rattle.mime_lookup.specs.declared.cached.by_name.NameDecision.TheVariants.{Decided, Left}
 use Rattle.mime_lookup.specs.declared.cached.by_name.Candidates.{Candidates}
 use Rattle.mime_lookup.specs.declared.order.Order.{Order}
 use Rattle.mime_lookup.specs.declared.stopped.Cause.{Cause}
@@ -31,7 +31,7 @@ decide_for b name order A B weaker (inr none) = inr (none.0, weaker none.1)
 
 -- a type that is given whatever the content is
 pub chosen_anyway : (b : PlainDatabase) (name : List ℕ) (host : Host) (order : Order) (kind : Bor (List ℕ)) (known : Option (Option (List ℕ)))
-    → Gives b name order (Decided kind) → IfSome known (λ content. Chooses b name content host order kind.now)
+    → Decides b name order (Decided kind) → IfSome known (λ content. Chooses b name content host order kind.now)
 chosen_anyway b name host order kind None gives = tt
 chosen_anyway b name host order kind (Some content) gives = gives.1 content host
 
@@ -50,7 +50,7 @@ front_read b name order None read suffice size = tt
 front_read b name order (Some content) read suffice size = rw suffice size
 
 module _ {R : Type 0} (remaining : R → Option (List ℕ)) (c name : List ℕ) (content : Option R) (order : Order) (candidates : Candidates)
-    (b : PlainDatabase) (gives : Gives b name order (Left candidates))
+    (b : PlainDatabase) (gives : Decides b name order (Left candidates))
   where
     -- where the globs decide there is no content
     pub no_content : GlobsDecide b name order (content ≡ None) → content ≡ None
@@ -89,7 +89,7 @@ module _ {R : Type 0} (remaining : R → Option (List ℕ)) (c name : List ℕ) 
 
 -- the front gave nothing
 module _ {R : Type 0} (remaining : R → Option (List ℕ)) (c name : List ℕ) (content : Option R) (order : Order) (candidates : Candidates)
-    (gives : (b : PlainDatabase) → SpellsGlobs c b → Gives b name order (Left candidates)) (read : ℕ) (front : Option (List ℕ))
+    (gives : (b : PlainDatabase) → SpellsGlobs c b → Decides b name order (Left candidates)) (read : ℕ) (front : Option (List ℕ))
     (reads : ReadsFront remaining c content read front)
   where
     pub stops_front : (old kept after : Budget) (stop : Cause) → kept.value_bytes ≡ old.value_bytes

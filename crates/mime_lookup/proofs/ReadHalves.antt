@@ -7,11 +7,11 @@ use Rattle.mime_lookup.specs.Bounds.{stated_extent}
 use Rattle.mime_lookup.specs.Cached.{cause_of}
 use Rattle.mime_lookup.specs.Content.{Health, Tally, known_content}
 use Rattle.mime_lookup.specs.Fronts.{ReadsFront}
-use Rattle.mime_lookup.specs.Halves.{Gives}
+use Rattle.mime_lookup.specs.Halves.{Decides}
 use Rattle.mime_lookup.specs.LookUps.{ReadsLookUp}
 use Rattle.mime_lookup.specs.Reads.{AsksUnless, Reads}
 use Rattle.mime_lookup.specs.Spelling.{SpellsGlobs}
-use Rattle.mime_lookup.specs.declared.cached.by_name.ByName.TheVariants.{Decided, Left}
+use Rattle.mime_lookup.specs.declared.cached.by_name.NameDecision.TheVariants.{Decided, Left}
 use Rattle.mime_lookup.specs.declared.cached.by_name.Candidates.{Candidates}
 use Rattle.mime_lookup.specs.declared.order.Order.{Order}
 use Rattle.mime_lookup.specs.declared.stopped.Cause.{Cause}
@@ -50,7 +50,7 @@ module _ {R : Type 0} (remaining : R → Option (List ℕ)) (tally : R → Optio
 
     -- the name gave a type
     pub reads_decided : (content : Option R) (read : ℕ) (kind : Bor (List ℕ)) → read ≡ 0
-        → ((b : PlainDatabase) → SpellsGlobs c b → Gives b name order (Decided kind))
+        → ((b : PlainDatabase) → SpellsGlobs c b → Decides b name order (Decided kind))
         → ReadsLookUp remaining tally health c name order content content read (Ok kind)
     reads_decided content read kind none gives = record {
       reader = reads_nothing remaining tally health (max 128 (stated_extent c)) content read kind none;
@@ -59,7 +59,7 @@ module _ {R : Type 0} (remaining : R → Option (List ℕ)) (tally : R → Optio
           none_read b name order (known_content remaining content) read none (gives b (spelled_globs c b within spells)).0;
     }
 
-    module _ (candidates : Candidates) (gives : (b : PlainDatabase) → SpellsGlobs c b → Gives b name order (Left candidates)) where
+    module _ (candidates : Candidates) (gives : (b : PlainDatabase) → SpellsGlobs c b → Decides b name order (Left candidates)) where
       -- the content was not read
       pub reads_refused : {X Y : Type 0} (before after : Option R) (read : ℕ) (stop : Cause) (result : Result Y Cause)
           → IsErrAnd result (λ passed. passed ≡ stop)

@@ -1,6 +1,6 @@
 -- Why a step of a lookup over a cache stops, from the fault of its own step and from what a step that it calls stops for.
 use Rattle.std.proofs.Common.{◌≡◌, ◌⊎◌, ℕ, List, Result, Ok, Err, ap, inl, inr, refl, subst, sym}
-use Rattle.std.specs.Prelude.{IfErr, IsErrAnd, OnOk}
+use Rattle.std.specs.Prelude.{IfErr, IfOk, IsErrAnd, OnOk}
 use Rattle.mime_base.specs.Database.{PlainDatabase}
 use Rattle.mime_lookup.specs.Cached.{IsStop, cause_of}
 use Rattle.mime_lookup.specs.StepFaults.{IsAliasFault, IsLookUpFault, IsSearchFault, of_search}
@@ -21,6 +21,11 @@ passed_on IsSo error (Err passed) same is = subst IsSo (sym same) is
 pub not_ok : {X E : Type 0} (P : Type 0) (Is : E → Type 0) (result : Result X E) → IsErrAnd result Is → OnOk result P
 not_ok P Is (Ok x) is = absurd is
 not_ok P Is (Err e) is = tt
+
+-- nor is it of any kind
+pub not_given : {X E : Type 0} (P : X → Type 0) (Is : E → Type 0) (result : Result X E) → IsErrAnd result Is → IfOk result P
+not_given P Is (Ok x) is = absurd is
+not_given P Is (Err e) is = tt
 
 -- a budget that is spent is no other fault
 pub spent_fault : (e : CacheFault) → cause_of e ≡ cause.Cache fault.Spent → e ≡ fault.Spent

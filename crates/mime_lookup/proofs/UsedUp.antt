@@ -1,7 +1,6 @@
 -- Which faults say that a lookup used up what it may take of a cache, and what is left then.
 use Rattle.std.proofs.Common.{◌≡◌, ◌∙◌, ◌⊎◌, ℕ, ◌/◌, ◌≤◌, List, length, inl, inr, sym, arith}
 use Rattle.mime_base.specs.Cache.Bytes.{field}
-use Rattle.mime_base.specs.declared.meter.Meter.{Meter}
 use Rattle.mime_lookup.specs.Costs.{Costs}
 use Rattle.mime_lookup.specs.Spent.{IsUsedUp, UsesUp}
 use Rattle.mime_lookup.specs.StepFaults.{IsAliasFault, IsGlobsFault, IsSearchFault, IsSniffFault}
@@ -11,6 +10,7 @@ use Rattle.mime_view.specs.Parents.{IsParentsFault, IsTextsFault, parents_at}
 use Rattle.mime_view.specs.declared.budget.Budget.{Budget}
 use Rattle.mime_view.specs.declared.fault.CacheFault.{CacheFault}
 use Rattle.mime_view.specs.declared.fault.CacheFault.TheVariants.{Spent, TooDeep}
+use Rattle.mime_view.specs.declared.spending.Spending.{Spending}
 
 -- the search for the types of a name does only where no record is left
 pub globs_spent : (c : List ℕ) (left : Budget) (e : CacheFault) → IsGlobsFault c left e → e ≡ Spent → left.records ≡ 0
@@ -68,11 +68,11 @@ module _ (c : List ℕ) (left : Budget) (NoContent : Type 0) (content : NoConten
   sniff_fault_spent e (inr magic) same = magic_spent (field c 0 6) e magic same
 
 -- what was left of a cache's own budget, after the header and all steps
-pub uses_up : (c : List ℕ) {NoContent : Type 0} {each value more : ℕ} {old left : Budget} {before after : Meter} → length c ≤ 268435456
-    → old.records ≡ length c / 4 → old.value_bytes ≡ length c → 1 ≤ before.nodes → Costs each value more old left before after
-    → IsUsedUp c NoContent left → UsesUp c NoContent after.nodes
+pub uses_up : (c : List ℕ) {NoContent : Type 0} {each value more : ℕ} {old left : Spending} → length c ≤ 268435456
+    → old.budget.records ≡ length c / 4 → old.budget.value_bytes ≡ length c → 1 ≤ old.meter.nodes → Costs each value more old left
+    → IsUsedUp c NoContent left.budget → UsesUp c NoContent left.meter.nodes
 uses_up c {left = left} limit records value_bytes one cost used = record {
-  left = left;
+  left = left.budget;
   records = omega (arith, cost.fair, one, records, limit);
   value_bytes = omega (arith, cost.value_bytes, value_bytes);
   used_up = used;

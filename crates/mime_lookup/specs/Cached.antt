@@ -3,8 +3,8 @@ use Rattle.std.specs.Prelude.{◌≡◌, ◌≢◌, ◌⊎◌, ℕ, true, false,
 use Rattle.mime_base.specs.Cache.Texts.{text_at}
 use Rattle.mime_lookup.specs.Finding.{PlainFinding, by_magic, fixed}
 use Rattle.mime_lookup.specs.CheckingOrder.{are_one_type}
-use Rattle.mime_lookup.specs.declared.cached.kept.Kept.{Kept}
-use Rattle.mime_lookup.specs.declared.cached.kept.Kept.TheVariants as kept
+use Rattle.mime_lookup.specs.declared.cached.kept.KeptTypes.{KeptTypes}
+use Rattle.mime_lookup.specs.declared.cached.kept.KeptTypes.TheVariants as kept
 use Rattle.mime_lookup.specs.declared.cached.sniff.Finding.{Finding}
 use Rattle.mime_lookup.specs.declared.cached.sniff.Finding.TheVariants as finding
 use Rattle.mime_lookup.specs.declared.stopped.Cause.{Cause}
@@ -35,17 +35,17 @@ IsFinding c (finding.Magic kind priority) = IsCacheText c kind.now
 IsFinding c (finding.Fixed kind) = Contains fixed_kinds kind.now
 
 -- what is kept of these types: the one that all are, or all of them
-abbrev pub IsKept : List (List ℕ) → Kept → Type 0
+abbrev pub IsKept : List (List ℕ) → KeptTypes → Type 0
 IsKept kinds (kept.One kind) = (are_one_type kinds ≡ true) × (kind.now ≡ get_or kinds 0 [])
 IsKept kinds (kept.Others others) = (are_one_type kinds ≡ false) × (others ≡ kinds)
 
 -- texts of the cache
-abbrev pub AreCacheTexts : List ℕ → Kept → Type 0
+abbrev pub AreCacheTexts : List ℕ → KeptTypes → Type 0
 AreCacheTexts c (kept.One kind) = IsCacheText c kind.now
 AreCacheTexts c (kept.Others others) = All (IsCacheText c) others
 
 -- how many types are left to choose among
-abbrev pub others_count : Kept → ℕ
+abbrev pub others_count : KeptTypes → ℕ
 others_count (kept.One kind) = 0
 others_count (kept.Others others) = length others
 

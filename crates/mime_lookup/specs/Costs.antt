@@ -1,38 +1,32 @@
 -- What a step of a lookup over a cache costs, whatever the cache's bytes are.
-use Rattle.std.specs.Prelude.{ℕ, ◌+◌, ◌*◌, ◌≤◌}
-use Rattle.mime_base.specs.Meter.{raised}
-use Rattle.mime_base.specs.declared.meter.Meter.{Meter}
-use Rattle.mime_view.specs.declared.budget.Budget.{Budget}
+use Rattle.std.specs.Prelude.{◌≡◌, ℕ, ◌+◌, ◌*◌, ◌≤◌}
+use Rattle.mime_view.specs.Spending.{Looks, Price, Spends}
+use Rattle.mime_view.specs.declared.spending.Spending.{Spending}
 
--- Each record that is taken adds at most 59 nodes and `each` bytes, and each value byte at most `value` bytes. So many
--- nodes come besides, each with at most 256 bytes.
-pub record Costs (each value more : ℕ) (old new : Budget) (before after : Meter) : Type 0 where
-  pub records : new.records ≤ old.records
-  pub value_bytes : new.value_bytes ≤ old.value_bytes
-  pub rises : before.nodes ≤ after.nodes
-  pub nodes : after.nodes + 59 * new.records ≤ before.nodes + 59 * old.records + more
-  pub fair : raised before.nodes old.records ≤ after.nodes + new.records
-  pub bytes_rise : before.bytes ≤ after.bytes
-  pub bytes : after.bytes + each * new.records + value * new.value_bytes
-      ≤ before.bytes + each * old.records + value * old.value_bytes + 256 * more
+-- what a lookup pays: 59 nodes and so many bytes for a record, and so many bytes for a value byte
+abbrev pub lookup_price : ℕ → ℕ → Price
+lookup_price each value = record { nodes = 59; bytes = each; value_byte = value }
 
--- The same, where an alias step and an expansion of each of so many types are paid for too: 29 nodes and 7,424 bytes each.
-pub record CostsAhead (kinds each value more : ℕ) (old new : Budget) (before after : Meter) : Type 0 where
-  pub alone : Costs each value more old new before after
-  pub nodes : after.nodes + 29 * kinds + 59 * new.records ≤ before.nodes + 59 * old.records + more
-  pub bytes : after.bytes + 7424 * kinds + each * new.records + value * new.value_bytes
-      ≤ before.bytes + each * old.records + value * old.value_bytes + 256 * more
+-- a step pays for what it takes, and `more` nodes come besides, each with at most 256 bytes
+abbrev pub Costs : ℕ → ℕ → ℕ → Spending → Spending → Type 0
+Costs each value more old new = Spends (lookup_price each value) more (256 * more) old new
 
--- The same, where so many nodes more are still to come, each with at most 256 bytes.
-pub record CostsOwing (owed each value more : ℕ) (old new : Budget) (before after : Meter) : Type 0 where
-  pub alone : Costs each value more old new before after
-  pub nodes : after.nodes + owed + 59 * new.records ≤ before.nodes + 59 * old.records + more
-  pub bytes : after.bytes + 256 * owed + each * new.records + value * new.value_bytes
-      ≤ before.bytes + each * old.records + value * old.value_bytes + 256 * more
+-- A step that costs so much, with `owed` nodes that are still to come, each with at most 256 bytes.
+pub record CostsOwing (owed each value more : ℕ) (old new : Spending) : Type 0 where
+  -- It does without them.
+  pub alone : Costs each value more old new
+  -- The nodes with them.
+  pub nodes : new.meter.nodes + owed + 59 * new.budget.records ≤ old.meter.nodes + 59 * old.budget.records + more
+  -- The bytes with them.
+  pub bytes : new.meter.bytes + 256 * owed + each * new.budget.records + value * new.budget.value_bytes
+      ≤ old.meter.bytes + each * old.budget.records + value * old.budget.value_bytes + 256 * more
 
--- a meter after so many types more were tried: 29 nodes for each, and 32 times 256 bytes
-abbrev pub ahead : ℕ → Meter → Meter
-ahead kinds meter = record { nodes = meter.nodes + 29 * kinds; bytes = meter.bytes + 8192 * kinds }
+-- A step that takes nothing of the budget: it visits at most so many records, each with at most 256 bytes.
+pub record LooksAt (nodes : ℕ) (old new : Spending) : Type 0 where
+  -- The budget stays.
+  pub budget : new.budget ≡ old.budget
+  -- The meter rises by no more.
+  pub looks : Looks nodes (256 * nodes) old.meter new.meter
 
 -- the bytes of a record, for a name of so many bytes
 abbrev pub record_cost : ℕ → ℕ

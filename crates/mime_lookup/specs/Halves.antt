@@ -5,7 +5,6 @@ use Rattle.std.specs.Borrow.{Bor}
 use Rattle.mime_base.specs.Database.{PlainDatabase, pairs_of}
 use Rattle.mime_base.specs.Format.Packed.{value_length}
 use Rattle.mime_base.specs.declared.magic.host.Host.{Host}
-use Rattle.mime_base.specs.declared.meter.Meter.{Meter}
 use Rattle.mime_lookup.specs.Affords.{magic_records, rule_records}
 use Rattle.mime_lookup.specs.Bounds.{near_max}
 use Rattle.mime_lookup.specs.Cached.{IsCacheText}
@@ -13,8 +12,8 @@ use Rattle.mime_lookup.specs.CheckingOrder.{Chooses, are_one_type, globs_suffice
 use Rattle.mime_lookup.specs.Choice.{kept}
 use Rattle.mime_lookup.specs.Costs.{CostsOwing, glob_cost, record_cost}
 use Rattle.mime_lookup.specs.Spelling.{SpellsGlobs}
-use Rattle.mime_lookup.specs.declared.cached.by_name.ByName.{ByName}
-use Rattle.mime_lookup.specs.declared.cached.by_name.ByName.TheVariants.{Decided, Left}
+use Rattle.mime_lookup.specs.declared.cached.by_name.NameDecision.{NameDecision}
+use Rattle.mime_lookup.specs.declared.cached.by_name.NameDecision.TheVariants.{Decided, Left}
 use Rattle.mime_lookup.specs.declared.cached.by_name.Candidates.{Candidates}
 use Rattle.mime_lookup.specs.declared.cached.by_name.Candidates.TheVariants.{Kept, Unasked}
 use Rattle.mime_lookup.specs.declared.order.Order.{Order}
@@ -22,6 +21,7 @@ use Rattle.mime_lookup.specs.declared.order.Order.TheVariants.{GlobsFirst, Magic
 use Rattle.mime_view.specs.Hits.{near}
 use Rattle.mime_view.specs.declared.budget.Budget.{Budget}
 use Rattle.mime_view.specs.declared.fault.CacheFault.{CacheFault}
+use Rattle.mime_view.specs.declared.spending.Spending.{Spending}
 
 -- the order under which these are left
 abbrev pub order_of : Candidates → Order
@@ -35,10 +35,10 @@ Leaves b name (Kept kinds) =
 Leaves b name Unasked = ⊤
 
 -- over a database a name gives a type where the globs suffice, whatever the content is, else what it leaves
-abbrev pub Gives : PlainDatabase → List ℕ → Order → ByName → Type 0
-Gives b name order (Decided kind) = (globs_suffice b name order ≡ true)
+abbrev pub Decides : PlainDatabase → List ℕ → Order → NameDecision → Type 0
+Decides b name order (Decided kind) = (globs_suffice b name order ≡ true)
     × ((content : Option (List ℕ)) (host : Host) → Chooses b name content host order kind.now)
-Gives b name order (Left candidates) =
+Decides b name order (Left candidates) =
     (globs_suffice b name order ≡ false) × (order_of candidates ≡ order) × Leaves b name candidates
 
 -- the types of candidates are texts of the cache
@@ -47,7 +47,7 @@ AreTexts c (Kept kinds) = All (IsCacheText c) kinds
 AreTexts c Unasked = ⊤
 
 -- and so are those that a name gives
-abbrev pub AreTextsByName : List ℕ → ByName → Type 0
+abbrev pub AreTextsByName : List ℕ → NameDecision → Type 0
 AreTextsByName c (Decided kind) = IsCacheText c kind.now
 AreTextsByName c (Left candidates) = AreTexts c candidates
 
@@ -74,25 +74,21 @@ pub record AffordsRest (b : PlainDatabase) (candidates : Candidates) (budget : B
   pub value_bytes : value_length b.sections ≤ budget.value_bytes
 
 -- what is owed after a name was asked: by its candidates, and nothing by a type or a fault
-abbrev pub owed : (Candidates → ℕ) → ℕ → Result ByName CacheFault → ℕ
+abbrev pub owed : (Candidates → ℕ) → ℕ → Result NameDecision CacheFault → ℕ
 owed by_candidates else (Ok (Decided kind)) = else
 owed by_candidates else (Ok (Left candidates)) = by_candidates candidates
 owed by_candidates else (Err e) = else
 
 -- What a name costs, with what it leaves to be paid.
-pub record CostsByName (c name : List ℕ) (old new : Budget) (before after : Meter) (result : Result ByName CacheFault) :
-    Type 0 where
-  -- No value byte is taken.
-  pub value_bytes : new.value_bytes ≡ old.value_bytes
+pub record CostsByName (c name : List ℕ) (old new : Spending) (result : Result NameDecision CacheFault) : Type 0 where
   -- Where the glob rules stand, no more records are taken than they have, now and later.
   pub takes : (b : PlainDatabase) → SpellsGlobs c b →
-      old.records + owed (owed_records b) 0 result ≤ new.records + rule_records b
+      old.budget.records + owed (owed_records b) 0 result ≤ new.budget.records + rule_records b
   -- And the nodes, now and later, keep to the bound by the rules near the name, but for the header's one.
-  pub near : (b : PlainDatabase) → SpellsGlobs c b →
-      OnOk result (after.nodes + owed (owed_near b name) 1 result ≤ before.nodes + near_max (length name) (near name b.rules))
-  -- Whatever the bytes are, the nodes and the bytes, now and later, keep to the cost of a search.
-  pub cost : (value : ℕ) → CostsOwing (owed (owed_nodes (length name)) 0 result) (record_cost (length name)) value
-      (glob_cost (length name)) old new before after
+  pub near : (b : PlainDatabase) → SpellsGlobs c b → OnOk result
+      (new.meter.nodes + owed (owed_near b name) 1 result ≤ old.meter.nodes + near_max (length name) (near name b.rules))
+  -- Whatever the bytes are, the nodes and the bytes, now and later, keep to the cost of a search; no value byte is taken.
+  pub cost : CostsOwing (owed (owed_nodes (length name)) 0 result) (record_cost (length name)) 0 (glob_cost (length name)) old new
 
 -- the bytes of a front
 abbrev pub bytes_of : Option (Bor (List ℕ)) → Option (List ℕ)

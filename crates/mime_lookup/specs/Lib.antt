@@ -8,6 +8,7 @@ pub mod Script
 pub mod Reads
 pub mod Spelling
 pub mod Costs
+pub mod KeptTypes
 pub mod Bounds
 pub mod StepFaults
 pub mod Finding

@@ -40,6 +40,13 @@ abbrev pub meter_in : Result Answer Stopped → Meter
 meter_in (Ok answer) = answer.meter
 meter_in (Err stopped) = stopped.meter
 
+-- The header is read before anything else.
+pub record OpensFirst {X : Type 0} (c : List ℕ) (result : Result X Cause) : Type 0 where
+  -- Bytes that don't open as a cache are refused for that.
+  pub refused : (e : CacheFault) → IsOpenFault c e → IsErrAnd result (λ stop. stop ≡ cause.Cache e)
+  -- Where there is an answer they do open.
+  pub opened : OnOk result (Opens c)
+
 -- What a lookup answers.
 pub record AnswersLookUp {R : Type 0} (remaining : R → Option (List ℕ)) (c name : List ℕ) (content : Option R) (host : Host)
     (order : Order) (kind : List ℕ) : Type 0 where

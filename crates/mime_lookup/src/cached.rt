@@ -6,10 +6,10 @@ ghost use Rattle.mime_base.specs.Format.Packed.{Packed};
 ghost use Rattle.mime_lookup.specs.Affords.{Affords};
 ghost use Rattle.mime_lookup.specs.Bounds.{near_max, stated_extent};
 ghost use Rattle.mime_lookup.specs.CheckingOrder.{GlobsDecide};
-ghost use Rattle.mime_lookup.specs.Costs.{Costs, glob_cost, record_cost};
+ghost use Rattle.mime_lookup.specs.Costs.{Costs, LooksAt, glob_cost, record_cost};
 ghost use Rattle.mime_lookup.specs.Fronts.{ReadsFront};
 ghost use Rattle.mime_lookup.specs.Headline.{IsHeadline};
-ghost use Rattle.mime_lookup.specs.LookUps.{AnswersLookUp, CostsLookUp, ReadsLookUp, StopsLookUp, cause_in, meter_in, read_in};
+ghost use Rattle.mime_lookup.specs.LookUps.{AnswersLookUp, CostsLookUp, OpensFirst, ReadsLookUp, StopsLookUp, cause_in, meter_in, read_in};
 ghost use Rattle.mime_lookup.specs.Reads.{AsksUnless, Reads};
 ghost use Rattle.mime_lookup.specs.Spelling.{SpellsGlobs};
 ghost use Rattle.mime_lookup.specs.Spent.{IsUsedUp, UsesUp};
@@ -27,15 +27,16 @@ mod subclass;
 
 use crate::answer::Answer;
 use crate::cached::by_content::by_content;
-use crate::cached::by_name::{ByName, by_name};
+use crate::cached::by_name::{NameDecision, by_name};
 use crate::content::Content;
 use crate::limits::LONGEST_NAME;
 use crate::order::Order;
+use crate::question::Question;
 use crate::reading::read_front;
 use crate::stopped::{Cause, Stopped};
 pub use icons::{Icons, icon_of};
 use mime_base::{Counted, Host, Meter};
-use mime_view::{Budget, Cache, CacheFault};
+use mime_view::{Budget, Cache, CacheFault, Spending};
 use std::alloc::Global;
 pub use subclass::is_a;
 
@@ -86,9 +87,8 @@ pub fn look_up<'a, R: Content>(
         let cause = Cause::NameTooLong;
         return Err(Stopped { cause, read, meter });
     }
-    match open_and_find(
-        alloc, cache, name, content, host, order, &mut read, &mut meter,
-    ) {
+    let question = Question { name, host, order };
+    match open_and_find(alloc, cache, &question, content, &mut read, &mut meter) {
         Ok(kind) => Ok(Answer { kind, read, meter }),
         Err(cause) => Err(Stopped { cause, read, meter }),
     }
@@ -99,72 +99,65 @@ pub fn look_up<'a, R: Content>(
 fn open_and_find<'a, R: Content>(
     alloc: Global,
     cache: Counted<'a>,
-    name: &[u8],
+    question: &Question<'_>,
     content: &mut Option<R>,
-    host: Host,
-    order: Order,
     read: &mut u64,
     meter: &mut Meter,
 ) -> Result<&'a [u8], Cause>
     requires none { read.old ≡ 0 }
-    requires short { length name.now ≤ 4096 }
-    requires nodes { meter.old.nodes ≡ 0 }
-    requires bytes { meter.old.bytes ≡ 0 }
-    ensures answers { IfOk result (λ kind. AnswersLookUp R.remaining cache.entry name.now content.old host order kind.now) }
-    ensures refused { (e : CacheFault) → IsOpenFault cache.entry e → IsErrAnd result (λ cause. cause ≡ Cause.Cache e) }
-    ensures opened { OnOk result (Opens cache.entry) }
+    requires fresh { meter.old ≡ record { nodes = 0; bytes = 0 } }
+    ensures answers { IfOk result (λ kind. AnswersLookUp R.remaining cache.entry question.now.name.now content.old
+        question.now.host question.now.order kind.now) }
+    ensures opens { OpensFirst cache.entry result }
     ensures stops { IfErr result (Stops cache.entry (UsesUp cache.entry (content.old ≡ None) meter.new.nodes)
-        (λ b. Suffices cache.entry name.now order (content.old ≡ None) b × (length cache.entry ≤ 268435456) × Packed cache.entry b)
-        (λ b. GlobsDecide b name.now order (content.old ≡ None) → ⊥)) }
-    ensures reads { ReadsLookUp R.remaining R.tally R.health cache.entry name.now order content.old content.new read.new result }
-    ensures costs { CostsLookUp cache.entry name.now order content.old read.new meter.new result }
+        (λ b. Suffices cache.entry question.now.name.now question.now.order (content.old ≡ None) b
+        × (length cache.entry ≤ 268435456) × Packed cache.entry b)
+        (λ b. GlobsDecide b question.now.name.now question.now.order (content.old ≡ None) → ⊥)) }
+    ensures reads { ReadsLookUp R.remaining R.tally R.health cache.entry question.now.name.now question.now.order
+        content.old content.new read.new result }
+    ensures costs { CostsLookUp cache.entry question.now.name.now question.now.order content.old read.new meter.new result }
 {
     let cache = Cache::open(cache, meter)?;
-    let mut budget = Budget::of(&cache);
-    find(
-        alloc,
-        &cache,
-        name,
-        content,
-        host,
-        order,
-        read,
-        meter,
-        &mut budget,
-    )
+    let budget = Budget::of(&cache);
+    let mut spending = Spending {
+        meter: *meter,
+        budget,
+    };
+    let kind = find(alloc, &cache, question, content, read, &mut spending);
+    *meter = spending.meter;
+    kind
 }
 
 /// The lookup over an opened cache: the name, and where that leaves a choice the front of the content.
 fn find<'a, R: Content>(
     alloc: Global,
     cache: &Cache<'a>,
-    name: &[u8],
+    question: &Question<'_>,
     content: &mut Option<R>,
-    host: Host,
-    order: Order,
     read: &mut u64,
-    meter: &mut Meter,
-    budget: &mut Budget,
+    spending: &mut Spending,
 ) -> Result<&'a [u8], Cause>
     requires none { read.old ≡ 0 }
-    requires short { length name.now ≤ 4096 }
-    ensures answers { IfOk result (λ kind. AnswersLookUp R.remaining cache.now name.now content.old host order kind.now) }
-    ensures stops { IfErr result (Stops cache.now (IsUsedUp cache.now (content.old ≡ None) budget.new)
-        (λ b. Suffices cache.now name.now order (content.old ≡ None) b × Affords b budget.old)
-        (λ b. GlobsDecide b name.now order (content.old ≡ None) → ⊥)) }
-    ensures reads { ReadsLookUp R.remaining R.tally R.health cache.now name.now order content.old content.new read.new result }
-    ensures near { (b : PlainDatabase) → SpellsGlobs cache.now b → GlobsDecide b name.now order (content.old ≡ None) → OnOk result
-        (meter.new.nodes < meter.old.nodes + near_max (length name.now) (near name.now b.rules)) }
-    ensures cost { Costs (record_cost (length name.now)) (read.new + 1) (glob_cost (length name.now) + 31)
-        budget.old budget.new meter.old meter.new }
+    ensures answers { IfOk result (λ kind. AnswersLookUp R.remaining cache.now question.now.name.now content.old
+        question.now.host question.now.order kind.now) }
+    ensures stops { IfErr result (Stops cache.now (IsUsedUp cache.now (content.old ≡ None) spending.new.budget)
+        (λ b. Suffices cache.now question.now.name.now question.now.order (content.old ≡ None) b × Affords b spending.old.budget)
+        (λ b. GlobsDecide b question.now.name.now question.now.order (content.old ≡ None) → ⊥)) }
+    ensures reads { ReadsLookUp R.remaining R.tally R.health cache.now question.now.name.now question.now.order
+        content.old content.new read.new result }
+    ensures near { (b : PlainDatabase) → SpellsGlobs cache.now b
+        → GlobsDecide b question.now.name.now question.now.order (content.old ≡ None) → OnOk result (spending.new.meter.nodes
+        < spending.old.meter.nodes + near_max (length question.now.name.now) (near question.now.name.now b.rules)) }
+    ensures cost { Costs (record_cost (length question.now.name.now)) (read.new + 1)
+        (glob_cost (length question.now.name.now) + 31) spending.old spending.new }
 {
-    let given = by_name(alloc, cache, name, order, meter, budget)?;
+    let given = by_name(alloc, cache, question, spending)?;
     match given {
-        ByName::Decided(kind) => Ok(kind),
-        ByName::Left(candidates) => {
-            let front = read_content(alloc, cache, content, read, meter, budget)?;
+        NameDecision::Decided(kind) => Ok(kind),
+        NameDecision::Left(candidates) => {
+            let front = read_content(alloc, cache, content, read, spending)?;
             let front = front.as_deref();
-            let kind = by_content(alloc, cache, name, candidates, front, host, meter, budget)?;
+            let kind = by_content(alloc, cache, question, candidates, front, spending)?;
             Ok(kind)
         }
     }
@@ -176,8 +169,7 @@ fn read_content<R: Content>(
     cache: &Cache<'_>,
     content: &mut Option<R>,
     read: &mut u64,
-    meter: &mut Meter,
-    budget: &mut Budget,
+    spending: &mut Spending,
 ) -> Result<Option<Vec<u8>>, Cause>
     requires none { read.old ≡ 0 }
     ensures front { IfOk result (λ front. ReadsFront R.remaining cache.now content.old read.new
@@ -186,14 +178,13 @@ fn read_content<R: Content>(
         (λ _. content.old ≡ None → ⊥)) }
     ensures reader { Reads R.remaining R.tally R.health (max 128 (stated_extent cache.now)) content.old content.new read.new result }
     ensures asks { AsksUnless R.health false content.old content.new result }
-    ensures nothing { content.old ≡ None → meter.new ≡ meter.old }
-    ensures budget { budget.new ≡ budget.old }
-    ensures cost { (each value : ℕ) → Costs each value 1 budget.old budget.new meter.old meter.new }
+    ensures nothing { content.old ≡ None → spending.new ≡ spending.old }
+    ensures cost { LooksAt 1 spending.old spending.new }
 {
     let Some(reader) = content else {
         return Ok(None);
     };
-    let extent = cache.extent(meter, budget)?;
+    let extent = cache.extent(&mut spending.meter, &mut spending.budget)?;
     let limit = SHORTEST_FRONT.max(extent) as usize;
     let front = read_front(alloc, reader, limit, read)?;
     Ok(Some(front))

@@ -32,6 +32,7 @@ mod lists;
 mod order;
 mod pairs;
 mod places;
+mod question;
 mod reading;
 mod script;
 mod sniff;

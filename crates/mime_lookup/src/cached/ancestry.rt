@@ -13,6 +13,7 @@ ghost use Rattle.mime_base.specs.Database.{PlainDatabase, pairs_of};
 ghost use Rattle.mime_base.specs.Database.Subclass.{IsA, resolved};
 ghost use Rattle.mime_base.specs.Meter.{raised};
 ghost use Rattle.mime_view.specs.Parents.{is_marked};
+ghost use Rattle.mime_view.specs.Spending.{spending_of};
 ghost use Rattle.mime_lookup.specs.Ancestry.{Expanded, NoneLeadsTo, kinds_of, unmarked};
 ghost use Rattle.mime_lookup.specs.Choice.{IsFirst};
 ghost use Rattle.mime_lookup.specs.Costs.{Costs};
@@ -49,7 +50,7 @@ pub fn first_of<'a>(
     ensures fault { IfErr result (IsSearchFault cache.now budget.new) }
     // It costs 29 nodes for each type, and 59 for each record that it takes.
     ensures cost { (each value : ℕ) → 256 * 59 ≤ each →
-        Costs each value (29 * length kinds.now) budget.old budget.new meter.old meter.new }
+        Costs each value (29 * length kinds.now) (spending_of meter.old budget.old) (spending_of meter.new budget.new) }
 {
     let mut marks = Marks::new(alloc);
     for kind in kinds {
@@ -91,7 +92,7 @@ pub fn leads_to<'a>(
     // The parents of a type, an alias step or memory shows the fault.
     ensures fault { IfErr result (IsSearchFault cache.now budget.new) }
     // It costs 29 nodes, and 59 for each record that it takes.
-    ensures cost { Costs search_cost 0 29 budget.old budget.new meter.old meter.new }
+    ensures cost { Costs search_cost 0 29 (spending_of meter.old budget.old) (spending_of meter.new budget.new) }
 {
     let mut queue = VecDeque::new(alloc);
     queue.push_back(kind)?;

@@ -1,6 +1,6 @@
 //! The second half of a lookup: what a front of the content gives, after the name ("Recommended checking order").
 
-ghost use Rattle.std.specs.Prelude.{◌≡◌, ℕ, ◌+◌, ◌*◌, ◌<◌, ◌≤◌, [], All, IfErr, IfOk, None, OnOk, length, ⊤};
+ghost use Rattle.std.specs.Prelude.{◌≡◌, ◌+◌, ◌*◌, ◌<◌, ◌≤◌, [], All, IfErr, IfOk, None, OnOk, length, ⊤};
 ghost use Rattle.mime_base.specs.Database.{PlainDatabase, pairs_of};
 ghost use Rattle.mime_lookup.specs.Affords.{rule_records};
 ghost use Rattle.mime_lookup.specs.Ancestry.{kinds_of};
@@ -8,7 +8,8 @@ ghost use Rattle.mime_lookup.specs.Bounds.{near_max};
 ghost use Rattle.mime_lookup.specs.Cached.{IsCacheText, IsFinding, IsKind, cause_of, plain_finding};
 ghost use Rattle.mime_lookup.specs.CheckingOrder.{Chooses, GlobsDecide};
 ghost use Rattle.mime_lookup.specs.Choice.{ChoosesAmong, kept};
-ghost use Rattle.mime_lookup.specs.Costs.{Costs, glob_cost, record_cost};
+ghost use Rattle.mime_lookup.specs.Costs.{Costs, LooksAt, glob_cost, record_cost};
+ghost use Rattle.mime_lookup.specs.Searching.{search_cost};
 ghost use Rattle.mime_lookup.specs.Finding.{resolved_finding};
 ghost use Rattle.mime_lookup.specs.Halves.{AffordsRest, AreTexts, Leaves, bytes_of, front_length, order_of, owed_near, owed_nodes};
 ghost use Rattle.mime_lookup.specs.Spelling.{SpellsGlobs};
@@ -19,55 +20,53 @@ ghost use Rattle.mime_view.specs.Hits.{near};
 
 use crate::cached::ancestry::first_of;
 use crate::cached::by_name::Candidates;
-use crate::cached::kept::{Kept, keep};
+use crate::cached::kept::{KeptTypes, keep};
 use crate::cached::sniff::{Finding, is_high, resolve, sniff_front};
-use mime_base::{Host, Meter};
-use mime_view::{Budget, Cache, CacheFault};
+use crate::question::Question;
+use mime_view::{Cache, CacheFault, Spending};
 use std::alloc::Global;
 
 /// The type that a front of a content gives, after the name; `None` is content that is not available.
 pub fn by_content<'a>(
     alloc: Global,
     cache: &Cache<'a>,
-    name: &[u8],
+    question: &Question<'_>,
     candidates: Candidates<'a>,
     front: Option<&[u8]>,
-    host: Host,
-    meter: &mut Meter,
-    budget: &mut Budget,
+    spending: &mut Spending,
 ) -> Result<&'a [u8], CacheFault>
-    requires short { length name.now ≤ 4096 }
     requires texts { AreTexts cache.now candidates }
     // Where enough of a database stands that leaves these candidates, the order gives this type to the name and the front.
-    ensures chosen { (b : PlainDatabase) → Suffices cache.now name.now (order_of candidates.entry) (bytes_of front.entry ≡ None) b →
-        Leaves b name.now candidates.entry → IfOk result (λ kind. Chooses b name.now
-        (bytes_of front.entry) host (order_of candidates.entry) kind.now) }
+    ensures chosen { (b : PlainDatabase)
+        → Suffices cache.now question.now.name.now (order_of candidates.entry) (bytes_of front.entry ≡ None) b
+        → Leaves b question.now.name.now candidates.entry → IfOk result (λ kind. Chooses b question.now.name.now
+        (bytes_of front.entry) question.now.host (order_of candidates.entry) kind.now) }
     // It is a text of the cache, or fixed.
     ensures kind { IfOk result (λ kind. IsKind cache.now kind.now) }
     // Where enough stands and what is left to be taken is there, only memory is refused.
-    ensures stops { IfErr result (λ e. Stops cache.now (IsUsedUp cache.now (bytes_of front.entry ≡ None) budget.new)
-        (λ b. Suffices cache.now name.now (order_of candidates.entry) (bytes_of front.entry ≡ None) b
-        × Leaves b name.now candidates.entry × AffordsRest b candidates.entry budget.old) (λ _. ⊥) (cause_of e)) }
+    ensures stops { IfErr result (λ e. Stops cache.now (IsUsedUp cache.now (bytes_of front.entry ≡ None) spending.new.budget)
+        (λ b. Suffices cache.now question.now.name.now (order_of candidates.entry) (bytes_of front.entry ≡ None) b
+        × Leaves b question.now.name.now candidates.entry × AffordsRest b candidates.entry spending.old.budget) (λ _. ⊥) (cause_of e)) }
     // Where the glob rules stand and decide, the nodes are fewer than the name left.
-    ensures near { (b : PlainDatabase) → SpellsGlobs cache.now b → Leaves b name.now candidates.entry →
-        GlobsDecide b name.now (order_of candidates.entry) (bytes_of front.entry ≡ None) → OnOk result
-        (meter.new.nodes < meter.old.nodes + owed_near b name.now candidates.entry) }
+    ensures near { (b : PlainDatabase) → SpellsGlobs cache.now b → Leaves b question.now.name.now candidates.entry
+        → GlobsDecide b question.now.name.now (order_of candidates.entry) (bytes_of front.entry ≡ None) → OnOk result
+        (spending.new.meter.nodes < spending.old.meter.nodes + owed_near b question.now.name.now candidates.entry) }
     // Whatever the bytes are, it costs what the name left, and 30 nodes for magic and an alias step.
-    ensures cost { Costs (record_cost (length name.now)) (front_length (bytes_of front.entry) + 1)
-        (30 + owed_nodes (length name.now) candidates.entry) budget.old budget.new meter.old meter.new }
+    ensures cost { Costs (record_cost (length question.now.name.now)) (front_length (bytes_of front.entry) + 1)
+        (30 + owed_nodes (length question.now.name.now) candidates.entry) spending.old spending.new }
 {
-    let finding = sniff_front(cache, front, host, meter, budget)?;
+    let finding = sniff_front(cache, front, question.host, spending)?;
     match candidates {
         Candidates::Kept(kinds) => {
-            let kind = choose(alloc, cache, kinds.as_slice(), finding, meter, budget)?;
+            let kind = choose(alloc, cache, kinds.as_slice(), finding, spending)?;
             Ok(kind)
         }
         Candidates::Unasked => {
             if is_high(finding) {
-                let kind = resolve(cache, finding, meter, budget)?;
+                let kind = resolve(cache, finding, spending)?;
                 return Ok(kind);
             }
-            let kind = by_globs(alloc, cache, name, finding, meter, budget)?;
+            let kind = by_globs(alloc, cache, question.name, finding, spending)?;
             Ok(kind)
         }
     }
@@ -79,8 +78,7 @@ fn by_globs<'a>(
     cache: &Cache<'a>,
     name: &[u8],
     finding: Finding<'a>,
-    meter: &mut Meter,
-    budget: &mut Budget,
+    spending: &mut Spending,
 ) -> Result<&'a [u8], CacheFault>
     requires finding { IsFinding cache.now finding }
     requires short { length name.now ≤ 4096 }
@@ -88,19 +86,18 @@ fn by_globs<'a>(
         (λ kind. ChoosesAmong (pairs_of b) (kept (pairs_of b) b.rules name.now)
         (resolved_finding b.aliases (plain_finding finding.entry)) kind.now) }
     ensures kind { IfOk result (λ kind. IsKind cache.now kind.now) }
-    ensures stops { IfErr result (λ e. Stops cache.now (IsUsedUp cache.now ⊤ budget.new)
-        (λ b. Suffices cache.now name.now GlobsFirst ⊤ b × (rule_records b + length b.parents ≤ budget.old.records))
+    ensures stops { IfErr result (λ e. Stops cache.now (IsUsedUp cache.now ⊤ spending.new.budget)
+        (λ b. Suffices cache.now name.now GlobsFirst ⊤ b × (rule_records b + length b.parents ≤ spending.old.budget.records))
         (λ _. ⊥) (cause_of e)) }
     ensures near { (b : PlainDatabase) → SpellsGlobs cache.now b → GlobsDecide b name.now GlobsFirst ⊤ → OnOk result
-        (meter.new.nodes < meter.old.nodes + near_max (length name.now) (near name.now b.rules)) }
-    ensures cost { (value : ℕ) → Costs (record_cost (length name.now)) value (glob_cost (length name.now) + 29)
-        budget.old budget.new meter.old meter.new }
+        (spending.new.meter.nodes < spending.old.meter.nodes + near_max (length name.now) (near name.now b.rules)) }
+    ensures cost { Costs (record_cost (length name.now)) 0 (glob_cost (length name.now) + 29) spending.old spending.new }
 {
-    let kept = keep(alloc, cache, name, meter, budget)?;
+    let kept = keep(alloc, cache, name, spending)?;
     match kept {
-        Kept::One(kind) => Ok(kind),
-        Kept::Others(kinds) => {
-            let kind = choose(alloc, cache, kinds.as_slice(), finding, meter, budget)?;
+        KeptTypes::One(kind) => Ok(kind),
+        KeptTypes::Others(kinds) => {
+            let kind = choose(alloc, cache, kinds.as_slice(), finding, spending)?;
             Ok(kind)
         }
     }
@@ -113,8 +110,7 @@ fn choose<'a>(
     cache: &Cache<'a>,
     kept: &[&'a [u8]],
     finding: Finding<'a>,
-    meter: &mut Meter,
-    budget: &mut Budget,
+    spending: &mut Spending,
 ) -> Result<&'a [u8], CacheFault>
     requires finding { IsFinding cache.now finding }
     requires texts { All (IsCacheText cache.now) (kinds_of kept.now) }
@@ -122,16 +118,24 @@ fn choose<'a>(
         (λ kind. ChoosesAmong (pairs_of b) (kinds_of kept.now)
         (resolved_finding b.aliases (plain_finding finding.entry)) kind.now) }
     ensures kind { IfOk result (λ kind. IsKind cache.now kind.now) }
-    ensures stops { IfErr result (λ e. Stops cache.now (IsUsedUp cache.now ⊤ budget.new)
-        (λ b. SufficesForChoice cache.now (kinds_of kept.now) b × (length b.parents ≤ budget.old.records)) (λ _. ⊥) (cause_of e)) }
-    ensures alone { kinds_of kept.now ≡ [] → (budget.new ≡ budget.old) × (meter.new.nodes ≤ meter.old.nodes + 29) }
-    ensures cost { (each value : ℕ) → 256 * 59 ≤ each →
-        Costs each value (29 + 29 * length (kinds_of kept.now)) budget.old budget.new meter.old meter.new }
+    ensures stops { IfErr result (λ e. Stops cache.now (IsUsedUp cache.now ⊤ spending.new.budget)
+        (λ b. SufficesForChoice cache.now (kinds_of kept.now) b × (length b.parents ≤ spending.old.budget.records))
+        (λ _. ⊥) (cause_of e)) }
+    ensures alone { kinds_of kept.now ≡ [] → LooksAt 29 spending.old spending.new }
+    ensures cost { Costs search_cost 0 (29 + 29 * length (kinds_of kept.now)) spending.old spending.new }
 {
-    let base = resolve(cache, finding, meter, budget)?;
+    let base = resolve(cache, finding, spending)?;
     if kept.is_empty() {
         return Ok(base);
     }
-    let kind = first_of(alloc, cache, kept, kept[0], base, meter, budget)?;
+    let kind = first_of(
+        alloc,
+        cache,
+        kept,
+        kept[0],
+        base,
+        &mut spending.meter,
+        &mut spending.budget,
+    )?;
     Ok(kind)
 }

@@ -1,23 +1,23 @@
 //! The first half of a lookup: what a name gives without its content ("Recommended checking order").
 
-ghost use Rattle.std.specs.Prelude.{◌≡◌, ◌≤◌, length, IfErr, IfOk, ⊤};
+ghost use Rattle.std.specs.Prelude.{◌≤◌, IfErr, IfOk, ⊤};
 ghost use Rattle.mime_base.specs.Database.{PlainDatabase};
 ghost use Rattle.mime_lookup.specs.Affords.{rule_records};
 ghost use Rattle.mime_lookup.specs.Cached.{cause_of};
-ghost use Rattle.mime_lookup.specs.Halves.{AreTextsByName, CostsByName, Gives};
+ghost use Rattle.mime_lookup.specs.Halves.{AreTextsByName, CostsByName, Decides};
 ghost use Rattle.mime_lookup.specs.Spelling.{SpellsGlobs};
 ghost use Rattle.mime_lookup.specs.Spent.{IsUsedUp};
 ghost use Rattle.mime_lookup.specs.Steps.{Stops};
 
-use crate::cached::kept::{Kept, keep};
+use crate::cached::kept::{KeptTypes, keep};
 use crate::order::Order;
-use mime_base::Meter;
-use mime_view::{Budget, Cache, CacheFault, Texts};
+use crate::question::Question;
+use mime_view::{Cache, CacheFault, Spending, Texts};
 use std::alloc::Global;
 
 /// What a name gives without its content.
 #[derive(Drop)]
-pub enum ByName<'a> {
+pub enum NameDecision<'a> {
     /// The type, whatever the content is.
     Decided(&'a [u8]),
     /// The content is wanted, to choose among these.
@@ -37,30 +37,28 @@ pub enum Candidates<'a> {
 pub fn by_name<'a>(
     alloc: Global,
     cache: &Cache<'a>,
-    name: &[u8],
-    order: Order,
-    meter: &mut Meter,
-    budget: &mut Budget,
-) -> Result<ByName<'a>, CacheFault>
-    requires short { length name.now ≤ 4096 }
+    question: &Question<'_>,
+    spending: &mut Spending,
+) -> Result<NameDecision<'a>, CacheFault>
     // Where the glob rules of a database stand, it is what the name gives.
-    ensures gives { (b : PlainDatabase) → SpellsGlobs cache.now b → IfOk result (Gives b name.now order) }
+    ensures gives { (b : PlainDatabase) → SpellsGlobs cache.now b → IfOk result
+        (Decides b question.now.name.now question.now.order) }
     // Its types are texts of the cache.
     ensures texts { IfOk result (AreTextsByName cache.now) }
     // Where the glob rules stand and each record that they may take is left, only memory is refused.
-    ensures stops { IfErr result (λ e. Stops cache.now (IsUsedUp cache.now ⊤ budget.new)
-        (λ b. SpellsGlobs cache.now b × (rule_records b ≤ budget.old.records)) (λ _. ⊥) (cause_of e)) }
+    ensures stops { IfErr result (λ e. Stops cache.now (IsUsedUp cache.now ⊤ spending.new.budget)
+        (λ b. SpellsGlobs cache.now b × (rule_records b ≤ spending.old.budget.records)) (λ _. ⊥) (cause_of e)) }
     // It costs a search for the types of the name, and what the candidates owe.
-    ensures costs { CostsByName cache.now name.now budget.old budget.new meter.old meter.new result }
+    ensures costs { CostsByName cache.now question.now.name.now spending.old spending.new result }
 {
-    match order {
+    match question.order {
         Order::GlobsFirst => {
-            let kept = keep(alloc, cache, name, meter, budget)?;
+            let kept = keep(alloc, cache, question.name, spending)?;
             match kept {
-                Kept::One(kind) => Ok(ByName::Decided(kind)),
-                Kept::Others(kinds) => Ok(ByName::Left(Candidates::Kept(kinds))),
+                KeptTypes::One(kind) => Ok(NameDecision::Decided(kind)),
+                KeptTypes::Others(kinds) => Ok(NameDecision::Left(Candidates::Kept(kinds))),
             }
         }
-        Order::MagicFirst => Ok(ByName::Left(Candidates::Unasked)),
+        Order::MagicFirst => Ok(NameDecision::Left(Candidates::Unasked)),
     }
 }

@@ -1,6 +1,6 @@
 //! What a content is sniffed as over a cache ("Recommended checking order").
 
-ghost use Rattle.std.specs.Prelude.{◌≡◌, ℕ, ◌+◌, ◌*◌, ◌≤◌, List, IfErr, IfOk, IfSome, IsOkAnd, None};
+ghost use Rattle.std.specs.Prelude.{◌≡◌, ℕ, ◌+◌, ◌≤◌, List, IfErr, IfOk, IfSome, IsOkAnd, None};
 ghost use Rattle.mime_base.specs.Cache.Bytes.{Stands};
 ghost use Rattle.mime_base.specs.Database.{PlainDatabase};
 ghost use Rattle.mime_base.specs.Format.Header.{HeaderAt, Offsets};
@@ -8,7 +8,7 @@ ghost use Rattle.mime_base.specs.Format.Packed.{value_length};
 ghost use Rattle.mime_base.specs.Format.Pairs.{PairsAt};
 ghost use Rattle.mime_lookup.specs.Affords.{magic_records};
 ghost use Rattle.mime_lookup.specs.Cached.{IsCacheText, IsFinding, IsKind, cause_of, plain_finding};
-ghost use Rattle.mime_lookup.specs.Costs.{Costs};
+ghost use Rattle.mime_lookup.specs.Costs.{Costs, LooksAt};
 ghost use Rattle.mime_lookup.specs.Finding.{found_by, found_in, is_high, resolved_finding};
 ghost use Rattle.mime_lookup.specs.Halves.{bytes_of, front_length};
 ghost use Rattle.mime_lookup.specs.Spent.{IsUsedUp};
@@ -18,8 +18,8 @@ ghost use Rattle.mime_view.specs.Magic.{plain_found};
 
 use crate::fixed::OCTET_STREAM;
 use crate::sniff::{HIGH_PRIORITY, by_bytes};
-use mime_base::{Host, Meter};
-use mime_view::{Budget, Cache, CacheFault};
+use mime_base::Host;
+use mime_view::{Cache, CacheFault, Spending};
 
 /// What was found in a content, before its alias step.
 #[derive(Clone, Copy)]
@@ -45,8 +45,7 @@ pub fn is_high(finding: Finding<'_>) -> bool
 pub fn resolve<'a>(
     cache: &Cache<'a>,
     finding: Finding<'a>,
-    meter: &mut Meter,
-    budget: &mut Budget,
+    spending: &mut Spending,
 ) -> Result<&'a [u8], CacheFault>
     requires finding { IsFinding cache.now finding }
     // Where the aliases stand, there is an answer: the type after one alias step.
@@ -57,15 +56,11 @@ pub fn resolve<'a>(
     ensures kind { IfOk result (λ kind. IsKind cache.now kind.now) }
     // The list of aliases or a text shows the fault.
     ensures fault { IfErr result (IsAliasFault cache.now) }
-    // Nothing is taken of the budget.
-    ensures budget { budget.new ≡ budget.old }
-    // At most 29 records are visited.
-    ensures nodes { meter.new.nodes ≤ meter.old.nodes + 29 }
-    // Each of them costs at most 256 bytes.
-    ensures cost { (each value : ℕ) → Costs each value 29 budget.old budget.new meter.old meter.new }
+    // It visits at most 29 records, and takes nothing of the budget.
+    ensures cost { LooksAt 29 spending.old spending.new }
 {
     match finding {
-        Finding::Magic(kind, _) => cache.unalias(kind, meter, budget),
+        Finding::Magic(kind, _) => cache.unalias(kind, &mut spending.meter, &mut spending.budget),
         Finding::Fixed(kind) => Ok(kind),
     }
 }
@@ -75,8 +70,7 @@ pub fn sniff_front<'a>(
     cache: &Cache<'a>,
     front: Option<&[u8]>,
     host: Host,
-    meter: &mut Meter,
-    budget: &mut Budget,
+    spending: &mut Spending,
 ) -> Result<Finding<'a>, CacheFault>
     // Where the magic of a database stands, or there is no front, it is what the front has as a content.
     ensures found { (b : PlainDatabase) → SufficesForContent cache.now (bytes_of front.entry ≡ None) b → IfOk result
@@ -84,22 +78,21 @@ pub fn sniff_front<'a>(
     // Its type is a text of the cache, or fixed.
     ensures finding { IfOk result (IsFinding cache.now) }
     // Where enough stands and is afforded, it doesn't stop.
-    ensures stops { IfErr result (λ e. Stops cache.now (IsUsedUp cache.now (bytes_of front.entry ≡ None) budget.new)
-        (λ b. SufficesForContent cache.now (bytes_of front.entry ≡ None) b × (magic_records b ≤ budget.old.records)
-        × (value_length b.sections ≤ budget.old.value_bytes)) (λ _. ⊥) (cause_of e)) }
+    ensures stops { IfErr result (λ e. Stops cache.now (IsUsedUp cache.now (bytes_of front.entry ≡ None) spending.new.budget)
+        (λ b. SufficesForContent cache.now (bytes_of front.entry ≡ None) b × (magic_records b ≤ spending.old.budget.records)
+        × (value_length b.sections ≤ spending.old.budget.value_bytes)) (λ _. ⊥) (cause_of e)) }
     // Without a front nothing is looked at.
-    ensures nothing { bytes_of front.entry ≡ None → (budget.new ≡ budget.old) × (meter.new ≡ meter.old) }
+    ensures nothing { bytes_of front.entry ≡ None → spending.new ≡ spending.old }
     // Where the magic stands, no more records are taken than it has.
     ensures takes { (b : PlainDatabase) → SufficesForContent cache.now (bytes_of front.entry ≡ None) b →
-        budget.old.records ≤ budget.new.records + magic_records b }
+        spending.old.budget.records ≤ spending.new.budget.records + magic_records b }
     // Whatever the bytes are, a value byte costs as many bytes as the front has, and one.
-    ensures cost { (each : ℕ) → 256 ≤ each → Costs each (front_length (bytes_of front.entry) + 1) 1
-        budget.old budget.new meter.old meter.new }
+    ensures cost { Costs 256 (front_length (bytes_of front.entry) + 1) 1 spending.old spending.new }
 {
     let Some(front) = front else {
         return Ok(Finding::Fixed(OCTET_STREAM));
     };
-    let section = cache.sniff(front, host, meter, budget)?;
+    let section = cache.sniff(front, host, &mut spending.meter, &mut spending.budget)?;
     Ok(finding_of(section, front))
 }
 

@@ -1,45 +1,45 @@
-use Rattle.std.proofs.Common.{◌≡◌, None, ap, arith, inl, length, option_map}
-use Rattle.mime_base.specs.declared.meter.Meter.{Meter}
+use Rattle.std.proofs.Common.{◌≡◌, ◌+◌, None, ap, arith, inl, length, option_map, refl}
 use Rattle.mime_lookup.specs.Cached.{cause_of}
 use Rattle.mime_lookup.specs.Content.{known_content}
-use Rattle.mime_lookup.specs.Costs.{glob_cost}
+use Rattle.mime_lookup.specs.Costs.{glob_cost, record_cost}
 use Rattle.mime_lookup.proofs.ByContents.{suffices_globs, used_for}
-use Rattle.mime_lookup.proofs.CostLemmas.{costs_more, costs_then}
-use Rattle.mime_lookup.proofs.GlobsCosts.{costs_halves}
+use Rattle.mime_lookup.proofs.CostLemmas.{costs_halves, costs_looks, costs_then, costs_wider}
 use Rattle.mime_lookup.proofs.LookUps.{chosen_anyway, chosen_front, content_stands, decides, front_stands, no_content, stops_front}
 use Rattle.mime_lookup.proofs.ReadHalves.{reads_chosen, reads_decided, reads_early, reads_late, reads_refused}
 use Rattle.mime_lookup.proofs.StepStops.{passed_on, stops_then}
 use Rattle.mime_lookup.proofs.cached.find.Goals as goal
 use Rattle.mime_view.specs.declared.budget.Budget.{Budget}
+use Rattle.mime_view.specs.declared.spending.Spending.{Spending}
 
 pub returns-in_err-given-clause-stops : goal.returns-in_err-given-clause-stops
 returns-in_err-given-clause-stops g c =
     let fault = c.in_err-given.field-0.0 in
     passed_on _ (cause_of fault) c.from_residual.result c.from_residual.ensures.1
-    (stops_then c.args.cache.now (cause_of fault) c.in_err-given.ensures.stops (used_for c.args.cache.now c.by_name.new.budget (λ none. tt))
-    (λ b enough. (suffices_globs c.args.cache.now c.args.name.now (c.args.content.now ≡ None) b c.args.order enough.0, omega (arith, enough.1.records)))
+    (stops_then c.args.cache.now (cause_of fault) c.in_err-given.ensures.stops (used_for c.args.cache.now c.by_name.new.spending.budget (λ none. tt))
+    (λ b enough. (suffices_globs c.args.cache.now c.args.question.now.name.now (c.args.content.now ≡ None) b c.args.question.now.order enough.0, omega (arith, enough.1.records)))
     (λ b enough none. absurd none))
 
 pub returns-in_err-given-clause-reads : goal.returns-in_err-given-clause-reads
 returns-in_err-given-clause-reads g c =
-    reads_early g.R.Read.remaining g.R.Content.tally g.R.Content.health c.args.cache.now c.args.name.now c.args.order
+    reads_early g.R.Read.remaining g.R.Content.tally g.R.Content.health c.args.cache.now c.args.question.now.name.now c.args.question.now.order
     c.args.content.now c.args.read.now c.in_err-given.field-0.0 c.from_residual.result c.from_residual.ensures.1 c.requires.none
 
 pub returns-in_err-given-clause-cost : goal.returns-in_err-given-clause-cost
-returns-in_err-given-clause-cost g c = costs_more _ (c.by_name.ensures.costs.cost _).alone (omega arith)
+returns-in_err-given-clause-cost g c =
+    costs_wider _ (c.args.read.now + 1) _ c.by_name.ensures.costs.cost.alone (omega arith) (omega arith) (omega arith)
 
 pub returns-in-Decided-clause-answers : goal.returns-in-Decided-clause-answers
 returns-in-Decided-clause-answers g c = record {
   chosen = λ b enough.
-      let globs = suffices_globs c.args.cache.now c.args.name.now (c.args.content.now ≡ None) b c.args.order enough in
-      chosen_anyway b c.args.name.now c.args.host c.args.order c.in-Decided.kind
+      let globs = suffices_globs c.args.cache.now c.args.question.now.name.now (c.args.content.now ≡ None) b c.args.question.now.order enough in
+      chosen_anyway b c.args.question.now.name.now c.args.question.now.host c.args.question.now.order c.in-Decided.kind
       (known_content g.R.Read.remaining c.args.content.now) (rw c.in-Decided.is at (c.in_ok-given.ensures.gives b globs));
   allowed = inl (rw c.in-Decided.is at c.in_ok-given.ensures.texts);
 }
 
 pub returns-in-Decided-clause-reads : goal.returns-in-Decided-clause-reads
 returns-in-Decided-clause-reads g c =
-    reads_decided g.R.Read.remaining g.R.Content.tally g.R.Content.health c.args.cache.now c.args.name.now c.args.order
+    reads_decided g.R.Read.remaining g.R.Content.tally g.R.Content.health c.args.cache.now c.args.question.now.name.now c.args.question.now.order
     c.args.content.now c.args.read.now c.in-Decided.kind c.requires.none (rw c.in-Decided.is at c.in_ok-given.ensures.gives)
 
 pub returns-in-Decided-clause-near : goal.returns-in-Decided-clause-near
@@ -47,7 +47,8 @@ returns-in-Decided-clause-near g c b globs decide =
     omega (arith, (rw c.in-Decided.is at c.in_ok-given.ensures.costs).near b globs)
 
 pub returns-in-Decided-clause-cost : goal.returns-in-Decided-clause-cost
-returns-in-Decided-clause-cost g c = costs_more _ (c.in_ok-given.ensures.costs.cost _).alone (omega arith)
+returns-in-Decided-clause-cost g c =
+    costs_wider _ (c.args.read.now + 1) _ c.in_ok-given.ensures.costs.cost.alone (omega arith) (omega arith) (omega arith)
 
 pub returns-in_err-front-in-Left-clause-stops : goal.returns-in_err-front-in-Left-clause-stops
 returns-in_err-front-in-Left-clause-stops g c =
@@ -56,25 +57,28 @@ returns-in_err-front-in-Left-clause-stops g c =
     passed_on _ stop.field-0.0 c.from_residual-in_err-front-in-Left.result c.from_residual-in_err-front-in-Left.ensures.1
     (stops_then c.args.cache.now stop.field-0.0 stop.ensures.stops (λ used. absurd used)
     (λ b enough.
-    let globs = suffices_globs c.args.cache.now c.args.name.now (c.args.content.now ≡ None) b c.args.order enough.0 in
-    content_stands g.R.Read.remaining c.args.cache.now c.args.name.now c.args.content.now c.args.order c.in-Left.candidates b (gives b globs)
+    let globs = suffices_globs c.args.cache.now c.args.question.now.name.now (c.args.content.now ≡ None) b c.args.question.now.order enough.0 in
+    content_stands g.R.Read.remaining c.args.cache.now c.args.question.now.name.now c.args.content.now c.args.question.now.order c.in-Left.candidates b (gives b globs)
     enough.0)
     (λ b enough there decide.
-    let globs = suffices_globs c.args.cache.now c.args.name.now (c.args.content.now ≡ None) b c.args.order enough.0 in
-    there (no_content g.R.Read.remaining c.args.cache.now c.args.name.now c.args.content.now c.args.order c.in-Left.candidates b
+    let globs = suffices_globs c.args.cache.now c.args.question.now.name.now (c.args.content.now ≡ None) b c.args.question.now.order enough.0 in
+    there (no_content g.R.Read.remaining c.args.cache.now c.args.question.now.name.now c.args.content.now c.args.question.now.order c.in-Left.candidates b
     (gives b globs) decide)))
 
 pub returns-in_err-front-in-Left-clause-reads : goal.returns-in_err-front-in-Left-clause-reads
 returns-in_err-front-in-Left-clause-reads g c =
     let stop = c.in_err-front-in-Left in
-    reads_refused g.R.Read.remaining g.R.Content.tally g.R.Content.health c.args.cache.now c.args.name.now c.args.order
+    reads_refused g.R.Read.remaining g.R.Content.tally g.R.Content.health c.args.cache.now c.args.question.now.name.now c.args.question.now.order
     c.in-Left.candidates (rw c.in-Left.is at c.in_ok-given.ensures.gives) c.args.content.now c.read_content.new.content
     c.read_content.new.read stop.field-0.0 c.from_residual-in_err-front-in-Left.result
     c.from_residual-in_err-front-in-Left.ensures.1 stop.ensures.reader stop.ensures.asks
 
 pub returns-in_err-front-in-Left-clause-cost : goal.returns-in_err-front-in-Left-clause-cost
 returns-in_err-front-in-Left-clause-cost g c =
-    costs_more _ (costs_then (c.in_ok-given.ensures.costs.cost _).alone (c.read_content.ensures.cost _ _)) (omega arith)
+    let name = length c.args.question.now.name.now in
+    let named = costs_wider (record_cost name) (c.read_content.new.read + 1) (glob_cost name) c.in_ok-given.ensures.costs.cost.alone
+    (omega arith) (omega arith) (omega arith) in
+    costs_then _ named (costs_looks _ _ c.read_content.ensures.cost) (omega arith)
 
 pub returns-in_err-kind-in-Left-clause-stops : goal.returns-in_err-kind-in-Left-clause-stops
 returns-in_err-kind-in-Left-clause-stops g c =
@@ -82,24 +86,24 @@ returns-in_err-kind-in-Left-clause-stops g c =
     let costs = rw c.in-Left.is at c.in_ok-given.ensures.costs in
     let reads = c.in_ok-front-in-Left.ensures in
     passed_on _ (cause_of stop.field-0.0) c.from_residual-in_err-kind-in-Left.result c.from_residual-in_err-kind-in-Left.ensures.1
-    (stops_front g.R.Read.remaining c.args.cache.now c.args.name.now c.args.content.now c.args.order c.in-Left.candidates
+    (stops_front g.R.Read.remaining c.args.cache.now c.args.question.now.name.now c.args.content.now c.args.question.now.order c.in-Left.candidates
     (rw c.in-Left.is at c.in_ok-given.ensures.gives) c.read_content.new.read
-    (option_map (λ bytes. bytes.items) c.in_ok-front-in-Left.front) reads.front c.args.budget.now c.read_content.new.budget
-    c.by_content.new.budget (cause_of stop.field-0.0)
-    (omega (arith, costs.value_bytes, ap (λ (budget : Budget). budget.value_bytes) reads.budget))
-    (λ b globs. omega (arith, costs.takes b globs, ap (λ (budget : Budget). budget.records) reads.budget))
+    (option_map (λ bytes. bytes.items) c.in_ok-front-in-Left.front) reads.front c.args.spending.now.budget c.read_content.new.spending.budget
+    c.by_content.new.spending.budget (cause_of stop.field-0.0)
+    (omega (arith, costs.cost.alone.untouched refl, ap (λ (budget : Budget). budget.value_bytes) reads.cost.budget))
+    (λ b globs. omega (arith, costs.takes b globs, ap (λ (budget : Budget). budget.records) reads.cost.budget))
     (rw c.as_deref-front.ensures.value at stop.ensures.stops))
 
 pub returns-in_err-kind-in-Left-clause-reads : goal.returns-in_err-kind-in-Left-clause-reads
 returns-in_err-kind-in-Left-clause-reads g c =
-    reads_late g.R.Read.remaining g.R.Content.tally g.R.Content.health c.args.cache.now c.args.name.now c.args.order
+    reads_late g.R.Read.remaining g.R.Content.tally g.R.Content.health c.args.cache.now c.args.question.now.name.now c.args.question.now.order
     c.args.content.now c.read_content.new.content c.read_content.new.read _ c.in_err-kind-in-Left.field-0.0
     c.from_residual-in_err-kind-in-Left.result c.from_residual-in_err-kind-in-Left.ensures.1 c.in_ok-front-in-Left.ensures.reader
 
 pub returns-in_err-kind-in-Left-clause-cost : goal.returns-in_err-kind-in-Left-clause-cost
 returns-in_err-kind-in-Left-clause-cost g c =
     let reads = c.in_ok-front-in-Left.ensures in
-    costs_halves {more = glob_cost (length c.args.name.now)} ((rw c.in-Left.is at c.in_ok-given.ensures.costs).cost _) (reads.cost _ _)
+    costs_halves ((rw c.in-Left.is at c.in_ok-given.ensures.costs).cost) reads.cost
     (rw (← reads.front.size) at (rw c.as_deref-front.ensures.value at c.in_err-kind-in-Left.ensures.cost))
 
 pub returns-in_ok-kind-in-Left-clause-answers : goal.returns-in_ok-kind-in-Left-clause-answers
@@ -110,11 +114,11 @@ returns-in_ok-kind-in-Left-clause-answers g c =
     let front = option_map (λ bytes. bytes.items) c.in_ok-front-in-Left.front in
     record {
       chosen = λ b enough.
-          let given = gives b (suffices_globs c.args.cache.now c.args.name.now (c.args.content.now ≡ None) b c.args.order enough) in
-          chosen_front g.R.Read.remaining c.args.cache.now c.args.name.now c.args.content.now c.args.order c.in-Left.candidates b given
-          c.read_content.new.read front reads.front c.args.host kind.kind.now enough
+          let given = gives b (suffices_globs c.args.cache.now c.args.question.now.name.now (c.args.content.now ≡ None) b c.args.question.now.order enough) in
+          chosen_front g.R.Read.remaining c.args.cache.now c.args.question.now.name.now c.args.content.now c.args.question.now.order c.in-Left.candidates b given
+          c.read_content.new.read front reads.front c.args.question.now.host kind.kind.now enough
           ((rw c.as_deref-front.ensures.value at kind.ensures.chosen) b
-          (front_stands g.R.Read.remaining c.args.cache.now c.args.name.now c.args.content.now c.args.order c.in-Left.candidates b given
+          (front_stands g.R.Read.remaining c.args.cache.now c.args.question.now.name.now c.args.content.now c.args.question.now.order c.in-Left.candidates b given
           c.read_content.new.read front reads.front enough) given.2);
       allowed = kind.ensures.kind;
     }
@@ -122,7 +126,7 @@ returns-in_ok-kind-in-Left-clause-answers g c =
 pub returns-in_ok-kind-in-Left-clause-reads : goal.returns-in_ok-kind-in-Left-clause-reads
 returns-in_ok-kind-in-Left-clause-reads g c =
     let reads = c.in_ok-front-in-Left.ensures in
-    reads_chosen g.R.Read.remaining g.R.Content.tally g.R.Content.health c.args.cache.now c.args.name.now c.args.order
+    reads_chosen g.R.Read.remaining g.R.Content.tally g.R.Content.health c.args.cache.now c.args.question.now.name.now c.args.question.now.order
     c.in-Left.candidates (rw c.in-Left.is at c.in_ok-given.ensures.gives) c.args.content.now c.read_content.new.content
     c.read_content.new.read _ (option_map (λ bytes. bytes.items) c.in_ok-front-in-Left.front) c.in_ok-kind-in-Left.kind reads.reader
     reads.asks reads.front
@@ -132,19 +136,19 @@ returns-in_ok-kind-in-Left-clause-near g c b globs decide =
     let given = (rw c.in-Left.is at c.in_ok-given.ensures.gives) b globs in
     let costs = rw c.in-Left.is at c.in_ok-given.ensures.costs in
     let reads = c.in_ok-front-in-Left.ensures in
-    let none = no_content g.R.Read.remaining c.args.cache.now c.args.name.now c.args.content.now c.args.order c.in-Left.candidates b given
+    let none = no_content g.R.Read.remaining c.args.cache.now c.args.question.now.name.now c.args.content.now c.args.question.now.order c.in-Left.candidates b given
     decide in
     let kind = rw c.as_deref-front.ensures.value at c.in_ok-kind-in-Left.ensures.near in
     omega (
       arith,
       costs.near b globs,
-      ap (λ (meter : Meter). meter.nodes) (reads.nothing none),
-      kind b globs given.2 (decides g.R.Read.remaining c.args.cache.now c.args.name.now c.args.content.now c.args.order c.in-Left.candidates b
+      ap (λ (spending : Spending). spending.meter.nodes) (reads.nothing none),
+      kind b globs given.2 (decides g.R.Read.remaining c.args.cache.now c.args.question.now.name.now c.args.content.now c.args.question.now.order c.in-Left.candidates b
           given c.read_content.new.read (option_map (λ bytes. bytes.items) c.in_ok-front-in-Left.front) reads.front decide),
     )
 
 pub returns-in_ok-kind-in-Left-clause-cost : goal.returns-in_ok-kind-in-Left-clause-cost
 returns-in_ok-kind-in-Left-clause-cost g c =
     let reads = c.in_ok-front-in-Left.ensures in
-    costs_halves {more = glob_cost (length c.args.name.now)} ((rw c.in-Left.is at c.in_ok-given.ensures.costs).cost _) (reads.cost _ _)
+    costs_halves ((rw c.in-Left.is at c.in_ok-given.ensures.costs).cost) reads.cost
     (rw (← reads.front.size) at (rw c.as_deref-front.ensures.value at c.in_ok-kind-in-Left.ensures.cost))

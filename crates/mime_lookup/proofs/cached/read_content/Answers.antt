@@ -15,7 +15,7 @@ returns-in_err-extent-clause-stops g c =
     let fault = c.in_err-extent.field-0.0 in
     let head = c.in_err-extent.ensures.fault in
     rw c.in-Some.is (passed_on _ (cause_of fault) c.from_residual.result c.from_residual.ensures.1
-    (stops_for c.args.cache.now _ _ _ fault (of_magic c.args.budget.now (inl head))
+    (stops_for c.args.cache.now _ _ _ fault (of_magic c.args.spending.now.budget (inl head))
     (λ same. no_place (field c.args.cache.now 0 6) (sym head.1 ∙ same))
     (λ b enough.
     let magic = content_magic c.args.cache.now _ b enough in

@@ -1,8 +1,10 @@
 use Rattle.std.proofs.Common.{◌+◌, [], length, sym, true≢false, ◌∙◌, arith}
 use Rattle.mime_base.specs.Cache.Bytes.{field}
 use Rattle.mime_base.specs.Database.{pairs_of}
+use Rattle.mime_view.proofs.Costs.{spends_none}
 use Rattle.mime_view.specs.Parents.{is_marked}
-use Rattle.mime_lookup.proofs.CostLemmas.{costs_none}
+use Rattle.mime_view.specs.Spending.{spending_of}
+use Rattle.mime_lookup.specs.Costs.{lookup_price}
 use Rattle.mime_lookup.proofs.PairsLeft.{unmarked_most}
 use Rattle.mime_lookup.proofs.PlaceMarks.{marked-none}
 use Rattle.mime_lookup.proofs.Queues.{candidate, passed_over}
@@ -18,7 +20,7 @@ loop-kind-init c =
       settled = λ b spells kind is is_a. cc (marked-none c.args.cache.now at kind, is);
       rest = λ b spells answer first. first;
       owed = λ b spells. omega (arith, unmarked_most b.parents (is_marked c.args.cache.now at []));
-      cost = costs_none search_cost 0 c.args.budget.now c.args.meter.now;
+      cost = spends_none (lookup_price search_cost 0) (spending_of c.args.meter.now c.args.budget.now);
     })
 
 pub loop-kind-preserved : goal.loop-kind-preserved

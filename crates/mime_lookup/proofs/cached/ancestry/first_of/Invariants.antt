@@ -2,6 +2,7 @@ use Rattle.std.proofs.Common.{◌+◌, ◌*◌, ◌≤◌, List, ℕ, drop, leng
 use Rattle.mime_base.specs.Cache.Bytes.{field}
 use Rattle.mime_base.specs.Database.{PlainDatabase, pairs_of}
 use Rattle.mime_view.specs.Parents.{is_marked}
+use Rattle.mime_view.specs.Spending.{spending_of}
 use Rattle.mime_lookup.specs.Ancestry.{NoneLeadsTo, kinds_of, unmarked}
 use Rattle.mime_lookup.specs.Choice.{IsFirst}
 use Rattle.mime_lookup.specs.Costs.{Costs}
@@ -19,5 +20,5 @@ invariant-loop-kind l = record {
   owed : (b : PlainDatabase) → SpellsPairs l.cache b →
       unmarked b.parents (is_marked l.cache (field l.cache 0 2) l.marks) + l.fn.budget.records
       ≤ length b.parents + l.budget.records;
-  cost : Costs search_cost 0 (29 * l.kind-index) l.fn.budget l.budget l.fn.meter l.meter;
+  cost : Costs search_cost 0 (29 * l.kind-index) (spending_of l.fn.meter l.fn.budget) (spending_of l.meter l.budget);
 }

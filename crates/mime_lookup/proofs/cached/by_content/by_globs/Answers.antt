@@ -1,15 +1,15 @@
-use Rattle.std.proofs.Common.{arith, inl}
+use Rattle.std.proofs.Common.{◌+◌, ◌*◌, arith, inl, length}
 use Rattle.std.specs.Prelude.{⊤}
 use Rattle.mime_base.specs.Database.{pairs_of}
 use Rattle.mime_lookup.specs.Cached.{cause_of, plain_finding}
 use Rattle.mime_lookup.specs.Choice.{kept}
+use Rattle.mime_lookup.specs.Costs.{glob_cost, record_cost}
 use Rattle.mime_lookup.specs.Finding.{resolved_finding}
 use Rattle.mime_lookup.specs.StepFaults.{of_globs}
 use Rattle.mime_lookup.specs.declared.order.Order.TheVariants.{GlobsFirst}
 use Rattle.mime_lookup.proofs.Answering.{one_type_chosen}
 use Rattle.mime_lookup.proofs.ByContents.{suffices_choice, suffices_globs}
-use Rattle.mime_lookup.proofs.CostLemmas.{costs_more}
-use Rattle.mime_lookup.proofs.GlobsCosts.{costs_chosen}
+use Rattle.mime_lookup.proofs.CostLemmas.{costs_owed, costs_wider}
 use Rattle.mime_lookup.proofs.NearLemmas.{none_kept}
 use Rattle.mime_lookup.proofs.StepStops.{passed_on, stops_for, stops_then}
 use Rattle.mime_lookup.proofs.UsedUp.{globs_spent}
@@ -19,17 +19,19 @@ pub returns-in_err-kept-clause-stops : goal.returns-in_err-kept-clause-stops
 returns-in_err-kept-clause-stops c =
     let keep = c.in_err-kept in
     passed_on _ keep.field-0.0 c.from_residual.result c.from_residual.ensures.1
-    (stops_for c.args.cache.now _ _ _ keep.field-0.0 (of_globs c.keep.new.budget keep.ensures.fault)
-    (λ same. inl (globs_spent c.args.cache.now c.keep.new.budget keep.field-0.0 keep.ensures.fault same))
-    (λ b enough. keep.ensures.need b (suffices_globs c.args.cache.now c.args.name.now ⊤ b GlobsFirst enough.0) (omega (arith, enough.1))))
+    (stops_for c.args.cache.now _ _ _ keep.field-0.0 (of_globs c.keep.new.spending.budget keep.ensures.fault)
+    (λ same. inl (globs_spent c.args.cache.now c.keep.new.spending.budget keep.field-0.0 keep.ensures.fault same))
+    (λ b enough. (keep.ensures.gives b (suffices_globs c.args.cache.now c.args.name.now ⊤ b GlobsFirst enough.0)).given.need
+    (omega (arith, enough.1))))
 
 pub returns-in_err-kept-clause-cost : goal.returns-in_err-kept-clause-cost
-returns-in_err-kept-clause-cost c value = costs_more _ (c.in_err-kept.ensures.cost value) (omega arith)
+returns-in_err-kept-clause-cost c =
+    costs_wider _ _ (glob_cost (length c.args.name.now) + 29) c.in_err-kept.ensures.cost.alone (omega arith) (omega arith) (omega arith)
 
 pub returns-in-One-clause-chosen : goal.returns-in-One-clause-chosen
 returns-in-One-clause-chosen c b enough =
     let globs = suffices_globs c.args.cache.now c.args.name.now ⊤ b GlobsFirst enough in
-    let is = rw c.in-One.is at (c.in_ok-kept.ensures.answer b globs) in
+    let is = rw c.in-One.is at (c.in_ok-kept.ensures.gives b globs).given.answer in
     rw is.1 (one_type_chosen (pairs_of b) (kept (pairs_of b) b.rules c.args.name.now)
     (resolved_finding b.aliases (plain_finding c.args.finding)) is.0)
 
@@ -37,10 +39,11 @@ pub returns-in-One-clause-kind : goal.returns-in-One-clause-kind
 returns-in-One-clause-kind c = inl (rw c.in-One.is at c.in_ok-kept.ensures.text)
 
 pub returns-in-One-clause-near : goal.returns-in-One-clause-near
-returns-in-One-clause-near c b globs decide = omega (arith, c.in_ok-kept.ensures.near b globs)
+returns-in-One-clause-near c b globs decide = omega (arith, (c.in_ok-kept.ensures.gives b globs).near)
 
 pub returns-in-One-clause-cost : goal.returns-in-One-clause-cost
-returns-in-One-clause-cost c value = costs_more _ (c.in_ok-kept.ensures.cost value).alone (omega arith)
+returns-in-One-clause-cost c =
+    costs_wider _ _ (glob_cost (length c.args.name.now) + 29) c.in_ok-kept.ensures.cost.alone (omega arith) (omega arith) (omega arith)
 
 pub choose-requires-clause-texts : goal.choose-requires-clause-texts
 choose-requires-clause-texts c = rw c.as_slice.ensures (rw c.in-Others.is at c.in_ok-kept.ensures.text)
@@ -53,32 +56,38 @@ returns-in_err-kind-in-Others-clause-stops c =
     (stops_then c.args.cache.now (cause_of c.in_err-kind-in-Others.field-0.0) choose (λ used. used)
     (λ b enough.
     let globs = suffices_globs c.args.cache.now c.args.name.now ⊤ b GlobsFirst enough.0 in
-    let is = rw c.in-Others.is at (c.in_ok-kept.ensures.answer b globs) in (
+    let is = rw c.in-Others.is at (c.in_ok-kept.ensures.gives b globs).given.answer in (
       suffices_choice c.args.cache.now c.args.name.now ⊤ b c.in-Others.kinds is.1 is.0 enough.0,
-      omega (arith, enough.1, c.in_ok-kept.ensures.takes_within b globs),
+      omega (arith, enough.1, (c.in_ok-kept.ensures.gives b globs).given.most),
     ))
     (λ b enough read. read))
 
 pub returns-in_err-kind-in-Others-clause-cost : goal.returns-in_err-kind-in-Others-clause-cost
-returns-in_err-kind-in-Others-clause-cost c value =
-    costs_chosen (rw c.in-Others.is at (c.in_ok-kept.ensures.cost value))
-    ((rw c.as_slice.ensures at c.in_err-kind-in-Others.ensures.cost) _ value (omega arith))
+returns-in_err-kind-in-Others-clause-cost c =
+    let name = length c.args.name.now in
+    costs_owed (glob_cost name + 29) (rw c.in-Others.is at c.in_ok-kept.ensures.cost)
+    (costs_wider (record_cost name) 0 (29 + 29 * length c.in-Others.kinds) (rw c.as_slice.ensures at c.in_err-kind-in-Others.ensures.cost) (omega arith) (omega arith)
+    (omega arith))
+    (omega arith)
 
 pub returns-in_ok-kind-in-Others-clause-chosen : goal.returns-in_ok-kind-in-Others-clause-chosen
 returns-in_ok-kind-in-Others-clause-chosen c b enough =
     let globs = suffices_globs c.args.cache.now c.args.name.now ⊤ b GlobsFirst enough in
-    let is = rw c.in-Others.is at (c.in_ok-kept.ensures.answer b globs) in
+    let is = rw c.in-Others.is at (c.in_ok-kept.ensures.gives b globs).given.answer in
     rw (← is.1) ((rw c.as_slice.ensures at c.in_ok-kind-in-Others.ensures.chosen) b
     (suffices_choice c.args.cache.now c.args.name.now ⊤ b c.in-Others.kinds is.1 is.0 enough))
 
 pub returns-in_ok-kind-in-Others-clause-near : goal.returns-in_ok-kind-in-Others-clause-near
 returns-in_ok-kind-in-Others-clause-near c b globs decide =
-    let is = rw c.in-Others.is at (c.in_ok-kept.ensures.answer b globs) in
+    let is = rw c.in-Others.is at (c.in_ok-kept.ensures.gives b globs).given.answer in
     let none = none_kept b c.args.name.now GlobsFirst ⊤ c.in-Others.kinds is.1 is.0 decide in
     let choose = (rw c.as_slice.ensures at c.in_ok-kind-in-Others.ensures.alone) none.0 in
-    omega (arith, choose.1, c.in_ok-kept.ensures.near b globs)
+    omega (arith, choose.looks.most_nodes, (c.in_ok-kept.ensures.gives b globs).near)
 
 pub returns-in_ok-kind-in-Others-clause-cost : goal.returns-in_ok-kind-in-Others-clause-cost
-returns-in_ok-kind-in-Others-clause-cost c value =
-    costs_chosen (rw c.in-Others.is at (c.in_ok-kept.ensures.cost value))
-    ((rw c.as_slice.ensures at c.in_ok-kind-in-Others.ensures.cost) _ value (omega arith))
+returns-in_ok-kind-in-Others-clause-cost c =
+    let name = length c.args.name.now in
+    costs_owed (glob_cost name + 29) (rw c.in-Others.is at c.in_ok-kept.ensures.cost)
+    (costs_wider (record_cost name) 0 (29 + 29 * length c.in-Others.kinds) (rw c.as_slice.ensures at c.in_ok-kind-in-Others.ensures.cost) (omega arith) (omega arith)
+    (omega arith))
+    (omega arith)

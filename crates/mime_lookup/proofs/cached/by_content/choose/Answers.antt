@@ -1,4 +1,4 @@
-use Rattle.std.proofs.Common.{◌≡◌, ◌<◌, ℕ, List, [], length, inl, inr, arith}
+use Rattle.std.proofs.Common.{◌≡◌, ◌<◌, ◌+◌, ◌*◌, ℕ, List, [], length, inl, inr, arith}
 use Rattle.std.proofs.lemmas.Bool.{eqb-false, eqb-true}
 use Rattle.std.proofs.lemmas.List.{length-map}
 use denote.Bor.{Bor}
@@ -6,9 +6,10 @@ use Rattle.mime_base.specs.Database.{pairs_of}
 use Rattle.mime_lookup.specs.Ancestry.{kinds_of}
 use Rattle.mime_lookup.specs.Cached.{plain_finding}
 use Rattle.mime_lookup.specs.Finding.{resolved_finding}
+use Rattle.mime_lookup.specs.Searching.{search_cost}
 use Rattle.mime_lookup.proofs.ByContents.{choice_aliases}
 use Rattle.mime_lookup.proofs.Choices.{chooses-found, chooses-from_found, one_of}
-use Rattle.mime_lookup.proofs.CostLemmas.{costs_more, costs_then}
+use Rattle.mime_lookup.proofs.CostLemmas.{costs_looks, costs_then, costs_wider}
 use Rattle.mime_lookup.proofs.KeptTypes.{texts_count}
 use Rattle.mime_lookup.proofs.KindTexts.{chosen_kind, kind_short}
 use Rattle.mime_lookup.proofs.StepStops.{choice_fault, passed_on, stops_for}
@@ -18,7 +19,7 @@ use Rattle.mime_lookup.proofs.cached.by_content.choose.Goals as goal
 pub returns-in_err-base-clause-stops : goal.returns-in_err-base-clause-stops
 returns-in_err-base-clause-stops c =
     let base = c.in_err-base in
-    let left = c.resolve.new.budget in
+    let left = c.resolve.new.spending.budget in
     passed_on _ base.field-0.0 c.from_residual.result c.from_residual.ensures.1
     (stops_for c.args.cache.now _ _ _ base.field-0.0 (choice_fault c.args.cache.now left base.field-0.0 (inl base.ensures.fault))
     (λ same. inl (choice_spent c.args.cache.now left base.field-0.0 (inl base.ensures.fault) same))
@@ -27,7 +28,9 @@ returns-in_err-base-clause-stops c =
     absurd (base.ensures.answer b aliases.0 aliases.1.0 aliases.1.1)))
 
 pub returns-in_err-base-clause-cost : goal.returns-in_err-base-clause-cost
-returns-in_err-base-clause-cost c each value wide = costs_more _ (c.in_err-base.ensures.cost each value) (omega arith)
+returns-in_err-base-clause-cost c =
+    costs_wider _ _ (29 + 29 * length (kinds_of c.args.kept.now)) (costs_looks search_cost 0 c.in_err-base.ensures.cost) (omega arith) (omega arith)
+    (omega arith)
 
 pub returns-then-is_empty-clause-chosen : goal.returns-then-is_empty-clause-chosen
 returns-then-is_empty-clause-chosen c b enough =
@@ -37,7 +40,9 @@ returns-then-is_empty-clause-chosen c b enough =
     (c.in_ok-base.ensures.answer b aliases.0 aliases.1.0 aliases.1.1) none
 
 pub returns-then-is_empty-clause-cost : goal.returns-then-is_empty-clause-cost
-returns-then-is_empty-clause-cost c each value wide = costs_more _ (c.in_ok-base.ensures.cost each value) (omega arith)
+returns-then-is_empty-clause-cost c =
+    costs_wider _ _ (29 + 29 * length (kinds_of c.args.kept.now)) (costs_looks search_cost 0 c.in_ok-base.ensures.cost) (omega arith) (omega arith)
+    (omega arith)
 
 pub first_of-requires : goal.first_of-requires
 first_of-requires c = record { base = omega (arith, kind_short c.args.cache.now c.in_ok-base.base.now c.in_ok-base.ensures.kind) }
@@ -51,7 +56,7 @@ returns-in_err-kind-clause-stops c =
     (stops_for c.args.cache.now _ _ _ search.field-0.0 (choice_fault c.args.cache.now left search.field-0.0 (inr search.ensures.fault))
     (λ same. inl (choice_spent c.args.cache.now left search.field-0.0 (inr search.ensures.fault) same))
     (λ b enough. elim enough.0 [
-      | inl pairs ↦ search.ensures.need b pairs (rw c.in_ok-base.ensures.budget enough.1)
+      | inl pairs ↦ search.ensures.need b pairs (rw c.in_ok-base.ensures.cost.budget enough.1)
       | inr none ↦ absurd (omega (arith, some, texts_count c.args.kept.now [] none.0))
     ]))
 
@@ -61,9 +66,9 @@ returns-in_err-kind-clause-alone c none =
     absurd (omega (arith, some, texts_count c.args.kept.now [] none))
 
 pub returns-in_err-kind-clause-cost : goal.returns-in_err-kind-clause-cost
-returns-in_err-kind-clause-cost c each value wide =
-    rw (length-map c.args.kept.now (λ (text : Bor (List ℕ)). text.now))
-    (costs_then (c.in_ok-base.ensures.cost each value) (c.in_err-kind.ensures.cost each value wide))
+returns-in_err-kind-clause-cost c =
+    costs_then _ (costs_looks search_cost 0 c.in_ok-base.ensures.cost) (c.in_err-kind.ensures.cost search_cost 0 (omega arith))
+    (omega (arith, length-map c.args.kept.now (λ (text : Bor (List ℕ)). text.now)))
 
 pub returns-clause-chosen : goal.returns-clause-chosen
 returns-clause-chosen c b enough =
@@ -87,6 +92,6 @@ returns-clause-alone c none =
     absurd (omega (arith, some, texts_count c.args.kept.now [] none))
 
 pub returns-clause-cost : goal.returns-clause-cost
-returns-clause-cost c each value wide =
-    rw (length-map c.args.kept.now (λ (text : Bor (List ℕ)). text.now))
-    (costs_then (c.in_ok-base.ensures.cost each value) (c.in_ok-kind.ensures.cost each value wide))
+returns-clause-cost c =
+    costs_then _ (costs_looks search_cost 0 c.in_ok-base.ensures.cost) (c.in_ok-kind.ensures.cost search_cost 0 (omega arith))
+    (omega (arith, length-map c.args.kept.now (λ (text : Bor (List ℕ)). text.now)))

@@ -1,20 +1,70 @@
-use Rattle.std.proofs.Common.{rules, ◌<◌, length, arith, refl, map, ap, sym, subst, ◌∙◌, ⊎_elim}
+use Rattle.std.proofs.Common.{◌≡◌, rules, ◌<◌, ◌+◌, length, arith, refl, map, ap, sym, subst, ◌∙◌, ⊎_elim}
 use Rattle.std.proofs.lemmas.Simd.{map-map}
 use Rattle.std.proofs.lemmas.List.Elements.{All-set}
+use Rattle.mime_base.specs.Database.{pairs_of}
 use Rattle.mime_base.specs.Database.Subclass.{resolved}
 use Rattle.mime_base.specs.Kept.{kept_rules}
 use Rattle.mime_base.specs.declared.database.rule.GlobRule.{GlobRule}
 use Rattle.mime_lookup.specs.Cached.{IsCacheText}
 use Rattle.mime_lookup.specs.Choice.{kept}
-use Rattle.mime_lookup.specs.Costs.{glob_cost}
-use Rattle.mime_lookup.proofs.CostLemmas.{costs_kept}
+use Rattle.mime_lookup.proofs.CostLemmas.{charged_steps}
 use Rattle.mime_lookup.proofs.NearLemmas.{kept_few}
+use Rattle.mime_lookup.proofs.StepStops.{not_given, passed_on}
 use Rattle.mime_lookup.proofs.KeptTypes.{all_item, stepped-all, stepped-next, texts_count}
+use Rattle.mime_view.specs.declared.budget.Budget.{Budget}
 use Rattle.mime_lookup.proofs.cached.kept.kept_kinds.Goals as goal
 
-pub returns-in_err-kind-clause-need : goal.returns-in_err-kind-clause-need
-returns-in_err-kind-clause-need c = λ b spelled enough.
-    absurd (c.in_err-kind.ensures.answer spelled.offsets b.aliases spelled.header spelled.aliases)
+pub returns-in_err-kinds-clause-gives : goal.returns-in_err-kinds-clause-gives
+returns-in_err-kinds-clause-gives c b spelled =
+    let passed = c.from_residual.ensures.1 in
+    let hits = c.in_err-kinds.ensures in
+    record {
+      answer = not_given _ _ c.from_residual.result passed;
+      few = not_given _ _ c.from_residual.result passed;
+      need = λ enough. passed_on _ _ c.from_residual.result passed (hits.need spelled.offsets b.rules spelled.ranks spelled.header
+          spelled.literals spelled.tree spelled.globs enough);
+      within = hits.takes_within spelled.offsets b.rules spelled.header spelled.literals spelled.tree spelled.globs;
+      nearly = hits.takes_near spelled.offsets b.rules spelled.header spelled.literals spelled.tree spelled.globs;
+    }
+
+pub returns-in_err-kinds-clause-cost : goal.returns-in_err-kinds-clause-cost
+returns-in_err-kinds-clause-cost c = record {
+  found = 0;
+  given = not_given _ _ c.from_residual.result c.from_residual.ensures.1;
+  paid = omega (arith, c.in_err-kinds.ensures.cost.records);
+  cost =
+      charged_steps 0 c.in_err-kinds.ensures.cost refl
+      (record { rises = omega arith; bytes_rise = omega arith; most_nodes = omega arith; most_bytes = omega arith });
+}
+
+pub returns-in_err-kind-clause-gives : goal.returns-in_err-kind-clause-gives
+returns-in_err-kind-clause-gives c b spelled =
+    record {
+      answer = not_given _ _ c.from_residual-in_err-kind.result c.from_residual-in_err-kind.ensures.1;
+      few = not_given _ _ c.from_residual-in_err-kind.result c.from_residual-in_err-kind.ensures.1;
+      need = λ enough. absurd (c.in_err-kind.ensures.answer spelled.offsets b.aliases spelled.header spelled.aliases);
+      within = absurd (c.in_err-kind.ensures.answer spelled.offsets b.aliases spelled.header spelled.aliases);
+      nearly = absurd (c.in_err-kind.ensures.answer spelled.offsets b.aliases spelled.header spelled.aliases);
+    }
+
+pub returns-in_err-kind-clause-cost : goal.returns-in_err-kind-clause-cost
+returns-in_err-kind-clause-cost c =
+    let first = texts_count c.as_slice-place-end.result.now c.in_ok-kinds.kinds c.as_slice-place-end.ensures in
+    let so_far = c.loop-place.invariant.cost in
+    let step = c.in_err-kind.ensures in
+    let stays = step.budget in
+    let records = ap (λ (budget : Budget). budget.records) (stays ∙ c.loop-place.invariant.budget) in
+    record {
+      found = c.loop-place.place + 1;
+      given = not_given _ _ c.from_residual-in_err-kind.result c.from_residual-in_err-kind.ensures.1;
+      paid = omega (arith, first, c.loop-place-test.true, c.in_ok-kinds.ensures.count, records);
+      cost = charged_steps (c.loop-place.place + 1) c.in_ok-kinds.ensures.cost (stays ∙ c.loop-place.invariant.budget) (record {
+        rises = omega (arith, so_far.rises, step.rises);
+        bytes_rise = omega (arith, so_far.bytes_rise, step.bytes_rise);
+        most_nodes = omega (arith, so_far.most_nodes, step.nodes);
+        most_bytes = omega (arith, so_far.most_bytes, step.bytes);
+      });
+    }
 
 pub loop-place-init : goal.loop-place-init
 loop-place-init c = record {
@@ -22,10 +72,7 @@ loop-place-init c = record {
   answer = λ b spelled. refl;
   text = c.in_ok-kinds.ensures.text;
   budget = refl;
-  rises = omega arith;
-  nodes = omega arith;
-  bytes_rise = omega arith;
-  bytes = omega arith;
+  cost = record { rises = omega arith; bytes_rise = omega arith; most_nodes = omega arith; most_bytes = omega arith };
 }
 
 pub loop-place-preserved : goal.loop-place-preserved
@@ -47,32 +94,51 @@ loop-place-preserved c =
           (⊎_elim (λ same. subst (IsCacheText c.args.cache.now) (sym same) is) (λ text. text) c.in_ok-kind.ensures.text)
           c.loop-place.invariant.text);
       budget = search rules;
-      rises = search rules;
-      nodes = search rules;
-      bytes_rise = search rules;
-      bytes = search rules;
+      cost =
+          let so_far = c.loop-place.invariant.cost in
+          let step = c.in_ok-kind.ensures in
+          record {
+            rises = omega (arith, so_far.rises, step.rises);
+            bytes_rise = omega (arith, so_far.bytes_rise, step.bytes_rise);
+            most_nodes = omega (arith, so_far.most_nodes, step.nodes);
+            most_bytes = omega (arith, so_far.most_bytes, step.bytes);
+          };
     }
 
-pub returns-clause-answer : goal.returns-clause-answer
+pub returns-clause-gives : goal.returns-clause-gives
 unfolding kept
-returns-clause-answer c = λ b spelled.
+returns-clause-gives c b spelled =
     let step = resolved b.aliases in
     let first = texts_count c.as_slice-place-end.result.now c.in_ok-kinds.kinds c.as_slice-place-end.ensures in
-    let hits = c.in_ok-kinds.ensures.answer spelled.offsets b.rules spelled.ranks spelled.header spelled.literals spelled.tree
-    spelled.globs in
+    let hits = c.in_ok-kinds.ensures in
+    let rules = hits.answer spelled.offsets b.rules spelled.ranks spelled.header spelled.literals spelled.tree spelled.globs in
+    let answer : c.loop-place.kinds ≡ kept (pairs_of b) b.rules c.args.name.now =
     c.loop-place.invariant.answer b spelled
     ∙ stepped-all step c.loop-place.place c.in_ok-kinds.kinds (omega (arith, first, c.loop-place-test.false))
-    ∙ ap (map step) hits
-    ∙ map-map step (λ (rule : GlobRule). rule.kind) (kept_rules b.rules c.args.name.now)
-
-pub returns-clause-few : goal.returns-clause-few
-returns-clause-few c = λ b spelled.
-    kept_few c.kept_are_near.ensures b c.args.name.now c.loop-place.kinds (returns-clause-answer c b spelled)
+    ∙ ap (map step) rules
+    ∙ map-map step (λ (rule : GlobRule). rule.kind) (kept_rules b.rules c.args.name.now) in
+    let records = ap (λ (budget : Budget). budget.records) c.loop-place.invariant.budget in
+    record {
+      answer = answer;
+      few = kept_few c.kept_are_near.ensures b c.args.name.now c.loop-place.kinds answer;
+      need = λ enough. tt;
+      within = omega (arith, records, hits.takes_within spelled.offsets b.rules spelled.header spelled.literals spelled.tree spelled.globs);
+      nearly = omega (arith, records, hits.takes_near spelled.offsets b.rules spelled.header spelled.literals spelled.tree spelled.globs);
+    }
 
 pub returns-clause-cost : goal.returns-clause-cost
-returns-clause-cost c = λ value.
+returns-clause-cost c =
     let i = c.loop-place.invariant in
     let first = texts_count c.as_slice-place-end.result.now c.in_ok-kinds.kinds c.as_slice-place-end.ensures in
-    rw i.budget (costs_kept (length c.args.name.now) value (glob_cost (length c.args.name.now)) (length c.loop-place.kinds)
-    c.args.budget.now c.glob_hits.new.budget c.args.meter.now c.glob_hits.new.meter c.loop-place.meter c.in_ok-kinds.ensures.cost
-    (omega (arith, c.in_ok-kinds.ensures.count)) i.rises (omega (arith, first, i.size)) i.bytes_rise (omega (arith, first, i.size)))
+    let records = ap (λ (budget : Budget). budget.records) i.budget in
+    record {
+      found = length c.loop-place.kinds;
+      given = refl;
+      paid = omega (arith, i.size, c.in_ok-kinds.ensures.count, records);
+      cost = charged_steps (length c.loop-place.kinds) c.in_ok-kinds.ensures.cost i.budget (record {
+        rises = i.cost.rises;
+        bytes_rise = i.cost.bytes_rise;
+        most_nodes = omega (arith, i.cost.most_nodes, first, i.size, c.loop-place-test.false);
+        most_bytes = omega (arith, i.cost.most_bytes, first, i.size);
+      });
+    }

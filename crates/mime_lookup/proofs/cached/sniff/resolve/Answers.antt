@@ -1,4 +1,3 @@
-use Rattle.mime_lookup.proofs.CostLemmas.{costs_nodes}
 use Rattle.mime_lookup.proofs.cached.sniff.resolve.Goals as goal
 
 pub returns-in-Magic-clause-answer : goal.returns-in-Magic-clause-answer
@@ -6,7 +5,9 @@ returns-in-Magic-clause-answer c b offsets header aliases =
     rw c.in-Magic.is (c.unalias.ensures.answer offsets b.aliases header aliases)
 
 pub returns-in-Magic-clause-cost : goal.returns-in-Magic-clause-cost
-returns-in-Magic-clause-cost c each value =
+returns-in-Magic-clause-cost c =
     let step = c.unalias.ensures in
-    rw step.budget (costs_nodes each value 29 c.args.budget.now c.args.meter.now c.unalias.new.meter step.rises step.nodes
-    step.bytes_rise step.bytes)
+    record {
+      budget = step.budget;
+      looks = record { rises = step.rises; bytes_rise = step.bytes_rise; most_nodes = step.nodes; most_bytes = step.bytes };
+    }

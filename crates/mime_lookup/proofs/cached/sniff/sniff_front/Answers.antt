@@ -1,23 +1,12 @@
-use Rattle.std.proofs.Common.{◌∙◌, ◌+◌, ◌≤◌, length, inr, sym, ap, arith, ℕ}
+use Rattle.std.proofs.Common.{◌∙◌, length, inr, sym, ap}
 use Rattle.std.proofs.lemmas.Bool.{true≢false}
-use Rattle.mime_base.specs.declared.meter.Meter.{Meter}
-use Rattle.mime_lookup.specs.Costs.{Costs}
 use Rattle.mime_lookup.specs.Finding.{found_by}
 use Rattle.mime_lookup.specs.StepFaults.{of_magic}
 use Rattle.mime_lookup.proofs.ByContents.{content_magic}
-use Rattle.mime_lookup.proofs.CostLemmas.{costs_paid, costs_wider}
+use Rattle.mime_lookup.proofs.CostLemmas.{costs_paid}
 use Rattle.mime_lookup.proofs.StepStops.{passed_on, stops_for}
 use Rattle.mime_lookup.proofs.UsedUp.{sniff_fault_spent}
 use Rattle.mime_lookup.proofs.cached.sniff.sniff_front.Goals as goal
-use Rattle.mime_view.specs.Magic.{Paid}
-use Rattle.mime_view.specs.declared.budget.Budget.{Budget}
-
--- what a search of magic costs
-costs_of_front : (size : ℕ) (old new : Budget) (before after : Meter) → Paid size 256 1 old new before after → (each : ℕ) → 256 ≤ each →
-    Costs each (size + 1) 1 old new before after
-costs_of_front size old new before after paid each wide =
-    costs_wider 256 each (size + 1) (size + 1) 1 1 old new before after wide (omega arith) (omega arith)
-    (costs_paid size 256 1 old new before after paid)
 
 pub returns-in_err-section-clause-stops : goal.returns-in_err-section-clause-stops
 returns-in_err-section-clause-stops c =
@@ -40,7 +29,7 @@ returns-in_err-section-clause-takes c =
     (c.sniff.ensures.takes_at_most spells.offsets b.sections spells.header spells.lines spells.magic).most_records)
 
 pub returns-in_err-section-clause-cost : goal.returns-in_err-section-clause-cost
-returns-in_err-section-clause-cost c = rw c.in-Some.is (costs_of_front (length c.in-Some.front.now) _ _ _ _ c.sniff.ensures.cost)
+returns-in_err-section-clause-cost c = rw c.in-Some.is (costs_paid (length c.in-Some.front.now) _ _ c.sniff.ensures.cost)
 
 pub returns-clause-found : goal.returns-clause-found
 returns-clause-found c =
@@ -62,4 +51,4 @@ returns-clause-takes c =
     (c.sniff.ensures.takes_at_most spells.offsets b.sections spells.header spells.lines spells.magic).most_records)
 
 pub returns-clause-cost : goal.returns-clause-cost
-returns-clause-cost c = rw c.in-Some.is (costs_of_front (length c.in-Some.front.now) _ _ _ _ c.sniff.ensures.cost)
+returns-clause-cost c = rw c.in-Some.is (costs_paid (length c.in-Some.front.now) _ _ c.sniff.ensures.cost)
