@@ -11,6 +11,9 @@ use thiserror::Error;
 /// Why a file was not opened, not read or not replaced.
 #[derive(Clone, Copy, Debug, PartialEq, Eq, Error)]
 pub enum FileFault {
+    /// It is a folder.
+    #[error("is a folder")]
+    Folder,
     /// The file can't be opened, read or replaced, or is past a limit of its reader.
     #[error("cannot read")]
     Failed,
@@ -40,8 +43,8 @@ pub trait Files {
 
     /// All the bytes of a file, or `None` where there is no such file.
     ///
-    /// Errors: [`FileFault::Failed`] for a file that is there and can't be read, a directory too;
-    /// [`FileFault::OutOfMemory`] where there is no memory for it.
+    /// Errors: [`FileFault::Folder`] for a folder; [`FileFault::Failed`] for anything else that is there
+    /// and can't be read; [`FileFault::OutOfMemory`] where there is no memory for it.
     fn whole(&mut self, alloc: Global, path: &str) -> Result<Option<Vec<u8>>, FileFault>
         ensures told { Tells (tells self.old path.now) result }
         ensures stays { tells self.new ≡ tells self.old }
@@ -49,10 +52,8 @@ pub trait Files {
 
     /// Opens a file, of which nothing is read yet.
     ///
-    /// A directory may be opened; then each read fails.
-    ///
-    /// Errors: [`FileFault::Failed`] where there is no such file or it can't be opened;
-    /// [`FileFault::OutOfMemory`] where there is no memory for it.
+    /// Errors: [`FileFault::Folder`] for a folder; [`FileFault::Failed`] where there is no such file or it
+    /// can't be opened; [`FileFault::OutOfMemory`] where there is no memory for it.
     fn open(&mut self, alloc: Global, path: &str) -> Result<Self::Reader, FileFault>
         ensures opened { IsOpening Self.Reader.remaining Self.Reader.health
             (tells self.old path.now) result }

@@ -3,6 +3,7 @@
 ghost use Rattle.std.specs.Prelude.{◌≡◌, ◌≢◌, ◌≤◌, None, [], IfOk, IfSome, OnOk, length};
 ghost use Rattle.std.specs.IoError.{error_kind};
 ghost use Rattle.std.specs.Io.KnownBytes.{Appends, Keeps, ReadConsumes};
+ghost use Rattle.mime_tool.specs.Files.{fault_of};
 ghost use Rattle.mime_tool.specs.Sink.{IsPut};
 
 use crate::files::{FileFault, Files};
@@ -11,7 +12,6 @@ use mime_lookup::Untold;
 use std::alloc::Global;
 use std::fs::{File, Metadata, OpenFile};
 use std::io::{ErrorKind, Read, Write};
-use std::os::unix::fs::FileTypeExt;
 use std::{fs, io, rt};
 
 /// The longest file that is read whole, in bytes.
@@ -25,12 +25,13 @@ const BLOCK: usize = 65_536;
 
 /// The files of the system.
 ///
-/// Of files that are read whole, one that doesn't exist is none; any other that can't be opened or
-/// read, a directory too, is [`FileFault::Failed`], and so is one of more than 4 GiB. A file that
-/// says that it is so long isn't read.
+/// Only regular files are opened, and links to them. A folder is [`FileFault::Folder`]; a pipe, a socket
+/// and a device, `/dev/null` too, are [`FileFault::Failed`]: to open one may wait for a writer without
+/// end, or do something.
 ///
-/// A pipe is [`FileFault::Failed`] too, and isn't opened: that may wait for a writer without end. A
-/// device is opened and read like a file: `/dev/null` is an empty one.
+/// Of files that are read whole, one that doesn't exist is none; any other that can't be opened or read
+/// is [`FileFault::Failed`], and so is one of more than 4 GiB. A file that says that it is so long isn't
+/// read.
 #[derive(Drop)]
 pub struct SystemFiles<'r, R: rt::Files>(&'r R);
 
@@ -78,19 +79,22 @@ impl<R: rt::Files> Files for SystemFiles<'_, R> {
     }
 }
 
-// Opens a file to be read. What the path leads to may change in between, so what was opened is looked at too.
+// Opens a regular file to be read. What the path leads to may change in between, so what was opened is looked at too.
 fn open_file<R: rt::Files>(rt: &R, path: &str) -> io::Result<R::File> {
-    refuse_pipe(&fs::metadata(rt, path)?)?;
+    require_regular(&fs::metadata(rt, path)?)?;
     let file = File::open(rt, path)?;
-    refuse_pipe(&file.metadata()?)?;
+    require_regular(&file.metadata()?)?;
     Ok(file)
 }
 
-fn refuse_pipe(metadata: &Metadata) -> io::Result<()> {
-    if metadata.file_type().is_fifo() {
-        return Err(io::Error::from(ErrorKind::Unsupported));
+fn require_regular(metadata: &Metadata) -> io::Result<()> {
+    if metadata.is_file() {
+        Ok(())
+    } else if metadata.is_dir() {
+        Err(io::Error::from(ErrorKind::IsADirectory))
+    } else {
+        Err(io::Error::from(ErrorKind::Unsupported))
     }
-    Ok(())
 }
 
 // Writes a new file of `temp` that lasts, and renames it. What stood there is removed, and never written to: a pipe would be
@@ -140,7 +144,7 @@ fn read_open<F: Read + OpenFile>(
 /// All the bytes that a reader still gives, at most `limit`.
 ///
 /// An interrupted read is tried again, 1,000 times in all. [`FileFault::Failed`] comes with the next
-/// interruption, with any other error of the reader, and with more than `limit` bytes.
+/// interruption, and with more than `limit` bytes; any other error of the reader is passed on.
 pub fn read_whole<R: Read>(alloc: Global, limit: usize, file: &mut R) -> Result<Vec<u8>, FileFault>
     ensures bytes { IfOk result (λ v. IfSome (R.remaining file.old) (λ xs. v.items ≡ xs)) }
     ensures limited { IfOk result (λ v. length v.items ≤ limit) }
@@ -184,13 +188,12 @@ fn read_block<R: Read>(
 }
 
 fn file_fault(error: &io::Error) -> FileFault
-    ensures memory { error_kind error.now ≡ ErrorKind.OutOfMemory → result ≡ FileFault.OutOfMemory }
-    ensures failed { error_kind error.now ≢ ErrorKind.OutOfMemory → result ≡ FileFault.Failed }
+    ensures { result ≡ fault_of (error_kind error.now) }
 {
-    if error.kind() == ErrorKind::OutOfMemory {
-        FileFault::OutOfMemory
-    } else {
-        FileFault::Failed
+    match error.kind() {
+        ErrorKind::OutOfMemory => FileFault::OutOfMemory,
+        ErrorKind::IsADirectory => FileFault::Folder,
+        _ => FileFault::Failed,
     }
 }
 
