@@ -1,5 +1,5 @@
 -- What becomes of a desk: before a part of the program, after it, and what that part gives.
-use Rattle.std.specs.Prelude.{◌≡◌, ◌≢◌, ℕ, false, List, Option, Some, None, Result, Ok, Err, Vec, string_bytes}
+use Rattle.std.specs.Prelude.{◌≡◌, ◌≢◌, ◌++◌, ℕ, false, List, Option, Some, None, Result, Ok, Err, Vec, string_bytes}
 use Rattle.std.specs.declared.alloc.Global.{Global}
 use Rattle.mime_lookup.specs.Content.{Health}
 use Rattle.mime_tool.specs.Files.{IsFolder, IsReaderOf, IsShut, Replaced, Stored, Untouched, Writing, fails, succeeds}
@@ -62,11 +62,11 @@ ReplacesOrStops temp path bs writing old new (Err (stop.Refused text)) =
 ReplacesOrStops temp path bs writing old new (Err stop.CannotWrite) = ⊥
 ReplacesOrStops temp path bs writing old new (Err stop.OutOfMemory) = Untouched temp old new
 
--- the setting and the sinks stay, and a file is replaced or not
-pub record ReplacesFile (temp path bs : List ℕ) (before after : State) (result : Result (Unit {0}) Stop) : Type 0 where
+-- the setting and the sinks stay, and a file is replaced or not, by way of its path with an ending
+pub record ReplacesFile (path ending bs : List ℕ) (before after : State) (result : Result (Unit {0}) Stop) : Type 0 where
   pub same_setting : after.setting ≡ before.setting
   pub same_sinks : after.sinks ≡ before.sinks
-  pub files : ReplacesOrStops temp path bs (before.setting.writes temp path) before.stored after.stored result
+  pub files : ReplacesOrStops (path ++ ending) path bs (before.setting.writes path ending) before.stored after.stored result
 
 -- a file is opened; or it is a folder, it can't be opened, or memory ran out
 abbrev pub OpensFile : {R : Type 0} → (R → Option (List ℕ)) → (R → Health) → Stored → Sinks → Sinks → Result (Opened R) Stop → Type 0

@@ -51,9 +51,9 @@ pub(crate) trait Desk {
         ensures { Works (OpensFile Self.Reader.remaining Self.Reader.health
             ((state self.old).stored path.now)) (state self.old) (state self.new) result };
 
-    /// Makes these bytes the file of `path`, whole, by way of a file of `temp`.
-    fn replace(&mut self, temp: &str, path: &str, bytes: &[u8]) -> Result<(), Stop>
-        ensures { ReplacesFile temp.now path.now bytes.now (state self.old) (state self.new) result };
+    /// Makes these bytes the file of `path`, whole, by way of a file of the path with this ending.
+    fn replace(&mut self, path: &str, ending: &str, bytes: &[u8]) -> Result<(), Stop>
+        ensures { ReplacesFile path.now ending.now bytes.now (state self.old) (state self.new) result };
 
     /// Prints the pieces on standard output, one after another.
     fn print(&mut self, pieces: &[&[u8]]) -> Result<(), Stop>
@@ -119,8 +119,8 @@ impl<F: Files, O: Sink, E: Sink> Desk for Streams<'_, '_, '_, F, O, E> {
         }
     }
 
-    fn replace(&mut self, temp: &str, path: &str, bytes: &[u8]) -> Result<(), Stop> {
-        match self.files.replace(self.alloc, temp, path, bytes) {
+    fn replace(&mut self, path: &str, ending: &str, bytes: &[u8]) -> Result<(), Stop> {
+        match self.files.replace(self.alloc, path, ending, bytes) {
             Ok(()) => Ok(()),
             Err(FileFault::Folder | FileFault::Failed) => Err(unwritable(self.alloc, path)),
             Err(FileFault::OutOfMemory) => Err(Stop::OutOfMemory),

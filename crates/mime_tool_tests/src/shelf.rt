@@ -94,8 +94,8 @@ impl<'a> Files for Shelf<'a> {
     fn replace(
         &mut self,
         _alloc: Global,
-        _temp: &str,
         _path: &str,
+        _ending: &str,
         _bytes: &[u8],
     ) -> Result<(), FileFault> {
         Err(FileFault::Failed)

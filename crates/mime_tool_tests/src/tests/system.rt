@@ -416,7 +416,7 @@ const EMPTY: Disk = Disk::Gives(Opened {
 fn are_not_replaced(rt: &impl Abort, alloc: Global) {
     for &(name, disk, want) in &REPLACED {
         let mut files = SystemFiles::new(&disk);
-        let fault = files.replace(alloc, "c.new", "c", b"x");
+        let fault = files.replace(alloc, "c", ".new", b"x");
         alike(rt, name, fault, Err(want));
     }
 }
@@ -425,6 +425,10 @@ fn are_not_replaced(rt: &impl Abort, alloc: Global) {
 fn names_what_replacing_fails_with(rt: HostRuntime) {
     are_not_replaced(&rt, rt.alloc());
     let mut files = SystemFiles::new(&rt);
-    let fault = files.replace(rt.alloc(), "/proc/c.new", "/proc/c", b"x");
+    let fault = files.replace(rt.alloc(), "/proc/c", ".new", b"x");
     alike(&rt, "/proc/c", fault, Err(FileFault::Failed));
+    let fault = files.replace(rt.alloc(), "/dev/null", ".new", b"x");
+    alike(&rt, "/dev/null", fault, Err(FileFault::Failed));
+    let fault = files.replace(rt.alloc(), "/dev", ".new", b"x");
+    alike(&rt, "/dev", fault, Err(FileFault::Folder));
 }
