@@ -1,6 +1,5 @@
 -- What `build` stores of a database.
-use Rattle.std.proofs.Common.{◌≡◌, ℕ, List, inl, inr, Ok, Err, Vec, ap}
-use Rattle.std.proofs.Common.{refl, subst}
+use Rattle.std.proofs.Common.{ℕ, List, inl, inr, Ok, Err, Vec, ap, codes, refl}
 use Rattle.std.specs.declared.alloc.Global.{Global}
 use Rattle.mime_base.specs.Database.{PlainDatabase}
 use Rattle.mime_tool.specs.Build.{BuildsOver, GivesCache, IsBuildOver, IsBuilt, temp_of, writing_of}
@@ -44,44 +43,36 @@ builds_uncached database file a (stop.Refused m) p = record {
 }
 
 -- it isn't stored
-pub builds_unstored : (database : PlainDatabase) (file temp : List ℕ) (cache : Vec ℕ Global) (a b : State) (s : Stop)
-    → temp ≡ temp_of file → GivesCache database (Ok cache) → ReplacesFile temp file cache.items a b (Err s)
-    → BuildsOver database file a b (Err s)
-builds_unstored database file temp cache a b s is c p =
-    unstored database file cache a b s c (subst (λ (t : List ℕ). ReplacesFile t file cache.items a b (Err s)) is p)
-  where
-    unstored : (database : PlainDatabase) (file : List ℕ) (cache : Vec ℕ Global) (a b : State) (s : Stop)
-        → GivesCache database (Ok cache) → ReplacesFile (temp_of file) file cache.items a b (Err s) → BuildsOver database file a b (Err s)
-    unstored database file cache a b stop.OutOfMemory c p = record {
-      same_setting = p.same_setting;
-      can_be = can_be_over file (writing_of a.setting.writes file) a.stored b.stored database p.files;
-      sinks = inl (writes_same a.sinks b.sinks p.same_sinks);
-      leaves = p.files;
-    }
-    unstored database file cache a b stop.CannotWrite c p = absurd p.files
-    unstored database file cache a b (stop.Refused m) c p = record {
-      same_setting = p.same_setting;
-      can_be = can_be_over file (writing_of a.setting.writes file) a.stored b.stored database p.files.0;
-      sinks = (
-        silent,
-        inr (inl (c.1, p.files.1, p.files.0, ap (λ (t : List ℕ). stopped t silent) p.files.2)),
-        writes_same a.sinks b.sinks p.same_sinks,
-      );
-      leaves = p.files.0;
-    }
+pub builds_unstored : (database : PlainDatabase) (file : List ℕ) (cache : Vec ℕ Global) (a b : State) (s : Stop)
+    → GivesCache database (Ok cache) → ReplacesFile file (codes ".new") cache.items a b (Err s) → BuildsOver database file a b (Err s)
+builds_unstored database file cache a b stop.OutOfMemory c p = record {
+  same_setting = p.same_setting;
+  can_be = can_be_over file (writing_of a.setting.writes file) a.stored b.stored database p.files;
+  sinks = inl (writes_same a.sinks b.sinks p.same_sinks);
+  leaves = p.files;
+}
+builds_unstored database file cache a b stop.CannotWrite c p = absurd p.files
+builds_unstored database file cache a b (stop.Refused m) c p = record {
+  same_setting = p.same_setting;
+  can_be = can_be_over file (writing_of a.setting.writes file) a.stored b.stored database p.files.0;
+  sinks = (
+    silent,
+    inr (inl (c.1, p.files.1, p.files.0, ap (λ (t : List ℕ). stopped t silent) p.files.2)),
+    writes_same a.sinks b.sinks p.same_sinks,
+  );
+  leaves = p.files.0;
+}
 
 -- it is
-pub builds_stored : (database : PlainDatabase) (file temp : List ℕ) (cache : Vec ℕ Global) (a b : State) (u : Unit {0})
-    → temp ≡ temp_of file → GivesCache database (Ok cache) → ReplacesFile temp file cache.items a b (Ok u)
-    → BuildsOver database file a b (Ok 0)
-builds_stored database file temp cache a b u is c p =
-    let here = subst (λ (t : List ℕ). ReplacesFile t file cache.items a b (Ok u)) is p in
-    let built : IsBuilt file a.stored b.stored database = (c.1, (cache.items, c.0, here.files.0)) in
+pub builds_stored : (database : PlainDatabase) (file : List ℕ) (cache : Vec ℕ Global) (a b : State) (u : Unit {0})
+    → GivesCache database (Ok cache) → ReplacesFile file (codes ".new") cache.items a b (Ok u) → BuildsOver database file a b (Ok 0)
+builds_stored database file cache a b u c p =
+    let built : IsBuilt file a.stored b.stored database = (c.1, (cache.items, c.0, p.files.0)) in
     let over : IsBuildOver file (writing_of a.setting.writes file) a.stored b.stored database silent =
-    inr (inr (inl (built, here.files.1, refl))) in
+    inr (inr (inl (built, p.files.1, refl))) in
     record {
-      same_setting = here.same_setting;
+      same_setting = p.same_setting;
       can_be = (silent, over);
-      sinks = (silent, over, refl, refl, writes_same a.sinks b.sinks here.same_sinks);
+      sinks = (silent, over, refl, refl, writes_same a.sinks b.sinks p.same_sinks);
       leaves = built;
     }

@@ -13,7 +13,7 @@ use Rattle.mime_lookup.specs.Cached.{IsKind}
 use Rattle.mime_lookup.specs.CheckingOrder.{Chooses, globs_suffice, read_of}
 use Rattle.mime_lookup.specs.Content.{Health, OfReader, broken, known_content}
 use Rattle.mime_lookup.specs.declared.order.Order.{Order}
-use Rattle.mime_tool.specs.Files.{IsReaderOf, Stored, bytes, closed, nothing, unknown, unreadable}
+use Rattle.mime_tool.specs.Files.{IsReaderOf, Stored, bytes, closed, folder, nothing, unknown, unreadable}
 use Rattle.mime_tool.specs.Line.{IsOpened, IsTypeLineBy, base_name, fits, type_line}
 use Rattle.mime_tool.specs.LineSteps.{IsContent}
 use Rattle.mime_tool.specs.Run.{printed}
@@ -64,6 +64,7 @@ module _ {R : Type 0} (remaining : R → Option (List ℕ)) (health : R → Heal
       → IsReaderOf remaining health stored reader
       → IsOpened (lookup_by path name_only cost order cache) stored file (printed (type_line file kind tail))
   opened name_only nothing reader kind meter read tail told fit is_kind bounds chosen asked has = absurd has
+  opened name_only folder reader kind meter read tail told fit is_kind bounds chosen asked has = absurd has
   opened name_only closed reader kind meter read tail told fit is_kind bounds chosen asked has = absurd has
   opened name_only unreadable reader kind meter read tail told fit is_kind bounds chosen asked has =
       named (fits file) file _ _ fit (inl (inl (line (IsChosenByGlobs order file) kind meter read tail told is_kind bounds
@@ -75,8 +76,8 @@ module _ {R : Type 0} (remaining : R → Option (List ℕ)) (health : R → Heal
       named (fits file) file _ _ fit (inl (line (IsChosen (Some bs) order file) kind meter read tail told is_kind bounds
       (λ b limits spells. known (λ it. IsChosen it order file b kind read) (remaining reader) bs has.0 (chosen b limits spells))))
   opened name_only unknown reader kind meter read tail told fit is_kind bounds chosen asked has =
-      inr (named (fits file) file _ _ fit (inl (inl (line (λ _ _ _. ⊤) kind meter read tail told is_kind bounds
-      (λ b limits spells. tt)))))
+      inr (inr (named (fits file) file _ _ fit (inl (inl (line (λ _ _ _. ⊤) kind meter read tail told is_kind bounds
+      (λ b limits spells. tt))))))
 
   -- an answer is the line of a file
   pub line_found : (content after : Option R) (kind : List ℕ) (meter : Meter) (read : ℕ) (tail : List ℕ)

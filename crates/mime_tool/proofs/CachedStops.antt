@@ -16,7 +16,7 @@ use Rattle.mime_lookup.specs.declared.stopped.Cause.TheVariants as cause
 use Rattle.mime_lookup.specs.declared.stopped.Stopped.{Stopped}
 use Rattle.mime_view.specs.declared.fault.CacheFault.{CacheFault}
 use Rattle.mime_tool.specs.Cache.{GivesOrRefuses, IsCacheFaultStop, cache_fault_name}
-use Rattle.mime_tool.specs.Files.{Stored, bytes, closed, nothing, unknown, unreadable}
+use Rattle.mime_tool.specs.Files.{Stored, bytes, closed, folder, nothing, unknown, unreadable}
 use Rattle.mime_tool.specs.Line.{IsNamed, IsTypeLineBy, fits}
 use Rattle.mime_tool.specs.LineSteps.{IsContent, LooksUp}
 use Rattle.mime_tool.specs.Run.{Run, refusal, silent, stopped}
@@ -72,13 +72,14 @@ module _ {R : Type 0} (remaining : R → Option (List ℕ)) (health : R → Heal
       named (fits file) file _ _ fit (inr (f, refuses, ap (λ (t : List ℕ). stopped t silent) is))
   refused_run f text false stored None fit refuses is has = absurd has
   refused_run f text false nothing (Some reader) fit refuses is has = absurd has
+  refused_run f text false folder (Some reader) fit refuses is has = absurd has
   refused_run f text false closed (Some reader) fit refuses is has = absurd has
   refused_run f text false unreadable (Some reader) fit refuses is has =
       named (fits file) file _ _ fit (inr (f, refuses, ap (λ (t : List ℕ). stopped t silent) is))
   refused_run f text false (bytes bs) (Some reader) fit refuses is has =
       named (fits file) file _ _ fit (inr (f, refuses, ap (λ (t : List ℕ). stopped t silent) is))
   refused_run f text false unknown (Some reader) fit refuses is has =
-      inr (named (fits file) file _ _ fit (inr (f, refuses, ap (λ (t : List ℕ). stopped t silent) is)))
+      inr (inr (named (fits file) file _ _ fit (inr (f, refuses, ap (λ (t : List ℕ). stopped t silent) is))))
 
   -- what stops for a fault of the cache
   looked_up : (s : Stop) → GivesOrRefuses {X = Unit {0}} path (RefusesLookup cache) (λ _. ⊤) (Err s) → fits file ≡ true

@@ -20,7 +20,7 @@ temp_of file = file ++ codes ".new"
 
 -- what is known of replacing the file by a cache
 abbrev pub writing_of : (List ℕ → List ℕ → Writing) → List ℕ → Writing
-writing_of writes file = writes (temp_of file) file
+writing_of writes file = writes file (codes ".new")
 
 -- the message on a database that no cache can hold
 abbrev pub too_large : List ℕ

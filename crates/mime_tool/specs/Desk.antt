@@ -1,11 +1,13 @@
 -- What becomes of a desk: before a part of the program, after it, and what that part gives.
-use Rattle.std.specs.Prelude.{◌≡◌, ◌≢◌, ℕ, false, List, Option, Some, None, Result, Ok, Err, Vec, string_bytes}
+use Rattle.std.specs.Prelude.{◌≡◌, ◌≢◌, ◌++◌, ℕ, false, List, Option, Some, None, Result, Ok, Err, Vec, string_bytes}
 use Rattle.std.specs.declared.alloc.Global.{Global}
 use Rattle.mime_lookup.specs.Content.{Health}
-use Rattle.mime_tool.specs.Files.{IsReaderOf, IsShut, Replaced, Stored, Untouched, Writing, fails, succeeds}
+use Rattle.mime_tool.specs.Files.{IsFolder, IsReaderOf, IsShut, Replaced, Stored, Untouched, Writing, fails, succeeds}
 use Rattle.mime_tool.specs.Finish.{IsCut, Sinks, Writes, WritesFront}
 use Rattle.mime_tool.specs.Run.{Run, cannot_read, cannot_write, stopped, stops}
 use Rattle.mime_tool.specs.Stop.{message}
+use Rattle.mime_tool.specs.declared.desk.Opened.{Opened}
+use Rattle.mime_tool.specs.declared.desk.Opened.TheVariants as opened
 use Rattle.mime_tool.specs.declared.stop.Stop.{Stop}
 use Rattle.mime_tool.specs.declared.stop.Stop.TheVariants as stop
 
@@ -60,15 +62,16 @@ ReplacesOrStops temp path bs writing old new (Err (stop.Refused text)) =
 ReplacesOrStops temp path bs writing old new (Err stop.CannotWrite) = ⊥
 ReplacesOrStops temp path bs writing old new (Err stop.OutOfMemory) = Untouched temp old new
 
--- the setting and the sinks stay, and a file is replaced or not
-pub record ReplacesFile (temp path bs : List ℕ) (before after : State) (result : Result (Unit {0}) Stop) : Type 0 where
+-- the setting and the sinks stay, and a file is replaced or not, by way of its path with an ending
+pub record ReplacesFile (path ending bs : List ℕ) (before after : State) (result : Result (Unit {0}) Stop) : Type 0 where
   pub same_setting : after.setting ≡ before.setting
   pub same_sinks : after.sinks ≡ before.sinks
-  pub files : ReplacesOrStops temp path bs (before.setting.writes temp path) before.stored after.stored result
+  pub files : ReplacesOrStops (path ++ ending) path bs (before.setting.writes path ending) before.stored after.stored result
 
--- a file is opened; or it can't be, or memory ran out
-abbrev pub OpensFile : {R : Type 0} → (R → Option (List ℕ)) → (R → Health) → Stored → Sinks → Sinks → Result (Option R) Stop → Type 0
-OpensFile remaining health stored old new (Ok (Some reader)) = (new ≡ old) × IsReaderOf remaining health stored reader
-OpensFile remaining health stored old new (Ok None) = (new ≡ old) × IsShut stored
+-- a file is opened; or it is a folder, it can't be opened, or memory ran out
+abbrev pub OpensFile : {R : Type 0} → (R → Option (List ℕ)) → (R → Health) → Stored → Sinks → Sinks → Result (Opened R) Stop → Type 0
+OpensFile remaining health stored old new (Ok (opened.File reader)) = (new ≡ old) × IsReaderOf remaining health stored reader
+OpensFile remaining health stored old new (Ok opened.Folder) = (new ≡ old) × IsFolder stored
+OpensFile remaining health stored old new (Ok opened.Shut) = (new ≡ old) × IsShut stored
 OpensFile remaining health stored old new (Err stop.OutOfMemory) = new ≡ old
 OpensFile remaining health stored old new (Err _) = ⊥

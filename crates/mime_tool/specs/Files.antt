@@ -1,14 +1,17 @@
 -- What files hold.
 use Rattle.std.specs.Prelude.{◌≡◌, ◌≢◌, ◌⊎◌, ℕ, List, [], Option, Some, None, Result, Ok, Err, Vec}
 use Rattle.std.specs.declared.alloc.Global.{Global}
+use Rattle.std.specs.declared.io.ErrorKind.{ErrorKind}
+use Rattle.std.specs.declared.io.ErrorKind.TheVariants as kind
 use Rattle.mime_lookup.specs.Content.{Health, broken, sound}
 use Rattle.mime_tool.specs.declared.files.FileFault.{FileFault}
-use Rattle.mime_tool.specs.declared.files.FileFault.TheVariants.{Failed, OutOfMemory}
+use Rattle.mime_tool.specs.declared.files.FileFault.TheVariants.{Failed, Folder, OutOfMemory}
 
--- what is stored at a path: nothing, something that can't be opened, something that opens and whose reads all fail (a
--- directory), or a file of these bytes; or that isn't known
+-- what is stored at a path: nothing, a folder, something else that can't be opened, a file whose reads all fail, or a file of
+-- these bytes; or that isn't known
 pub data Stored : Type 0 where
   nothing : Stored
+  folder : Stored
   closed : Stored
   unreadable : Stored
   bytes : List ℕ → Stored
@@ -18,6 +21,7 @@ pub data Stored : Type 0 where
 abbrev pub Tells : Stored → Result (Option (Vec ℕ Global)) FileFault → Type 0
 Tells unknown answer = Unit {0}
 Tells stored (Err OutOfMemory) = Unit {0}
+Tells stored (Err Folder) = stored ≡ folder
 Tells stored (Err Failed) = (stored ≡ closed) ⊎ (stored ≡ unreadable)
 Tells stored (Ok None) = stored ≡ nothing
 Tells stored (Ok (Some v)) = stored ≡ bytes v.items
@@ -25,22 +29,31 @@ Tells stored (Ok (Some v)) = stored ≡ bytes v.items
 -- a reader of what is stored: it gives just the bytes, or its reads all fail
 abbrev pub IsReaderOf : {R : Type 0} → (R → Option (List ℕ)) → (R → Health) → Stored → R → Type 0
 IsReaderOf remaining health nothing reader = ⊥
+IsReaderOf remaining health folder reader = ⊥
 IsReaderOf remaining health closed reader = ⊥
 IsReaderOf remaining health unreadable reader = (remaining reader ≡ Some []) × (health reader ≡ broken)
 IsReaderOf remaining health (bytes bs) reader = (remaining reader ≡ Some bs) × (health reader ≡ sound)
 IsReaderOf remaining health unknown reader = Unit {0}
 
--- nothing that can be opened is stored
+-- a folder is stored, or that isn't known
+abbrev pub IsFolder : Stored → Type 0
+IsFolder folder = Unit {0}
+IsFolder unknown = Unit {0}
+IsFolder _ = ⊥
+
+-- nothing that can be opened is stored, and no folder
 abbrev pub IsShut : Stored → Type 0
 IsShut nothing = Unit {0}
+IsShut folder = ⊥
 IsShut closed = Unit {0}
 IsShut unreadable = ⊥
 IsShut (bytes bs) = ⊥
 IsShut unknown = Unit {0}
 
--- a reader of what is stored is given; or it can't be opened, or memory ran out
+-- a reader of what is stored is given; or it is a folder, it can't be opened, or memory ran out
 abbrev pub IsOpening : {R : Type 0} → (R → Option (List ℕ)) → (R → Health) → Stored → Result R FileFault → Type 0
 IsOpening remaining health stored (Ok reader) = IsReaderOf remaining health stored reader
+IsOpening remaining health stored (Err Folder) = IsFolder stored
 IsOpening remaining health stored (Err Failed) = IsShut stored
 IsOpening remaining health stored (Err OutOfMemory) = Unit {0}
 
@@ -69,12 +82,13 @@ Untouched temp old new = (other : List ℕ) → other ≢ temp → new other ≡
 -- the file is replaced; or it is untouched where that failed, or memory ran out
 abbrev pub Replaces : List ℕ → List ℕ → List ℕ → Writing → (List ℕ → Stored) → (List ℕ → Stored) → Result (Unit {0}) FileFault → Type 0
 Replaces temp path bs writing old new (Ok _) = Replaced temp path bs old new × (writing ≢ fails)
-Replaces temp path bs writing old new (Err Failed) = Untouched temp old new × (writing ≢ succeeds)
 Replaces temp path bs writing old new (Err OutOfMemory) = Untouched temp old new
+Replaces temp path bs writing old new (Err fault) = Untouched temp old new × (writing ≢ succeeds)
 
 -- the text of a file: an empty one where there is no file, and none where it can't be read
 abbrev pub IsTextOf : Stored → Option (List ℕ) → Type 0
 IsTextOf nothing text = text ≡ Some []
+IsTextOf folder text = text ≡ None
 IsTextOf closed text = text ≡ None
 IsTextOf unreadable text = text ≡ None
 IsTextOf (bytes bs) text = text ≡ Some bs
@@ -83,7 +97,16 @@ IsTextOf unknown text = Unit {0}
 -- the bytes of a file that has to be there: none where there is no file, or it can't be read
 abbrev pub IsBytesOf : Stored → Option (List ℕ) → Type 0
 IsBytesOf nothing found = found ≡ None
+IsBytesOf folder found = found ≡ None
 IsBytesOf closed found = found ≡ None
 IsBytesOf unreadable found = found ≡ None
 IsBytesOf (bytes bs) found = found ≡ Some bs
 IsBytesOf unknown found = Unit {0}
+
+-- ---- errors of the system
+
+-- the fault that an error of the system comes to
+abbrev pub fault_of : ErrorKind → FileFault
+fault_of kind.OutOfMemory = OutOfMemory
+fault_of kind.IsADirectory = Folder
+fault_of _ = Failed

@@ -3,8 +3,8 @@ use Rattle.std.specs.Prelude.{◌≡◌, ◌⊎◌, ◌==◌, ℕ, Bool, true, f
 use Rattle.std.specs.List.{after_last}
 use Rattle.mime_lookup.specs.declared.order.Order.{Order}
 use Rattle.mime_lookup.specs.declared.order.Order.TheVariants.{GlobsFirst, MagicFirst}
-use Rattle.mime_tool.specs.Files.{Stored, bytes, closed, nothing, unknown, unreadable}
-use Rattle.mime_tool.specs.Run.{Run, refusal, unanswered}
+use Rattle.mime_tool.specs.Files.{Stored, bytes, closed, folder, nothing, unknown, unreadable}
+use Rattle.mime_tool.specs.Run.{Run, cannot_read, refusal, unanswered}
 
 -- the name of a file: what stands after its last slash (47)
 abbrev pub base_name : List ℕ → List ℕ
@@ -47,10 +47,12 @@ IsNamed false file IsOne run = run ≡ unanswered (too_long file)
 -- the run over a file that is to be opened, where this is stored
 abbrev pub IsOpened : PlainLookup → Stored → List ℕ → Run → Type 0
 IsOpened lookup nothing file run = run ≡ unanswered (cannot_open file)
+IsOpened lookup folder file run = run ≡ unanswered (cannot_read file)
 IsOpened lookup closed file run = run ≡ unanswered (cannot_open file)
 IsOpened lookup unreadable file run = IsNamed (fits file) file (lookup.IsUnread file) run
 IsOpened lookup (bytes bs) file run = IsNamed (fits file) file (lookup.IsTyped (Some bs) file) run
-IsOpened lookup unknown file run = (run ≡ unanswered (cannot_open file)) ⊎ IsNamed (fits file) file (lookup.IsGuessed file) run
+IsOpened lookup unknown file run =
+    (run ≡ unanswered (cannot_open file)) ⊎ (run ≡ unanswered (cannot_read file)) ⊎ IsNamed (fits file) file (lookup.IsGuessed file) run
 
 -- the run over a file: by its name alone, or it is opened
 abbrev pub IsTypeLineBy : Bool → PlainLookup → Stored → List ℕ → Run → Type 0

@@ -23,8 +23,9 @@ const CACHE_LIMIT: usize = 268_435_456;
 
 /// Stores the cache of the directories as this file, and gives the status.
 ///
-/// It is written to a file of this path and `.new`, which is then renamed. Where the database is too
-/// large for a cache, or the cache can't be written, the file is as it was.
+/// It is written to a file of this path and `.new`, which is then renamed; where the path is a link, to
+/// one of the path that it leads to, and `.new`. Where the database is too large for a cache, or the cache
+/// can't be written, the file is as it was.
 pub(crate) fn build<D: Desk>(
     desk: &mut D,
     environment: Option<Environment<'_>>,
@@ -43,8 +44,7 @@ fn store<D: Desk>(desk: &mut D, database: &Database, file: &str) -> Result<u8, S
         (D.state desk.old) (D.state desk.new) result }
 {
     let cache = cache_of(desk.alloc(), database)?;
-    let temp = format!(in desk.alloc(); "{file}.new")?;
-    desk.replace(temp.as_str(), file, cache.as_slice())?;
+    desk.replace(file, ".new", cache.as_slice())?;
     Ok(ANSWERED)
 }
 

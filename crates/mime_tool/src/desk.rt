@@ -11,6 +11,17 @@ use crate::stop::{Stop, complain, unreadable, unwritable};
 use mime_lookup::Content;
 use std::alloc::Global;
 
+/// What opening a file comes to.
+#[derive(Drop)]
+pub(crate) enum Opened<R: Drop> {
+    /// A reader of its content.
+    File(R),
+    /// It is a folder.
+    Folder,
+    /// It can't be opened.
+    Shut,
+}
+
 /// What a command works with.
 ///
 /// A command takes one and is generic over it. So the command's contract is one relation of the desk
@@ -35,14 +46,14 @@ pub(crate) trait Desk {
         ensures { Works (ReadsWhole (IsBytesOf ((state self.old).stored path.now)) path.now)
             (state self.old) (state self.new) result };
 
-    /// Opens a file, or gives `None` where it can't be opened.
-    fn open(&mut self, path: &str) -> Result<Option<Self::Reader>, Stop>
+    /// Opens a file.
+    fn open(&mut self, path: &str) -> Result<Opened<Self::Reader>, Stop>
         ensures { Works (OpensFile Self.Reader.remaining Self.Reader.health
             ((state self.old).stored path.now)) (state self.old) (state self.new) result };
 
-    /// Makes these bytes the file of `path`, whole, by way of a file of `temp`.
-    fn replace(&mut self, temp: &str, path: &str, bytes: &[u8]) -> Result<(), Stop>
-        ensures { ReplacesFile temp.now path.now bytes.now (state self.old) (state self.new) result };
+    /// Makes these bytes the file of `path`, whole, by way of a file of the path with this ending.
+    fn replace(&mut self, path: &str, ending: &str, bytes: &[u8]) -> Result<(), Stop>
+        ensures { ReplacesFile path.now ending.now bytes.now (state self.old) (state self.new) result };
 
     /// Prints the pieces on standard output, one after another.
     fn print(&mut self, pieces: &[&[u8]]) -> Result<(), Stop>
@@ -84,7 +95,7 @@ impl<F: Files, O: Sink, E: Sink> Desk for Streams<'_, '_, '_, F, O, E> {
         match self.files.whole(self.alloc, path) {
             Ok(Some(text)) => Ok(text),
             Ok(None) => Ok(Vec::new(self.alloc)),
-            Err(FileFault::Failed) => Err(unreadable(self.alloc, path)),
+            Err(FileFault::Folder | FileFault::Failed) => Err(unreadable(self.alloc, path)),
             Err(FileFault::OutOfMemory) => Err(Stop::OutOfMemory),
         }
     }
@@ -92,23 +103,26 @@ impl<F: Files, O: Sink, E: Sink> Desk for Streams<'_, '_, '_, F, O, E> {
     fn read_bytes(&mut self, path: &str) -> Result<Vec<u8>, Stop> {
         match self.files.whole(self.alloc, path) {
             Ok(Some(bytes)) => Ok(bytes),
-            Ok(None) | Err(FileFault::Failed) => Err(unreadable(self.alloc, path)),
+            Ok(None) | Err(FileFault::Folder | FileFault::Failed) => {
+                Err(unreadable(self.alloc, path))
+            }
             Err(FileFault::OutOfMemory) => Err(Stop::OutOfMemory),
         }
     }
 
-    fn open(&mut self, path: &str) -> Result<Option<F::Reader>, Stop> {
+    fn open(&mut self, path: &str) -> Result<Opened<F::Reader>, Stop> {
         match self.files.open(self.alloc, path) {
-            Ok(reader) => Ok(Some(reader)),
-            Err(FileFault::Failed) => Ok(None),
+            Ok(reader) => Ok(Opened::File(reader)),
+            Err(FileFault::Folder) => Ok(Opened::Folder),
+            Err(FileFault::Failed) => Ok(Opened::Shut),
             Err(FileFault::OutOfMemory) => Err(Stop::OutOfMemory),
         }
     }
 
-    fn replace(&mut self, temp: &str, path: &str, bytes: &[u8]) -> Result<(), Stop> {
-        match self.files.replace(self.alloc, temp, path, bytes) {
+    fn replace(&mut self, path: &str, ending: &str, bytes: &[u8]) -> Result<(), Stop> {
+        match self.files.replace(self.alloc, path, ending, bytes) {
             Ok(()) => Ok(()),
-            Err(FileFault::Failed) => Err(unwritable(self.alloc, path)),
+            Err(FileFault::Folder | FileFault::Failed) => Err(unwritable(self.alloc, path)),
             Err(FileFault::OutOfMemory) => Err(Stop::OutOfMemory),
         }
     }

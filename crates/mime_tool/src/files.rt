@@ -1,6 +1,6 @@
 //! Where files come from. This project's own.
 
-ghost use Rattle.std.specs.Prelude.{◌≡◌, ℕ, List};
+ghost use Rattle.std.specs.Prelude.{◌≡◌, ◌++◌, ℕ, List};
 ghost use Rattle.mime_tool.specs.Files.{IsOpening, Replaces, Stored, Tells, Writing, unforeseen, unknown};
 ghost use Rattle.mime_tool.specs.declared.files.FileFault.TheVariants.{OutOfMemory};
 
@@ -11,6 +11,9 @@ use thiserror::Error;
 /// Why a file was not opened, not read or not replaced.
 #[derive(Clone, Copy, Debug, PartialEq, Eq, Error)]
 pub enum FileFault {
+    /// It is a folder.
+    #[error("is a folder")]
+    Folder,
     /// The file can't be opened, read or replaced, or is past a limit of its reader.
     #[error("cannot read")]
     Failed,
@@ -32,7 +35,7 @@ pub trait Files {
     // What is stored at each path.
     ghost tells: { Self → List ℕ → Stored } = { λ _ _. unknown };
 
-    // What is known of replacing a file, by the path that its bytes are written to and its own. It stays.
+    // What is known of replacing the file of a path by way of this path with an ending. It stays.
     ghost writes: { Self → List ℕ → List ℕ → Writing } = { λ _ _ _. unforeseen };
 
     /// A reader of a file's content.
@@ -40,8 +43,8 @@ pub trait Files {
 
     /// All the bytes of a file, or `None` where there is no such file.
     ///
-    /// Errors: [`FileFault::Failed`] for a file that is there and can't be read, a directory too;
-    /// [`FileFault::OutOfMemory`] where there is no memory for it.
+    /// Errors: [`FileFault::Folder`] for a folder; [`FileFault::Failed`] for anything else that is there
+    /// and can't be read; [`FileFault::OutOfMemory`] where there is no memory for it.
     fn whole(&mut self, alloc: Global, path: &str) -> Result<Option<Vec<u8>>, FileFault>
         ensures told { Tells (tells self.old path.now) result }
         ensures stays { tells self.new ≡ tells self.old }
@@ -49,31 +52,31 @@ pub trait Files {
 
     /// Opens a file, of which nothing is read yet.
     ///
-    /// A directory may be opened; then each read fails.
-    ///
-    /// Errors: [`FileFault::Failed`] where there is no such file or it can't be opened;
-    /// [`FileFault::OutOfMemory`] where there is no memory for it.
+    /// Errors: [`FileFault::Folder`] for a folder; [`FileFault::Failed`] where there is no such file or it
+    /// can't be opened; [`FileFault::OutOfMemory`] where there is no memory for it.
     fn open(&mut self, alloc: Global, path: &str) -> Result<Self::Reader, FileFault>
         ensures opened { IsOpening Self.Reader.remaining Self.Reader.health
             (tells self.old path.now) result }
         ensures stays { tells self.new ≡ tells self.old }
         ensures writes { writes self.new ≡ writes self.old };
 
-    /// Makes these bytes the file of `path`, whole: they are written to `temp`, which is then renamed.
+    /// Makes these bytes the file of `path`, whole: they are written to the path with this ending, and
+    /// that file is then renamed.
     ///
-    /// What was stored at `temp` is lost. After a fault the file of `path` is as it was, and a file of
-    /// `temp` may stand.
+    /// What was stored at the path with the ending is lost. After a fault the file of `path` is as it was,
+    /// and one of the path with the ending may stand.
     ///
-    /// Errors: [`FileFault::Failed`] where they can't be written or renamed;
-    /// [`FileFault::OutOfMemory`] where there is no memory for that.
+    /// Errors: [`FileFault::Folder`] for a folder; [`FileFault::Failed`] for anything else but a regular
+    /// file or none, and where the bytes can't be written or renamed; [`FileFault::OutOfMemory`] where
+    /// there is no memory for that.
     fn replace(
         &mut self,
         alloc: Global,
-        temp: &str,
         path: &str,
+        ending: &str,
         bytes: &[u8],
     ) -> Result<(), FileFault>
-        ensures replaced { Replaces temp.now path.now bytes.now (writes self.old temp.now path.now)
+        ensures replaced { Replaces (path.now ++ ending.now) path.now bytes.now (writes self.old path.now ending.now)
             (tells self.old) (tells self.new) result }
         ensures writes { writes self.new ≡ writes self.old };
 }

@@ -10,7 +10,7 @@ ghost use Rattle.mime_tool.specs.Types.{cost_text};
 
 mod lookup;
 
-use crate::desk::{Desk, report};
+use crate::desk::{Desk, Opened, report};
 use crate::status::{ANSWERED, NOT_ANSWERED};
 use crate::stop::Stop;
 use lookup::find;
@@ -63,9 +63,10 @@ fn outcome_of<'a, D: Desk>(
 {
     let mut content: Option<D::Reader> = None;
     if !lookup.name_only {
-        content = desk.open(file)?;
-        if content.is_none() {
-            return Ok(Outcome::CannotOpen);
+        match desk.open(file)? {
+            Opened::File(reader) => content = Some(reader),
+            Opened::Folder => return Ok(Outcome::CannotRead),
+            Opened::Shut => return Ok(Outcome::CannotOpen),
         }
     }
     find(desk.alloc(), lookup, file, content)

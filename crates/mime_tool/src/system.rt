@@ -3,15 +3,15 @@
 ghost use Rattle.std.specs.Prelude.{◌≡◌, ◌≢◌, ◌≤◌, None, [], IfOk, IfSome, OnOk, length};
 ghost use Rattle.std.specs.IoError.{error_kind};
 ghost use Rattle.std.specs.Io.KnownBytes.{Appends, Keeps, ReadConsumes};
+ghost use Rattle.mime_tool.specs.Files.{fault_of};
 ghost use Rattle.mime_tool.specs.Sink.{IsPut};
 
 use crate::files::{FileFault, Files};
 use crate::sink::{Sink, SinkFault};
 use mime_lookup::Untold;
 use std::alloc::Global;
-use std::fs::{File, Metadata, OpenFile};
+use std::fs::{File, Metadata, OpenFile, Permissions};
 use std::io::{ErrorKind, Read, Write};
-use std::os::unix::fs::FileTypeExt;
 use std::{fs, io, rt};
 
 /// The longest file that is read whole, in bytes.
@@ -25,12 +25,16 @@ const BLOCK: usize = 65_536;
 
 /// The files of the system.
 ///
-/// Of files that are read whole, one that doesn't exist is none; any other that can't be opened or
-/// read, a directory too, is [`FileFault::Failed`], and so is one of more than 4 GiB. A file that
-/// says that it is so long isn't read.
+/// Only regular files are opened, and links to them. A folder is [`FileFault::Folder`]; a pipe, a socket
+/// and a device, `/dev/null` too, are [`FileFault::Failed`]: to open one may wait for a writer without
+/// end, or do something.
 ///
-/// A pipe is [`FileFault::Failed`] too, and isn't opened: that may wait for a writer without end. A
-/// device is opened and read like a file: `/dev/null` is an empty one.
+/// A regular file alone is replaced, and keeps its mode; where a link leads to it, by way of a file beside
+/// it, and the link stays. Where nothing is, a file is made.
+///
+/// Of files that are read whole, one that doesn't exist is none; any other that can't be opened or read
+/// is [`FileFault::Failed`], and so is one of more than 4 GiB. A file that says that it is so long isn't
+/// read.
 #[derive(Drop)]
 pub struct SystemFiles<'r, R: rt::Files>(&'r R);
 
@@ -66,41 +70,107 @@ impl<R: rt::Files> Files for SystemFiles<'_, R> {
 
     fn replace(
         &mut self,
-        _alloc: Global,
-        temp: &str,
+        alloc: Global,
         path: &str,
+        ending: &str,
         bytes: &[u8],
     ) -> Result<(), FileFault> {
-        match replace_by(self.0, temp, path, bytes) {
+        match replace_by(self.0, alloc, (path, ending), bytes) {
             Ok(()) => Ok(()),
             Err(error) => Err(file_fault(&error)),
         }
     }
 }
 
-// Opens a file to be read. What the path leads to may change in between, so what was opened is looked at too.
+// Opens a regular file to be read. What the path leads to may change in between, so what was opened is looked at too.
 fn open_file<R: rt::Files>(rt: &R, path: &str) -> io::Result<R::File> {
-    refuse_pipe(&fs::metadata(rt, path)?)?;
+    require_regular(&fs::metadata(rt, path)?)?;
     let file = File::open(rt, path)?;
-    refuse_pipe(&file.metadata()?)?;
+    require_regular(&file.metadata()?)?;
     Ok(file)
 }
 
-fn refuse_pipe(metadata: &Metadata) -> io::Result<()> {
-    if metadata.file_type().is_fifo() {
-        return Err(io::Error::from(ErrorKind::Unsupported));
+fn require_regular(metadata: &Metadata) -> io::Result<()> {
+    if metadata.is_file() {
+        Ok(())
+    } else if metadata.is_dir() {
+        Err(io::Error::from(ErrorKind::IsADirectory))
+    } else {
+        Err(io::Error::from(ErrorKind::Unsupported))
     }
-    Ok(())
 }
 
-// Writes a new file of `temp` that lasts, and renames it. What stood there is removed, and never written to: a pipe would be
-// waited for, and a link lead to another file.
-fn replace_by<R: rt::Files>(rt: &R, temp: &str, path: &str, bytes: &[u8]) -> io::Result<()> {
-    remove_left(rt, temp)?;
-    let mut file = File::create_new(rt, temp)?;
+// Where a file lies that is to be replaced or made, and its permissions, if it is there.
+#[derive(Drop)]
+struct Place {
+    path: String,
+    permissions: Option<Permissions>,
+}
+
+// Writes a new file beside the one of this path, by the path and an ending, and renames it.
+fn replace_by<R: rt::Files>(
+    rt: &R,
+    alloc: Global,
+    (path, ending): (&str, &str),
+    bytes: &[u8],
+) -> io::Result<()> {
+    let Place { path, permissions } = place_of(rt, alloc, path)?;
+    let temp = format!(in alloc; "{path}{ending}")?;
+    write_new(rt, temp.as_str(), permissions, bytes)?;
+    fs::rename(rt, temp.as_str(), path.as_str())
+}
+
+// The place of a regular file or of none. Anything else is refused.
+fn place_of<R: rt::Files>(rt: &R, alloc: Global, path: &str) -> io::Result<Place> {
+    let found = match fs::symlink_metadata(rt, path) {
+        Ok(found) => Some(found),
+        Err(error) => {
+            if error.kind() != ErrorKind::NotFound {
+                return Err(error);
+            }
+            None
+        }
+    };
+    match found {
+        Some(found) if found.is_symlink() => linked_place(rt, alloc, path),
+        Some(found) => regular_place(String::from_str(alloc, path)?, &found),
+        None => Ok(Place {
+            path: String::from_str(alloc, path)?,
+            permissions: None,
+        }),
+    }
+}
+
+// The place of the file that a link leads to, which has to be there.
+fn linked_place<R: rt::Files>(rt: &R, alloc: Global, link: &str) -> io::Result<Place> {
+    let path = rt.canonicalize(alloc, link)?.into_string();
+    let found = fs::symlink_metadata(rt, path.as_str())?;
+    regular_place(path, &found)
+}
+
+fn regular_place(path: String, found: &Metadata) -> io::Result<Place> {
+    require_regular(found)?;
+    Ok(Place {
+        path,
+        permissions: Some(found.permissions()),
+    })
+}
+
+// Writes a new file that lasts. What stood at its path is removed, and never written to: a pipe would be waited for, and a
+// link lead to another file.
+fn write_new<R: rt::Files>(
+    rt: &R,
+    path: &str,
+    permissions: Option<Permissions>,
+    bytes: &[u8],
+) -> io::Result<()> {
+    remove_left(rt, path)?;
+    let mut file = File::create_new(rt, path)?;
+    if let Some(permissions) = permissions {
+        file.set_permissions(permissions)?;
+    }
     file.write_all(bytes)?;
-    file.sync_all()?;
-    fs::rename(rt, temp, path)
+    file.sync_all()
 }
 
 // Removes what stands at a path, if anything does.
@@ -140,7 +210,7 @@ fn read_open<F: Read + OpenFile>(
 /// All the bytes that a reader still gives, at most `limit`.
 ///
 /// An interrupted read is tried again, 1,000 times in all. [`FileFault::Failed`] comes with the next
-/// interruption, with any other error of the reader, and with more than `limit` bytes.
+/// interruption, and with more than `limit` bytes; any other error of the reader is passed on.
 pub fn read_whole<R: Read>(alloc: Global, limit: usize, file: &mut R) -> Result<Vec<u8>, FileFault>
     ensures bytes { IfOk result (λ v. IfSome (R.remaining file.old) (λ xs. v.items ≡ xs)) }
     ensures limited { IfOk result (λ v. length v.items ≤ limit) }
@@ -184,13 +254,12 @@ fn read_block<R: Read>(
 }
 
 fn file_fault(error: &io::Error) -> FileFault
-    ensures memory { error_kind error.now ≡ ErrorKind.OutOfMemory → result ≡ FileFault.OutOfMemory }
-    ensures failed { error_kind error.now ≢ ErrorKind.OutOfMemory → result ≡ FileFault.Failed }
+    ensures { result ≡ fault_of (error_kind error.now) }
 {
-    if error.kind() == ErrorKind::OutOfMemory {
-        FileFault::OutOfMemory
-    } else {
-        FileFault::Failed
+    match error.kind() {
+        ErrorKind::OutOfMemory => FileFault::OutOfMemory,
+        ErrorKind::IsADirectory => FileFault::Folder,
+        _ => FileFault::Failed,
     }
 }
 

@@ -1,5 +1,5 @@
 -- What is stored at each path of a drawer.
-use Rattle.std.specs.Prelude.{ℕ, List, [], Option, Some, None, Vec, drop, if◌then◌else◌}
+use Rattle.std.specs.Prelude.{◌++◌, ℕ, List, [], Option, Some, None, Vec, drop, if◌then◌else◌}
 use Rattle.std.specs.Str.{bytes_eq}
 use Rattle.std.specs.declared.alloc.Global.{Global}
 use Rattle.mime_lookup.specs.Content.{Health, sound}
@@ -8,16 +8,16 @@ use Rattle.mime_tool_tests.specs.Shelf.{health_of, left_of}
 use Rattle.mime_tool_tests.specs.declared.drawer.Sheet.{Sheet}
 use Rattle.mime_tool_tests.specs.declared.drawer.Sheet.TheVariants.{Laid, Shelved}
 
--- what is stored at each path where this came to a path by way of temp, over what a shelf has
+-- what is stored at each path where this came to a path by way of it with an ending, over what a shelf has
 abbrev pub stored_in : List ℕ → List ℕ → (List ℕ → Stored) → Option (Vec ℕ Global) → List ℕ → Stored
-stored_in temp path shelf None other = shelf other
-stored_in temp path shelf (Some laid) other =
-    if bytes_eq other path then bytes laid.items else (if bytes_eq other temp then nothing else shelf other)
+stored_in path ending shelf None other = shelf other
+stored_in path ending shelf (Some laid) other =
+    if bytes_eq other path then bytes laid.items else (if bytes_eq other (path ++ ending) then nothing else shelf other)
 
--- one file can be replaced, and by way of one path
+-- one file can be replaced, and by way of one ending
 abbrev pub writes_of : List ℕ → List ℕ → List ℕ → List ℕ → Writing
-writes_of temp path by_path of_path =
-    if bytes_eq by_path temp then (if bytes_eq of_path path then succeeds else fails) else fails
+writes_of path ending of_path by_ending =
+    if bytes_eq of_path path then (if bytes_eq by_ending ending then succeeds else fails) else fails
 
 -- the bytes that an opened file still gives
 abbrev pub left_in : Sheet → List ℕ

@@ -1,7 +1,7 @@
 //! Files of a runtime, made up: each open answers alike.
 
 use std::alloc::Allocator;
-use std::fs::{Files, Metadata, OpenFile, OpenOptions};
+use std::fs::{Files, Metadata, OpenFile, OpenOptions, Permissions};
 use std::io;
 use std::io::{ErrorKind, Read, Seek, SeekFrom, Write};
 
@@ -68,6 +68,10 @@ impl OpenFile for Opened {
     fn sync_data(&self) -> io::Result<()> {
         Err(unsupported())
     }
+
+    fn set_permissions(&self, _perm: Permissions) -> io::Result<()> {
+        Ok(())
+    }
 }
 
 impl Files for Disk {
@@ -93,8 +97,8 @@ impl Files for Disk {
         }
     }
 
-    fn symlink_metadata(&self, _path: &str) -> io::Result<Metadata> {
-        Err(unsupported())
+    fn symlink_metadata(&self, path: &str) -> io::Result<Metadata> {
+        self.metadata(path)
     }
 
     fn copy(&self, _from: &str, _to: &str) -> io::Result<u64> {

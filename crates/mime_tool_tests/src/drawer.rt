@@ -1,12 +1,13 @@
 //! Files in memory of which one can be replaced, and which tell that.
 
+ghost use Rattle.std.specs.Prelude.{◌≡◌, ◌++◌, IfOk, string_bytes};
 ghost use Rattle.mime_tool_tests.specs.Drawer.{stored_in, writes_of};
 ghost use Rattle.mime_tool_tests.specs.Shelf.{stored_at};
 
 use crate::{Page, Shelf};
 use mime_lookup::{Content, ReadFault};
 use mime_tool::{FileFault, Files};
-use std::alloc::Global;
+use std::alloc::{AllocError, Global};
 use std::io;
 use std::io::{Cursor, Read};
 
@@ -14,10 +15,10 @@ use std::io::{Cursor, Read};
 #[derive(Drop)]
 pub struct Drawer<'a> {
     pub shelf: Shelf<'a>,
-    /// The path that its bytes are written to.
-    pub temp: &'a str,
     /// The path of the file that can be replaced.
     pub path: &'a str,
+    /// What the path that its bytes are written to has behind it.
+    pub ending: &'a str,
     /// What it was last replaced by.
     pub laid: Option<Vec<u8>>,
 }
@@ -59,28 +60,40 @@ impl Content for Sheet<'_> {
     }
 }
 
+impl Drawer<'_> {
+    // The path that the bytes of a file are written to.
+    fn temp(&self, alloc: Global) -> Result<String, AllocError>
+        ensures { IfOk result (λ temp. string_bytes temp ≡ self.now.path.now ++ self.now.ending.now) }
+    {
+        let Drawer { path, ending, .. } = self;
+        format!(in alloc; "{path}{ending}")
+    }
+}
+
 impl<'a> Files for Drawer<'a> {
-    ghost tells = { λ drawer. stored_in drawer.temp.now drawer.path.now
+    ghost tells = { λ drawer. stored_in drawer.path.now drawer.ending.now
         (stored_at drawer.shelf.entries.now) drawer.laid };
 
-    ghost writes = { λ drawer. writes_of drawer.temp.now drawer.path.now };
+    ghost writes = { λ drawer. writes_of drawer.path.now drawer.ending.now };
 
     type Reader = Sheet<'a>;
 
     fn whole(&mut self, alloc: Global, path: &str) -> Result<Option<Vec<u8>>, FileFault> {
+        let temp = self.temp(alloc)?;
         match &self.laid {
             Some(bytes) if path == self.path => Ok(Some(bytes.as_slice().to_vec(alloc)?)),
-            Some(_) if path == self.temp => Ok(None),
+            Some(_) if path == temp.as_str() => Ok(None),
             _ => self.shelf.whole(alloc, path),
         }
     }
 
     fn open(&mut self, alloc: Global, path: &str) -> Result<Sheet<'a>, FileFault> {
+        let temp = self.temp(alloc)?;
         match &self.laid {
             Some(bytes) if path == self.path => {
                 Ok(Sheet::Laid(Cursor::new(bytes.as_slice().to_vec(alloc)?)))
             }
-            Some(_) if path == self.temp => Err(FileFault::Failed),
+            Some(_) if path == temp.as_str() => Err(FileFault::Failed),
             _ => Ok(Sheet::Shelved(self.shelf.open(alloc, path)?)),
         }
     }
@@ -88,11 +101,11 @@ impl<'a> Files for Drawer<'a> {
     fn replace(
         &mut self,
         alloc: Global,
-        temp: &str,
         path: &str,
+        ending: &str,
         bytes: &[u8],
     ) -> Result<(), FileFault> {
-        if temp != self.temp || path != self.path {
+        if path != self.path || ending != self.ending {
             return Err(FileFault::Failed);
         }
         self.laid = Some(bytes.to_vec(alloc)?);

@@ -22,8 +22,8 @@ impl Files for FailingFiles {
     fn replace(
         &mut self,
         _alloc: Global,
-        _temp: &str,
         _path: &str,
+        _ending: &str,
         _bytes: &[u8],
     ) -> Result<(), FileFault> {
         Err(self.0)
@@ -54,12 +54,12 @@ impl<'a> Files for FailingShelf<'a> {
     fn replace(
         &mut self,
         alloc: Global,
-        temp: &str,
         path: &str,
+        ending: &str,
         bytes: &[u8],
     ) -> Result<(), FileFault> {
         step(&mut self.calls, self.fault)?;
-        self.shelf.replace(alloc, temp, path, bytes)
+        self.shelf.replace(alloc, path, ending, bytes)
     }
 }
 
@@ -87,12 +87,12 @@ impl<'a> Files for FailingDrawer<'a> {
     fn replace(
         &mut self,
         alloc: Global,
-        temp: &str,
         path: &str,
+        ending: &str,
         bytes: &[u8],
     ) -> Result<(), FileFault> {
         step(&mut self.calls, self.fault)?;
-        self.drawer.replace(alloc, temp, path, bytes)
+        self.drawer.replace(alloc, path, ending, bytes)
     }
 }
 

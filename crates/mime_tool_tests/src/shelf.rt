@@ -13,9 +13,10 @@ use std::io::{ErrorKind, Read};
 #[derive(Clone, Copy)]
 pub enum Entry<'a> {
     Bytes(&'a [u8]),
-    /// It can't be opened.
+    Folder,
+    /// It is no folder, and can't be opened.
     Closed,
-    /// It can be opened, and each read fails, as of a directory.
+    /// It can be opened, and each read fails.
     Unreadable,
 }
 
@@ -35,7 +36,7 @@ impl Read for Page<'_> {
     fn read(&mut self, buffer: &mut [u8]) -> io::Result<usize> {
         match self {
             Page::Bytes(bytes) => bytes.read(buffer),
-            Page::Unreadable => Err(io::Error::from(ErrorKind::IsADirectory)),
+            Page::Unreadable => Err(io::Error::from(ErrorKind::Other)),
         }
     }
 }
@@ -71,6 +72,7 @@ impl<'a> Files for Shelf<'a> {
     fn whole(&mut self, alloc: Global, path: &str) -> Result<Option<Vec<u8>>, FileFault> {
         match find_entry(self.entries, path) {
             None => Ok(None),
+            Some(Entry::Folder) => Err(FileFault::Folder),
             Some(Entry::Closed | Entry::Unreadable) => Err(FileFault::Failed),
             Some(Entry::Bytes(bytes)) => match bytes.to_vec(alloc) {
                 Ok(bytes) => Ok(Some(bytes)),
@@ -81,6 +83,7 @@ impl<'a> Files for Shelf<'a> {
 
     fn open(&mut self, _alloc: Global, path: &str) -> Result<Page<'a>, FileFault> {
         match find_entry(self.entries, path) {
+            Some(Entry::Folder) => Err(FileFault::Folder),
             None | Some(Entry::Closed) => Err(FileFault::Failed),
             Some(Entry::Unreadable) => Ok(Page::Unreadable),
             Some(Entry::Bytes(bytes)) => Ok(Page::Bytes(bytes)),
@@ -91,8 +94,8 @@ impl<'a> Files for Shelf<'a> {
     fn replace(
         &mut self,
         _alloc: Global,
-        _temp: &str,
         _path: &str,
+        _ending: &str,
         _bytes: &[u8],
     ) -> Result<(), FileFault> {
         Err(FileFault::Failed)

@@ -39,8 +39,8 @@ const IGNORED: &str = "mimelook: /d/mime/globs2: line 2 ignored\n";
 fn drawer() -> Drawer<'static> {
     Drawer {
         shelf: Shelf { entries: ENTRIES },
-        temp: "/c.new",
         path: "/c",
+        ending: ".new",
         laid: None,
     }
 }

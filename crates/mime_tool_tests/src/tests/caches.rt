@@ -78,7 +78,7 @@ fn entries_beside<'a>(cache: &'a [u8]) -> [(&'a str, Entry<'a>); 5] {
     [
         ("/c", Entry::Bytes(cache)),
         ("/closed", Entry::Closed),
-        ("/folder", Entry::Unreadable),
+        ("/folder", Entry::Folder),
         ("/x", Entry::Bytes(b"\x1f\x8b\x08")),
         ("/mk", Entry::Bytes(b"\x1f\x8b\x08")),
     ]

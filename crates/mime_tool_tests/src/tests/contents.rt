@@ -190,7 +190,7 @@ fn prefers_the_first_directory(rt: HostRuntime) -> Result<(), Fail> {
     are_answered(&rt, rt.alloc(), &OF_DIRECTORIES)
 }
 
-static WITHOUT_A_LINE: [Row; 5] = [
+static WITHOUT_A_LINE: [Row; 7] = [
     Row {
         name: "a FILE that can't be opened",
         words: &["plain", "-d", "/s", "x.a", "y.a", "z"],
@@ -217,7 +217,30 @@ static WITHOUT_A_LINE: [Row; 5] = [
         err: "mimelook: y.a: cannot open\n",
     },
     Row {
-        name: "a directory, by globs alone",
+        name: "a folder, whatever type its name has",
+        words: &["plain", "-d", "/s", "d.a", "x.a"],
+        entries: &[
+            ("/s/mime/globs2", Entry::Bytes(GLOBS)),
+            ("d.a", Entry::Folder),
+            ("x.a", Entry::Bytes(HELLO)),
+        ],
+        status: 1,
+        out: "x.a: t/a\n",
+        err: "mimelook: d.a: cannot read\n",
+    },
+    Row {
+        name: "a folder by its name alone",
+        words: &["plain", "-d", "/s", "--name-only", "d.a"],
+        entries: &[
+            ("/s/mime/globs2", Entry::Bytes(GLOBS)),
+            ("d.a", Entry::Folder),
+        ],
+        status: 0,
+        out: "d.a: t/a\n",
+        err: "",
+    },
+    Row {
+        name: "reads that fail, by globs alone",
         words: &["plain", "-d", "/s", "d.a"],
         entries: &[
             ("/s/mime/globs2", Entry::Bytes(GLOBS)),
@@ -228,7 +251,7 @@ static WITHOUT_A_LINE: [Row; 5] = [
         err: "",
     },
     Row {
-        name: "a directory of which content is wanted",
+        name: "reads that fail where content is wanted",
         words: &["plain", "-d", "/s", "d", "x.a", "a.doc"],
         entries: &[
             ("/s/mime/globs2", Entry::Bytes(NOTES)),
@@ -241,7 +264,7 @@ static WITHOUT_A_LINE: [Row; 5] = [
         err: "mimelook: d: cannot read\nmimelook: a.doc: cannot read\n",
     },
     Row {
-        name: "a directory of which magic is wanted first",
+        name: "reads that fail where magic is wanted first",
         words: &["plain", "-d", "/s", "--magic-first", "d.a", "x.a"],
         entries: &[
             ("/s/mime/globs2", Entry::Bytes(GLOBS)),
@@ -260,7 +283,12 @@ fn says_why_a_file_has_no_line(rt: HostRuntime) -> Result<(), Fail> {
 }
 
 /// A file whose name is too long is refused for what is stored there, if that can't be opened, and else for its name.
-fn is_refused(rt: &impl Abort, alloc: Global, opens: bool, why: &str) -> Result<(), Fail> {
+fn is_refused(
+    rt: &impl Abort,
+    alloc: Global,
+    entry: Entry<'static>,
+    why: &str,
+) -> Result<(), Fail> {
     let long = "a".repeat(alloc, 4_097)?;
     let message = format!(in alloc; "mimelook: {long}: {why}\n")?;
     let wanted = Said {
@@ -269,17 +297,13 @@ fn is_refused(rt: &impl Abort, alloc: Global, opens: bool, why: &str) -> Result<
         err: message.as_str(),
     };
     let words = ["plain", "-d", "", long.as_str()];
-    let entry = if opens {
-        Entry::Unreadable
-    } else {
-        Entry::Closed
-    };
     let entries = [(long.as_str(), entry)];
     says_over(rt, alloc, why, &words, &entries, wanted)
 }
 
 #[test]
 fn opens_before_it_looks_at_the_name(rt: HostRuntime) -> Result<(), Fail> {
-    is_refused(&rt, rt.alloc(), false, "cannot open")?;
-    is_refused(&rt, rt.alloc(), true, "name too long")
+    is_refused(&rt, rt.alloc(), Entry::Closed, "cannot open")?;
+    is_refused(&rt, rt.alloc(), Entry::Folder, "cannot read")?;
+    is_refused(&rt, rt.alloc(), Entry::Unreadable, "name too long")
 }

@@ -62,7 +62,7 @@ static WRONG: [Row; 4] = [
         entries: &[
             ("/b/mime/globs2", Entry::Bytes(b"nothing\n")),
             ("/b/mime/magic", Entry::Bytes(b"MIME-Magic\0\n")),
-            ("/b/mime/aliases", Entry::Unreadable),
+            ("/b/mime/aliases", Entry::Folder),
             ("/b/mime/subclasses", Entry::Bytes(b"nothing")),
         ],
         status: 3,

@@ -18,11 +18,10 @@ fn tells_missing_files_from_unreadable_ones(rt: HostRuntime) -> Result<(), Fail>
     let linux = b"Linux\n".to_vec(rt.alloc())?;
     let system = read_at(&rt, "/proc/sys/kernel/ostype");
     alike(&rt, "ostype", system, Ok(Some(linux)));
-    let empty = read_at(&rt, "/dev/null");
-    alike(&rt, "/dev/null", empty, Ok(Some(Vec::new(rt.alloc()))));
     let missing = read_at(&rt, "/dev/no-such-file");
     alike(&rt, "no-such-file", missing, Ok(None));
-    for path in ["/", "/dev/null/below"] {
+    alike(&rt, "/", read_at(&rt, "/"), Err(FileFault::Folder));
+    for path in ["/dev/null", "/dev/null/below"] {
         alike(&rt, path, read_at(&rt, path), Err(FileFault::Failed));
     }
     Ok(())
@@ -35,15 +34,16 @@ const REFUSED: Result<(), FileFault> = Err(FileFault::Failed);
 
 const NO_ROOM: Result<(), FileFault> = Err(FileFault::OutOfMemory);
 
-static PATHS: [Opening<&str>; 4] = [
-    ("/dev/null", Ok(())),
-    ("/", Ok(())),
+static PATHS: [Opening<&str>; 5] = [
+    ("/proc/sys/kernel/ostype", Ok(())),
+    ("/dev/null", REFUSED),
+    ("/", Err(FileFault::Folder)),
     ("/dev/no-such-file", REFUSED),
     ("/dev/null/below", REFUSED),
 ];
 
 #[test]
-fn opens_whatever_can_be_opened(rt: HostRuntime) {
+fn opens_regular_files_alone(rt: HostRuntime) {
     let mut files = SystemFiles::new(&rt);
     for &(path, want) in &PATHS {
         let opened = files.open(rt.alloc(), path).map(|_| ());
@@ -416,7 +416,7 @@ const EMPTY: Disk = Disk::Gives(Opened {
 fn are_not_replaced(rt: &impl Abort, alloc: Global) {
     for &(name, disk, want) in &REPLACED {
         let mut files = SystemFiles::new(&disk);
-        let fault = files.replace(alloc, "c.new", "c", b"x");
+        let fault = files.replace(alloc, "c", ".new", b"x");
         alike(rt, name, fault, Err(want));
     }
 }
@@ -425,6 +425,10 @@ fn are_not_replaced(rt: &impl Abort, alloc: Global) {
 fn names_what_replacing_fails_with(rt: HostRuntime) {
     are_not_replaced(&rt, rt.alloc());
     let mut files = SystemFiles::new(&rt);
-    let fault = files.replace(rt.alloc(), "/proc/c.new", "/proc/c", b"x");
+    let fault = files.replace(rt.alloc(), "/proc/c", ".new", b"x");
     alike(&rt, "/proc/c", fault, Err(FileFault::Failed));
+    let fault = files.replace(rt.alloc(), "/dev/null", ".new", b"x");
+    alike(&rt, "/dev/null", fault, Err(FileFault::Failed));
+    let fault = files.replace(rt.alloc(), "/dev", ".new", b"x");
+    alike(&rt, "/dev", fault, Err(FileFault::Folder));
 }

@@ -1,8 +1,6 @@
-use Rattle.std.proofs.Common.{◌≡◌, ◌∙◌}
 use Rattle.std.proofs.lemmas.Result.{err_from_is_err_and}
 use Rattle.mime_base.specs.Database.{plain_database}
-use Rattle.mime_tool.specs.Build.{temp_of}
-use Rattle.mime_tool.proofs.BuildOvers.{builds_stored, builds_uncached, builds_unstored, builds_untold}
+use Rattle.mime_tool.proofs.BuildOvers.{builds_stored, builds_uncached, builds_unstored}
 use Rattle.mime_tool.proofs.build.store.Goals as goal
 
 pub returns-in_err-cache : goal.returns-in_err-cache
@@ -10,20 +8,13 @@ returns-in_err-cache g c =
     let e = err_from_is_err_and c.from_residual.result c.from_residual.ensures.1 in
     rw (e.1, e.2) (builds_uncached (plain_database c.args.database.now) c.args.file.now _ _ c.in_err-cache.ensures)
 
-pub returns-in_err-temp : goal.returns-in_err-temp
-returns-in_err-temp g c =
-    let e = err_from_is_err_and c.from_residual-in_err-temp.result c.from_residual-in_err-temp.ensures.1 in
-    rw (e.1, e.2) (builds_untold (plain_database c.args.database.now) c.args.file.now _)
-
 pub returns-in_err-replace : goal.returns-in_err-replace
 returns-in_err-replace g c =
     let e = err_from_is_err_and c.from_residual-in_err-replace.result c.from_residual-in_err-replace.ensures.1 in
-    let temp : c.as_str.result.now ≡ temp_of c.args.file.now = c.as_str.ensures.value ∙ c.in_ok-temp.ensures.ok in
-    rw (e.1, e.2) (builds_unstored (plain_database c.args.database.now) c.args.file.now c.as_str.result.now c.in_ok-cache.cache _ _ _ temp
+    rw (e.1, e.2) (builds_unstored (plain_database c.args.database.now) c.args.file.now c.in_ok-cache.cache _ _ _
     c.in_ok-cache.ensures (rw c.as_slice.ensures.value at c.in_err-replace.ensures))
 
 pub returns : goal.returns
 returns g c =
-    let temp : c.as_str.result.now ≡ temp_of c.args.file.now = c.as_str.ensures.value ∙ c.in_ok-temp.ensures.ok in
-    builds_stored (plain_database c.args.database.now) c.args.file.now c.as_str.result.now c.in_ok-cache.cache _ _ tt temp
+    builds_stored (plain_database c.args.database.now) c.args.file.now c.in_ok-cache.cache _ _ tt
     c.in_ok-cache.ensures (rw c.as_slice.ensures.value at c.in_ok-replace.ensures)
