@@ -106,6 +106,7 @@ pub enum Request<'a> {
 /// [`ErrorKind::DisplayVersion`] the version, either of which was asked for; with
 /// [`ErrorKind::OutOfMemory`] it is out of memory; with any other kind the words are mistaken.
 pub fn request_of<'a, S: AsStr>(alloc: Global, words: &'a [S]) -> Result<Request<'a>, Error>
+    // The request is what the words mean, or the error is one of those that they have; or memory ran out.
     ensures { Means (meaning_of (map S.text words.entry.now)) result }
 {
     let matches = matches_of(alloc, words)?;

@@ -15,6 +15,7 @@ pub(super) fn request_of_list<'a>(
     alloc: Global,
     matches: &ArgMatches<'a>,
 ) -> Result<Request<'a>, Error>
+    // The result is what `list` means by what clap found after it.
     ensures { Means (list_meaning (rows_of (found_of matches.now))) result }
 {
     let source = source_of(alloc, matches)?;
@@ -25,6 +26,7 @@ pub(super) fn request_of_is_a<'a>(
     alloc: Global,
     matches: &ArgMatches<'a>,
 ) -> Result<Request<'a>, Error>
+    // The result is what `isa` means by what clap found after it.
     ensures { Means (is_a_meaning (rows_of (found_of matches.now))) result }
 {
     let source = source_of(alloc, matches)?;
@@ -37,6 +39,7 @@ pub(super) fn request_of_icon<'a>(
     alloc: Global,
     matches: &ArgMatches<'a>,
 ) -> Result<Request<'a>, Error>
+    // The result is what `icon` means by what clap found after it.
     ensures { Means (icon_meaning (rows_of (found_of matches.now))) result }
 {
     let source = source_of(alloc, matches)?;
@@ -48,6 +51,7 @@ pub(super) fn request_of_type<'a>(
     alloc: Global,
     matches: &ArgMatches<'a>,
 ) -> Result<Request<'a>, Error>
+    // The result is what `type` means by what clap found after it.
     ensures { Means (type_meaning (rows_of (found_of matches.now))) result }
 {
     let source = source_of(alloc, matches)?;

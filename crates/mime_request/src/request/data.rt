@@ -14,7 +14,10 @@ use std::alloc::{AllocError, Global};
 
 // The cache or the directories that are named, or the user's directories, or an error where both are.
 pub(super) fn source_of<'a>(alloc: Global, matches: &ArgMatches<'a>) -> Result<Source<'a>, Error>
+    // A source is the one that CACHE and DIRS name.
     ensures found { IfOk result (λ s. source_in (rows_of (found_of matches.now)) ≡ Some (plain_source s)) }
+
+    // An error says that both are given, or that memory ran out.
     ensures conflict { IfErr result (HasKind (conflicts (source_in (rows_of (found_of matches.now))))) }
 {
     let directories = directories_of(alloc, matches)?;
@@ -33,6 +36,7 @@ pub(super) fn directories_of<'a>(
     alloc: Global,
     matches: &ArgMatches<'a>,
 ) -> Result<Directories<'a>, AllocError>
+    // They are the parts of DIRS, or the user's directories where it is missing.
     ensures { IfOk result (λ d. plain_directories d ≡ directories_in (rows_of (found_of matches.now))) }
 {
     match value_of(matches, "dirs") {

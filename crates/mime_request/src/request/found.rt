@@ -17,6 +17,7 @@ use std::alloc::{AllocError, Global};
 pub(super) fn subcommand_of<'m, 'a>(
     matches: &'m ArgMatches<'a>,
 ) -> Option<(&'a str, &'m ArgMatches<'a>)>
+    // It is the command that clap met, with what was found after it.
     ensures { option_map (λ p. (p.0.now, rows_of (found_of p.1.now))) result
         ≡ subcommand_rows_of matches.entry.now }
 {
@@ -30,8 +31,11 @@ pub(super) fn given<'a>(
     id: &str,
     message: &str,
 ) -> Result<&'a str, Error>
+    // A value is the first of this argument.
     ensures found { IfOk result (λ s. first_of id.now (rows_of (found_of matches.now))
         ≡ Some s.now) }
+
+    // An error says that it is missing, or that memory ran out.
     ensures missing { IfErr result
         (HasKind (missing (first_of id.now (rows_of (found_of matches.now))))) }
 {
@@ -43,8 +47,11 @@ pub(super) fn given<'a>(
 
 // The FILEs, of which there must be one.
 pub(super) fn files_of<'a>(alloc: Global, matches: &ArgMatches<'a>) -> Result<Vec<&'a str>, Error>
+    // The FILEs are all that were found, in their order.
     ensures found { IfOk result (λ v. all_of (codes "file") (rows_of (found_of matches.now))
         ≡ Some (texts v.items)) }
+
+    // An error says that there is none, or that memory ran out.
     ensures missing { IfErr result
         (HasKind (missing (all_of (codes "file") (rows_of (found_of matches.now))))) }
 {
@@ -57,6 +64,7 @@ pub(super) fn files_of<'a>(alloc: Global, matches: &ArgMatches<'a>) -> Result<Ve
 
 // The first value of an argument.
 pub(super) fn value_of<'a>(matches: &ArgMatches<'a>, id: &str) -> Option<&'a str>
+    // It is the first value that was found, if one was.
     ensures { option_map (λ s. s.now) result ≡ first_of id.now (rows_of (found_of matches.now)) }
 {
     matches.get_str(id)
@@ -72,6 +80,7 @@ fn values_of<'m, 'a>(matches: &'m ArgMatches<'a>, id: &str) -> Option<&'m [&'a s
 
 // The options that are given.
 pub(super) fn options_of(matches: &ArgMatches<'_>) -> Options
+    // An option is on where its flag was found.
     ensures { result ≡ options_in (rows_of (found_of matches.now)) }
 {
     Options {
@@ -92,6 +101,7 @@ fn is_on(flag: Option<&str>) -> bool
 
 // An error of this crate's own, or that memory ran out.
 pub(super) fn refusal(alloc: Global, kind: ErrorKind, message: &str) -> Error
+    // The error has this kind, or says that memory ran out.
     ensures { HasKind (kind ∷ []) result }
 {
     match refusal_text(alloc, kind, message) {

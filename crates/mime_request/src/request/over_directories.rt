@@ -13,6 +13,7 @@ pub(super) fn request_of_build<'a>(
     alloc: Global,
     matches: &ArgMatches<'a>,
 ) -> Result<Request<'a>, Error>
+    // The result is what `build` means by what clap found after it.
     ensures { Means (build_meaning (rows_of (found_of matches.now))) result }
 {
     let file = given(alloc, matches, "output", "give -o FILE")?;
@@ -24,6 +25,7 @@ pub(super) fn request_of_plain<'a>(
     alloc: Global,
     matches: &ArgMatches<'a>,
 ) -> Result<Request<'a>, Error>
+    // The result is what `plain` means by what clap found after it.
     ensures { Means (plain_meaning (rows_of (found_of matches.now))) result }
 {
     let files = files_of(alloc, matches)?;

@@ -8,18 +8,21 @@ ghost use Rattle.mime_request.specs.Spelling.{build_words, build_words_of_user, 
 /// `build -d DIRS -o FILE` asks for a cache of the directories of DIRS in their order, to be written
 /// to this file.
 pub fn usual_spelling_of_build()
+    // For any DIRS and FILE that don't begin with a hyphen.
     ensures { (dirs file : Text) → is_option dirs ≡ false → is_option file ≡ false
         → meaning_of (build_words dirs file) ≡ asks (build (named (parts dirs)) file) }
 {}
 
 /// `build -o FILE` asks for a cache of the user's directories.
 pub fn spelling_of_build_of_user()
+    // For any FILE that doesn't begin with a hyphen.
     ensures { (file : Text) → is_option file ≡ false
         → meaning_of (build_words_of_user file) ≡ asks (build user file) }
 {}
 
 /// `build -o FILE -d DIRS` asks for the same.
 pub fn output_first_spelling_of_build()
+    // The order of the two options changes nothing.
     ensures { (dirs file : Text) → is_option dirs ≡ false → is_option file ≡ false
         → meaning_of (build_words_output_first dirs file) ≡ meaning_of (build_words dirs file) }
 {}

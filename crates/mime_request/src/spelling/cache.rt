@@ -9,12 +9,14 @@ ghost use Rattle.mime_request.specs.Spelling.{source_word, source_of, type_words
 /// `list [-c CACHE | -d DIRS]` asks for the rules of this cache, or of one made of these directories
 /// or of the user's.
 pub fn usual_spelling_of_list()
+    // For any CACHE or DIRS that doesn't begin with a hyphen, and without either.
     ensures { (by : Named) → is_option (source_word by) ≡ false
         → meaning_of (list_words by) ≡ asks (list (source_of by)) }
 {}
 
 /// `isa [-c CACHE | -d DIRS] TYPE BASE` asks, by this cache, whether TYPE is BASE.
 pub fn usual_spelling_of_is_a()
+    // For any words that don't begin with a hyphen.
     ensures { (by : Named) (kind base : Text) → is_option (source_word by) ≡ false
         → is_option kind ≡ false → is_option base ≡ false
         → meaning_of (is_a_words by kind base) ≡ asks (is_a (source_of by) kind base) }
@@ -22,6 +24,7 @@ pub fn usual_spelling_of_is_a()
 
 /// `icon [-c CACHE | -d DIRS] TYPE` asks for the icons of TYPE, by this cache.
 pub fn usual_spelling_of_icon()
+    // For any words that don't begin with a hyphen.
     ensures { (by : Named) (kind : Text) → is_option (source_word by) ≡ false → is_option kind ≡ false
         → meaning_of (icon_words by kind) ≡ asks (icon (source_of by) kind) }
 {}
@@ -29,6 +32,7 @@ pub fn usual_spelling_of_icon()
 /// `type [-c CACHE | -d DIRS] [--name-only] [--cost] [--magic-first] FILE...` asks for these files,
 /// from this cache, with just the flags that are given.
 pub fn usual_spelling_of_type()
+    // For any flags, and any words that don't begin with a hyphen.
     ensures { (by : Named) (name_only cost magic_first : Bool) (files : List Text)
         → AreUsual (source_word by) files
         → meaning_of (type_words by name_only cost magic_first files)

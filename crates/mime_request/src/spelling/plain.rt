@@ -8,6 +8,7 @@ ghost use Rattle.mime_request.specs.Spelling.{AreUsual, plain_words, plain_words
 /// `plain -d DIRS [--name-only] [--magic-first] FILE...` asks for these files, from the directories
 /// of DIRS in their order, with just the flags that are given.
 pub fn usual_spelling_of_plain()
+    // For any flags, and any words that don't begin with a hyphen.
     ensures { (dirs : Text) (name_only magic_first : Bool) (files : List Text)
         → AreUsual dirs files
         → meaning_of (plain_words dirs name_only magic_first files)
@@ -16,6 +17,7 @@ pub fn usual_spelling_of_plain()
 
 /// `plain [--name-only] [--magic-first] FILE...` asks for these files, from the user's directories.
 pub fn spelling_of_plain_of_user()
+    // For any flags, and any FILEs that don't begin with a hyphen.
     ensures { (name_only magic_first : Bool) (files : List Text) → AreUsual [] files
         → meaning_of (plain_words_of_user name_only magic_first files)
         ≡ asks (plain user (record { name_only = name_only; magic_first = magic_first; cost = false }) files) }
@@ -23,6 +25,7 @@ pub fn spelling_of_plain_of_user()
 
 /// `plain [--name-only] [--magic-first] -d DIRS FILE...` asks for the same.
 pub fn flags_first_spelling_of_plain()
+    // Whether the flags stand before DIRS or after it changes nothing.
     ensures { (dirs : Text) (name_only magic_first : Bool) (files : List Text)
         → AreUsual dirs files
         → meaning_of (plain_words_flags_first dirs name_only magic_first files)
