@@ -34,6 +34,9 @@ use std::cmp::Ordering;
 use std::marker::Model;
 use std::simd::prelude::*;
 
+/// The most bytes that a cache has: nobody writes or opens a larger one. This project's own.
+pub const LARGEST_CACHE: usize = 268_435_456;
+
 /// The most bytes that a text has, its zero included.
 const TEXT_LIMIT: usize = 256;
 

@@ -11,15 +11,12 @@ ghost use Rattle.mime_lookup.specs.StepFaults.{IsLookUpFault};
 
 use crate::look_up::order_by_flag;
 use crate::report::{Report, answered, stop_report};
-use mime_base::{Counted, Host, Meter};
+use mime_base::{Counted, Host, Meter, TEXTUAL_FRONT};
 use mime_lookup::{Cause, Content, Order, ReadFault, Stopped, look_up};
 use mime_view::{Budget, Cache, CacheFault};
 use std::alloc::Global;
 use std::io;
 use std::io::{ErrorKind, Read};
-
-/// The fewest bytes of a content that are looked at.
-const SHORTEST_FRONT: u32 = 128;
 
 /// A content of which each read fails: a lookup that wants none of it answers all the same.
 #[derive(Drop)]
@@ -116,5 +113,5 @@ fn front(cache: &[u8], meter: &mut Meter) -> Result<u64, CacheFault>
     let cache = Cache::open(Counted::new(cache), meter)?;
     let mut budget = Budget::of(&cache);
     let extent = cache.extent(meter, &mut budget)?;
-    Ok(u64::from(SHORTEST_FRONT.max(extent)))
+    Ok(u64::from(TEXTUAL_FRONT.max(extent)))
 }

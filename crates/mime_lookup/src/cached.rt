@@ -35,13 +35,10 @@ use crate::question::Question;
 use crate::reading::read_front;
 use crate::stopped::{Cause, Stopped};
 pub use icons::{Icons, icon_of};
-use mime_base::{Counted, Host, Meter};
+use mime_base::{Counted, Host, Meter, TEXTUAL_FRONT};
 use mime_view::{Budget, Cache, CacheFault, Spending};
 use std::alloc::Global;
 pub use subclass::is_a;
-
-/// The fewest bytes of a content that are asked for.
-const SHORTEST_FRONT: u32 = 128;
 
 /// The type that the checking order gives to a name and a content, by a cache ("Recommended checking order").
 ///
@@ -185,7 +182,7 @@ fn read_content<R: Content>(
         return Ok(None);
     };
     let extent = cache.extent(&mut spending.meter, &mut spending.budget)?;
-    let limit = SHORTEST_FRONT.max(extent) as usize;
+    let limit = TEXTUAL_FRONT.max(extent) as usize;
     let front = read_front(alloc, reader, limit, read)?;
     Ok(Some(front))
 }

@@ -21,11 +21,8 @@ use crate::pairs::is_same;
 use crate::reading::read_front;
 use crate::sniff::{Sniffed, sniff};
 use crate::stopped::{Cause, Stopped};
-use mime_base::{Database, Host, Meter, OutOfMemory, extent};
+use mime_base::{Database, Host, Meter, OutOfMemory, TEXTUAL_FRONT, extent};
 use std::alloc::Global;
-
-/// The fewest bytes of a content that are asked for.
-const SHORTEST_FRONT: u64 = 128;
 
 /// The type that the checking order gives to a name and a content ("Recommended checking order").
 ///
@@ -221,5 +218,5 @@ fn front_limit(database: &Database) -> usize
     ensures limit { result ≡ read_limit (plain_database database.now) }
     ensures some { 0 < result }
 {
-    SHORTEST_FRONT.max(extent(database)) as usize
+    u64::from(TEXTUAL_FRONT).max(extent(database)) as usize
 }

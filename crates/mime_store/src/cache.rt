@@ -23,11 +23,8 @@ use crate::room::take_tree;
 use crate::run::Run;
 use crate::suffix_tree::write_tree;
 use crate::text_pair::TextPair;
-use mime_base::{Database, OutOfMemory};
+use mime_base::{Database, LARGEST_CACHE, OutOfMemory};
 use std::alloc::Global;
-
-/// The most bytes that a cache may have.
-const CACHE_LIMIT: usize = 268_435_456;
 
 /// The version 1.2: two numbers of 16 bits, as one of 32.
 const VERSION: u32 = 65_538;
@@ -42,7 +39,7 @@ const FIXED_ROOM: usize = 88;
 ///
 /// ```
 /// let database = Database::of_rules(rt.alloc(), rules);
-/// let cache = write_cache(rt.alloc(), &database, 268_435_456)?;
+/// let cache = write_cache(rt.alloc(), &database, LARGEST_CACHE)?;
 /// assert_eq!(rt; &cache[..4], b"\0\x01\0\x02");
 /// ```
 ///
@@ -65,7 +62,7 @@ pub fn write_cache(alloc: Global, database: &Database, limit: usize) -> Result<V
 {
     let parts = parts_of(alloc, database)?;
     let runs = runs(alloc, &parts.parents)?;
-    let Some(size) = size_within(lesser(limit, CACHE_LIMIT), database, &parts, &runs) else {
+    let Some(size) = size_within(lesser(limit, LARGEST_CACHE), database, &parts, &runs) else {
         return Err(StoreFault::TooLarge);
     };
     let cache = write_parts(alloc, size, database, &parts, &runs)?;

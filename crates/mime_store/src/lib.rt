@@ -5,7 +5,7 @@
 //!
 //! ```text
 //! let database = merge(alloc, dirs)?;
-//! let bytes = write_cache(alloc, &database, 268_435_456)?;
+//! let bytes = write_cache(alloc, &database, LARGEST_CACHE)?;
 //! // the whole of a file `mime.cache`, or `StoreFault::TooLarge`
 //! ```
 //!

@@ -13,13 +13,10 @@ use crate::directories::load;
 use crate::environment::Environment;
 use crate::status::ANSWERED;
 use crate::stop::Stop;
-use mime_base::Database;
+use mime_base::{Database, LARGEST_CACHE};
 use mime_request::Directories;
 use mime_store::{StoreFault, write_cache};
 use std::alloc::Global;
-
-/// The most bytes that a cache may have.
-const CACHE_LIMIT: usize = 268_435_456;
 
 /// Stores the cache of the directories as this file, and gives the status.
 ///
@@ -52,7 +49,7 @@ fn store<D: Desk>(desk: &mut D, database: &Database, file: &str) -> Result<u8, S
 pub(crate) fn cache_of(alloc: Global, database: &Database) -> Result<Vec<u8>, Stop>
     ensures { GivesCache (plain_database database.now) result }
 {
-    match write_cache(alloc, database, CACHE_LIMIT) {
+    match write_cache(alloc, database, LARGEST_CACHE) {
         Ok(cache) => Ok(cache),
         Err(StoreFault::TooLarge) => Err(too_large(alloc)),
         Err(StoreFault::OutOfMemory) => Err(Stop::OutOfMemory),

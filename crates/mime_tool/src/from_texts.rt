@@ -16,7 +16,9 @@ ghost use Rattle.mime_tool.specs.FromTexts.{IsMagicRefusal, IsStoreFault, SayDat
 ghost use Rattle.mime_tool.specs.FromTexts.{of_stopped, of_store};
 ghost use Rattle.mime_tool.specs.declared.from_texts.AnswerFault.TheVariants as faults;
 
-use mime_base::{Counted, Database, Host, Meter, OutOfMemory, database_keeps_limits};
+use mime_base::{
+    Counted, Database, Host, LARGEST_CACHE, Meter, OutOfMemory, database_keeps_limits,
+};
 use mime_lookup::{Answer, Cause, Content, Order, Stopped, look_up};
 use mime_store::{StoreFault, write_cache};
 use mime_text::{
@@ -24,9 +26,6 @@ use mime_text::{
 };
 use std::alloc::{AllocError, AllocFailed, Global};
 use thiserror::Error;
-
-/// The most bytes that a cache may have.
-const CACHE_LIMIT: usize = 268_435_456;
 
 /// The text files of one data directory. A missing file is one of no bytes.
 #[derive(Clone, Copy)]
@@ -242,7 +241,7 @@ fn cache_of(alloc: Global, database: &Database) -> Result<Vec<u8>, AnswerFault>
     ensures fits { IfOk result (λ _. room (plain_database database.now) ≤ cache_limit) }
     ensures fault { IfErr result (IsStoreFault (plain_database database.now)) }
 {
-    let cache = write_cache(alloc, database, CACHE_LIMIT)?;
+    let cache = write_cache(alloc, database, LARGEST_CACHE)?;
     Ok(cache)
 }
 

@@ -45,15 +45,12 @@ use crate::query::Query;
 use crate::rules::{Listed, ListingSource, list_rules};
 use crate::spending::Spending;
 use crate::texts::Texts;
-use mime_base::{Counted, Host, Meter};
+use mime_base::{Counted, Host, LARGEST_CACHE, Meter};
 use std::alloc::Global;
 use std::marker::Model;
 
 /// The fewest bytes of a cache: its header.
 const HEADER: u64 = 40;
-
-/// The most bytes of a cache.
-const LARGEST: u64 = 268_435_456;
 
 /// A cache of version 1.2 ("The mime.cache files").
 ///
@@ -116,7 +113,7 @@ impl<'a> Cache<'a> {
         if (major, minor) != (1, 2) {
             return Err(CacheFault::Version(major, minor));
         }
-        if length > LARGEST {
+        if length > LARGEST_CACHE as u64 {
             return Err(CacheFault::TooLarge);
         }
         Ok(Cache { counted, header })

@@ -3,8 +3,8 @@
 ghost use Rattle.std.specs.Prelude.{◌≡◌};
 ghost use Rattle.mime_base.specs.Magic.Textual.{is_control, looks_textual};
 
-/// How many bytes of a content are looked at.
-const LOOKED_AT: usize = 128;
+/// How many bytes of a content tell whether it looks like text. No lookup wants fewer.
+pub const TEXTUAL_FRONT: u32 = 128;
 
 /// Whether no control byte is among the first 128 bytes of a content, so that it is likely text.
 ///
@@ -16,7 +16,7 @@ pub fn looks_textual(content: &[u8]) -> bool
     // It is true exactly where each control byte among the first 128 bytes is a tab, a newline or a carriage return.
     ensures { result ≡ looks_textual content.now }
 {
-    let front = &content[..LOOKED_AT.min(content.len())];
+    let front = &content[..(TEXTUAL_FRONT as usize).min(content.len())];
     !front.iter().any(|byte| is_control(*byte))
 }
 
