@@ -5,7 +5,7 @@
 typedef unsigned long length;
 
 /* The calls, by their numbers in the system. */
-enum { READ = 0, WRITE = 1, OPEN = 2, CLOSE = 3, FSYNC = 74, RENAME = 82, UNLINK = 87, STATX = 332 };
+enum { READ = 0, WRITE = 1, OPEN = 2, CLOSE = 3, FSYNC = 74, RENAME = 82, UNLINK = 87, FCHMOD = 91, STATX = 332 };
 
 extern long syscall(long number, ...);
 extern int *__errno_location(void);
@@ -80,6 +80,10 @@ int statx(int below, const char *path, int how, unsigned mask, void *found) {
 }
 
 int fsync(int descriptor) { return (int)(is_failed(FSYNC) ? fail() : told("fsync", descriptor, syscall(FSYNC, descriptor))); }
+
+int fchmod(int descriptor, unsigned mode) {
+    return (int)(is_failed(FCHMOD) ? fail() : told("fchmod", descriptor, syscall(FCHMOD, descriptor, mode)));
+}
 
 int rename(const char *from, const char *to) {
     return (int)(is_failed(RENAME) ? fail() : told_path("rename", from, syscall(RENAME, from, to)));

@@ -1,9 +1,10 @@
 -- From the end of a command, over the flush and the last message, to the end of the program.
-use Rattle.std.proofs.Common.{◌≡◌, ◌∙◌, ◌≤◌, ◌⊎◌, ℕ, true, false, List, [], Option, Some, None, Result, Ok, Err, ap, arith, inl, inr}
+use Rattle.std.proofs.Common.{◌≡◌, ◌≢◌, ◌∙◌, ◌≤◌, ◌⊎◌, ℕ, true, false, List, [], Option, Some, None, Result, Ok, Err, ap, arith, inl, inr}
 use Rattle.std.proofs.Common.{is_some, refl, subst, sym}
+use Rattle.std.proofs.lemmas.Bool.{false≢true}
 use Rattle.mime_tool.specs.Desk.{Ends}
 use Rattle.mime_tool.specs.Finish.{Finishes, IsCut, IsCutAndSaid, Sinks, Writes}
-use Rattle.mime_tool.specs.Run.{Run, out_of_memory, stopped}
+use Rattle.mime_tool.specs.Run.{Run, out_of_memory, stopped, stops}
 use Rattle.mime_tool.specs.Sink.{Flush, IsHandedOn, Wrote, WroteFront, WroteMessage}
 use Rattle.mime_tool.specs.Stop.{IsFlushed, SaysCut, TellsStop, message}
 use Rattle.mime_tool.specs.declared.stop.Stop.{Stop}
@@ -44,12 +45,20 @@ same_err x y e = cc
 ok_err : (x : ℕ) (s : Stop) → ◌≡◌ {A = Result ℕ Stop} (Ok x) (Err s) → ⊥
 ok_err x s e = cc
 
+-- the status of a run that doesn't stop, and that of a stop, isn't that of want of memory
+goes_on : (run : Run) (status : ℕ) → status ≡ run.status → stops run ≡ false → status ≢ 4
+goes_on run status is goes four = let bad : stops run ≡ true = rw (sym is ∙ four) refl in false≢true (sym goes ∙ bad)
+
+not_four : (status : ℕ) → status ≡ 3 → status ≢ 4
+not_four status is four = omega (arith, is, four)
+
 -- a status after the flush is that of the command
 pub finishes_done : (P : List (List ℕ) → Run → Type 0) (files : List (List ℕ)) (capacity : Option ℕ) (a b : Sinks) (o : Option (List ℕ)) (flush : Flush)
     (ended : Result ℕ Stop) (status : ℕ) → Ends P files a b ended → Wrote b.out o []
     → IsFlushed flush ended (Ok status) → Finishes P files capacity a (record { out = o; err = b.err }) status
 finishes_done P files capacity a b o flush (Ok s) status p kept (inl f) =
-    inl (p.0, p.1, same_ok status s f.1 ∙ p.3, (wrote_kept a.out b.out o p.0.out p.4.0 kept, p.4.1))
+    let is = same_ok status s f.1 ∙ p.3 in
+    inl (p.0, p.1, is, goes_on p.0 status is p.2, (wrote_kept a.out b.out o p.0.out p.4.0 kept, p.4.1))
 finishes_done P files capacity a b o flush (Ok s) status p kept (inr f) = absurd (ok_err status stop.OutOfMemory f.1)
 finishes_done P files capacity a b o flush (Err s) status p kept f = absurd (ok_err status s f.0)
 
@@ -68,7 +77,7 @@ refused_said : (P : List (List ℕ) → Run → Type 0) (files : List (List ℕ)
     → ((status ≡ 3) × Wrote b.err e text) ⊎ ((status ≡ 4) × SaysCut capacity b.err e text)
     → Finishes P files capacity a (record { out = o; err = e }) status
 refused_said P files capacity a b o e text status run is w kept (inl t) =
-    inl (stopped text run, is, t.0, (wrote_kept a.out b.out o run.out w.0 kept, wrote-append a.err b.err e run.err text w.1 t.1))
+    inl (stopped text run, is, t.0, not_four status t.0, (wrote_kept a.out b.out o run.out w.0 kept, wrote-append a.err b.err e run.err text w.1 t.1))
 refused_said P files capacity a b o e text status run is w kept (inr t) =
     let cut : Sinks = record { out = o; err = t.1.0 } in
     inr (

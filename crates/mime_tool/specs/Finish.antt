@@ -1,5 +1,5 @@
 -- How a run comes to its end.
-use Rattle.std.specs.Prelude.{◌≡◌, ◌⊎◌, ℕ, List, ◌++◌, Option}
+use Rattle.std.specs.Prelude.{◌≡◌, ◌≢◌, ◌⊎◌, ℕ, List, ◌++◌, Option}
 use Rattle.mime_tool.specs.Run.{Run, out_of_memory, silent}
 use Rattle.mime_tool.specs.Sink.{Wrote, WroteFront, WroteMessage}
 
@@ -28,10 +28,10 @@ abbrev pub IsCut : (List (List ℕ) → Run → Type 0) → List (List ℕ) → 
 IsCut IsRun files old new =
     Writes old new silent ⊎ ((run : Run) × IsPart IsRun files run × WritesFront old new run)
 
--- a run over the files: the status is its status, and its bytes are written
+-- a run over the files, for which memory didn't run out: the status is its status, and its bytes are written
 abbrev pub IsDone : (List (List ℕ) → Run → Type 0) → List (List ℕ) → Sinks → Sinks → ℕ → Type 0
 IsDone IsRun files old new status =
-    (run : Run) × IsRun files run × (status ≡ run.status) × Writes old new run
+    (run : Run) × IsRun files run × (status ≡ run.status) × (status ≢ 4) × Writes old new run
 
 -- the run was cut short, and after it stands the message of that, or a front where standard error has no room for it
 abbrev pub IsCutAndSaid : (List (List ℕ) → Run → Type 0) → List (List ℕ) → Option ℕ → Sinks → Sinks → Type 0

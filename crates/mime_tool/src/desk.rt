@@ -1,5 +1,6 @@
 //! What a command works with: memory, files, standard output and standard error. This project's own.
 
+ghost use Rattle.std.specs.Prelude.{◌≡◌, Ok, OnOk, Some, is_some, true};
 ghost use Rattle.std.specs.List.{flat_map};
 ghost use Rattle.mime_tool.specs.Desk.{Does, OpensFile, ReadsWhole, ReplacesFile, State, Works};
 ghost use Rattle.mime_tool.specs.Files.{IsBytesOf, IsTextOf};
@@ -60,7 +61,8 @@ pub(crate) trait Desk {
         ensures { Works (Does (printed (flat_map (λ piece. piece.now) pieces.now)))
             (state self.old) (state self.new) result };
 
-    /// Says it on standard error. A fault there is passed over, unless memory ran out.
+    /// Says it on standard error, after what was printed. A fault there is passed over, unless memory ran
+    /// out.
     fn complain(&mut self, message: &str) -> Result<(), Stop>
         ensures { Works (Does (said message.now)) (state self.old) (state self.new) result };
 }
@@ -133,9 +135,20 @@ impl<F: Files, O: Sink, E: Sink> Desk for Streams<'_, '_, '_, F, O, E> {
     }
 
     fn complain(&mut self, message: &str) -> Result<(), Stop> {
-        complain(self.err, message)?;
-        Ok(())
+        complain_after(self.out, self.err, message)
     }
+}
+
+// Says it once what was printed is handed on, so that a log of both streams has them in this order.
+fn complain_after<O: Sink, E: Sink>(out: &mut O, err: &mut E, message: &str) -> Result<(), Stop>
+    ensures says { Does (said message.now) (record { out = O.holds out.old; err = E.holds err.old })
+        (record { out = O.holds out.new; err = E.holds err.new }) result }
+    ensures capacity { E.capacity err.new ≡ E.capacity err.old }
+    ensures handed_on { OnOk result (is_some (O.holds out.old) ≡ true → O.flushed out.new ≡ Some (Ok tt)) }
+{
+    out.flush()?;
+    complain(err, message)?;
+    Ok(())
 }
 
 /// Says on standard error what is wrong with a file or a word.

@@ -15,8 +15,9 @@ const ENTRIES: &[(&str, Entry<'static>)] = &[(
 
 static WORDS: [&str; 7] = ["plain", "--name-only", "-d", "/s", "x.a", "y", "z.a"];
 
-// What is put on standard output, call by call; after it comes the flush.
-static PIECES: [&str; 12] = [
+// What is put on standard output, call by call, after the flush that comes before the message; after it comes another.
+static PIECES: [&str; 13] = [
+    "",
     "x.a",
     ": ",
     "t/a",
@@ -141,7 +142,8 @@ fn is_taken(
 /// flushed where the sink lets it.
 fn stops(rt: &impl Abort, alloc: Global, row: &Row, calls: usize, put: &str) -> Result<(), Fail> {
     let at = format!(in alloc; "{} at {calls}", row.name)?;
-    let said = format!(in alloc; "{IGNORED}{}", row.message)?;
+    let ignored = if calls == 0 { "" } else { IGNORED };
+    let said = format!(in alloc; "{ignored}{}", row.message)?;
     let is_flushed = row.times == 1 && calls < PIECES.len();
     let wanted = Taken {
         status: row.status,
