@@ -3,15 +3,17 @@ use Rattle.std.proofs.Common.{◌≡◌, false, List, [], ◌∷◌, refl, codes
 use Rattle.clap.specs.Walk.{Row, Text, Walk, finished, nothing_held, used, walk_from}
 use Rattle.clap.specs.Simple.{filled, with_index}
 use Rattle.clap.proofs.OnLiterals.{clap_on_literals}
-use Rattle.mime_request.specs.CommandLine.{output_rule}
+use Rattle.mime_request.specs.CommandLine.{directories_rule, output_rule}
 use Rattle.mime_request.specs.Request.{asks, build, build_meaning, meaning_of, named, parts, user}
 use Rattle.mime_request.specs.Spelling.{build_words, build_words_of_user, build_words_output_first, is_option}
 use Rattle.mime_request.proofs.CommandWords.{meaning_of-met}
-use Rattle.mime_request.proofs.OptionWords.{directories_used}
 use Rattle.mime_request.proofs.PlainWords.{IsPlainWord, plain_word}
 use Rattle.mime_request.proofs.Shapes.{build_met, build_shape}
 use Rattle.mime_request.proofs.ValueWords.{value_taken}
 use Rattle.mime_request.proofs.Walks.{Steps, Leads, after_value, before_value, end_fault, ends, goes}
+
+abbrev directories_used : Text → List Row → List Row
+directories_used dirs = used (with_index 1 (filled directories_rule)) (dirs ∷ [])
 
 abbrev output_used : Text → List Row → List Row
 output_used file = used (with_index 1 (filled output_rule)) (file ∷ [])

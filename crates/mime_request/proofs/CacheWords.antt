@@ -1,6 +1,6 @@
 -- What the usual spellings of `list`, `isa` and `icon` mean.
-use Rattle.std.proofs.Common.{◌≡◌, false, List, [], ◌∷◌, Some, None, append-nil, refl, codes}
-use Rattle.clap.specs.Walk.{Row, Text, Walk, finished, idle, used}
+use Rattle.std.proofs.Common.{◌≡◌, false, [], ◌∷◌, Some, None, append-nil, refl, codes}
+use Rattle.clap.specs.Walk.{Text, Walk, finished, idle, used}
 use Rattle.clap.specs.Simple.{filled, with_index}
 use Rattle.clap.proofs.OnLiterals.{clap_on_literals}
 use Rattle.mime_request.specs.CommandLine.{kind_rule}

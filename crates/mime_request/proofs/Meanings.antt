@@ -1,5 +1,5 @@
 -- What a parse by clap says of the meaning of the words.
-use Rattle.std.proofs.Common.{◌≡◌, true, List, [], ◌∷◌, Option, Ok, Err, IfOk, inl, inr, refl, Result}
+use Rattle.std.proofs.Common.{◌≡◌, true, List, [], ◌∷◌, Option, Some, None, Ok, Err, IfOk, inl, inr, refl, Result}
 use Rattle.clap.specs.Walk.{Row, Text}
 use Rattle.clap.specs.Simple.{App, HasMatchesOf, is_simple, subcommand_of}
 use Rattle.clap.specs.Faults.{fault_of, is_simple_and_free}
@@ -9,7 +9,8 @@ use Rattle.clap.specs.declared.error.Error.{Error}
 use Rattle.clap.specs.declared.error.kind.ErrorKind.TheVariants as kind
 use Rattle.clap.specs.declared.parser.matches.ArgMatches.{ArgMatches}
 use Rattle.mime_request.specs.CommandLine.{mimelook}
-use Rattle.mime_request.specs.Request.{Finds, Meaning, Means, asks, meaning_by, meaning_of, refused, subcommand_meaning}
+use Rattle.mime_request.specs.Request.{Finds, Meaning, Means, apart, asks, conflicts, meaning_by, meaning_of, refused}
+use Rattle.mime_request.specs.Request.{subcommand_meaning}
 use Rattle.mime_request.specs.declared.request.Request.{Request}
 
 -- `mimelook` is a command whose matches clap tells
@@ -52,3 +53,9 @@ pub matches_mean : (words : List Text) (met : Option (Text × List Row)) (r : Re
     → Means (subcommand_meaning met) r → Means (meaning_of words) r
 unfolding meaning_of
 matches_mean words met r free is h = rw (free, ← is) h
+
+-- arguments that can't be given together
+pub conflict_means : {A : Type 0} (x : Option A) (means : A → Meaning) (e : Error) → HasKind (conflicts x) e
+    → Means (apart x means) (Err e)
+conflict_means None means e h = h
+conflict_means (Some x) means e h = elim h [ inl memory ↦ memory_means (means x) e memory | inr none ↦ absurd none ]

@@ -17,3 +17,7 @@ plain_word (x ∷ xs) h = record { no_dashes = rw h refl; no_long = rw h refl; n
 pub neither : (a b : Bool) → (not a && b) ≡ true → (a ≡ false) × (b ≡ true)
 neither true b h = absurd (cc)
 neither false b h = (refl, h)
+
+pub both_of : (a b : Bool) → (a && b) ≡ true → (a ≡ true) × (b ≡ true)
+both_of true b h = (refl, h)
+both_of false b h = absurd (cc)

@@ -1,5 +1,5 @@
 -- The command line of mimelook: its commands and what each takes.
-use Rattle.std.specs.Prelude.{Some, true, codes}
+use Rattle.std.specs.Prelude.{ℕ, Some, true, codes}
 use Rattle.clap.specs.Lexer.{usize_max}
 use Rattle.clap.specs.Walk.{Rule, Text}
 use Rattle.clap.specs.Simple.{App, new_app, new_rule, on_top, with_rule, with_subcommand}
@@ -21,33 +21,19 @@ cache_rule = record (new_rule (codes "cache")) {
   value_names = 1;
 }
 
--- `--name-only`
-abbrev pub name_only_rule : Rule
-name_only_rule = record (new_rule (codes "name-only")) {
-  long = Some (codes "name-only");
-  action = Some SetTrue;
-}
+-- a flag of this long name
+abbrev pub flag_rule : Text → Rule
+flag_rule name = record (new_rule name) { long = Some name; action = Some SetTrue }
 
--- `--magic-first`
-abbrev pub magic_first_rule : Rule
-magic_first_rule = record (new_rule (codes "magic-first")) {
-  long = Some (codes "magic-first");
-  action = Some SetTrue;
-}
-
--- `--cost`
-abbrev pub cost_rule : Rule
-cost_rule = record (new_rule (codes "cost")) {
-  long = Some (codes "cost");
-  action = Some SetTrue;
-}
+-- a flag of this long name and this short one
+abbrev pub short_flag_rule : Text → ℕ → Rule
+short_flag_rule name short = record (flag_rule name) { short = Some short }
 
 -- `FILE...`
 abbrev pub files_rule : Rule
 files_rule = record (new_rule (codes "file")) {
   range = Some (record { start_inclusive = 1; end_inclusive = usize_max });
   value_names = 1;
-  required = true;
 }
 
 -- `-o FILE`, or `--output FILE`
@@ -71,10 +57,19 @@ base_rule = record (new_rule (codes "base")) { value_names = 1; required = true 
 abbrev pub build_app : App
 build_app = with_rule (with_rule (new_app (codes "build")) directories_rule) output_rule
 
--- `plain [-d DIRS] [--name-only] [--magic-first] FILE...`
+-- with `[--name-only] [--content-only] [--magic-first]`
+abbrev pub with_looks : App → App
+with_looks app = with_rule (with_rule (with_rule app (flag_rule (codes "name-only"))) (flag_rule (codes "content-only")))
+    (flag_rule (codes "magic-first"))
+
+-- with `[-0] [-b] [--escape]`, of which the first two are `--null` and `--brief` too
+abbrev pub with_output : App → App
+with_output app = with_rule (with_rule (with_rule app (short_flag_rule (codes "null") 48)) (short_flag_rule (codes "brief") 98))
+    (flag_rule (codes "escape"))
+
+-- `plain [-d DIRS] [--name-only] [--content-only] [--magic-first] [-0] [-b] [--escape] FILE...`
 abbrev pub plain_app : App
-plain_app = with_rule (with_rule (with_rule (with_rule (new_app (codes "plain")) directories_rule)
-    name_only_rule) magic_first_rule) files_rule
+plain_app = with_rule (with_output (with_looks (with_rule (new_app (codes "plain")) directories_rule))) files_rule
 
 -- a command of this name that takes `[-c CACHE | -d DIRS]`
 abbrev pub app_of_source : Text → App
@@ -92,10 +87,9 @@ is_a_app = with_rule (with_rule (app_of_source (codes "isa")) kind_rule) base_ru
 abbrev pub icon_app : App
 icon_app = with_rule (app_of_source (codes "icon")) kind_rule
 
--- `type [-c CACHE | -d DIRS] [--name-only] [--cost] [--magic-first] FILE...`
+-- `type [-c CACHE | -d DIRS] [--name-only] [--content-only] [--magic-first] [--cost] [-0] [-b] [--escape] FILE...`
 abbrev pub type_app : App
-type_app = with_rule (with_rule (with_rule (with_rule (app_of_source (codes "type"))
-    name_only_rule) cost_rule) magic_first_rule) files_rule
+type_app = with_rule (with_output (with_rule (with_looks (app_of_source (codes "type"))) (flag_rule (codes "cost")))) files_rule
 
 -- `mimelook`, without its own name among the words: it has a version and wants a command
 abbrev pub mimelook_alone : App

@@ -1,8 +1,7 @@
 -- What the words of a command line ask for.
-use Rattle.std.specs.Prelude.{◌≡◌, ◌==◌, Bool, false, not, List, [], ◌∷◌, Option, Some, None, filter, codes}
+use Rattle.std.specs.Prelude.{◌≡◌, ◌==◌, not, List, [], ◌∷◌, Option, Some, None, filter, codes}
 use Rattle.std.specs.Prelude.{Result, MatchResult, IsErrAnd, if◌then◌else◌}
 use Rattle.std.specs.List.{slice_split}
-use Rattle.std.specs.Option.{option_map_or}
 use Rattle.std.specs.Str.{bytes_eq}
 use Rattle.clap.specs.Walk.{Row, Text, all_of, first_of, is_empty, texts}
 use Rattle.clap.specs.Simple.{subcommand_of, subcommand_rows_of}
@@ -13,6 +12,7 @@ use Rattle.clap.specs.Values.{kind_of}
 use Rattle.clap.specs.declared.error.Error.{Error}
 use Rattle.clap.specs.declared.error.kind.ErrorKind.TheVariants as kind
 use Rattle.mime_request.specs.CommandLine.{mimelook}
+use Rattle.mime_request.specs.Flags.{agreed, given_options}
 use Rattle.mime_request.specs.declared.request.Directories.{Directories}
 use Rattle.mime_request.specs.declared.request.Directories.TheVariants as directories
 use Rattle.mime_request.specs.declared.request.Options.{Options}
@@ -75,27 +75,19 @@ directories_in rows = directories_by (first_of (codes "dirs") rows)
 abbrev pub source_in : List Row → Option PlainSource
 source_in rows = source_by (first_of (codes "cache") rows) (first_of (codes "dirs") rows)
 
--- whether the flag is given: its text is `true`
-abbrev pub is_on : Option Text → Bool
-is_on flag = option_map_or (λ text. bytes_eq text (codes "true")) flag false
+-- the options that clap found, if they can be given together
+abbrev pub options_in : List Row → Option Options
+options_in rows = agreed (given_options rows)
 
--- the options that clap found
-abbrev pub options_in : List Row → Options
-options_in rows = record {
-  name_only = is_on (first_of (codes "name-only") rows);
-  magic_first = is_on (first_of (codes "magic-first") rows);
-  cost = is_on (first_of (codes "cost") rows);
-}
+-- what is asked for by arguments that can't be given together; where they are, the words are refused
+abbrev pub apart : {A : Type 0} → Option A → (A → Meaning) → Meaning
+apart None means = refused (kind.ArgumentConflict ∷ [])
+apart (Some x) means = means x
 
--- what is asked of a source; where both CACHE and DIRS are given the words are refused
-abbrev pub sourced : Option PlainSource → (PlainSource → Meaning) → Meaning
-sourced None means = refused (kind.ArgumentConflict ∷ [])
-sourced (Some source) means = means source
-
--- the kinds of error by a source, none where there is one
-abbrev pub conflicts : Option PlainSource → Kinds
+-- the kinds of error by such arguments, none where they aren't given together
+abbrev pub conflicts : {A : Type 0} → Option A → Kinds
 conflicts None = kind.ArgumentConflict ∷ []
-conflicts (Some source) = []
+conflicts (Some x) = []
 
 -- what is asked for by an argument that must be given; without it the words are refused
 abbrev pub given : {A : Type 0} → Option A → (A → Meaning) → Meaning
@@ -114,28 +106,28 @@ build_meaning rows = given (first_of (codes "output") rows) (λ file.
 
 -- what `plain` means by what clap found after it
 abbrev pub plain_meaning : List Row → Meaning
-plain_meaning rows = given (all_of (codes "file") rows) (λ files.
-    asks (plain (directories_in rows) (options_in rows) files))
+plain_meaning rows = apart (options_in rows) (λ options. given (all_of (codes "file") rows) (λ files.
+    asks (plain (directories_in rows) options files)))
 
 -- what `list` means by what clap found after it
 abbrev pub list_meaning : List Row → Meaning
-list_meaning rows = sourced (source_in rows) (λ source. asks (list source))
+list_meaning rows = apart (source_in rows) (λ source. asks (list source))
 
 -- what `isa` means by what clap found after it
 abbrev pub is_a_meaning : List Row → Meaning
-is_a_meaning rows = sourced (source_in rows) (λ source.
+is_a_meaning rows = apart (source_in rows) (λ source.
     given (first_of (codes "type") rows) (λ kind.
     given (first_of (codes "base") rows) (λ base. asks (is_a source kind base))))
 
 -- what `icon` means by what clap found after it
 abbrev pub icon_meaning : List Row → Meaning
-icon_meaning rows = sourced (source_in rows) (λ source.
+icon_meaning rows = apart (source_in rows) (λ source.
     given (first_of (codes "type") rows) (λ kind. asks (icon source kind)))
 
 -- what `type` means by what clap found after it
 abbrev pub type_meaning : List Row → Meaning
-type_meaning rows = sourced (source_in rows) (λ source.
-    given (all_of (codes "file") rows) (λ files. asks (type_of source (options_in rows) files)))
+type_meaning rows = apart (source_in rows) (λ source. apart (options_in rows) (λ options.
+    given (all_of (codes "file") rows) (λ files. asks (type_of source options files))))
 
 -- the commands: the name of each, and what it means
 abbrev pub commands : List (Text × (List Row → Meaning))

@@ -1,8 +1,12 @@
 -- The usual spellings of a command line.
-use Rattle.std.specs.Prelude.{◌≡◌, ◌<◌, ◌^◌, ◌==◌, Bool, true, false, not, List, [], ◌∷◌, ◌++◌, codes, length}
-use Rattle.std.specs.List.{list_all}
+use Rattle.std.specs.Prelude.{◌≡◌, ◌<◌, ◌^◌, ◌==◌, ◌&&◌, Bool, true, false, not, List, [], ◌∷◌, ◌++◌, Option, Some, None, codes, length}
+use Rattle.std.specs.Prelude.{map}
+use Rattle.std.specs.List.{list_all, list_any}
+use Rattle.std.specs.Str.{bytes_eq}
 use Rattle.clap.specs.Walk.{Text}
-use Rattle.mime_request.specs.Request.{PlainSource, cache_of, made_of, named, parts, user}
+use Rattle.mime_request.specs.Flags.{agree}
+use Rattle.mime_request.specs.Request.{PlainSource, cache_of, commands, made_of, named, parts, user}
+use Rattle.mime_request.specs.declared.request.Options.{Options}
 
 -- whether the word begins with a hyphen (45), as an option does
 abbrev pub is_option : Text → Bool
@@ -56,29 +60,64 @@ abbrev pub build_words_output_first : Text → Text → List Text
 build_words_output_first dirs file =
     codes "build" ∷ codes "-o" ∷ file ∷ codes "-d" ∷ dirs ∷ []
 
--- the word of a flag where it is on, and else no word
-abbrev pub flag_words : Bool → Text → List Text
-flag_words true word = word ∷ []
-flag_words false word = []
+-- a flag as it is written: by its name, or `-0` or `-b`
+pub data Flag : Type 0 where
+  name_only : Flag
+  content_only : Flag
+  magic_first : Flag
+  cost : Flag
+  null : Flag
+  short_null : Flag
+  brief : Flag
+  short_brief : Flag
+  escape : Flag
 
--- `[--name-only] [--magic-first]`
-abbrev pub plain_flags : Bool → Bool → List Text
-plain_flags name_only magic_first =
-    flag_words name_only (codes "--name-only") ++ flag_words magic_first (codes "--magic-first")
+-- the name of the flag
+abbrev pub flag_name : Flag → Text
+flag_name name_only = codes "name-only"
+flag_name content_only = codes "content-only"
+flag_name magic_first = codes "magic-first"
+flag_name cost = codes "cost"
+flag_name null = codes "null"
+flag_name short_null = codes "null"
+flag_name brief = codes "brief"
+flag_name short_brief = codes "brief"
+flag_name escape = codes "escape"
 
--- `plain -d DIRS [--name-only] [--magic-first] FILE...`
-abbrev pub plain_words : Text → Bool → Bool → List Text → List Text
-plain_words dirs name_only magic_first files =
-    codes "plain" ∷ codes "-d" ∷ dirs ∷ (plain_flags name_only magic_first ++ files)
+-- the word by which it is given
+abbrev pub flag_word : Flag → Text
+flag_word short_null = codes "-0"
+flag_word short_brief = codes "-b"
+flag_word flag = codes "--" ++ flag_name flag
 
--- `plain [--name-only] [--magic-first] -d DIRS FILE...`
-abbrev pub plain_words_flags_first : Text → Bool → Bool → List Text → List Text
-plain_words_flags_first dirs name_only magic_first files =
-    codes "plain" ∷ (plain_flags name_only magic_first ++ codes "-d" ∷ dirs ∷ files)
+-- whether the flag of this name is among them
+abbrev pub has : Text → List Flag → Bool
+has name flags = list_any (λ flag. bytes_eq (flag_name flag) name) flags
 
--- `plain [--name-only] [--magic-first] FILE...`
-abbrev pub plain_words_of_user : Bool → Bool → List Text → List Text
-plain_words_of_user name_only magic_first files = codes "plain" ∷ (plain_flags name_only magic_first ++ files)
+-- the options that the flags turn on
+abbrev pub options_by : List Flag → Options
+options_by flags = record {
+  name_only = has (codes "name-only") flags;
+  content_only = has (codes "content-only") flags;
+  magic_first = has (codes "magic-first") flags;
+  cost = has (codes "cost") flags;
+  output = record { null = has (codes "null") flags; brief = has (codes "brief") flags; escape = has (codes "escape") flags };
+}
+
+-- whether none is given twice
+abbrev pub are_distinct : List Flag → Bool
+are_distinct [] = true
+are_distinct (flag ∷ flags) = not (list_any (λ other. bytes_eq (flag_name flag) (flag_name other)) flags) && are_distinct flags
+
+-- `[-d DIRS]`
+abbrev pub named_by : Option Text → Named
+named_by None = by_nothing
+named_by (Some dirs) = by_directories dirs
+
+-- `plain [FLAG...] [-d DIRS] [FLAG...] FILE...`
+abbrev pub plain_words : Option Text → List Flag → List Flag → List Text → List Text
+plain_words dirs before after files =
+    codes "plain" ∷ (map flag_word before ++ (source_words (named_by dirs) ++ (map flag_word after ++ files)))
 
 -- `list [-c CACHE | -d DIRS]`
 abbrev pub list_words : Named → List Text
@@ -92,15 +131,40 @@ is_a_words by kind base = codes "isa" ∷ (source_words by ++ kind ∷ base ∷ 
 abbrev pub icon_words : Named → Text → List Text
 icon_words by kind = codes "icon" ∷ (source_words by ++ kind ∷ [])
 
--- `type [-c CACHE | -d DIRS] [--name-only] [--cost] [--magic-first] FILE...`
-abbrev pub type_words : Named → Bool → Bool → Bool → List Text → List Text
-type_words by name_only cost magic_first files =
-    codes "type" ∷ (source_words by ++ (flag_words name_only (codes "--name-only")
-    ++ (flag_words cost (codes "--cost")
-    ++ (flag_words magic_first (codes "--magic-first") ++ files))))
+-- `type [FLAG...] [-c CACHE | -d DIRS] [FLAG...] FILE...`
+abbrev pub type_words : Named → List Flag → List Flag → List Text → List Text
+type_words by before after files =
+    codes "type" ∷ (map flag_word before ++ (source_words by ++ (map flag_word after ++ files)))
 
--- neither DIRS or CACHE nor a FILE could be taken for an option, and memory can hold the FILEs
-pub record AreUsual (source : Text) (files : List Text) : Type 0 where
+-- neither DIRS or CACHE nor a FILE could be taken for an option, no flag is given twice, and the flags can be given together
+pub record AreUsual (source : Text) (flags : List Flag) (files : List Text) : Type 0 where
   pub plain_source : is_option source ≡ false
   pub plain_files : are_files files ≡ true
   pub few : length files < 2 ^ 64
+  pub distinct : are_distinct flags ≡ true
+  pub together : agree (options_by flags) ≡ true
+
+-- the words of help: `--help`, alone and after each command
+abbrev pub help_words : List (List Text)
+help_words = (codes "--help" ∷ []) ∷ map (λ command. command.0 ∷ codes "--help" ∷ []) commands
+
+-- words that lack what their command needs
+abbrev pub lacking_words : List (List Text)
+lacking_words =
+    (codes "build" ∷ codes "-d" ∷ [] ∷ [])
+    ∷ (codes "plain" ∷ codes "--name-only" ∷ codes "-d" ∷ [] ∷ [])
+    ∷ (codes "type" ∷ codes "--cost" ∷ codes "-c" ∷ [] ∷ [])
+    ∷ (codes "isa" ∷ codes "-c" ∷ [] ∷ [] ∷ [])
+    ∷ (codes "icon" ∷ codes "-c" ∷ [] ∷ []) ∷ []
+
+-- words of which two can't be given together
+abbrev pub conflicting_words : List (List Text)
+conflicting_words =
+    (codes "list" ∷ codes "-c" ∷ [] ∷ codes "-d" ∷ [] ∷ [])
+    ∷ (codes "list" ∷ codes "-c" ∷ [] ∷ codes "-c" ∷ [] ∷ [])
+    ∷ (codes "plain" ∷ codes "-b" ∷ codes "--brief" ∷ codes "a" ∷ [])
+    ∷ (codes "plain" ∷ codes "-0" ∷ codes "--escape" ∷ codes "a" ∷ [])
+    ∷ (codes "type" ∷ codes "--cost" ∷ codes "-0" ∷ codes "a" ∷ [])
+    ∷ (codes "type" ∷ codes "--cost" ∷ codes "-b" ∷ codes "a" ∷ [])
+    ∷ (codes "type" ∷ codes "--content-only" ∷ codes "--name-only" ∷ codes "a" ∷ [])
+    ∷ (codes "type" ∷ codes "--content-only" ∷ codes "--magic-first" ∷ codes "a" ∷ []) ∷ []

@@ -3,18 +3,18 @@
 ghost use Rattle.std.specs.Prelude.{◌≡◌, IfOk, false};
 ghost use Rattle.clap.specs.Words.{app_of, rule_of};
 ghost use Rattle.clap.specs.declared.builder.command.Command.TheViews.{out-Command};
-ghost use Rattle.mime_request.specs.CommandLine.{app_of_source, base_rule, build_app, cache_rule, cost_rule, directories_rule};
-ghost use Rattle.mime_request.specs.CommandLine.{files_rule, icon_app, is_a_app, kind_rule, list_app, magic_first_rule};
-ghost use Rattle.mime_request.specs.CommandLine.{mimelook, mimelook_alone, mimelook_of_directories, name_only_rule};
-ghost use Rattle.mime_request.specs.CommandLine.{output_rule, plain_app, type_app};
+ghost use Rattle.mime_request.specs.CommandLine.{app_of_source, base_rule, build_app, cache_rule, directories_rule, files_rule};
+ghost use Rattle.mime_request.specs.CommandLine.{flag_rule, icon_app, is_a_app, kind_rule, list_app, mimelook, mimelook_alone};
+ghost use Rattle.mime_request.specs.CommandLine.{mimelook_of_directories, output_rule, plain_app, short_flag_rule, type_app};
+ghost use Rattle.mime_request.specs.CommandLine.{with_looks, with_output};
 
 mod texts;
 
 use clap::{Arg, ArgAction, Command};
 use std::alloc::{AllocError, Global};
 use texts::{
-    BUILD, COST, DIRS, FILES, HelpTexts, ICON, IS_A, LIST, MAGIC_FIRST, MIMELOOK, NAME_ONLY,
-    OUTPUT, PLAIN, TYPE,
+    BRIEF, BUILD, CONTENT_ONLY, COST, DIRS, ESCAPE, FILES, HelpTexts, ICON, IS_A, LIST,
+    MAGIC_FIRST, MIMELOOK, NAME_ONLY, NULL, OUTPUT, PLAIN, TYPE,
 };
 
 /// What `mimelook --version` prints after the program's name.
@@ -52,34 +52,45 @@ fn cache<'a>(alloc: Global) -> Arg<'a>
         .help("The cache to read, such as /usr/share/mime/mime.cache")
 }
 
-fn name_only<'a>(alloc: Global) -> Arg<'a>
-    ensures rule { rule_of result ≡ name_only_rule }
+// A flag with a long name alone.
+fn flag<'a>(alloc: Global, name: &'a str, help: &'a str) -> Arg<'a>
+    ensures rule { rule_of result ≡ flag_rule name.entry.now }
     ensures local { result.global ≡ false }
 {
-    Arg::new(alloc, "name-only")
-        .long("name-only")
+    Arg::new(alloc, name)
+        .long(name)
         .action(ArgAction::SetTrue)
-        .help(NAME_ONLY)
+        .help(help)
 }
 
-fn magic_first<'a>(alloc: Global) -> Arg<'a>
-    ensures rule { rule_of result ≡ magic_first_rule }
+// A flag with a short name too.
+fn short_flag<'a>(alloc: Global, name: &'a str, short: char, help: &'a str) -> Arg<'a>
+    ensures rule { rule_of result ≡ short_flag_rule name.entry.now short }
     ensures local { result.global ≡ false }
 {
-    Arg::new(alloc, "magic-first")
-        .long("magic-first")
-        .action(ArgAction::SetTrue)
-        .help(MAGIC_FIRST)
+    flag(alloc, name, help).short(short)
 }
 
-fn cost<'a>(alloc: Global) -> Arg<'a>
-    ensures rule { rule_of result ≡ cost_rule }
-    ensures local { result.global ≡ false }
+// With the flags that say what is looked at.
+fn with_looks<'a>(alloc: Global, command: Command<'a>) -> Result<Command<'a>, AllocError>
+    ensures app { IfOk result (λ c. app_of c ≡ with_looks (app_of command.entry)) }
+    ensures local { IfOk result (λ c. (out-Command c).has_globals ≡ (out-Command command.entry).has_globals) }
 {
-    Arg::new(alloc, "cost")
-        .long("cost")
-        .action(ArgAction::SetTrue)
-        .help(COST)
+    let command = command.arg(flag(alloc, "name-only", NAME_ONLY))?;
+    let command = command.arg(flag(alloc, "content-only", CONTENT_ONLY))?;
+    let command = command.arg(flag(alloc, "magic-first", MAGIC_FIRST))?;
+    Ok(command)
+}
+
+// With the flags that say how an answer is printed.
+fn with_output<'a>(alloc: Global, command: Command<'a>) -> Result<Command<'a>, AllocError>
+    ensures app { IfOk result (λ c. app_of c ≡ with_output (app_of command.entry)) }
+    ensures local { IfOk result (λ c. (out-Command c).has_globals ≡ (out-Command command.entry).has_globals) }
+{
+    let command = command.arg(short_flag(alloc, "null", '0', NULL))?;
+    let command = command.arg(short_flag(alloc, "brief", 'b', BRIEF))?;
+    let command = command.arg(flag(alloc, "escape", ESCAPE))?;
+    Ok(command)
 }
 
 fn files<'a>(alloc: Global) -> Arg<'a>
@@ -88,7 +99,6 @@ fn files<'a>(alloc: Global) -> Arg<'a>
 {
     Arg::new(alloc, "file")
         .value_name("FILE")
-        .required(true)
         .num_args(1..)
         .help(FILES)
 }
@@ -143,8 +153,8 @@ fn plain_command<'a>(alloc: Global) -> Result<Command<'a>, AllocError>
 {
     let command = with_help(Command::new(alloc, "plain"), PLAIN);
     let command = command.arg(directories(alloc))?;
-    let command = command.arg(name_only(alloc))?;
-    let command = command.arg(magic_first(alloc))?;
+    let command = with_looks(alloc, command)?;
+    let command = with_output(alloc, command)?;
     let command = command.arg(files(alloc))?;
     Ok(command)
 }
@@ -199,9 +209,9 @@ fn type_command<'a>(alloc: Global) -> Result<Command<'a>, AllocError>
     ensures local { IfOk result (λ c. (out-Command c).has_globals ≡ false) }
 {
     let command = command_of_source(alloc, "type", TYPE)?;
-    let command = command.arg(name_only(alloc))?;
-    let command = command.arg(cost(alloc))?;
-    let command = command.arg(magic_first(alloc))?;
+    let command = with_looks(alloc, command)?;
+    let command = command.arg(flag(alloc, "cost", COST))?;
+    let command = with_output(alloc, command)?;
     let command = command.arg(files(alloc))?;
     Ok(command)
 }
@@ -233,6 +243,7 @@ fn over_directories<'a>(alloc: Global) -> Result<Command<'a>, AllocError>
 
 /// The command line after the program's name.
 pub(crate) fn mimelook_command<'a>(alloc: Global) -> Result<Command<'a>, AllocError>
+    // It is the command line that the definitions describe, unless memory ran out.
     ensures { IfOk result (λ c. app_of c ≡ mimelook) }
 {
     let command = over_directories(alloc)?;

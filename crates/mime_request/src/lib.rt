@@ -26,10 +26,10 @@ mod command;
 mod request;
 mod spelling;
 
-pub use request::{Directories, Options, Request, Source, request_of};
+pub use request::{Directories, Options, Output, Request, Source, request_of};
 pub use spelling::{
-    flags_first_spelling_of_plain, output_first_spelling_of_build, parts_of_directories,
-    spelling_of_build_of_user, spelling_of_plain_of_user, usual_spelling_of_build,
-    usual_spelling_of_icon, usual_spelling_of_is_a, usual_spelling_of_list,
-    usual_spelling_of_plain, usual_spelling_of_type, words_without_files,
+    no_words, output_first_spelling_of_build, parts_of_directories, spelling_of_build_of_user,
+    spelling_of_version, spellings_of_help, usual_spelling_of_build, usual_spelling_of_icon,
+    usual_spelling_of_is_a, usual_spelling_of_list, usual_spelling_of_plain,
+    usual_spelling_of_type, words_that_conflict, words_that_lack,
 };

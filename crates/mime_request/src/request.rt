@@ -6,6 +6,7 @@ ghost use Rattle.mime_request.specs.Request.{Finds, Means, meaning_of, subcomman
 
 mod cache;
 mod data;
+mod flags;
 mod found;
 mod over_directories;
 
@@ -38,15 +39,31 @@ pub enum Source<'a> {
     Directories(Directories<'a>),
 }
 
+/// How an answer is printed, and how FILEs are named in messages.
+#[derive(Clone, Copy, Debug)]
+pub struct Output {
+    /// A zero byte ends the FILE and the TYPE.
+    pub null: bool,
+    /// The TYPE stands alone.
+    pub brief: bool,
+    /// In FILE and TYPE, a control character or a backslash is written as a backslash and its
+    /// number in octal digits.
+    pub escape: bool,
+}
+
 /// How files are looked up, and what is told of them.
 #[derive(Clone, Copy, Debug)]
 pub struct Options {
     /// The names alone decide: no file is opened.
     pub name_only: bool,
+    /// The contents alone decide: no name is looked at.
+    pub content_only: bool,
     /// Content is asked before the globs, where its priority is high (80 or more).
     pub magic_first: bool,
     /// What each answer cost is told.
     pub cost: bool,
+    /// How it is printed.
+    pub output: Output,
 }
 
 /// What the words of a command line ask for.

@@ -5,7 +5,8 @@ ghost use Rattle.mime_request.specs.Request.{Means, icon_meaning, is_a_meaning, 
 
 use super::Request;
 use super::data::source_of;
-use super::found::{files_of, given, options_of};
+use super::flags::options_of;
+use super::found::{files_of, given};
 use clap::{ArgMatches, Error};
 use std::alloc::Global;
 
@@ -55,10 +56,11 @@ pub(super) fn request_of_type<'a>(
     ensures { Means (type_meaning (rows_of (found_of matches.now))) result }
 {
     let source = source_of(alloc, matches)?;
+    let options = options_of(alloc, matches)?;
     let files = files_of(alloc, matches)?;
     Ok(Request::Type {
         source,
-        options: options_of(matches),
+        options,
         files,
     })
 }

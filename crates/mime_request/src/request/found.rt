@@ -5,9 +5,8 @@ ghost use Rattle.clap.specs.Words.{all_of, first_of, found_of, rows_of, subcomma
 ghost use Rattle.clap.specs.Walk.{texts};
 ghost use Rattle.clap.specs.Kinds.{HasKind};
 ghost use Rattle.clap.specs.Values.{kind_of};
-ghost use Rattle.mime_request.specs.Request.{is_on, missing, options_in};
+ghost use Rattle.mime_request.specs.Request.{missing};
 
-use super::Options;
 use crate::command::mimelook_command;
 use clap::error::ErrorKind;
 use clap::{ArgMatches, Error};
@@ -76,27 +75,6 @@ fn values_of<'m, 'a>(matches: &'m ArgMatches<'a>, id: &str) -> Option<&'m [&'a s
         ≡ all_of id.now (rows_of (found_of matches.entry.now)) }
 {
     matches.get_strs(id)
-}
-
-// The options that are given.
-pub(super) fn options_of(matches: &ArgMatches<'_>) -> Options
-    // An option is on where its flag was found.
-    ensures { result ≡ options_in (rows_of (found_of matches.now)) }
-{
-    Options {
-        name_only: is_on(value_of(matches, "name-only")),
-        magic_first: is_on(value_of(matches, "magic-first")),
-        cost: is_on(value_of(matches, "cost")),
-    }
-}
-
-fn is_on(flag: Option<&str>) -> bool
-    ensures { result ≡ is_on (option_map (λ s. s.now) flag.entry) }
-{
-    match flag {
-        Some(text) => text == "true",
-        None => false,
-    }
 }
 
 // An error of this crate's own, or that memory ran out.

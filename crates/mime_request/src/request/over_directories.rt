@@ -5,7 +5,8 @@ ghost use Rattle.mime_request.specs.Request.{Means, build_meaning, plain_meaning
 
 use super::Request;
 use super::data::directories_of;
-use super::found::{files_of, given, options_of};
+use super::flags::options_of;
+use super::found::{files_of, given};
 use clap::{ArgMatches, Error};
 use std::alloc::Global;
 
@@ -28,10 +29,12 @@ pub(super) fn request_of_plain<'a>(
     // The result is what `plain` means by what clap found after it.
     ensures { Means (plain_meaning (rows_of (found_of matches.now))) result }
 {
+    let options = options_of(alloc, matches)?;
     let files = files_of(alloc, matches)?;
+    let directories = directories_of(alloc, matches)?;
     Ok(Request::Plain {
-        directories: directories_of(alloc, matches)?,
-        options: options_of(matches),
+        directories,
+        options,
         files,
     })
 }

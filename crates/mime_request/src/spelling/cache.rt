@@ -1,10 +1,10 @@
 //! What the usual spellings of the commands over a cache ask for.
 
-ghost use Rattle.std.specs.Prelude.{◌≡◌, Bool, List, false};
+ghost use Rattle.std.specs.Prelude.{◌≡◌, ◌++◌, List, false};
 ghost use Rattle.clap.specs.Walk.{Text};
 ghost use Rattle.mime_request.specs.Request.{asks, icon, is_a, list, meaning_of, type_of};
-ghost use Rattle.mime_request.specs.Spelling.{AreUsual, Named, icon_words, is_a_words, is_option, list_words};
-ghost use Rattle.mime_request.specs.Spelling.{source_word, source_of, type_words};
+ghost use Rattle.mime_request.specs.Spelling.{AreUsual, Flag, Named, icon_words, is_a_words, is_option, list_words};
+ghost use Rattle.mime_request.specs.Spelling.{options_by, source_word, source_of, type_words};
 
 /// `list [-c CACHE | -d DIRS]` asks for the rules of this cache, or of one made of these directories
 /// or of the user's.
@@ -29,12 +29,11 @@ pub fn usual_spelling_of_icon()
         → meaning_of (icon_words by kind) ≡ asks (icon (source_of by) kind) }
 {}
 
-/// `type [-c CACHE | -d DIRS] [--name-only] [--cost] [--magic-first] FILE...` asks for these files,
-/// from this cache, with just the flags that are given.
+/// `type [-c CACHE | -d DIRS] FILE...`, with flags before the source or after it, asks for these
+/// files, from this cache, with just these flags.
 pub fn usual_spelling_of_type()
     // For any flags, and any words that don't begin with a hyphen.
-    ensures { (by : Named) (name_only cost magic_first : Bool) (files : List Text)
-        → AreUsual (source_word by) files
-        → meaning_of (type_words by name_only cost magic_first files)
-        ≡ asks (type_of (source_of by) (record { name_only = name_only; magic_first = magic_first; cost = cost }) files) }
+    ensures { (by : Named) (before after : List Flag) (files : List Text)
+        → AreUsual (source_word by) (before ++ after) files
+        → meaning_of (type_words by before after files) ≡ asks (type_of (source_of by) (options_by (before ++ after)) files) }
 {}

@@ -1,33 +1,15 @@
 //! What the usual spellings of `plain` ask for.
 
-ghost use Rattle.std.specs.Prelude.{◌≡◌, [], Bool, List, false};
+ghost use Rattle.std.specs.Prelude.{◌≡◌, ◌++◌, List, Option, codes, false};
 ghost use Rattle.clap.specs.Walk.{Text};
-ghost use Rattle.mime_request.specs.Request.{asks, meaning_of, named, parts, plain, user};
-ghost use Rattle.mime_request.specs.Spelling.{AreUsual, plain_words, plain_words_flags_first, plain_words_of_user};
+ghost use Rattle.mime_request.specs.Request.{asks, directories_by, meaning_of, plain};
+ghost use Rattle.mime_request.specs.Spelling.{AreUsual, Flag, has, named_by, options_by, plain_words, source_word};
 
-/// `plain -d DIRS [--name-only] [--magic-first] FILE...` asks for these files, from the directories
-/// of DIRS in their order, with just the flags that are given.
+/// `plain [-d DIRS] FILE...`, with flags before DIRS or after it, asks for these files, from the
+/// directories of DIRS in their order or from the user's, with just these flags.
 pub fn usual_spelling_of_plain()
-    // For any flags, and any words that don't begin with a hyphen.
-    ensures { (dirs : Text) (name_only magic_first : Bool) (files : List Text)
-        → AreUsual dirs files
-        → meaning_of (plain_words dirs name_only magic_first files)
-        ≡ asks (plain (named (parts dirs)) (record { name_only = name_only; magic_first = magic_first; cost = false }) files) }
-{}
-
-/// `plain [--name-only] [--magic-first] FILE...` asks for these files, from the user's directories.
-pub fn spelling_of_plain_of_user()
-    // For any flags, and any FILEs that don't begin with a hyphen.
-    ensures { (name_only magic_first : Bool) (files : List Text) → AreUsual [] files
-        → meaning_of (plain_words_of_user name_only magic_first files)
-        ≡ asks (plain user (record { name_only = name_only; magic_first = magic_first; cost = false }) files) }
-{}
-
-/// `plain [--name-only] [--magic-first] -d DIRS FILE...` asks for the same.
-pub fn flags_first_spelling_of_plain()
-    // Whether the flags stand before DIRS or after it changes nothing.
-    ensures { (dirs : Text) (name_only magic_first : Bool) (files : List Text)
-        → AreUsual dirs files
-        → meaning_of (plain_words_flags_first dirs name_only magic_first files)
-        ≡ meaning_of (plain_words dirs name_only magic_first files) }
+    // For any flags but `--cost`, and any words that don't begin with a hyphen.
+    ensures { (dirs : Option Text) (before after : List Flag) (files : List Text)
+        → AreUsual (source_word (named_by dirs)) (before ++ after) files → has (codes "cost") (before ++ after) ≡ false
+        → meaning_of (plain_words dirs before after files) ≡ asks (plain (directories_by dirs) (options_by (before ++ after)) files) }
 {}

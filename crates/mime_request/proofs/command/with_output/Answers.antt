@@ -1,0 +1,15 @@
+use Rattle.std.proofs.Common.{◌∙◌, refl}
+use Rattle.mime_request.proofs.AddedRules.{no_more_globals, with_one_more}
+use Rattle.mime_request.proofs.command.with_output.Goals as goal
+
+pub returns-clause-app : goal.returns-clause-app
+returns-clause-app c =
+    let one = with_one_more _ _ _ _ _ (c.in_ok-command.ensures.shape c.short_flag.ensures.local) refl c.short_flag.ensures.rule in
+    let two = with_one_more _ _ _ _ _ (c.in_ok-command-2.ensures.shape c.short_flag-2.ensures.local) one c.short_flag-2.ensures.rule in
+    with_one_more _ _ _ _ _ (c.in_ok-command-3.ensures.shape c.flag.ensures.local) two c.flag.ensures.rule
+
+pub returns-clause-local : goal.returns-clause-local
+returns-clause-local c =
+    no_more_globals _ _ _ c.in_ok-command-3.ensures.globals c.flag.ensures.local
+    ∙ (no_more_globals _ _ _ c.in_ok-command-2.ensures.globals c.short_flag-2.ensures.local
+    ∙ no_more_globals _ _ _ c.in_ok-command.ensures.globals c.short_flag.ensures.local)
