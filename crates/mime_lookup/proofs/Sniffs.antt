@@ -11,8 +11,9 @@ use Rattle.mime_base.specs.Magic.Extent.{extent}
 use Rattle.mime_base.specs.Magic.Holds.{first_magic}
 use Rattle.mime_base.specs.declared.magic.host.Host.{Host}
 use Rattle.mime_base.proofs.MagicLemmas.Fronts.{first_magic-front, looks_textual-front}
-use Rattle.mime_lookup.specs.CheckingOrder.{before_globs, front_size, of_high_priority, read_limit}
+use Rattle.mime_lookup.specs.CheckingOrder.{IsSniffed, before_globs, front_size, of_high_priority, read_limit}
 use Rattle.mime_lookup.specs.Fronts.{IsRead}
+use Rattle.mime_lookup.specs.declared.sniff.Sniffed.{Sniffed}
 use Rattle.mime_lookup.specs.Sniffing.{FrontIsEnough, sniffed, sniffed_by_bytes, sniffed_by_magic}
 use Rattle.mime_lookup.specs.declared.order.Order.TheVariants.{MagicFirst}
 
@@ -66,28 +67,20 @@ is_read b whole front (Some rest) consumed limited ends =
 module _ (b : PlainDatabase) (host : Host) (known after : Option (List ℕ)) (front : List ℕ)
     (consumed : Consumes known after front) (limited : length front ≤ read_limit b)
     (ends : length front < read_limit b → IsAtEnd after) where
-  pub sniffed-known : (kind : List ℕ) → kind ≡ sniffed b (Some front) host →
-      IfSome (option_map (λ bytes. Some bytes) known) (λ content. kind ≡ sniffed b content host)
-  sniffed-known kind is = by_cases known consumed
+  pub is_sniffed-known : (found : Sniffed) → IsSniffed b (Some front) host found →
+      IfSome (option_map (λ bytes. Some bytes) known) (λ content. IsSniffed b content host found)
+  is_sniffed-known found is = by_cases known consumed
     where
       by_cases : (known : Option (List ℕ)) → Consumes known after front →
-          IfSome (option_map (λ bytes. Some bytes) known) (λ content. kind ≡ sniffed b content host)
+          IfSome (option_map (λ bytes. Some bytes) known) (λ content. IsSniffed b content host found)
       by_cases None consumed = tt
       by_cases (Some whole) consumed =
           let read = is_read b whole front after consumed limited ends in
-          is ∙ front_is_enough b front read.rest host read.long ∙ ap (λ bytes. sniffed b (Some bytes) host) (sym read.split)
-
-  pub before_globs-known : (high : Option (List ℕ)) → high ≡ before_globs b (Some front) host MagicFirst →
-      IfSome (option_map (λ bytes. Some bytes) known) (λ content. high ≡ before_globs b content host MagicFirst)
-  before_globs-known high is = by_cases known consumed
-    where
-      by_cases : (known : Option (List ℕ)) → Consumes known after front →
-          IfSome (option_map (λ bytes. Some bytes) known) (λ content. high ≡ before_globs b content host MagicFirst)
-      by_cases None consumed = tt
-      by_cases (Some whole) consumed =
-          let read = is_read b whole front after consumed limited ends in
-          is ∙ before_globs-front b front read.rest host read.long
-          ∙ ap (λ bytes. before_globs b (Some bytes) host MagicFirst) (sym read.split)
+          record {
+            kind = is.kind ∙ front_is_enough b front read.rest host read.long ∙ ap (λ bytes. sniffed b (Some bytes) host) (sym read.split);
+            high = is.high ∙ before_globs-front b front read.rest host read.long
+                ∙ ap (λ bytes. before_globs b (Some bytes) host MagicFirst) (sym read.split);
+          }
 
   pub front_size-known : (count : ℕ) → length front ≡ count →
       IfSome (option_map (λ bytes. Some bytes) known) (λ content. count ≡ front_size b content)

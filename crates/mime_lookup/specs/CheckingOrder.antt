@@ -11,6 +11,7 @@ use Rattle.mime_lookup.specs.Choice.{ChoosesAmong, kept}
 use Rattle.mime_lookup.specs.Sniffing.{sniffed}
 use Rattle.mime_lookup.specs.declared.order.Order.{Order}
 use Rattle.mime_lookup.specs.declared.order.Order.TheVariants.{GlobsFirst, MagicFirst}
+use Rattle.mime_lookup.specs.declared.sniff.Sniffed.{Sniffed}
 
 -- the resolved type of a section with a priority of 80 or more
 abbrev pub of_high_priority : PlainDatabase → Option (List ℕ × ℕ) → Option (List ℕ)
@@ -22,6 +23,13 @@ unfoldable pub before_globs : PlainDatabase → Option (List ℕ) → Host → O
 before_globs b content host GlobsFirst = None
 before_globs b None host MagicFirst = None
 before_globs b (Some content) host MagicFirst = of_high_priority b (first_magic b.sections content host)
+
+-- What a content was sniffed as.
+pub record IsSniffed (b : PlainDatabase) (content : Option (List ℕ)) (host : Host) (found : Sniffed) : Type 0 where
+  -- The type is that of the first section that holds, else one by the bytes alone.
+  pub kind : found.kind.now ≡ sniffed b content host
+  -- It is of high priority where it comes before the globs if magic is asked first.
+  pub high : (if found.is_high then Some found.kind.now else None) ≡ before_globs b content host MagicFirst
 
 -- the answer to a name and a content, where there is one
 unfoldable pub Chooses : PlainDatabase → List ℕ → Option (List ℕ) → Host → Order → List ℕ → Type 0

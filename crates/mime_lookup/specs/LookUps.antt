@@ -40,6 +40,14 @@ abbrev pub meter_in : Result Answer Stopped → Meter
 meter_in (Ok answer) = answer.meter
 meter_in (Err stopped) = stopped.meter
 
+-- What a lookup by a database answers for a content that is known.
+pub record IsPlainAnswer (b : PlainDatabase) (name : List ℕ) (content : Option (List ℕ)) (host : Host) (order : Order)
+    (answer : Answer) : Type 0 where
+  -- The type is the one that the order gives.
+  pub chosen : Chooses b name content host order answer.kind.now
+  -- As many bytes are read as the order says.
+  pub read : answer.read ≡ read_of b name content order
+
 -- The header is read before anything else.
 pub record OpensFirst {X : Type 0} (c : List ℕ) (result : Result X Cause) : Type 0 where
   -- Bytes that don't open as a cache are refused for that.

@@ -5,6 +5,8 @@ use Rattle.std.specs.Borrow.{Bor}
 use Rattle.mime_base.specs.Database.PlainPairs.{plain_pairs}
 use Rattle.mime_base.specs.Database.Subclass.{Pairs, parents}
 use Rattle.mime_base.specs.declared.database.pair.Pair.{Pair}
+use Rattle.mime_lookup.specs.declared.places.PlacedPairs.{PlacedPairs}
+use Rattle.mime_lookup.specs.declared.places.Places.{Places}
 
 -- the pairs of two lists
 abbrev pub pairs_at : List Pair → List Pair → Pairs
@@ -29,3 +31,16 @@ pub record IsIndexed (pairs : List Pair) (low : ℕ) (first : List ℕ → Optio
   pub nexts :
       (place k : ℕ) (pair : Pair) → low ≤ place → k + (place + 1) ≡ length pairs → pair ≡ get_or pairs place pair →
       IsNext pairs pair.name (place + 1) (get_or next k None)
+
+-- what is kept of some pairs is the places of all of them
+abbrev pub IsPlaced : Places → Type 0
+IsPlaced places = IsIndexed places.pairs.now 0 (place_in places.first) places.next.items
+
+-- What is kept of both lists of pairs is the places of all of them.
+pub record ArePlaced (both : PlacedPairs) : Type 0 where
+  pub aliases : IsPlaced both.aliases
+  pub parents : IsPlaced both.parents
+
+-- the pairs whose places are kept
+abbrev pub placed : PlacedPairs → Pairs
+placed both = pairs_at both.aliases.pairs.now both.parents.pairs.now

@@ -8,13 +8,12 @@
 ghost use Rattle.std.specs.Prelude.{◌≡◌, ◌↔◌, ◌+◌, false, IfOk, OnOk, IsTrue};
 ghost use Rattle.std.specs.VecDeque.{deque_len};
 ghost use Rattle.mime_base.specs.Database.{pairs_of, plain_database};
-ghost use Rattle.mime_base.specs.Database.PlainPairs.{plain_pairs};
 ghost use Rattle.mime_base.specs.Database.Subclass.{IsA};
 ghost use Rattle.mime_lookup.specs.Ancestry.{Expanded, NoneLeadsTo, is_one_of, kinds_of, unmarked};
 ghost use Rattle.mime_lookup.specs.Choice.{IsFirst};
-ghost use Rattle.mime_lookup.specs.Places.{IsIndexed, pairs_at, place_in};
+ghost use Rattle.mime_lookup.specs.Places.{ArePlaced, placed};
 
-use crate::places::{Places, places_of, push_parents};
+use crate::places::{PlacedPairs, places_of, push_parents};
 use crate::subclass::is_by_itself;
 use indexmap::IndexSet;
 use mime_base::{Database, Meter, OutOfMemory};
@@ -38,29 +37,28 @@ pub fn first_of<'a>(
 {
     let aliases = places_of(alloc, &database.aliases)?;
     let parents = places_of(alloc, &database.parents)?;
-    let kind = first_at(alloc, &aliases, &parents, kinds, default, base, meter)?;
+    let both = PlacedPairs { aliases, parents };
+    let kind = first_at(alloc, &both, kinds, default, base, meter)?;
     Ok(kind)
 }
 
 /// The same over pairs whose places are known.
 fn first_at<'a>(
     alloc: Global,
-    aliases: &Places<'a>,
-    parents: &Places<'a>,
+    both: &PlacedPairs<'a>,
     kinds: &[&'a [u8]],
     default: &'a [u8],
     base: &[u8],
     meter: &mut Meter,
 ) -> Result<&'a [u8], OutOfMemory>
-    requires aliases { IsIndexed aliases.now.pairs.now 0 (place_in aliases.now.first) aliases.now.next.items }
-    requires parents { IsIndexed parents.now.pairs.now 0 (place_in parents.now.first) parents.now.next.items }
+    requires placed { ArePlaced both.now }
     ensures nodes { meter.new.nodes ≡ meter.old.nodes }
-    ensures first { IfOk result (λ kind. IsFirst (pairs_at aliases.now.pairs.now parents.now.pairs.now)
+    ensures first { IfOk result (λ kind. IsFirst (placed both.now)
         base.now default.entry.now (kinds_of kinds.now) kind.now) }
 {
     let mut marks = IndexSet::new(alloc);
     for kind in kinds {
-        if is_a(alloc, aliases, parents, &mut marks, *kind, base, meter)? {
+        if is_a(alloc, both, &mut marks, *kind, base, meter)? {
             return Ok(*kind);
         }
     }
@@ -70,22 +68,20 @@ fn first_at<'a>(
 /// Whether a type is the base or a subclass of it.
 fn is_a<'a>(
     alloc: Global,
-    aliases: &Places<'a>,
-    parents: &Places<'a>,
+    both: &PlacedPairs<'a>,
     marks: &mut IndexSet<&'a [u8]>,
     kind: &'a [u8],
     base: &[u8],
     meter: &mut Meter,
 ) -> Result<bool, OutOfMemory>
-    requires aliases { IsIndexed aliases.now.pairs.now 0 (place_in aliases.now.first) aliases.now.next.items }
-    requires parents { IsIndexed parents.now.pairs.now 0 (place_in parents.now.first) parents.now.next.items }
+    requires placed { ArePlaced both.now }
     ensures nodes { meter.new.nodes ≡ meter.old.nodes }
     ensures answer { IfOk result (λ yes.
-        NoneLeadsTo (is_one_of (kinds_of marks.old.keys)) (pairs_at aliases.now.pairs.now parents.now.pairs.now) base.now
-        → (IsTrue yes ↔ IsA (pairs_at aliases.now.pairs.now parents.now.pairs.now) kind.entry.now base.now)) }
+        NoneLeadsTo (is_one_of (kinds_of marks.old.keys)) (placed both.now) base.now
+        → (IsTrue yes ↔ IsA (placed both.now) kind.entry.now base.now)) }
     ensures marked { IfOk result (λ yes. yes ≡ false →
-        NoneLeadsTo (is_one_of (kinds_of marks.old.keys)) (pairs_at aliases.now.pairs.now parents.now.pairs.now) base.now
-        → NoneLeadsTo (is_one_of (kinds_of marks.new.keys)) (pairs_at aliases.now.pairs.now parents.now.pairs.now) base.now) }
+        NoneLeadsTo (is_one_of (kinds_of marks.old.keys)) (placed both.now) base.now
+        → NoneLeadsTo (is_one_of (kinds_of marks.new.keys)) (placed both.now) base.now) }
 {
     let mut queue = VecDeque::new(alloc);
     queue.push_back(kind)?;
@@ -93,32 +89,30 @@ fn is_a<'a>(
         if is_by_itself(here, base, meter) {
             return Ok(true);
         }
-        expand(aliases, parents, marks, here, &mut queue)?;
+        expand(both, marks, here, &mut queue)?;
     }
     Ok(false)
 }
 
 /// Puts what is above a type at the end of the queue and marks it, unless it is marked.
 fn expand<'a>(
-    aliases: &Places<'a>,
-    parents: &Places<'a>,
+    both: &PlacedPairs<'a>,
     marks: &mut IndexSet<&'a [u8]>,
     kind: &'a [u8],
     queue: &mut VecDeque<&'a [u8]>,
 ) -> Result<(), OutOfMemory>
-    requires aliases { IsIndexed aliases.now.pairs.now 0 (place_in aliases.now.first) aliases.now.next.items }
-    requires parents { IsIndexed parents.now.pairs.now 0 (place_in parents.now.first) parents.now.next.items }
-    ensures expanded { OnOk result (Expanded (pairs_at aliases.now.pairs.now parents.now.pairs.now) kind.entry.now
+    requires placed { ArePlaced both.now }
+    ensures expanded { OnOk result (Expanded (placed both.now) kind.entry.now
         (is_one_of (kinds_of marks.old.keys)) (is_one_of (kinds_of marks.new.keys))
         (kinds_of queue.old.items) (kinds_of queue.new.items)) }
     ensures falls { OnOk result (
-        deque_len queue.new + unmarked (plain_pairs parents.now.pairs.now) (is_one_of (kinds_of marks.new.keys))
-        ≡ deque_len queue.old + unmarked (plain_pairs parents.now.pairs.now) (is_one_of (kinds_of marks.old.keys))) }
+        deque_len queue.new + unmarked (placed both.now).parents (is_one_of (kinds_of marks.new.keys))
+        ≡ deque_len queue.old + unmarked (placed both.now).parents (is_one_of (kinds_of marks.old.keys))) }
 {
     if is_marked(marks, kind) {
         return Ok(());
     }
-    push_parents(aliases, parents, kind, queue)?;
+    push_parents(both, kind, queue)?;
     marks.insert(kind)?;
     Ok(())
 }

@@ -1,14 +1,13 @@
 //! Lookup by trying every rule, line and pair of a database.
 
-ghost use Rattle.std.specs.Prelude.{◌≡◌, ◌≢◌, ◌⊎◌, ◌<◌, ◌≤◌, length, IfOk, IfErr, OnOk, IfSome, MatchResult, Some, None};
-ghost use Rattle.std.specs.Prelude.{true, false, ⊤, if◌then◌else◌};
+ghost use Rattle.std.specs.Prelude.{◌≡◌, ◌⊎◌, ◌<◌, ◌≤◌, length, false, IfOk, IfErr, OnOk, IfSome};
 ghost use Rattle.mime_base.specs.Database.{pairs_of, plain_database};
 ghost use Rattle.mime_lookup.specs.Ancestry.{kinds_of};
-ghost use Rattle.mime_lookup.specs.CheckingOrder.{Chooses, are_one_type, before_globs, front_size, globs_suffice, read_limit, read_of};
+ghost use Rattle.mime_lookup.specs.CheckingOrder.{Chooses, IsSniffed, are_one_type, front_size, globs_suffice, read_limit, read_of};
 ghost use Rattle.mime_lookup.specs.Choice.{ChoosesAmong};
-ghost use Rattle.mime_lookup.specs.Sniffing.{sniffed};
+ghost use Rattle.mime_lookup.specs.Content.{known_content};
+ghost use Rattle.mime_lookup.specs.LookUps.{IsPlainAnswer, cause_in, meter_in, read_in};
 ghost use Rattle.mime_lookup.specs.Reads.{AsksUnless, Reads};
-ghost use Rattle.mime_lookup.specs.Content.{Advances, GivesUp, Retries, OfReader, broken, known_content, sound};
 
 use crate::ancestry::first_of;
 use crate::answer::Answer;
@@ -18,6 +17,7 @@ use crate::kept::kept_kinds;
 use crate::limits::LONGEST_NAME;
 use crate::order::Order;
 use crate::pairs::is_same;
+use crate::question::Question;
 use crate::reading::read_front;
 use crate::sniff::{Sniffed, sniff};
 use crate::stopped::{Cause, Stopped};
@@ -41,12 +41,9 @@ pub fn look_up_plain<'a, R: Content>(
     host: Host,
     order: Order,
 ) -> Result<Answer<'a>, Stopped>
-    // The type is the one that the checking order gives to the name and the whole content.
-    ensures chosen { IfOk result (λ answer. IfSome (known_content R.remaining content.old)
-        (λ known. Chooses (plain_database database.entry.now) name.now known host order answer.kind.now)) }
-    // As many bytes are read as that order says.
-    ensures read { IfOk result (λ answer. IfSome (known_content R.remaining content.old)
-        (λ known. answer.read ≡ read_of (plain_database database.entry.now) name.now known order)) }
+    // The type is the one that the checking order gives to the name and the whole content, of which it reads as much as it says.
+    ensures answers { IfOk result (λ answer. IfSome (known_content R.remaining content.old)
+        (λ known. IsPlainAnswer (plain_database database.entry.now) name.now known host order answer)) }
     // A name of more than 4,096 bytes is too long, before anything else.
     ensures too_long { 4096 < length name.now → (content.new ≡ content.old) × (result ≡ Err (record {
       cause = Cause.NameTooLong;
@@ -56,31 +53,14 @@ pub fn look_up_plain<'a, R: Content>(
     // For another name it stops only for a read or for memory, so never for a cache.
     ensures otherwise { length name.now ≤ 4096 → IfErr result
         (λ stopped. (stopped.cause ≡ Cause.Read) ⊎ (stopped.cause ≡ Cause.OutOfMemory)) }
-    // It stops for a read only where one failed, or was interrupted once more than is tried again.
-    ensures gives_up { IfErr result (λ stopped. stopped.cause ≡ Cause.Read →
-        OfReader (λ before after. GivesUp (R.tally before) (R.tally after) 1000) ⊥ content.old content.new) }
-    // Where there is an answer, no read failed, and few enough were interrupted.
-    ensures goes { OnOk result (OfReader
-        (λ before after. Retries (R.tally before) (R.tally after) 1000) ⊤ content.old content.new) }
-    // A reader whose reads all fail was not asked where there is an answer: the globs sufficed.
-    ensures answers { OnOk result (OfReader (λ before _. R.health before ≡ broken →
-        globs_suffice (plain_database database.entry.now) name.now order ≡ true) ⊤ content.old content.new) }
-    // It stops for a read only of a reader that can fail, and where the globs do not suffice.
-    ensures fails { IfErr result (λ stopped. stopped.cause ≡ Cause.Read → OfReader (λ before _. (R.health before ≢ sound)
-        × (globs_suffice (plain_database database.entry.now) name.now order ≡ false)) ⊥ content.old content.new) }
-    // The reader gave as many bytes as were read, also where the lookup stops.
-    ensures advances { MatchResult result
-        (λ answer. OfReader (λ before after. Advances (R.remaining before) (R.remaining after) answer.read)
-        (answer.read ≡ 0) content.old content.new)
-        (λ stopped. OfReader (λ before after. Advances (R.remaining before) (R.remaining after) stopped.read)
-        (stopped.read ≡ 0) content.old content.new) }
-    // No more is read than magic and the test for text can look at.
-    ensures limit { MatchResult result
-        (λ answer. answer.read ≤ read_limit (plain_database database.entry.now))
-        (λ stopped. stopped.read ≤ read_limit (plain_database database.entry.now)) }
+    // It takes no more of its reader than magic and the test for text can look at, and gives up only where a read failed.
+    ensures reader { Reads R.remaining R.tally R.health (read_limit (plain_database database.entry.now))
+        content.old content.new (read_in result) (cause_in result) }
+    // It asks its reader only where the globs do not suffice.
+    ensures asks { AsksUnless R.health (globs_suffice (plain_database database.entry.now) name.now order)
+        content.old content.new (cause_in result) }
     // No record of a cache is visited.
-    ensures nodes { MatchResult result
-        (λ answer. answer.meter.nodes ≡ 0) (λ stopped. stopped.meter.nodes ≡ 0) }
+    ensures nodes { (meter_in result).nodes ≡ 0 }
 {
     let mut read = 0;
     let mut meter = Meter::new();
@@ -88,9 +68,8 @@ pub fn look_up_plain<'a, R: Content>(
         let cause = Cause::NameTooLong;
         return Err(Stopped { cause, read, meter });
     }
-    match kind_of(
-        alloc, database, name, content, host, order, &mut read, &mut meter,
-    ) {
+    let question = Question { name, host, order };
+    match kind_of(alloc, database, &question, content, &mut read, &mut meter) {
         Ok(kind) => Ok(Answer { kind, read, meter }),
         Err(cause) => Err(Stopped { cause, read, meter }),
     }
@@ -100,41 +79,39 @@ pub fn look_up_plain<'a, R: Content>(
 fn kind_of<'a, R: Content>(
     alloc: Global,
     database: &'a Database,
-    name: &[u8],
+    question: &Question<'_>,
     content: &mut Option<R>,
-    host: Host,
-    order: Order,
     read: &mut u64,
     meter: &mut Meter,
 ) -> Result<&'a [u8], Cause>
     requires none { read.old ≡ 0 }
     ensures chosen { IfOk result (λ kind. IfSome (known_content R.remaining content.old)
-        (λ known. Chooses (plain_database database.entry.now) name.now known host order kind.now)) }
+        (λ known. Chooses (plain_database database.entry.now) question.now.name.now known question.now.host question.now.order kind.now)) }
     ensures read { OnOk result (IfSome (known_content R.remaining content.old)
-        (λ known. read.new ≡ read_of (plain_database database.entry.now) name.now known order)) }
+        (λ known. read.new ≡ read_of (plain_database database.entry.now) question.now.name.now known question.now.order)) }
     ensures causes { IfErr result (λ cause. (cause ≡ Cause.Read) ⊎ (cause ≡ Cause.OutOfMemory)) }
     ensures reader { Reads R.remaining R.tally R.health (read_limit (plain_database database.entry.now))
         content.old content.new read.new result }
-    ensures asks { AsksUnless R.health (globs_suffice (plain_database database.entry.now) name.now order)
+    ensures asks { AsksUnless R.health (globs_suffice (plain_database database.entry.now) question.now.name.now question.now.order)
         content.old content.new result }
     ensures nodes { meter.new.nodes ≡ meter.old.nodes }
 {
-    match order {
+    match question.order {
         Order::GlobsFirst => {
-            let kept = kept_kinds(alloc, database, name, meter)?;
+            let kept = kept_kinds(alloc, database, question.name, meter)?;
             if are_one_type(&kept) {
                 return Ok(kept[0]);
             }
-            let sniffed = sniff_content(alloc, database, content, host, read, meter)?;
+            let sniffed = sniff_content(alloc, database, content, question.host, read, meter)?;
             let kind = choose(alloc, database, &kept, sniffed.kind, meter)?;
             Ok(kind)
         }
         Order::MagicFirst => {
-            let sniffed = sniff_content(alloc, database, content, host, read, meter)?;
+            let sniffed = sniff_content(alloc, database, content, question.host, read, meter)?;
             if sniffed.is_high {
                 return Ok(sniffed.kind);
             }
-            let kept = kept_kinds(alloc, database, name, meter)?;
+            let kept = kept_kinds(alloc, database, question.name, meter)?;
             let kind = choose(alloc, database, &kept, sniffed.kind, meter)?;
             Ok(kind)
         }
@@ -186,11 +163,8 @@ fn sniff_content<'a, R: Content>(
     meter: &mut Meter,
 ) -> Result<Sniffed<'a>, Cause>
     requires none { read.old ≡ 0 }
-    ensures kind { IfOk result (λ found. IfSome (known_content R.remaining content.old)
-        (λ known. found.kind.now ≡ sniffed (plain_database database.entry.now) known host)) }
-    ensures is_high { IfOk result (λ found. IfSome (known_content R.remaining content.old)
-        (λ known. (if found.is_high then Some found.kind.now else None)
-        ≡ before_globs (plain_database database.entry.now) known host Order.MagicFirst)) }
+    ensures sniffed { IfOk result (λ found. IfSome (known_content R.remaining content.old)
+        (λ known. IsSniffed (plain_database database.entry.now) known host found)) }
     ensures read { OnOk result (IfSome (known_content R.remaining content.old)
         (λ known. read.new ≡ front_size (plain_database database.entry.now) known)) }
     ensures causes { IfErr result (λ cause. (cause ≡ Cause.Read) ⊎ (cause ≡ Cause.OutOfMemory)) }

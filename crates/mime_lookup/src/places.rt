@@ -7,7 +7,7 @@ ghost use Rattle.mime_base.specs.Database.Subclass as above;
 ghost use Rattle.mime_base.specs.declared.database.pair.Pair as plain;
 ghost use Rattle.mime_base.specs.Database.Subclass.{resolved};
 ghost use Rattle.mime_lookup.specs.Ancestry.{kinds_of};
-ghost use Rattle.mime_lookup.specs.Places.{IsIndexed, place_in};
+ghost use Rattle.mime_lookup.specs.Places.{ArePlaced, IsPlaced, placed};
 
 use indexmap::IndexMap;
 use mime_base::{OutOfMemory, Pair};
@@ -25,13 +25,21 @@ pub struct Places<'a> {
     pub next: Vec<Option<usize>>,
 }
 
+/// The places of the aliases and of the subclass pairs.
+#[derive(Drop)]
+pub struct PlacedPairs<'a> {
+    /// The aliases.
+    pub aliases: Places<'a>,
+    /// The subclass pairs.
+    pub parents: Places<'a>,
+}
+
 /// The places of some pairs.
 pub fn places_of<'a>(alloc: Global, pairs: &'a [Pair]) -> Result<Places<'a>, OutOfMemory>
     // The places are of these pairs.
     ensures pairs { IfOk result (λ places. places.pairs.now ≡ pairs.entry.now) }
     // Each name has its first place, and each place the next of its name.
-    ensures indexed { IfOk result (λ places.
-        IsIndexed places.pairs.now 0 (place_in places.first) places.next.items) }
+    ensures indexed { IfOk result IsPlaced }
 {
     let mut first = IndexMap::new(alloc);
     let mut next = Vec::new(alloc);
@@ -47,7 +55,7 @@ pub fn places_of<'a>(alloc: Global, pairs: &'a [Pair]) -> Result<Places<'a>, Out
 
 /// A type after one alias step.
 pub fn resolve_at<'a>(aliases: &Places<'a>, kind: &'a [u8]) -> &'a [u8]
-    requires indexed { IsIndexed aliases.now.pairs.now 0 (place_in aliases.now.first) aliases.now.next.items }
+    requires indexed { IsPlaced aliases.now }
     // It is the type after one alias step.
     ensures { result.now ≡ resolved (plain_pairs aliases.now.pairs.now) kind.entry.now }
 {
@@ -68,25 +76,24 @@ fn target_at<'a>(pairs: &'a [Pair], place: usize) -> &'a [u8]
 
 /// Puts the parents of a type at the end of a queue, each after one alias step.
 pub fn push_parents<'a>(
-    aliases: &Places<'a>,
-    parents: &Places<'a>,
+    both: &PlacedPairs<'a>,
     kind: &[u8],
     queue: &mut VecDeque<&'a [u8]>,
 ) -> Result<(), OutOfMemory>
-    requires aliases { IsIndexed aliases.now.pairs.now 0 (place_in aliases.now.first) aliases.now.next.items }
-    requires parents { IsIndexed parents.now.pairs.now 0 (place_in parents.now.first) parents.now.next.items }
+    requires placed { ArePlaced both.now }
     // The parents that the pairs name come to the end of the queue, each after one alias step.
     ensures queue { OnOk result (kinds_of queue.new.items ≡ kinds_of queue.old.items
-        ++ map (resolved (plain_pairs aliases.now.pairs.now)) (above.parents (plain_pairs parents.now.pairs.now) kind.now)) }
+        ++ above.above (placed both.now) kind.now) }
     // The queue is longer by as many.
     ensures longer { OnOk result (deque_len queue.new
-        ≡ deque_len queue.old + length (above.parents (plain_pairs parents.now.pairs.now) kind.now)) }
+        ≡ deque_len queue.old + length (above.parents (placed both.now).parents kind.now)) }
 {
+    let parents = &both.parents;
     let pairs = parents.pairs;
     let mut place = parents.first.get(kind).copied();
     while let Some(here) = place {
         let pair = &pairs[here];
-        queue.push_back(resolve_at(aliases, pair.target.bytes()))?;
+        queue.push_back(resolve_at(&both.aliases, pair.target.bytes()))?;
         place = parents.next[pairs.len() - 1 - here];
     }
     Ok(())

@@ -1,8 +1,9 @@
 //! How the front of a content is read.
 
-ghost use Rattle.std.specs.Prelude.{◌≡◌, ◌≢◌, ◌⊎◌, ◌+◌, ◌-◌, ◌<◌, ◌≤◌, length, OnOk, OnErr, IfErr, IfOk, IsOk, IsErr};
+ghost use Rattle.std.specs.Prelude.{◌≡◌, ◌≢◌, ◌⊎◌, ◌+◌, ◌-◌, ◌<◌, ◌≤◌, length, Some, OnOk, IfErr, IfOk, IsOk, IsErr, MatchResult};
 ghost use Rattle.std.specs.Io.KnownBytes.{Consumes, IsAtEnd, ReadConsumes};
-ghost use Rattle.mime_lookup.specs.Content.{Advances, GivesUp, Retries, Interrupts, broken, sound};
+ghost use Rattle.mime_lookup.specs.Content.{GivesUp, Interrupts, broken, sound};
+ghost use Rattle.mime_lookup.specs.Reads.{Reads};
 
 use crate::content::{Content, ReadFault};
 use crate::stopped::Cause;
@@ -30,20 +31,12 @@ pub fn read_front<R: Content>(
         (length front.items ≡ read.new) × Consumes (R.remaining reader.old) (R.remaining reader.new) front.items) }
     // Where fewer were read than the limit, the content is at its end.
     ensures whole { OnOk result (read.new < limit → IsAtEnd (R.remaining reader.new)) }
-    // Where there is a front, no read failed, and few enough were interrupted.
-    ensures goes { OnOk result (Retries (R.tally reader.old) (R.tally reader.new) 1000) }
-    // It stops for a read only where one failed, or was interrupted once more than is tried again.
-    ensures gives_up { IfErr result (λ cause. cause ≡ Cause.Read → GivesUp (R.tally reader.old) (R.tally reader.new) 1000) }
-    // A reader whose reads all give bytes is never given up.
-    ensures sound { IfErr result (λ cause. cause ≡ Cause.Read → R.health reader.old ≢ sound) }
+    // It reads no more than the limit, tries interrupted reads again, and gives up only where one failed.
+    ensures reader { Reads R.remaining R.tally R.health limit (Some reader.old) (Some reader.new) read.new result }
     // A reader whose reads all fail gives no front, unless nothing is asked.
     ensures broken { OnOk result (0 < limit → R.health reader.old ≢ broken) }
     // It stops only for a read or for memory.
     ensures causes { IfErr result (λ cause. (cause ≡ Cause.Read) ⊎ (cause ≡ Cause.OutOfMemory)) }
-    // The reader gave as many bytes as were read, also where it stops.
-    ensures advances { Advances (R.remaining reader.old) (R.remaining reader.new) read.new }
-    // No more is read than the limit.
-    ensures limit { read.new ≤ limit }
 {
     let mut front = Vec::new(alloc);
     let mut block = [0u8; BLOCK];
@@ -68,12 +61,12 @@ fn read_block<R: Content>(
 ) -> Result<usize, Cause>
     ensures within { IfOk result (λ count. count ≤ length block.new) }
     ensures bytes { ReadConsumes (R.remaining reader.old) (R.remaining reader.new) result block.new }
-    ensures goes { OnOk result (Interrupts (R.tally reader.old) (R.tally reader.new) (retries.old - retries.new)) }
-    ensures gives_up { OnErr result (GivesUp (R.tally reader.old) (R.tally reader.new) retries.old) }
+    ensures tally { MatchResult result
+        (λ _. Interrupts (R.tally reader.old) (R.tally reader.new) (retries.old - retries.new))
+        (λ cause. (cause ≡ Cause.Read) × GivesUp (R.tally reader.old) (R.tally reader.new) retries.old) }
     ensures sound { R.health reader.old ≡ sound → IsOk result × (R.health reader.new ≡ sound) }
     ensures broken { R.health reader.old ≡ broken → IsErr result × (R.health reader.new ≡ broken) }
     ensures fewer { retries.new ≤ retries.old }
-    ensures fault { IfErr result (λ cause. cause ≡ Cause.Read) }
 {
     loop {
         match reader.read_piece(block) {

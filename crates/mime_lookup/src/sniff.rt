@@ -1,11 +1,11 @@
 //! What a content is sniffed as ("Recommended checking order").
 
-ghost use Rattle.std.specs.Prelude.{◌≡◌, Some, None, if◌then◌else◌, option_map};
+ghost use Rattle.std.specs.Prelude.{◌≡◌, Some, option_map};
 ghost use Rattle.mime_base.specs.Database.{plain_database};
 ghost use Rattle.mime_base.specs.Magic.Holds.{first_magic};
 ghost use Rattle.mime_base.specs.Magic.{plain_sections};
-ghost use Rattle.mime_lookup.specs.CheckingOrder.{before_globs};
-ghost use Rattle.mime_lookup.specs.Sniffing.{FrontIsEnough, sniffed, sniffed_by_bytes};
+ghost use Rattle.mime_lookup.specs.CheckingOrder.{IsSniffed};
+ghost use Rattle.mime_lookup.specs.Sniffing.{FrontIsEnough, sniffed_by_bytes};
 
 use crate::fixed::{OCTET_STREAM, TEXT_PLAIN, ZERO_SIZE};
 use crate::order::Order;
@@ -40,11 +40,8 @@ pub fn sniff<'a>(
     host: Host,
     meter: &mut Meter,
 ) -> Sniffed<'a>
-    // The type is what the content is sniffed as.
-    ensures kind { result.kind.now ≡ sniffed (plain_database database.entry.now) (Some content.now) host }
-    // It is of high priority where it comes before the globs if magic is asked first.
-    ensures is_high { (if result.is_high then Some result.kind.now else None)
-        ≡ before_globs (plain_database database.entry.now) (Some content.now) host Order.MagicFirst }
+    // It is what the content is sniffed as.
+    ensures sniffed { IsSniffed (plain_database database.entry.now) (Some content.now) host result }
     // No record of a cache is visited.
     ensures nodes { meter.new.nodes ≡ meter.old.nodes }
 {

@@ -1,6 +1,5 @@
 use Rattle.std.proofs.Common.{◌≡◌, ◌++◌, false, sym, ◌∙◌, arith}
-use Rattle.mime_base.specs.Database.PlainPairs.{plain_pairs}
-use Rattle.mime_lookup.specs.Places.{pairs_at}
+use Rattle.mime_lookup.specs.Places.{placed}
 use Rattle.mime_base.specs.Database.Subclass.{above}
 use Rattle.mime_lookup.specs.Ancestry.{is_one_of, kinds_of}
 use Rattle.mime_lookup.proofs.Marks.{expanded_marked, expanded_new, unmarked-falls}
@@ -9,14 +8,13 @@ use Rattle.mime_lookup.proofs.ancestry.expand.Goals as goal
 
 pub returns-then-is_marked-clause-expanded : goal.returns-then-is_marked-clause-expanded
 returns-then-is_marked-clause-expanded c =
-    expanded_marked (pairs_at c.args.aliases.now.pairs.now c.args.parents.now.pairs.now) c.args.kind.now (kinds_of c.args.marks.now.keys)
+    expanded_marked (placed c.args.both.now) c.args.kind.now (kinds_of c.args.marks.now.keys)
     (kinds_of c.args.queue.now.items)
     (sym c.is_marked.ensures ∙ c.if-is_marked.true)
 
 pub returns-clause-expanded : goal.returns-clause-expanded
-unfolding above
 returns-clause-expanded c =
-    let pairs = pairs_at c.args.aliases.now.pairs.now c.args.parents.now.pairs.now in
+    let pairs = placed c.args.both.now in
     let marks = kinds_of c.args.marks.now.keys in
     let grown : kinds_of c.push_parents.new.queue.items ≡ kinds_of c.args.queue.now.items ++ above pairs c.args.kind.now =
     c.in_ok-push_parents.ensures.queue in
@@ -28,6 +26,6 @@ pub returns-clause-falls : goal.returns-clause-falls
 returns-clause-falls c =
     let marks = kinds_of c.args.marks.now.keys in
     let new : is_one_of marks c.args.kind.now ≡ false = sym c.is_marked.ensures ∙ c.if-is_marked.false in
-    let falls = unmarked-falls (plain_pairs c.args.parents.now.pairs.now) c.args.kind.now marks new in
+    let falls = unmarked-falls (placed c.args.both.now).parents c.args.kind.now marks new in
     let longer = c.in_ok-push_parents.ensures.longer in
     rw (c.in_ok-insert.ensures.keys, mark-more c.args.marks.now.keys c.args.kind new) (omega (arith, falls, longer))

@@ -1,5 +1,5 @@
 use Rattle.std.proofs.Common.{◌≡◌, List, ℕ, drop}
-use Rattle.mime_lookup.specs.Places.{pairs_at}
+use Rattle.mime_lookup.specs.Places.{placed}
 use Rattle.mime_lookup.specs.Ancestry.{NoneLeadsTo, is_one_of, kinds_of}
 use Rattle.mime_lookup.specs.Choice.{IsFirst}
 use Rattle.mime_lookup.proofs.ancestry.first_at.Given as goal
@@ -7,8 +7,8 @@ use Rattle.mime_lookup.proofs.ancestry.first_at.Given as goal
 abbrev pub invariant-loop-kind : goal.invariant-loop-kind
 invariant-loop-kind l = record {
   nodes : l.meter.nodes ≡ l.fn.meter.nodes;
-  settled : NoneLeadsTo (is_one_of (kinds_of l.marks.keys)) (pairs_at l.aliases.pairs.now l.parents.pairs.now) l.base;
+  settled : NoneLeadsTo (is_one_of (kinds_of l.marks.keys)) (placed l.both) l.base;
   rest : (answer : List ℕ) →
-      IsFirst (pairs_at l.aliases.pairs.now l.parents.pairs.now) l.base l.default (kinds_of (drop l.kind-index l.kinds)) answer →
-      IsFirst (pairs_at l.aliases.pairs.now l.parents.pairs.now) l.base l.default (kinds_of l.kinds) answer;
+      IsFirst (placed l.both) l.base l.default (kinds_of (drop l.kind-index l.kinds)) answer →
+      IsFirst (placed l.both) l.base l.default (kinds_of l.kinds) answer;
 }

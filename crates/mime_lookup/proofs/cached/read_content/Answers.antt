@@ -34,7 +34,7 @@ returns-clause-front g c =
       enough = λ b magic.
           let limit = limit-stated b _ _ c.max-limit.ensures
           (c.in_ok-extent.ensures.answer magic.offsets b.sections magic.header magic.magic) in
-          let limited : length front ≤ read_limit b = omega (arith, read.front.0, c.read_front.ensures.limit, limit) in
+          let limited : length front ≤ read_limit b = omega (arith, read.front.0, c.read_front.ensures.reader.within, limit) in
           enough_read b _ _ front read.front.1 limited (λ short. read.whole (omega (arith, short, read.front.0, limit)));
       size = sym read.front.0;
       absent = λ none. absurd cc;

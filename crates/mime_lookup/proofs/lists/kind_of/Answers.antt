@@ -1,8 +1,9 @@
 use Rattle.std.proofs.Common.{◌≡◌, ◌∙◌, ℕ, true, false, List, [], ap, sym}
+use Rattle.std.proofs.lemmas.Option.{IfSome_then}
 use denote.Bor.{Bor}
 use Rattle.mime_base.specs.Database.{pairs_of, plain_database}
 use Rattle.mime_lookup.specs.Ancestry.{kinds_of}
-use Rattle.mime_lookup.specs.CheckingOrder.{are_one_type, read_limit}
+use Rattle.mime_lookup.specs.CheckingOrder.{IsSniffed, are_one_type, read_limit}
 use Rattle.mime_lookup.specs.Choice.{ChoosesAmong}
 use Rattle.mime_lookup.proofs.Answering.{by_globs, by_globs_and_content, by_magic, by_magic_and_globs, first_text}
 use Rattle.mime_lookup.proofs.Answering.{read_first, read_front, read_none, suffice, suffice_not}
@@ -13,7 +14,7 @@ pub returns-then-are_one_type-clause-chosen : goal.returns-then-are_one_type-cla
 returns-then-are_one_type-clause-chosen g c =
     let kept = c.in_ok-kept-in-GlobsFirst.kept.items in
     let one : are_one_type (kinds_of kept) ≡ true = rw c.deref.ensures.value at (sym c.are_one_type.ensures ∙ c.if-are_one_type.true) in
-    by_globs (plain_database c.args.database.now) c.args.name.now c.args.host c.args.order c.in-GlobsFirst.is (kinds_of kept)
+    by_globs (plain_database c.args.database.now) c.args.question.now.name.now c.args.question.now.host c.args.question.now.order c.in-GlobsFirst.is (kinds_of kept)
     c.in_ok-kept-in-GlobsFirst.ensures.kept _ _ one
     (ap (λ (text : Bor (List ℕ)). text.now) c.index.ensures ∙ first_text kept c.index.result.now one)
 
@@ -21,7 +22,7 @@ pub returns-then-are_one_type-clause-read : goal.returns-then-are_one_type-claus
 returns-then-are_one_type-clause-read g c =
     let kinds = kinds_of c.in_ok-kept-in-GlobsFirst.kept.items in
     let one : are_one_type kinds ≡ true = rw c.deref.ensures.value at (sym c.are_one_type.ensures ∙ c.if-are_one_type.true) in
-    read_none (plain_database c.args.database.now) c.args.name.now c.args.host c.args.order c.in-GlobsFirst.is kinds
+    read_none (plain_database c.args.database.now) c.args.question.now.name.now c.args.question.now.host c.args.question.now.order c.in-GlobsFirst.is kinds
     c.in_ok-kept-in-GlobsFirst.ensures.kept _ _ one c.requires.none
 
 pub returns-then-are_one_type-clause-reader : goal.returns-then-are_one_type-clause-reader
@@ -34,7 +35,7 @@ returns-then-are_one_type-clause-asks g c =
     let kinds = kinds_of c.in_ok-kept-in-GlobsFirst.kept.items in
     let one : are_one_type kinds ≡ true = rw c.deref.ensures.value at (sym c.are_one_type.ensures ∙ c.if-are_one_type.true) in
     asks_nothing g.R.Content.health _ c.args.content.now _
-    (suffice (plain_database c.args.database.now) c.args.name.now c.args.host c.args.order c.in-GlobsFirst.is kinds
+    (suffice (plain_database c.args.database.now) c.args.question.now.name.now c.args.question.now.host c.args.question.now.order c.in-GlobsFirst.is kinds
     c.in_ok-kept-in-GlobsFirst.ensures.kept true one)
 
 pub returns-in_err-sniffed-in-GlobsFirst-clause-reader :
@@ -52,7 +53,7 @@ returns-in_err-sniffed-in-GlobsFirst-clause-asks g c =
     let conflict : are_one_type kinds ≡ false = rw c.deref.ensures.value at (sym c.are_one_type.ensures ∙ c.if-are_one_type.false) in
     asks_stopped g.R.Content.health _ c.args.content.now c.sniff_content.new.content c.in_err-sniffed-in-GlobsFirst.field-0.0
     c.from_residual-in_err-sniffed-in-GlobsFirst.result
-    (suffice (plain_database c.args.database.now) c.args.name.now c.args.host c.args.order c.in-GlobsFirst.is kinds
+    (suffice (plain_database c.args.database.now) c.args.question.now.name.now c.args.question.now.host c.args.question.now.order c.in-GlobsFirst.is kinds
     c.in_ok-kept-in-GlobsFirst.ensures.kept false conflict)
     c.from_residual-in_err-sniffed-in-GlobsFirst.ensures.1 c.in_err-sniffed-in-GlobsFirst.ensures.asks
 
@@ -69,18 +70,19 @@ pub returns-in_err-sniffed-in-MagicFirst-clause-asks :
 returns-in_err-sniffed-in-MagicFirst-clause-asks g c =
     asks_stopped g.R.Content.health _ c.args.content.now c.sniff_content-in-MagicFirst.new.content
     c.in_err-sniffed-in-MagicFirst.field-0.0 c.from_residual-in_err-sniffed-in-MagicFirst.result
-    (suffice_not (plain_database c.args.database.now) c.args.name.now c.args.host c.args.order c.in-MagicFirst.is [] true)
+    (suffice_not (plain_database c.args.database.now) c.args.question.now.name.now c.args.question.now.host c.args.question.now.order c.in-MagicFirst.is [] true)
     c.from_residual-in_err-sniffed-in-MagicFirst.ensures.1 c.in_err-sniffed-in-MagicFirst.ensures.asks
 
 pub returns-then-sniffed-clause-chosen : goal.returns-then-sniffed-clause-chosen
 returns-then-sniffed-clause-chosen g c =
-    by_magic (plain_database c.args.database.now) c.args.name.now c.args.host c.args.order c.in-MagicFirst.is
+    by_magic (plain_database c.args.database.now) c.args.question.now.name.now c.args.question.now.host c.args.question.now.order c.in-MagicFirst.is
     c.in_ok-sniffed-in-MagicFirst.sniffed.kind.now c.in_ok-sniffed-in-MagicFirst.sniffed.is_high _ c.if-sniffed.true
-    c.in_ok-sniffed-in-MagicFirst.ensures.is_high
+    (IfSome_then _ c.in_ok-sniffed-in-MagicFirst.ensures.sniffed
+    (λ known (is : IsSniffed (plain_database c.args.database.now) known c.args.question.now.host c.in_ok-sniffed-in-MagicFirst.sniffed). is.high))
 
 pub returns-then-sniffed-clause-read : goal.returns-then-sniffed-clause-read
 returns-then-sniffed-clause-read g c =
-    read_first (plain_database c.args.database.now) c.args.name.now c.args.host c.args.order c.in-MagicFirst.is [] true _ _
+    read_first (plain_database c.args.database.now) c.args.question.now.name.now c.args.question.now.host c.args.question.now.order c.in-MagicFirst.is [] true _ _
     c.in_ok-sniffed-in-MagicFirst.ensures.read
 
 pub returns-in_ok-kind-in-GlobsFirst-clause-chosen :
@@ -92,15 +94,17 @@ returns-in_ok-kind-in-GlobsFirst-clause-chosen g c =
     let kind = c.in_ok-kind-in-GlobsFirst.kind.now in
     let chosen : ChoosesAmong (pairs_of b) kinds found kind =
     rw c.deref-in-GlobsFirst.ensures.value at c.in_ok-kind-in-GlobsFirst.ensures.chosen in
-    by_globs_and_content b c.args.name.now c.args.host c.args.order c.in-GlobsFirst.is kinds
-    c.in_ok-kept-in-GlobsFirst.ensures.kept _ found kind c.in_ok-sniffed-in-GlobsFirst.ensures.kind chosen
+    by_globs_and_content b c.args.question.now.name.now c.args.question.now.host c.args.question.now.order c.in-GlobsFirst.is kinds
+    c.in_ok-kept-in-GlobsFirst.ensures.kept _ found kind
+    (IfSome_then _ c.in_ok-sniffed-in-GlobsFirst.ensures.sniffed
+    (λ known (is : IsSniffed (plain_database c.args.database.now) known c.args.question.now.host c.in_ok-sniffed-in-GlobsFirst.sniffed). is.kind)) chosen
 
 pub returns-in_ok-kind-in-GlobsFirst-clause-read :
     goal.returns-in_ok-kind-in-GlobsFirst-clause-read
 returns-in_ok-kind-in-GlobsFirst-clause-read g c =
     let kinds = kinds_of c.in_ok-kept-in-GlobsFirst.kept.items in
     let conflict : are_one_type kinds ≡ false = rw c.deref.ensures.value at (sym c.are_one_type.ensures ∙ c.if-are_one_type.false) in
-    read_front (plain_database c.args.database.now) c.args.name.now c.args.host c.args.order c.in-GlobsFirst.is kinds
+    read_front (plain_database c.args.database.now) c.args.question.now.name.now c.args.question.now.host c.args.question.now.order c.in-GlobsFirst.is kinds
     c.in_ok-kept-in-GlobsFirst.ensures.kept _ _ conflict c.in_ok-sniffed-in-GlobsFirst.ensures.read
 
 pub returns-in_ok-kind-in-MagicFirst-clause-chosen :
@@ -112,12 +116,15 @@ returns-in_ok-kind-in-MagicFirst-clause-chosen g c =
     let kind = c.in_ok-kind-in-MagicFirst.kind.now in
     let chosen : ChoosesAmong (pairs_of b) kinds sniffed.kind.now kind =
     rw c.deref-in-MagicFirst.ensures.value at c.in_ok-kind-in-MagicFirst.ensures.chosen in
-    by_magic_and_globs b c.args.name.now c.args.host c.args.order c.in-MagicFirst.is sniffed.kind.now sniffed.is_high _ kinds kind
-    c.in_ok-kept-in-MagicFirst.ensures.kept c.if-sniffed.false c.in_ok-sniffed-in-MagicFirst.ensures.is_high
-    c.in_ok-sniffed-in-MagicFirst.ensures.kind chosen
+    by_magic_and_globs b c.args.question.now.name.now c.args.question.now.host c.args.question.now.order c.in-MagicFirst.is sniffed.kind.now sniffed.is_high _ kinds kind
+    c.in_ok-kept-in-MagicFirst.ensures.kept c.if-sniffed.false
+    (IfSome_then _ c.in_ok-sniffed-in-MagicFirst.ensures.sniffed
+    (λ known (is : IsSniffed (plain_database c.args.database.now) known c.args.question.now.host c.in_ok-sniffed-in-MagicFirst.sniffed). is.high))
+    (IfSome_then _ c.in_ok-sniffed-in-MagicFirst.ensures.sniffed
+    (λ known (is : IsSniffed (plain_database c.args.database.now) known c.args.question.now.host c.in_ok-sniffed-in-MagicFirst.sniffed). is.kind)) chosen
 
 pub returns-in_ok-kind-in-MagicFirst-clause-read :
     goal.returns-in_ok-kind-in-MagicFirst-clause-read
 returns-in_ok-kind-in-MagicFirst-clause-read g c =
-    read_first (plain_database c.args.database.now) c.args.name.now c.args.host c.args.order c.in-MagicFirst.is [] true _ _
+    read_first (plain_database c.args.database.now) c.args.question.now.name.now c.args.question.now.host c.args.question.now.order c.in-MagicFirst.is [] true _ _
     c.in_ok-sniffed-in-MagicFirst.ensures.read

@@ -2,7 +2,7 @@ use Rattle.std.proofs.Common.{◌≡◌, ◌+◌, ◌-◌, ◌<◌, ◌∙◌, �
 use Rattle.std.proofs.lemmas.List.{get_or_default, map-append}
 use Rattle.std.specs.VecDeque.{deque_len}
 use Rattle.mime_base.specs.Database.PlainPairs.{plain_pairs}
-use Rattle.mime_base.specs.Database.Subclass.{resolved}
+use Rattle.mime_base.specs.Database.Subclass.{above, resolved}
 use Rattle.mime_lookup.specs.Ancestry.{kinds_of}
 use Rattle.mime_lookup.specs.Places.{IsNext, place_in}
 use Rattle.mime_lookup.proofs.Walks.{Walked, places_left-falls, walked-all, walked-first, walked-more}
@@ -10,10 +10,10 @@ use Rattle.mime_lookup.proofs.places.push_parents.Goals as goal
 
 pub loop-place-init : goal.loop-place-init
 loop-place-init c =
-    walked-first c.args.parents.now.pairs.now (resolved (plain_pairs c.args.aliases.now.pairs.now)) c.args.kind.now
+    walked-first c.args.both.now.parents.pairs.now (resolved (plain_pairs c.args.both.now.aliases.pairs.now)) c.args.kind.now
     (kinds_of c.args.queue.now.items) (deque_len c.args.queue.now) c.copied-place.result
-    (subst (IsNext c.args.parents.now.pairs.now c.args.kind.now 0) (sym (c.copied-place.ensures ∙ c.get.ensures.value))
-    (c.requires.parents.firsts c.args.kind.now))
+    (subst (IsNext c.args.both.now.parents.pairs.now c.args.kind.now 0) (sym (c.copied-place.ensures ∙ c.get.ensures.value))
+    (c.requires.placed.parents.firsts c.args.kind.now))
 
 pub bounds-pairs-here : goal.bounds-pairs-here
 bounds-pairs-here c = let at = rw c.in-Some.is at c.loop-place.invariant in at.next.1
@@ -27,30 +27,30 @@ overflow_sub-pairs-in-Some c = let at = rw c.in-Some.is at c.loop-place.invarian
 pub index-place-requires : goal.index-place-requires
 index-place-requires c =
     let at = rw c.in-Some.is at c.loop-place.invariant in
-    omega (arith, at.next.1, c.requires.parents.size, c.args.parents.now.next.ok.0)
+    omega (arith, at.next.1, c.requires.placed.parents.size, c.args.both.now.parents.next.ok.0)
 
 pub loop-place-smaller : goal.loop-place-smaller
 loop-place-smaller c =
-    let pairs = c.args.parents.now.pairs.now in
-    let next = c.args.parents.now.next.items in
+    let pairs = c.args.both.now.parents.pairs.now in
+    let next = c.args.both.now.parents.next.items in
     let here = c.in-Some.here in
     let k = length pairs - 1 - here in
     let at = rw c.in-Some.is at c.loop-place.invariant in
-    let inside : k < length next = omega (arith, at.next.1, c.requires.parents.size) in
+    let inside : k < length next = omega (arith, at.next.1, c.requires.placed.parents.size) in
     let size : k + (here + 1) ≡ length pairs = omega (arith, at.next.1) in
     rw (c.in-Some.is, c.index-place.ensures, get_or_default next k c.index-place.result.now None inside)
     (places_left-falls pairs c.index-pairs-here.result.name here (get_or next k None) at.next.1
-    (c.requires.parents.nexts here k c.index-pairs-here.result (omega arith) size c.index-pairs-here.is))
+    (c.requires.placed.parents.nexts here k c.index-pairs-here.result (omega arith) size c.index-pairs-here.is))
 
 pub loop-place-preserved : goal.loop-place-preserved
 loop-place-preserved c =
-    let pairs = c.args.parents.now.pairs.now in
-    let step = resolved (plain_pairs c.args.aliases.now.pairs.now) in
-    let next = c.args.parents.now.next.items in
+    let pairs = c.args.both.now.parents.pairs.now in
+    let step = resolved (plain_pairs c.args.both.now.aliases.pairs.now) in
+    let next = c.args.both.now.parents.next.items in
     let here = c.in-Some.here in
     let k = length pairs - 1 - here in
     let at = rw c.in-Some.is at c.loop-place.invariant in
-    let inside : k < length next = omega (arith, at.next.1, c.requires.parents.size) in
+    let inside : k < length next = omega (arith, at.next.1, c.requires.placed.parents.size) in
     let size : k + (here + 1) ≡ length pairs = omega (arith, at.next.1) in
     let value : c.index-place.result.now ≡ get_or next k None =
     c.index-place.ensures ∙ get_or_default next k c.index-place.result.now None inside in
@@ -59,17 +59,18 @@ loop-place-preserved c =
     (kinds_of c.args.queue.now.items) (deque_len c.push_back.new.self) (deque_len c.args.queue.now)) (sym value)
     (walked-more pairs step c.args.kind.now (kinds_of c.args.queue.now.items) (deque_len c.args.queue.now) here c.index-pairs-here.result
     c.index-pairs-here.is (kinds_of c.loop-place.queue.items) c.resolve_at.result.now (deque_len c.loop-place.queue)
-    (deque_len c.push_back.new.self) (place_in c.args.parents.now.first) next k at c.requires.parents size
+    (deque_len c.push_back.new.self) (place_in c.args.both.now.parents.first) next k at c.requires.placed.parents size
     (c.resolve_at.ensures ∙ ap step c.bytes.ensures.text) (omega (arith, c.in_ok-push_back.ensures.len))))
 
 pub returns-clause-queue : goal.returns-clause-queue
+unfolding above
 returns-clause-queue c =
     let at = rw c.in_default.is at c.loop-place.invariant in
-    (walked-all c.args.parents.now.pairs.now (resolved (plain_pairs c.args.aliases.now.pairs.now)) c.args.kind.now
+    (walked-all c.args.both.now.parents.pairs.now (resolved (plain_pairs c.args.both.now.aliases.pairs.now)) c.args.kind.now
     (kinds_of c.args.queue.now.items) (deque_len c.args.queue.now) (kinds_of c.loop-place.queue.items) (deque_len c.loop-place.queue) at).0
 
 pub returns-clause-longer : goal.returns-clause-longer
 returns-clause-longer c =
     let at = rw c.in_default.is at c.loop-place.invariant in
-    (walked-all c.args.parents.now.pairs.now (resolved (plain_pairs c.args.aliases.now.pairs.now)) c.args.kind.now
+    (walked-all c.args.both.now.parents.pairs.now (resolved (plain_pairs c.args.both.now.aliases.pairs.now)) c.args.kind.now
     (kinds_of c.args.queue.now.items) (deque_len c.args.queue.now) (kinds_of c.loop-place.queue.items) (deque_len c.loop-place.queue) at).1

@@ -8,7 +8,7 @@ use Rattle.mime_lookup.proofs.places.push_parents.Given as goal
 
 abbrev pub invariant-loop-place : goal.invariant-loop-place
 invariant-loop-place l =
-    Walked l.pairs (resolved (plain_pairs l.aliases.pairs.now)) l.kind l.place (kinds_of l.queue.items)
+    Walked l.pairs (resolved (plain_pairs l.both.aliases.pairs.now)) l.kind l.place (kinds_of l.queue.items)
     (kinds_of l.initial.queue.items) (deque_len l.queue) (deque_len l.initial.queue)
 
 abbrev pub decreases-loop-place : goal.decreases-loop-place
