@@ -22,7 +22,7 @@ mod SectionsLeft
 mod StandingValues
 mod MagicLists
 mod Spelled
-mod Costs
+pub mod Costs
 mod Charges
 mod OffersLemmas
 mod Steps

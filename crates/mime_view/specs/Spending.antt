@@ -2,9 +2,14 @@
 use Rattle.std.specs.Prelude.{◌≡◌, ℕ, ◌+◌, ◌*◌, ◌≤◌, Result, IfErr, IfOk}
 use Rattle.mime_base.specs.Meter.{raised}
 use Rattle.mime_base.specs.declared.meter.Meter.{Meter}
+use Rattle.mime_view.specs.declared.budget.Budget.{Budget}
 use Rattle.mime_view.specs.declared.fault.CacheFault.{CacheFault}
 use Rattle.mime_view.specs.declared.fault.CacheFault.TheVariants.{OutOfMemory}
 use Rattle.mime_view.specs.declared.spending.Spending.{Spending}
+
+-- a meter and a budget as one value
+abbrev pub spending_of : Meter → Budget → Spending
+spending_of meter budget = record { meter = meter; budget = budget }
 
 -- What is paid at most for a record of the budget, in nodes and in bytes, and for a value byte, in bytes.
 pub record Price : Type 0 where

@@ -22,7 +22,7 @@ use crate::cached::by_name::Candidates;
 use crate::cached::kept::{Kept, keep};
 use crate::cached::sniff::{Finding, is_high, resolve, sniff_front};
 use mime_base::{Host, Meter};
-use mime_view::{Budget, Cache, CacheFault};
+use mime_view::{Budget, Cache, CacheFault, Spending};
 use std::alloc::Global;
 
 /// The type that a front of a content gives, after the name; `None` is content that is not available.
@@ -132,6 +132,13 @@ fn choose<'a>(
     if kept.is_empty() {
         return Ok(base);
     }
-    let kind = first_of(alloc, cache, kept, kept[0], base, meter, budget)?;
+    let mut spending = Spending {
+        meter: *meter,
+        budget: *budget,
+    };
+    let chosen = first_of(alloc, cache, kept, kept[0], base, &mut spending);
+    *meter = spending.meter;
+    *budget = spending.budget;
+    let kind = chosen?;
     Ok(kind)
 }
