@@ -1,32 +1,25 @@
 -- What a look at the icons of a type promises over a cache of any bytes, and what C gets of it.
-use Rattle.std.specs.Prelude.{◌≡◌, ◌≢◌, ◌⊎◌, ◌++◌, ℕ, ◌<◌, ◌≤◌, true, false, List, length, drop, Result, Ok, Err}
-use Rattle.std.specs.Prelude.{IfErr, IfOk, IsErrAnd, MatchResult, OnOk}
+use Rattle.std.specs.Prelude.{◌≡◌, ◌⊎◌, ◌++◌, ℕ, ◌<◌, ◌≤◌, true, false, List, length, drop, Result, Ok, Err}
+use Rattle.std.specs.Prelude.{IfErr, IfOk, MatchResult, OnOk}
 use Rattle.mime_base.specs.Database.{PlainDatabase}
 use Rattle.mime_base.specs.Names.{is_type_name}
 use Rattle.mime_c.specs.Report.{IsStatusAlone, IsStopReport, status_report}
 use Rattle.mime_c.specs.Status.{status_answered, status_not_a_type, status_out_of_memory, status_short_buffer}
 use Rattle.mime_c.specs.declared.icons.IconLengths.{IconLengths}
 use Rattle.mime_c.specs.declared.report.Report.{Report}
+use Rattle.mime_lookup.specs.Asking.{StopsAsking}
 use Rattle.mime_lookup.specs.Bounds.{KeepsBounds}
 use Rattle.mime_lookup.specs.Icons.{HasIconLists, icons_of, plain_icons_of}
 use Rattle.mime_lookup.specs.Spelling.{SpellsIcons}
 use Rattle.mime_lookup.specs.StepFaults.{IsIconFault}
 use Rattle.mime_lookup.specs.declared.cached.icons.Icons.{Icons}
-use Rattle.mime_lookup.specs.declared.stopped.Cause.TheVariants as cause
 use Rattle.mime_lookup.specs.declared.stopped.Stopped.{Stopped}
-use Rattle.mime_view.specs.Opening.{IsOpenFault, Opens}
-use Rattle.mime_view.specs.declared.fault.CacheFault.{CacheFault}
-use Rattle.mime_view.specs.declared.fault.CacheFault.TheVariants as fault
 
 -- all that is promised of the icons of a type
 pub record IsIcons (c kind : List ℕ) (result : Result Icons Stopped) : Type 0 where
   pub answer : (b : PlainDatabase) → SpellsIcons c b → IfOk result (λ icons. plain_icons_of icons ≡ icons_of b kind)
   pub lists : OnOk result (HasIconLists c)
-  pub opened : OnOk result (Opens c)
-  pub unopened : (e : CacheFault) → IsOpenFault c e → IsErrAnd result (λ stopped. stopped.cause ≡ cause.Cache e)
-  pub need : (b : PlainDatabase) → SpellsIcons c b → length c ≤ 268435456 → IfErr result (λ stopped. stopped.cause ≡ cause.OutOfMemory)
-  pub fault : IfErr result (λ stopped. (stopped.cause ≡ cause.OutOfMemory)
-      ⊎ ((e : CacheFault) × (stopped.cause ≡ cause.Cache e) × (e ≢ fault.OutOfMemory) × IsIconFault c e))
+  pub stops : StopsAsking (λ stopped. stopped.cause) c (IsIconFault c) (SpellsIcons c) result
   pub read : IfErr result (λ stopped. stopped.read ≡ 0)
   pub bounds : MatchResult result (λ icons. KeepsBounds 0 c 0 icons.meter) (λ stopped. KeepsBounds 0 c 0 stopped.meter)
 

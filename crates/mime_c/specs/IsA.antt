@@ -1,6 +1,6 @@
 -- What a search for a subclass promises over a cache of any bytes, and what C gets of it.
-use Rattle.std.specs.Prelude.{◌≡◌, ◌≢◌, ◌⊎◌, ◌↔◌, ◌/◌, ℕ, ◌<◌, ◌≤◌, Bool, true, false, IsTrue, List, length, Result, Ok, Err}
-use Rattle.std.specs.Prelude.{IfErr, IfOk, IsErrAnd, MatchResult, OnOk}
+use Rattle.std.specs.Prelude.{◌≡◌, ◌⊎◌, ◌↔◌, ◌/◌, ℕ, ◌<◌, Bool, true, false, IsTrue, List, length, Result, Ok, Err}
+use Rattle.std.specs.Prelude.{IfErr, IfOk, MatchResult}
 use Rattle.mime_base.specs.Database.{PlainDatabase, pairs_of}
 use Rattle.mime_base.specs.Database.Subclass.{IsA, resolved}
 use Rattle.mime_base.specs.Format.Packed.{Packed}
@@ -9,27 +9,21 @@ use Rattle.mime_base.specs.declared.meter.Meter.{Meter}
 use Rattle.mime_c.specs.Report.{IsStatusAlone, IsStopReport, status_report}
 use Rattle.mime_c.specs.Status.{status_answered, status_not_a_type, status_out_of_memory}
 use Rattle.mime_c.specs.declared.report.Report.{Report}
+use Rattle.mime_lookup.specs.Asking.{StopsAsking}
 use Rattle.mime_lookup.specs.Bounds.{KeepsBounds}
 use Rattle.mime_lookup.specs.Spelling.{SpellsPairs}
 use Rattle.mime_lookup.specs.StepFaults.{IsLookUpFault}
 use Rattle.mime_lookup.specs.declared.stopped.Cause.TheVariants as cause
 use Rattle.mime_lookup.specs.declared.stopped.Stopped.{Stopped}
-use Rattle.mime_view.specs.Opening.{IsOpenFault, Opens}
-use Rattle.mime_view.specs.declared.fault.CacheFault.{CacheFault}
-use Rattle.mime_view.specs.declared.fault.CacheFault.TheVariants.{OutOfMemory, Spent}
+use Rattle.mime_view.specs.declared.fault.CacheFault.TheVariants.{Spent}
 
 -- all that is promised of whether one type is another
 pub record IsIsA (c kind base : List ℕ) (result : Result (Bool × Meter) Stopped) : Type 0 where
   pub answer : (b : PlainDatabase) → SpellsPairs c b → IfOk result
       (λ found. IsTrue found.0 ↔ IsA (pairs_of b) (resolved b.aliases kind) (resolved b.aliases base))
-  pub opened : OnOk result (Opens c)
-  pub unopened : (e : CacheFault) → IsOpenFault c e → IsErrAnd result (λ stopped. stopped.cause ≡ cause.Cache e)
-  pub need : (b : PlainDatabase) → SpellsPairs c b → length c ≤ 268435456 → Packed c b →
-      IfErr result (λ stopped. stopped.cause ≡ cause.OutOfMemory)
-  pub fault : IfErr result (λ stopped. (stopped.cause ≡ cause.OutOfMemory)
-      ⊎ ((e : CacheFault) × (stopped.cause ≡ cause.Cache e) × (e ≢ OutOfMemory) × IsLookUpFault c e))
-  pub read : IfErr result (λ stopped. stopped.read ≡ 0)
+  pub stops : StopsAsking (λ stopped. stopped.cause) c (IsLookUpFault c) (λ b. SpellsPairs c b × Packed c b) result
   pub spent : IfErr result (λ stopped. stopped.cause ≡ cause.Cache Spent → length c / 4 < stopped.meter.nodes)
+  pub read : IfErr result (λ stopped. stopped.read ≡ 0)
   pub bounds : MatchResult result (λ found. KeepsBounds 0 c 0 found.1) (λ stopped. KeepsBounds 0 c 0 stopped.meter)
 
 -- an answer goes out; where the search stopped, what was there stays

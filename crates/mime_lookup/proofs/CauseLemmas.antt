@@ -1,17 +1,11 @@
 -- Why a call over a cache stops, by the fault of the cache.
-use Rattle.std.proofs.Common.{◌≡◌, ◌⊎◌, refl, inl, inr}
-use Rattle.std.specs.Prelude.{◌≢◌}
+use Rattle.std.proofs.Common.{◌≡◌, refl, inl, inr}
+use Rattle.mime_lookup.specs.Asking.{IsCaused}
 use Rattle.mime_lookup.specs.Cached.{cause_of}
-use Rattle.mime_lookup.specs.declared.stopped.Cause.{Cause}
 use Rattle.mime_lookup.specs.declared.stopped.Cause.TheVariants as cause
 use Rattle.mime_view.specs.declared.fault.CacheFault.{CacheFault}
 use Rattle.mime_view.specs.declared.fault.CacheFault.TheVariants.{Truncated, Version, TooLarge, OutOfRange}
 use Rattle.mime_view.specs.declared.fault.CacheFault.TheVariants.{LongText, Spent, TooDeep, OutOfMemory}
-
--- an allocation was refused, or the cache has such a fault
-abbrev pub IsCaused : (CacheFault → Type 0) → Cause → Type 0
-IsCaused IsFault stop =
-    (stop ≡ cause.OutOfMemory) ⊎ ((e : CacheFault) × (stop ≡ cause.Cache e) × (e ≢ OutOfMemory) × IsFault e)
 
 -- why a call stops for a fault
 pub caused : (IsFault : CacheFault → Type 0) (e : CacheFault) → IsFault e → IsCaused IsFault (cause_of e)

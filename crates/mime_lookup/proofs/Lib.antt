@@ -28,6 +28,7 @@ pub mod ParentSteps
 pub mod PairsLeft
 pub mod Queues
 pub mod SearchCosts
+mod Askings
 pub mod MagicFirst
 pub mod BoundLemmas
 pub mod NearLemmas

@@ -1,12 +1,12 @@
 -- An answer of the parent list: what it gives, and which types are marked after it.
 use Rattle.std.proofs.Common.{◌≡◌, ◌⊎◌, ℕ, Bool, true, false, IsTrue, List, [], ◌++◌, map}
 use Rattle.std.proofs.Common.{refl, sym, ap, inl, inr, ⊎_elim, ◌∙◌, Option, None, Some}
-use Rattle.std.specs.Prelude.{MatchOption, IfSome}
 use Rattle.std.proofs.lemmas.Bool.{cases_Bool}
 use Rattle.mime_base.specs.Database.Subclass.{Pairs, above, parents, resolved}
 use Rattle.mime_lookup.specs.Ancestry.{Expanded}
-use Rattle.mime_view.specs.Parents.{IsGiven, IsRead, has_place, is_marked, unmarked_parents, with_place}
+use Rattle.mime_view.specs.Parents.{IsGiven, TakesParents, is_marked, unmarked_parents}
 use Rattle.mime_view.specs.declared.parents.Parents.{Parents}
+use Rattle.mime_view.specs.declared.spending.Spending.{Spending}
 use Rattle.mime_lookup.proofs.PlaceMarks.{marked_here, marked_now, marked_others, marked_still}
 
 -- a type was asked for its parents: what was due came, and it alone is marked besides
@@ -29,18 +29,17 @@ no_parents pairs kind false none = sym none
 
 -- an answer, of any bytes and of the pairs that stand
 pub asked : (c : List ℕ) (at : ℕ) (pairs : List (List ℕ × List ℕ)) (kinds : List (List ℕ)) (kind marks after : List ℕ)
-    (found : Option Parents) → IsGiven pairs kinds (is_marked c at marks kind) kind found
-    → IfSome found (IsRead c at marks kind)
-    → MatchOption found (after ≡ marks) (λ parents. (has_place marks parents.entry ≡ true) × (after ≡ marks)
-    ⊎ (has_place marks parents.entry ≡ false) × (after ≡ with_place marks parents.entry))
+    (old new : Spending) (found : Option Parents) → IsGiven pairs kinds (is_marked c at marks kind) kind found
+    → TakesParents c at kind old new marks after found
     → Asked pairs kind (is_marked c at marks) (is_marked c at after) (came found)
-asked c at pairs kinds kind marks after None given read same = record {
+asked c at pairs kinds kind marks after old new None given taken = record {
   due = no_parents pairs kind (is_marked c at marks kind) given.1;
-  kept = λ x is. rw same is;
-  others = λ x is. inl (rw same at is);
+  kept = λ x is. rw taken.marked is;
+  others = λ x is. inl (rw taken.marked at is);
   itself = inl refl;
 }
-asked c at pairs kinds kind marks after (Some found) given read cases =
+asked c at pairs kinds kind marks after before now (Some found) given taken =
+    let read = taken.read in
     ⊎_elim
     (λ old. record {
       due = given.2;
@@ -54,7 +53,7 @@ asked c at pairs kinds kind marks after (Some found) given read cases =
       others = λ x is. marked_others c at marks kind found.entry read.entry new.0 x (rw new.1 at is);
       itself = inr (rw new.1 (marked_now c at marks kind found.entry read.entry new.0));
     })
-    cases
+    taken.marked
 
 -- what came, each after one alias step and put at the end of the queue, expands the type
 pub expanded_by : (pairs : Pairs) (kind : List ℕ) (before after : List ℕ → Bool) (came queue queue_after : List (List ℕ))

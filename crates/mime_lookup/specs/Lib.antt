@@ -16,6 +16,7 @@ pub mod Cached
 pub mod Icons
 pub mod Affords
 pub mod Searching
+pub mod Asking
 pub mod Headline
 pub mod Spent
 pub mod Steps

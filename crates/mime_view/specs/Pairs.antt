@@ -1,5 +1,5 @@
 -- Lists of two names an entry, as they are read: aliases with their types, and types with their icons.
-use Rattle.std.specs.Prelude.{◌≡◌, ℕ, ◌+◌, ◌*◌, ◌≤◌, List, [], ◌∷◌, length, map, Option, None, Some, IfSome, Ok, if◌then◌else◌, bytes_eq}
+use Rattle.std.specs.Prelude.{◌≡◌, ◌⊎◌, ℕ, ◌+◌, ◌*◌, ◌≤◌, List, [], ◌∷◌, length, map, Option, None, Some, IfSome, Ok, if◌then◌else◌, bytes_eq}
 use Rattle.std.specs.Borrow.{Bor}
 use Rattle.mime_base.specs.Cache.Bytes.{field}
 use Rattle.mime_base.specs.Cache.Texts.{text_at}
@@ -29,3 +29,10 @@ pub record IsSecondName (c : List ℕ) (at : ℕ) (name : Option (Bor (List ℕ)
   pub inside : LiesList c at 8
   -- What is given, if anything is, is a text of the cache.
   pub text : IfSome name (λ text. (place : ℕ) × (text_at c place ≡ Ok text.now))
+
+-- What an alias step gives for a name, by the list at `at`, on any bytes.
+pub record IsUnaliased (c : List ℕ) (at : ℕ) (kind name : List ℕ) : Type 0 where
+  -- The list lies in the cache.
+  pub inside : LiesList c at 8
+  -- It is the name itself, or a text of the cache.
+  pub text : (name ≡ kind) ⊎ ((place : ℕ) × (text_at c place ≡ Ok name))

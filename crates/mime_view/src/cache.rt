@@ -2,7 +2,7 @@
 
 ghost use Rattle.std.specs.Prelude.{◌≡◌, ◌⊎◌, true, false, ℕ, ◌+◌, ◌*◌, ◌<◌, ◌≤◌, List};
 ghost use Rattle.std.specs.Prelude.{All, Ok, length, map, option_map};
-ghost use Rattle.std.specs.Prelude.{IfErr, IfOk, IfSome, IsOkAnd, MatchOption, MatchResult, OnErr, OnOk};
+ghost use Rattle.std.specs.Prelude.{IfErr, IfOk, IfSome, IsOkAnd, MatchResult, OnOk};
 ghost use Rattle.mime_base.specs.Cache.Bytes.{Stands, field};
 ghost use Rattle.mime_base.specs.Cache.Texts.{text_at};
 ghost use Rattle.mime_base.specs.Database.Limits.{KeepsLimits};
@@ -24,11 +24,11 @@ ghost use Rattle.mime_view.specs.Hits.{Charged, near};
 ghost use Rattle.mime_view.specs.Magic.{IsMagicFault, Paid, Takes, plain_found};
 ghost use Rattle.std.specs.Prelude.{IsOk};
 ghost use Rattle.mime_base.specs.Magic.Extent.{sections_extent};
-ghost use Rattle.mime_view.specs.Lists.{IsListFault, IsTextFault, LiesList};
+ghost use Rattle.mime_view.specs.Lists.{IsSearchFault};
 ghost use Rattle.mime_view.specs.NameHits.{IsHitsFault};
-ghost use Rattle.mime_view.specs.Pairs.{looked_up};
-ghost use Rattle.mime_view.specs.Parents.{IsGiven, IsParentsFault, IsRead, has_place, is_marked};
-ghost use Rattle.mime_view.specs.Parents.{unmarked_parents, with_place};
+ghost use Rattle.mime_view.specs.Pairs.{IsSecondName, IsUnaliased, looked_up};
+ghost use Rattle.mime_view.specs.Parents.{IsGiven, StopsParents, TakesParents, is_marked, unmarked_parents};
+ghost use Rattle.mime_view.specs.Spending.{Gives, Looks, Spends, per_record, spending_of};
 ghost use Rattle.mime_view.specs.Opening.{IsOpenFault, Opens};
 ghost use Rattle.mime_view.specs.Listing.{IsListed, IsListing, Lists, plain_listed};
 ghost use Rattle.mime_view.specs.Listing.Faults.{IsListingFault};
@@ -212,22 +212,13 @@ impl<'a> Cache<'a> {
         // Where the alias list stands, it gives the type that the name stands for, or the name.
         ensures answer { (offsets : Offsets) (pairs : List (List ℕ × List ℕ)) → HeaderAt (Stands self.now) offsets →
             PairsAt (Stands self.now) offsets.aliases pairs → IsOkAnd result (λ name. name.now ≡ resolved pairs kind.now) }
-        // On any bytes it gives the name or a text of the cache.
-        ensures text { IfOk result (λ name. (name.now ≡ kind.now) ⊎ ((at : ℕ) × (text_at self.now at ≡ Ok name.now))) }
-        // For an answer the list lies in the cache.
-        ensures inside { OnOk result (LiesList self.now (field self.now 0 1) 8) }
-        // A fault is one of the list, or of a text.
-        ensures fault { IfErr result (λ e. IsListFault self.now (field self.now 0 1) 8 e ⊎ IsTextFault self.now e) }
+        // On any bytes it gives the name or a text of the cache, or the list or a text does not stand.
+        ensures given { MatchResult result (λ name. IsUnaliased self.now (field self.now 0 1) kind.now name.now)
+            (IsSearchFault self.now (field self.now 0 1)) }
         // It takes nothing of the budget.
         ensures budget { budget.new ≡ budget.old }
-        // The count of records never falls.
-        ensures rises { meter.old.nodes ≤ meter.new.nodes }
-        // It visits at most 29 records.
-        ensures nodes { meter.new.nodes ≤ meter.old.nodes + 29 }
-        // The count of bytes never falls.
-        ensures bytes_rise { meter.old.bytes ≤ meter.new.bytes }
-        // It compares at most 29 texts.
-        ensures bytes { meter.new.bytes ≤ meter.old.bytes + 256 * 29 }
+        // It visits at most 29 records, and compares at most a text for each.
+        ensures cost { Looks 29 (256 * 29) meter.old meter.new }
     {
         let _ = budget;
         let name = look_up_pair(&self.counted, u64::from(self.header[1]), kind, meter)?;
@@ -250,22 +241,13 @@ impl<'a> Cache<'a> {
         ensures answer { (offsets : Offsets) (icons : List (List ℕ × List ℕ)) → HeaderAt (Stands self.now) offsets →
             PairsAt (Stands self.now) offsets.icons icons →
             IsOkAnd result (λ name. option_map (λ text. text.now) name ≡ looked_up icons kind.now) }
-        // On any bytes it gives a text of the cache.
-        ensures text { IfOk result (λ name. IfSome name (λ text. (at : ℕ) × (text_at self.now at ≡ Ok text.now))) }
-        // For an answer the list lies in the cache.
-        ensures inside { OnOk result (LiesList self.now (field self.now 0 8) 8) }
-        // A fault is one of the list, or of a text.
-        ensures fault { IfErr result (λ e. IsListFault self.now (field self.now 0 8) 8 e ⊎ IsTextFault self.now e) }
+        // On any bytes what it gives is a text of the cache, or the list or a text does not stand.
+        ensures given { MatchResult result (IsSecondName self.now (field self.now 0 8))
+            (IsSearchFault self.now (field self.now 0 8)) }
         // It takes nothing of the budget.
         ensures budget { budget.new ≡ budget.old }
-        // The count of records never falls.
-        ensures rises { meter.old.nodes ≤ meter.new.nodes }
-        // It visits at most 29 records.
-        ensures nodes { meter.new.nodes ≤ meter.old.nodes + 29 }
-        // The count of bytes never falls.
-        ensures bytes_rise { meter.old.bytes ≤ meter.new.bytes }
-        // It compares at most 29 texts.
-        ensures bytes { meter.new.bytes ≤ meter.old.bytes + 256 * 29 }
+        // It visits at most 29 records, and compares at most a text for each.
+        ensures cost { Looks 29 (256 * 29) meter.old meter.new }
     {
         let _ = budget;
         let name = look_up_pair(&self.counted, u64::from(self.header[8]), kind, meter)?;
@@ -286,22 +268,13 @@ impl<'a> Cache<'a> {
         ensures answer { (offsets : Offsets) (icons : List (List ℕ × List ℕ)) → HeaderAt (Stands self.now) offsets →
             PairsAt (Stands self.now) offsets.generic_icons icons →
             IsOkAnd result (λ name. option_map (λ text. text.now) name ≡ looked_up icons kind.now) }
-        // On any bytes it gives a text of the cache.
-        ensures text { IfOk result (λ name. IfSome name (λ text. (at : ℕ) × (text_at self.now at ≡ Ok text.now))) }
-        // For an answer the list lies in the cache.
-        ensures inside { OnOk result (LiesList self.now (field self.now 0 9) 8) }
-        // A fault is one of the list, or of a text.
-        ensures fault { IfErr result (λ e. IsListFault self.now (field self.now 0 9) 8 e ⊎ IsTextFault self.now e) }
+        // On any bytes what it gives is a text of the cache, or the list or a text does not stand.
+        ensures given { MatchResult result (IsSecondName self.now (field self.now 0 9))
+            (IsSearchFault self.now (field self.now 0 9)) }
         // It takes nothing of the budget.
         ensures budget { budget.new ≡ budget.old }
-        // The count of records never falls.
-        ensures rises { meter.old.nodes ≤ meter.new.nodes }
-        // It visits at most 29 records.
-        ensures nodes { meter.new.nodes ≤ meter.old.nodes + 29 }
-        // The count of bytes never falls.
-        ensures bytes_rise { meter.old.bytes ≤ meter.new.bytes }
-        // It compares at most 29 texts.
-        ensures bytes { meter.new.bytes ≤ meter.old.bytes + 256 * 29 }
+        // It visits at most 29 records, and compares at most a text for each.
+        ensures cost { Looks 29 (256 * 29) meter.old meter.new }
     {
         let _ = budget;
         let name = look_up_pair(&self.counted, u64::from(self.header[9]), kind, meter)?;
@@ -326,48 +299,20 @@ impl<'a> Cache<'a> {
         meter: &mut Meter,
         budget: &mut Budget,
     ) -> Result<Option<Parents<'a>>, CacheFault>
-        // Where the parent list stands, it gives the type's entry with its parents, or with none if it is marked; nothing if the type has no parent.
+        // Where the parent list stands, it gives the type's entry with its parents, none if it is marked; each takes a record.
         ensures answer { (offsets : Offsets) (pairs : List (List ℕ × List ℕ)) → HeaderAt (Stands self.now) offsets →
-            (stand : ParentsAt (Stands self.now) offsets.parents pairs) → IfOk result
-            (IsGiven pairs stand.kinds (is_marked self.now (field self.now 0 2) marks.old kind.now) kind.now) }
-        // On any bytes it gives an entry of the type, and the texts that the entry names.
-        ensures read { IfOk result (λ found. IfSome found (IsRead self.now (field self.now 0 2) marks.old kind.now)) }
-        // For an answer the entry is marked, and no other that was not.
-        ensures marked { IfOk result (λ found. MatchOption found (marks.new ≡ marks.old) (λ parents.
-            (has_place marks.old parents.entry ≡ true) × (marks.new ≡ marks.old)
-            ⊎ (has_place marks.old parents.entry ≡ false) × (marks.new ≡ with_place marks.old parents.entry))) }
-        // With a record left for each parent, only memory can be short.
-        ensures need { (offsets : Offsets) (pairs : List (List ℕ × List ℕ)) → HeaderAt (Stands self.now) offsets →
-            ParentsAt (Stands self.now) offsets.parents pairs → length (unmarked_parents pairs
-            (is_marked self.now (field self.now 0 2) marks.old kind.now) kind.now) ≤ budget.old.records →
-            IfErr result (λ e. e ≡ CacheFault.OutOfMemory) }
-        // A fault is one of the list, of a text, or of the entry's parents.
-        ensures fault { IfErr result
-            (IsParentsFault self.now (field self.now 0 2) marks.old kind.now budget.old.records budget.new.records) }
-        // Before a fault nothing is marked.
-        ensures marks_stay { OnErr result (marks.new ≡ marks.old) }
-        // Each parent takes a record.
-        ensures takes { IfOk result (λ found. MatchOption found (budget.new.records ≡ budget.old.records)
-            (λ parents. budget.new.records + length parents.types ≡ budget.old.records)) }
-        // Where the list stands, no more are taken before a fault.
-        ensures takes_at_most { (offsets : Offsets) (pairs : List (List ℕ × List ℕ)) → HeaderAt (Stands self.now) offsets →
-            ParentsAt (Stands self.now) offsets.parents pairs → budget.old.records ≤ budget.new.records
-            + length (unmarked_parents pairs (is_marked self.now (field self.now 0 2) marks.old kind.now) kind.now) }
-        // Records are taken, and never given back.
-        ensures records { budget.new.records ≤ budget.old.records }
-        // No value bytes are taken.
-        ensures value_bytes { budget.new.value_bytes ≡ budget.old.value_bytes }
-        // The count of records never falls.
-        ensures rises { meter.old.nodes ≤ meter.new.nodes }
-        // Each record that is taken adds one node; at most 29 come besides.
-        ensures nodes { meter.new.nodes + budget.new.records ≤ meter.old.nodes + budget.old.records + 29 }
-        // Nor does it add fewer, until the sum stops.
-        ensures fair { raised meter.old.nodes budget.old.records ≤ meter.new.nodes + budget.new.records }
-        // The count of bytes never falls.
-        ensures bytes_rise { meter.old.bytes ≤ meter.new.bytes }
-        // Each record that is taken adds one text; the search compares at most 27.
-        ensures bytes { meter.new.bytes + 256 * budget.new.records
-            ≤ meter.old.bytes + 256 * budget.old.records + 256 * 27 }
+            (stand : ParentsAt (Stands self.now) offsets.parents pairs) →
+            let marked = is_marked self.now (field self.now 0 2) marks.old kind.now in
+            Gives (IsGiven pairs stand.kinds marked kind.now) (length (unmarked_parents pairs marked kind.now))
+            (spending_of meter.old budget.old) (spending_of meter.new budget.new) result }
+        // On any bytes an entry that is found is the type's, and is marked then, or nothing is given and the marks stay.
+        ensures taken { MatchResult result (TakesParents self.now (field self.now 0 2) kind.now
+            (spending_of meter.old budget.old) (spending_of meter.new budget.new) marks.old marks.new)
+            (StopsParents self.now (field self.now 0 2) kind.now
+            (spending_of meter.old budget.old) (spending_of meter.new budget.new) marks.old marks.new) }
+        // A record that is taken costs one node and one text; at most 29 nodes and 27 texts come besides.
+        ensures cost { Spends (per_record 256) 29 (256 * 27)
+            (spending_of meter.old budget.old) (spending_of meter.new budget.new) }
     {
         let at = u64::from(self.header[2]);
         let mut spending = Spending {

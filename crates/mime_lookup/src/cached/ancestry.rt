@@ -5,25 +5,21 @@
 //! marked type leads to the base, so no entry is expanded twice. Over damaged bytes it ends since each type
 //! that enters the queue takes a record of the budget.
 
-ghost use Rattle.std.specs.Prelude.{◌≡◌, ◌↔◌, ◌⊎◌, ℕ, ◌+◌, ◌*◌, ◌≤◌, ◌∷◌, ◌++◌, false};
-ghost use Rattle.std.specs.Prelude.{Contains, length, map, IfErr, IfOk, IsTrue, OnOk};
+ghost use Rattle.std.specs.Prelude.{◌≡◌, ◌⊎◌, ℕ, ◌+◌, ◌*◌, ◌≤◌, ◌∷◌, ◌++◌};
+ghost use Rattle.std.specs.Prelude.{Contains, length, map, IfErr, IfOk, MatchResult, OnOk};
 ghost use Rattle.std.specs.VecDeque.{deque_len};
-ghost use Rattle.mime_base.specs.Cache.Bytes.{field};
 ghost use Rattle.mime_base.specs.Database.{PlainDatabase, pairs_of};
-ghost use Rattle.mime_base.specs.Database.Subclass.{IsA, resolved};
-ghost use Rattle.mime_base.specs.Meter.{raised};
-ghost use Rattle.mime_view.specs.Parents.{is_marked};
-ghost use Rattle.mime_view.specs.Spending.{spending_of};
-ghost use Rattle.mime_lookup.specs.Ancestry.{Expanded, NoneLeadsTo, kinds_of, unmarked};
+ghost use Rattle.mime_base.specs.Database.Subclass.{resolved};
+ghost use Rattle.mime_lookup.specs.Ancestry.{Expanded, kinds_of};
 ghost use Rattle.mime_lookup.specs.Choice.{IsFirst};
 ghost use Rattle.mime_lookup.specs.Costs.{Costs};
+ghost use Rattle.mime_lookup.specs.Searching.{AnswersSearch, TakesPairs, marked_by, per_nodes};
 ghost use Rattle.mime_lookup.specs.Spelling.{SpellsPairs};
-ghost use Rattle.mime_lookup.specs.Searching.{expansion_cost, search_cost, step_cost};
 ghost use Rattle.mime_lookup.specs.StepFaults.{IsAliasFault, IsSearchFault};
+ghost use Rattle.mime_view.specs.Spending.{Looks, Spends};
 
 use crate::subclass::is_by_itself;
-use mime_base::Meter;
-use mime_view::{Budget, Cache, CacheFault, Marks};
+use mime_view::{Cache, CacheFault, Marks, Spending};
 use std::alloc::Global;
 use std::collections::VecDeque;
 
@@ -34,9 +30,9 @@ pub fn first_of<'a>(
     kinds: &[&'a [u8]],
     default: &'a [u8],
     base: &[u8],
-    meter: &mut Meter,
-    budget: &mut Budget,
+    spending: &mut Spending,
 ) -> Result<&'a [u8], CacheFault>
+    // Any text of the cache and any type name is this short.
     requires base { length base.now ≤ 255 }
     // Where the pairs stand, it is the first of the types that is the base or a subclass of it, else the default.
     ensures answer { (b : PlainDatabase) → SpellsPairs cache.now b → IfOk result
@@ -44,17 +40,17 @@ pub fn first_of<'a>(
     // It is the default, or one of the types.
     ensures one { IfOk result (λ kind. Contains (default.entry.now ∷ kinds_of kinds.now) kind.now) }
     // Where the pairs stand and a record is left for each parent, only memory is refused.
-    ensures need { (b : PlainDatabase) → SpellsPairs cache.now b → length b.parents ≤ budget.old.records →
+    ensures need { (b : PlainDatabase) → SpellsPairs cache.now b → length b.parents ≤ spending.old.budget.records →
         IfErr result (λ e. e ≡ CacheFault.OutOfMemory) }
     // The parents of a type, an alias step or memory shows the fault.
-    ensures fault { IfErr result (IsSearchFault cache.now budget.new) }
+    ensures fault { IfErr result (IsSearchFault cache.now spending.new.budget) }
     // It costs 29 nodes for each type, and 59 for each record that it takes.
     ensures cost { (each value : ℕ) → 256 * 59 ≤ each →
-        Costs each value (29 * length kinds.now) (spending_of meter.old budget.old) (spending_of meter.new budget.new) }
+        Costs each value (29 * length kinds.now) spending.old spending.new }
 {
     let mut marks = Marks::new(alloc);
     for kind in kinds {
-        if leads_to(alloc, cache, &mut marks, *kind, base, meter, budget)? {
+        if leads_to(alloc, cache, &mut marks, *kind, base, spending)? {
             return Ok(*kind);
         }
     }
@@ -68,39 +64,28 @@ pub fn leads_to<'a>(
     marks: &mut Marks,
     kind: &'a [u8],
     base: &[u8],
-    meter: &mut Meter,
-    budget: &mut Budget,
+    spending: &mut Spending,
 ) -> Result<bool, CacheFault>
+    // Any text of the cache and any type name is this short.
     requires base { length base.now ≤ 255 }
-    // Where the pairs stand and no marked type leads to the base, it says whether this type does.
-    ensures answer { (b : PlainDatabase) → SpellsPairs cache.now b →
-        NoneLeadsTo (is_marked cache.now (field cache.now 0 2) marks.old) (pairs_of b) base.now →
-        IfOk result (λ is. IsTrue is ↔ IsA (pairs_of b) kind.entry.now base.now) }
-    // Where it does not, none leads there of those that are marked then.
-    ensures marked { (b : PlainDatabase) → SpellsPairs cache.now b →
-        NoneLeadsTo (is_marked cache.now (field cache.now 0 2) marks.old) (pairs_of b) base.now →
-        IfOk result (λ is. is ≡ false
-        → NoneLeadsTo (is_marked cache.now (field cache.now 0 2) marks.new) (pairs_of b) base.now) }
-    // Where the pairs stand and a record is left for each pair whose type is not marked, only memory is refused.
-    ensures need { (b : PlainDatabase) → SpellsPairs cache.now b →
-        unmarked b.parents (is_marked cache.now (field cache.now 0 2) marks.old) ≤ budget.old.records →
-        IfErr result (λ e. e ≡ CacheFault.OutOfMemory) }
-    // A record that is taken is of a pair whose type is marked for it.
-    ensures owed { (b : PlainDatabase) → SpellsPairs cache.now b → OnOk result
-        (unmarked b.parents (is_marked cache.now (field cache.now 0 2) marks.new) + budget.old.records
-        ≤ unmarked b.parents (is_marked cache.now (field cache.now 0 2) marks.old) + budget.new.records) }
+    // Where the pairs stand, it says whether the type leads to the base, unless a marked type does.
+    ensures answer { (b : PlainDatabase) → SpellsPairs cache.now b → AnswersSearch (pairs_of b) kind.entry.now base.now
+        (marked_by cache.now marks.old) (marked_by cache.now marks.new) result }
+    // There no more records are taken than there are pairs of the types that it marks.
+    ensures takes { (b : PlainDatabase) → SpellsPairs cache.now b → TakesPairs (pairs_of b)
+        (marked_by cache.now marks.old) (marked_by cache.now marks.new) spending.old spending.new result }
     // The parents of a type, an alias step or memory shows the fault.
-    ensures fault { IfErr result (IsSearchFault cache.now budget.new) }
+    ensures fault { IfErr result (IsSearchFault cache.now spending.new.budget) }
     // It costs 29 nodes, and 59 for each record that it takes.
-    ensures cost { Costs search_cost 0 29 (spending_of meter.old budget.old) (spending_of meter.new budget.new) }
+    ensures cost { Spends (per_nodes 59) 29 (256 * 29) spending.old spending.new }
 {
     let mut queue = VecDeque::new(alloc);
     queue.push_back(kind)?;
     while let Some(here) = queue.pop_front() {
-        if is_by_itself(here, base, meter) {
+        if is_by_itself(here, base, &mut spending.meter) {
             return Ok(true);
         }
-        expand(alloc, cache, marks, here, &mut queue, meter, budget)?;
+        expand(alloc, cache, marks, here, &mut queue, spending)?;
     }
     Ok(false)
 }
@@ -113,61 +98,58 @@ fn expand<'a>(
     marks: &mut Marks,
     kind: &[u8],
     queue: &mut VecDeque<&'a [u8]>,
-    meter: &mut Meter,
-    budget: &mut Budget,
+    spending: &mut Spending,
 ) -> Result<(), CacheFault>
+    // Where the pairs stand, all above the type comes to the queue, or nothing if it was marked.
     ensures expanded { (b : PlainDatabase) → SpellsPairs cache.now b → OnOk result (Expanded (pairs_of b) kind.now
-        (is_marked cache.now (field cache.now 0 2) marks.old) (is_marked cache.now (field cache.now 0 2) marks.new)
-        (kinds_of queue.old.items) (kinds_of queue.new.items)) }
-    ensures need { (b : PlainDatabase) → SpellsPairs cache.now b →
-        unmarked b.parents (is_marked cache.now (field cache.now 0 2) marks.old) ≤ budget.old.records →
-        IfErr result (λ e. e ≡ CacheFault.OutOfMemory) }
-    ensures owed { (b : PlainDatabase) → SpellsPairs cache.now b → OnOk result
-        (unmarked b.parents (is_marked cache.now (field cache.now 0 2) marks.new) + budget.old.records
-        ≤ unmarked b.parents (is_marked cache.now (field cache.now 0 2) marks.old) + budget.new.records) }
-    ensures fault { IfErr result (IsSearchFault cache.now budget.new) }
-    ensures falls { OnOk result (deque_len queue.new + budget.new.records ≡ deque_len queue.old + budget.old.records) }
-    ensures value_bytes { budget.new.value_bytes ≡ budget.old.value_bytes }
-    ensures records { budget.new.records ≤ budget.old.records }
-    ensures rises { meter.old.nodes ≤ meter.new.nodes }
-    ensures fair { raised meter.old.nodes budget.old.records ≤ meter.new.nodes + budget.new.records }
-    ensures bytes_rise { meter.old.bytes ≤ meter.new.bytes }
-    ensures nodes { meter.new.nodes + 59 * budget.new.records ≤ meter.old.nodes + 59 * budget.old.records + 29 }
-    ensures bytes { meter.new.bytes + search_cost * budget.new.records
-        ≤ meter.old.bytes + search_cost * budget.old.records + expansion_cost }
-    ensures nodes_ahead { OnOk result (meter.new.nodes + 59 * budget.new.records + 29 * deque_len queue.new
-        ≤ meter.old.nodes + 59 * budget.old.records + 29 * deque_len queue.old + 29) }
-    ensures bytes_ahead { OnOk result (meter.new.bytes + search_cost * budget.new.records + step_cost * deque_len queue.new
-        ≤ meter.old.bytes + search_cost * budget.old.records + step_cost * deque_len queue.old + expansion_cost) }
+        (marked_by cache.now marks.old) (marked_by cache.now marks.new) (kinds_of queue.old.items) (kinds_of queue.new.items)) }
+    // There no more records are taken than there are pairs of the type, once it is marked.
+    ensures takes { (b : PlainDatabase) → SpellsPairs cache.now b → TakesPairs (pairs_of b)
+        (marked_by cache.now marks.old) (marked_by cache.now marks.new) spending.old spending.new result }
+    // The parents of a type, an alias step or memory shows the fault.
+    ensures fault { IfErr result (IsSearchFault cache.now spending.new.budget) }
+    // Each type that comes to the queue took a record.
+    ensures falls { OnOk result
+        (deque_len queue.new + spending.new.budget.records ≡ deque_len queue.old + spending.old.budget.records) }
+    // It costs 29 nodes, and for each record its own and an alias step.
+    ensures cost { Spends (per_nodes 30) 29 (256 * 27) spending.old spending.new }
 {
-    let found = cache.parents_of(alloc, kind, marks, meter, budget)?;
+    let found = cache.parents_of(
+        alloc,
+        kind,
+        marks,
+        &mut spending.meter,
+        &mut spending.budget,
+    )?;
     let Some(parents) = found else {
         return Ok(());
     };
-    push_resolved(cache, parents.types.as_slice(), queue, meter, budget)
+    push_unaliased(cache, parents.types.as_slice(), queue, spending)
 }
 
 /// Puts types at the end of the queue, each after one alias step.
-fn push_resolved<'a>(
+fn push_unaliased<'a>(
     cache: &Cache<'a>,
     kinds: &[&'a [u8]],
     queue: &mut VecDeque<&'a [u8]>,
-    meter: &mut Meter,
-    budget: &mut Budget,
+    spending: &mut Spending,
 ) -> Result<(), CacheFault>
-    ensures queue { (b : PlainDatabase) → SpellsPairs cache.now b → OnOk result
-        (kinds_of queue.new.items ≡ kinds_of queue.old.items ++ map (resolved b.aliases) (kinds_of kinds.now)) }
-    ensures need { (b : PlainDatabase) → SpellsPairs cache.now b → IfErr result (λ e. e ≡ CacheFault.OutOfMemory) }
+    // Where the aliases stand, the resolved types come to the end of the queue, unless memory is refused.
+    ensures queue { (b : PlainDatabase) → SpellsPairs cache.now b → MatchResult result
+        (λ _. kinds_of queue.new.items ≡ kinds_of queue.old.items ++ map (resolved b.aliases) (kinds_of kinds.now))
+        (λ e. e ≡ CacheFault.OutOfMemory) }
+    // An alias step or memory shows the fault.
     ensures fault { IfErr result (λ e. IsAliasFault cache.now e ⊎ (e ≡ CacheFault.OutOfMemory)) }
+    // The queue has one more for each type.
     ensures longer { OnOk result (deque_len queue.new ≡ deque_len queue.old + length kinds.now) }
-    ensures budget { budget.new ≡ budget.old }
-    ensures rises { meter.old.nodes ≤ meter.new.nodes }
-    ensures nodes { meter.new.nodes ≤ meter.old.nodes + 29 * length kinds.now }
-    ensures bytes_rise { meter.old.bytes ≤ meter.new.bytes }
-    ensures bytes { meter.new.bytes ≤ meter.old.bytes + step_cost * length kinds.now }
+    // Nothing is taken of the budget.
+    ensures budget { spending.new.budget ≡ spending.old.budget }
+    // It visits at most 29 records for each type, and compares at most a text for each.
+    ensures cost { Looks (29 * length kinds.now) (256 * 29 * length kinds.now) spending.old.meter spending.new.meter }
 {
     for kind in kinds {
-        queue.push_back(cache.unalias(*kind, meter, budget)?)?;
+        let name = cache.unalias(*kind, &mut spending.meter, &mut spending.budget)?;
+        queue.push_back(name)?;
     }
     Ok(())
 }

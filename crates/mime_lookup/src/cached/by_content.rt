@@ -128,14 +128,6 @@ fn choose<'a>(
     if kept.is_empty() {
         return Ok(base);
     }
-    let kind = first_of(
-        alloc,
-        cache,
-        kept,
-        kept[0],
-        base,
-        &mut spending.meter,
-        &mut spending.budget,
-    )?;
+    let kind = first_of(alloc, cache, kept, kept[0], base, spending)?;
     Ok(kind)
 }

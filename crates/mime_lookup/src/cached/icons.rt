@@ -1,14 +1,16 @@
 //! The icons of a type, by a cache ("The mime.cache files").
 
-ghost use Rattle.std.specs.Prelude.{◌≡◌, ◌≢◌, ◌⊎◌, ◌+◌, ◌*◌, ◌<◌, ◌≤◌, ◌==◌, length, option_map, position};
-ghost use Rattle.std.specs.Prelude.{IfErr, IfOk, IfSome, IsErrAnd, MatchResult, OnOk};
+ghost use Rattle.std.specs.Prelude.{◌≡◌, ◌*◌, ◌<◌, ◌==◌, length, option_map, position};
+ghost use Rattle.std.specs.Prelude.{IfErr, IfOk, IfSome, MatchResult, OnOk};
 ghost use Rattle.mime_base.specs.Database.{PlainDatabase};
+ghost use Rattle.mime_lookup.specs.Asking.{StopsAsking};
 ghost use Rattle.mime_lookup.specs.Bounds.{KeepsBounds};
+ghost use Rattle.mime_lookup.specs.Cached.{cause_of};
 ghost use Rattle.mime_lookup.specs.Icons.{HasIconLists, icons_of, plain_icons_of};
 ghost use Rattle.mime_lookup.specs.Icons.{before_slash, generic_of_media, hyphen_for_slash, name_or, with_hyphens};
 ghost use Rattle.mime_lookup.specs.Spelling.{SpellsIcons};
 ghost use Rattle.mime_lookup.specs.StepFaults.{IsIconFault};
-ghost use Rattle.mime_view.specs.Opening.{IsOpenFault, Opens};
+ghost use Rattle.mime_view.specs.Spending.{Looks};
 
 use crate::stopped::{Cause, Stopped};
 use mime_base::{Counted, Meter, OutOfMemory, TypeName};
@@ -36,19 +38,10 @@ pub fn icon_of<'a>(alloc: Global, cache: Counted<'a>, kind: &'a TypeName) -> Res
     // Where the aliases and both lists of icons stand, these are the icons of the type.
     ensures answer { (b : PlainDatabase) → SpellsIcons cache.entry b → IfOk result
         (λ icons. plain_icons_of icons ≡ icons_of b kind.entry.now) }
-    // Where there is an answer, the bytes open as a cache.
-    ensures opened { OnOk result (Opens cache.entry) }
-    // Bytes that don't are refused for that.
-    ensures refused { (e : CacheFault) → IsOpenFault cache.entry e →
-        IsErrAnd result (λ stopped. stopped.cause ≡ Cause.Cache e) }
-    // Where there is an answer, all three lists lie in the cache.
+    // For an answer all three lists lie in the cache.
     ensures lists { OnOk result (HasIconLists cache.entry) }
-    // Where the aliases and both lists of icons of a database stand, only memory is refused.
-    ensures need { (b : PlainDatabase) → SpellsIcons cache.entry b → length cache.entry ≤ 268435456 →
-        IfErr result (λ stopped. stopped.cause ≡ Cause.OutOfMemory) }
-    // It stops for memory, or for a fault that the header, a list or a text shows.
-    ensures fault { IfErr result (λ stopped. (stopped.cause ≡ Cause.OutOfMemory)
-        ⊎ ((e : CacheFault) × (stopped.cause ≡ Cause.Cache e) × (e ≢ CacheFault.OutOfMemory) × IsIconFault cache.entry e)) }
+    // Why it stops: where the aliases and both lists of icons of a database stand, only for memory.
+    ensures stops { StopsAsking (λ stopped. stopped.cause) cache.entry (IsIconFault cache.entry) (SpellsIcons cache.entry) result }
     // No content is read.
     ensures read { IfErr result (λ stopped. stopped.read ≡ 0) }
     // Whatever the bytes are, the nodes and the bytes keep to the bounds of an empty name without content.
@@ -78,16 +71,15 @@ fn find_icons<'a>(
     kind: &'a [u8],
     meter: &mut Meter,
 ) -> Result<(Vec<u8>, Vec<u8>), CacheFault>
+    // Where the aliases and both lists of icons stand, these are the icons of the type.
     ensures answer { (b : PlainDatabase) → SpellsIcons cache.entry b → IfOk result
         (λ icons. record { icon = icons.0.items; generic = icons.1.items } ≡ icons_of b kind.entry.now) }
-    ensures opened { OnOk result (Opens cache.entry) }
-    ensures refused { (e : CacheFault) → IsOpenFault cache.entry e → IsErrAnd result (λ fault. fault ≡ e) }
+    // For an answer all three lists lie in the cache.
     ensures lists { OnOk result (HasIconLists cache.entry) }
-    ensures need { (b : PlainDatabase) → SpellsIcons cache.entry b → length cache.entry ≤ 268435456 →
-        IfErr result (λ e. e ≡ CacheFault.OutOfMemory) }
-    ensures fault { IfErr result (λ e. (e ≡ CacheFault.OutOfMemory) ⊎ IsIconFault cache.entry e) }
-    ensures nodes { meter.new.nodes ≤ meter.old.nodes + 88 }
-    ensures bytes { meter.new.bytes ≤ meter.old.bytes + 256 * 87 }
+    // Why it stops: where the aliases and both lists of icons of a database stand, only for memory.
+    ensures stops { StopsAsking cause_of cache.entry (IsIconFault cache.entry) (SpellsIcons cache.entry) result }
+    // It visits the header, and at most 29 records of each list, with a text for each.
+    ensures cost { Looks 88 (256 * 87) meter.old meter.new }
 {
     let cache = Cache::open(cache, meter)?;
     let mut budget = Budget::of(&cache);

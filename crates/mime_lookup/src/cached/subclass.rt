@@ -1,19 +1,21 @@
 //! Whether a type is a subclass of another, by a cache ("Subclassing").
 
-ghost use Rattle.std.specs.Prelude.{◌≡◌, ◌≢◌, ◌⊎◌, ◌↔◌, ◌+◌, ◌*◌, ◌/◌, ◌<◌, ◌≤◌, length, IfErr, IfOk, IsErrAnd, IsTrue, MatchResult, OnOk};
+ghost use Rattle.std.specs.Prelude.{◌≡◌, ◌↔◌, ◌+◌, ◌*◌, ◌/◌, ◌<◌, ◌≤◌, length, IfErr, IfOk, IsTrue, MatchResult};
 ghost use Rattle.mime_base.specs.Database.{PlainDatabase, pairs_of};
 ghost use Rattle.mime_base.specs.Database.Subclass.{IsA, resolved};
 ghost use Rattle.mime_base.specs.Format.Packed.{Packed};
+ghost use Rattle.mime_lookup.specs.Asking.{StopsAsking};
 ghost use Rattle.mime_lookup.specs.Bounds.{KeepsBounds};
-ghost use Rattle.mime_lookup.specs.Searching.{search_cost};
+ghost use Rattle.mime_lookup.specs.Cached.{cause_of};
+ghost use Rattle.mime_lookup.specs.Searching.{per_nodes};
 ghost use Rattle.mime_lookup.specs.Spelling.{SpellsPairs};
-ghost use Rattle.mime_lookup.specs.StepFaults.{IsLookUpFault};
-ghost use Rattle.mime_view.specs.Opening.{IsOpenFault, Opens};
+ghost use Rattle.mime_lookup.specs.StepFaults.{IsLookUpFault, IsSearchFault};
+ghost use Rattle.mime_view.specs.Spending.{Looks, Spends};
 
 use crate::cached::ancestry::leads_to;
 use crate::stopped::{Cause, Stopped};
 use mime_base::{Counted, Meter, TypeName};
-use mime_view::{Budget, Cache, CacheFault, Marks};
+use mime_view::{Budget, Cache, CacheFault, Marks, Spending};
 use std::alloc::Global;
 
 /// Whether a type is another or a subclass of it, by the aliases and the parents of a cache ("Subclassing"),
@@ -30,28 +32,20 @@ pub fn is_a<'a>(
     // Where the aliases and the parents stand, it says whether the one type is the other or a subclass of it, each resolved.
     ensures answer { (b : PlainDatabase) → SpellsPairs cache.entry b → IfOk result
         (λ found. IsTrue found.0 ↔ IsA (pairs_of b) (resolved b.aliases kind.entry.now) (resolved b.aliases base.entry.now)) }
-    // Where there is an answer, the bytes open as a cache.
-    ensures opened { OnOk result (Opens cache.entry) }
-    // Bytes that don't are refused for that.
-    ensures refused { (e : CacheFault) → IsOpenFault cache.entry e →
-        IsErrAnd result (λ stopped. stopped.cause ≡ Cause.Cache e) }
-    // Where the aliases and the parents of a packed database stand, only memory is refused.
-    ensures need { (b : PlainDatabase) → SpellsPairs cache.entry b → length cache.entry ≤ 268435456 → Packed cache.entry b →
-        IfErr result (λ stopped. stopped.cause ≡ Cause.OutOfMemory) }
-    // It stops for memory, or for a fault that the header or another part of the cache shows.
-    ensures fault { IfErr result (λ stopped. (stopped.cause ≡ Cause.OutOfMemory)
-        ⊎ ((e : CacheFault) × (stopped.cause ≡ Cause.Cache e) × (e ≢ CacheFault.OutOfMemory) × IsLookUpFault cache.entry e)) }
-    // No content is read.
-    ensures read { IfErr result (λ stopped. stopped.read ≡ 0) }
+    // Why it stops: where the aliases and the parents of a packed database stand, only for memory.
+    ensures stops { StopsAsking (λ stopped. stopped.cause) cache.entry (IsLookUpFault cache.entry)
+        (λ b. SpellsPairs cache.entry b × Packed cache.entry b) result }
     // It is spent only where more records were visited than a quarter of the cache's length.
     ensures spent { IfErr result (λ stopped. stopped.cause ≡ Cause.Cache CacheFault.Spent
         → length cache.entry / 4 < stopped.meter.nodes) }
+    // No content is read.
+    ensures read { IfErr result (λ stopped. stopped.read ≡ 0) }
     // Whatever the bytes are, the nodes and the bytes keep to the bounds of an empty name without content.
     ensures bounds { MatchResult result
         (λ found. KeepsBounds 0 cache.entry 0 found.1) (λ stopped. KeepsBounds 0 cache.entry 0 stopped.meter) }
 {
     let mut meter = Meter::new();
-    match search(alloc, cache, kind.bytes(), base.bytes(), &mut meter) {
+    match open_and_search(alloc, cache, kind.bytes(), base.bytes(), &mut meter) {
         Ok(found) => Ok((found, meter)),
         Err(fault) => Err(Stopped {
             cause: Cause::from(fault),
@@ -62,30 +56,59 @@ pub fn is_a<'a>(
 }
 
 /// The same, with its fault alone.
-#[tactic(auto, using(crate::proofs::OpenFaults::opens_without_fault))]
-fn search<'a>(
+fn open_and_search<'a>(
     alloc: Global,
     cache: Counted<'a>,
     kind: &'a [u8],
     base: &'a [u8],
     meter: &mut Meter,
 ) -> Result<bool, CacheFault>
+    // It is a type's name.
     requires base { length base.now ≤ 255 }
+    // Where the aliases and the parents stand, it says whether the one type is the other or a subclass of it, each resolved.
     ensures answer { (b : PlainDatabase) → SpellsPairs cache.entry b → IfOk result
         (λ is. IsTrue is ↔ IsA (pairs_of b) (resolved b.aliases kind.entry.now) (resolved b.aliases base.entry.now)) }
-    ensures opened { OnOk result (Opens cache.entry) }
-    ensures refused { (e : CacheFault) → IsOpenFault cache.entry e → IsErrAnd result (λ fault. fault ≡ e) }
-    ensures need { (b : PlainDatabase) → SpellsPairs cache.entry b → length cache.entry ≤ 268435456 → Packed cache.entry b →
-        IfErr result (λ e. e ≡ CacheFault.OutOfMemory) }
-    ensures fault { IfErr result (IsLookUpFault cache.entry) }
+    // Why it stops: where the aliases and the parents of a packed database stand, only for memory.
+    ensures stops { StopsAsking cause_of cache.entry (IsLookUpFault cache.entry)
+        (λ b. SpellsPairs cache.entry b × Packed cache.entry b) result }
+    // It is spent only where more records were visited than a quarter of the cache's length.
     ensures spent { IfErr result (λ e. e ≡ CacheFault.Spent → length cache.entry / 4 < meter.new.nodes) }
-    ensures nodes { meter.new.nodes ≤ meter.old.nodes + 88 + 59 * (length cache.entry / 4) }
-    ensures bytes { meter.new.bytes ≤ meter.old.bytes + 22528 + search_cost * (length cache.entry / 4) }
+    // It visits the header, and then 87 records and 59 for each that the budget has.
+    ensures cost { Looks (88 + 59 * (length cache.entry / 4)) (256 * (88 + 59 * (length cache.entry / 4))) meter.old meter.new }
 {
     let cache = Cache::open(cache, meter)?;
-    let mut budget = Budget::of(&cache);
-    let kind = cache.unalias(kind, meter, &mut budget)?;
-    let base = cache.unalias(base, meter, &mut budget)?;
+    let mut spending = Spending {
+        meter: *meter,
+        budget: Budget::of(&cache),
+    };
+    let found = search(alloc, &cache, kind, base, &mut spending);
+    *meter = spending.meter;
+    found
+}
+
+/// The same over an opened cache.
+fn search<'a>(
+    alloc: Global,
+    cache: &Cache<'a>,
+    kind: &'a [u8],
+    base: &'a [u8],
+    spending: &mut Spending,
+) -> Result<bool, CacheFault>
+    // It is a type's name.
+    requires base { length base.now ≤ 255 }
+    // Where the pairs stand, it says whether the one type is the other or a subclass of it, each resolved.
+    ensures answer { (b : PlainDatabase) → SpellsPairs cache.now b → IfOk result
+        (λ is. IsTrue is ↔ IsA (pairs_of b) (resolved b.aliases kind.entry.now) (resolved b.aliases base.entry.now)) }
+    // Where the pairs stand and a record is left for each parent, only memory is refused.
+    ensures need { (b : PlainDatabase) → SpellsPairs cache.now b → length b.parents ≤ spending.old.budget.records →
+        IfErr result (λ e. e ≡ CacheFault.OutOfMemory) }
+    // The parents of a type, an alias step or memory shows the fault.
+    ensures fault { IfErr result (IsSearchFault cache.now spending.new.budget) }
+    // It costs 87 nodes, and 59 for each record that it takes.
+    ensures cost { Spends (per_nodes 59) 87 (256 * 87) spending.old spending.new }
+{
+    let kind = cache.unalias(kind, &mut spending.meter, &mut spending.budget)?;
+    let base = cache.unalias(base, &mut spending.meter, &mut spending.budget)?;
     let mut marks = Marks::new(alloc);
-    leads_to(alloc, &cache, &mut marks, kind, base, meter, &mut budget)
+    leads_to(alloc, cache, &mut marks, kind, base, spending)
 }

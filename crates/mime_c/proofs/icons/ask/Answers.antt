@@ -11,10 +11,7 @@ returns-in-Err c =
           (record {
             answer = is.answer;
             lists = is.lists;
-            opened = is.opened;
-            unopened = is.refused;
-            need = is.need;
-            fault = is.fault;
+            stops = is.stops;
             read = is.read;
             bounds = is.bounds;
           });

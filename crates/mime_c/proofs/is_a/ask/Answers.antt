@@ -10,12 +10,9 @@ returns-in-Err c =
       promised = subst (λ (cache : List ℕ). IsIsA cache c.args.kind.now c.args.base.now (Err c.in-Err.stopped)) c.new.ensures
           (record {
             answer = is.answer;
-            opened = is.opened;
-            unopened = is.refused;
-            need = is.need;
-            fault = is.fault;
-            read = is.read;
+            stops = is.stops;
             spent = is.spent;
+            read = is.read;
             bounds = is.bounds;
           });
       told_so = (refl, c.stop_report.ensures);

@@ -18,5 +18,5 @@ returns-in-Err c =
     let found = rw c.new.ensures at c.in-Err.ensures in
     stopped_refused Icons c.args.path.now cache (IsIconFault cache) (λ _. ⊤)
     (λ icons. AreIconsOf cache c.args.kind.now (plain_icons_of icons))
-    c.in-Err.stopped.cause c.stopped_for.result c.stopped_for.ensures.fault c.stopped_for.ensures.memory found.fault
-    (λ b asked spells packed. found.need b (spelled_icons cache b spells) spells.within)
+    c.in-Err.stopped.cause c.stopped_for.result c.stopped_for.ensures.fault c.stopped_for.ensures.memory found.stops.fault
+    (λ b asked spells packed. found.stops.need b (spelled_icons cache b spells) spells.within)

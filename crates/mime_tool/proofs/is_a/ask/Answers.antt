@@ -16,5 +16,5 @@ returns-in-Err c =
     let cache = c.args.cache.now in
     let found = rw c.new.ensures at c.in-Err.ensures in
     stopped_refused Bool c.args.path.now cache (IsLookUpFault cache) (λ _. ⊤) (IsSaid cache c.args.kind.now c.args.base.now)
-    c.in-Err.stopped.cause c.stopped_for.result c.stopped_for.ensures.fault c.stopped_for.ensures.memory found.fault
-    (λ b asked spells packed. found.need b (spelled_pairs cache b spells) spells.within packed)
+    c.in-Err.stopped.cause c.stopped_for.result c.stopped_for.ensures.fault c.stopped_for.ensures.memory found.stops.fault
+    (λ b asked spells packed. found.stops.need b (spelled_pairs cache b spells, packed) spells.within)

@@ -1,4 +1,4 @@
-use Rattle.std.proofs.Common.{◌≡◌, ◌+◌, ◌*◌, length, map}
+use Rattle.std.proofs.Common.{◌≡◌, ◌+◌, length, map}
 use Rattle.mime_view.specs.Lists.{KeysAt}
 use Rattle.mime_view.specs.Spending.{Spends, per_record}
 use Rattle.mime_view.proofs.parents.take_texts.Given as goal

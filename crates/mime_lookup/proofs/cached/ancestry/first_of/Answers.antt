@@ -2,48 +2,44 @@ use Rattle.std.proofs.Common.{◌+◌, [], length, sym, true≢false, ◌∙◌,
 use Rattle.mime_base.specs.Cache.Bytes.{field}
 use Rattle.mime_base.specs.Database.{pairs_of}
 use Rattle.mime_view.proofs.Costs.{spends_none}
-use Rattle.mime_view.specs.Parents.{is_marked}
-use Rattle.mime_view.specs.Spending.{spending_of}
-use Rattle.mime_lookup.specs.Costs.{lookup_price}
+use Rattle.mime_lookup.specs.Searching.{marked_by, per_nodes}
 use Rattle.mime_lookup.proofs.PairsLeft.{unmarked_most}
 use Rattle.mime_lookup.proofs.PlaceMarks.{marked-none}
 use Rattle.mime_lookup.proofs.Queues.{candidate, passed_over}
-use Rattle.mime_lookup.proofs.SearchCosts.{costs_all, costs_next}
-use Rattle.mime_lookup.specs.Searching.{search_cost}
+use Rattle.mime_lookup.proofs.SearchCosts.{costs_all, spends_next}
 use Rattle.mime_lookup.proofs.cached.ancestry.first_of.Goals as goal
 
 pub loop-kind-init : goal.loop-kind-init
 loop-kind-init c =
-    let at = field c.args.cache.now 0 2 in
     rw c.new-marks.ensures
     (record {
-      settled = λ b spells kind is is_a. cc (marked-none c.args.cache.now at kind, is);
+      settled = λ b spells kind is is_a. cc (marked-none c.args.cache.now (field c.args.cache.now 0 2) kind, is);
       rest = λ b spells answer first. first;
-      owed = λ b spells. omega (arith, unmarked_most b.parents (is_marked c.args.cache.now at []));
-      cost = spends_none (lookup_price search_cost 0) (spending_of c.args.meter.now c.args.budget.now);
+      owed = λ b spells. omega (arith, unmarked_most b.parents (marked_by c.args.cache.now []));
+      cost = spends_none (per_nodes 59) c.args.spending.now;
     })
 
 pub loop-kind-preserved : goal.loop-kind-preserved
 loop-kind-preserved c = record {
-  settled = λ b spells. c.in_ok-leads_to.ensures.marked b spells (c.loop-kind.invariant.settled b spells) c.if-branch.false;
+  settled = λ b spells.
+      (c.in_ok-leads_to.ensures.answer b spells).marked (c.loop-kind.invariant.settled b spells) c.if-branch.false;
   rest = λ b spells answer rest.
       c.loop-kind.invariant.rest b spells answer
       (passed_over (pairs_of b) c.args.base.now c.args.default.now c.args.kinds.now c.loop-kind.kind-index _ c.loop-kind-test.true
-      (λ is_a. true≢false (sym ((c.in_ok-leads_to.ensures.answer b spells (c.loop-kind.invariant.settled b spells)).1 is_a)
+      (λ is_a. true≢false (sym (((c.in_ok-leads_to.ensures.answer b spells).answer (c.loop-kind.invariant.settled b spells)).1 is_a)
       ∙ c.if-branch.false))
       answer rest);
-  owed = λ b spells. omega (arith, c.loop-kind.invariant.owed b spells, c.in_ok-leads_to.ensures.owed b spells);
-  cost =
-      costs_next c.loop-kind.kind-index c.args.budget.now c.loop-kind.budget c.leads_to.new.budget c.args.meter.now
-      c.loop-kind.meter c.leads_to.new.meter c.loop-kind.invariant.cost c.leads_to.ensures.cost;
+  owed = λ b spells. omega (arith, c.loop-kind.invariant.owed b spells, (c.in_ok-leads_to.ensures.takes b spells).owed);
+  cost = spends_next c.loop-kind.kind-index c.args.spending.now c.loop-kind.spending c.leads_to.new.spending
+      c.loop-kind.invariant.cost c.leads_to.ensures.cost;
 }
 
 pub returns-in_err-leads_to-clause-cost : goal.returns-in_err-leads_to-clause-cost
 returns-in_err-leads_to-clause-cost c = λ each value enough.
-    costs_all each value (c.loop-kind.kind-index + 1) (length c.args.kinds.now) c.args.budget.now c.leads_to.new.budget
-    c.args.meter.now c.leads_to.new.meter enough (omega (arith, c.loop-kind-test.true))
-    (costs_next c.loop-kind.kind-index c.args.budget.now c.loop-kind.budget c.leads_to.new.budget c.args.meter.now
-    c.loop-kind.meter c.leads_to.new.meter c.loop-kind.invariant.cost c.leads_to.ensures.cost)
+    costs_all each value (c.loop-kind.kind-index + 1) (length c.args.kinds.now) c.args.spending.now c.leads_to.new.spending enough
+    (omega (arith, c.loop-kind-test.true))
+    (spends_next c.loop-kind.kind-index c.args.spending.now c.loop-kind.spending c.leads_to.new.spending
+    c.loop-kind.invariant.cost c.leads_to.ensures.cost)
 
 pub returns-then-branch-clause-one : goal.returns-then-branch-clause-one
 returns-then-branch-clause-one c =
@@ -51,12 +47,12 @@ returns-then-branch-clause-one c =
 
 pub returns-then-branch-clause-cost : goal.returns-then-branch-clause-cost
 returns-then-branch-clause-cost c = λ each value enough.
-    costs_all each value (c.loop-kind.kind-index + 1) (length c.args.kinds.now) c.args.budget.now c.leads_to.new.budget
-    c.args.meter.now c.leads_to.new.meter enough (omega (arith, c.loop-kind-test.true))
-    (costs_next c.loop-kind.kind-index c.args.budget.now c.loop-kind.budget c.leads_to.new.budget c.args.meter.now
-    c.loop-kind.meter c.leads_to.new.meter c.loop-kind.invariant.cost c.leads_to.ensures.cost)
+    costs_all each value (c.loop-kind.kind-index + 1) (length c.args.kinds.now) c.args.spending.now c.leads_to.new.spending enough
+    (omega (arith, c.loop-kind-test.true))
+    (spends_next c.loop-kind.kind-index c.args.spending.now c.loop-kind.spending c.leads_to.new.spending
+    c.loop-kind.invariant.cost c.leads_to.ensures.cost)
 
 pub returns-clause-cost : goal.returns-clause-cost
 returns-clause-cost c = λ each value enough.
-    costs_all each value c.loop-kind.kind-index (length c.args.kinds.now) c.args.budget.now c.loop-kind.budget c.args.meter.now
-    c.loop-kind.meter enough (omega arith) c.loop-kind.invariant.cost
+    costs_all each value c.loop-kind.kind-index (length c.args.kinds.now) c.args.spending.now c.loop-kind.spending enough
+    (omega arith) c.loop-kind.invariant.cost

@@ -91,7 +91,7 @@ loop-place-preserved c =
           let is = all_item (IsCacheText c.args.cache.now) items c.loop-place.place _ within
           (rw (sym c.as_slice.ensures) at c.loop-place.invariant.text) in
           rw c.replace.ensures (All-set (IsCacheText c.args.cache.now) c.loop-place.kinds c.loop-place.place c.in_ok-kind.kind.now
-          (⊎_elim (λ same. subst (IsCacheText c.args.cache.now) (sym same) is) (λ text. text) c.in_ok-kind.ensures.text)
+          (⊎_elim (λ same. subst (IsCacheText c.args.cache.now) (sym same) is) (λ text. text) c.in_ok-kind.ensures.given.text)
           c.loop-place.invariant.text);
       budget = search rules;
       cost =

@@ -7,7 +7,4 @@ returns-in-Magic-clause-answer c b offsets header aliases =
 pub returns-in-Magic-clause-cost : goal.returns-in-Magic-clause-cost
 returns-in-Magic-clause-cost c =
     let step = c.unalias.ensures in
-    record {
-      budget = step.budget;
-      looks = record { rises = step.rises; bytes_rise = step.bytes_rise; most_nodes = step.nodes; most_bytes = step.bytes };
-    }
+    record { budget = step.budget; looks = step.cost }
