@@ -2,7 +2,7 @@
 use Rattle.std.proofs.Common.{◌≡◌, ℕ, ◌+◌, ◌-◌, ◌*◌, ◌≤◌, refl, ap, arith}
 use Rattle.std.proofs.Math.Nat.{mul-le-mul_left}
 use Rattle.mime_base.specs.declared.meter.Meter.{Meter}
-use Rattle.mime_view.specs.Spending.{Spends}
+use Rattle.mime_view.specs.Spending.{Spends, spending_of}
 use Rattle.mime_view.specs.declared.spending.Spending.{Spending}
 use Rattle.mime_lookup.specs.Costs.{Costs}
 use Rattle.mime_lookup.specs.Searching.{per_nodes}

@@ -44,14 +44,14 @@ returns-then-is_empty-clause-cost c =
     costs_wider _ _ (29 + 29 * length (kinds_of c.args.kept.now)) (costs_looks search_cost 0 c.in_ok-base.ensures.cost) (omega arith) (omega arith)
     (omega arith)
 
-pub first_of-chosen-requires : goal.first_of-chosen-requires
-first_of-chosen-requires c = record { base = omega (arith, kind_short c.args.cache.now c.in_ok-base.base.now c.in_ok-base.ensures.kind) }
+pub first_of-requires : goal.first_of-requires
+first_of-requires c = record { base = omega (arith, kind_short c.args.cache.now c.in_ok-base.base.now c.in_ok-base.ensures.kind) }
 
 pub returns-in_err-kind-clause-stops : goal.returns-in_err-kind-clause-stops
 returns-in_err-kind-clause-stops c =
     let some : 0 < length c.args.kept.now = grind (arith, eqb-false) in
     let search = c.in_err-kind in
-    let left = c.first_of-chosen.new.spending.budget in
+    let left = c.first_of.new.spending.budget in
     passed_on _ search.field-0.0 c.from_residual-in_err-kind.result c.from_residual-in_err-kind.ensures.1
     (stops_for c.args.cache.now _ _ _ search.field-0.0 (choice_fault c.args.cache.now left search.field-0.0 (inr search.ensures.fault))
     (λ same. inl (choice_spent c.args.cache.now left search.field-0.0 (inr search.ensures.fault) same))

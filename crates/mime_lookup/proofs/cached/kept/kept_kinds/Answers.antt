@@ -59,10 +59,10 @@ returns-in_err-kind-clause-cost c =
       given = not_given _ _ c.from_residual-in_err-kind.result c.from_residual-in_err-kind.ensures.1;
       paid = omega (arith, first, c.loop-place-test.true, c.in_ok-kinds.ensures.count, records);
       cost = charged_steps (c.loop-place.place + 1) c.in_ok-kinds.ensures.cost (stays ∙ c.loop-place.invariant.budget) (record {
-        rises = omega (arith, so_far.rises, step.rises);
-        bytes_rise = omega (arith, so_far.bytes_rise, step.bytes_rise);
-        most_nodes = omega (arith, so_far.most_nodes, step.nodes);
-        most_bytes = omega (arith, so_far.most_bytes, step.bytes);
+        rises = omega (arith, so_far.rises, step.cost.rises);
+        bytes_rise = omega (arith, so_far.bytes_rise, step.cost.bytes_rise);
+        most_nodes = omega (arith, so_far.most_nodes, step.cost.most_nodes);
+        most_bytes = omega (arith, so_far.most_bytes, step.cost.most_bytes);
       });
     }
 
@@ -98,10 +98,10 @@ loop-place-preserved c =
           let so_far = c.loop-place.invariant.cost in
           let step = c.in_ok-kind.ensures in
           record {
-            rises = omega (arith, so_far.rises, step.rises);
-            bytes_rise = omega (arith, so_far.bytes_rise, step.bytes_rise);
-            most_nodes = omega (arith, so_far.most_nodes, step.nodes);
-            most_bytes = omega (arith, so_far.most_bytes, step.bytes);
+            rises = omega (arith, so_far.rises, step.cost.rises);
+            bytes_rise = omega (arith, so_far.bytes_rise, step.cost.bytes_rise);
+            most_nodes = omega (arith, so_far.most_nodes, step.cost.most_nodes);
+            most_bytes = omega (arith, so_far.most_bytes, step.cost.most_bytes);
           };
     }
 
