@@ -6,6 +6,7 @@ use Rattle.mime_base.specs.Format.Spells.{Spells}
 use Rattle.mime_base.specs.Kept.{FitsRank}
 use Rattle.mime_base.specs.declared.database.rule.GlobRule.{GlobRule}
 use Rattle.mime_lookup.specs.Spelling.{SpellsGlobs, SpellsIcons, SpellsMagic, SpellsPairs}
+use Rattle.mime_view.specs.NameHits.{SpellsRules}
 
 -- a rule within the limits fits a rank
 ranks-fit : (rules : List GlobRule) → All KeepsLimits rules → All FitsRank rules
@@ -40,6 +41,16 @@ spelled_globs c b within spells = record {
   literals = spells.literals;
   tree = spells.tree;
   globs = spells.globs;
+}
+
+-- the rules alone
+pub spelled_rules : (c : List ℕ) (b : PlainDatabase) → SpellsGlobs c b → SpellsRules c b.rules
+spelled_rules c b globs = record {
+  offsets = globs.offsets;
+  header = globs.header;
+  literals = globs.literals;
+  tree = globs.tree;
+  globs = globs.globs;
 }
 
 -- the sections of magic

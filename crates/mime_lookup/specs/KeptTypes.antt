@@ -8,14 +8,11 @@ use Rattle.mime_lookup.specs.Choice.{kept}
 use Rattle.mime_lookup.specs.Costs.{glob_cost}
 use Rattle.mime_lookup.specs.declared.cached.kept.KeptTypes.{KeptTypes}
 use Rattle.mime_view.specs.Hits.{Charged, near}
+use Rattle.mime_view.specs.NameHits.{near_records}
 use Rattle.mime_view.specs.Spending.{Gives}
 use Rattle.mime_view.specs.declared.fault.CacheFault.{CacheFault}
 use Rattle.mime_view.specs.declared.fault.CacheFault.TheVariants.{OutOfMemory}
 use Rattle.mime_view.specs.declared.spending.Spending.{Spending}
-
--- the records that a search for the types of a name takes at most, by the rules that are near it
-abbrev pub near_records : PlainDatabase → List ℕ → ℕ
-near_records b name = 2 * near name b.rules + 2 * length name + 2
 
 -- What is given as the types of the kept rules where the glob rules of a database stand.
 pub record GivesKinds (b : PlainDatabase) (name : List ℕ) (old new : Spending) (result : Result (List (List ℕ)) CacheFault) :
@@ -25,11 +22,11 @@ pub record GivesKinds (b : PlainDatabase) (name : List ℕ) (old new : Spending)
   -- They are no more than the rules near the name.
   pub few : IfOk result (λ kinds. length kinds ≤ near name b.rules)
   -- With a record left for each that the rules may take, only memory is refused.
-  pub need : (rule_records b ≤ old.budget.records) ⊎ (near_records b name ≤ old.budget.records) → IfErr result (λ e. e ≡ OutOfMemory)
+  pub need : (rule_records b ≤ old.budget.records) ⊎ (near_records name b.rules ≤ old.budget.records) → IfErr result (λ e. e ≡ OutOfMemory)
   -- No more are taken than all rules may take.
   pub within : old.budget.records ≤ new.budget.records + rule_records b
   -- Nor more than those near the name.
-  pub nearly : old.budget.records ≤ new.budget.records + near_records b name
+  pub nearly : old.budget.records ≤ new.budget.records + near_records name b.rules
 
 -- What they cost: a search for the rules, and an alias step for each type that is found.
 pub record CostsKinds (name : ℕ) (old new : Spending) (result : Result (List (List ℕ)) CacheFault) : Type 0 where

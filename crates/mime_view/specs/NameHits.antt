@@ -1,13 +1,15 @@
 -- What the three lists of rules give for a name, and why nothing is said of it.
-use Rattle.std.specs.Prelude.{◌≡◌, ◌⊎◌, ℕ, ◌+◌, ◌≤◌, ◌&&◌, Bool, List, length, map, nat_le, Result, Ok, IfOk, IfErr, All}
+use Rattle.std.specs.Prelude.{◌≡◌, ◌⊎◌, ℕ, ◌+◌, ◌*◌, ◌≤◌, ◌&&◌, Bool, List, length, map, nat_le, Result, Ok, IfOk, IfErr, All}
 use Rattle.std.specs.List.{list_any}
 use Rattle.mime_base.specs.Cache.Bytes.{Stands}
 use Rattle.mime_base.specs.Cache.Texts.{text_at}
+use Rattle.mime_base.specs.Format.Header.{HeaderAt, Offsets}
 use Rattle.mime_base.specs.Format.Rules.{GlobsAt, LiteralsAt}
-use Rattle.mime_base.specs.Format.SuffixTree.{SuffixTreeAt}
+use Rattle.mime_base.specs.Format.Stored.{glob_rules, literal_rules}
+use Rattle.mime_base.specs.Format.SuffixTree.{SuffixTreeAt, tree_size}
 use Rattle.mime_base.specs.Kept.{FitsRank, kept_rules}
 use Rattle.mime_base.specs.declared.database.rule.GlobRule.{GlobRule}
-use Rattle.mime_view.specs.Hits.{hit_visits}
+use Rattle.mime_view.specs.Hits.{hit_visits, near}
 use Rattle.mime_view.specs.Lists.{IsListFault, IsTextFault}
 use Rattle.mime_view.specs.SuffixTree.{IsTreeFault}
 use Rattle.mime_view.specs.declared.budget.Budget.{Budget}
@@ -29,6 +31,19 @@ pub record RulesAt (c : List ℕ) (lists : RuleLists) (rules : List GlobRule) : 
   -- The others stand in the glob list.
   pub globs : GlobsAt (Stands c) lists.globs rules
 
+-- The rules stand in the three lists that the header of a cache names.
+pub record SpellsRules (c : List ℕ) (rules : List GlobRule) : Type 0 where
+  -- The numbers of the header.
+  pub offsets : Offsets
+  -- They stand at its begin.
+  pub header : HeaderAt (Stands c) offsets
+  -- The literal list.
+  pub literals : LiteralsAt (Stands c) offsets.literals rules
+  -- The tree.
+  pub tree : SuffixTreeAt (Stands c) offsets.tree rules
+  -- The glob list.
+  pub globs : GlobsAt (Stands c) offsets.globs rules
+
 -- why the lists can't be read: the literal list, the tree, the glob list, or a text
 abbrev pub IsRuleListsFault : List ℕ → RuleLists → CacheFault → Type 0
 IsRuleListsFault c lists e =
@@ -39,6 +54,27 @@ abbrev pub IsHitsFault : List ℕ → ℕ → ℕ → ℕ → Budget → CacheFa
 IsHitsFault c literals tree globs after e =
     IsListFault c literals 12 e ⊎ IsTreeFault c tree e ⊎ IsListFault c globs 12 e ⊎ IsTextFault c e
     ⊎ ((e ≡ Spent) × (after.records ≡ 0)) ⊎ (e ≡ OutOfMemory)
+
+-- the records that are taken for a name at most: for each entry of a list, two where one search serves both cases
+abbrev pub list_records : List GlobRule → ℕ
+list_records rules = 2 * length (literal_rules rules) + 2 * tree_size rules + length (glob_rules rules)
+
+-- and by the rules near it: two for each, for each of its bytes, and for the literals
+abbrev pub near_records : List ℕ → List GlobRule → ℕ
+near_records name rules = 2 * near name rules + 2 * length name + 2
+
+-- What a cache gives for a name where these rules stand.
+pub record GivesHits (name : List ℕ) (rules : List GlobRule) (old new : Budget) (result : Result (List (List ℕ)) CacheFault)
+    : Type 0 where
+  -- The types of the rules that are kept, if their ranks have room for them.
+  pub answer : All FitsRank rules → IfOk result (λ kinds. kinds ≡ map (λ rule. rule.kind) (kept_rules rules name))
+  -- With records for all entries, or for those near the name, only memory can be short.
+  pub need : All FitsRank rules → (list_records rules ≤ old.records) ⊎ (near_records name rules ≤ old.records)
+      → IfErr result (λ e. e ≡ OutOfMemory)
+  -- No more records are taken than for all entries.
+  pub within : old.records ≤ new.records + list_records rules
+  -- Nor more than for those near the name.
+  pub nearly : old.records ≤ new.records + near_records name rules
 
 -- What is given for a name where these rules stand.
 pub record GivesKept (name : List ℕ) (rules : List GlobRule) (old new : Spending) (result : Result (List (List ℕ)) CacheFault)

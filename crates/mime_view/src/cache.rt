@@ -1,7 +1,7 @@
 //! A cache whose header was read ("The mime.cache files").
 
 ghost use Rattle.std.specs.Prelude.{◌≡◌, ◌⊎◌, true, false, ℕ, ◌+◌, ◌*◌, ◌<◌, ◌≤◌, List};
-ghost use Rattle.std.specs.Prelude.{All, Ok, length, map, option_map};
+ghost use Rattle.std.specs.Prelude.{All, Ok, length, map, option_map, ⊤};
 ghost use Rattle.std.specs.Prelude.{IfErr, IfOk, IfSome, IsOkAnd, MatchResult, OnOk};
 ghost use Rattle.mime_base.specs.Cache.Bytes.{Stands, field};
 ghost use Rattle.mime_base.specs.Cache.Texts.{text_at};
@@ -11,21 +11,18 @@ ghost use Rattle.mime_base.specs.Format.Header.{HeaderAt, Offsets};
 ghost use Rattle.mime_base.specs.Format.Magic.{MagicAt};
 ghost use Rattle.mime_base.specs.Format.Pairs.{PairsAt};
 ghost use Rattle.mime_base.specs.Format.Parents.{ParentsAt};
-ghost use Rattle.mime_base.specs.Format.Rules.{GlobsAt, LiteralsAt};
 ghost use Rattle.mime_base.specs.Format.Stored.{glob_rules, literal_rules};
-ghost use Rattle.mime_base.specs.Format.SuffixTree.{SuffixTreeAt, tree_size};
-ghost use Rattle.mime_base.specs.Kept.{FitsRank, kept_rules};
+ghost use Rattle.mime_base.specs.Format.SuffixTree.{tree_size};
 ghost use Rattle.mime_base.specs.Meter.{raised};
 ghost use Rattle.mime_base.specs.Format.Packed.{matchlet_count, value_length};
 ghost use Rattle.mime_base.specs.Magic.{PlainSection, are_allowed_sections};
 ghost use Rattle.mime_base.specs.Magic.Holds.{first_magic};
 ghost use Rattle.mime_base.specs.declared.database.rule.GlobRule.{GlobRule};
-ghost use Rattle.mime_view.specs.Hits.{Charged, near};
-ghost use Rattle.mime_view.specs.Magic.{IsMagicFault, Paid, Takes, plain_found};
-ghost use Rattle.std.specs.Prelude.{IsOk};
+ghost use Rattle.mime_view.specs.Hits.{Charged};
+ghost use Rattle.mime_view.specs.Magic.{Answers, IsMagicFault, Paid, plain_found};
 ghost use Rattle.mime_base.specs.Magic.Extent.{sections_extent};
 ghost use Rattle.mime_view.specs.Lists.{IsSearchFault};
-ghost use Rattle.mime_view.specs.NameHits.{IsHitsFault};
+ghost use Rattle.mime_view.specs.NameHits.{GivesHits, GivesTexts, IsHitsFault, SpellsRules};
 ghost use Rattle.mime_view.specs.Pairs.{IsSecondName, IsUnaliased, looked_up};
 ghost use Rattle.mime_view.specs.Parents.{IsGiven, StopsParents, TakesParents, is_marked, unmarked_parents};
 ghost use Rattle.mime_view.specs.Spending.{Gives, Looks, Spends, per_record, spending_of};
@@ -147,35 +144,14 @@ impl<'a> Cache<'a> {
     ) -> Result<Texts<'a>, CacheFault>
         // A name has no more bytes.
         requires short { length name.now ≤ 4096 }
-        // Of the rules that the cache spells, it gives the types of those that are kept.
-        ensures answer { (offsets : Offsets) (rules : List GlobRule) → All FitsRank rules →
-            HeaderAt (Stands self.now) offsets → LiteralsAt (Stands self.now) offsets.literals rules →
-            SuffixTreeAt (Stands self.now) offsets.tree rules → GlobsAt (Stands self.now) offsets.globs rules →
-            IfOk result (λ kinds. kinds ≡ map (λ rule. rule.kind) (kept_rules rules name.now)) }
-        // Each type is a text of the cache.
-        ensures text { IfOk result (λ kinds. All (λ kind. (at : ℕ) × (text_at self.now at ≡ Ok kind)) kinds) }
-        // Each was paid for by a record.
-        ensures count { IfOk result (λ kinds. length kinds + budget.new.records ≤ budget.old.records) }
-        // With records for all entries, or for those near the name, only memory can be short.
-        ensures need { (offsets : Offsets) (rules : List GlobRule) → All FitsRank rules →
-            HeaderAt (Stands self.now) offsets → LiteralsAt (Stands self.now) offsets.literals rules →
-            SuffixTreeAt (Stands self.now) offsets.tree rules → GlobsAt (Stands self.now) offsets.globs rules →
-            (2 * length (literal_rules rules) + 2 * tree_size rules + length (glob_rules rules) ≤ budget.old.records)
-            ⊎ (2 * near name.now rules + 2 * length name.now + 2 ≤ budget.old.records) →
-            IfErr result (λ e. e ≡ CacheFault.OutOfMemory) }
+        // Where these rules stand, it gives the types of those that are kept, and takes no more records than they need.
+        ensures gives { (rules : List GlobRule) → SpellsRules self.now rules →
+            GivesHits name.now rules budget.old budget.new result }
+        // Whatever the bytes are, each type is a text of the cache, and was paid for by a record.
+        ensures texts { GivesTexts self.now (spending_of meter.old budget.old) (spending_of meter.new budget.new) result }
         // Why nothing is said of the name.
         ensures fault { IfErr result
             (IsHitsFault self.now (field self.now 0 3) (field self.now 0 4) (field self.now 0 5) budget.new) }
-        // No more records are taken than the lists have entries, two where one search serves both cases.
-        ensures takes_within { (offsets : Offsets) (rules : List GlobRule) → HeaderAt (Stands self.now) offsets →
-            LiteralsAt (Stands self.now) offsets.literals rules → SuffixTreeAt (Stands self.now) offsets.tree rules →
-            GlobsAt (Stands self.now) offsets.globs rules → budget.old.records ≤ budget.new.records
-            + (2 * length (literal_rules rules) + 2 * tree_size rules + length (glob_rules rules)) }
-        // Nor more than for the rules near the name, and two for each of its bytes and for the literals.
-        ensures takes_near { (offsets : Offsets) (rules : List GlobRule) → HeaderAt (Stands self.now) offsets →
-            LiteralsAt (Stands self.now) offsets.literals rules → SuffixTreeAt (Stands self.now) offsets.tree rules →
-            GlobsAt (Stands self.now) offsets.globs rules →
-            budget.old.records ≤ budget.new.records + (2 * near name.now rules + 2 * length name.now + 2) }
         // A record costs as in the glob list, and the text of a type; the halving comes besides, for both cases.
         ensures cost { Charged (256 * (length name.now + 3)) (29 * (2 * length name.now + 2) + 1)
             budget.old budget.new meter.old meter.new }
@@ -344,23 +320,17 @@ impl<'a> Cache<'a> {
         meter: &mut Meter,
         budget: &mut Budget,
     ) -> Result<Option<(&'a [u8], u32)>, CacheFault>
-        // Where magic stands, it gives the type and the priority of the first section that holds, if one does.
-        ensures answer { (offsets : Offsets) (sections : List PlainSection) → HeaderAt (Stands self.now) offsets →
+        // Where magic stands, it gives the type and the priority of the first section that holds, if one does, and takes no more
+        // than a record for each section and line, and the bytes of their values.
+        ensures answers { (offsets : Offsets) (sections : List PlainSection) → HeaderAt (Stands self.now) offsets →
             are_allowed_sections sections ≡ true → MagicAt (Stands self.now) offsets.magic sections →
-            IfOk result (λ found. plain_found found ≡ first_magic sections content.now host) }
+            Answers (λ found. plain_found found ≡ first_magic sections content.now host) ⊤
+            (length sections + matchlet_count sections) (value_length sections)
+            (spending_of meter.old budget.old) (spending_of meter.new budget.new) result }
         // On any bytes the type is a text of the cache.
         ensures text { IfOk result (λ found. IfSome found (λ pair. (at : ℕ) × (text_at self.now at ≡ Ok pair.0.now))) }
-        // With a record left for each section and line, and the bytes of their values, there is an answer.
-        ensures need { (offsets : Offsets) (sections : List PlainSection) → HeaderAt (Stands self.now) offsets →
-            are_allowed_sections sections ≡ true → MagicAt (Stands self.now) offsets.magic sections →
-            length sections + matchlet_count sections ≤ budget.old.records →
-            value_length sections ≤ budget.old.value_bytes → IsOk result }
         // A fault is one of the list, of a section or a line, or the budget is spent.
         ensures fault { IfErr result (IsMagicFault self.now (field self.now 0 6) budget.new) }
-        // Where magic stands, no more is taken before a fault.
-        ensures takes_at_most { (offsets : Offsets) (sections : List PlainSection) → HeaderAt (Stands self.now) offsets →
-            are_allowed_sections sections ≡ true → MagicAt (Stands self.now) offsets.magic sections →
-            Takes (length sections + matchlet_count sections) (value_length sections) budget.old budget.new }
         // A record costs one node and one text, a value byte one comparison for each place of the content; one node comes besides.
         ensures cost { Paid (length content.now) 256 1 budget.old budget.new meter.old meter.new }
     {
@@ -394,12 +364,8 @@ impl<'a> Cache<'a> {
             × (e ≡ CacheFault.OutOfRange (field self.now 0 6))) }
         // It takes nothing of the budget.
         ensures budget { budget.new ≡ budget.old }
-        // The count of records never falls.
-        ensures rises { meter.old.nodes ≤ meter.new.nodes }
-        // It visits one record.
-        ensures nodes { meter.new.nodes ≤ meter.old.nodes + 1 }
-        // It compares nothing.
-        ensures bytes { meter.new.bytes ≡ meter.old.bytes }
+        // It visits one record, and compares nothing.
+        ensures cost { Looks 1 0 meter.old meter.new }
     {
         let _ = budget;
         let [_, extent, _] = self.counted.cards::<3>(u64::from(self.header[6]), meter)?;
@@ -425,27 +391,15 @@ impl<'a> Cache<'a> {
         meter: &mut Meter,
         budget: &mut Budget,
     ) -> Result<Vec<Listed<'a>>, CacheFault>
-        // Where the four parts that have rules stand, it lists the rules, each once, by their stored texts.
-        ensures answer { (offsets : Offsets) (rules : List GlobRule) → HeaderAt (Stands self.now) offsets →
-            All KeepsLimits rules → LiteralsAt (Stands self.now) offsets.literals rules →
-            SuffixTreeAt (Stands self.now) offsets.tree rules → GlobsAt (Stands self.now) offsets.globs rules →
-            IfOk result (λ listed. IsListing rules (map plain_listed listed.items)) }
+        // Where these rules stand, it lists each once, by its stored text, and takes no more than a record for each entry and node.
+        ensures gives { (rules : List GlobRule) → SpellsRules self.now rules → All KeepsLimits rules →
+            Gives (λ listed. IsListing rules (map plain_listed listed.items))
+            (length (literal_rules rules) + tree_size rules + length (glob_rules rules))
+            (spending_of meter.old budget.old) (spending_of meter.new budget.new) result }
         // On any bytes each type is a text of the cache, and each pattern is short.
         ensures text { IfOk result (λ listed. All (IsListed self.now) (map plain_listed listed.items)) }
-        // With a record left for each entry and node, only memory can be short.
-        ensures need { (offsets : Offsets) (rules : List GlobRule) → HeaderAt (Stands self.now) offsets →
-            All KeepsLimits rules → LiteralsAt (Stands self.now) offsets.literals rules →
-            SuffixTreeAt (Stands self.now) offsets.tree rules → GlobsAt (Stands self.now) offsets.globs rules →
-            length (literal_rules rules) + tree_size rules + length (glob_rules rules) ≤ budget.old.records →
-            IfErr result (λ e. e ≡ CacheFault.OutOfMemory) }
         // A fault is one of the lists, of the tree or of a text, or the budget is spent, or memory is short.
         ensures fault { IfErr result (IsListingFault self.now budget.new.records) }
-        // Where they stand, no more is taken before a fault.
-        ensures takes_at_most { (offsets : Offsets) (rules : List GlobRule) → HeaderAt (Stands self.now) offsets →
-            All KeepsLimits rules → LiteralsAt (Stands self.now) offsets.literals rules →
-            SuffixTreeAt (Stands self.now) offsets.tree rules → GlobsAt (Stands self.now) offsets.globs rules →
-            budget.old.records ≤ budget.new.records
-            + (length (literal_rules rules) + tree_size rules + length (glob_rules rules)) }
         // A record costs one node and two texts; four nodes come besides.
         ensures cost { Lists 4 budget.old budget.new meter.old meter.new }
     {

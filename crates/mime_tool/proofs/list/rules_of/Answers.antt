@@ -12,13 +12,12 @@ returns-in_err-cache-clause-need c = λ b asked spells packed.
 pub returns-clause-answer : goal.returns-clause-answer
 returns-clause-answer c =
     let is : c.in_ok-cache.cache ≡ c.args.cache.now = c.in_ok-cache.ensures.opened.0 ∙ c.new.ensures in
-    rules_found c.args.cache.now c.rules.result (rw is at c.rules.ensures.answer) (rw is at c.rules.ensures.text)
+    rules_found c.args.cache.now _ _ c.rules.result (rw is at c.rules.ensures.gives) (rw is at c.rules.ensures.text)
 
 pub returns-clause-need : goal.returns-clause-need
 returns-clause-need c =
     let is : c.in_ok-cache.cache ≡ c.args.cache.now = c.in_ok-cache.ensures.opened.0 ∙ c.new.ensures in
-    rules_needed c.args.cache.now c.of-budget.result.records _ (rw is at c.of-budget.ensures.records)
-    (rw is at c.rules.ensures.need)
+    rules_needed c.args.cache.now _ _ c.rules.result (rw is at c.of-budget.ensures.records) (rw is at c.rules.ensures.gives)
 
 pub returns-clause-fault : goal.returns-clause-fault
 returns-clause-fault c =

@@ -9,6 +9,7 @@ use Rattle.mime_lookup.specs.Cached.{IsCacheText}
 use Rattle.mime_lookup.specs.Choice.{kept}
 use Rattle.mime_lookup.proofs.CostLemmas.{charged_steps}
 use Rattle.mime_lookup.proofs.NearLemmas.{kept_few}
+use Rattle.mime_lookup.proofs.SpelledParts.{spelled_rules}
 use Rattle.mime_lookup.proofs.StepStops.{not_given, passed_on}
 use Rattle.mime_lookup.proofs.KeptTypes.{all_item, stepped-all, stepped-next, texts_count}
 use Rattle.mime_view.specs.declared.budget.Budget.{Budget}
@@ -17,14 +18,13 @@ use Rattle.mime_lookup.proofs.cached.kept.kept_kinds.Goals as goal
 pub returns-in_err-kinds-clause-gives : goal.returns-in_err-kinds-clause-gives
 returns-in_err-kinds-clause-gives c b spelled =
     let passed = c.from_residual.ensures.1 in
-    let hits = c.in_err-kinds.ensures in
+    let hits = c.in_err-kinds.ensures.gives b.rules (spelled_rules c.args.cache.now b spelled) in
     record {
       answer = not_given _ _ c.from_residual.result passed;
       few = not_given _ _ c.from_residual.result passed;
-      need = λ enough. passed_on _ _ c.from_residual.result passed (hits.need spelled.offsets b.rules spelled.ranks spelled.header
-          spelled.literals spelled.tree spelled.globs enough);
-      within = hits.takes_within spelled.offsets b.rules spelled.header spelled.literals spelled.tree spelled.globs;
-      nearly = hits.takes_near spelled.offsets b.rules spelled.header spelled.literals spelled.tree spelled.globs;
+      need = λ enough. passed_on _ _ c.from_residual.result passed (hits.need spelled.ranks enough);
+      within = hits.within;
+      nearly = hits.nearly;
     }
 
 pub returns-in_err-kinds-clause-cost : goal.returns-in_err-kinds-clause-cost
@@ -57,7 +57,7 @@ returns-in_err-kind-clause-cost c =
     record {
       found = c.loop-place.place + 1;
       given = not_given _ _ c.from_residual-in_err-kind.result c.from_residual-in_err-kind.ensures.1;
-      paid = omega (arith, first, c.loop-place-test.true, c.in_ok-kinds.ensures.count, records);
+      paid = omega (arith, first, c.loop-place-test.true, c.in_ok-kinds.ensures.texts.count, records);
       cost = charged_steps (c.loop-place.place + 1) c.in_ok-kinds.ensures.cost (stays ∙ c.loop-place.invariant.budget) (record {
         rises = omega (arith, so_far.rises, step.cost.rises);
         bytes_rise = omega (arith, so_far.bytes_rise, step.cost.bytes_rise);
@@ -70,7 +70,7 @@ pub loop-place-init : goal.loop-place-init
 loop-place-init c = record {
   size = refl;
   answer = λ b spelled. refl;
-  text = c.in_ok-kinds.ensures.text;
+  text = c.in_ok-kinds.ensures.texts.text;
   budget = refl;
   cost = record { rises = omega arith; bytes_rise = omega arith; most_nodes = omega arith; most_bytes = omega arith };
 }
@@ -110,8 +110,8 @@ unfolding kept
 returns-clause-gives c b spelled =
     let step = resolved b.aliases in
     let first = texts_count c.as_slice-place-end.result.now c.in_ok-kinds.kinds c.as_slice-place-end.ensures in
-    let hits = c.in_ok-kinds.ensures in
-    let rules = hits.answer spelled.offsets b.rules spelled.ranks spelled.header spelled.literals spelled.tree spelled.globs in
+    let hits = c.in_ok-kinds.ensures.gives b.rules (spelled_rules c.args.cache.now b spelled) in
+    let rules = hits.answer spelled.ranks in
     let answer : c.loop-place.kinds ≡ kept (pairs_of b) b.rules c.args.name.now =
     c.loop-place.invariant.answer b spelled
     ∙ stepped-all step c.loop-place.place c.in_ok-kinds.kinds (omega (arith, first, c.loop-place-test.false))
@@ -122,8 +122,8 @@ returns-clause-gives c b spelled =
       answer = answer;
       few = kept_few c.kept_are_near.ensures b c.args.name.now c.loop-place.kinds answer;
       need = λ enough. tt;
-      within = omega (arith, records, hits.takes_within spelled.offsets b.rules spelled.header spelled.literals spelled.tree spelled.globs);
-      nearly = omega (arith, records, hits.takes_near spelled.offsets b.rules spelled.header spelled.literals spelled.tree spelled.globs);
+      within = omega (arith, records, hits.within);
+      nearly = omega (arith, records, hits.nearly);
     }
 
 pub returns-clause-cost : goal.returns-clause-cost
@@ -134,7 +134,7 @@ returns-clause-cost c =
     record {
       found = length c.loop-place.kinds;
       given = refl;
-      paid = omega (arith, i.size, c.in_ok-kinds.ensures.count, records);
+      paid = omega (arith, i.size, c.in_ok-kinds.ensures.texts.count, records);
       cost = charged_steps (length c.loop-place.kinds) c.in_ok-kinds.ensures.cost i.budget (record {
         rises = i.cost.rises;
         bytes_rise = i.cost.bytes_rise;

@@ -17,7 +17,7 @@ returns-in_err-section-clause-stops c =
     (λ b enough.
     let spells = content_magic c.args.cache.now c.in-Some.front.now b enough.0 in
     absurd (true≢false (sym
-    (sniff.ensures.need spells.offsets b.sections spells.header spells.lines spells.magic enough.1 enough.2))))))
+    ((sniff.ensures.answers spells.offsets b.sections spells.header spells.lines spells.magic).need tt enough.1 enough.2))))))
 
 pub returns-in_err-section-clause-nothing : goal.returns-in_err-section-clause-nothing
 returns-in_err-section-clause-nothing c = rw c.in-Some.is (λ none. absurd cc)
@@ -26,7 +26,7 @@ pub returns-in_err-section-clause-takes : goal.returns-in_err-section-clause-tak
 returns-in_err-section-clause-takes c =
     rw c.in-Some.is (λ b enough.
     let spells = content_magic c.args.cache.now c.in-Some.front.now b enough in
-    (c.sniff.ensures.takes_at_most spells.offsets b.sections spells.header spells.lines spells.magic).most_records)
+    (c.sniff.ensures.answers spells.offsets b.sections spells.header spells.lines spells.magic).takes.most_records)
 
 pub returns-in_err-section-clause-cost : goal.returns-in_err-section-clause-cost
 returns-in_err-section-clause-cost c = rw c.in-Some.is (costs_paid (length c.in-Some.front.now) _ _ c.sniff.ensures.cost)
@@ -36,7 +36,7 @@ returns-clause-found c =
     rw c.in-Some.is (λ b enough.
     let spells = content_magic c.args.cache.now c.in-Some.front.now b enough in
     c.finding_of.ensures.found ∙ ap (λ section. found_by section c.in-Some.front.now)
-    (c.in_ok-section.ensures.answer spells.offsets b.sections spells.header spells.lines spells.magic))
+    (c.in_ok-section.ensures.answers spells.offsets b.sections spells.header spells.lines spells.magic).answer)
 
 pub returns-clause-finding : goal.returns-clause-finding
 returns-clause-finding c = c.finding_of.ensures.finding c.args.cache.now c.in_ok-section.ensures.text
@@ -48,7 +48,7 @@ pub returns-clause-takes : goal.returns-clause-takes
 returns-clause-takes c =
     rw c.in-Some.is (λ b enough.
     let spells = content_magic c.args.cache.now c.in-Some.front.now b enough in
-    (c.sniff.ensures.takes_at_most spells.offsets b.sections spells.header spells.lines spells.magic).most_records)
+    (c.sniff.ensures.answers spells.offsets b.sections spells.header spells.lines spells.magic).takes.most_records)
 
 pub returns-clause-cost : goal.returns-clause-cost
 returns-clause-cost c = rw c.in-Some.is (costs_paid (length c.in-Some.front.now) _ _ c.sniff.ensures.cost)

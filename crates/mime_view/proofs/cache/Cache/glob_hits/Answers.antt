@@ -7,44 +7,30 @@ use Rattle.mime_view.proofs.NameLists.{rules_named}
 use Rattle.mime_view.proofs.VisitCounts.{visits_near, visits_within}
 use Rattle.mime_view.proofs.cache.Cache.glob_hits.Goals as goal
 
-pub returns-clause-answer : goal.returns-clause-answer
-returns-clause-answer c = λ offsets rules fits header literals tree globs.
+pub returns-clause-gives : goal.returns-clause-gives
+returns-clause-gives c = λ rules spells.
     let number = c.self.invariant.0 in
-    let stand = rules_named c.args.self.now c.self.inside.counted _ offsets rules c.self.view_is
+    let stand = rules_named c.args.self.now c.self.inside.counted _ rules c.self.view_is
     (ap (λ (ns : List ℕ). get_or ns 3 0) number) (ap (λ (ns : List ℕ). get_or ns 4 0) number)
-    (ap (λ (ns : List ℕ). get_or ns 5 0) number) header literals tree globs in
-    (c.glob_hits-kinds.ensures.found rules stand).answer fits
+    (ap (λ (ns : List ℕ). get_or ns 5 0) number) spells in
+    let found = c.glob_hits-kinds.ensures.found rules stand in
+    let within = visits_within rules c.args.name.now in
+    let nearly = visits_near rules c.args.name.now in
+    record {
+      answer = found.answer;
+      need = λ fits enough. found.need fits
+          (⊎_elim (λ of_lists. omega (arith, within, of_lists)) (λ of_near. omega (arith, nearly, of_near)) enough);
+      within = omega (arith, found.most, within);
+      nearly = omega (arith, found.most, nearly);
+    }
 
-pub returns-clause-need : goal.returns-clause-need
-returns-clause-need c = λ offsets rules fits header literals tree globs enough.
-    let number = c.self.invariant.0 in
-    let stand = rules_named c.args.self.now c.self.inside.counted _ offsets rules c.self.view_is
-    (ap (λ (ns : List ℕ). get_or ns 3 0) number) (ap (λ (ns : List ℕ). get_or ns 4 0) number)
-    (ap (λ (ns : List ℕ). get_or ns 5 0) number) header literals tree globs in
-    (c.glob_hits-kinds.ensures.found rules stand).need fits
-    (⊎_elim (λ of_lists. omega (arith, visits_within rules c.args.name.now, of_lists))
-    (λ of_near. omega (arith, visits_near rules c.args.name.now, of_near)) enough)
-
-pub returns-clause-takes_within : goal.returns-clause-takes_within
-returns-clause-takes_within c = λ offsets rules header literals tree globs.
-    let number = c.self.invariant.0 in
-    let stand = rules_named c.args.self.now c.self.inside.counted _ offsets rules c.self.view_is
-    (ap (λ (ns : List ℕ). get_or ns 3 0) number) (ap (λ (ns : List ℕ). get_or ns 4 0) number)
-    (ap (λ (ns : List ℕ). get_or ns 5 0) number) header literals tree globs in
-    omega (arith, (c.glob_hits-kinds.ensures.found rules stand).most, visits_within rules c.args.name.now)
-
-pub returns-clause-takes_near : goal.returns-clause-takes_near
-returns-clause-takes_near c = λ offsets rules header literals tree globs.
-    let number = c.self.invariant.0 in
-    let stand = rules_named c.args.self.now c.self.inside.counted _ offsets rules c.self.view_is
-    (ap (λ (ns : List ℕ). get_or ns 3 0) number) (ap (λ (ns : List ℕ). get_or ns 4 0) number)
-    (ap (λ (ns : List ℕ). get_or ns 5 0) number) header literals tree globs in
-    omega (arith, (c.glob_hits-kinds.ensures.found rules stand).most, visits_near rules c.args.name.now)
-
-pub returns-clause-text : goal.returns-clause-text
-returns-clause-text c =
-    subst (λ (bytes : List ℕ). IfOk c.glob_hits-kinds.result (λ kinds. All (λ kind. (at : ℕ) × (text_at bytes at ≡ Ok kind)) kinds))
-    c.self.view_is c.glob_hits-kinds.ensures.gives.text
+pub returns-clause-texts : goal.returns-clause-texts
+returns-clause-texts c = record {
+  text =
+      subst (λ (bytes : List ℕ). IfOk c.glob_hits-kinds.result (λ kinds. All (λ kind. (at : ℕ) × (text_at bytes at ≡ Ok kind)) kinds))
+      c.self.view_is c.glob_hits-kinds.ensures.gives.text;
+  count = c.glob_hits-kinds.ensures.gives.count;
+}
 
 pub returns-clause-cost : goal.returns-clause-cost
 returns-clause-cost c =

@@ -7,20 +7,26 @@ use Rattle.mime_view.specs.Listing.{IsListed, plain_listed}
 use Rattle.mime_view.proofs.RuleLists.{all_read, are_listed, listing_fault}
 use Rattle.mime_view.proofs.cache.Cache.rules.Goals as goal
 
-pub returns-clause-answer : goal.returns-clause-answer
-returns-clause-answer c = λ offsets rules header fit by_literals by_tree by_globs.
+pub returns-clause-gives : goal.returns-clause-gives
+returns-clause-gives c = λ rules spells fit.
     let is3 : c.from-literals.result ≡ field c.self.inside.counted 0 3 =
     c.from-literals.ensures ∙ ap (λ (ns : List ℕ). get_or ns 3 0) c.self.invariant.0 in
     let is4 : c.from-tree.result ≡ field c.self.inside.counted 0 4 =
     c.from-tree.ensures ∙ ap (λ (ns : List ℕ). get_or ns 4 0) c.self.invariant.0 in
     let is5 : c.from-globs.result ≡ field c.self.inside.counted 0 5 =
     c.from-globs.ensures ∙ ap (λ (ns : List ℕ). get_or ns 5 0) c.self.invariant.0 in
-    let read = all_read c.args.self.now c.self.inside.counted c.from-literals.result c.from-tree.result c.from-globs.result offsets rules
-    c.self.view_is is3 is4 is5 header fit by_literals by_tree by_globs in
-    IfOk-weaker c.list_rules-rules.result _ _
-    (λ listed is. are_listed c.self.inside.counted c.from-literals.result c.from-tree.result c.from-globs.result rules
-    (map plain_listed listed.items) read is)
-    (c.list_rules-rules.ensures.answer read.first (glob_rules rules) read.roots read.literals_read read.tree_reads read.globs_read).answer
+    let read = all_read c.args.self.now c.self.inside.counted c.from-literals.result c.from-tree.result c.from-globs.result
+    spells.offsets rules c.self.view_is is3 is4 is5 spells.header fit spells.literals spells.tree spells.globs in
+    let listed =
+    c.list_rules-rules.ensures.answer read.first (glob_rules rules) read.roots read.literals_read read.tree_reads read.globs_read in
+    record {
+      answer =
+          IfOk-weaker c.list_rules-rules.result _ _
+          (λ listed is. are_listed c.self.inside.counted c.from-literals.result c.from-tree.result c.from-globs.result rules
+          (map plain_listed listed.items) read is) listed.answer;
+      need = λ enough. listed.need (omega (arith, read.count, read.size, enough));
+      most = omega (arith, read.count, read.size, listed.most);
+    }
 
 pub returns-clause-text : goal.returns-clause-text
 returns-clause-text c =
@@ -37,33 +43,3 @@ returns-clause-fault c =
     c.from-globs.ensures ∙ ap (λ (ns : List ℕ). get_or ns 5 0) c.self.invariant.0 in
     MatchResult-weaker c.list_rules-rules.result c.list_rules-rules.ensures.listed (λ listed texts. tt)
     (λ e fault. listing_fault c.args.self.now c.self.inside.counted _ _ _ _ e c.self.view_is is3 is4 is5 fault)
-
-pub returns-clause-need : goal.returns-clause-need
-returns-clause-need c = λ offsets rules header fit by_literals by_tree by_globs enough.
-    let is3 : c.from-literals.result ≡ field c.self.inside.counted 0 3 =
-    c.from-literals.ensures ∙ ap (λ (ns : List ℕ). get_or ns 3 0) c.self.invariant.0 in
-    let is4 : c.from-tree.result ≡ field c.self.inside.counted 0 4 =
-    c.from-tree.ensures ∙ ap (λ (ns : List ℕ). get_or ns 4 0) c.self.invariant.0 in
-    let is5 : c.from-globs.result ≡ field c.self.inside.counted 0 5 =
-    c.from-globs.ensures ∙ ap (λ (ns : List ℕ). get_or ns 5 0) c.self.invariant.0 in
-    let read = all_read c.args.self.now c.self.inside.counted c.from-literals.result c.from-tree.result c.from-globs.result offsets rules
-    c.self.view_is is3 is4 is5 header fit by_literals by_tree by_globs in
-    (c.list_rules-rules.ensures.answer read.first (glob_rules rules) read.roots read.literals_read read.tree_reads read.globs_read).need
-    (omega (arith, read.count, read.size))
-
-pub returns-clause-takes_at_most : goal.returns-clause-takes_at_most
-returns-clause-takes_at_most c = λ offsets rules header fit by_literals by_tree by_globs.
-    let is3 : c.from-literals.result ≡ field c.self.inside.counted 0 3 =
-    c.from-literals.ensures ∙ ap (λ (ns : List ℕ). get_or ns 3 0) c.self.invariant.0 in
-    let is4 : c.from-tree.result ≡ field c.self.inside.counted 0 4 =
-    c.from-tree.ensures ∙ ap (λ (ns : List ℕ). get_or ns 4 0) c.self.invariant.0 in
-    let is5 : c.from-globs.result ≡ field c.self.inside.counted 0 5 =
-    c.from-globs.ensures ∙ ap (λ (ns : List ℕ). get_or ns 5 0) c.self.invariant.0 in
-    let read = all_read c.args.self.now c.self.inside.counted c.from-literals.result c.from-tree.result c.from-globs.result offsets rules
-    c.self.view_is is3 is4 is5 header fit by_literals by_tree by_globs in
-    omega (
-      arith,
-      read.count,
-      read.size,
-      (c.list_rules-rules.ensures.answer read.first (glob_rules rules) read.roots read.literals_read read.tree_reads read.globs_read).most,
-    )

@@ -3,20 +3,9 @@ use Rattle.mime_base.specs.Cache.Bytes.{field}
 use Rattle.mime_view.proofs.MagicLists.{magic_named}
 use Rattle.mime_view.proofs.cache.Cache.sniff.Goals as goal
 
-pub returns-clause-answer : goal.returns-clause-answer
-returns-clause-answer c = λ offsets sections header allowed stand.
+pub returns-clause-answers : goal.returns-clause-answers
+returns-clause-answers c = λ offsets sections header allowed stand.
     let number : get_or c.self.inside.header 6 0 ≡ field c.self.inside.counted 0 6 = ap (λ (ns : List ℕ). get_or ns 6 0) c.self.invariant.0 in
     let reads = magic_named c.args.self.now c.self.inside.counted _ offsets sections c.self.view_is number header allowed stand in
-    (c.sniff-found.ensures.sections sections reads).answer
-
-pub returns-clause-need : goal.returns-clause-need
-returns-clause-need c = λ offsets sections header allowed stand records bytes.
-    let number : get_or c.self.inside.header 6 0 ≡ field c.self.inside.counted 0 6 = ap (λ (ns : List ℕ). get_or ns 6 0) c.self.invariant.0 in
-    let reads = magic_named c.args.self.now c.self.inside.counted _ offsets sections c.self.view_is number header allowed stand in
-    (c.sniff-found.ensures.sections sections reads).need allowed records bytes
-
-pub returns-clause-takes_at_most : goal.returns-clause-takes_at_most
-returns-clause-takes_at_most c = λ offsets sections header allowed stand.
-    let number : get_or c.self.inside.header 6 0 ≡ field c.self.inside.counted 0 6 = ap (λ (ns : List ℕ). get_or ns 6 0) c.self.invariant.0 in
-    let reads = magic_named c.args.self.now c.self.inside.counted _ offsets sections c.self.view_is number header allowed stand in
-    (c.sniff-found.ensures.sections sections reads).takes
+    let found = c.sniff-found.ensures.sections sections reads in
+    record { answer = found.answer; need = λ _. found.need allowed; takes = found.takes }
