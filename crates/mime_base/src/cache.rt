@@ -26,7 +26,7 @@ use crate::cache::comparing::{compare_all, early_stop, order_at_stop};
 use crate::cache::stated_value::StatedValue;
 use crate::magic::host::Host;
 use crate::magic::masking::equal_bytes;
-use crate::magic::ranges::value_in_range;
+use crate::magic::ranges::{first_byte_differs, value_in_range};
 use crate::meter::Meter;
 use byteorder::{BigEndian, ByteOrder};
 use memchr::memchr;
@@ -265,6 +265,57 @@ impl<'a> Counted<'a> {
         let equal = equal_bytes(value, mask, word, host, window);
         meter.add_bytes((equal as u64 + 1).min(u64::from(size)));
         Ok(equal == window.len())
+    }
+
+    /// Whether already the first byte of the only window differs: most lines are refused so.
+    ///
+    /// It says so only of a value without a mask and of one byte a word, whose window lies in the content and itself in the
+    /// cache, and then it adds what [`Counted::value_in_range`] does. Else it says and adds nothing.
+    // A few tests of numbers that the caller has at hand.
+    #[inline(always)]
+    pub fn differs_at_once(
+        &self,
+        value: StatedValue,
+        start: u32,
+        range: u32,
+        content: &[u8],
+        meter: &mut Meter,
+    ) -> bool
+        // What differs at once lies in the cache with its mask.
+        ensures lies { result ≡ true → both_lie self.now value.at value.mask_at value.size ≡ true }
+        // No window of the range equals it.
+        ensures differs { result ≡ true → (host : Host) →
+            false ≡ equals_from (stated_line self.now value start range) host content.now start range }
+        // For each window tried it counts the bytes compared, including the first mismatch.
+        ensures bytes { result ≡ true → (host : Host) → meter.new.bytes ≡ raised meter.old.bytes
+            (compared_from (stated_line self.now value start range) host content.now start range) }
+        // That is at most one byte more than the content has, for each byte of the value.
+        ensures limit { meter.new.bytes ≤ meter.old.bytes + (length content.now + 1) * value.size }
+        // Of anything else nothing is counted.
+        ensures untouched { result ≡ false → meter.new ≡ meter.old }
+        // No record is counted.
+        ensures nodes { meter.new.nodes ≡ meter.old.nodes }
+        // The count of bytes never falls, since it stops at the greatest number.
+        ensures rises { meter.old.bytes ≤ meter.new.bytes }
+    {
+        let StatedValue {
+            at,
+            mask_at,
+            size,
+            word,
+        } = value;
+        let (start, size) = (start as usize, u64::from(size));
+        if range != 1 || mask_at != 0 || (content.len() as u64) < start as u64 + size {
+            return false;
+        }
+        let Ok(bytes) = bytes_at(self.bytes, u64::from(at), size) else {
+            return false;
+        };
+        if !first_byte_differs(bytes, &[], word, content, start) {
+            return false;
+        }
+        meter.add_bytes(1);
+        true
     }
 
     /// Whether the window at one of `range` offsets of the content from `start` on equals a value.

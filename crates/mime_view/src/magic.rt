@@ -8,17 +8,18 @@
 //! before it compares them: the budget bounds the work. That a walk ends is due to the level, which rises from parent to
 //! child and is at most the 64th.
 //!
-//! Most lines don't equal their value, and few have children. So the loop over the lines of a section is part of the
-//! loop over sections, in one piece of code, and children are looked at by a call of its own, the only one that calls
-//! itself.
+//! Most lines differ in their first byte already. So the loop over the lines of a section is part of the loop over sections, in
+//! one piece of code that passes over them, with the meter and the budget in registers; a line that may equal its value is
+//! looked at by a call of its own, with a copy of both.
 
-ghost use Rattle.std.specs.Prelude.{◌≡◌, ℕ, ◌+◌, ◌-◌, ◌*◌, ◌^◌, ◌<◌, ◌≤◌, List, [], ◌∷◌, length, IfErr, IfOk, OnOk};
+ghost use Rattle.std.specs.Prelude.{◌≡◌, ℕ, ◌+◌, ◌-◌, ◌*◌, ◌^◌, ◌<◌, ◌≤◌, List, [], ◌∷◌, length, true, false, Ok, IfErr, IfOk, OnOk};
 ghost use Rattle.mime_base.specs.Format.Magic.{width};
 ghost use Rattle.mime_base.specs.Magic.{Forest, PlainLine, PlainSection, bare, line};
 ghost use Rattle.mime_view.specs.Magic.{AnswersLine, AnswersLines, AnswersSections, Ends, NamesChildren, NamesText};
 ghost use Rattle.mime_view.specs.Magic.{IsBlockFault, IsLineFault, IsLinesFault, IsMagicFault, IsSectionFault};
 ghost use Rattle.mime_view.specs.Magic.{LiesBlock, ReadsLine, ReadsLines, ReadsMagic, ReadsSection};
 ghost use Rattle.mime_view.specs.Magic.{line_price, section_price};
+ghost use Rattle.mime_view.specs.Spending.{Spends};
 
 use crate::fault::CacheFault;
 use crate::spending::Spending;
@@ -40,6 +41,27 @@ pub struct MagicQuery<'q, 'a> {
 
 /// The type and the priority of the first section with a top line that holds, by the magic list at `at`.
 pub fn sniff<'a>(
+    query: &MagicQuery<'_, 'a>,
+    at: u32,
+    spending: &mut Spending,
+) -> Result<Option<(&'a [u8], u32)>, CacheFault>
+    // Where a list stands, it answers of its sections.
+    ensures sections { (sections : List PlainSection) → ReadsMagic query.now.counted.now at sections →
+        AnswersSections query.now sections spending.old spending.new result }
+    // A type that is given is a text of the cache.
+    ensures text { IfOk result (NamesText query.now.counted.now) }
+    // On any bytes: why there is no answer, and what the call costs.
+    ensures ends { Ends (IsMagicFault query.now.counted.now at) (section_price query.now) 1 spending.old spending.new result }
+{
+    let mut own = *spending;
+    let result = sniff_sections(query, at, &mut own);
+    *spending = own;
+    result
+}
+
+/// The same over a meter and a budget of the caller's own, which stay in registers from line to line.
+#[inline(always)]
+fn sniff_sections<'a>(
     query: &MagicQuery<'_, 'a>,
     at: u32,
     spending: &mut Spending,
@@ -90,7 +112,10 @@ fn take_section<'a>(
     if !some_line_holds(query, first, count, 0, spending)? {
         return Ok(None);
     }
-    let text = counted.text_at(u64::from(kind), &mut spending.meter)?;
+    let mut meter = spending.meter;
+    let found = counted.text_at(u64::from(kind), &mut meter);
+    spending.meter = meter;
+    let text = found?;
     Ok(Some((text, priority)))
 }
 
@@ -163,6 +188,94 @@ fn line_holds(
     // On any bytes: why there is no answer, and what the step costs.
     ensures ends { Ends (IsLinesFault query.now.counted.now) (line_price query.now) 0 spending.old spending.new result }
 {
+    if differs_at_once(query, at, spending) {
+        return Ok(false);
+    }
+    holds_apart(query, at, level, spending)
+}
+
+/// Whether already the first byte of a line differs, and as much is left as the line takes: most lines go no further.
+// The part of the loop over lines that most of them are done with.
+#[inline(always)]
+fn differs_at_once(query: &MagicQuery<'_, '_>, at: u64, spending: &mut Spending) -> bool
+    requires inside { at + 32 ≤ length query.now.counted.now }
+    // A line that differs is taken, and doesn't hold.
+    ensures line { result ≡ true → (own : PlainLine) → ReadsLine query.now.counted.now at own →
+        AnswersLine query.now own spending.old spending.new (Ok (record { equals = false; count = 0; first = 0 })) }
+    // On any bytes: what it costs.
+    ensures cost { result ≡ true → Spends (line_price query.now) 0 0 spending.old spending.new }
+    // Of any other line nothing is taken.
+    ensures untouched { result ≡ false → spending.new ≡ spending.old }
+{
+    let mut after = *spending;
+    let Ok(()) = after.budget.take_record() else {
+        return false;
+    };
+    let [start, range, word, size, at, mask_at, _, _] = query
+        .counted
+        .cards_within::<8>(at, &mut after.meter);
+    let Ok(()) = after.budget.take_value_bytes(u64::from(size)) else {
+        return false;
+    };
+    let differs = query.counted.differs_at_once(
+        StatedValue {
+            at,
+            mask_at,
+            size,
+            word,
+        },
+        start,
+        range,
+        query.content,
+        &mut after.meter,
+    );
+    if differs {
+        *spending = after;
+    }
+    differs
+}
+
+/// Whether a line holds that may equal its value.
+// It hands a copy of the meter and the budget to the call, so that the loop may keep its own in registers.
+#[cycle(sniffing)]
+#[inline(always)]
+fn holds_apart(
+    query: &MagicQuery<'_, '_>,
+    at: u64,
+    level: u32,
+    spending: &mut Spending,
+) -> Result<bool, CacheFault>
+    requires level { level ≤ 63 }
+    requires inside { at + 32 ≤ length query.now.counted.now }
+    // A line that stands with its children answers as a forest of it alone does.
+    ensures line { (own : PlainLine) (children : Forest) → ReadsLines query.now.counted.now at (line own children bare) →
+        AnswersLines query.now (64 - level) (line own children bare) spending.old spending.new result }
+    // On any bytes: why there is no answer, and what the step costs.
+    ensures ends { Ends (IsLinesFault query.now.counted.now) (line_price query.now) 0 spending.old spending.new result }
+{
+    let mut apart = *spending;
+    let result = whole_line_holds(query, at, level, &mut apart);
+    *spending = apart;
+    result
+}
+
+/// The same: its value is compared, and its children are asked.
+#[cycle(sniffing)]
+#[inline(never)]
+fn whole_line_holds(
+    query: &MagicQuery<'_, '_>,
+    at: u64,
+    level: u32,
+    spending: &mut Spending,
+) -> Result<bool, CacheFault>
+    requires level { level ≤ 63 }
+    requires inside { at + 32 ≤ length query.now.counted.now }
+    // A line that stands with its children answers as a forest of it alone does.
+    ensures line { (own : PlainLine) (children : Forest) → ReadsLines query.now.counted.now at (line own children bare) →
+        AnswersLines query.now (64 - level) (line own children bare) spending.old spending.new result }
+    // On any bytes: why there is no answer, and what the step costs.
+    ensures ends { Ends (IsLinesFault query.now.counted.now) (line_price query.now) 0 spending.old spending.new result }
+{
     let Seen {
         equals,
         count,
@@ -190,7 +303,6 @@ struct Seen {
 }
 
 /// Takes the record and the value of the line at `at`, and compares the value.
-// The body of the loop over lines.
 #[inline(always)]
 fn see_line(
     query: &MagicQuery<'_, '_>,
@@ -235,7 +347,7 @@ fn see_line(
 }
 
 /// Whether one of the `count` children from `first` on holds.
-// The one call that calls itself. The query goes by value, so that the loops above have theirs in registers.
+// The query goes by value, so that the loops above have theirs in registers.
 #[cycle(sniffing)]
 #[inline(never)]
 fn some_child_holds(

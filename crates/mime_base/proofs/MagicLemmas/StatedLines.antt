@@ -1,6 +1,6 @@
 -- The value of a line as its record in a cache states it, and the windows of its range.
 use Rattle.std.proofs.Common.{◌≡◌, ℕ, ◌+◌, ◌-◌, ◌<◌, ◌≤◌, ◌==◌, ◌&&◌, ◌||◌, Bool, true, false, true≢false}
-use Rattle.std.proofs.Common.{List, length, drop, refl, sym, ap, ◌∙◌, arith, length-drop}
+use Rattle.std.proofs.Common.{List, [], length, drop, refl, sym, ap, ◌∙◌, arith, length-drop}
 use Rattle.std.specs.Prelude.{nat_le}
 use Rattle.std.proofs.lemmas.Bool.{eqb-true, leb-true}
 use Rattle.std.proofs.lemmas.List.{length-take-le}
@@ -38,6 +38,10 @@ length-lying c at size lie = by_size (size == 0) refl lie
 -- so is the value, where it lies there with its mask
 pub length-value : (c : List ℕ) (at mask size : ℕ) → both_lie c at mask size ≡ true → length (value_at c at size) ≡ size
 length-value c at mask size lie = length-lying c at size (both_left (lies c at size) (mask == 0 || lies c mask size) lie)
+
+-- at the offset 0 there is no mask
+pub without_mask : (c : List ℕ) (mask size : ℕ) → mask ≡ 0 → optional_mask c mask size ≡ []
+without_mask c mask size none = rw none refl
 
 module _ (c : List ℕ) (value : StatedValue) (start range : ℕ) (host : Host) (content : List ℕ) where
   abbrev own : PlainLine

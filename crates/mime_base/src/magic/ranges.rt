@@ -52,11 +52,14 @@ pub fn value_in_range(
 }
 
 /// Whether already the first byte of the window at an offset is not the value's, where that alone tells.
-#[inline]
-fn first_byte_differs(value: &[u8], mask: &[u8], word: u32, content: &[u8], at: usize) -> bool
+#[inline(always)]
+pub fn first_byte_differs(value: &[u8], mask: &[u8], word: u32, content: &[u8], at: usize) -> bool
+    // The window lies in the content.
     requires inside { at + length value.now ≤ length content.now }
+    // Then the window doesn't equal the value.
     ensures equal { result ≡ true → (host : Host) →
         equals_from (line_from 0 0 word value.now (Some mask.now)) host content.now at 1 ≡ false }
+    // One byte of it is compared.
     ensures counted { result ≡ true → (host : Host) →
         compared_from (line_from 0 0 word value.now (Some mask.now)) host content.now at 1 ≡ 1 }
 {
@@ -68,7 +71,8 @@ fn first_byte_differs(value: &[u8], mask: &[u8], word: u32, content: &[u8], at: 
 
 /// Whether the window at one of the offsets from `start` up to `end` equals a value under its mask. Of most lines the one
 /// window differs in its first byte already.
-#[inline(never)]
+// One loop, with a search in it: its callers are no loops themselves.
+#[inline(always)]
 fn value_in_windows(
     value: &[u8],
     mask: &[u8],

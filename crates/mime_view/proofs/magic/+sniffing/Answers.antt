@@ -1,4 +1,4 @@
-use Rattle.std.proofs.Common.{◌≡◌, ◌+◌, ◌-◌, ℕ, suc, true, arith, sym, subst}
+use Rattle.std.proofs.Common.{◌≡◌, ◌+◌, ◌-◌, ℕ, suc, true, arith, refl, sym, subst}
 use Rattle.mime_base.specs.Magic.{are_allowed, bare, line}
 use Rattle.mime_view.specs.Magic.{AnswersLines, ReadsLines, line_price}
 use Rattle.mime_view.proofs.Costs.{spends_then}
@@ -6,19 +6,19 @@ use Rattle.mime_view.proofs.LineParts.{last_level, line_alone, line_differs, lin
 use Rattle.mime_view.proofs.LinesLeft.{ended, next}
 use Rattle.mime_view.proofs.magic.+sniffing.Goals as goal
 
-pub line_holds-returns-then-not-equals-clause-line : goal.line_holds-returns-then-not-equals-clause-line
-line_holds-returns-then-not-equals-clause-line t c = λ own children reads.
+pub whole_line_holds-returns-then-not-equals-clause-line : goal.whole_line_holds-returns-then-not-equals-clause-line
+whole_line_holds-returns-then-not-equals-clause-line t c = λ own children reads.
     line_differs c.args.query.now (64 - c.args.level) own children c.args.spending.now c.see_line.new.spending _
     (c.in_ok-equals.ensures.line own reads.0) c.if-not-equals.true
 
-pub line_holds-returns-then-count-eq0-clause-line : goal.line_holds-returns-then-count-eq0-clause-line
-line_holds-returns-then-count-eq0-clause-line t c = λ own children reads.
+pub whole_line_holds-returns-then-count-eq0-clause-line : goal.whole_line_holds-returns-then-count-eq0-clause-line
+whole_line_holds-returns-then-count-eq0-clause-line t c = λ own children reads.
     line_alone c.args.query.now (64 - c.args.level) own children c.args.spending.now c.see_line.new.spending _
     (c.in_ok-equals.ensures.line own reads.0) c.if-not-equals.false
     (omega (arith, reads.1, c.in_ok-equals.ensures.children.count))
 
-pub line_holds-returns-then-level-eq-LAST_LEVEL-clause-line : goal.line_holds-returns-then-level-eq-LAST_LEVEL-clause-line
-line_holds-returns-then-level-eq-LAST_LEVEL-clause-line t c = λ own children reads.
+pub whole_line_holds-returns-then-level-eq-LAST_LEVEL-clause-line : goal.whole_line_holds-returns-then-level-eq-LAST_LEVEL-clause-line
+whole_line_holds-returns-then-level-eq-LAST_LEVEL-clause-line t c = λ own children reads.
     let last : 64 - c.args.level ≡ 1 = omega arith in
     line_refused c.args.query.now (64 - c.args.level) own children c.args.spending.now c.see_line.new.spending _ _
     (c.in_ok-equals.ensures.line own reads.0)
@@ -26,8 +26,8 @@ line_holds-returns-then-level-eq-LAST_LEVEL-clause-line t c = λ own children re
     let none = last_level own children (subst (λ (n : ℕ). are_allowed n (line own children bare) ≡ true) last allowed) in
     omega (arith, none, reads.1, c.in_ok-equals.ensures.children.count))
 
-pub line_holds-returns-clause-line : goal.line_holds-returns-clause-line
-line_holds-returns-clause-line t c = λ own children reads.
+pub whole_line_holds-returns-clause-line : goal.whole_line_holds-returns-clause-line
+whole_line_holds-returns-clause-line t c = λ own children reads.
     let deeper : 64 - c.args.level ≡ suc (64 - (c.args.level + 1)) = omega arith in
     let below = subst (λ (n : ℕ). ReadsLines c.args.query.now.counted.now n children) (sym c.in_ok-equals.ensures.children.first) reads.3 in
     subst
@@ -38,6 +38,11 @@ line_holds-returns-clause-line t c = λ own children reads.
     c.some_child_holds.new.spending _ c.some_child_holds.result (c.in_ok-equals.ensures.line own reads.0) c.if-not-equals.false
     (omega (arith, reads.1, c.in_ok-equals.ensures.children.count))
     (c.some_child_holds.ensures.lines children (omega (arith, reads.1, c.in_ok-equals.ensures.children.count)) below))
+
+pub line_holds-returns-then-differs_at_once-clause-line : goal.line_holds-returns-then-differs_at_once-clause-line
+line_holds-returns-then-differs_at_once-clause-line t c = λ own children reads.
+    line_differs c.args.query.now (64 - c.args.level) own children c.args.spending.now c.differs_at_once.new.spending _
+    (c.differs_at_once.ensures.line c.if-differs_at_once.true own reads.0) refl
 
 pub some_line_holds-returns-in_err-line_holds-clause-lines : goal.some_line_holds-returns-in_err-line_holds-clause-lines
 some_line_holds-returns-in_err-line_holds-clause-lines t c = λ lines size reads.

@@ -6,14 +6,20 @@ use Rattle.mime_view.specs.Spending.{Spends}
 use Rattle.mime_view.proofs.LinesLeft.{Left}
 use Rattle.mime_view.proofs.magic.+sniffing.Given as goal
 
+abbrev pub decreases-whole_line_holds : goal.decreases-whole_line_holds
+decreases-whole_line_holds l = 5 * (64 - l.level)
+
+abbrev pub decreases-holds_apart : goal.decreases-holds_apart
+decreases-holds_apart l = 5 * (64 - l.level) + 1
+
 abbrev pub decreases-line_holds : goal.decreases-line_holds
-decreases-line_holds l = 3 * (64 - l.level)
+decreases-line_holds l = 5 * (64 - l.level) + 2
 
 abbrev pub decreases-some_line_holds : goal.decreases-some_line_holds
-decreases-some_line_holds l = 3 * (64 - l.level) + 1
+decreases-some_line_holds l = 5 * (64 - l.level) + 3
 
 abbrev pub decreases-some_child_holds : goal.decreases-some_child_holds
-decreases-some_child_holds l = 3 * (64 - l.level) + 2
+decreases-some_child_holds l = 5 * (64 - l.level) + 4
 
 abbrev pub invariant-some_line_holds-loop-i : goal.invariant-some_line_holds-loop-i
 invariant-some_line_holds-loop-i l = record {

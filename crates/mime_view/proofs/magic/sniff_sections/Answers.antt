@@ -1,7 +1,7 @@
 use Rattle.mime_view.specs.Magic.{section_price}
 use Rattle.mime_view.proofs.Costs.{spends_then}
 use Rattle.mime_view.proofs.SectionsLeft.{ended, next}
-use Rattle.mime_view.proofs.magic.sniff.Goals as goal
+use Rattle.mime_view.proofs.magic.sniff_sections.Goals as goal
 
 pub returns-in_err-found-clause-sections : goal.returns-in_err-found-clause-sections
 returns-in_err-found-clause-sections c = λ sections reads.

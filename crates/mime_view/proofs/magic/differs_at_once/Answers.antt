@@ -1,0 +1,36 @@
+use Rattle.std.proofs.Common.{◌≡◌, ℕ, ◌+◌, ◌*◌, List, false, length, get_or, refl, arith, ap, ◌∙◌}
+use Rattle.mime_view.proofs.LineValues.{line_stated}
+use Rattle.mime_view.proofs.magic.differs_at_once.Goals as goal
+
+pub returns-then-differs-clause-line : goal.returns-then-differs-clause-line
+returns-then-differs-clause-line c = λ yes own reads.
+    let size : get_or c.cards_within.result 3 0 ≡ length own.value =
+    ap (λ (ns : List ℕ). get_or ns 3 0) c.cards_within.ensures.numbers ∙ reads.size in
+    record {
+      answer = line_stated c.args.query.now.counted.now c.args.at own c.cards_within.result c.args.query.now.host
+          c.args.query.now.content.now false c.cards_within.ensures.numbers reads
+          (λ lie. c.differs_at_once-differs.ensures.differs yes c.args.query.now.host);
+      need = λ allowed records bytes. refl;
+      takes = record {
+        most_records = omega (arith, c.in-Ok.ensures.taken);
+        most_value_bytes = omega (arith, c.in-Ok-take_value_bytes.ensures.taken);
+      };
+    }
+
+pub returns-then-differs-clause-cost : goal.returns-then-differs-clause-cost
+returns-then-differs-clause-cost c = λ yes.
+    let e : ℕ = length c.args.query.now.content.now + 1 in
+    let v : ℕ = c.take_value_bytes.new.self.value_bytes in
+    let taken : c.args.spending.now.budget.value_bytes ≡ v + c.from.result = omega (arith, c.in-Ok-take_value_bytes.ensures.taken) in
+    let m : e * c.args.spending.now.budget.value_bytes ≡ e * (v + c.from.result) = ap (λ (n : ℕ). e * n) taken in
+    let s = ap (λ (n : ℕ). e * n) c.from.ensures in
+    record {
+      records = omega (arith, c.in-Ok.ensures.taken);
+      value_bytes = omega (arith, taken);
+      untouched = λ free. absurd (omega arith);
+      rises = omega arith;
+      bytes_rise = omega arith;
+      most_nodes = omega (arith, c.in-Ok.ensures.taken);
+      most_bytes = omega (arith, c.differs_at_once-differs.ensures.limit);
+      fair = omega (arith, c.in-Ok.ensures.taken);
+    }
