@@ -1,4 +1,4 @@
-use Rattle.std.proofs.Common.{◌-◌, ◌++◌, List, ℕ, take, arith, inl, rules}
+use Rattle.std.proofs.Common.{◌-◌, ◌++◌, List, ℕ, take, arith, rules}
 use Rattle.std.proofs.lemmas.List.{length-append, length-take-le}
 use Rattle.std.proofs.KnownBytes.{Consumes-trans}
 use Rattle.mime_lookup.proofs.Tallies.{interrupts-trans}
