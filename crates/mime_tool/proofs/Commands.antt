@@ -22,43 +22,6 @@ use Rattle.mime_tool.proofs.Ends.{ends_said, part_none, writes_nothing}
 use Rattle.mime_tool.proofs.Loads.{CanBe, can_give, can_then, works_nothing, works_stop, works_then}
 use Rattle.mime_tool.proofs.Sinks.{front_longer}
 
--- ---- the database of directories
-
--- they are not read
-pub database_unread : (dirs : List (List ℕ)) (a b : State) (s : Stop) → ReadsDirectories dirs a b (Err s)
-    → Works (Loads plain_database (IsDatabase a.stored dirs)) a b (Err s)
-unfolding IsDatabase
-database_unread dirs a b s p =
-    works_stop (Vec DirFiles Global) (List PlainDir) Database PlainDatabase plain_of plain_database (AreDirectories a.stored dirs)
-    (λ ds. Gives (merged ds)) a b s p (λ ds. can_give PlainDatabase (merged ds))
-
--- they are merged
-pub database_merged : (dirs : List (List ℕ)) (a b : State) (files : Vec DirFiles Global) (database : Database)
-    → plain_database database ≡ merged (plain_dirs files.items) → ReadsDirectories dirs a b (Ok files)
-    → Works (Loads plain_database (IsDatabase a.stored dirs)) a b (Ok database)
-unfolding IsDatabase
-database_merged dirs a b files database is p =
-    works_then (Vec DirFiles Global) (List PlainDir) Database PlainDatabase plain_of plain_database (AreDirectories a.stored dirs)
-    (λ _ ds. Gives (merged ds)) a b b files (Ok database) p
-    (record { same_files = refl; same_setting = refl; sinks = ([], (ap Some is, refl), writes_nothing b.sinks) })
-
--- there is no memory to merge them
-pub database_unmerged : (dirs : List (List ℕ)) (a b : State) (files : Vec DirFiles Global) → ReadsDirectories dirs a b (Ok files)
-    → Works (Loads plain_database (IsDatabase a.stored dirs)) a b (Err stop.OutOfMemory)
-unfolding IsDatabase
-database_unmerged dirs a b files p =
-    works_then (Vec DirFiles Global) (List PlainDir) Database PlainDatabase plain_of plain_database (AreDirectories a.stored dirs)
-    (λ _ ds. Gives (merged ds)) a b b files (Err stop.OutOfMemory) p
-    (works_nothing Database PlainDatabase plain_database (Gives (merged (plain_of files))) b
-    (can_give PlainDatabase (merged (plain_of files))))
-
--- some database is that of directories
-pub can_be_database : (stored : List ℕ → Stored) (dirs : List (List ℕ)) → CanBe (IsDatabase stored dirs)
-unfolding IsDatabase
-can_be_database stored dirs =
-    can_then (List PlainDir) PlainDatabase (AreDirectories stored dirs) (λ ds. Gives (merged ds)) (can_be_directories stored dirs)
-    (λ ds. can_give PlainDatabase (merged ds))
-
 -- the user's directories aren't known
 pub users_unknown : (a : State) (s : Stop) → IsRefusal not_text s
     → Works (Loads plain_database (IsUserDatabase a.stored None)) a a (Err s)

@@ -69,12 +69,6 @@ AfterMagic dir globs stored magic = ArePairsIn (codes "aliases") stored dir >>= 
 abbrev pub AfterGlobs : List ℕ → (List ℕ → Stored) → Globs → Option PlainDir → List ℕ → Type 0
 AfterGlobs dir stored globs = IsMagicIn stored dir >>= AfterMagic dir globs stored
 
--- these are all of a directory
-pub directory_is : (stored : List ℕ → Stored) (dir : List ℕ)
-    → ◌≡◌ {A = Option PlainDir → List ℕ → Type 0} (IsDirectory stored dir) (AreGlobsIn stored dir >>= AfterGlobs dir stored)
-unfolding IsDirectory
-directory_is stored dir = refl
-
 -- ---- each can be done
 
 can_be_pairs : (name : List ℕ) (stored : List ℕ → Stored) (dir : List ℕ) → CanBe (ArePairsIn name stored dir)

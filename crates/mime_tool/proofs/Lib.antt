@@ -17,7 +17,9 @@ pub mod Lines
 pub mod ListedRules
 pub mod Loads
 pub mod MagicFiles
+pub mod Merges
 pub mod Messages
+pub mod Notices
 pub mod Programs
 pub mod Runs
 pub mod Sinks

@@ -9,15 +9,6 @@ use Rattle.mime_tool.specs.declared.stop.Stop.{Stop}
 use Rattle.mime_tool.specs.declared.stop.Stop.TheVariants as stop
 use Rattle.mime_tool.proofs.Sinks.{front_all}
 
--- after bytes for which there was room there is room for nothing more
-pub room_after : (capacity : Option ℕ) (old new : Option (List ℕ)) (bs : List ℕ) → HasRoom capacity old bs → Wrote old new bs
-    → HasRoom capacity new []
-room_after None old new bs room wrote = absurd room
-room_after (Some n) None new bs room wrote = absurd room
-room_after (Some n) (Some xs) new bs room wrote =
-    let all : length ((xs ++ bs) ++ []) ≤ n = subst (λ (ys : List ℕ). length ys ≤ n) (sym (append-nil (xs ++ bs))) room in
-    subst (λ (s : Option (List ℕ)). HasRoom (Some n) s []) (sym wrote) all
-
 is_other : false ≡ true → ⊥
 is_other e = cc
 

@@ -31,11 +31,6 @@ say_more dirs i d within files more file are says is =
     subst (λ front. SayDirs front (plain_dirs more)) (sym (take_more dirs i d within))
     (subst (λ ps. SayDirs (take i dirs ++ get_or dirs i d ∷ []) ps) (sym plains) all)
 
--- all directories of a loop
-pub say_all : (dirs : List DirBytes) (i : ℕ) (plains : List PlainDir) → length dirs ≤ i → SayDirs (take i dirs) plains
-    → SayDirs dirs plains
-say_all dirs i plains within says = subst (λ front. SayDirs front plains) (take_all i dirs within) says
-
 -- the fault of a directory after those that say something is the first
 refused_at : (dirs : List DirBytes) (i : ℕ) (d : DirBytes) (plains : List PlainDir) (f : MagicFault) → i < length dirs
     → SayDirs (take i dirs) plains → magic_fault (get_or dirs i d).magic.now ≡ Some f → FirstRefused dirs i f

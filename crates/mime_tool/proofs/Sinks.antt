@@ -113,8 +113,3 @@ front_kept (Some xs) b c x p q =
 -- all of it is a front of it
 pub front_all : (a b : Option (List ℕ)) (x : List ℕ) → Wrote a b x → WroteFront a b x
 front_all a b x p = subst (λ (bs : List ℕ). WroteFront a b bs) (append-nil x) (front_whole a b x [] p)
-
--- whatever was said is a front of it
-pub said_front : (a b : Option (List ℕ)) (r : Result (Unit {0}) NoMemory) (x : List ℕ) → Says a b r x → WroteFront a b x
-said_front a b (Ok _) x p = front_all a b x p
-said_front a b (Err _) x p = p

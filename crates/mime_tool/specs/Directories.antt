@@ -1,6 +1,6 @@
 -- What the text files of data directories give, and the messages on them.
-use Rattle.std.specs.Prelude.{◌≡◌, ℕ, Bool, List, [], ◌∷◌, ◌++◌, Option, Some, None, codes, decimal}
-use Rattle.std.specs.List.{flat_map}
+use Rattle.std.specs.Prelude.{◌≡◌, ◌⊎◌, ℕ, Bool, true, false, List, [], ◌∷◌, ◌++◌, Option, Some, None, codes, decimal, if◌then◌else◌}
+use Rattle.std.specs.List.{flat_map, join_by}
 use Rattle.mime_base.specs.Database.{PlainDatabase}
 use Rattle.mime_base.specs.Database.PlainPairs.{plain_icons, plain_pairs}
 use Rattle.mime_base.specs.Magic.{PlainSection, plain_sections}
@@ -21,9 +21,9 @@ use Rattle.mime_text.specs.declared.magic.fault.MagicFaultKind.TheVariants as ki
 use Rattle.mime_text.specs.declared.magic.file.MagicFile.{MagicFile}
 use Rattle.mime_request.specs.Request.{PlainDirectories, named, user}
 use Rattle.mime_tool.specs.Environment.{PlainEnvironment, user_directories}
-use Rattle.mime_tool.specs.Files.{IsTextOf, Stored}
+use Rattle.mime_tool.specs.Files.{IsTextOf, IsThere, Stored}
 use Rattle.mime_tool.specs.Loading.{◌>>=◌, Gives}
-use Rattle.mime_tool.specs.Run.{Run, cannot_read, joined, said, silent, stopped}
+use Rattle.mime_tool.specs.Run.{Run, cannot_read, joined, refusal, said, silent, stopped}
 use Rattle.mime_tool.specs.Stop.{IsRefusal}
 use Rattle.mime_tool.specs.declared.stop.Stop.{Stop}
 use Rattle.mime_tool.specs.declared.stop.Stop.TheVariants as stop
@@ -151,11 +151,48 @@ AreDirectories stored (dir ∷ dirs) = do
   others ← AreDirectories stored dirs
   Gives (first ∷ others)
 
--- the database of directories, the most preferred first
-unfoldable pub IsDatabase : (List ℕ → Stored) → List (List ℕ) → Option PlainDatabase → List ℕ → Type 0
-IsDatabase stored dirs = do
+-- what directories say, merged, the most preferred first
+unfoldable pub IsMerged : (List ℕ → Stored) → List (List ℕ) → Option PlainDatabase → List ℕ → Type 0
+IsMerged stored dirs = do
   plain_dirs ← AreDirectories stored dirs
   Gives (merged plain_dirs)
+
+-- ---- directories without a text file
+
+-- whether one of the list passes
+abbrev pub OnePasses : {X : Type 0} → (X → Bool → Type 0) → List X → Bool → Type 0
+OnePasses Passes [] one = one ≡ false
+OnePasses Passes (x ∷ xs) one = (Passes x true × (one ≡ true)) ⊎ (Passes x false × OnePasses Passes xs one)
+
+-- the names of the text files of a directory
+abbrev pub text_names : List (List ℕ)
+text_names =
+    codes "globs2" ∷ codes "magic" ∷ codes "aliases" ∷ codes "subclasses" ∷ codes "icons" ∷ codes "generic-icons" ∷ []
+
+-- whether one of the files of these names is in the directory, of whatever kind
+abbrev pub HasFile : (List ℕ → Stored) → List (List ℕ) → List ℕ → Bool → Type 0
+HasFile stored names dir = OnePasses (λ name. IsThere (stored (path_of dir name))) names
+
+-- whether a text file is in one of the directories
+abbrev pub HaveTextFile : (List ℕ → Stored) → List (List ℕ) → Bool → Type 0
+HaveTextFile stored = OnePasses (HasFile stored text_names)
+
+-- the message on directories of which none has a text file
+abbrev pub no_text_files : List (List ℕ) → List ℕ
+no_text_files dirs = refusal (join_by (λ dir. dir) (codes ":") dirs) (codes "no text files")
+
+-- what is said of directories before they are read: where there are some, and no text file is in one of them, just that
+abbrev pub IsNoticed : (List ℕ → Stored) → List (List ℕ) → Option (Unit {0}) → List ℕ → Type 0
+IsNoticed stored [] found messages = Gives tt found messages
+IsNoticed stored (dir ∷ dirs) found messages =
+    (one : Bool) × HaveTextFile stored (dir ∷ dirs) one × (found ≡ Some tt)
+    × (messages ≡ (if one then [] else no_text_files (dir ∷ dirs)))
+
+-- the database of directories
+unfoldable pub IsDatabase : (List ℕ → Stored) → List (List ℕ) → Option PlainDatabase → List ℕ → Type 0
+IsDatabase stored dirs = do
+  _ ← IsNoticed stored dirs
+  IsMerged stored dirs
 
 -- the message where a variable of the environment is no text
 abbrev pub not_text : List ℕ

@@ -1,5 +1,5 @@
 -- What files hold.
-use Rattle.std.specs.Prelude.{◌≡◌, ◌≢◌, ◌⊎◌, ℕ, List, [], Option, Some, None, Result, Ok, Err, Vec}
+use Rattle.std.specs.Prelude.{◌≡◌, ◌≢◌, ◌⊎◌, ℕ, Bool, true, false, List, [], Option, Some, None, Result, Ok, Err, Vec}
 use Rattle.std.specs.declared.alloc.Global.{Global}
 use Rattle.std.specs.declared.io.ErrorKind.{ErrorKind}
 use Rattle.std.specs.declared.io.ErrorKind.TheVariants as kind
@@ -25,6 +25,12 @@ Tells stored (Err Folder) = stored ≡ folder
 Tells stored (Err Failed) = (stored ≡ closed) ⊎ (stored ≡ unreadable)
 Tells stored (Ok None) = stored ≡ nothing
 Tells stored (Ok (Some v)) = stored ≡ bytes v.items
+
+-- whether something is stored, of whatever kind
+abbrev pub IsThere : Stored → Bool → Type 0
+IsThere nothing there = there ≡ false
+IsThere unknown there = Unit {0}
+IsThere stored there = there ≡ true
 
 -- a reader of what is stored: it gives just the bytes, or its reads all fail
 abbrev pub IsReaderOf : {R : Type 0} → (R → Option (List ℕ)) → (R → Health) → Stored → R → Type 0

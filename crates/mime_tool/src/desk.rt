@@ -1,14 +1,15 @@
 //! What a command works with: memory, files, standard output and standard error. This project's own.
 
-ghost use Rattle.std.specs.Prelude.{◌≡◌, Ok, OnOk, Some, is_some, true};
+ghost use Rattle.std.specs.Prelude.{◌≡◌, IfOk, Ok, OnOk, Some, is_some, true};
 ghost use Rattle.std.specs.List.{flat_map};
 ghost use Rattle.mime_tool.specs.Desk.{Does, OpensFile, ReadsWhole, ReplacesFile, State, Works};
-ghost use Rattle.mime_tool.specs.Files.{IsBytesOf, IsTextOf};
+ghost use Rattle.mime_tool.specs.Files.{IsBytesOf, IsTextOf, IsThere};
 ghost use Rattle.mime_tool.specs.Run.{printed, refusal, said};
 
 use crate::files::{FileFault, Files};
 use crate::sink::{Sink, put_all};
 use crate::stop::{Stop, complain, unreadable, unwritable};
+use mime_base::OutOfMemory;
 use mime_lookup::Content;
 use std::alloc::Global;
 
@@ -46,6 +47,11 @@ pub(crate) trait Desk {
     fn read_bytes(&mut self, path: &str) -> Result<Vec<u8>, Stop>
         ensures { Works (ReadsWhole (IsBytesOf ((state self.old).stored path.now)) path.now)
             (state self.old) (state self.new) result };
+
+    /// Whether something is at a path, of whatever kind.
+    fn exists(&mut self, path: &str) -> Result<bool, OutOfMemory>
+        ensures stays { state self.new ≡ state self.old }
+        ensures there { IfOk result (IsThere ((state self.old).stored path.now)) };
 
     /// Opens a file.
     fn open(&mut self, path: &str) -> Result<Opened<Self::Reader>, Stop>
@@ -110,6 +116,10 @@ impl<F: Files, O: Sink, E: Sink> Desk for Streams<'_, '_, '_, F, O, E> {
             }
             Err(FileFault::OutOfMemory) => Err(Stop::OutOfMemory),
         }
+    }
+
+    fn exists(&mut self, path: &str) -> Result<bool, OutOfMemory> {
+        self.files.exists(self.alloc, path)
     }
 
     fn open(&mut self, path: &str) -> Result<Opened<F::Reader>, Stop> {

@@ -1,7 +1,7 @@
 //! Data directories: the six text files of each, and the database of all of them ("Directory
 //! layout").
 //!
-//! A missing file counts as empty. A malformed line of a file of lines is passed over with a message
+//! A missing file counts as empty; that all are missing is said first. A malformed line of a file of lines is passed over with a message
 //! once its file was read; a file that can't be read, and a fault of `magic`, stop the command. That,
 //! the messages and the order of the files are this project's own.
 
@@ -11,8 +11,8 @@ ghost use Rattle.mime_base.specs.Database.{plain_database};
 ghost use Rattle.mime_text.specs.Merging.{plain_dir, plain_dirs};
 ghost use Rattle.mime_tool.specs.Desk.{Works};
 ghost use Rattle.mime_request.specs.Request.{plain_directories};
-ghost use Rattle.mime_tool.specs.Directories.{AreDirectories, IsDatabase, IsDatabaseOf, IsDirectory, IsUserDatabase, not_text};
-ghost use Rattle.mime_tool.specs.Directories.{path_of};
+ghost use Rattle.mime_tool.specs.Directories.{AreDirectories, HasFile, HaveTextFile, IsDatabase, IsDatabaseOf, IsDirectory};
+ghost use Rattle.mime_tool.specs.Directories.{IsMerged, IsNoticed, IsUserDatabase, not_text, path_of};
 ghost use Rattle.mime_tool.specs.Environment.{known_environment, plain_environment, user_directories};
 ghost use Rattle.mime_tool.specs.Loading.{Loads};
 ghost use Rattle.mime_tool.specs.Stop.{IsRefusal};
@@ -20,7 +20,7 @@ ghost use Rattle.mime_tool.specs.Stop.{IsRefusal};
 mod line_file;
 mod magic_file;
 
-use crate::desk::Desk;
+use crate::desk::{Desk, report};
 use crate::environment::{Environment, all_directories, data_dirs_of, own_directory};
 use crate::stop::Stop;
 use line_file::read_lines;
@@ -29,6 +29,16 @@ use mime_base::{Database, OutOfMemory};
 use mime_request::Directories;
 use mime_text::{DirFiles, merge};
 use std::alloc::{AllocError, Global};
+
+/// The text files of a data directory.
+const TEXT_FILES: [&str; 6] = [
+    "globs2",
+    "magic",
+    "aliases",
+    "subclasses",
+    "icons",
+    "generic-icons",
+];
 
 /// The database of data directories, those that are named or the user's.
 pub(crate) fn load<D: Desk>(
@@ -77,12 +87,64 @@ fn load_by<D: Desk>(desk: &mut D, environment: Environment<'_>) -> Result<Databa
 }
 
 /// The database of these data directories, the most preferred first.
-///
-/// Of each directory `mime/globs2`, `mime/magic`, `mime/aliases`, `mime/subclasses`, `mime/icons` and
-/// `mime/generic-icons` are read, in this order, up to the first that stops.
 fn load_these<D: Desk>(desk: &mut D, directories: &[&str]) -> Result<Database, Stop>
     ensures { Works (Loads plain_database
         (IsDatabase (D.state desk.old).stored (texts directories.now)))
+        (D.state desk.old) (D.state desk.new) result }
+{
+    notice_missing(desk, directories)?;
+    merge_these(desk, directories)
+}
+
+// Says it where there are directories, and none of them has a text file.
+fn notice_missing<D: Desk>(desk: &mut D, directories: &[&str]) -> Result<(), Stop>
+    ensures { Works (Loads (λ done. done) (IsNoticed (D.state desk.old).stored (texts directories.now)))
+        (D.state desk.old) (D.state desk.new) result }
+{
+    if directories.is_empty() {
+        return Ok(());
+    }
+    if have_text_file(desk, directories)? {
+        return Ok(());
+    }
+    let dirs = directories.join(desk.alloc(), ":")?;
+    report(desk, dirs.as_str(), "no text files")
+}
+
+// Whether one of the directories has a text file, of whatever kind.
+fn have_text_file<D: Desk>(desk: &mut D, directories: &[&str]) -> Result<bool, OutOfMemory>
+    ensures stays { D.state desk.new ≡ D.state desk.old }
+    ensures has { IfOk result (HaveTextFile (D.state desk.old).stored (texts directories.now)) }
+{
+    for directory in directories {
+        if has_file(desk, directory, &TEXT_FILES)? {
+            return Ok(true);
+        }
+    }
+    Ok(false)
+}
+
+// Whether a file of one of these names is in the directory.
+fn has_file<D: Desk>(desk: &mut D, directory: &str, names: &[&str]) -> Result<bool, OutOfMemory>
+    ensures stays { D.state desk.new ≡ D.state desk.old }
+    ensures has { IfOk result (HasFile (D.state desk.old).stored (texts names.now) directory.now) }
+{
+    for name in names {
+        let path = path_of(desk.alloc(), directory, name)?;
+        if desk.exists(path.as_str())? {
+            return Ok(true);
+        }
+    }
+    Ok(false)
+}
+
+/// What these data directories say, merged, the most preferred first.
+///
+/// Of each directory `mime/globs2`, `mime/magic`, `mime/aliases`, `mime/subclasses`, `mime/icons` and
+/// `mime/generic-icons` are read, in this order, up to the first that stops.
+fn merge_these<D: Desk>(desk: &mut D, directories: &[&str]) -> Result<Database, Stop>
+    ensures { Works (Loads plain_database
+        (IsMerged (D.state desk.old).stored (texts directories.now)))
         (D.state desk.old) (D.state desk.new) result }
 {
     let dirs = read_directories(desk, directories)?;

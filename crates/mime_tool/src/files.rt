@@ -1,9 +1,10 @@
 //! Where files come from. This project's own.
 
-ghost use Rattle.std.specs.Prelude.{◌≡◌, ◌++◌, ℕ, List};
-ghost use Rattle.mime_tool.specs.Files.{IsOpening, Replaces, Stored, Tells, Writing, unforeseen, unknown};
+ghost use Rattle.std.specs.Prelude.{◌≡◌, ◌++◌, ℕ, List, IfOk};
+ghost use Rattle.mime_tool.specs.Files.{IsOpening, IsThere, Replaces, Stored, Tells, Writing, unforeseen, unknown};
 ghost use Rattle.mime_tool.specs.declared.files.FileFault.TheVariants.{OutOfMemory};
 
+use mime_base::OutOfMemory;
 use mime_lookup::Content;
 use std::alloc::{AllocError, Global};
 use thiserror::Error;
@@ -46,8 +47,20 @@ pub trait Files {
     /// Errors: [`FileFault::Folder`] for a folder; [`FileFault::Failed`] for anything else that is there
     /// and can't be read; [`FileFault::OutOfMemory`] where there is no memory for it.
     fn whole(&mut self, alloc: Global, path: &str) -> Result<Option<Vec<u8>>, FileFault>
+        // The answer is what is stored, unless memory ran out.
         ensures told { Tells (tells self.old path.now) result }
+        // What is stored stays.
         ensures stays { tells self.new ≡ tells self.old }
+        // What is known of replacing files stays.
+        ensures writes { writes self.new ≡ writes self.old };
+
+    /// Whether something is at a path, of whatever kind.
+    fn exists(&mut self, alloc: Global, path: &str) -> Result<bool, OutOfMemory>
+        // It says whether nothing is stored there.
+        ensures there { IfOk result (IsThere (tells self.old path.now)) }
+        // What is stored stays.
+        ensures stays { tells self.new ≡ tells self.old }
+        // What is known of replacing files stays.
         ensures writes { writes self.new ≡ writes self.old };
 
     /// Opens a file, of which nothing is read yet.
@@ -55,9 +68,12 @@ pub trait Files {
     /// Errors: [`FileFault::Folder`] for a folder; [`FileFault::Failed`] where there is no such file or it
     /// can't be opened; [`FileFault::OutOfMemory`] where there is no memory for it.
     fn open(&mut self, alloc: Global, path: &str) -> Result<Self::Reader, FileFault>
+        // The reader gives just what is stored; a fault says that it is a folder or that it can't be opened, or memory ran out.
         ensures opened { IsOpening Self.Reader.remaining Self.Reader.health
             (tells self.old path.now) result }
+        // What is stored stays.
         ensures stays { tells self.new ≡ tells self.old }
+        // What is known of replacing files stays.
         ensures writes { writes self.new ≡ writes self.old };
 
     /// Makes these bytes the file of `path`, whole: they are written to the path with this ending, and
@@ -76,7 +92,9 @@ pub trait Files {
         ending: &str,
         bytes: &[u8],
     ) -> Result<(), FileFault>
+        // The bytes take the place of what was stored, by way of a file beside it; or all but that file is as it was.
         ensures replaced { Replaces (path.now ++ ending.now) path.now bytes.now (writes self.old path.now ending.now)
             (tells self.old) (tells self.new) result }
+        // What is known of replacing files stays.
         ensures writes { writes self.new ≡ writes self.old };
 }

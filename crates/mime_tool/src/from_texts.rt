@@ -140,21 +140,25 @@ pub fn answer<R: Content>(
     host: Host,
     order: Order,
 ) -> Result<OwnedAnswer, AnswerFault>
-    // Where all magic is accepted.
+    // Where all magic is accepted, an answer is that of the checking order over what the texts say, within the bounds of a lookup.
     ensures accepted { (b : PlainDatabase) → SayDatabase dirs.now b →
         ComesOver b name.now (known_content R.remaining content.old) host order result }
-    // Where some isn't.
+    // Where some isn't, the first directory of which it isn't is named, with the first fault, unless memory ran out.
     ensures refused { (i : ℕ) (f : MagicFault) → FirstRefused dirs.now i f → IsMagicRefusal i f result }
 
-    // What becomes of the content's reader.
+    // A read stops it only after a read that failed or a 1,001st interruption, where the reader tells.
     ensures gives_up { IfErr result (λ fault. IfStopped fault (λ stopped. stopped.cause ≡ Cause.Read →
         OfReader (λ before after. GivesUp (R.tally before) (R.tally after) 1000) ⊥ content.old content.new)) }
+    // An answer means that no read failed, and at most 1,000 were interrupted.
     ensures goes { OnOk result (OfReader
         (λ before after. Retries (R.tally before) (R.tally after) 1000) ⊤ content.old content.new) }
+    // A reader that tells that each read gives bytes never stops it.
     ensures fails { IfErr result (λ fault. IfStopped fault (λ stopped. stopped.cause ≡ Cause.Read →
         OfReader (λ before _. R.health before ≢ sound) ⊥ content.old content.new)) }
+    // Where each read fails, there is an answer exactly where the globs alone give it, memory aside.
     ensures asked { (b : PlainDatabase) → SayDatabase dirs.now b →
         AsksOnly R.health (globs_suffice b name.now order) content.old content.new result }
+    // As many bytes were taken from the reader as are told.
     ensures advances { TookBytes (λ read. OfReader (λ before after. Advances (R.remaining before) (R.remaining after) read)
         (read ≡ 0) content.old content.new) result }
 {

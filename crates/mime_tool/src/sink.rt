@@ -34,15 +34,22 @@ pub trait Sink {
 
     /// Takes all the bytes.
     fn put(&mut self, bytes: &[u8]) -> Result<(), SinkFault>
+        // A sink that tells what it holds takes all the bytes, or what they begin with where memory runs out.
         ensures put { IsPut (holds self.old) (holds self.new) result bytes.now }
+        // Memory does not run out where it tells that it has room for them.
         ensures room { HasRoom (capacity self.old) (holds self.old) bytes.now → IsOk result }
+        // It can hold as much as before.
         ensures capacity { capacity self.new ≡ capacity self.old };
 
     /// Hands on what it held back.
     fn flush(&mut self) -> Result<(), SinkFault>
+        // Nothing is added.
         ensures kept { IsPut (holds self.old) (holds self.new) result [] }
+        // Memory does not run out where it tells that it has room.
         ensures room { HasRoom (capacity self.old) (holds self.old) [] → IsOk result }
+        // It can hold as much as before.
         ensures capacity { capacity self.new ≡ capacity self.old }
+        // A sink that tells what it holds tells what this flush answered.
         ensures flushed { Flushes (holds self.old) (flushed self.new) result };
 }
 
@@ -66,6 +73,7 @@ impl Sink for Vec<u8> {
 
 /// Puts the pieces, one after another.
 pub(crate) fn put_all<S: Sink>(sink: &mut S, pieces: &[&[u8]]) -> Result<(), SinkFault>
+    // The sink takes all the pieces, or what they begin with where memory runs out.
     ensures { IsPut (S.holds sink.old) (S.holds sink.new) result
         (flat_map (λ piece. piece.now) pieces.now) }
 {
@@ -77,8 +85,11 @@ pub(crate) fn put_all<S: Sink>(sink: &mut S, pieces: &[&[u8]]) -> Result<(), Sin
 
 /// Puts the bytes, and flushes.
 pub(crate) fn put_now<S: Sink>(sink: &mut S, bytes: &[u8]) -> Result<(), SinkFault>
+    // The sink takes all the bytes, or what they begin with where memory runs out.
     ensures put { IsPut (S.holds sink.old) (S.holds sink.new) result bytes.now }
+    // Memory does not run out where it tells that it has room for them.
     ensures room { HasRoom (S.capacity sink.old) (S.holds sink.old) bytes.now → IsOk result }
+    // It can hold as much as before.
     ensures capacity { S.capacity sink.new ≡ S.capacity sink.old }
 {
     sink.put(bytes)?;

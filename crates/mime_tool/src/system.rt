@@ -8,6 +8,7 @@ ghost use Rattle.mime_tool.specs.Sink.{IsPut};
 
 use crate::files::{FileFault, Files};
 use crate::sink::{Sink, SinkFault};
+use mime_base::OutOfMemory;
 use mime_lookup::Untold;
 use std::alloc::Global;
 use std::fs::{File, Metadata, OpenFile, Permissions};
@@ -58,6 +59,18 @@ impl<R: rt::Files> Files for SystemFiles<'_, R> {
                     Err(file_fault(&error))
                 }
             }
+        }
+    }
+
+    // What can't be looked at is there, as something that can't be read.
+    fn exists(&mut self, _alloc: Global, path: &str) -> Result<bool, OutOfMemory> {
+        match fs::metadata(self.0, path) {
+            Ok(_) => Ok(true),
+            Err(error) => match error.kind() {
+                ErrorKind::NotFound => Ok(false),
+                ErrorKind::OutOfMemory => Err(OutOfMemory),
+                _ => Ok(true),
+            },
         }
     }
 
@@ -212,7 +225,9 @@ fn read_open<F: Read + OpenFile>(
 /// An interrupted read is tried again, 1,000 times in all. [`FileFault::Failed`] comes with the next
 /// interruption, and with more than `limit` bytes; any other error of the reader is passed on.
 pub fn read_whole<R: Read>(alloc: Global, limit: usize, file: &mut R) -> Result<Vec<u8>, FileFault>
+    // Where the reader tells what is left in it, the answer is exactly that.
     ensures bytes { IfOk result (λ v. IfSome (R.remaining file.old) (λ xs. v.items ≡ xs)) }
+    // An answer is no longer than the limit.
     ensures limited { IfOk result (λ v. length v.items ≤ limit) }
 {
     let mut bytes = Vec::new(alloc);
@@ -269,7 +284,9 @@ pub struct Stream<W: Write + Drop>(pub W);
 
 impl<W: Write + Drop> Sink for Stream<W> {
     fn put(&mut self, bytes: &[u8]) -> Result<(), SinkFault>
+        // Nothing is told as a sink.
         ensures unknown { IsPut None None result bytes.now }
+        // Where the writer tells what it holds, exactly the bytes are added.
         ensures written { OnOk result
             (Appends (W.contents self.old.0) (W.contents self.new.0) bytes.now) }
     {
@@ -280,7 +297,9 @@ impl<W: Write + Drop> Sink for Stream<W> {
     }
 
     fn flush(&mut self) -> Result<(), SinkFault>
+        // Nothing is told as a sink.
         ensures unknown { IsPut None None result [] }
+        // Where the writer tells what it holds, it keeps that.
         ensures kept { Keeps (W.contents self.old.0) (W.contents self.new.0) }
     {
         match self.0.flush() {

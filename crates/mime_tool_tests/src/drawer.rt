@@ -5,6 +5,7 @@ ghost use Rattle.mime_tool_tests.specs.Drawer.{stored_in, writes_of};
 ghost use Rattle.mime_tool_tests.specs.Shelf.{stored_at};
 
 use crate::{Page, Shelf};
+use mime_base::OutOfMemory;
 use mime_lookup::{Content, ReadFault};
 use mime_tool::{FileFault, Files};
 use std::alloc::{AllocError, Global};
@@ -84,6 +85,15 @@ impl<'a> Files for Drawer<'a> {
             Some(bytes) if path == self.path => Ok(Some(bytes.as_slice().to_vec(alloc)?)),
             Some(_) if path == temp.as_str() => Ok(None),
             _ => self.shelf.whole(alloc, path),
+        }
+    }
+
+    fn exists(&mut self, alloc: Global, path: &str) -> Result<bool, OutOfMemory> {
+        let temp = self.temp(alloc)?;
+        match &self.laid {
+            Some(_) if path == self.path => Ok(true),
+            Some(_) if path == temp.as_str() => Ok(false),
+            _ => self.shelf.exists(alloc, path),
         }
     }
 

@@ -1,6 +1,7 @@
 //! Files and sinks that fail at a call of choice, and tell nothing.
 
 use crate::{Drawer, Page, Sheet, Shelf};
+use mime_base::OutOfMemory;
 use mime_tool::{FileFault, Files, Sink, SinkFault};
 use std::alloc::Global;
 
@@ -13,6 +14,10 @@ impl Files for FailingFiles {
 
     fn whole(&mut self, _alloc: Global, _path: &str) -> Result<Option<Vec<u8>>, FileFault> {
         Err(self.0)
+    }
+
+    fn exists(&mut self, _alloc: Global, _path: &str) -> Result<bool, OutOfMemory> {
+        Ok(true)
     }
 
     fn open(&mut self, _alloc: Global, _path: &str) -> Result<Page<'static>, FileFault> {
@@ -46,6 +51,10 @@ impl<'a> Files for FailingShelf<'a> {
         self.shelf.whole(alloc, path)
     }
 
+    fn exists(&mut self, alloc: Global, path: &str) -> Result<bool, OutOfMemory> {
+        self.shelf.exists(alloc, path)
+    }
+
     fn open(&mut self, alloc: Global, path: &str) -> Result<Page<'a>, FileFault> {
         step(&mut self.calls, self.fault)?;
         self.shelf.open(alloc, path)
@@ -77,6 +86,10 @@ impl<'a> Files for FailingDrawer<'a> {
     fn whole(&mut self, alloc: Global, path: &str) -> Result<Option<Vec<u8>>, FileFault> {
         step(&mut self.calls, self.fault)?;
         self.drawer.whole(alloc, path)
+    }
+
+    fn exists(&mut self, alloc: Global, path: &str) -> Result<bool, OutOfMemory> {
+        self.drawer.exists(alloc, path)
     }
 
     fn open(&mut self, alloc: Global, path: &str) -> Result<Sheet<'a>, FileFault> {

@@ -3,6 +3,7 @@
 ghost use Rattle.std.specs.Prelude.{◌≡◌};
 ghost use Rattle.mime_tool_tests.specs.Shelf.{entry_in, stored_at};
 
+use mime_base::OutOfMemory;
 use mime_lookup::{Content, ReadFault};
 use mime_tool::{FileFault, Files};
 use std::alloc::Global;
@@ -79,6 +80,10 @@ impl<'a> Files for Shelf<'a> {
                 Err(_) => Err(FileFault::OutOfMemory),
             },
         }
+    }
+
+    fn exists(&mut self, _alloc: Global, path: &str) -> Result<bool, OutOfMemory> {
+        Ok(find_entry(self.entries, path).is_some())
     }
 
     fn open(&mut self, _alloc: Global, path: &str) -> Result<Page<'a>, FileFault> {

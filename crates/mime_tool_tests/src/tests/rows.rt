@@ -37,12 +37,12 @@ static PRINTED: [Row; 5] = [
         err: "",
     },
     Row {
-        name: "a missing file counts as empty",
+        name: "a missing file counts as empty, and that all are missing is said",
         words: &["plain", "-d", "/s", "--name-only", "y.a"],
         globs: None,
         status: 0,
         out: "y.a: application/octet-stream\n",
-        err: "",
+        err: "mimelook: /s: no text files\n",
     },
     Row {
         name: "malformed lines are reported",

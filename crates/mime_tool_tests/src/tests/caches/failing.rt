@@ -256,7 +256,11 @@ fn stops_at(
     let wanted = Taken {
         status,
         out: put,
-        flushed: if is_flushed { put.len() } else { puts.handed_on },
+        flushed: if is_flushed {
+            put.len()
+        } else {
+            puts.handed_on
+        },
         err: message.as_str(),
     };
     let streams = (FailingSink::new(alloc, calls, 1, fault), sound(alloc));
