@@ -13,6 +13,7 @@ pub mod Shapes
 pub mod SettledWords
 pub mod SourceWords
 pub mod UsualEnds
+pub mod UsualMeanings
 pub mod UsualRows
 pub mod UsualWords
 pub mod ValueWords

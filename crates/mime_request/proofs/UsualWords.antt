@@ -16,7 +16,8 @@ use Rattle.mime_request.proofs.PlainWords.{neither, plain_word}
 use Rattle.mime_request.proofs.Rows.{neither_of}
 use Rattle.mime_request.proofs.SettledWords.{first_file, nothing_pending, takes}
 use Rattle.mime_request.proofs.Shapes.{TakesFiles, cache_met, plain_met, plain_shape, plain_takes, type_over, type_shape, type_takes}
-use Rattle.mime_request.proofs.UsualEnds.{ends_well, plain_means, rows_end, type_means}
+use Rattle.mime_request.proofs.UsualEnds.{ends_well, rows_end}
+use Rattle.mime_request.proofs.UsualMeanings.{plain_means, type_means}
 use Rattle.mime_request.proofs.UsualRows.{rows_before}
 use Rattle.mime_request.proofs.Walks.{Leads, goes}
 
@@ -54,7 +55,7 @@ meaning_of-usual_type by before after [] usual = let never : false ≡ true = us
 meaning_of-usual_type by before after (file ∷ files) usual =
     meaning_of-met (cache_met type_over) _ (in_files (rows_before by before after) (file ∷ files)) _
     (usual_walk type_shape type_takes by (type_source by) before after file files (type_takes_all before) (type_takes_all after) usual)
-    (ends_well type_shape type_takes (rows_before by before after) file files usual.few)
+    (ends_well by before after file files type_shape type_takes usual.few)
     (ap (λ rows. subcommand_meaning (Some (codes "type", rows))) (rows_end by before after file files type_shape type_takes)
     ∙ type_means by before after file files usual.together)
 
@@ -74,6 +75,6 @@ meaning_of-usual_plain dirs before after (file ∷ files) usual free =
     meaning_of-met plain_met _ (in_files (rows_before (named_by dirs) before after) (file ∷ files)) _
     (usual_walk plain_shape plain_takes (named_by dirs) (source_of_plain dirs) before after file files
     (plain_takes_all before costs.0) (plain_takes_all after costs.1) usual)
-    (ends_well plain_shape plain_takes (rows_before (named_by dirs) before after) file files usual.few)
+    (ends_well (named_by dirs) before after file files plain_shape plain_takes usual.few)
     (ap (λ rows. subcommand_meaning (Some (codes "plain", rows))) (rows_end (named_by dirs) before after file files plain_shape plain_takes)
     ∙ plain_means dirs before after file files usual.together)

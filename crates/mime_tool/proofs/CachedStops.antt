@@ -19,6 +19,8 @@ use Rattle.mime_tool.specs.Cache.{GivesOrRefuses, IsCacheFaultStop, cache_fault_
 use Rattle.mime_tool.specs.Files.{Stored, bytes, closed, folder, nothing, unknown, unreadable}
 use Rattle.mime_tool.specs.Line.{IsNamed, IsTypeLineBy, fits}
 use Rattle.mime_tool.specs.LineSteps.{IsContent, LooksUp}
+use Rattle.mime_request.specs.declared.request.Output.{Output}
+use Rattle.mime_tool.specs.Output.{written}
 use Rattle.mime_tool.specs.Run.{Run, refusal, silent, stopped}
 use Rattle.mime_tool.specs.Types.{RefusesLookup, lookup_by}
 use Rattle.mime_tool.specs.declared.stop.Stop.{Stop}
@@ -62,29 +64,29 @@ fault_of_stop cache f (inr (inr (e, is, other, fault_is))) = subst (IsLookUpFaul
     same : (f e : CacheFault) → cause.Cache f ≡ cause.Cache e → f ≡ e
     same f e is = cc
 
-module _ {R : Type 0} (remaining : R → Option (List ℕ)) (health : R → Health) (path cache : List ℕ) (cost : Bool) (order : Order)
-    (file : List ℕ) where
+module _ {R : Type 0} (remaining : R → Option (List ℕ)) (health : R → Health) (path cache : List ℕ) (cost : Bool) (output : Output)
+    (order : Order) (file : List ℕ) where
   -- a refusal is the run over a file that was looked up
   refused_run : (f : CacheFault) (text : List ℕ) (name_only : Bool) (stored : Stored) (content : Option R) → fits file ≡ true
       → RefusesLookup cache f → text ≡ refusal path (cache_fault_name f) → IsContent remaining health name_only stored content
-      → IsTypeLineBy name_only (lookup_by path name_only cost order cache) stored file (stopped text silent)
+      → IsTypeLineBy name_only (lookup_by path name_only cost output order cache) stored file (stopped text silent)
   refused_run f text true stored content fit refuses is has =
-      named (fits file) file _ _ fit (inr (f, refuses, ap (λ (t : List ℕ). stopped t silent) is))
+      named (fits file) (written output file) _ _ fit (inr (f, refuses, ap (λ (t : List ℕ). stopped t silent) is))
   refused_run f text false stored None fit refuses is has = absurd has
   refused_run f text false nothing (Some reader) fit refuses is has = absurd has
   refused_run f text false folder (Some reader) fit refuses is has = absurd has
   refused_run f text false closed (Some reader) fit refuses is has = absurd has
   refused_run f text false unreadable (Some reader) fit refuses is has =
-      named (fits file) file _ _ fit (inr (f, refuses, ap (λ (t : List ℕ). stopped t silent) is))
+      named (fits file) (written output file) _ _ fit (inr (f, refuses, ap (λ (t : List ℕ). stopped t silent) is))
   refused_run f text false (bytes bs) (Some reader) fit refuses is has =
-      named (fits file) file _ _ fit (inr (f, refuses, ap (λ (t : List ℕ). stopped t silent) is))
+      named (fits file) (written output file) _ _ fit (inr (f, refuses, ap (λ (t : List ℕ). stopped t silent) is))
   refused_run f text false unknown (Some reader) fit refuses is has =
-      inr (inr (named (fits file) file _ _ fit (inr (f, refuses, ap (λ (t : List ℕ). stopped t silent) is))))
+      inr (inr (named (fits file) (written output file) _ _ fit (inr (f, refuses, ap (λ (t : List ℕ). stopped t silent) is))))
 
   -- what stops for a fault of the cache
   looked_up : (s : Stop) → GivesOrRefuses {X = Unit {0}} path (RefusesLookup cache) (λ _. ⊤) (Err s) → fits file ≡ true
       → (stored : Stored) (name_only : Bool) (content : Option R) → IsContent remaining health name_only stored content
-      → LooksUp (lookup_by path name_only cost order cache) stored file (Err s)
+      → LooksUp (lookup_by path name_only cost output order cache) stored file (Err s)
   looked_up stop.OutOfMemory p fit stored name_only content has = tt
   looked_up stop.CannotWrite p fit stored name_only content has = absurd p
   looked_up (stop.Refused m) p fit stored name_only content has =
@@ -96,7 +98,7 @@ module _ {R : Type 0} (remaining : R → Option (List ℕ)) (health : R → Heal
       → ((b : PlainDatabase) → IsWithinLimits b → Spells cache b → Packed cache b
       → (cause.Cache f ≡ cause.Read) ⊎ (cause.Cache f ≡ cause.OutOfMemory))
       → (stored : Stored) (name_only : Bool) → IsContent remaining health name_only stored content
-      → LooksUp (lookup_by path name_only cost order cache) stored file (Err s)
+      → LooksUp (lookup_by path name_only cost output order cache) stored file (Err s)
   line_refused f s content stops fit is answers stored name_only has =
       looked_up s (refused_for (Unit {0}) path cache (IsLookUpFault cache) IsWithinLimits (λ _. ⊤) f s stops
       (fault_of_stop cache f is)

@@ -11,6 +11,7 @@ pub mod DirectoryLists
 pub mod DirectoryLoops
 pub mod DirectorySteps
 pub mod Endings
+pub mod Escapes
 pub mod Ends
 pub mod Headers
 pub mod Lines

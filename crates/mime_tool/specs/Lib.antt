@@ -11,6 +11,7 @@ pub mod Line
 pub mod LineSteps
 pub mod List
 pub mod Loading
+pub mod Output
 pub mod Plain
 pub mod Program
 pub mod Run

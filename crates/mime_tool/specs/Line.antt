@@ -1,9 +1,11 @@
 -- What is printed or said of a FILE.
-use Rattle.std.specs.Prelude.{◌≡◌, ◌⊎◌, ◌==◌, ℕ, Bool, true, false, List, ◌++◌, Option, Some, None, codes, nat_le, length}
+use Rattle.std.specs.Prelude.{◌≡◌, ◌⊎◌, ◌==◌, ℕ, Bool, true, false, List, Option, Some, None, codes, nat_le, length}
 use Rattle.std.specs.List.{after_last}
 use Rattle.mime_lookup.specs.declared.order.Order.{Order}
 use Rattle.mime_lookup.specs.declared.order.Order.TheVariants.{GlobsFirst, MagicFirst}
 use Rattle.mime_tool.specs.Files.{Stored, bytes, closed, folder, nothing, unknown, unreadable}
+use Rattle.mime_request.specs.declared.request.Output.{Output}
+use Rattle.mime_tool.specs.Output.{written}
 use Rattle.mime_tool.specs.Run.{Run, cannot_read, refusal, unanswered}
 
 -- the name of a file: what stands after its last slash (47)
@@ -13,10 +15,6 @@ base_name file = after_last (λ b. b == 47) file
 -- a name of at most 4,096 bytes
 abbrev pub fits : List ℕ → Bool
 fits file = nat_le (length (base_name file)) 4096
-
--- the line of a file: its type, and what else is told of it
-abbrev pub type_line : List ℕ → List ℕ → List ℕ → List ℕ
-type_line file kind tail = file ++ (codes ": " ++ (kind ++ (tail ++ codes "\n")))
 
 -- the message on a FILE whose name is too long
 abbrev pub too_long : List ℕ → List ℕ
@@ -31,32 +29,34 @@ abbrev pub order_of : Bool → Order
 order_of true = MagicFirst
 order_of false = GlobsFirst
 
--- how FILEs are looked up: whether by their names alone, and what the run is over a FILE of this content or of none, over one
+-- how FILEs are looked up: whether by their names alone, how answers are written, and what the run is over a FILE of this content or of none, over one
 -- whose reads all fail, and over one of which nothing is known
 pub record PlainLookup : Type 1 where
   pub name_only : Bool
+  pub output : Output
   pub IsTyped : Option (List ℕ) → List ℕ → Run → Type 0
   pub IsUnread : List ℕ → Run → Type 0
   pub IsGuessed : List ℕ → Run → Type 0
 
--- the run over a file whose name fits, or doesn't
+-- the run over a file whose name fits, or doesn't; in a message it is written so
 abbrev pub IsNamed : Bool → List ℕ → (Run → Type 0) → Run → Type 0
 IsNamed true file IsOne run = IsOne run
 IsNamed false file IsOne run = run ≡ unanswered (too_long file)
 
 -- the run over a file that is to be opened, where this is stored
 abbrev pub IsOpened : PlainLookup → Stored → List ℕ → Run → Type 0
-IsOpened lookup nothing file run = run ≡ unanswered (cannot_open file)
-IsOpened lookup folder file run = run ≡ unanswered (cannot_read file)
-IsOpened lookup closed file run = run ≡ unanswered (cannot_open file)
-IsOpened lookup unreadable file run = IsNamed (fits file) file (lookup.IsUnread file) run
-IsOpened lookup (bytes bs) file run = IsNamed (fits file) file (lookup.IsTyped (Some bs) file) run
-IsOpened lookup unknown file run =
-    (run ≡ unanswered (cannot_open file)) ⊎ (run ≡ unanswered (cannot_read file)) ⊎ IsNamed (fits file) file (lookup.IsGuessed file) run
+IsOpened lookup nothing file run = run ≡ unanswered (cannot_open (written lookup.output file))
+IsOpened lookup folder file run = run ≡ unanswered (cannot_read (written lookup.output file))
+IsOpened lookup closed file run = run ≡ unanswered (cannot_open (written lookup.output file))
+IsOpened lookup unreadable file run = IsNamed (fits file) (written lookup.output file) (lookup.IsUnread file) run
+IsOpened lookup (bytes bs) file run = IsNamed (fits file) (written lookup.output file) (lookup.IsTyped (Some bs) file) run
+IsOpened lookup unknown file run = (run ≡ unanswered (cannot_open (written lookup.output file)))
+    ⊎ (run ≡ unanswered (cannot_read (written lookup.output file)))
+    ⊎ IsNamed (fits file) (written lookup.output file) (lookup.IsGuessed file) run
 
 -- the run over a file: by its name alone, or it is opened
 abbrev pub IsTypeLineBy : Bool → PlainLookup → Stored → List ℕ → Run → Type 0
-IsTypeLineBy true lookup stored file run = IsNamed (fits file) file (lookup.IsTyped None file) run
+IsTypeLineBy true lookup stored file run = IsNamed (fits file) (written lookup.output file) (lookup.IsTyped None file) run
 IsTypeLineBy false lookup stored file run = IsOpened lookup stored file run
 
 -- the run over a file, where this is stored at each path

@@ -2,9 +2,11 @@
 use Rattle.std.specs.Prelude.{◌≡◌, ℕ, Bool, true, false, List, [], Option, Some, None, Result, Ok, Err, string_bytes}
 use Rattle.mime_base.specs.Database.{plain_database}
 use Rattle.mime_lookup.specs.Content.{Health}
+use Rattle.mime_request.specs.declared.request.Output.{Output}
 use Rattle.mime_tool.specs.Files.{IsReaderOf, Stored}
 use Rattle.mime_tool.specs.Finish.{Sinks}
-use Rattle.mime_tool.specs.Line.{IsTypeLineBy, PlainLookup, cannot_open, too_long, type_line}
+use Rattle.mime_tool.specs.Line.{IsTypeLineBy, PlainLookup, cannot_open, too_long}
+use Rattle.mime_tool.specs.Output.{answer_of, written}
 use Rattle.mime_tool.specs.Plain.{lookup_over}
 use Rattle.mime_tool.specs.Run.{Run, cannot_read, printed, silent, stopped, unanswered}
 use Rattle.mime_tool.specs.Types.{cost_text, lookup_by}
@@ -19,8 +21,8 @@ use Rattle.mime_tool.specs.declared.stop.Stop.TheVariants as stop
 
 -- how FILEs are looked up in this data
 abbrev pub lookup_in : Data → Lookup → PlainLookup
-lookup_in (data_of.Database database) lookup = lookup_over lookup.name_only lookup.order (plain_database database.now)
-lookup_in (data_of.Cache path bytes cost) lookup = lookup_by path.now lookup.name_only cost lookup.order bytes.now
+lookup_in (data_of.Database database) lookup = lookup_over lookup.name_only lookup.output lookup.order (plain_database database.now)
+lookup_in (data_of.Cache path bytes cost) lookup = lookup_by path.now lookup.name_only cost lookup.output lookup.order bytes.now
 
 -- the plain value of a lookup
 abbrev pub plain_lookup : Lookup → PlainLookup
@@ -31,12 +33,12 @@ abbrev pub tail_of : Option Cost → List ℕ
 tail_of None = []
 tail_of (Some cost) = cost_text cost.meter cost.read
 
--- what is written of a file that comes to this
-abbrev pub run_of : List ℕ → Outcome → Run
-run_of file (outcome.Typed kind cost) = printed (type_line file kind.now (tail_of cost))
-run_of file outcome.CannotOpen = unanswered (cannot_open file)
-run_of file outcome.NameTooLong = unanswered (too_long file)
-run_of file outcome.CannotRead = unanswered (cannot_read file)
+-- what is written of a file that comes to this, where its name is written so
+abbrev pub run_of : Output → List ℕ → Outcome → Run
+run_of output name (outcome.Typed kind cost) = printed (answer_of output name (written output kind.now) (tail_of cost))
+run_of output name outcome.CannotOpen = unanswered (cannot_open name)
+run_of output name outcome.NameTooLong = unanswered (too_long name)
+run_of output name outcome.CannotRead = unanswered (cannot_read name)
 
 -- the content of a file, which is a reader of what is stored, or none where the name alone is asked for
 abbrev pub IsContent : {R : Type 0} → (R → Option (List ℕ)) → (R → Health) → Bool → Stored → Option R → Type 0
@@ -47,7 +49,7 @@ IsContent remaining health false stored (Some reader) = IsReaderOf remaining hea
 
 -- what is written of what a file comes to is its line, and so is the message of a refusal; or memory ran out
 abbrev pub LooksUp : PlainLookup → Stored → List ℕ → Result Outcome Stop → Type 0
-LooksUp lookup stored file (Ok o) = IsTypeLineBy lookup.name_only lookup stored file (run_of file o)
+LooksUp lookup stored file (Ok o) = IsTypeLineBy lookup.name_only lookup stored file (run_of lookup.output (written lookup.output file) o)
 LooksUp lookup stored file (Err (stop.Refused message)) =
     IsTypeLineBy lookup.name_only lookup stored file (stopped (string_bytes message) silent)
 LooksUp lookup stored file (Err stop.CannotWrite) = ⊥

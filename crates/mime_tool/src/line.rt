@@ -3,18 +3,22 @@
 ghost use Rattle.std.specs.Prelude.{◌≡◌, IfOk, [], string_bytes};
 ghost use Rattle.clap.specs.Walk.{texts};
 ghost use Rattle.mime_tool.specs.Desk.{Does, Ends, Works};
-ghost use Rattle.mime_tool.specs.Line.{IsTypeLine, base_name, type_line};
+ghost use Rattle.mime_tool.specs.Line.{IsTypeLine, base_name};
 ghost use Rattle.mime_tool.specs.LineSteps.{ComesTo, plain_lookup, run_of, tail_of};
+ghost use Rattle.mime_tool.specs.Output.{answer_end, answer_of, separator, written};
 ghost use Rattle.mime_tool.specs.Run.{IsEach, printed, refusal, unanswered};
 ghost use Rattle.mime_tool.specs.Types.{cost_text};
 
+mod escape;
 mod lookup;
 
 use crate::desk::{Desk, Opened, report};
 use crate::status::{ANSWERED, NOT_ANSWERED};
 use crate::stop::Stop;
+use escape::{escaped_bytes, escaped_text};
 use lookup::find;
 pub(crate) use lookup::{Cost, Data, Lookup, order_of};
+use mime_request::Output;
 use std::alloc::{AllocError, Global};
 
 /// What a FILE comes to.
@@ -49,7 +53,7 @@ fn print_line<D: Desk>(desk: &mut D, lookup: Lookup<'_>, file: &str) -> Result<u
         (D.state desk.old) (D.state desk.new) result }
 {
     let outcome = outcome_of(desk, lookup, file)?;
-    print_outcome(desk, file, outcome)
+    print_outcome(desk, lookup.output, file, outcome)
 }
 
 // What a file comes to. It is opened first, unless its name alone is asked for.
@@ -72,45 +76,90 @@ fn outcome_of<'a, D: Desk>(
     find(desk.alloc(), lookup, file, content)
 }
 
-fn print_outcome<D: Desk>(desk: &mut D, file: &str, outcome: Outcome<'_>) -> Result<u8, Stop>
-    ensures { Works (Ends (λ _ run. run ≡ run_of file.now outcome.entry) [])
+// Prints what a file came to, with its name as it is to be written.
+fn print_outcome<D: Desk>(
+    desk: &mut D,
+    output: Output,
+    file: &str,
+    outcome: Outcome<'_>,
+) -> Result<u8, Stop>
+    ensures { Works (Ends (λ _ run. run ≡ run_of output (written output file.now) outcome.entry) [])
+        (D.state desk.old) (D.state desk.new) result }
+{
+    if output.escape {
+        let name = escaped_text(desk.alloc(), file)?;
+        print_named(desk, output, name.as_str(), outcome)
+    } else {
+        print_named(desk, output, file, outcome)
+    }
+}
+
+// The same, where the file's name is written so.
+fn print_named<D: Desk>(
+    desk: &mut D,
+    output: Output,
+    name: &str,
+    outcome: Outcome<'_>,
+) -> Result<u8, Stop>
+    ensures { Works (Ends (λ _ run. run ≡ run_of output name.now outcome.entry) [])
         (D.state desk.old) (D.state desk.new) result }
 {
     match outcome {
-        Outcome::Typed(kind, cost) => print_type(desk, file, kind, cost),
-        Outcome::CannotOpen => refuse(desk, file, "cannot open"),
-        Outcome::NameTooLong => refuse(desk, file, "name too long"),
-        Outcome::CannotRead => refuse(desk, file, "cannot read"),
+        Outcome::Typed(kind, cost) => print_type(desk, output, name, kind, cost),
+        Outcome::CannotOpen => refuse(desk, name, "cannot open"),
+        Outcome::NameTooLong => refuse(desk, name, "name too long"),
+        Outcome::CannotRead => refuse(desk, name, "cannot read"),
     }
 }
 
 fn print_type<D: Desk>(
     desk: &mut D,
-    file: &str,
+    output: Output,
+    name: &str,
     kind: &[u8],
     cost: Option<Cost>,
 ) -> Result<u8, Stop>
-    ensures { Works (Ends (λ _ run. run ≡ printed (type_line file.now kind.now (tail_of cost))) [])
+    ensures { Works (Ends (λ _ run. run ≡ printed (answer_of output name.now (written output kind.now) (tail_of cost))) [])
         (D.state desk.old) (D.state desk.new) result }
 {
-    print_told(desk, file, kind, cost)?;
+    print_kind(desk, output, name, kind, cost)?;
     Ok(ANSWERED)
 }
 
-fn print_told<D: Desk>(
+fn print_kind<D: Desk>(
     desk: &mut D,
-    file: &str,
+    output: Output,
+    name: &str,
     kind: &[u8],
     cost: Option<Cost>,
 ) -> Result<(), Stop>
-    ensures { Works (Does (printed (type_line file.now kind.now (tail_of cost))))
+    ensures { Works (Does (printed (answer_of output name.now (written output kind.now) (tail_of cost))))
+        (D.state desk.old) (D.state desk.new) result }
+{
+    if output.escape {
+        let kind = escaped_bytes(desk.alloc(), kind)?;
+        print_told(desk, output, name, kind.as_slice(), cost)
+    } else {
+        print_told(desk, output, name, kind, cost)
+    }
+}
+
+// The type is written so.
+fn print_told<D: Desk>(
+    desk: &mut D,
+    output: Output,
+    name: &str,
+    kind: &[u8],
+    cost: Option<Cost>,
+) -> Result<(), Stop>
+    ensures { Works (Does (printed (answer_of output name.now kind.now (tail_of cost))))
         (D.state desk.old) (D.state desk.new) result }
 {
     match cost {
-        None => print_pieces(desk, file, kind),
+        None => print_pieces(desk, output, name, kind, b""),
         Some(cost) => {
             let tail = told(desk.alloc(), cost)?;
-            print_all_pieces(desk, file, kind, tail.as_bytes())
+            print_pieces(desk, output, name, kind, tail.as_bytes())
         }
     }
 }
@@ -123,18 +172,36 @@ fn told(alloc: Global, cost: Cost) -> Result<String, AllocError>
     format!(in alloc; " nodes={nodes} bytes={bytes} read={read}")
 }
 
-fn print_pieces<D: Desk>(desk: &mut D, file: &str, kind: &[u8]) -> Result<(), Stop>
-    ensures { Works (Does (printed (type_line file.now kind.now [])))
+fn print_pieces<'a, D: Desk>(
+    desk: &mut D,
+    output: Output,
+    name: &'a str,
+    kind: &'a [u8],
+    tail: &'a [u8],
+) -> Result<(), Stop>
+    ensures { Works (Does (printed (answer_of output name.now kind.now tail.now)))
         (D.state desk.old) (D.state desk.new) result }
 {
-    desk.print(&[file.as_bytes(), b": ", kind, b"\n"])
+    let end = answer_end(output);
+    if output.brief {
+        desk.print(&[kind, tail, end])
+    } else {
+        desk.print(&[name.as_bytes(), separator(output), kind, tail, end])
+    }
 }
 
-fn print_all_pieces<D: Desk>(desk: &mut D, file: &str, kind: &[u8], tail: &[u8]) -> Result<(), Stop>
-    ensures { Works (Does (printed (type_line file.now kind.now tail.now)))
-        (D.state desk.old) (D.state desk.new) result }
+// What stands between a FILE and its TYPE.
+fn separator<'a>(output: Output) -> &'a [u8]
+    ensures { result.now ≡ separator output }
 {
-    desk.print(&[file.as_bytes(), b": ", kind, tail, b"\n"])
+    if output.null { b"\0" } else { b": " }
+}
+
+// What ends an answer.
+fn answer_end<'a>(output: Output) -> &'a [u8]
+    ensures { result.now ≡ answer_end output }
+{
+    if output.null { b"\0" } else { b"\n" }
 }
 
 // Says why a file has no line.

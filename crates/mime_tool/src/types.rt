@@ -38,6 +38,7 @@ pub(crate) fn print_types<D: Desk>(
         },
         name_only: options.name_only,
         order: order_of(options.magic_first),
+        output: options.output,
     };
     print_lines(desk, lookup, files)
 }

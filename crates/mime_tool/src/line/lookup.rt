@@ -13,6 +13,7 @@ use crate::cache::faulty;
 use crate::stop::Stop;
 use mime_base::{Counted, Database, Host, Meter};
 use mime_lookup::{Cause, Content, Order, look_up, look_up_plain};
+use mime_request::Output;
 use std::alloc::Global;
 
 /// What FILEs are looked up in.
@@ -34,6 +35,8 @@ pub(crate) struct Lookup<'a> {
     /// Whether by their names alone: then none is opened.
     pub(crate) name_only: bool,
     pub(crate) order: Order,
+    /// How their answers are printed.
+    pub(crate) output: Output,
 }
 
 /// What an answer cost: what was looked at, and how many bytes of the content were read.
@@ -68,6 +71,7 @@ pub(super) fn find<'a, R: Content + Drop>(
         by,
         name_only: _,
         order,
+        output: _,
     } = lookup;
     match by {
         Data::Database(database) => find_in_database(alloc, database, order, file, content),
@@ -84,8 +88,8 @@ fn find_in_database<'a, R: Content + Drop>(
     file: &str,
     mut content: Option<R>,
 ) -> Result<Outcome<'a>, Stop>
-    ensures { (stored : Stored) (name_only : Bool) → IsContent R.remaining R.health name_only stored content
-        → LooksUp (lookup_over name_only order (plain_database database.entry.now)) stored file.now result }
+    ensures { (stored : Stored) (name_only : Bool) (output : Output) → IsContent R.remaining R.health name_only stored content
+        → LooksUp (lookup_over name_only output order (plain_database database.entry.now)) stored file.now result }
 {
     let name = base_name(file.as_bytes());
     match look_up_plain(alloc, database, name, &mut content, Host::Little, order) {
@@ -107,8 +111,8 @@ fn find_in_cache<'a, R: Content + Drop>(
     file: &str,
     mut content: Option<R>,
 ) -> Result<Outcome<'a>, Stop>
-    ensures { (stored : Stored) (name_only : Bool) → IsContent R.remaining R.health name_only stored content
-        → LooksUp (lookup_by path.now name_only cost order bytes.entry.now) stored file.now result }
+    ensures { (stored : Stored) (name_only : Bool) (output : Output) → IsContent R.remaining R.health name_only stored content
+        → LooksUp (lookup_by path.now name_only cost output order bytes.entry.now) stored file.now result }
 {
     let name = base_name(file.as_bytes());
     let cache = Counted::new(bytes);

@@ -5,6 +5,7 @@ mod cost;
 mod failing;
 mod faults;
 mod files;
+mod output;
 mod sample;
 
 use crate::Entry;

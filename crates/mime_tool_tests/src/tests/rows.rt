@@ -19,7 +19,32 @@ const GLOBS: &[u8] = b"50:text/x-readme:readme*\n50:t/a:*.a\n";
 
 const TYPED: &str = "x/README: text/x-readme\ny.a: t/a\nz: application/octet-stream\n";
 
-static PRINTED: [Row; 5] = [
+static PRINTED: [Row; 7] = [
+    Row {
+        name: "zero bytes",
+        words: &["plain", "--name-only", "-d", "/s", "-0", "y.a", "z"],
+        globs: Some(Entry::Bytes(GLOBS)),
+        status: 0,
+        out: "y.a\0t/a\0z\0application/octet-stream\0",
+        err: "",
+    },
+    Row {
+        name: "types alone and escapes",
+        words: &[
+            "plain",
+            "-d",
+            "/s",
+            "-b",
+            "--escape",
+            "--name-only",
+            "y.a",
+            "z\n",
+        ],
+        globs: Some(Entry::Bytes(GLOBS)),
+        status: 0,
+        out: "t/a\napplication/octet-stream\n",
+        err: "",
+    },
     Row {
         name: "the stored run",
         words: &["plain", "--name-only", "-d", "", "a"],

@@ -18,7 +18,27 @@ struct Refused {
     kind: ErrorKind,
 }
 
-static REFUSED: [Refused; 22] = [
+static REFUSED: [Refused; 26] = [
+    Refused {
+        name: "escapes with zero bytes",
+        words: &["plain", "--escape", "-0", "x"],
+        kind: ErrorKind::ArgumentConflict,
+    },
+    Refused {
+        name: "cost with zero bytes",
+        words: &["type", "--cost", "--null", "x"],
+        kind: ErrorKind::ArgumentConflict,
+    },
+    Refused {
+        name: "cost with TYPE alone",
+        words: &["type", "-b", "--cost", "x"],
+        kind: ErrorKind::ArgumentConflict,
+    },
+    Refused {
+        name: "a short flag and its long one",
+        words: &["plain", "-0", "--null", "x"],
+        kind: ErrorKind::ArgumentConflict,
+    },
     Refused {
         name: "no words",
         words: &[],
@@ -161,7 +181,8 @@ error: unexpected argument '--names' found
 
   tip: a similar argument exists: '--name-only'
 
-Usage: mimelook plain [-d DIRS] [--name-only] [--magic-first] FILE...
+Usage: mimelook plain [-d DIRS] [--name-only] [--magic-first] [-0] [-b]
+                      [--escape] FILE...
 
 For more information, try '--help'.
 ";

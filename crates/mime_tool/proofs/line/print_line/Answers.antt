@@ -23,5 +23,5 @@ returns g c =
     record {
       same_files = written.same_files ∙ found.same_files;
       same_setting = written.same_setting ∙ found.same_setting;
-      sinks = comes_written (plain_lookup c.args.lookup) stored c.args.file.now c.in_ok-outcome.outcome _ _ _ _ found.sinks written.sinks;
+      sinks = comes_written c.args.lookup stored c.args.file.now c.in_ok-outcome.outcome _ _ _ _ found.sinks written.sinks;
     }

@@ -1,10 +1,9 @@
+use Rattle.std.proofs.Common.{inl, refl}
+use Rattle.std.proofs.lemmas.Result.{err_from_is_err_and}
+use Rattle.mime_tool.proofs.Ends.{writes_same}
 use Rattle.mime_tool.proofs.line.print_outcome.Goals as goal
 
-pub returns-in-CannotOpen : goal.returns-in-CannotOpen
-returns-in-CannotOpen g c = rw c.in-CannotOpen.is c.refuse.ensures
-
-pub returns-in-NameTooLong : goal.returns-in-NameTooLong
-returns-in-NameTooLong g c = rw c.in-NameTooLong.is c.refuse-in-NameTooLong.ensures
-
-pub returns-in-CannotRead : goal.returns-in-CannotRead
-returns-in-CannotRead g c = rw c.in-CannotRead.is c.refuse-in-CannotRead.ensures
+pub returns-in_err-name : goal.returns-in_err-name
+returns-in_err-name g c =
+    let e = err_from_is_err_and c.from_residual.result c.from_residual.ensures.1 in
+    rw (e.1, e.2) (record { same_files = refl; same_setting = refl; sinks = inl (writes_same _ _ refl) })

@@ -1,7 +1,7 @@
 use Rattle.std.proofs.Common.{refl}
 use Rattle.std.proofs.lemmas.Result.{err_from_is_err_and}
-use Rattle.mime_tool.specs.Line.{type_line}
 use Rattle.mime_tool.specs.LineSteps.{tail_of}
+use Rattle.mime_tool.specs.Output.{answer_of}
 use Rattle.mime_tool.specs.Run.{printed}
 use Rattle.mime_tool.proofs.Desks.{does_nothing}
 use Rattle.mime_tool.proofs.line.print_told.Goals as goal
@@ -12,6 +12,6 @@ returns-in_err-tail-in-Some g c =
     rw (e.1, e.2) (record {
       same_files = refl;
       same_setting = refl;
-      sinks = does_nothing (Unit {0}) (printed (type_line c.args.file.now c.args.kind.now (tail_of c.args.cost)))
+      sinks = does_nothing (Unit {0}) (printed (answer_of c.args.output c.args.name.now c.args.kind.now (tail_of c.args.cost)))
           (g.D.Desk.state c.args.desk.now).sinks;
     })

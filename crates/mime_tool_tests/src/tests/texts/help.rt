@@ -73,7 +73,8 @@ Example:
 const PLAIN_HELP: &str = "\
 Prints FILE: TYPE for each FILE, with no cache between
 
-Usage: mimelook plain [-d DIRS] [--name-only] [--magic-first] FILE...
+Usage: mimelook plain [-d DIRS] [--name-only] [--magic-first] [-0] [-b]
+                      [--escape] FILE...
 
 Arguments:
   <FILE>...  The files to tell the types of; put -- before one that begins
@@ -86,6 +87,11 @@ Options:
       --name-only         Go by the names alone: no FILE is opened
       --magic-first       Let content of high priority (80 or more) decide
                           before names
+  -0, --null              Print a zero byte after FILE and one after TYPE, in
+                          place of a colon and a newline
+  -b, --brief             Print TYPE alone
+      --escape            In FILE and TYPE, write the bytes below 32, 127 and \\
+                          as \\ and three octal digits
   -h, --help              Print help
 
 Messages go to standard error. The files are DIR/mime/globs2, magic, aliases,

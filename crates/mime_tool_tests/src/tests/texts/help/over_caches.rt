@@ -100,8 +100,8 @@ Example:
 const TYPE_HELP: &str = "\
 Prints FILE: TYPE for each FILE, by a cache
 
-Usage: mimelook type [-c CACHE | -d DIRS] [--name-only] [--cost]
-                     [--magic-first] FILE...
+Usage: mimelook type [-c CACHE | -d DIRS] [--name-only] [--magic-first] [--cost]
+                     [-0] [-b] [--escape] FILE...
 
 Arguments:
   <FILE>...  The files to tell the types of; put -- before one that begins
@@ -113,12 +113,17 @@ Options:
                           between them, such as /usr/local/share:/usr/share; an
                           empty part is skipped
       --name-only         Go by the names alone: no FILE is opened
+      --magic-first       Let content of high priority (80 or more) decide
+                          before names
       --cost              Print behind each TYPE what the answer cost: nodes=N,
                           records of the cache that were visited; bytes=B, bytes
                           that were read or compared; read=R, bytes of FILE that
                           were read
-      --magic-first       Let content of high priority (80 or more) decide
-                          before names
+  -0, --null              Print a zero byte after FILE and one after TYPE, in
+                          place of a colon and a newline
+  -b, --brief             Print TYPE alone
+      --escape            In FILE and TYPE, write the bytes below 32, 127 and \\
+                          as \\ and three octal digits
   -h, --help              Print help
 
 Messages go to standard error. With -d the cache is made of DIRS, as build makes

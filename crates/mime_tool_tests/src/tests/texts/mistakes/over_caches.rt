@@ -65,8 +65,8 @@ const TYPE_ALONE: &str = "\
 error: the following required arguments were not provided:
   <FILE>...
 
-Usage: mimelook type [-c CACHE | -d DIRS] [--name-only] [--cost]
-                     [--magic-first] FILE...
+Usage: mimelook type [-c CACHE | -d DIRS] [--name-only] [--magic-first] [--cost]
+                     [-0] [-b] [--escape] FILE...
 
 For more information, try '--help'.
 ";
@@ -75,8 +75,8 @@ const NO_FILE_OF_TYPE: &str = "\
 error: the following required arguments were not provided:
   <FILE>...
 
-Usage: mimelook type [-c CACHE | -d DIRS] [--name-only] [--cost]
-                     [--magic-first] FILE...
+Usage: mimelook type [-c CACHE | -d DIRS] [--name-only] [--magic-first] [--cost]
+                     [-0] [-b] [--escape] FILE...
 
 For more information, try '--help'.
 ";
@@ -84,13 +84,47 @@ For more information, try '--help'.
 const COST_TWICE: &str = "\
 error: the argument '--cost' cannot be used multiple times
 
-Usage: mimelook type [-c CACHE | -d DIRS] [--name-only] [--cost]
-                     [--magic-first] FILE...
+Usage: mimelook type [-c CACHE | -d DIRS] [--name-only] [--magic-first] [--cost]
+                     [-0] [-b] [--escape] FILE...
 
 For more information, try '--help'.
 ";
 
-static MISTAKES: [Row<'static>; 10] = [
+const ESCAPED_AND_NULL: &str = "\
+error: give --escape or -0, not both
+
+Usage: mimelook <COMMAND>
+
+For more information, try '--help'.
+";
+
+const COST_OF_BRIEF: &str = "\
+error: give --cost without -0 and -b
+
+Usage: mimelook <COMMAND>
+
+For more information, try '--help'.
+";
+
+static MISTAKES: [Row<'static>; 13] = [
+    Row {
+        name: "escapes and zero bytes",
+        words: &["type", "--escape", "--null", "-c", "c", "x"],
+        err: ESCAPED_AND_NULL,
+        ..SAID
+    },
+    Row {
+        name: "cost and zero bytes",
+        words: &["type", "--cost", "-0", "-c", "c", "x"],
+        err: COST_OF_BRIEF,
+        ..SAID
+    },
+    Row {
+        name: "cost and TYPE alone",
+        words: &["type", "-b", "--cost", "-c", "c", "x"],
+        err: COST_OF_BRIEF,
+        ..SAID
+    },
     Row {
         name: "both -c and -d",
         words: &["list", "-d", "/s", "--cache", "c"],

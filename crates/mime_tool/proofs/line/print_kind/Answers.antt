@@ -1,0 +1,18 @@
+use Rattle.std.proofs.Common.{refl}
+use Rattle.std.proofs.lemmas.Result.{err_from_is_err_and}
+use Rattle.mime_tool.specs.LineSteps.{tail_of}
+use Rattle.mime_tool.specs.Output.{answer_of, written}
+use Rattle.mime_tool.specs.Run.{printed}
+use Rattle.mime_tool.proofs.Desks.{does_nothing}
+use Rattle.mime_tool.proofs.line.print_kind.Goals as goal
+
+pub returns-in_err-kind : goal.returns-in_err-kind
+returns-in_err-kind g c =
+    let e = err_from_is_err_and c.from_residual.result c.from_residual.ensures.1 in
+    let kind = written c.args.output c.args.kind.now in
+    rw (e.1, e.2) (record {
+      same_files = refl;
+      same_setting = refl;
+      sinks = does_nothing (Unit {0}) (printed (answer_of c.args.output c.args.name.now kind (tail_of c.args.cost)))
+          (g.D.Desk.state c.args.desk.now).sinks;
+    })
