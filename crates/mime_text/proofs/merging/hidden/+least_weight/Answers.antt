@@ -1,6 +1,5 @@
 -- The small letter is tried first, then its capital.
-use Rattle.std.proofs.Common.{◌≡◌, ◌+◌, ◌-◌, ◌<◌, ◌∙◌, ◌++◌, ◌∷◌, [], drop, get_or, length, set, take, sym, ap, ap₂, min, not, arith}
-use Rattle.std.proofs.lemmas.Bool.{not-true}
+use Rattle.std.proofs.Common.{◌+◌, ◌-◌, ◌<◌, ◌∙◌, drop, get_or, length, set, take, sym, ap, ap₂, min, arith}
 use Rattle.mime_text.specs.Merging.Hiding.{weight_in}
 use Rattle.mime_text.proofs.Merges.Spelled.{least-end, least-here, least-letter, least-next, least-none, least-other, least-set, ord_min-min, set-again}
 use Rattle.mime_text.proofs.merging.hidden.+least_weight.Goals as goal

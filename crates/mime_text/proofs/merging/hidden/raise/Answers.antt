@@ -1,4 +1,4 @@
-use Rattle.std.proofs.Common.{◌≡◌, ◌<◌, ◌∙◌, bytes_eq, cond, ap, subst, arith, Some}
+use Rattle.std.proofs.Common.{◌<◌, ◌∙◌, bytes_eq, ap, subst, arith}
 use Rattle.std.proofs.lemmas.Map.Text.{btree_map_updates_str}
 use Rattle.std.proofs.lemmas.Slice.Eq.{bytes_eq-Decides}
 use Rattle.mime_text.specs.Merging.Hiding.{or_zero, weight_in}

@@ -1,4 +1,4 @@
-use Rattle.std.proofs.Common.{◌≡◌, ℕ, List, map, not, take}
+use Rattle.std.proofs.Common.{◌≡◌, map, not, take}
 use Rattle.mime_text.specs.Merging.Hiding.{AreLeast, is_outweighed, weight_in}
 use Rattle.mime_text.proofs.merging.hidden.visible_marks.Given as goal
 
