@@ -7,3 +7,6 @@ pub mod Sorting
 pub mod Gathered
 pub mod Picking
 pub mod Plain
+pub mod Spelled
+pub mod Twins
+pub mod Known

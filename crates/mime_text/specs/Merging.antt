@@ -1,9 +1,11 @@
 pub mod Rows
 pub mod Gathering
+pub mod Hiding
 -- What merged data directories say, the most preferred first.
 use Rattle.std.specs.Prelude.{ℕ, Bool, not, List, [], ◌∷◌, ◌++◌, fold, map, filter, bytes_eq, if◌then◌else◌, nat_lt}
 use Rattle.std.specs.List.{flat_map, list_any}
 use Rattle.mime_base.specs.Database.{PlainDatabase}
+use Rattle.mime_base.specs.Kept.Hidden.{visible}
 use Rattle.mime_base.specs.Magic.{PlainSection, plain_sections}
 use Rattle.mime_base.specs.Database.PlainPairs.{is_same_pair, plain_icons, plain_pairs}
 use Rattle.mime_base.specs.declared.database.rule.GlobRule.{GlobRule}
@@ -108,6 +110,17 @@ merged dirs = record {
   sections = falling (λ section. section.priority) (undeleted_sections dirs);
   icons = once has_same_name (flat_map (λ dir. dir.icons) dirs);
   generic_icons = once has_same_name (flat_map (λ dir. dir.generic_icons) dirs);
+}
+
+-- a database without the rules that are never kept
+abbrev pub visible_database : PlainDatabase → PlainDatabase
+visible_database b = record {
+  rules = visible b.rules;
+  aliases = b.aliases;
+  parents = b.parents;
+  sections = b.sections;
+  icons = b.icons;
+  generic_icons = b.generic_icons;
 }
 
 -- ---- the values of the code

@@ -26,4 +26,5 @@ pub use magic::{
     MagicFault, MagicFaultKind, MagicFile, fault_is_by_table, faults_stay, forest_is_by_runs,
     magic_text_or_fault, read_magic, truncated_can_go_on,
 };
+pub use merging::hidden::visible;
 pub use merging::{DirFiles, merge};

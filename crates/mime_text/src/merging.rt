@@ -13,6 +13,7 @@ ghost use Rattle.mime_text.specs.Merging.{merged, plain_dirs};
 ghost use Rattle.mime_text.specs.Merging.Gathering.{Adds, Gathers};
 
 mod first;
+pub mod hidden;
 mod kept;
 mod key;
 mod priority;

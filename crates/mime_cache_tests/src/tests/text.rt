@@ -1,1 +1,2 @@
+mod hidden;
 mod merging;

@@ -71,8 +71,14 @@ fn first_marks<T: Drop, K: Key<T>>(alloc: Global, entries: &[T]) -> Result<Vec<b
 }
 
 /// The entries that are marked, in their order.
-fn marked<T: Drop>(alloc: Global, entries: Vec<T>, marks: Vec<bool>) -> Result<Vec<T>, OutOfMemory>
+pub fn marked<T: Drop>(
+    alloc: Global,
+    entries: Vec<T>,
+    marks: Vec<bool>,
+) -> Result<Vec<T>, OutOfMemory>
+    // Each entry has a mark.
     requires { length marks.items ≡ length entries.items }
+    // Exactly the marked ones are kept, in their order.
     ensures { IfOk result (λ kept. kept.items ≡ picked marks.items entries.items) }
 {
     let (mut entries, mut marks) = (entries, marks);
