@@ -13,6 +13,9 @@ use std::simd::prelude::*;
 /// How many places are looked at at once.
 const LANES: usize = 32;
 
+/// So few places are looked at one by one sooner: most ranges are a place longer than whole blocks.
+const FEW: usize = 4;
+
 /// Places that were passed over: at none of them do both bytes stand.
 #[derive(Clone, Copy)]
 pub struct Passed {
@@ -88,10 +91,10 @@ fn pass_rest(first: u8, second: u8, bytes: &[u8], count: usize) -> Passed
     ensures passed { PassesPairs first second bytes.now result.length result.firsts }
     ensures limit { result.length ≤ count }
 {
-    if LANES < bytes.len() {
-        return pass_lanes(first, second, bytes, count.min(LANES));
+    if count < FEW || bytes.len() <= LANES {
+        return pass_one_by_one(first, second, bytes, count);
     }
-    pass_one_by_one(first, second, bytes, count)
+    pass_lanes(first, second, bytes, count.min(LANES))
 }
 
 /// The places before the first of up to 32 at which both bytes stand.

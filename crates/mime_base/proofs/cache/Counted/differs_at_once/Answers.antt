@@ -1,4 +1,4 @@
-use Rattle.std.proofs.Common.{◌≡◌, ◌+◌, ◌*◌, ◌==◌, ℕ, Bool, List, [], length, Some, cond, true, sym, ap, ap₂, ◌∙◌, arith, refl}
+use Rattle.std.proofs.Common.{◌≡◌, ◌+◌, ◌*◌, ℕ, List, [], length, Some, sym, ap, ap₂, ◌∙◌, arith}
 use Rattle.mime_base.specs.Cache.Bytes.{optional_mask, value_at}
 use Rattle.mime_base.specs.Magic.Holds.{equals_from}
 use Rattle.mime_base.specs.Magic.Ranges.{compared_from, stated_line}
