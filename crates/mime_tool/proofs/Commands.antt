@@ -1,25 +1,20 @@
 -- From a database that was loaded, and a run over it, to the run of a command.
-use Rattle.std.proofs.Common.{◌≡◌, ℕ, List, [], ◌++◌, inr, Option, Some, None, Result, Ok, Err, Vec, ap, refl, string_bytes}
-use Rattle.std.specs.declared.alloc.Global.{Global}
+use Rattle.std.proofs.Common.{ℕ, List, [], ◌++◌, inr, Option, Some, None, Result, Ok, Err, refl, string_bytes}
 use Rattle.mime_base.specs.Database.{PlainDatabase, plain_database}
 use Rattle.mime_base.specs.declared.database.Database.{Database}
-use Rattle.mime_text.specs.Merging.{PlainDir, merged, plain_dirs}
-use Rattle.mime_text.specs.declared.merging.DirFiles.{DirFiles}
 use Rattle.mime_request.specs.Request.{PlainDirectories}
 use Rattle.mime_tool.specs.Desk.{Ends, State, Works}
-use Rattle.mime_tool.specs.Directories.{AreDirectories, IsCommand, IsDatabase, IsDatabaseOf, IsUserDatabase, not_text}
+use Rattle.mime_tool.specs.Directories.{IsCommand, IsDatabaseOf, IsUserDatabase, not_text}
 use Rattle.mime_tool.specs.Environment.{PlainEnvironment}
 use Rattle.mime_tool.specs.Files.{Stored}
 use Rattle.mime_tool.specs.Finish.{IsCut, Sinks, WritesFront}
-use Rattle.mime_tool.specs.Loading.{Gives, Loads}
+use Rattle.mime_tool.specs.Loading.{Loads}
 use Rattle.mime_tool.specs.Run.{Run, joined, said, silent, stopped}
 use Rattle.mime_tool.specs.Stop.{IsRefusal}
 use Rattle.mime_tool.specs.declared.stop.Stop.{Stop}
 use Rattle.mime_tool.specs.declared.stop.Stop.TheVariants as stop
-use Rattle.mime_tool.proofs.DirectoryLists.{can_be_directories}
-use Rattle.mime_tool.proofs.DirectoryLoops.{ReadsDirectories, plain_of}
 use Rattle.mime_tool.proofs.Ends.{ends_said, part_none, writes_nothing}
-use Rattle.mime_tool.proofs.Loads.{CanBe, can_give, can_then, works_nothing, works_stop, works_then}
+use Rattle.mime_tool.proofs.Loads.{works_nothing}
 use Rattle.mime_tool.proofs.Sinks.{front_longer}
 
 -- the user's directories aren't known

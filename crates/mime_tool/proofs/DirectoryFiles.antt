@@ -1,5 +1,5 @@
 -- From the six files of a directory to what it gives.
-use Rattle.std.proofs.Common.{◌≡◌, ℕ, List, Option, codes, refl}
+use Rattle.std.proofs.Common.{ℕ, List, Option, codes, refl}
 use Rattle.mime_base.specs.Database.PlainPairs.{plain_icons, plain_pairs}
 use Rattle.mime_base.specs.Magic.{PlainSection}
 use Rattle.mime_base.specs.declared.database.rule.GlobRule.{GlobRule}

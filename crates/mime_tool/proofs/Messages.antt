@@ -1,9 +1,9 @@
 -- How a message is put on standard error where it has room, and where it may not have.
-use Rattle.std.proofs.Common.{◌≡◌, ◌≤◌, ℕ, List, [], ◌++◌, false, length, true, Option, None, Some, Result, Ok, Err, append-nil, inl, inr, refl, subst, sym}
+use Rattle.std.proofs.Common.{◌≡◌, ℕ, List, false, true, Option, Result, Ok, Err, inl, inr, refl, subst}
 use Rattle.std.specs.Prelude.{IsOk}
 use Rattle.mime_base.specs.declared.memory.OutOfMemory.{OutOfMemory as NoMemory}
 use Rattle.mime_tool.specs.Run.{out_of_memory}
-use Rattle.mime_tool.specs.Sink.{HasRoom, Wrote, WroteMessage}
+use Rattle.mime_tool.specs.Sink.{HasRoom, WroteMessage}
 use Rattle.mime_tool.specs.Stop.{Says, SaysStop, TellsStop}
 use Rattle.mime_tool.specs.declared.stop.Stop.{Stop}
 use Rattle.mime_tool.specs.declared.stop.Stop.TheVariants as stop

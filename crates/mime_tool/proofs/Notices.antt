@@ -1,14 +1,13 @@
 -- What is noticed of directories before they are read.
-use Rattle.std.proofs.Common.{◌≡◌, ◌∙◌, ◌+◌, ◌==◌, ◌<◌, ℕ, Bool, true, false, List, [], ◌∷◌, ◌++◌, Bor, Option, Some, None, Result, Ok, Err}
-use Rattle.std.proofs.Common.{add-one, ap, arith, codes, drop, get_or, if◌then◌else◌, inl, inr, length, refl, subst, sym, take}
+use Rattle.std.proofs.Common.{◌≡◌, ◌∙◌, ◌+◌, ◌==◌, ◌<◌, ℕ, Bool, true, false, List, [], ◌∷◌, ◌++◌, Bor, Some, Result, Ok, Err}
+use Rattle.std.proofs.Common.{ap, arith, codes, drop, get_or, if◌then◌else◌, inl, inr, length, refl, subst, sym, take}
 use Rattle.std.proofs.lemmas.Bool.{eqb-true, false≢true}
 use Rattle.std.specs.List.{flat_map, join_by}
 use Rattle.clap.specs.Walk.{texts}
 use Rattle.mime_tool.specs.Desk.{Does, State, Works}
 use Rattle.mime_tool.specs.Directories.{HasFile, HaveTextFile, IsNoticed, OnePasses, no_text_files, path_of, text_names}
 use Rattle.mime_tool.specs.Files.{IsThere, Stored, bytes, closed, folder, nothing, unknown, unreadable}
-use Rattle.mime_tool.specs.Finish.{Sinks}
-use Rattle.mime_tool.specs.Loading.{Gives, Loads}
+use Rattle.mime_tool.specs.Loading.{Loads}
 use Rattle.mime_tool.specs.Run.{refusal, said}
 use Rattle.mime_tool.specs.declared.stop.Stop.{Stop}
 use Rattle.mime_tool.specs.declared.stop.Stop.TheVariants as stop

@@ -1,8 +1,8 @@
 -- What directories say, one more at a time, and the first whose magic is refused.
-use Rattle.std.proofs.Common.{◌≡◌, ◌∙◌, ℕ, zero, suc, ◌+◌, ◌<◌, ◌≤◌, List, [], ◌∷◌, ◌++◌, Some, arith, sym}
+use Rattle.std.proofs.Common.{◌≡◌, ◌∙◌, ℕ, zero, suc, ◌+◌, ◌<◌, List, [], ◌∷◌, ◌++◌, Some, arith, sym}
 use Rattle.std.proofs.Common.{ap, subst, get_or, length, take, inl, inr}
 use Rattle.std.proofs.lemmas.Option.{none-some}
-use Rattle.std.proofs.lemmas.List.{map-append, take_all, take_more}
+use Rattle.std.proofs.lemmas.List.{map-append, take_more}
 use Rattle.mime_text.specs.Magic.Reading.{magic_fault}
 use Rattle.mime_text.specs.Merging.{PlainDir, plain_dir, plain_dirs}
 use Rattle.mime_text.specs.declared.magic.fault.MagicFault.{MagicFault}

@@ -4,9 +4,7 @@ use Rattle.std.proofs.Common.{append_assoc, subst, length, take, drop, get_or, d
 use Rattle.std.specs.List.{flat_map}
 use Rattle.std.proofs.lemmas.List.{take-append-drop}
 use Rattle.std.proofs.lemmas.Grind.{flat_map-append}
-use Rattle.mime_base.specs.declared.memory.OutOfMemory.{OutOfMemory as NoMemory}
 use Rattle.mime_tool.specs.Sink.{IsPut, Wrote, WroteFront}
-use Rattle.mime_tool.specs.Stop.{Says}
 use Rattle.mime_tool.specs.declared.sink.SinkFault.{SinkFault}
 use Rattle.mime_tool.specs.declared.sink.SinkFault.TheVariants as fault
 

@@ -29,6 +29,7 @@ pub(crate) fn build<D: Desk>(
     directories: &Directories<'_>,
     file: &str,
 ) -> Result<u8, Stop>
+    // The file holds a cache of the directories, or a message says why not and it is as it was, as it is where memory ran out.
     ensures { Builds (known_environment environment.entry) (plain_directories directories.now) file.now
         (D.state desk.old) (D.state desk.new) result }
 {
@@ -47,6 +48,7 @@ fn store<D: Desk>(desk: &mut D, database: &Database, file: &str) -> Result<u8, S
 
 /// The cache of a database, in memory.
 pub(crate) fn cache_of(alloc: Global, database: &Database) -> Result<Vec<u8>, Stop>
+    // It is a cache of the database; or there can be none, or memory ran out.
     ensures { GivesCache (plain_database database.now) result }
 {
     match write_cache(alloc, database, LARGEST_CACHE) {

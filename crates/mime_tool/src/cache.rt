@@ -12,6 +12,7 @@ use std::alloc::{AllocError, Global};
 
 /// The stop of a fault of the cache at this path.
 pub(crate) fn faulty(alloc: Global, path: &str, fault: CacheFault) -> Stop
+    // The stop has the message on this fault, or tells that memory ran out.
     ensures { IsCacheFaultStop path.now fault result }
 {
     match fault {
@@ -22,7 +23,9 @@ pub(crate) fn faulty(alloc: Global, path: &str, fault: CacheFault) -> Stop
 
 /// The stop of a lookup that reads no content and stopped for this.
 pub(crate) fn stopped_for(alloc: Global, path: &str, cause: Cause) -> Stop
+    // A fault of the cache is that stop.
     ensures fault { (fault : CacheFault) → cause ≡ Cause.Cache fault → IsCacheFaultStop path.now fault result }
+    // Where memory ran out, the stop tells that.
     ensures memory { cause ≡ Cause.OutOfMemory → result ≡ Stop.OutOfMemory }
 {
     match cause {

@@ -163,6 +163,7 @@ fn complain_after<O: Sink, E: Sink>(out: &mut O, err: &mut E, message: &str) -> 
 
 /// Says on standard error what is wrong with a file or a word.
 pub(crate) fn report<D: Desk>(desk: &mut D, subject: &str, why: &str) -> Result<(), Stop>
+    // The message is said, or what it begins with where memory runs out.
     ensures { Works (Does (said (refusal subject.now why.now)))
         (D.state desk.old) (D.state desk.new) result }
 {

@@ -46,6 +46,7 @@ pub(crate) fn load<D: Desk>(
     environment: Option<Environment<'_>>,
     directories: &Directories<'_>,
 ) -> Result<Database, Stop>
+    // It is the database that the directories say, and the messages on them are said; or that of a stop is still to be said.
     ensures { Works (Loads plain_database (IsDatabaseOf (D.state desk.old).stored (known_environment environment.entry)
         (plain_directories directories.now))) (D.state desk.old) (D.state desk.new) result }
 {

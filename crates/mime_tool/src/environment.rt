@@ -23,6 +23,7 @@ pub(crate) fn own_directory(
     alloc: Global,
     environment: Environment<'_>,
 ) -> Result<String, AllocError>
+    // It is `XDG_DATA_HOME`, or else what lies below `HOME`.
     ensures { IfOk result (λ path. string_bytes path ≡ own_directory (plain_environment environment.entry)) }
 {
     match set(environment.data_home) {
@@ -36,6 +37,7 @@ pub(crate) fn own_directory(
 
 /// The directories of data that are not the user's own, with colons between them.
 pub(crate) fn data_dirs_of<'a>(environment: Environment<'a>) -> &'a str
+    // They are those of `XDG_DATA_DIRS`, or else the two that the specification names.
     ensures { result.now ≡ data_dirs_of (plain_environment environment.entry) }
 {
     match set(environment.data_dirs) {
@@ -50,6 +52,7 @@ pub(crate) fn all_directories<'a>(
     own: &'a str,
     dirs: &'a str,
 ) -> Result<Vec<&'a str>, AllocError>
+    // They are the absolute paths among them, the user's own first.
     ensures { IfOk result (λ v. texts v.items ≡ all_directories own.entry.now dirs.entry.now) }
 {
     let directories = absolute_parts(alloc, dirs)?;

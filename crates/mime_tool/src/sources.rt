@@ -17,6 +17,7 @@ use mime_request::{Directories, Source};
 
 /// The path of the cache, an empty one where it is made.
 pub(crate) fn path_of<'a>(source: &Source<'a>) -> &'a str
+    // It is the path that names the cache, if one does.
     ensures { result.now ≡ path_of (plain_source source.now) }
 {
     match source {
@@ -31,6 +32,7 @@ pub(crate) fn read_source<D: Desk>(
     environment: Option<Environment<'_>>,
     source: &Source<'_>,
 ) -> Result<Vec<u8>, Stop>
+    // The bytes are those that are stored, or a cache such as `build` writes; or the message of a stop says why there are none.
     ensures { Works (ReadsSource (D.state desk.old).stored (known_environment environment.entry) (plain_source source.now))
         (D.state desk.old) (D.state desk.new) result }
 {

@@ -59,6 +59,7 @@ impl From<SinkFault> for Stop {
 
 /// The file of this path can't be read.
 pub(crate) fn unreadable(alloc: Global, path: &str) -> Stop
+    // The stop has the message `cannot read`, or tells that memory ran out.
     ensures { IsRefusal (cannot_read path.now) result }
 {
     match format!(in alloc; "mimelook: {path}: cannot read\n") {
@@ -69,6 +70,7 @@ pub(crate) fn unreadable(alloc: Global, path: &str) -> Stop
 
 /// The file of this path can't be written.
 pub(crate) fn unwritable(alloc: Global, path: &str) -> Stop
+    // The stop has the message `cannot write`, or tells that memory ran out.
     ensures { IsRefusal (cannot_write path.now) result }
 {
     match format!(in alloc; "mimelook: {path}: cannot write\n") {
@@ -79,8 +81,11 @@ pub(crate) fn unwritable(alloc: Global, path: &str) -> Stop
 
 /// Says it on standard error. A fault there is passed over, unless memory ran out.
 pub(crate) fn complain<E: Sink>(err: &mut E, text: &str) -> Result<(), OutOfMemory>
+    // Where standard error tells what it holds, the message is added, or what it begins with where memory runs out.
     ensures says { Says (E.holds err.old) (E.holds err.new) result text.now }
+    // Memory does not run out where it tells that it has room for the message.
     ensures room { HasRoom (E.capacity err.old) (E.holds err.old) text.now → IsOk result }
+    // It can hold as much as before.
     ensures capacity { E.capacity err.new ≡ E.capacity err.old }
 {
     match put_now(err, text.as_bytes()) {
@@ -92,6 +97,7 @@ pub(crate) fn complain<E: Sink>(err: &mut E, text: &str) -> Result<(), OutOfMemo
 
 /// Says why a command stopped, and gives the exit status.
 pub(crate) fn tell<E: Sink>(stop: &Stop, err: &mut E) -> u8
+    // The message is said and the status is 3; or memory ran out, the status is 4, and that is said where there is room.
     ensures { TellsStop stop.now (E.capacity err.old) (E.holds err.old) (E.holds err.new) result }
 {
     match say(stop, err) {
