@@ -16,18 +16,21 @@ const ENTRIES: &[(&str, Entry<'static>)] = &[(
 static WORDS: [&str; 7] = ["plain", "--name-only", "-d", "/s", "x.a", "y", "z.a"];
 
 // What is put on standard output, call by call; after it comes the flush.
-static PIECES: [&str; 12] = [
+static PIECES: [&str; 15] = [
     "x.a",
     ": ",
     "t/a",
+    "",
     "\n",
     "y",
     ": ",
     "application/octet-stream",
+    "",
     "\n",
     "z.a",
     ": ",
     "t/a",
+    "",
     "\n",
 ];
 
