@@ -16,19 +16,22 @@ const ENTRIES: &[(&str, Entry<'static>)] = &[(
 static WORDS: [&str; 7] = ["plain", "--name-only", "-d", "/s", "x.a", "y", "z.a"];
 
 // What is put on standard output, call by call, after the flush that comes before the message; after it comes another.
-static PIECES: [&str; 13] = [
+static PIECES: [&str; 16] = [
     "",
     "x.a",
     ": ",
     "t/a",
+    "",
     "\n",
     "y",
     ": ",
     "application/octet-stream",
+    "",
     "\n",
     "z.a",
     ": ",
     "t/a",
+    "",
     "\n",
 ];
 

@@ -204,7 +204,7 @@ static PUTS: [Puts; 4] = [
     Puts {
         name: "type",
         words: TYPE,
-        pieces: &["/x", ": ", "t/g", "\n", "", "/mk", ": ", "t/m", "\n"],
+        pieces: &["/x", ": ", "t/g", "", "\n", "", "/mk", ": ", "t/m", "", "\n"],
         handed_on: 8,
         said: MISSING,
     },
