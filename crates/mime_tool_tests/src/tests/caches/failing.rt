@@ -204,7 +204,9 @@ static PUTS: [Puts; 4] = [
     Puts {
         name: "type",
         words: TYPE,
-        pieces: &["/x", ": ", "t/g", "", "\n", "", "/mk", ": ", "t/m", "", "\n"],
+        pieces: &[
+            "/x", ": ", "t/g", "", "\n", "", "/mk", ": ", "t/m", "", "\n",
+        ],
         handed_on: 8,
         said: MISSING,
     },
@@ -249,7 +251,7 @@ fn stops_at(
 ) -> Result<(), Fail> {
     let (fault, status, why) = *stop;
     // The message on the missing file stands between its neighbours' lines.
-    let said = if calls < 5 { "" } else { puts.said };
+    let said = if calls < 6 { "" } else { puts.said };
     let at = format!(in alloc; "{} at {calls}", puts.name)?;
     let message = format!(in alloc; "{said}{why}")?;
     let is_flushed = calls < puts.pieces.len();
