@@ -55,12 +55,10 @@ returns-in_err-front-in-Left-clause-stops g c =
     let stop = c.in_err-front-in-Left in
     let gives = rw c.in-Left.is at c.in_ok-given.ensures.gives in
     passed_on _ stop.field-0.0 c.from_residual-in_err-front-in-Left.result c.from_residual-in_err-front-in-Left.ensures.1
-    (stops_then c.args.cache.now stop.field-0.0 stop.ensures.stops (λ used. absurd used)
-    (λ b enough.
+    (stops_then c.args.cache.now stop.field-0.0 stop.ensures.stops (λ used. absurd used) (λ b enough.
     let globs = suffices_globs c.args.cache.now c.args.question.now.name.now (c.args.content.now ≡ None) b c.args.question.now.order enough.0 in
     content_stands g.R.Read.remaining c.args.cache.now c.args.question.now.name.now c.args.content.now c.args.question.now.order c.in-Left.candidates b (gives b globs)
-    enough.0)
-    (λ b enough there decide.
+    enough.0) (λ b enough there decide.
     let globs = suffices_globs c.args.cache.now c.args.question.now.name.now (c.args.content.now ≡ None) b c.args.question.now.order enough.0 in
     there (no_content g.R.Read.remaining c.args.cache.now c.args.question.now.name.now c.args.content.now c.args.question.now.order c.in-Left.candidates b
     (gives b globs) decide)))

@@ -18,13 +18,11 @@ pub returns-in_err-finding-clause-stops : goal.returns-in_err-finding-clause-sto
 returns-in_err-finding-clause-stops c =
     let sniff = c.in_err-finding in
     passed_on _ sniff.field-0.0 c.from_residual.result c.from_residual.ensures.1
-    (stops_then c.args.cache.now (cause_of sniff.field-0.0) sniff.ensures.stops (λ used. used)
-    (λ b enough. (
+    (stops_then c.args.cache.now (cause_of sniff.field-0.0) sniff.ensures.stops (λ used. used) (λ b enough. (
       suffices_content c.args.cache.now c.args.question.now.name.now (bytes_of c.args.front ≡ None) b c.args.candidates enough.1 enough.0,
       omega (arith, enough.2.records),
       enough.2.value_bytes,
-    ))
-    (λ b enough read. read))
+    )) (λ b enough read. read))
 
 pub returns-in_err-finding-clause-cost : goal.returns-in_err-finding-clause-cost
 returns-in_err-finding-clause-cost c =
@@ -37,15 +35,12 @@ pub returns-in_err-kind-in-Kept-clause-stops : goal.returns-in_err-kind-in-Kept-
 returns-in_err-kind-in-Kept-clause-stops c =
     let choose = rw c.as_slice.ensures at c.in_err-kind-in-Kept.ensures.stops in
     rw c.in-Kept.is (passed_on _ c.in_err-kind-in-Kept.field-0.0 c.from_residual-in_err-kind-in-Kept.result
-    c.from_residual-in_err-kind-in-Kept.ensures.1
-    (stops_then c.args.cache.now (cause_of c.in_err-kind-in-Kept.field-0.0) choose
-    (used_for c.args.cache.now c.choose.new.spending.budget (λ none. tt))
-    (λ b enough.
+    c.from_residual-in_err-kind-in-Kept.ensures.1 (stops_then c.args.cache.now (cause_of c.in_err-kind-in-Kept.field-0.0) choose
+    (used_for c.args.cache.now c.choose.new.spending.budget (λ none. tt)) (λ b enough.
     let content = suffices_content c.args.cache.now c.args.question.now.name.now (bytes_of c.args.front ≡ None) b (Kept c.in-Kept.kinds) enough.1 enough.0 in (
       suffices_choice c.args.cache.now c.args.question.now.name.now (bytes_of c.args.front ≡ None) b c.in-Kept.kinds enough.1.1 enough.1.0 enough.0,
       omega (arith, enough.2.records, c.in_ok-finding.ensures.takes b content),
-    ))
-    (λ b enough read. read)))
+    )) (λ b enough read. read)))
 
 pub returns-in_err-kind-in-Kept-clause-cost : goal.returns-in_err-kind-in-Kept-clause-cost
 returns-in_err-kind-in-Kept-clause-cost c =
@@ -59,8 +54,7 @@ returns-in_err-kind-in-Unasked-clause-stops c =
     rw c.in-Unasked.is (passed_on _ step.field-0.0 c.from_residual-in_err-kind-in-Unasked.result
     c.from_residual-in_err-kind-in-Unasked.ensures.1
     (stops_for c.args.cache.now _ _ _ step.field-0.0 (choice_fault c.args.cache.now left step.field-0.0 (inl step.ensures.fault))
-    (λ same. inl (choice_spent c.args.cache.now left step.field-0.0 (inl step.ensures.fault) same))
-    (λ b enough.
+    (λ same. inl (choice_spent c.args.cache.now left step.field-0.0 (inl step.ensures.fault) same)) (λ b enough.
     let globs = suffices_globs c.args.cache.now c.args.question.now.name.now (bytes_of c.args.front ≡ None) b MagicFirst enough.0 in
     absurd (step.ensures.answer b globs.offsets globs.header globs.aliases))))
 
