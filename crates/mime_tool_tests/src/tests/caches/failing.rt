@@ -243,7 +243,7 @@ fn stops_at(
 ) -> Result<(), Fail> {
     let (fault, status, why) = *stop;
     // The message on the missing file stands between its neighbours' lines.
-    let said = if calls < 4 { "" } else { puts.said };
+    let said = if calls < 5 { "" } else { puts.said };
     let at = format!(in alloc; "{} at {calls}", puts.name)?;
     let message = format!(in alloc; "{said}{why}")?;
     let is_flushed = calls < puts.pieces.len();
