@@ -1,6 +1,6 @@
 -- The least number over the spellings of a text, one byte after another.
-use Rattle.std.proofs.Common.{◌≡◌, ℕ, ◌+◌, ◌-◌, ◌<◌, ◌≤◌, nat_le, nat_lt, Less, Equal, Greater, Bool, true, false, ◌&&◌, ◌==◌, cond, min, List, [], ◌∷◌, ◌++◌, map, refl, sym, ap, ap₂, ◌∙◌}
-use Rattle.std.proofs.Common.{arith, append_assoc, append-nil, length, take, drop, get_or, set}
+use Rattle.std.proofs.Common.{◌≡◌, ℕ, ◌+◌, ◌-◌, ◌<◌, ◌≤◌, nat_le, nat_lt, Less, Equal, Greater, Bool, true, false, ◌&&◌, ◌==◌, cond}
+use Rattle.std.proofs.Common.{min, List, [], ◌∷◌, ◌++◌, map, refl, sym, ap, ap₂, ◌∙◌, arith, append_assoc, append-nil, length, take, drop, get_or, set}
 use Rattle.std.proofs.lemmas.List.{drop_all, drop_more, drop-set-lt, set-get_or, set-set, take_all, take_more, take_more_set}
 use Rattle.std.specs.List.{flat_map, list_all}
 use Rattle.std.specs.Ordering.{is_lt, nat_cmp, ord_min}

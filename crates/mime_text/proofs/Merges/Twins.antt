@@ -1,6 +1,6 @@
 -- The weights of case-sensitive patterns, by which a rule is hidden or not.
-use Rattle.std.proofs.Common.{◌≡◌, ℕ, ◌+◌, ◌<◌, ◌≤◌, nat_le, nat_lt, bytes_eq, Bool, true, false, not, ◌&&◌, ◌||◌, cond, max, List, [], ◌∷◌, refl, sym, ap, ap₂, ◌∙◌}
-use Rattle.std.proofs.Common.{arith, drop, length, get_or, subst, Option, Some, map}
+use Rattle.std.proofs.Common.{◌≡◌, ℕ, ◌+◌, ◌<◌, ◌≤◌, nat_le, nat_lt, bytes_eq, Bool, true, false, not, ◌&&◌, ◌||◌, cond}
+use Rattle.std.proofs.Common.{max, List, [], ◌∷◌, refl, sym, ap, ap₂, ◌∙◌, arith, drop, length, get_or, subst, Option, Some, map}
 use Rattle.std.specs.List.{filter, list_all, list_any}
 use Rattle.std.proofs.lemmas.Bool.{le-ltb, leb-false, leb-true, lt-ltb, ltb-false, ltb-true}
 use Rattle.std.proofs.lemmas.List.{drop_more}
@@ -57,7 +57,8 @@ unraised text other weight f high = by_cases (bytes_eq text other) refl
     by_cases false is = omega arith
 
 -- one rule more that has its weight, and one that has none
-module _ (rules : List GlobRule) (i : ℕ) (rule : GlobRule) (inside : i < length rules) (is : rule ≡ get_or rules i rule) (text : List ℕ) where
+module _ (rules : List GlobRule) (i : ℕ) (rule : GlobRule) (inside : i < length rules) (is : rule ≡ get_or rules i rule)
+    (text : List ℕ) where
   -- the greatest weight from it on
   weight-here : cased_weight (drop i rules) text ≡ max (weight_of_twin text rule) (cased_weight (drop (i + 1) rules) text)
   weight-here =

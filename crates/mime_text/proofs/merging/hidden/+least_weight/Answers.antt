@@ -1,9 +1,11 @@
 -- The small letter is tried first, then its capital.
 use Rattle.std.proofs.Common.{◌+◌, ◌-◌, ◌<◌, ◌∙◌, drop, get_or, length, set, take, sym, ap, ap₂, min, arith}
 use Rattle.mime_text.specs.Merging.Hiding.{weight_in}
-use Rattle.mime_text.proofs.Merges.Spelled.{least-end, least-here, least-letter, least-next, least-none, least-other, least-set, ord_min-min, set-again}
+use Rattle.mime_text.proofs.Merges.Spelled.{least-end, least-here, least-letter, least-next, least-none, least-other}
+use Rattle.mime_text.proofs.Merges.Spelled.{least-set, ord_min-min, set-again}
 use Rattle.mime_text.proofs.merging.hidden.+least_weight.Goals as goal
-use Rattle.mime_text.proofs.merging.hidden.+least_weight.Goals.{then-small-eq0-via-then-small-eq0, then-small-eq0-via-else-small-eq0+then-not-is_ascii_lowercase}
+use Rattle.mime_text.proofs.merging.hidden.+least_weight.Goals.{then-small-eq0-via-then-small-eq0}
+use Rattle.mime_text.proofs.merging.hidden.+least_weight.Goals.{then-small-eq0-via-else-small-eq0+then-not-is_ascii_lowercase}
 
 pub returns-then-place-text-clause-least : goal.returns-then-place-text-clause-least
 returns-then-place-text-clause-least t c =
