@@ -1,5 +1,5 @@
 -- A search for a subclass over a cache: what it answers, and what it takes.
-use Rattle.std.specs.Prelude.{◌≡◌, ◌↔◌, ℕ, ◌+◌, ◌*◌, ◌≤◌, Bool, false, IsTrue, List, Result, IfErr, IfOk, OnOk}
+use Rattle.std.specs.Prelude.{◌≡◌, ◌↔◌, ℕ, ◌+◌, ◌≤◌, Bool, false, IsTrue, List, Result, IfErr, IfOk, OnOk}
 use Rattle.mime_base.specs.Cache.Bytes.{field}
 use Rattle.mime_base.specs.Database.Subclass.{Pairs, IsA}
 use Rattle.mime_lookup.specs.Ancestry.{NoneLeadsTo, unmarked}
@@ -9,13 +9,13 @@ use Rattle.mime_view.specs.declared.fault.CacheFault.{CacheFault}
 use Rattle.mime_view.specs.declared.fault.CacheFault.TheVariants.{OutOfMemory}
 use Rattle.mime_view.specs.declared.spending.Spending.{Spending}
 
--- a record costs so many nodes, each with at most 256 bytes
-abbrev pub per_nodes : ℕ → Price
-per_nodes nodes = record { nodes = nodes; bytes = 256 * nodes; value_byte = 0 }
-
--- the bytes of a record in a search
+-- the bytes of a parent's record, its alias step, its expansion and its test: 256 for each of 59 nodes
 abbrev pub search_cost : ℕ
-search_cost = 256 * 59
+search_cost = 15104
+
+-- what an expansion pays for a record: its own node, and the 29 of an alias step, each with at most 256 bytes
+abbrev pub expansion_price : Price
+expansion_price = record { nodes = 30; bytes = 7680; value_byte = 0 }
 
 -- whether a type is marked, by the parent list of a cache
 abbrev pub marked_by : List ℕ → List ℕ → List ℕ → Bool

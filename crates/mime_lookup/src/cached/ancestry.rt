@@ -13,7 +13,7 @@ ghost use Rattle.mime_base.specs.Database.Subclass.{resolved};
 ghost use Rattle.mime_lookup.specs.Ancestry.{Expanded, kinds_of};
 ghost use Rattle.mime_lookup.specs.Choice.{IsFirst};
 ghost use Rattle.mime_lookup.specs.Costs.{Costs};
-ghost use Rattle.mime_lookup.specs.Searching.{AnswersSearch, TakesPairs, marked_by, per_nodes};
+ghost use Rattle.mime_lookup.specs.Searching.{AnswersSearch, TakesPairs, expansion_price, marked_by, search_cost};
 ghost use Rattle.mime_lookup.specs.Spelling.{SpellsPairs};
 ghost use Rattle.mime_lookup.specs.StepFaults.{IsAliasFault, IsSearchFault};
 ghost use Rattle.mime_view.specs.Spending.{Looks, Spends};
@@ -45,8 +45,7 @@ pub fn first_of<'a>(
     // The parents of a type, an alias step or memory shows the fault.
     ensures fault { IfErr result (IsSearchFault cache.now spending.new.budget) }
     // It costs 29 nodes for each type, and 59 for each record that it takes.
-    ensures cost { (each value : ℕ) → 256 * 59 ≤ each →
-        Costs each value (29 * length kinds.now) spending.old spending.new }
+    ensures cost { Costs search_cost 0 (29 * length kinds.now) spending.old spending.new }
 {
     let mut marks = Marks::new(alloc);
     for kind in kinds {
@@ -77,7 +76,7 @@ pub fn leads_to<'a>(
     // The parents of a type, an alias step or memory shows the fault.
     ensures fault { IfErr result (IsSearchFault cache.now spending.new.budget) }
     // It costs 29 nodes, and 59 for each record that it takes.
-    ensures cost { Spends (per_nodes 59) 29 (256 * 29) spending.old spending.new }
+    ensures cost { Costs search_cost 0 29 spending.old spending.new }
 {
     let mut queue = VecDeque::new(alloc);
     queue.push_back(kind)?;
@@ -112,7 +111,7 @@ fn expand<'a>(
     ensures falls { OnOk result
         (deque_len queue.new + spending.new.budget.records ≡ deque_len queue.old + spending.old.budget.records) }
     // It costs 29 nodes, and for each record its own and an alias step.
-    ensures cost { Spends (per_nodes 30) 29 (256 * 27) spending.old spending.new }
+    ensures cost { Spends expansion_price 29 (256 * 27) spending.old spending.new }
 {
     let found = cache.parents_of(
         alloc,

@@ -7,10 +7,11 @@ ghost use Rattle.mime_base.specs.Format.Packed.{Packed};
 ghost use Rattle.mime_lookup.specs.Asking.{StopsAsking};
 ghost use Rattle.mime_lookup.specs.Bounds.{KeepsBounds};
 ghost use Rattle.mime_lookup.specs.Cached.{cause_of};
-ghost use Rattle.mime_lookup.specs.Searching.{per_nodes};
+ghost use Rattle.mime_lookup.specs.Costs.{Costs};
+ghost use Rattle.mime_lookup.specs.Searching.{search_cost};
 ghost use Rattle.mime_lookup.specs.Spelling.{SpellsPairs};
 ghost use Rattle.mime_lookup.specs.StepFaults.{IsLookUpFault, IsSearchFault};
-ghost use Rattle.mime_view.specs.Spending.{Looks, Spends};
+ghost use Rattle.mime_view.specs.Spending.{Looks};
 
 use crate::cached::ancestry::leads_to;
 use crate::stopped::{Cause, Stopped};
@@ -105,7 +106,7 @@ fn search<'a>(
     // The parents of a type, an alias step or memory shows the fault.
     ensures fault { IfErr result (IsSearchFault cache.now spending.new.budget) }
     // It costs 87 nodes, and 59 for each record that it takes.
-    ensures cost { Spends (per_nodes 59) 87 (256 * 87) spending.old spending.new }
+    ensures cost { Costs search_cost 0 87 spending.old spending.new }
 {
     let kind = cache.unalias(kind, &mut spending.meter, &mut spending.budget)?;
     let base = cache.unalias(base, &mut spending.meter, &mut spending.budget)?;

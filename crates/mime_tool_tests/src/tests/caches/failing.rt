@@ -167,11 +167,13 @@ fn comes_to(rt: &impl Abort, alloc: Global, row: &Row) -> Result<(), Fail> {
     says(rt, alloc, row.name, row.words, &mut files, wanted)
 }
 
-/// Words, what they put on standard output, call by call, and what is said.
+/// Words, what they put on standard output, call by call, with nothing for the flush before a message, how much that hands on, and
+/// what is said.
 struct Puts {
     name: &'static str,
     words: &'static [&'static str],
     pieces: &'static [&'static str],
+    handed_on: usize,
     said: &'static str,
 }
 
@@ -182,24 +184,30 @@ static PUTS: [Puts; 4] = [
         pieces: &[
             "50", ":", "t/m", ":", "mk", "", "\n", "50", ":", "t/g", ":", "*.gz", "", "\n",
         ],
+        handed_on: 0,
         said: "",
     },
     Puts {
         name: "isa",
         words: IS_A,
         pieces: &["yes\n"],
+        handed_on: 0,
         said: "",
     },
     Puts {
         name: "icon",
         words: ICON,
         pieces: &["icon: ", "t-g", "\ngeneric: ", "t-x-generic", "\n"],
+        handed_on: 0,
         said: "",
     },
     Puts {
         name: "type",
         words: TYPE,
-        pieces: &["/x", ": ", "t/g", "", "\n", "/mk", ": ", "t/m", "", "\n"],
+        pieces: &[
+            "/x", ": ", "t/g", "", "\n", "", "/mk", ": ", "t/m", "", "\n",
+        ],
+        handed_on: 8,
         said: MISSING,
     },
 ];
@@ -232,7 +240,7 @@ fn stops_at_each(rt: &impl Abort, alloc: Global, puts: &Puts, stop: &Stop) -> Re
     Ok(())
 }
 
-/// The first calls are met, then one fails. What was put before it is flushed, unless it is the flush that fails.
+/// The first calls are met, then one fails. What was put before it is flushed, unless it is the last flush that fails.
 fn stops_at(
     rt: &impl Abort,
     alloc: Global,
@@ -243,14 +251,18 @@ fn stops_at(
 ) -> Result<(), Fail> {
     let (fault, status, why) = *stop;
     // The message on the missing file stands between its neighbours' lines.
-    let said = if calls < 5 { "" } else { puts.said };
+    let said = if calls < 6 { "" } else { puts.said };
     let at = format!(in alloc; "{} at {calls}", puts.name)?;
     let message = format!(in alloc; "{said}{why}")?;
     let is_flushed = calls < puts.pieces.len();
     let wanted = Taken {
         status,
         out: put,
-        flushed: if is_flushed { put.len() } else { 0 },
+        flushed: if is_flushed {
+            put.len()
+        } else {
+            puts.handed_on
+        },
         err: message.as_str(),
     };
     let streams = (FailingSink::new(alloc, calls, 1, fault), sound(alloc));

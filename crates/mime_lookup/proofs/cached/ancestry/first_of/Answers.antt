@@ -1,12 +1,13 @@
-use Rattle.std.proofs.Common.{◌+◌, [], length, sym, true≢false, ◌∙◌, arith}
+use Rattle.std.proofs.Common.{◌+◌, ◌*◌, [], length, sym, true≢false, ◌∙◌, arith}
 use Rattle.mime_base.specs.Cache.Bytes.{field}
 use Rattle.mime_base.specs.Database.{pairs_of}
 use Rattle.mime_view.proofs.Costs.{spends_none}
-use Rattle.mime_lookup.specs.Searching.{marked_by, per_nodes}
+use Rattle.mime_lookup.specs.Costs.{lookup_price}
+use Rattle.mime_lookup.specs.Searching.{marked_by, search_cost}
 use Rattle.mime_lookup.proofs.PairsLeft.{unmarked_most}
 use Rattle.mime_lookup.proofs.PlaceMarks.{marked-none}
 use Rattle.mime_lookup.proofs.Queues.{candidate, passed_over}
-use Rattle.mime_lookup.proofs.SearchCosts.{costs_all, spends_next}
+use Rattle.mime_lookup.proofs.CostLemmas.{costs_then, costs_wider}
 use Rattle.mime_lookup.proofs.cached.ancestry.first_of.Goals as goal
 
 pub loop-kind-init : goal.loop-kind-init
@@ -16,7 +17,7 @@ loop-kind-init c =
       settled = λ b spells kind is is_a. cc (marked-none c.args.cache.now (field c.args.cache.now 0 2) kind, is);
       rest = λ b spells answer first. first;
       owed = λ b spells. omega (arith, unmarked_most b.parents (marked_by c.args.cache.now []));
-      cost = spends_none (per_nodes 59) c.args.spending.now;
+      cost = spends_none (lookup_price search_cost 0) c.args.spending.now;
     })
 
 pub loop-kind-preserved : goal.loop-kind-preserved
@@ -30,29 +31,23 @@ loop-kind-preserved c = record {
       ∙ c.if-branch.false))
       answer rest);
   owed = λ b spells. omega (arith, c.loop-kind.invariant.owed b spells, (c.in_ok-leads_to.ensures.takes b spells).owed);
-  cost = spends_next c.loop-kind.kind-index c.args.spending.now c.loop-kind.spending c.leads_to.new.spending
-      c.loop-kind.invariant.cost c.leads_to.ensures.cost;
+  cost = costs_then (29 * (c.loop-kind.kind-index + 1)) c.loop-kind.invariant.cost c.leads_to.ensures.cost (omega arith);
 }
 
 pub returns-in_err-leads_to-clause-cost : goal.returns-in_err-leads_to-clause-cost
-returns-in_err-leads_to-clause-cost c = λ each value enough.
-    costs_all each value (c.loop-kind.kind-index + 1) (length c.args.kinds.now) c.args.spending.now c.leads_to.new.spending enough
+returns-in_err-leads_to-clause-cost c =
+    costs_then (29 * length c.args.kinds.now) c.loop-kind.invariant.cost c.leads_to.ensures.cost
     (omega (arith, c.loop-kind-test.true))
-    (spends_next c.loop-kind.kind-index c.args.spending.now c.loop-kind.spending c.leads_to.new.spending
-    c.loop-kind.invariant.cost c.leads_to.ensures.cost)
 
 pub returns-then-branch-clause-one : goal.returns-then-branch-clause-one
 returns-then-branch-clause-one c =
     candidate c.args.default.now c.args.kinds.now c.loop-kind.kind-index _ c.loop-kind-test.true
 
 pub returns-then-branch-clause-cost : goal.returns-then-branch-clause-cost
-returns-then-branch-clause-cost c = λ each value enough.
-    costs_all each value (c.loop-kind.kind-index + 1) (length c.args.kinds.now) c.args.spending.now c.leads_to.new.spending enough
+returns-then-branch-clause-cost c =
+    costs_then (29 * length c.args.kinds.now) c.loop-kind.invariant.cost c.leads_to.ensures.cost
     (omega (arith, c.loop-kind-test.true))
-    (spends_next c.loop-kind.kind-index c.args.spending.now c.loop-kind.spending c.leads_to.new.spending
-    c.loop-kind.invariant.cost c.leads_to.ensures.cost)
 
 pub returns-clause-cost : goal.returns-clause-cost
-returns-clause-cost c = λ each value enough.
-    costs_all each value c.loop-kind.kind-index (length c.args.kinds.now) c.args.spending.now c.loop-kind.spending enough
-    (omega arith) c.loop-kind.invariant.cost
+returns-clause-cost c =
+    costs_wider search_cost 0 (29 * length c.args.kinds.now) c.loop-kind.invariant.cost (omega arith) (omega arith) (omega arith)

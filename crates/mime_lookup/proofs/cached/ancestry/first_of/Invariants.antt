@@ -1,9 +1,9 @@
 use Rattle.std.proofs.Common.{◌+◌, ◌*◌, ◌≤◌, List, ℕ, drop, length}
 use Rattle.mime_base.specs.Database.{PlainDatabase, pairs_of}
-use Rattle.mime_view.specs.Spending.{Spends}
 use Rattle.mime_lookup.specs.Ancestry.{NoneLeadsTo, kinds_of, unmarked}
 use Rattle.mime_lookup.specs.Choice.{IsFirst}
-use Rattle.mime_lookup.specs.Searching.{marked_by, per_nodes}
+use Rattle.mime_lookup.specs.Costs.{Costs}
+use Rattle.mime_lookup.specs.Searching.{marked_by, search_cost}
 use Rattle.mime_lookup.specs.Spelling.{SpellsPairs}
 use Rattle.mime_lookup.proofs.cached.ancestry.first_of.Given as goal
 
@@ -15,5 +15,5 @@ invariant-loop-kind l = record {
       IsFirst (pairs_of b) l.base l.default (kinds_of l.kinds) answer;
   owed : (b : PlainDatabase) → SpellsPairs l.cache b →
       unmarked b.parents (marked_by l.cache l.marks) + l.fn.spending.budget.records ≤ length b.parents + l.spending.budget.records;
-  cost : Spends (per_nodes 59) (29 * l.kind-index) (256 * (29 * l.kind-index)) l.fn.spending l.spending;
+  cost : Costs search_cost 0 (29 * l.kind-index) l.fn.spending l.spending;
 }

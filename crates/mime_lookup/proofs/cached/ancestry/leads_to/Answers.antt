@@ -4,7 +4,7 @@ use Rattle.mime_base.specs.Database.{pairs_of}
 use Rattle.mime_lookup.specs.Ancestry.{kinds_of}
 use Rattle.mime_lookup.specs.Searching.{marked_by}
 use Rattle.mime_lookup.proofs.Queues.{none_queued}
-use Rattle.mime_lookup.proofs.SearchCosts.{pays_next}
+use Rattle.mime_lookup.proofs.SearchCosts.{expanded_owing}
 use Rattle.mime_lookup.proofs.Searches.{searched_all, searched_found, searched_more}
 use Rattle.mime_lookup.proofs.cached.ancestry.leads_to.Goals as goal
 
@@ -31,7 +31,7 @@ loop-here-preserved c = record {
       (c.in_ok-expand.ensures.expanded b spells);
   owed = λ b spells. omega (arith, c.loop-here.invariant.owed b spells, (c.in_ok-expand.ensures.takes b spells).owed);
   paid =
-      pays_next (deque_len c.pop_front.new.self) c.args.spending.now c.loop-here.spending c.expand.new.spending
+      expanded_owing (deque_len c.pop_front.new.self) c.args.spending.now c.loop-here.spending c.expand.new.spending
       c.is_by_itself.new.meter (rw c.in-Some.ensures.cases c.loop-here.invariant.paid) c.is_by_itself.ensures.nodes
       c.is_by_itself.ensures.rises (omega (arith, c.is_by_itself.ensures.bytes, c.requires.base)) c.expand.ensures.cost
       (deque_len c.expand.new.queue) c.in_ok-expand.ensures.falls;

@@ -1,10 +1,10 @@
-use Rattle.std.proofs.Common.{◌+◌, ◌≤◌}
+use Rattle.std.proofs.Common.{◌+◌, ◌*◌, ◌≤◌}
 use Rattle.std.specs.VecDeque.{deque_len}
 use Rattle.mime_base.specs.Database.{PlainDatabase, pairs_of}
 use Rattle.mime_lookup.specs.Ancestry.{NoneLeadsTo, kinds_of, unmarked}
-use Rattle.mime_lookup.specs.Searching.{marked_by}
+use Rattle.mime_lookup.specs.Costs.{CostsOwing}
+use Rattle.mime_lookup.specs.Searching.{marked_by, search_cost}
 use Rattle.mime_lookup.specs.Spelling.{SpellsPairs}
-use Rattle.mime_lookup.proofs.SearchCosts.{Pays}
 use Rattle.mime_lookup.proofs.Searches.{Searched}
 use Rattle.mime_lookup.proofs.cached.ancestry.leads_to.Given as goal
 
@@ -15,7 +15,7 @@ invariant-loop-here l = record {
   owed : (b : PlainDatabase) → SpellsPairs l.cache b →
       unmarked b.parents (marked_by l.cache l.marks) + l.fn.spending.budget.records
       ≤ unmarked b.parents (marked_by l.cache l.fn.marks) + l.spending.budget.records;
-  paid : Pays (deque_len l.queue) l.fn.spending l.spending;
+  paid : CostsOwing (29 * deque_len l.queue) search_cost 0 29 l.fn.spending l.spending;
 }
 
 abbrev pub decreases-loop-here : goal.decreases-loop-here

@@ -67,7 +67,7 @@ returns-in_err-kind-clause-alone c none =
 
 pub returns-in_err-kind-clause-cost : goal.returns-in_err-kind-clause-cost
 returns-in_err-kind-clause-cost c =
-    costs_then _ (costs_looks search_cost 0 c.in_ok-base.ensures.cost) (c.in_err-kind.ensures.cost search_cost 0 (omega arith))
+    costs_then _ (costs_looks search_cost 0 c.in_ok-base.ensures.cost) c.in_err-kind.ensures.cost
     (omega (arith, length-map c.args.kept.now (λ (text : Bor (List ℕ)). text.now)))
 
 pub returns-clause-chosen : goal.returns-clause-chosen
@@ -93,5 +93,5 @@ returns-clause-alone c none =
 
 pub returns-clause-cost : goal.returns-clause-cost
 returns-clause-cost c =
-    costs_then _ (costs_looks search_cost 0 c.in_ok-base.ensures.cost) (c.in_ok-kind.ensures.cost search_cost 0 (omega arith))
+    costs_then _ (costs_looks search_cost 0 c.in_ok-base.ensures.cost) c.in_ok-kind.ensures.cost
     (omega (arith, length-map c.args.kept.now (λ (text : Bor (List ℕ)). text.now)))
