@@ -12,7 +12,7 @@ use Rattle.mime_lookup.specs.Choice.{ChoosesAmong, IsFirst, kept}
 use Rattle.mime_lookup.specs.Sniffing.{sniffed}
 use Rattle.mime_lookup.specs.declared.order.Order.{Order}
 use Rattle.mime_lookup.specs.declared.order.Order.TheVariants.{GlobsFirst, MagicFirst}
-use Rattle.mime_lookup.proofs.Sniffs.{front_is_enough}
+use Rattle.mime_lookup.proofs.SniffLemmas.Sniffs.{front_is_enough}
 
 -- of types that are one type the first is chosen, whatever was sniffed
 one_type : (pairs : Pairs) (kinds : List (List ℕ)) (base other answer : List ℕ) → are_one_type kinds ≡ true →

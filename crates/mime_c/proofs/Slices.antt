@@ -72,6 +72,7 @@ used_up_where : {P Q : Type 0} (c : List ℕ) (left : Budget) → (Q → P) → 
 used_up_where c left weaker (inl none) = inl none
 used_up_where c left weaker (inr line) = inr ((λ q. line.0 (weaker q)), line.1, line.2)
 
+-- what is used up under a condition is so under a stronger one
 uses_up_where : {P Q : Type 0} {c : List ℕ} {nodes : ℕ} → (Q → P) → UsesUp c P nodes → UsesUp c Q nodes
 uses_up_where {P} {Q} {c} {nodes} weaker is = record {
   left = is.left;
@@ -82,12 +83,15 @@ uses_up_where {P} {Q} {c} {nodes} weaker is = record {
 
 -- all that a lookup promises of bytes, by what it answers or why it stops
 module _ (c name : List ℕ) (content after : Option (Bor (List ℕ))) (order : Order) where
+  -- the content is not available
   abbrev NotThere : Type 0
   NotThere = ◌≡◌ {A = Option (List ℕ)} (content_of content) None
 
+  -- rules that decide for a content that may not be there decide for this one
   near_content : (b : PlainDatabase) → GlobsDecide b name order NotThere → GlobsDecide b name order (content ≡ None)
   near_content b = decides b name order NotThere (content ≡ None) (none_of content)
 
+  -- what a lookup promises of any reader it promises of bytes
   pub promised : {tally : Bor (List ℕ) → Option Tally} (result : Result Answer Stopped)
       → IfOk result (λ answer. AnswersLookUp (λ (s : Bor (List ℕ)). Some s.now) c name content Little order answer.kind.now)
       → StopsLookUp c name order content after result

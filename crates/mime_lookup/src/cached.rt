@@ -92,7 +92,7 @@ pub fn look_up<'a, R: Content>(
 }
 
 /// The type of a name and a content by the bytes of a cache, and how many bytes of the content were read.
-#[tactic(auto, using(crate::proofs::OpenFaults::opens_without_fault))]
+#[tactic(auto, using(crate::proofs::StopLemmas::OpenFaults::opens_without_fault))]
 fn open_and_find<'a, R: Content>(
     alloc: Global,
     cache: Counted<'a>,

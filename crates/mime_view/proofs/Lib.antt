@@ -1,68 +1,10 @@
-mod OneText
-mod AddedPlaces
-mod Halving
-mod Places
-mod Lookups
-mod EqualTexts
-mod PairTexts
-mod Records
-mod TextLists
-mod ParentEntries
-mod Headers
-mod Subclasses
-mod ParentLists
-mod AllOf
-mod LineParts
-mod LineRows
-mod LineValues
-mod LinesLeft
-mod SectionParts
-mod SectionRows
-mod SectionsLeft
-mod StandingValues
-mod MagicLists
-mod Spelled
-pub mod Costs
-mod Charges
-mod OffersLemmas
-mod Steps
-mod StoredRules
-mod GlobEntries
-mod GlobLists
-mod KindTexts
-mod FilterSteps
-mod FilterCounts
-mod SameRanks
-mod PlainMatches
-mod PathFronts
-mod RulePlaces
-mod RankParts
-mod OnePlace
-mod WalkOrder
-mod NearRules
-mod VisitCounts
-mod KeptNear
-mod LiteralEntries
-mod LiteralRuns
-mod LiteralPlaces
-mod TreeBlocks
-mod TreeScans
-mod TreeRules
-mod TreeStands
-mod TreeWalks
-mod TreePaths
-mod TreeBegins
-mod NameOffers
-mod NameLists
-mod ListedTexts
-mod EntryRows
-mod SiblingRows
-mod SiblingNodes
-mod SiblingFaults
-mod SameKeys
-mod TreeLeaves
-mod TreeOrder
-mod EndedRules
-mod ListedTree
-mod TreesRead
-mod RuleLists
+pub mod ListLemmas
+pub mod ParentsLemmas
+pub mod SearchLemmas
+pub mod HitsLemmas
+pub mod MagicLemmas
+pub mod CostLemmas
+pub mod GlobLemmas
+pub mod SuffixTreeLemmas
+pub mod LiteralLemmas
+pub mod ListingLemmas

@@ -53,9 +53,11 @@ outside room at bytes = (by (length bytes == room) refl, λ n. rw (ne_eqb (lengt
     by false is e = λ h. absurd (cc (eq-eqb (length bytes) room h))
 
 module _ (room : ℕ) (some : 0 < room) (c : List ℕ) (at : ℕ) where
+  -- the bytes that are looked at
   abbrev bytes : List ℕ
   bytes = front room c at
 
+  -- they are as many as there is room for, or as there are
   size : length bytes ≡ min room (length c - at)
   size = length-take room (drop at c) ∙ ap (min room) (length-drop at c)
 
@@ -65,6 +67,7 @@ module _ (room : ℕ) (some : 0 < room) (c : List ℕ) (at : ℕ) where
       let all = before_zero-none bytes none in
       rw (le-ltb (length (before_zero bytes)) (length bytes) (omega (arith, ap length all))) refl
 
+  -- where no text is read, they have no zero, and this is why
   unread : (fault : ByteFault) → text_in room at bytes ≡ Err fault
       → HasNoZero bytes × (unended room at bytes ≡ fault)
   unread fault e =
@@ -72,12 +75,14 @@ module _ (room : ℕ) (some : 0 < room) (c : List ℕ) (at : ℕ) where
       (unended room at bytes) fault e in
       (none_if_whole bytes (ltb-false (length (before_zero bytes)) (length bytes) r.0), r.1)
 
+  -- the text is too long exactly where all the room lies in the cache and has no zero
   long_in : (text_in room at bytes ≡ Err (LongText at)) ↔ ((at + room ≤ length c) × HasNoZero bytes)
   long_in = (
     λ e. let u = unread (LongText at) e in let whole = (long room at bytes).0 u.1 in (omega (arith, size), u.0),
     λ h. none_read h.1 ∙ ap Err ((long room at bytes).1 (omega (arith, size, h.0))),
   )
 
+  -- it is out of range exactly where the cache ends first, without a zero
   outside_in : (text_in room at bytes ≡ Err (OutOfRange at)) ↔ ((length c < at + room) × HasNoZero bytes)
   outside_in = (
     λ e. let u = unread (OutOfRange at) e in let less = (outside room at bytes).0 u.1 in (omega (arith, size), u.0),

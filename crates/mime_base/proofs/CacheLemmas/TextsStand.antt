@@ -65,9 +65,11 @@ text_at-standing c at text is s =
     ∙ text_in-written 256 at text s.back is.short is.no_zero
 
 module _ (room : ℕ) (c : List ℕ) (at : ℕ) where
+  -- the bytes that are looked at
   abbrev bytes : List ℕ
   bytes = front room c at
 
+  -- they are as many as there is room for, or as there are
   size : length bytes ≡ min room (length c - at)
   size = length-take room (drop at c) ∙ ap (min room) (length-drop at c)
 
@@ -78,6 +80,7 @@ module _ (room : ℕ) (c : List ℕ) (at : ℕ) where
     stands : Stands c at (ended text)
     cost : min (length (before_zero bytes) + 1) (length bytes) ≡ length text + 1
 
+  -- a text that is read stands there with its zero
   read : (text : List ℕ) → text_in room at bytes ≡ Ok text → Read text
   read text e =
       let r = chose (nat_lt (length (before_zero bytes)) (length bytes)) (before_zero bytes) text

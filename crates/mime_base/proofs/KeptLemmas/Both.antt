@@ -13,18 +13,22 @@ lift a b base less = (let next : a + 1 ≤ b = omega arith in omega (arith, mul-
 
 -- keeping by one number and then by a second is keeping by one number made of both
 module _ {X : Type 0} (base : ℕ) (f g : X → ℕ) where
+  -- both numbers as one
   abbrev both : X → ℕ
   both x = f x * base + g x
 
+  -- the second number of each is below the base
   abbrev Small : List X → Type 0
   Small xs = All (λ x. g x < base) xs
 
+  -- so is the greatest second one among those with the greatest first
   second-below : (x : X) (xs : List X) → Small (x ∷ xs) → greatest g (of_greatest f xs) < base
   second-below x xs small =
       let head = All-head (λ y. g y < base) x xs small in
       greatest-below g base (of_greatest f xs) (omega arith)
       (All-filter (λ y. f y == greatest f xs) (λ y. g y < base) xs (All-tail (λ y. g y < base) x xs small))
 
+  -- the greatest of both is the greatest first one, with the greatest second among those that have it
   greatest-both : (xs : List X) → Small xs → greatest both xs ≡ greatest f xs * base + greatest g (of_greatest f xs)
   greatest-both [] small = omega arith
   greatest-both (x ∷ xs) small =
@@ -43,6 +47,7 @@ module _ {X : Type 0} (base : ℕ) (f g : X → ℕ) where
             rw (cons-more f x xs more) (omega arith))
       ]
 
+  -- keeping the greatest by one and then by the other is keeping the greatest by both
   pub of_greatest-of_greatest : (xs : List X) → Small xs → of_greatest g (of_greatest f xs) ≡ of_greatest both xs
   of_greatest-of_greatest [] small = refl
   of_greatest-of_greatest (x ∷ xs) small =

@@ -25,11 +25,13 @@ module _ {X : Type 0} (f : X → ℕ) where
       let top : greatest f (xs ++ ys) ≡ greatest f xs = (let e = greatest-append xs ys in omega arith) in
       rw (top, filter-append, filter-above (greatest f xs) ys less, append-nil)
 
+  -- where the greatest is behind, only that part is kept
   of_greatest-back : (xs ys : List X) → greatest f xs < greatest f ys → of_greatest f (xs ++ ys) ≡ of_greatest f ys
   of_greatest-back xs ys less =
       let top : greatest f (xs ++ ys) ≡ greatest f ys = (let e = greatest-append xs ys in omega arith) in
       rw (top, filter-append, filter-above (greatest f ys) xs less)
 
+  -- where both parts have the same greatest, of both it is kept
   of_greatest-append : (xs ys : List X) → greatest f xs ≡ greatest f ys → of_greatest f (xs ++ ys) ≡ of_greatest f xs ++ of_greatest f ys
   of_greatest-append xs ys same =
       let top : greatest f (xs ++ ys) ≡ greatest f ys = (let e = greatest-append xs ys in omega arith) in
@@ -45,10 +47,12 @@ module _ {X : Type 0} (f : X → ℕ) where
   pub push-less : (xs : List X) (x : X) → f x < greatest f xs → of_greatest f (xs ++ x ∷ []) ≡ of_greatest f xs
   push-less xs x less = of_greatest-front xs (x ∷ []) (omega arith)
 
+  -- another of the greatest is kept behind the others
   pub push-same : (xs : List X) (x : X) → f x ≡ greatest f xs → of_greatest f (xs ++ x ∷ []) ≡ of_greatest f xs ++ x ∷ []
   push-same xs x same =
       of_greatest-append xs (x ∷ []) (omega arith) ∙ ap (λ end. of_greatest f xs ++ end) (of_greatest-one x)
 
+  -- a greater one is kept alone
   pub push-more : (xs : List X) (x : X) → greatest f xs < f x → of_greatest f (xs ++ x ∷ []) ≡ x ∷ []
   push-more xs x more = of_greatest-back xs (x ∷ []) (omega arith) ∙ of_greatest-one x
 
@@ -56,10 +60,12 @@ module _ {X : Type 0} (f : X → ℕ) where
   pub cons-less : (x : X) (xs : List X) → f x < greatest f xs → of_greatest f (x ∷ xs) ≡ of_greatest f xs
   cons-less x xs less = of_greatest-back (x ∷ []) xs (omega arith)
 
+  -- another of the greatest in front is kept before the others
   pub cons-same : (x : X) (xs : List X) → f x ≡ greatest f xs → of_greatest f (x ∷ xs) ≡ x ∷ of_greatest f xs
   cons-same x xs same =
       of_greatest-append (x ∷ []) xs (omega arith) ∙ ap (λ front. front ++ of_greatest f xs) (of_greatest-one x)
 
+  -- a greater one in front is kept alone
   pub cons-more : (x : X) (xs : List X) → greatest f xs < f x → of_greatest f (x ∷ xs) ≡ x ∷ []
   cons-more x xs more = of_greatest-front (x ∷ []) xs (omega arith) ∙ of_greatest-one x
 
@@ -83,10 +89,12 @@ module _ {X : Type 0} (f : X → ℕ) where
 
 -- over the values of a function
 module _ {X Y : Type 0} (f : Y → ℕ) (value : X → Y) where
+  -- the greatest of values is the greatest by value
   greatest-map : (xs : List X) → greatest f (map value xs) ≡ greatest (λ x. f (value x)) xs
   greatest-map [] = refl
   greatest-map (x ∷ xs) = ap (max (f (value x))) (greatest-map xs)
 
+  -- filtering values is filtering by value
   filter-map : (p : Y → Bool) (xs : List X) → filter p (map value xs) ≡ map value (filter (λ x. p (value x)) xs)
   filter-map p [] = refl
   filter-map p (x ∷ xs) = by_cases (p (value x)) (filter-map p xs)
@@ -97,5 +105,6 @@ module _ {X Y : Type 0} (f : Y → ℕ) (value : X → Y) where
       by_cases true rest = ap (λ ys. value x ∷ ys) rest
       by_cases false rest = rest
 
+  -- keeping the greatest values is keeping the greatest by value
   pub of_greatest-map : (xs : List X) → of_greatest f (map value xs) ≡ map value (of_greatest (λ x. f (value x)) xs)
   of_greatest-map xs = rw greatest-map (filter-map (λ y. f y == greatest (λ x. f (value x)) xs) xs)

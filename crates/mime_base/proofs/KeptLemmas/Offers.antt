@@ -51,6 +51,7 @@ module _ {X : Type 0} where
   wanted-all rank new [] is = refl
   wanted-all rank new (item ∷ items) is = rw (is, wanted-all rank new items is) refl
 
+  -- an offer is wanted where none that is kept has a greater rank
   pub wanted : (rank new : ℕ) (items : List X) → (items ≡ [] → rank ≡ 0)
       → nat_le rank new ≡ list_all (λ offer. nat_le offer.0 new) (ranked rank items)
   wanted rank new [] none = rw (none refl) (leb-zero new)

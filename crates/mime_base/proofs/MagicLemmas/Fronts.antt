@@ -19,6 +19,7 @@ module _ (front rest : List ℕ) where
       let room : size ≤ length (drop at front) = omega (arith, length-drop at front) in
       ap (take size) (drop-append-le at front rest place) ∙ take-append-le size (drop at front) rest room
 
+  -- a place within the front is compared by the front alone
   equals_at-front : (own : PlainLine) (host : Host) (at : ℕ) → at + length own.value ≤ length front →
       equals_at own host (front ++ rest) at ≡ equals_at own host front at
   equals_at-front own host at within =
@@ -29,6 +30,7 @@ module _ (front rest : List ℕ) where
       ∙ sym (ap (λ b. b && window_equals own.value (bytes_of_mask own.mask) own.word host (take (length own.value) (drop at front)))
       (le-leb (at + length own.value) (length front) within))
 
+  -- so are all places of a range within it
   equals_from-front : (own : PlainLine) (host : Host) (at range : ℕ) → at + range + length own.value ≤ length front →
       equals_from own host (front ++ rest) at range ≡ equals_from own host front at range
   unfolding equals_from

@@ -24,6 +24,7 @@ module _ (own : PlainLine) (host : Host) (content : List ℕ) where
   unfolding equals_from
   equals_from-suc at n = refl
 
+  -- a range holds at its first place or in what is left of it
   equals_from-more : (at n left : ℕ) → left ≡ n + 1 →
       equals_from own host content at left ≡ (equals_at own host content at || equals_from own host content (at + 1) n)
   equals_from-more at n left is =

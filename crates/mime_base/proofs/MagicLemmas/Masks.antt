@@ -40,6 +40,7 @@ place value word host i = mirrored (group_of word host (length value)) i
 
 -- a byte of what is as long as the value, under its mask
 module _ (value mask : List ℕ) (word : ℕ) (host : Host) where
+  -- the eight bits of a byte
   abbrev pub bits : ℕ → ℕ
   bits i = get_or mask (place value word host i) 255
 

@@ -20,6 +20,7 @@ use Rattle.mime_base.proofs.MagicLemmas.Windows.{counted, goes_on, stops}
 module _ (value : List ℕ) (word : ℕ) (host : Host) (content : List ℕ) (two : 1 < length value)
     (single : group_of word host (length value) ≡ 1)
     (value_bytes : (i : ℕ) → get_or value i 0 < 256) (content_bytes : (i : ℕ) → get_or content i 0 < 256) where
+  -- the line whose value is sought
   abbrev own : PlainLine
   own = line_from 0 0 word value (Some [])
 

@@ -32,6 +32,7 @@ passed-differs first bytes (Some k) is =
 module _ (value : List ℕ) (word : ℕ) (host : Host) (content : List ℕ) (some : 0 < length value)
     (single : group_of word host (length value) ≡ 1)
     (value_bytes : (i : ℕ) → get_or value i 0 < 256) (content_bytes : (i : ℕ) → get_or content i 0 < 256) where
+  -- the line, with what is in its value
   abbrev own : PlainLine
   own = line_from 0 0 word value (Some [])
 

@@ -44,6 +44,7 @@ pub without_mask : (c : List ℕ) (mask size : ℕ) → mask ≡ 0 → optional_
 without_mask c mask size none = rw none refl
 
 module _ (c : List ℕ) (value : StatedValue) (start range : ℕ) (host : Host) (content : List ℕ) where
+  -- the line that is stated
   abbrev own : PlainLine
   own = stated_line c value start range
 

@@ -12,15 +12,19 @@ use Rattle.mime_base.proofs.CacheLemmas.Prefixes.{bytes_eq-prefix}
 
 module _ (value mask : List ℕ) (word : ℕ) (host : Host) (window : List ℕ)
     (same : length window ≡ length value) where
+  -- the value under its mask
   abbrev pub left : List ℕ
   left = under_mask value mask word host window
 
+  -- the window under its mask
   abbrev pub right : List ℕ
   right = under_mask value mask word host (in_order word host value)
 
+  -- the value under its mask is as long as the window
   left_size : length left ≡ length window
   left_size = length-under_mask value mask word host window
 
+  -- so is the window under its mask
   right_size : length right ≡ length window
   right_size =
       length-under_mask value mask word host (in_order word host value) ∙ (mirrors word host value).size ∙ sym same

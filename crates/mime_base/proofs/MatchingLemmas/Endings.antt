@@ -76,6 +76,7 @@ common-compared cased (x ∷ xs) (y ∷ ys) =
     ap (λ n. cond (compared_byte cased x == compared_byte cased y) (1 + n) 0) (common-compared cased xs ys)
 
 module _ (cased : Bool) (ending : List ℕ) (literal : is_literal_text ending ≡ true) where
+  -- an ending without special bytes compares as it stands
   plain : is_literal_text (compared cased ending) ≡ true
   plain = is_literal_text-compared cased ending ∙ literal
 

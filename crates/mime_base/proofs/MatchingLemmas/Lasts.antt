@@ -99,12 +99,15 @@ unfound-owed Star es after b s = absurd (s refl)
 unfound-owed Refused es after b s = refl
 
 module _ (cased : Bool) (es : List Element) (name : List ℕ) (size : ℕ) (none : has_star es ≡ false) (is : size ≡ length es) where
+  -- the last bytes compare as the end of what the name compares as
   ending : drop (length (compared cased name) - length es) (compared cased name) ≡ compared cased (drop (length name - size) name)
   ending = rw (length-map name (compared_byte cased), ← is) (drop-map (compared_byte cased) (length name - size) name)
 
+  -- where the name is long enough, so is what it compares as
   long : size ≤ length name → length es ≤ length (compared cased name)
   long room = omega (arith, length-map name (compared_byte cased), is)
 
+  -- and where it is too short, so is that
   short : length name < size → length (compared cased name) < length es
   short less = omega (arith, length-map name (compared_byte cased), is)
 

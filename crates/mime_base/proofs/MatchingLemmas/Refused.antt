@@ -53,10 +53,12 @@ passed-within name start n within l = omega (arith, length-drop start name)
 
 -- they leave the elements to the places after them, and each takes one test
 module _ (cased : Bool) (es : List Element) (name : List ℕ) (start n : ℕ) where
+  -- over the next byte nothing else is matched
   pub passed-same : matches (any_bytes ∷ es) (compared cased (drop start name)) ≡ matches (any_bytes ∷ es) (compared cased (drop n (drop start name)))
       → matches (any_bytes ∷ es) (compared cased (drop start name)) ≡ matches (any_bytes ∷ es) (compared cased (drop (start + n) name))
   passed-same same = same ∙ ap (λ (text : List ℕ). matches (any_bytes ∷ es) (compared cased text)) (drop-drop n start name)
 
+  -- and one test more is made
   pub passed-tests : tests_of (any_bytes ∷ es) (compared cased (drop start name)) ≡ n + tests_of (any_bytes ∷ es) (compared cased (drop n (drop start name)))
       → tests_of (any_bytes ∷ es) (compared cased (drop start name)) ≡ n + tests_of (any_bytes ∷ es) (compared cased (drop (start + n) name))
   passed-tests made = made ∙ ap (λ (text : List ℕ). n + tests_of (any_bytes ∷ es) (compared cased text)) (drop-drop n start name)

@@ -64,7 +64,7 @@ pub fn icon_of<'a>(alloc: Global, cache: Counted<'a>, kind: &'a TypeName) -> Res
 }
 
 /// The names of the icon and of the generic icon of a type.
-#[tactic(auto, using(crate::proofs::OpenFaults::opens_without_fault))]
+#[tactic(auto, using(crate::proofs::StopLemmas::OpenFaults::opens_without_fault))]
 fn find_icons<'a>(
     alloc: Global,
     cache: Counted<'a>,

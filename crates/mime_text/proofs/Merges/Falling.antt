@@ -108,6 +108,7 @@ module _ {A : Type 0} (number : A → ℕ) where
 
   -- ---- what holds of each item
 
+  -- what holds of all and of one holds of all with that one
   list_all-insert : (p : A → Bool) (x : A) (ys : List A) → p x ≡ true → list_all p ys ≡ true
       → list_all p (insert_falling number x ys) ≡ true
   list_all-insert p x [] this all = and_from _ _ this refl
@@ -126,6 +127,7 @@ module _ {A : Type 0} (number : A → ℕ) where
 -- ---- plain items
 
 module _ {X Y : Type 0} (f : X → Y) (number : Y → ℕ) where
+  -- inserting by a value's number is inserting the value
   insert_falling-map : (x : X) (ys : List X) → map f (insert_falling (λ z. number (f z)) x ys) ≡ insert_falling number (f x) (map f ys)
   insert_falling-map x [] = refl
   insert_falling-map x (y ∷ ys) =

@@ -41,6 +41,7 @@ module _ {A : Type 0} (key_of : A → List ℕ × List ℕ) where
       (λ (differs : has_same_key key_of entry other ≡ false). ap (λ b. not b && is_new seen other) differs)
       (cases_Bool (has_same_key key_of entry other))
 
+  -- neither of two tests holds where not one or the other does
   not-or-false : (b c : Bool) → (not c && not b) ≡ not (b || (c || false))
   not-or-false true true = refl
   not-or-false true false = refl
@@ -108,6 +109,7 @@ module _ {A : Type 0} (same : A → A → Bool) where
   distinct [] = true
   distinct (x ∷ xs) = not (list_any (same x) xs) && distinct xs
 
+  -- what is left of distinct ones is distinct
   distinct-filter : (p : A → Bool) (xs : List A) → distinct xs ≡ true → distinct (filter p xs) ≡ true
   distinct-filter p [] all = refl
   distinct-filter p (x ∷ xs) all =
@@ -117,6 +119,7 @@ module _ {A : Type 0} (same : A → A → Bool) where
       elim (p x) as (λ t. distinct (cond t (x ∷ filter p xs) (filter p xs)) ≡ true)
       [ true ↦ and_from _ _ (not_from_false _ none) later | false ↦ later ]
 
+  -- what is kept once is distinct
   distinct-once : (xs : List A) → distinct (once same xs) ≡ true
   distinct-once [] = refl
   distinct-once (x ∷ xs) =

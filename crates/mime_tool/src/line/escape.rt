@@ -27,7 +27,7 @@ pub(super) fn escaped_bytes(alloc: Global, bytes: &[u8]) -> Result<Vec<u8>, Allo
     Ok(escaped)
 }
 
-#[tactic(auto, using(crate::proofs::Escapes::escaped_low, crate::proofs::Escapes::unescaped))]
+#[tactic(auto, using(crate::proofs::AnswerLemmas::Escapes::escaped_low, crate::proofs::AnswerLemmas::Escapes::unescaped))]
 fn push_char(to: &mut String, c: char) -> Result<(), AllocError>
     ensures { OnOk result (string_bytes to.new ≡ string_bytes to.old ++ escaped (encode_utf8 c)) }
 {

@@ -84,7 +84,7 @@ fn add_siblings<'a>(
 
 /// Adds the rule of the leaf at `at`, or the rules below the node there.
 #[cycle(siblings)]
-#[tactic(auto, using(crate::proofs::SiblingNodes::some_node))]
+#[tactic(auto, using(crate::proofs::SuffixTreeLemmas::SiblingNodes::some_node))]
 fn add_sibling<'a>(
     source: &ListingSource<'_, 'a>,
     at: u64,

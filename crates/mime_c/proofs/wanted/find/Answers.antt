@@ -5,7 +5,7 @@ use Rattle.mime_c.proofs.LongNames.{ok_is_no_stop, read_is_short, same_stop, too
 use Rattle.mime_c.proofs.Wants.{by_front, by_globs, by_stop, nothing_read, of_broken, read_or_memory}
 use Rattle.mime_lookup.specs.Bounds.{KeepsBounds}
 use Rattle.mime_lookup.specs.CheckingOrder.{globs_suffice}
-use Rattle.mime_lookup.proofs.SpelledParts.{spelled_globs}
+use Rattle.mime_lookup.proofs.LookUpLemmas.SpelledParts.{spelled_globs}
 use Rattle.mime_c.proofs.wanted.find.Goals as goal
 
 pub returns-in-Ok : goal.returns-in-Ok

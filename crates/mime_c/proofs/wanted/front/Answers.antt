@@ -3,7 +3,7 @@ use Rattle.std.proofs.lemmas.Result.{err_from_is_err_and}
 use Rattle.mime_base.specs.Format.Spells.{Spells}
 use Rattle.mime_lookup.specs.CheckingOrder.{read_limit}
 use Rattle.mime_lookup.specs.StepFaults.{of_magic}
-use Rattle.mime_lookup.proofs.OpenFaults.{header_without_fault}
+use Rattle.mime_lookup.proofs.StopLemmas.OpenFaults.{header_without_fault}
 use Rattle.mime_view.specs.Opening.{IsOpenFault}
 use Rattle.mime_c.proofs.wanted.front.Goals as goal
 

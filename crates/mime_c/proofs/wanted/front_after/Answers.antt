@@ -1,5 +1,5 @@
 use Rattle.mime_lookup.specs.StepFaults.{IsLookUpFault}
-use Rattle.mime_lookup.proofs.CauseLemmas.{caused}
+use Rattle.mime_lookup.proofs.StopLemmas.Cause.{caused}
 use Rattle.mime_c.proofs.wanted.front_after.Goals as goal
 
 pub returns-in-Err-clause-fault : goal.returns-in-Err-clause-fault

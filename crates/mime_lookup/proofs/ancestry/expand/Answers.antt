@@ -2,8 +2,8 @@ use Rattle.std.proofs.Common.{◌≡◌, ◌++◌, false, sym, ◌∙◌, arith}
 use Rattle.mime_lookup.specs.Places.{placed}
 use Rattle.mime_base.specs.Database.Subclass.{above}
 use Rattle.mime_lookup.specs.Ancestry.{is_one_of, kinds_of}
-use Rattle.mime_lookup.proofs.Marks.{expanded_marked, expanded_new, unmarked-falls}
-use Rattle.mime_lookup.proofs.MarkSets.{mark-more}
+use Rattle.mime_lookup.proofs.AncestryLemmas.Marks.{expanded_marked, expanded_new, unmarked-falls}
+use Rattle.mime_lookup.proofs.AncestryLemmas.MarkSets.{mark-more}
 use Rattle.mime_lookup.proofs.ancestry.expand.Goals as goal
 
 pub returns-then-is_marked-clause-expanded : goal.returns-then-is_marked-clause-expanded

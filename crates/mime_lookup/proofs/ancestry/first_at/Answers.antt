@@ -1,6 +1,6 @@
 use Rattle.std.proofs.Common.{refl}
 use Rattle.mime_lookup.specs.Places.{placed}
-use Rattle.mime_lookup.proofs.Marks.{none_marked}
+use Rattle.mime_lookup.proofs.AncestryLemmas.Marks.{none_marked}
 use Rattle.mime_lookup.proofs.ancestry.first_at.Goals as goal
 
 pub loop-kind-init : goal.loop-kind-init

@@ -1,7 +1,7 @@
 use Rattle.std.proofs.Common.{refl, sym, ◌∙◌}
 use Rattle.mime_lookup.specs.Places.{placed}
 use Rattle.mime_lookup.specs.Ancestry.{is_one_of, kinds_of}
-use Rattle.mime_lookup.proofs.Searches.{searched_found, searched_more}
+use Rattle.mime_lookup.proofs.AncestryLemmas.Searches.{searched_found, searched_more}
 use Rattle.mime_lookup.proofs.ancestry.is_a.Goals as goal
 
 pub returns-then-is_by_itself-clause-answer : goal.returns-then-is_by_itself-clause-answer

@@ -2,7 +2,7 @@ use Rattle.std.proofs.Common.{◌≡◌, ◌+◌}
 use Rattle.std.specs.VecDeque.{deque_len}
 use Rattle.mime_lookup.specs.Places.{placed}
 use Rattle.mime_lookup.specs.Ancestry.{NoneLeadsTo, is_one_of, kinds_of, unmarked}
-use Rattle.mime_lookup.proofs.Searches.{Searched}
+use Rattle.mime_lookup.proofs.AncestryLemmas.Searches.{Searched}
 use Rattle.mime_lookup.proofs.ancestry.is_a.Given as goal
 
 abbrev pub invariant-loop-here : goal.invariant-loop-here

@@ -1,5 +1,5 @@
 use Rattle.std.proofs.Common.{◌∙◌, sym}
-use Rattle.mime_lookup.proofs.MarkSets.{marked-any}
+use Rattle.mime_lookup.proofs.AncestryLemmas.MarkSets.{marked-any}
 use Rattle.mime_lookup.proofs.ancestry.is_marked.Goals as goal
 
 pub returns : goal.returns

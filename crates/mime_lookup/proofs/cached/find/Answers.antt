@@ -2,11 +2,11 @@ use Rattle.std.proofs.Common.{◌≡◌, ◌+◌, None, ap, arith, inl, length, 
 use Rattle.mime_lookup.specs.Cached.{cause_of}
 use Rattle.mime_lookup.specs.Content.{known_content}
 use Rattle.mime_lookup.specs.Costs.{glob_cost, record_cost}
-use Rattle.mime_lookup.proofs.ByContents.{suffices_globs, used_for}
-use Rattle.mime_lookup.proofs.CostLemmas.{costs_halves, costs_looks, costs_then, costs_wider}
-use Rattle.mime_lookup.proofs.LookUps.{chosen_anyway, chosen_front, content_stands, decides, front_stands, no_content, stops_front}
-use Rattle.mime_lookup.proofs.ReadHalves.{reads_chosen, reads_decided, reads_early, reads_late, reads_refused}
-use Rattle.mime_lookup.proofs.StepStops.{passed_on, stops_then}
+use Rattle.mime_lookup.proofs.OrderLemmas.ByContents.{suffices_globs, used_for}
+use Rattle.mime_lookup.proofs.CostLemmas.Costs.{costs_halves, costs_looks, costs_then, costs_wider}
+use Rattle.mime_lookup.proofs.LookUpLemmas.LookUps.{chosen_anyway, chosen_front, content_stands, decides, front_stands, no_content, stops_front}
+use Rattle.mime_lookup.proofs.ContentLemmas.ReadHalves.{reads_chosen, reads_decided, reads_early, reads_late, reads_refused}
+use Rattle.mime_lookup.proofs.StopLemmas.StepStops.{passed_on, stops_then}
 use Rattle.mime_lookup.proofs.cached.find.Goals as goal
 use Rattle.mime_view.specs.declared.budget.Budget.{Budget}
 use Rattle.mime_view.specs.declared.spending.Spending.{Spending}

@@ -1,5 +1,5 @@
 use Rattle.std.proofs.Common.{Ok, Err, arith}
-use Rattle.mime_lookup.proofs.Outcomes.{headline, reads_answer, reads_cause, stops_cause}
+use Rattle.mime_lookup.proofs.LookUpLemmas.Outcomes.{headline, reads_answer, reads_cause, stops_cause}
 use Rattle.mime_lookup.proofs.cached.look_up.Goals as goal
 
 pub returns-in-Ok-clause-stops : goal.returns-in-Ok-clause-stops

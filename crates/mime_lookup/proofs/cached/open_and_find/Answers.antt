@@ -3,13 +3,13 @@ use Rattle.std.proofs.lemmas.Result.{IfErr-weaker, on_ok_weaker}
 use Rattle.mime_base.specs.declared.meter.Meter.{Meter}
 use Rattle.mime_lookup.specs.Cached.{cause_of}
 use Rattle.mime_lookup.specs.StepFaults.{of_header}
-use Rattle.mime_lookup.proofs.BoundLemmas.{keeps_bounds}
-use Rattle.mime_lookup.proofs.ByContents.{suffices_globs}
-use Rattle.mime_lookup.proofs.OpenFaults.{header_without_fault, on_ok, opens_without_fault, refused_for}
-use Rattle.mime_lookup.proofs.PlacedFaults.{no_header}
-use Rattle.mime_lookup.proofs.ReadHalves.{reads_early}
-use Rattle.mime_lookup.proofs.StepStops.{not_ok, passed_on, stops_for, stops_then}
-use Rattle.mime_lookup.proofs.UsedUp.{uses_up}
+use Rattle.mime_lookup.proofs.CostLemmas.Bound.{keeps_bounds}
+use Rattle.mime_lookup.proofs.OrderLemmas.ByContents.{suffices_globs}
+use Rattle.mime_lookup.proofs.StopLemmas.OpenFaults.{header_without_fault, on_ok, opens_without_fault, refused_for}
+use Rattle.mime_lookup.proofs.StopLemmas.PlacedFaults.{no_header}
+use Rattle.mime_lookup.proofs.ContentLemmas.ReadHalves.{reads_early}
+use Rattle.mime_lookup.proofs.StopLemmas.StepStops.{not_ok, passed_on, stops_for, stops_then}
+use Rattle.mime_lookup.proofs.CostLemmas.UsedUp.{uses_up}
 use Rattle.mime_view.specs.Spending.{spending_of}
 use Rattle.mime_lookup.proofs.cached.open_and_find.Goals as goal
 

@@ -3,11 +3,11 @@ use Rattle.mime_base.specs.Cache.Bytes.{field}
 use Rattle.mime_lookup.specs.Cached.{cause_of}
 use Rattle.mime_lookup.specs.CheckingOrder.{read_limit}
 use Rattle.mime_lookup.specs.StepFaults.{of_magic}
-use Rattle.mime_lookup.proofs.ByContents.{content_magic}
-use Rattle.mime_lookup.proofs.FoundFronts.{limit-stated}
-use Rattle.mime_lookup.proofs.FrontLemmas.{enough_read}
-use Rattle.mime_lookup.proofs.PlacedFaults.{no_place}
-use Rattle.mime_lookup.proofs.StepStops.{passed_on, stops_for, stops_reading}
+use Rattle.mime_lookup.proofs.OrderLemmas.ByContents.{content_magic}
+use Rattle.mime_lookup.proofs.SniffLemmas.FoundFronts.{limit-stated}
+use Rattle.mime_lookup.proofs.SniffLemmas.Front.{enough_read}
+use Rattle.mime_lookup.proofs.StopLemmas.PlacedFaults.{no_place}
+use Rattle.mime_lookup.proofs.StopLemmas.StepStops.{passed_on, stops_for, stops_reading}
 use Rattle.mime_lookup.proofs.cached.read_content.Goals as goal
 
 pub returns-in_err-extent-clause-stops : goal.returns-in_err-extent-clause-stops

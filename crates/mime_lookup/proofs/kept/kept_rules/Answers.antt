@@ -1,7 +1,7 @@
 use Rattle.std.proofs.Common.{◌≡◌, take, take_all, true, false, sym, ◌∙◌}
 use Rattle.mime_base.specs.Kept.{hits}
 use Rattle.mime_base.specs.Matching.Matches.{rule_matches}
-use Rattle.mime_lookup.proofs.Hits.{keeps_more, keeps_all, hit_more, miss_more}
+use Rattle.mime_lookup.proofs.OrderLemmas.Hits.{keeps_more, keeps_all, hit_more, miss_more}
 use Rattle.mime_lookup.proofs.kept.kept_rules.Goals as goal
 use Rattle.mime_lookup.proofs.kept.kept_rules.Goals.{then-glob_matches+in_ok-offer, else-glob_matches}
 

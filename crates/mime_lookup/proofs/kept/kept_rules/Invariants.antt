@@ -1,6 +1,6 @@
 use Rattle.std.proofs.Common.{◌≡◌, take}
 use Rattle.mime_base.specs.Kept.{hits}
-use Rattle.mime_lookup.proofs.Hits.{KeepsBest}
+use Rattle.mime_lookup.proofs.OrderLemmas.Hits.{KeepsBest}
 use Rattle.mime_lookup.proofs.kept.kept_rules.Given as goal
 
 abbrev pub invariant-loop-rule : goal.invariant-loop-rule

@@ -3,7 +3,7 @@ use Rattle.std.proofs.lemmas.Bool.{eqb-false}
 use Rattle.std.proofs.lemmas.Result.{IfOk-weaker}
 use denote.Bor.{Bor}
 use Rattle.mime_base.specs.Database.{pairs_of, plain_database}
-use Rattle.mime_lookup.proofs.Choices.{chooses-from_first}
+use Rattle.mime_lookup.proofs.OrderLemmas.Choices.{chooses-from_first}
 use Rattle.mime_lookup.proofs.lists.choose.Goals as goal
 
 pub returns-clause-chosen : goal.returns-clause-chosen

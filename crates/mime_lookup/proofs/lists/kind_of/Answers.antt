@@ -5,9 +5,9 @@ use Rattle.mime_base.specs.Database.{pairs_of, plain_database}
 use Rattle.mime_lookup.specs.Ancestry.{kinds_of}
 use Rattle.mime_lookup.specs.CheckingOrder.{IsSniffed, are_one_type, read_limit}
 use Rattle.mime_lookup.specs.Choice.{ChoosesAmong}
-use Rattle.mime_lookup.proofs.Answering.{by_globs, by_globs_and_content, by_magic, by_magic_and_globs, first_text}
-use Rattle.mime_lookup.proofs.Answering.{read_first, read_front, read_none, suffice, suffice_not}
-use Rattle.mime_lookup.proofs.ReadsLemmas.{asks_nothing, asks_stopped, reads_nothing, reads_stopped}
+use Rattle.mime_lookup.proofs.OrderLemmas.Answering.{by_globs, by_globs_and_content, by_magic, by_magic_and_globs, first_text}
+use Rattle.mime_lookup.proofs.OrderLemmas.Answering.{read_first, read_front, read_none, suffice, suffice_not}
+use Rattle.mime_lookup.proofs.ContentLemmas.Reads.{asks_nothing, asks_stopped, reads_nothing, reads_stopped}
 use Rattle.mime_lookup.proofs.lists.kind_of.Goals as goal
 
 pub returns-then-are_one_type-clause-chosen : goal.returns-then-are_one_type-clause-chosen

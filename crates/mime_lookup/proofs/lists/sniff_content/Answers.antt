@@ -1,7 +1,7 @@
 use Rattle.std.proofs.Common.{◌≤◌, length, arith}
 use Rattle.mime_base.specs.Database.{plain_database}
 use Rattle.mime_lookup.specs.CheckingOrder.{read_limit}
-use Rattle.mime_lookup.proofs.Sniffs.{front_size-known, is_sniffed-known}
+use Rattle.mime_lookup.proofs.SniffLemmas.Sniffs.{front_size-known, is_sniffed-known}
 use Rattle.mime_lookup.proofs.lists.sniff_content.Goals as goal
 
 pub returns-in_ok-front-in-Some-clause-sniffed : goal.returns-in_ok-front-in-Some-clause-sniffed

@@ -2,7 +2,7 @@ use Rattle.std.proofs.Common.{◌≡◌, true, false, ap, sym, ◌∙◌, bytes_
 use Rattle.std.proofs.lemmas.List.{drop_all}
 use Rattle.mime_base.specs.Database.PlainPairs.{plain_pairs}
 use Rattle.mime_base.specs.Database.Subclass.{resolved}
-use Rattle.mime_lookup.proofs.PairSteps.{items_from, resolved-here, resolved-past, resolved-nil}
+use Rattle.mime_lookup.proofs.AncestryLemmas.PairSteps.{items_from, resolved-here, resolved-past, resolved-nil}
 use Rattle.mime_lookup.proofs.pairs.resolve.Goals as goal
 
 pub returns-then-is_same : goal.returns-then-is_same

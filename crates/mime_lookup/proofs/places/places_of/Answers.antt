@@ -2,7 +2,7 @@ use Rattle.std.proofs.Common.{◌≡◌, ◌+◌, ◌-◌, ◌<◌, ◌∙◌, l
 use Rattle.std.specs.Map.{lookup, update}
 use Rattle.std.proofs.lemmas.Map.Text.{hash_map_updates_str}
 use Rattle.mime_lookup.specs.Places.{IsIndexed, place_in}
-use Rattle.mime_lookup.proofs.PlacesLemmas.{indexed-more, indexed-none}
+use Rattle.mime_lookup.proofs.AncestryLemmas.Places.{indexed-more, indexed-none}
 use Rattle.mime_lookup.proofs.places.places_of.Goals as goal
 
 pub loop-place-init : goal.loop-place-init

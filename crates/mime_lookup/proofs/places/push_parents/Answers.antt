@@ -5,7 +5,7 @@ use Rattle.mime_base.specs.Database.PlainPairs.{plain_pairs}
 use Rattle.mime_base.specs.Database.Subclass.{above, resolved}
 use Rattle.mime_lookup.specs.Ancestry.{kinds_of}
 use Rattle.mime_lookup.specs.Places.{IsNext, place_in}
-use Rattle.mime_lookup.proofs.Walks.{Walked, places_left-falls, walked-all, walked-first, walked-more}
+use Rattle.mime_lookup.proofs.AncestryLemmas.Walks.{Walked, places_left-falls, walked-all, walked-first, walked-more}
 use Rattle.mime_lookup.proofs.places.push_parents.Goals as goal
 
 pub loop-place-init : goal.loop-place-init

@@ -3,7 +3,7 @@ use Rattle.std.specs.VecDeque.{deque_len}
 use Rattle.mime_base.specs.Database.PlainPairs.{plain_pairs}
 use Rattle.mime_base.specs.Database.Subclass.{resolved}
 use Rattle.mime_lookup.specs.Ancestry.{kinds_of}
-use Rattle.mime_lookup.proofs.Walks.{Walked, places_left}
+use Rattle.mime_lookup.proofs.AncestryLemmas.Walks.{Walked, places_left}
 use Rattle.mime_lookup.proofs.places.push_parents.Given as goal
 
 abbrev pub invariant-loop-place : goal.invariant-loop-place

@@ -1,7 +1,7 @@
 use Rattle.std.proofs.Common.{◌-◌, ◌++◌, List, ℕ, take, arith, rules}
 use Rattle.std.proofs.lemmas.List.{length-append, length-take-le}
 use Rattle.std.proofs.KnownBytes.{Consumes-trans}
-use Rattle.mime_lookup.proofs.Tallies.{interrupts-trans}
+use Rattle.mime_lookup.proofs.ContentLemmas.Tallies.{interrupts-trans}
 use Rattle.mime_lookup.proofs.reading.read_front.Goals as goal
 
 pub returns-in_err-count-clause-reader : goal.returns-in_err-count-clause-reader

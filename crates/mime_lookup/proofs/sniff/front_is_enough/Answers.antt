@@ -1,4 +1,4 @@
-use Rattle.mime_lookup.proofs.Sniffs.{front_is_enough}
+use Rattle.mime_lookup.proofs.SniffLemmas.Sniffs.{front_is_enough}
 use Rattle.mime_lookup.proofs.sniff.front_is_enough.Goals as goal
 
 pub returns : goal.returns

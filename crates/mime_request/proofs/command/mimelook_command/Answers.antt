@@ -1,6 +1,6 @@
 use Rattle.clap.specs.Words.{app_of}
 use Rattle.mime_request.specs.CommandLine.{icon_app, is_a_app, list_app, type_app}
-use Rattle.mime_request.proofs.AddedRules.{with_one_command}
+use Rattle.mime_request.proofs.CommandLemmas.AddedRules.{with_one_command}
 use Rattle.mime_request.proofs.command.mimelook_command.Goals as goal
 
 pub returns : goal.returns

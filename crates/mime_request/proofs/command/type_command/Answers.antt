@@ -1,6 +1,6 @@
 use Rattle.std.proofs.Common.{◌∙◌, ap}
 use Rattle.mime_request.specs.CommandLine.{with_looks, with_output}
-use Rattle.mime_request.proofs.AddedRules.{with_one_more}
+use Rattle.mime_request.proofs.CommandLemmas.AddedRules.{with_one_more}
 use Rattle.mime_request.proofs.command.type_command.Goals as goal
 
 pub returns-clause-app : goal.returns-clause-app

@@ -1,5 +1,5 @@
 use Rattle.std.proofs.Common.{◌∙◌, refl}
-use Rattle.mime_request.proofs.AddedRules.{no_more_globals, with_one_more}
+use Rattle.mime_request.proofs.CommandLemmas.AddedRules.{no_more_globals, with_one_more}
 use Rattle.mime_request.proofs.command.with_looks.Goals as goal
 
 pub returns-clause-app : goal.returns-clause-app

@@ -1,6 +1,6 @@
 use Rattle.std.proofs.Common.{map}
 use Rattle.clap.specs.Words.{app_of}
-use Rattle.mime_request.proofs.Meanings.{clap_finds}
+use Rattle.mime_request.proofs.MeaningLemmas.Meanings.{clap_finds}
 use Rattle.mime_request.proofs.request.matches_of.Goals as goal
 
 pub returns : goal.returns

@@ -1,6 +1,6 @@
 use Rattle.std.proofs.Common.{map}
 use Rattle.std.proofs.lemmas.Result.{err_from_is_err_and}
-use Rattle.mime_request.proofs.Meanings.{error_means, matches_mean}
+use Rattle.mime_request.proofs.MeaningLemmas.Meanings.{error_means, matches_mean}
 use Rattle.mime_request.proofs.request.request_of.Goals as goal
 
 pub returns-in_err-matches : goal.returns-in_err-matches

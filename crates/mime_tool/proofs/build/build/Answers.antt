@@ -1,7 +1,7 @@
 use Rattle.std.proofs.lemmas.Result.{err_from_is_err_and}
 use Rattle.mime_request.specs.Request.{plain_directories}
 use Rattle.mime_tool.specs.Environment.{known_environment}
-use Rattle.mime_tool.proofs.Builds.{builds_loaded, builds_unloaded}
+use Rattle.mime_tool.proofs.BuildLemmas.Builds.{builds_loaded, builds_unloaded}
 use Rattle.mime_tool.proofs.build.build.Goals as goal
 
 pub returns-in_err-database : goal.returns-in_err-database

@@ -1,6 +1,6 @@
 use Rattle.std.proofs.lemmas.Result.{err_from_is_err_and}
 use Rattle.mime_base.specs.Database.{plain_database}
-use Rattle.mime_tool.proofs.BuildOvers.{builds_stored, builds_uncached, builds_unstored}
+use Rattle.mime_tool.proofs.BuildLemmas.BuildOvers.{builds_stored, builds_uncached, builds_unstored}
 use Rattle.mime_tool.proofs.build.store.Goals as goal
 
 pub returns-in_err-cache : goal.returns-in_err-cache

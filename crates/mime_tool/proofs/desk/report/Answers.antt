@@ -1,7 +1,7 @@
 use Rattle.std.proofs.Common.{◌∙◌, refl}
 use Rattle.std.proofs.lemmas.Result.{err_from_is_err_and}
 use Rattle.mime_tool.specs.Run.{refusal, said}
-use Rattle.mime_tool.proofs.Desks.{does_nothing}
+use Rattle.mime_tool.proofs.DeskLemmas.Desks.{does_nothing}
 use Rattle.mime_tool.proofs.desk.report.Goals as goal
 
 pub returns-in_err-text : goal.returns-in_err-text

@@ -3,8 +3,8 @@ use Rattle.mime_base.specs.Database.{PlainDatabase, plain_database}
 use Rattle.mime_base.specs.declared.database.Database.{Database}
 use Rattle.mime_tool.specs.Directories.{IsDatabase}
 use Rattle.mime_tool.specs.Environment.{plain_environment, user_directories}
-use Rattle.mime_tool.proofs.Loads.{works_nothing}
-use Rattle.mime_tool.proofs.Merges.{can_be_database}
+use Rattle.mime_tool.proofs.RunLemmas.Loads.{works_nothing}
+use Rattle.mime_tool.proofs.DirectoryLemmas.Merges.{can_be_database}
 use Rattle.mime_tool.proofs.directories.load_by.Goals as goal
 
 pub returns-in_err-own : goal.returns-in_err-own

@@ -1,6 +1,6 @@
 use Rattle.std.proofs.lemmas.Result.{err_from_is_err_and}
 use Rattle.clap.specs.Walk.{texts}
-use Rattle.mime_tool.proofs.Merges.{database_noticed, database_unnoticed}
+use Rattle.mime_tool.proofs.DirectoryLemmas.Merges.{database_noticed, database_unnoticed}
 use Rattle.mime_tool.proofs.directories.load_these.Goals as goal
 
 pub returns-in_err-notice_missing : goal.returns-in_err-notice_missing

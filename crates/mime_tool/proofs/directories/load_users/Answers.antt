@@ -1,4 +1,4 @@
-use Rattle.mime_tool.proofs.Commands.{users_unknown}
+use Rattle.mime_tool.proofs.RunLemmas.Commands.{users_unknown}
 use Rattle.mime_tool.proofs.directories.load_users.Goals as goal
 
 pub returns-in-None : goal.returns-in-None

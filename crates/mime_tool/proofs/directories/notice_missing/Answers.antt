@@ -1,7 +1,7 @@
 use Rattle.std.proofs.Common.{◌∙◌}
 use Rattle.std.proofs.lemmas.Result.{err_from_is_err_and}
 use Rattle.clap.specs.Walk.{texts}
-use Rattle.mime_tool.proofs.Notices.{noticed_empty, noticed_none, noticed_nothing, noticed_one}
+use Rattle.mime_tool.proofs.DirectoryLemmas.Notices.{noticed_empty, noticed_none, noticed_nothing, noticed_one}
 use Rattle.mime_tool.proofs.directories.notice_missing.Goals as goal
 
 pub returns-then-is_empty : goal.returns-then-is_empty

@@ -1,6 +1,6 @@
 use Rattle.std.proofs.Common.{◌<◌, Bor, List, ℕ, [], arith, length}
 use Rattle.std.proofs.lemmas.Result.{err_from_is_err_and}
-use Rattle.mime_tool.proofs.DirectoryLoops.{reads_full_at, reads_more_at, reads_none, reads_stop_at}
+use Rattle.mime_tool.proofs.DirectoryLemmas.DirectoryLoops.{reads_full_at, reads_more_at, reads_none, reads_stop_at}
 use Rattle.mime_tool.proofs.directories.read_directories.Goals as goal
 
 abbrev no_text : Bor (List ℕ)

@@ -3,7 +3,7 @@ use Rattle.clap.specs.Walk.{texts}
 use Rattle.mime_tool.specs.Desk.{Works}
 use Rattle.mime_tool.specs.Directories.{AreDirectories}
 use Rattle.mime_tool.specs.Loading.{Loads}
-use Rattle.mime_tool.proofs.DirectoryLoops.{plain_of}
+use Rattle.mime_tool.proofs.DirectoryLemmas.DirectoryLoops.{plain_of}
 use Rattle.mime_tool.proofs.directories.read_directories.Given as goal
 
 abbrev pub invariant-loop-directory : goal.invariant-loop-directory

@@ -1,8 +1,8 @@
 use Rattle.std.proofs.Common.{refl}
 use Rattle.std.proofs.lemmas.Result.{err_from_is_err_and}
-use Rattle.mime_tool.proofs.DirectorySteps.{aliases_read, aliases_unread, generic_read, generic_unread, globs_read, globs_unread}
-use Rattle.mime_tool.proofs.DirectorySteps.{icons_read}
-use Rattle.mime_tool.proofs.DirectorySteps.{icons_unread, magic_read, magic_unread, subclasses_read, subclasses_unread}
+use Rattle.mime_tool.proofs.DirectoryLemmas.DirectorySteps.{aliases_read, aliases_unread, generic_read, generic_unread, globs_read, globs_unread}
+use Rattle.mime_tool.proofs.DirectoryLemmas.DirectorySteps.{icons_read}
+use Rattle.mime_tool.proofs.DirectoryLemmas.DirectorySteps.{icons_unread, magic_read, magic_unread, subclasses_read, subclasses_unread}
 use Rattle.mime_tool.proofs.directories.read_directory.Goals as goal
 
 pub returns-in_err-globs : goal.returns-in_err-globs

@@ -1,7 +1,7 @@
 use Rattle.std.proofs.lemmas.Result.{err_from_is_err_and}
 use Rattle.mime_lookup.specs.CheckingOrder.{globs_suffice}
-use Rattle.mime_tool.proofs.AnswersFrom.{comes_over, fault_accepted, fault_refused, never_refused}
-use Rattle.mime_tool.proofs.ContentReaders.{asks_early, asks_over, dirs_early, reader_early}
+use Rattle.mime_tool.proofs.AnswerLemmas.AnswersFrom.{comes_over, fault_accepted, fault_refused, never_refused}
+use Rattle.mime_tool.proofs.AnswerLemmas.ContentReaders.{asks_early, asks_over, dirs_early, reader_early}
 use Rattle.mime_tool.proofs.from_texts.answer.Goals as goal
 
 pub returns-in_err-database-clause-accepted : goal.returns-in_err-database-clause-accepted

@@ -3,10 +3,10 @@ use Rattle.std.proofs.lemmas.Result.{err_from_is_err_and}
 use Rattle.mime_base.specs.Format.Packed.{Packed}
 use Rattle.mime_base.specs.Format.Spells.{Spells}
 use Rattle.mime_lookup.specs.CheckingOrder.{globs_suffice}
-use Rattle.mime_lookup.proofs.SpelledParts.{spelled_globs}
-use Rattle.mime_tool.proofs.AnswersOver.{answer_over, stopped_over}
-use Rattle.mime_tool.proofs.CachedStops.{read_or_memory}
-use Rattle.mime_tool.proofs.ContentReaders.{asks_stopped, reader_lost, reader_stopped}
+use Rattle.mime_lookup.proofs.LookUpLemmas.SpelledParts.{spelled_globs}
+use Rattle.mime_tool.proofs.AnswerLemmas.AnswersOver.{answer_over, stopped_over}
+use Rattle.mime_tool.proofs.AnswerLemmas.CachedStops.{read_or_memory}
+use Rattle.mime_tool.proofs.AnswerLemmas.ContentReaders.{asks_stopped, reader_lost, reader_stopped}
 use Rattle.mime_tool.proofs.from_texts.answer_by.Goals as goal
 
 pub returns-in_err-answer-clause-comes : goal.returns-in_err-answer-clause-comes

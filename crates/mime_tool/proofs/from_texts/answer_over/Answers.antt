@@ -1,7 +1,7 @@
 use Rattle.std.proofs.lemmas.Result.{err_from_is_err_and}
 use Rattle.mime_base.specs.Database.{plain_database}
 use Rattle.mime_lookup.specs.CheckingOrder.{globs_suffice}
-use Rattle.mime_tool.proofs.ContentReaders.{asks_early, reader_early, store_early}
+use Rattle.mime_tool.proofs.AnswerLemmas.ContentReaders.{asks_early, reader_early, store_early}
 use Rattle.mime_tool.proofs.from_texts.answer_over.Goals as goal
 
 pub returns-in_err-cache-clause-reader : goal.returns-in_err-cache-clause-reader

@@ -1,7 +1,7 @@
 use Rattle.std.proofs.Common.{◌<◌, arith, length}
 use Rattle.std.proofs.lemmas.Result.{err_from_is_err_and}
 use Rattle.mime_text.specs.Merging.{plain_dirs}
-use Rattle.mime_tool.proofs.SaidDirs.{fault_at, say_more}
+use Rattle.mime_tool.proofs.DirectoryLemmas.SaidDirs.{fault_at, say_more}
 use Rattle.mime_tool.proofs.from_texts.read_dirs.Goals as goal
 
 pub returns-in_err-read-clause-fault : goal.returns-in_err-read-clause-fault

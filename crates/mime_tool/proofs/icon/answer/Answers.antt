@@ -5,8 +5,8 @@ use Rattle.mime_lookup.specs.declared.cached.icons.Icons.{Icons}
 use Rattle.mime_tool.specs.Cache.{IsAnsweredOr}
 use Rattle.mime_tool.specs.Icon.{AreIconLines, AreIconsOf, RefusesIcons, printed_icons}
 use Rattle.mime_tool.specs.Run.{printed}
-use Rattle.mime_tool.proofs.Caches.{cache_refused}
-use Rattle.mime_tool.proofs.Desks.{ends_undone}
+use Rattle.mime_tool.proofs.CacheLemmas.Caches.{cache_refused}
+use Rattle.mime_tool.proofs.DeskLemmas.Desks.{ends_undone}
 use Rattle.mime_tool.proofs.icon.answer.Goals as goal
 
 pub returns-in_err-icons : goal.returns-in_err-icons

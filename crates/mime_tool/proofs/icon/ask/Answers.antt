@@ -3,8 +3,8 @@ use Rattle.mime_lookup.specs.Icons.{plain_icons_of}
 use Rattle.mime_lookup.specs.StepFaults.{IsIconFault}
 use Rattle.mime_lookup.specs.declared.cached.icons.Icons.{Icons}
 use Rattle.mime_tool.specs.Icon.{AreIconsOf}
-use Rattle.mime_tool.proofs.Caches.{stopped_refused}
-use Rattle.mime_tool.proofs.Spelled.{spelled_icons}
+use Rattle.mime_tool.proofs.CacheLemmas.Caches.{stopped_refused}
+use Rattle.mime_tool.proofs.CacheLemmas.Spelled.{spelled_icons}
 use Rattle.mime_tool.proofs.icon.ask.Goals as goal
 
 pub returns-in-Ok : goal.returns-in-Ok

@@ -1,8 +1,8 @@
 use Rattle.std.proofs.Common.{◌≡◌, Bool, [], inl, refl}
 use Rattle.std.proofs.lemmas.Result.{err_from_is_err_and}
 use Rattle.mime_tool.specs.IsA.{IsAnswerOf, IsAnswerOver, IsSaid, RefusesPairs, answer_run}
-use Rattle.mime_tool.proofs.Caches.{cache_refused}
-use Rattle.mime_tool.proofs.Programs.{ends_weaker}
+use Rattle.mime_tool.proofs.CacheLemmas.Caches.{cache_refused}
+use Rattle.mime_tool.proofs.RunLemmas.Programs.{ends_weaker}
 use Rattle.mime_tool.proofs.is_a.answer.Goals as goal
 
 pub returns-in_err-yes : goal.returns-in_err-yes

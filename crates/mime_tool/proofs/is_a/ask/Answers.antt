@@ -2,8 +2,8 @@ use Rattle.std.proofs.Common.{Bool}
 use Rattle.std.specs.Bool.{⊤}
 use Rattle.mime_lookup.specs.StepFaults.{IsLookUpFault}
 use Rattle.mime_tool.specs.IsA.{IsSaid}
-use Rattle.mime_tool.proofs.Caches.{stopped_refused}
-use Rattle.mime_tool.proofs.Spelled.{spelled_pairs}
+use Rattle.mime_tool.proofs.CacheLemmas.Caches.{stopped_refused}
+use Rattle.mime_tool.proofs.CacheLemmas.Spelled.{spelled_pairs}
 use Rattle.mime_tool.proofs.is_a.ask.Goals as goal
 
 pub returns-in-Ok : goal.returns-in-Ok

@@ -2,7 +2,7 @@ use Rattle.std.proofs.Common.{◌≡◌, codes, false, refl, true}
 use Rattle.std.proofs.lemmas.Result.{err_from_is_err_and}
 use Rattle.mime_tool.specs.IsA.{answer_run}
 use Rattle.mime_tool.specs.Run.{Run}
-use Rattle.mime_tool.proofs.Desks.{other_unprinted}
+use Rattle.mime_tool.proofs.DeskLemmas.Desks.{other_unprinted}
 use Rattle.mime_tool.proofs.is_a.print_answer.Goals as goal
 
 pub returns-in_err-print_line : goal.returns-in_err-print_line

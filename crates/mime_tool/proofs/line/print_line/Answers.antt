@@ -1,7 +1,7 @@
 use Rattle.std.proofs.Common.{◌∙◌}
 use Rattle.std.proofs.lemmas.Result.{err_from_is_err_and}
 use Rattle.mime_tool.specs.LineSteps.{plain_lookup}
-use Rattle.mime_tool.proofs.Lines.{comes_undone, comes_written}
+use Rattle.mime_tool.proofs.AnswerLemmas.Lines.{comes_undone, comes_written}
 use Rattle.mime_tool.proofs.line.print_line.Goals as goal
 
 pub returns-in_err-outcome : goal.returns-in_err-outcome

@@ -2,7 +2,7 @@ use Rattle.std.proofs.Common.{◌<◌, ◌∙◌, Bor, List, ℕ, [], length, ar
 use Rattle.std.proofs.lemmas.Result.{err_from_is_err_and}
 use Rattle.mime_tool.specs.Line.{IsTypeLine}
 use Rattle.mime_tool.specs.LineSteps.{plain_lookup}
-use Rattle.mime_tool.proofs.Texts.{ends_more_at, ends_stop_at}
+use Rattle.mime_tool.proofs.RunLemmas.Texts.{ends_more_at, ends_stop_at}
 use Rattle.mime_tool.proofs.line.print_lines.Goals as goal
 
 abbrev no_text : Bor (List ℕ)

@@ -1,6 +1,6 @@
 use Rattle.std.proofs.Common.{inl, refl}
 use Rattle.std.proofs.lemmas.Result.{err_from_is_err_and}
-use Rattle.mime_tool.proofs.Ends.{writes_same}
+use Rattle.mime_tool.proofs.RunLemmas.Ends.{writes_same}
 use Rattle.mime_tool.proofs.line.print_outcome.Goals as goal
 
 pub returns-in_err-name : goal.returns-in_err-name

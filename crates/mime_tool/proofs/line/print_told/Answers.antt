@@ -3,7 +3,7 @@ use Rattle.std.proofs.lemmas.Result.{err_from_is_err_and}
 use Rattle.mime_tool.specs.LineSteps.{tail_of}
 use Rattle.mime_tool.specs.Output.{answer_of}
 use Rattle.mime_tool.specs.Run.{printed}
-use Rattle.mime_tool.proofs.Desks.{does_nothing}
+use Rattle.mime_tool.proofs.DeskLemmas.Desks.{does_nothing}
 use Rattle.mime_tool.proofs.line.print_told.Goals as goal
 
 pub returns-in_err-tail-in-Some : goal.returns-in_err-tail-in-Some

@@ -3,7 +3,7 @@ use Rattle.std.proofs.lemmas.Result.{err_from_is_err_and}
 use Rattle.mime_tool.specs.LineSteps.{tail_of}
 use Rattle.mime_tool.specs.Output.{answer_of, written}
 use Rattle.mime_tool.specs.Run.{Run, printed}
-use Rattle.mime_tool.proofs.Desks.{ends_undone}
+use Rattle.mime_tool.proofs.DeskLemmas.Desks.{ends_undone}
 use Rattle.mime_tool.proofs.line.print_type.Goals as goal
 
 pub returns-in_err-print_kind : goal.returns-in_err-print_kind

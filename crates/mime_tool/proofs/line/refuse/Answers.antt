@@ -1,7 +1,7 @@
 use Rattle.std.proofs.Common.{◌≡◌, refl}
 use Rattle.std.proofs.lemmas.Result.{err_from_is_err_and}
 use Rattle.mime_tool.specs.Run.{Run, refusal, unanswered}
-use Rattle.mime_tool.proofs.Desks.{other_unsaid}
+use Rattle.mime_tool.proofs.DeskLemmas.Desks.{other_unsaid}
 use Rattle.mime_tool.proofs.line.refuse.Goals as goal
 
 pub returns-in_err-report : goal.returns-in_err-report

@@ -3,7 +3,7 @@ use Rattle.std.proofs.lemmas.Result.{err_from_is_err_and}
 use Rattle.mime_request.specs.Request.{plain_source}
 use Rattle.mime_tool.specs.Environment.{known_environment}
 use Rattle.mime_tool.specs.List.{IsListOver}
-use Rattle.mime_tool.proofs.SourceCommands.{source_read, source_unread}
+use Rattle.mime_tool.proofs.RunLemmas.SourceCommands.{source_read, source_unread}
 use Rattle.mime_tool.proofs.list.list.Goals as goal
 
 pub returns-in_err-cache : goal.returns-in_err-cache

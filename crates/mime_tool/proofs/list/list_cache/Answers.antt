@@ -7,9 +7,9 @@ use Rattle.mime_view.specs.declared.rules.listing.Listed.{Listed}
 use Rattle.mime_tool.specs.Cache.{IsAnsweredOr}
 use Rattle.mime_tool.specs.List.{AreRuleLines, AreRulesOf, RefusesRules, rule_line}
 use Rattle.mime_tool.specs.Run.{printed}
-use Rattle.mime_tool.proofs.Caches.{cache_refused}
-use Rattle.mime_tool.proofs.Desks.{ends_undone}
-use Rattle.mime_tool.proofs.ListedRules.{lines_answer}
+use Rattle.mime_tool.proofs.CacheLemmas.Caches.{cache_refused}
+use Rattle.mime_tool.proofs.DeskLemmas.Desks.{ends_undone}
+use Rattle.mime_tool.proofs.CacheLemmas.ListedRules.{lines_answer}
 use Rattle.mime_tool.proofs.list.list_cache.Goals as goal
 
 pub returns-in_err-rules : goal.returns-in_err-rules

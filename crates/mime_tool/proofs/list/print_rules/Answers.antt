@@ -2,7 +2,7 @@ use Rattle.std.proofs.Common.{◌<◌, ◌∙◌, length, arith}
 use Rattle.std.proofs.lemmas.Result.{err_from_is_err_and}
 use Rattle.mime_view.specs.Listing.{plain_listed}
 use Rattle.mime_tool.specs.List.{rule_line}
-use Rattle.mime_tool.proofs.Desks.{prints_cut_at}
+use Rattle.mime_tool.proofs.DeskLemmas.Desks.{prints_cut_at}
 use Rattle.mime_tool.proofs.list.print_rules.Goals as goal
 
 pub returns-in_err-print_rule : goal.returns-in_err-print_rule

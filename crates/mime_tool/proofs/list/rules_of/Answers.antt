@@ -1,7 +1,7 @@
 use Rattle.std.proofs.Common.{◌≡◌, ◌∙◌}
 use Rattle.std.proofs.lemmas.Result.{err_from_is_err_and}
-use Rattle.mime_tool.proofs.Headers.{spelled_opens}
-use Rattle.mime_tool.proofs.ListedRules.{rules_faulty, rules_found, rules_needed}
+use Rattle.mime_tool.proofs.CacheLemmas.Headers.{spelled_opens}
+use Rattle.mime_tool.proofs.CacheLemmas.ListedRules.{rules_faulty, rules_found, rules_needed}
 use Rattle.mime_tool.proofs.list.rules_of.Goals as goal
 
 pub returns-in_err-cache-clause-need : goal.returns-in_err-cache-clause-need

@@ -3,7 +3,7 @@ use Rattle.std.specs.declared.alloc.Global.{Global}
 use Rattle.mime_view.specs.Listing.{plain_listed}
 use Rattle.mime_view.specs.declared.rules.listing.Listed.{Listed}
 use Rattle.mime_tool.specs.List.{AreRulesOf, HasListedRules, IsListFault}
-use Rattle.mime_tool.proofs.Caches.{refused_for}
+use Rattle.mime_tool.proofs.CacheLemmas.Caches.{refused_for}
 use Rattle.mime_tool.proofs.list.rules_or_stop.Goals as goal
 
 pub returns-in-Err : goal.returns-in-Err

@@ -6,8 +6,8 @@ use Rattle.mime_base.specs.declared.database.Database.{Database}
 use Rattle.mime_request.specs.Request.{plain_directories}
 use Rattle.mime_tool.specs.Environment.{known_environment}
 use Rattle.mime_tool.specs.Plain.{AreTypeLines}
-use Rattle.mime_tool.proofs.Commands.{command_over, command_unloaded}
-use Rattle.mime_tool.proofs.Lines.{no_lines}
+use Rattle.mime_tool.proofs.RunLemmas.Commands.{command_over, command_unloaded}
+use Rattle.mime_tool.proofs.AnswerLemmas.Lines.{no_lines}
 use Rattle.mime_tool.proofs.plain.print_types.Goals as goal
 
 pub returns-in_err-database : goal.returns-in_err-database

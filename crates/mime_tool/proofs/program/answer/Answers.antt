@@ -1,4 +1,4 @@
-use Rattle.mime_tool.proofs.Programs.{answers_build}
+use Rattle.mime_tool.proofs.RunLemmas.Programs.{answers_build}
 use Rattle.mime_tool.proofs.program.answer.Goals as goal
 
 pub returns-in-Build : goal.returns-in-Build

@@ -1,4 +1,4 @@
-use Rattle.mime_tool.proofs.Programs.{answers_asked, answers_error}
+use Rattle.mime_tool.proofs.RunLemmas.Programs.{answers_asked, answers_error}
 use Rattle.mime_tool.proofs.program.answer_words.Goals as goal
 
 pub returns-in-Ok : goal.returns-in-Ok

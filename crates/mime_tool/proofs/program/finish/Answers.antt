@@ -4,7 +4,7 @@ use Rattle.mime_tool.specs.Environment.{known_environment}
 use Rattle.mime_tool.specs.Finish.{Sinks}
 use Rattle.mime_tool.specs.Program.{IsAnswer, files_of}
 use Rattle.mime_tool.specs.Stop.{TellsStop}
-use Rattle.mime_tool.proofs.Endings.{ends_known, finishes_done, finishes_told, handed_on, handed_on_told}
+use Rattle.mime_tool.proofs.RunLemmas.Endings.{ends_known, finishes_done, finishes_told, handed_on, handed_on_told}
 use Rattle.mime_tool.proofs.program.finish.Goals as goal
 
 pub returns-in-Ok-clause-answers : goal.returns-in-Ok-clause-answers

@@ -1,4 +1,4 @@
-use Rattle.mime_tool.proofs.Sinks.{flushed}
+use Rattle.mime_tool.proofs.DeskLemmas.Sinks.{flushed}
 use Rattle.mime_tool.proofs.program.flush_after.Goals as goal
 
 pub returns-in_err-status-clause-kept : goal.returns-in_err-status-clause-kept

@@ -1,6 +1,6 @@
 use Rattle.std.proofs.Common.{map}
 use Rattle.mime_tool.specs.Environment.{known_environment}
-use Rattle.mime_tool.proofs.Programs.{asked_finishes}
+use Rattle.mime_tool.proofs.RunLemmas.Programs.{asked_finishes}
 use Rattle.mime_tool.proofs.program.run.Goals as goal
 
 pub returns-clause-asked : goal.returns-clause-asked

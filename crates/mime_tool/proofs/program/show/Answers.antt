@@ -1,5 +1,5 @@
 use Rattle.clap.specs.Values.{kind_of}
-use Rattle.mime_tool.proofs.Programs.{shown_text}
+use Rattle.mime_tool.proofs.RunLemmas.Programs.{shown_text}
 use Rattle.mime_tool.proofs.program.show.Goals as goal
 
 pub returns : goal.returns

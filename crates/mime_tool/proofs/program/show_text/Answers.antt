@@ -2,7 +2,7 @@ use Rattle.std.proofs.Common.{◌≡◌, false, refl, true}
 use Rattle.std.proofs.lemmas.Result.{err_from_is_err_and}
 use Rattle.mime_tool.specs.Program.{shown}
 use Rattle.mime_tool.specs.Run.{Run, printed}
-use Rattle.mime_tool.proofs.Desks.{ends_undone, other_unsaid}
+use Rattle.mime_tool.proofs.DeskLemmas.Desks.{ends_undone, other_unsaid}
 use Rattle.mime_tool.proofs.program.show_text.Goals as goal
 
 pub returns-in_err-print_text : goal.returns-in_err-print_text

@@ -1,6 +1,6 @@
 use Rattle.std.proofs.Common.{◌<◌, Bor, List, ℕ, [], length, arith}
 use Rattle.std.proofs.lemmas.Result.{err_from_is_err_and}
-use Rattle.mime_tool.proofs.Sinks.{takes_pieces}
+use Rattle.mime_tool.proofs.DeskLemmas.Sinks.{takes_pieces}
 use Rattle.mime_tool.proofs.sink.put_all.Goals as goal
 
 abbrev no_piece : Bor (List ℕ)

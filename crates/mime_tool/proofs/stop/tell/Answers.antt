@@ -2,7 +2,7 @@ use Rattle.std.proofs.Common.{ℕ, Option, subst}
 use Rattle.std.specs.Prelude.{IsOk}
 use Rattle.mime_tool.specs.Run.{out_of_memory}
 use Rattle.mime_tool.specs.Sink.{HasRoom}
-use Rattle.mime_tool.proofs.Messages.{tells_memory, tells_stop}
+use Rattle.mime_tool.proofs.DeskLemmas.Messages.{tells_memory, tells_stop}
 use Rattle.mime_tool.proofs.stop.tell.Goals as goal
 
 pub returns-in-Ok : goal.returns-in-Ok

@@ -2,7 +2,7 @@ use Rattle.std.proofs.Common.{◌≡◌, refl}
 use Rattle.std.proofs.lemmas.Result.{err_from_is_err_and}
 use Rattle.mime_tool.specs.Run.{Run, mistaken}
 use Rattle.mime_tool.specs.TypeNames.{not_a_type}
-use Rattle.mime_tool.proofs.Desks.{other_unsaid}
+use Rattle.mime_tool.proofs.DeskLemmas.Desks.{other_unsaid}
 use Rattle.mime_tool.proofs.type_names.refuse.Goals as goal
 
 pub returns-in_err-report : goal.returns-in_err-report

@@ -4,7 +4,7 @@ use Rattle.clap.specs.Walk.{texts}
 use Rattle.mime_request.specs.Request.{plain_source}
 use Rattle.mime_tool.specs.Environment.{known_environment}
 use Rattle.mime_tool.specs.Types.{AreLinesBy}
-use Rattle.mime_tool.proofs.SourceCommands.{source_read, source_unread}
+use Rattle.mime_tool.proofs.RunLemmas.SourceCommands.{source_read, source_unread}
 use Rattle.mime_tool.proofs.types.print_types.Goals as goal
 
 pub returns-in_err-cache : goal.returns-in_err-cache

@@ -1,7 +1,7 @@
 use Rattle.std.proofs.Common.{◌≡◌, ◌+◌, [], length, get_or, arith, ◌∙◌, sym}
-use Rattle.mime_view.proofs.Lookups.{place_of-found, place_of-missed}
-use Rattle.mime_view.proofs.OneText.{one_text, other_text}
-use Rattle.mime_view.proofs.Places.{key_at}
+use Rattle.mime_view.proofs.SearchLemmas.Lookups.{place_of-found, place_of-missed}
+use Rattle.mime_view.proofs.ListLemmas.OneText.{one_text, other_text}
+use Rattle.mime_view.proofs.SearchLemmas.Places.{key_at}
 use Rattle.mime_view.proofs.entry.find_entry.Goals as goal
 
 pub returns-in_err-sought-clause-answer : goal.returns-in_err-sought-clause-answer

@@ -1,8 +1,8 @@
 use Rattle.std.proofs.Common.{◌<◌, sym, arith, length}
 use Rattle.std.proofs.lemmas.List.{take_all}
 use Rattle.mime_base.specs.Format.Stored.{glob_rules}
-use Rattle.mime_view.proofs.GlobLists.{finds_next, glob, glob_read, globs_count, globs_inside}
-use Rattle.mime_view.proofs.Steps.{finds_err, searches_then}
+use Rattle.mime_view.proofs.GlobLemmas.GlobLists.{finds_next, glob, glob_read, globs_count, globs_inside}
+use Rattle.mime_view.proofs.HitsLemmas.Steps.{finds_err, searches_then}
 use Rattle.mime_view.proofs.globs.glob_list_hits.Goals as goal
 
 pub returns-in_err-count-clause-finds : goal.returns-in_err-count-clause-finds

@@ -1,7 +1,7 @@
 use Rattle.std.proofs.Common.{arith, rules, length, refl, sym, ◌∙◌}
 use Rattle.mime_base.specs.Kept.{class_of}
-use Rattle.mime_view.proofs.GlobEntries.{entry_spends, entry_states, offers_match, offers_other, offers_unwanted, text_short}
-use Rattle.mime_view.proofs.OffersLemmas.{kept_unwanted}
+use Rattle.mime_view.proofs.GlobLemmas.GlobEntries.{entry_spends, entry_states, offers_match, offers_other, offers_unwanted, text_short}
+use Rattle.mime_view.proofs.HitsLemmas.Offers.{kept_unwanted}
 use Rattle.mime_view.proofs.globs.take_glob.Goals as goal
 
 pub rank_of_entry-requires : goal.rank_of_entry-requires

@@ -1,6 +1,6 @@
 use Rattle.std.proofs.Common.{◌≡◌, ◌∙◌, ℕ, List, length, map, ap, arith, rules}
 use Rattle.std.proofs.lemmas.List.{length-map, take_all}
-use Rattle.mime_view.proofs.KindTexts.{AreTexts-all, AreTexts-kinds, AreTexts-length, AreTexts-one, AreTexts-pushed, kind_stands}
+use Rattle.mime_view.proofs.HitsLemmas.KindTexts.{AreTexts-all, AreTexts-kinds, AreTexts-length, AreTexts-one, AreTexts-pushed, kind_stands}
 use Rattle.mime_view.proofs.kinds.read_kinds.Goals as goal
 
 pub returns-in_err-text-clause-need : goal.returns-in_err-text-clause-need

@@ -1,5 +1,5 @@
 use Rattle.std.proofs.Common.{◌≡◌, ◌+◌, ◌*◌, ◌≤◌, map, take}
-use Rattle.mime_view.proofs.KindTexts.{AreTexts}
+use Rattle.mime_view.proofs.HitsLemmas.KindTexts.{AreTexts}
 use Rattle.mime_view.proofs.kinds.read_kinds.Given as goal
 
 abbrev pub invariant-loop-kind : goal.invariant-loop-kind

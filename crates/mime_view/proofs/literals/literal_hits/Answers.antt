@@ -3,10 +3,10 @@ use Rattle.std.proofs.Math.Nat.{mul-le-mul_left}
 use Rattle.std.proofs.lemmas.Result.{err_from_is_err_and}
 use Rattle.mime_base.specs.Cache.Bytes.{field}
 use Rattle.mime_view.specs.Hits.{literal_visits, visits}
-use Rattle.mime_view.proofs.LiteralEntries.{texts_of}
-use Rattle.mime_view.proofs.LiteralPlaces.{placed_by, searched, some_visits, unmet, unmet_visits}
-use Rattle.mime_view.proofs.OffersLemmas.{offers_none}
-use Rattle.mime_view.proofs.Steps.{finds_within}
+use Rattle.mime_view.proofs.LiteralLemmas.LiteralEntries.{texts_of}
+use Rattle.mime_view.proofs.LiteralLemmas.LiteralPlaces.{placed_by, searched, some_visits, unmet, unmet_visits}
+use Rattle.mime_view.proofs.HitsLemmas.Offers.{offers_none}
+use Rattle.mime_view.proofs.HitsLemmas.Steps.{finds_within}
 use Rattle.mime_view.proofs.literals.literal_hits.Goals as goal
 
 pub returns-in_err-count-clause-finds : goal.returns-in_err-count-clause-finds

@@ -1,6 +1,6 @@
 use Rattle.std.proofs.Common.{sym, ◌∙◌, arith}
-use Rattle.mime_view.proofs.LiteralRuns.{ended, next}
-use Rattle.mime_view.proofs.Steps.{searches_err, searches_none, searches_ok, searches_then}
+use Rattle.mime_view.proofs.LiteralLemmas.LiteralRuns.{ended, next}
+use Rattle.mime_view.proofs.HitsLemmas.Steps.{searches_err, searches_none, searches_ok, searches_then}
 use Rattle.mime_view.proofs.literals.scan_entries.Goals as goal
 
 pub loop-i-init : goal.loop-i-init

@@ -4,7 +4,7 @@ use Rattle.mime_base.specs.declared.database.rule.GlobRule.{GlobRule}
 use Rattle.mime_view.specs.Lists.{IsTextFault}
 use Rattle.mime_view.specs.Literals.{AreRun, ReadsRules}
 use Rattle.mime_view.specs.Steps.{Searches}
-use Rattle.mime_view.proofs.LiteralRuns.{RunLeft}
+use Rattle.mime_view.proofs.LiteralLemmas.LiteralRuns.{RunLeft}
 use Rattle.mime_view.proofs.literals.scan_entries.Given as goal
 
 abbrev pub invariant-loop-i : goal.invariant-loop-i

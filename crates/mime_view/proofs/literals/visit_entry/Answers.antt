@@ -3,9 +3,9 @@ use Rattle.std.specs.Prelude.{bytes_eq}
 use Rattle.mime_base.specs.Cache.Bytes.{field}
 use Rattle.mime_base.specs.Cache.Texts.{text_at}
 use Rattle.mime_base.specs.Format.Stored.{stored_text}
-use Rattle.mime_view.proofs.LiteralEntries.{length-pattern}
-use Rattle.mime_view.proofs.Lookups.{equal_texts, other_texts}
-use Rattle.mime_view.proofs.OffersLemmas.{offers_none}
+use Rattle.mime_view.proofs.LiteralLemmas.LiteralEntries.{length-pattern}
+use Rattle.mime_view.proofs.SearchLemmas.Lookups.{equal_texts, other_texts}
+use Rattle.mime_view.proofs.HitsLemmas.Offers.{offers_none}
 use Rattle.mime_view.proofs.literals.visit_entry.Goals as goal
 
 pub returns-in_ok-offer_entry-in-Equal-clause-same : goal.returns-in_ok-offer_entry-in-Equal-clause-same

@@ -1,9 +1,9 @@
 use Rattle.std.proofs.Common.{◌≡◌, ◌+◌, ◌-◌, ℕ, suc, true, arith, refl, sym, subst}
 use Rattle.mime_base.specs.Magic.{are_allowed, bare, line}
 use Rattle.mime_view.specs.Magic.{AnswersLines, ReadsLines, line_price}
-use Rattle.mime_view.proofs.Costs.{spends_then}
-use Rattle.mime_view.proofs.LineParts.{last_level, line_alone, line_differs, line_parent, line_refused}
-use Rattle.mime_view.proofs.LinesLeft.{ended, next}
+use Rattle.mime_view.proofs.CostLemmas.Costs.{spends_then}
+use Rattle.mime_view.proofs.MagicLemmas.LineParts.{last_level, line_alone, line_differs, line_parent, line_refused}
+use Rattle.mime_view.proofs.MagicLemmas.LinesLeft.{ended, next}
 use Rattle.mime_view.proofs.magic.+sniffing.Goals as goal
 
 pub whole_line_holds-returns-then-not-equals-clause-line : goal.whole_line_holds-returns-then-not-equals-clause-line

@@ -3,7 +3,7 @@ use Rattle.mime_base.specs.Format.Magic.{width}
 use Rattle.mime_base.specs.Magic.{Forest}
 use Rattle.mime_view.specs.Magic.{ReadsLines, line_price}
 use Rattle.mime_view.specs.Spending.{Spends}
-use Rattle.mime_view.proofs.LinesLeft.{Left}
+use Rattle.mime_view.proofs.MagicLemmas.LinesLeft.{Left}
 use Rattle.mime_view.proofs.magic.+sniffing.Given as goal
 
 abbrev pub decreases-whole_line_holds : goal.decreases-whole_line_holds

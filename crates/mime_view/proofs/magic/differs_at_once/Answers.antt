@@ -1,5 +1,5 @@
 use Rattle.std.proofs.Common.{◌≡◌, ℕ, ◌+◌, ◌*◌, List, false, length, get_or, refl, arith, ap, ◌∙◌}
-use Rattle.mime_view.proofs.LineValues.{line_stated}
+use Rattle.mime_view.proofs.MagicLemmas.LineValues.{line_stated}
 use Rattle.mime_view.proofs.magic.differs_at_once.Goals as goal
 
 pub returns-then-differs-clause-line : goal.returns-then-differs-clause-line

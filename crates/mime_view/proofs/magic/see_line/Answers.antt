@@ -1,5 +1,5 @@
 use Rattle.std.proofs.Common.{◌≡◌, ℕ, ◌+◌, ◌*◌, List, length, get_or, refl, arith, ap, ◌∙◌}
-use Rattle.mime_view.proofs.LineValues.{line_stated}
+use Rattle.mime_view.proofs.MagicLemmas.LineValues.{line_stated}
 use Rattle.mime_view.proofs.magic.see_line.Goals as goal
 
 pub returns-clause-line : goal.returns-clause-line

@@ -1,6 +1,6 @@
 use Rattle.mime_view.specs.Magic.{section_price}
-use Rattle.mime_view.proofs.Costs.{spends_then}
-use Rattle.mime_view.proofs.SectionsLeft.{ended, next}
+use Rattle.mime_view.proofs.CostLemmas.Costs.{spends_then}
+use Rattle.mime_view.proofs.MagicLemmas.SectionsLeft.{ended, next}
 use Rattle.mime_view.proofs.magic.sniff_sections.Goals as goal
 
 pub returns-in_err-found-clause-sections : goal.returns-in_err-found-clause-sections

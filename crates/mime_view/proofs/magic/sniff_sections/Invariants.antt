@@ -2,7 +2,7 @@ use Rattle.std.proofs.Common.{List}
 use Rattle.mime_base.specs.Magic.{PlainSection}
 use Rattle.mime_view.specs.Magic.{ReadsMagic, section_price}
 use Rattle.mime_view.specs.Spending.{Spends}
-use Rattle.mime_view.proofs.SectionsLeft.{Left}
+use Rattle.mime_view.proofs.MagicLemmas.SectionsLeft.{Left}
 use Rattle.mime_view.proofs.magic.sniff_sections.Given as goal
 
 abbrev pub invariant-loop-i : goal.invariant-loop-i

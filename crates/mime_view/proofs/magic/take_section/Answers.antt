@@ -2,7 +2,7 @@ use Rattle.std.proofs.Common.{◌≡◌, ℕ, List, get_or, ap, subst, sym, ◌�
 use Rattle.mime_base.specs.Cache.Bytes.{field, fields}
 use Rattle.mime_view.specs.Magic.{ReadsLines}
 use Rattle.mime_view.specs.declared.spending.Spending.{Spending}
-use Rattle.mime_view.proofs.SectionParts.{section_holds, section_passes}
+use Rattle.mime_view.proofs.MagicLemmas.SectionParts.{section_holds, section_passes}
 use Rattle.mime_view.proofs.magic.take_section.Goals as goal
 
 pub returns-then-not-branch-clause-section : goal.returns-then-not-branch-clause-section

@@ -1,6 +1,6 @@
 use Rattle.std.proofs.Common.{◌∙◌, sym}
 use Rattle.std.proofs.lemmas.Result.{on_ok_weaker}
-use Rattle.mime_view.proofs.NameOffers.{kept_once, kept_twice, no_capitals}
+use Rattle.mime_view.proofs.HitsLemmas.NameOffers.{kept_once, kept_twice, no_capitals}
 use Rattle.mime_view.proofs.name.keep_hits.Goals as goal
 
 pub offer_once-requires : goal.offer_once-requires

@@ -1,7 +1,7 @@
 use Rattle.std.proofs.Common.{◌+◌, ◌*◌, length, arith}
 use Rattle.mime_base.specs.Format.Stored.{glob_rules}
 use Rattle.mime_view.specs.Hits.{tree_visits}
-use Rattle.mime_view.proofs.Steps.{finds_then}
+use Rattle.mime_view.proofs.HitsLemmas.Steps.{finds_then}
 use Rattle.mime_view.proofs.name.offer_once.Goals as goal
 
 pub returns-clause-finds : goal.returns-clause-finds

@@ -2,8 +2,8 @@ use Rattle.std.proofs.Common.{false, ◌+◌, length, sym, arith}
 use Rattle.mime_base.specs.Format.Stored.{glob_rules}
 use Rattle.mime_base.specs.Matching.Folding.{compared}
 use Rattle.mime_view.specs.Hits.{tree_visits}
-use Rattle.mime_view.proofs.NameOffers.{offered_parts}
-use Rattle.mime_view.proofs.Steps.{finds_then}
+use Rattle.mime_view.proofs.HitsLemmas.NameOffers.{offered_parts}
+use Rattle.mime_view.proofs.HitsLemmas.Steps.{finds_then}
 use Rattle.mime_view.proofs.name.offer_twice.Goals as goal
 
 pub returns-clause-finds : goal.returns-clause-finds

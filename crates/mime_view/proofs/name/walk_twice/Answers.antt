@@ -1,5 +1,5 @@
 use Rattle.std.proofs.Common.{arith}
-use Rattle.mime_view.proofs.Steps.{finds_then}
+use Rattle.mime_view.proofs.HitsLemmas.Steps.{finds_then}
 use Rattle.mime_view.proofs.name.walk_twice.Goals as goal
 
 pub returns-clause-finds : goal.returns-clause-finds

@@ -1,6 +1,6 @@
 use Rattle.std.proofs.Common.{◌+◌, ◌<◌, None, Some, length, arith, ◌∙◌, sym, ap}
 use Rattle.mime_base.specs.Cache.Texts.{text_at}
-use Rattle.mime_view.proofs.PairTexts.{looked_up-at, names, reads_keys, target_at}
+use Rattle.mime_view.proofs.ListLemmas.PairTexts.{looked_up-at, names, reads_keys, target_at}
 use Rattle.mime_view.proofs.pairs.look_up_pair.Goals as goal
 
 pub returns-in_err-entry-clause-answer : goal.returns-in_err-entry-clause-answer

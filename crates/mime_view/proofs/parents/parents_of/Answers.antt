@@ -1,8 +1,8 @@
 use Rattle.std.proofs.Common.{◌≡◌, true, false, ℕ, sym, subst, ◌∙◌, arith, inr, rules}
 use Rattle.std.proofs.lemmas.Result.{err_from_is_err_and}
 use Rattle.mime_view.specs.Parents.{IsTextsFault, ReadsTexts, has_place, parents_at}
-use Rattle.mime_view.proofs.ParentEntries.{entry_is, marked_parents, some_parent, unmarked_read}
-use Rattle.mime_view.proofs.TextLists.{texts-same, texts_stop}
+use Rattle.mime_view.proofs.ParentsLemmas.ParentEntries.{entry_is, marked_parents, some_parent, unmarked_read}
+use Rattle.mime_view.proofs.ListLemmas.TextLists.{texts-same, texts_stop}
 use Rattle.mime_view.proofs.parents.parents_of.Goals as goal
 
 pub returns-then-contains-clause-answer : goal.returns-then-contains-clause-answer

@@ -1,6 +1,6 @@
 use Rattle.std.proofs.Common.{◌+◌, arith, rules}
-use Rattle.mime_view.proofs.Costs.{spends_then}
-use Rattle.mime_view.proofs.TextLists.{KeysAt-pushed}
+use Rattle.mime_view.proofs.CostLemmas.Costs.{spends_then}
+use Rattle.mime_view.proofs.ListLemmas.TextLists.{KeysAt-pushed}
 use Rattle.mime_view.specs.Spending.{per_record}
 use Rattle.mime_view.proofs.parents.take_texts.Goals as goal
 

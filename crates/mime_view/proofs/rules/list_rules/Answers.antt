@@ -1,4 +1,4 @@
-use Rattle.mime_view.proofs.ListedTexts.{all_listed}
+use Rattle.mime_view.proofs.ListingLemmas.ListedTexts.{all_listed}
 use Rattle.mime_view.proofs.rules.list_rules.Goals as goal
 
 pub returns-clause-listed : goal.returns-clause-listed

@@ -1,11 +1,11 @@
 use Rattle.std.proofs.Common.{◌≡◌, ℕ, ◌+◌, ◌-◌, ◌*◌, ◌/◌, Equal, nat_cmp, true≢false, arith, ◌∙◌, sym, ap, get_or}
 use Rattle.std.specs.Cmp.Lexicographic.{slice_cmp}
-use Rattle.mime_view.proofs.EqualTexts.{equal_text}
+use Rattle.mime_view.proofs.ListLemmas.EqualTexts.{equal_text}
 use Rattle.mime_base.specs.Cache.Bytes.{field}
 use Rattle.mime_base.specs.Cache.Texts.{text_at}
-use Rattle.mime_view.proofs.Halving.{count_small, halved, few}
-use Rattle.mime_view.proofs.OneText.{same_text}
-use Rattle.mime_view.proofs.Places.{splits-found, key_at}
+use Rattle.mime_view.proofs.SearchLemmas.Halving.{count_small, halved, few}
+use Rattle.mime_view.proofs.ListLemmas.OneText.{same_text}
+use Rattle.mime_view.proofs.SearchLemmas.Places.{splits-found, key_at}
 use Rattle.mime_view.proofs.search.seek.Goals as goal
 
 pub returns-in_err-compare_text-clause-answer : goal.returns-in_err-compare_text-clause-answer

@@ -1,5 +1,5 @@
 use Rattle.std.proofs.Common.{arith, ◌∙◌, ap, sym, get_or}
-use Rattle.mime_view.proofs.TreeBlocks.{below_character-past, block_read, node_below, none_below}
+use Rattle.mime_view.proofs.SuffixTreeLemmas.TreeBlocks.{below_character-past, block_read, node_below, none_below}
 use Rattle.mime_view.proofs.suffixes.block_below.Goals as goal
 
 pub returns-then-byte-eq0-clause-below : goal.returns-then-byte-eq0-clause-below

@@ -1,6 +1,6 @@
 use Rattle.std.proofs.Common.{◌≡◌, ℕ, ◌+◌, ◌-◌, ◌*◌, ◌/◌, ◌<◌, arith, ◌∙◌, ap, subst, get_or}
 use Rattle.mime_base.specs.Cache.Bytes.{field}
-use Rattle.mime_view.proofs.Halving.{count_small, halved, few}
+use Rattle.mime_view.proofs.SearchLemmas.Halving.{count_small, halved, few}
 use Rattle.mime_view.proofs.suffixes.first_not_below.Goals as goal
 
 pub loop-low-preserved-then-character-from : goal.loop-low-preserved-then-character-from

@@ -1,6 +1,6 @@
 use Rattle.std.proofs.Common.{◌≡◌, ◌+◌, ◌*◌, arith, ◌∙◌, sym}
-use Rattle.mime_view.proofs.Steps.{searches_err, searches_none, searches_ok, searches_then}
-use Rattle.mime_view.proofs.TreeScans.{next_leaf, node_left, none_left, stopped}
+use Rattle.mime_view.proofs.HitsLemmas.Steps.{searches_err, searches_none, searches_ok, searches_then}
+use Rattle.mime_view.proofs.SuffixTreeLemmas.TreeScans.{next_leaf, node_left, none_left, stopped}
 use Rattle.mime_view.proofs.suffixes.leaf_hits.Goals as goal
 
 pub loop-i-init : goal.loop-i-init

@@ -2,7 +2,7 @@ use Rattle.std.specs.Prelude.{Ok}
 use Rattle.mime_base.specs.Format.Tree.{Tree}
 use Rattle.mime_view.specs.Steps.{Searches}
 use Rattle.mime_view.specs.SuffixTree.{ReadsBlock}
-use Rattle.mime_view.proofs.TreeScans.{ScanLeft}
+use Rattle.mime_view.proofs.SuffixTreeLemmas.TreeScans.{ScanLeft}
 use Rattle.mime_view.proofs.suffixes.leaf_hits.Given as goal
 
 abbrev pub invariant-loop-i : goal.invariant-loop-i

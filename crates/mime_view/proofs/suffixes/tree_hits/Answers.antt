@@ -1,8 +1,8 @@
 use Rattle.std.proofs.Common.{◌-◌, get_or, length, sym, refl, rules, arith, ◌∙◌, ap}
-use Rattle.mime_view.proofs.Steps.{finds_metered, searches_ok, searches_then}
-use Rattle.mime_view.proofs.TreeBegins.{nothing_sought}
-use Rattle.mime_view.proofs.TreePaths.{all_left, next, none_left}
-use Rattle.mime_view.proofs.TreeStands.{head_inside, roots_inside}
+use Rattle.mime_view.proofs.HitsLemmas.Steps.{finds_metered, searches_ok, searches_then}
+use Rattle.mime_view.proofs.SuffixTreeLemmas.TreeBegins.{nothing_sought}
+use Rattle.mime_view.proofs.SuffixTreeLemmas.TreePaths.{all_left, next, none_left}
+use Rattle.mime_view.proofs.SuffixTreeLemmas.TreeStands.{head_inside, roots_inside}
 use Rattle.mime_view.proofs.suffixes.tree_hits.Goals as goal
 
 pub returns-in_err-count-clause-finds : goal.returns-in_err-count-clause-finds

@@ -6,7 +6,7 @@ use Rattle.mime_base.specs.declared.database.rule.GlobRule.{GlobRule}
 use Rattle.mime_view.specs.Magic.{LiesBlock}
 use Rattle.mime_view.specs.Steps.{Searches}
 use Rattle.mime_view.specs.SuffixTree.{IsChildFault}
-use Rattle.mime_view.proofs.TreePaths.{WalkLeft}
+use Rattle.mime_view.proofs.SuffixTreeLemmas.TreePaths.{WalkLeft}
 use Rattle.mime_view.proofs.suffixes.tree_hits.Given as goal
 
 abbrev pub invariant-loop-depth : goal.invariant-loop-depth

@@ -5,8 +5,8 @@ use Rattle.mime_base.specs.Database.{pairs_of}
 use Rattle.mime_view.specs.declared.budget.Budget.{Budget}
 use Rattle.mime_lookup.specs.Ancestry.{kinds_of}
 use Rattle.mime_lookup.specs.Searching.{marked_by}
-use Rattle.mime_lookup.proofs.PairsLeft.{asked_falls, due_left}
-use Rattle.mime_lookup.proofs.ParentSteps.{asked, came, expanded_by}
+use Rattle.mime_lookup.proofs.AncestryLemmas.PairsLeft.{asked_falls, due_left}
+use Rattle.mime_lookup.proofs.AncestryLemmas.ParentSteps.{asked, came, expanded_by}
 use Rattle.mime_lookup.proofs.cached.ancestry.expand.Goals as goal
 
 pub returns-in_err-found-clause-takes : goal.returns-in_err-found-clause-takes

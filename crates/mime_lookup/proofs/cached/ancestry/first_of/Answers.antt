@@ -1,13 +1,13 @@
 use Rattle.std.proofs.Common.{◌+◌, ◌*◌, [], length, sym, true≢false, ◌∙◌, arith}
 use Rattle.mime_base.specs.Cache.Bytes.{field}
 use Rattle.mime_base.specs.Database.{pairs_of}
-use Rattle.mime_view.proofs.Costs.{spends_none}
+use Rattle.mime_view.proofs.CostLemmas.Costs.{spends_none}
 use Rattle.mime_lookup.specs.Costs.{lookup_price}
 use Rattle.mime_lookup.specs.Searching.{marked_by, search_cost}
-use Rattle.mime_lookup.proofs.PairsLeft.{unmarked_most}
-use Rattle.mime_lookup.proofs.PlaceMarks.{marked-none}
-use Rattle.mime_lookup.proofs.Queues.{candidate, passed_over}
-use Rattle.mime_lookup.proofs.CostLemmas.{costs_then, costs_wider}
+use Rattle.mime_lookup.proofs.AncestryLemmas.PairsLeft.{unmarked_most}
+use Rattle.mime_lookup.proofs.AncestryLemmas.PlaceMarks.{marked-none}
+use Rattle.mime_lookup.proofs.AncestryLemmas.Queues.{candidate, passed_over}
+use Rattle.mime_lookup.proofs.CostLemmas.Costs.{costs_then, costs_wider}
 use Rattle.mime_lookup.proofs.cached.ancestry.first_of.Goals as goal
 
 pub loop-kind-init : goal.loop-kind-init

@@ -3,9 +3,9 @@ use Rattle.std.specs.VecDeque.{deque_len}
 use Rattle.mime_base.specs.Database.{pairs_of}
 use Rattle.mime_lookup.specs.Ancestry.{kinds_of}
 use Rattle.mime_lookup.specs.Searching.{marked_by}
-use Rattle.mime_lookup.proofs.Queues.{none_queued}
-use Rattle.mime_lookup.proofs.SearchCosts.{expanded_owing}
-use Rattle.mime_lookup.proofs.Searches.{searched_all, searched_found, searched_more}
+use Rattle.mime_lookup.proofs.AncestryLemmas.Queues.{none_queued}
+use Rattle.mime_lookup.proofs.CostLemmas.SearchCosts.{expanded_owing}
+use Rattle.mime_lookup.proofs.AncestryLemmas.Searches.{searched_all, searched_found, searched_more}
 use Rattle.mime_lookup.proofs.cached.ancestry.leads_to.Goals as goal
 
 pub returns-then-is_by_itself-clause-answer : goal.returns-then-is_by_itself-clause-answer

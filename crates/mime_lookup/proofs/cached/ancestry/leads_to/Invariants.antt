@@ -5,7 +5,7 @@ use Rattle.mime_lookup.specs.Ancestry.{NoneLeadsTo, kinds_of, unmarked}
 use Rattle.mime_lookup.specs.Costs.{CostsOwing}
 use Rattle.mime_lookup.specs.Searching.{marked_by, search_cost}
 use Rattle.mime_lookup.specs.Spelling.{SpellsPairs}
-use Rattle.mime_lookup.proofs.Searches.{Searched}
+use Rattle.mime_lookup.proofs.AncestryLemmas.Searches.{Searched}
 use Rattle.mime_lookup.proofs.cached.ancestry.leads_to.Given as goal
 
 abbrev pub invariant-loop-here : goal.invariant-loop-here

@@ -1,6 +1,6 @@
 use Rattle.std.proofs.Common.{rules}
 use Rattle.mime_base.specs.Database.Subclass.{resolved}
-use Rattle.mime_lookup.proofs.Queues.{queued-more}
+use Rattle.mime_lookup.proofs.AncestryLemmas.Queues.{queued-more}
 use Rattle.mime_lookup.proofs.cached.ancestry.push_unaliased.Goals as goal
 
 pub returns-in_err-name-clause-queue : goal.returns-in_err-name-clause-queue

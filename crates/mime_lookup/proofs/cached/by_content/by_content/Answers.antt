@@ -4,13 +4,13 @@ use Rattle.mime_lookup.specs.Costs.{record_cost}
 use Rattle.mime_lookup.specs.Halves.{bytes_of}
 use Rattle.mime_lookup.specs.declared.cached.by_name.Candidates.TheVariants.{Kept, Unasked}
 use Rattle.mime_lookup.specs.declared.order.Order.TheVariants.{GlobsFirst, MagicFirst}
-use Rattle.mime_lookup.proofs.ByContents.{not_high, suffices_choice, suffices_content, suffices_globs, suffices_last, used_for}
-use Rattle.mime_lookup.proofs.CostLemmas.{costs_looks, costs_sniffed, costs_wider}
-use Rattle.mime_lookup.proofs.GlobsFirst.{with_content}
-use Rattle.mime_lookup.proofs.MagicFirst.{by_high_magic, by_low_magic}
-use Rattle.mime_lookup.proofs.NearLemmas.{decide_without, none_kept}
-use Rattle.mime_lookup.proofs.StepStops.{choice_fault, passed_on, stops_for, stops_then}
-use Rattle.mime_lookup.proofs.UsedUp.{choice_spent}
+use Rattle.mime_lookup.proofs.OrderLemmas.ByContents.{not_high, suffices_choice, suffices_content, suffices_globs, suffices_last, used_for}
+use Rattle.mime_lookup.proofs.CostLemmas.Costs.{costs_looks, costs_sniffed, costs_wider}
+use Rattle.mime_lookup.proofs.OrderLemmas.GlobsFirst.{with_content}
+use Rattle.mime_lookup.proofs.OrderLemmas.MagicFirst.{by_high_magic, by_low_magic}
+use Rattle.mime_lookup.proofs.CostLemmas.Near.{decide_without, none_kept}
+use Rattle.mime_lookup.proofs.StopLemmas.StepStops.{choice_fault, passed_on, stops_for, stops_then}
+use Rattle.mime_lookup.proofs.CostLemmas.UsedUp.{choice_spent}
 use Rattle.mime_view.specs.declared.spending.Spending.{Spending}
 use Rattle.mime_lookup.proofs.cached.by_content.by_content.Goals as goal
 

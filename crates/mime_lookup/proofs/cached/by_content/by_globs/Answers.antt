@@ -7,12 +7,12 @@ use Rattle.mime_lookup.specs.Costs.{glob_cost, record_cost}
 use Rattle.mime_lookup.specs.Finding.{resolved_finding}
 use Rattle.mime_lookup.specs.StepFaults.{of_globs}
 use Rattle.mime_lookup.specs.declared.order.Order.TheVariants.{GlobsFirst}
-use Rattle.mime_lookup.proofs.Answering.{one_type_chosen}
-use Rattle.mime_lookup.proofs.ByContents.{suffices_choice, suffices_globs}
-use Rattle.mime_lookup.proofs.CostLemmas.{costs_owed, costs_wider}
-use Rattle.mime_lookup.proofs.NearLemmas.{none_kept}
-use Rattle.mime_lookup.proofs.StepStops.{passed_on, stops_for, stops_then}
-use Rattle.mime_lookup.proofs.UsedUp.{globs_spent}
+use Rattle.mime_lookup.proofs.OrderLemmas.Answering.{one_type_chosen}
+use Rattle.mime_lookup.proofs.OrderLemmas.ByContents.{suffices_choice, suffices_globs}
+use Rattle.mime_lookup.proofs.CostLemmas.Costs.{costs_owed, costs_wider}
+use Rattle.mime_lookup.proofs.CostLemmas.Near.{none_kept}
+use Rattle.mime_lookup.proofs.StopLemmas.StepStops.{passed_on, stops_for, stops_then}
+use Rattle.mime_lookup.proofs.CostLemmas.UsedUp.{globs_spent}
 use Rattle.mime_lookup.proofs.cached.by_content.by_globs.Goals as goal
 
 pub returns-in_err-kept-clause-stops : goal.returns-in_err-kept-clause-stops

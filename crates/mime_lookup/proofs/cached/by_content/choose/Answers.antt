@@ -7,13 +7,13 @@ use Rattle.mime_lookup.specs.Ancestry.{kinds_of}
 use Rattle.mime_lookup.specs.Cached.{plain_finding}
 use Rattle.mime_lookup.specs.Finding.{resolved_finding}
 use Rattle.mime_lookup.specs.Searching.{search_cost}
-use Rattle.mime_lookup.proofs.ByContents.{choice_aliases}
-use Rattle.mime_lookup.proofs.Choices.{chooses-found, chooses-from_found, one_of}
-use Rattle.mime_lookup.proofs.CostLemmas.{costs_looks, costs_then, costs_wider}
-use Rattle.mime_lookup.proofs.KeptTypes.{texts_count}
-use Rattle.mime_lookup.proofs.KindTexts.{chosen_kind, kind_short}
-use Rattle.mime_lookup.proofs.StepStops.{choice_fault, passed_on, stops_for}
-use Rattle.mime_lookup.proofs.UsedUp.{choice_spent}
+use Rattle.mime_lookup.proofs.OrderLemmas.ByContents.{choice_aliases}
+use Rattle.mime_lookup.proofs.OrderLemmas.Choices.{chooses-found, chooses-from_found, one_of}
+use Rattle.mime_lookup.proofs.CostLemmas.Costs.{costs_looks, costs_then, costs_wider}
+use Rattle.mime_lookup.proofs.OrderLemmas.KeptTypes.{texts_count}
+use Rattle.mime_lookup.proofs.LookUpLemmas.KindTexts.{chosen_kind, kind_short}
+use Rattle.mime_lookup.proofs.StopLemmas.StepStops.{choice_fault, passed_on, stops_for}
+use Rattle.mime_lookup.proofs.CostLemmas.UsedUp.{choice_spent}
 use Rattle.mime_lookup.proofs.cached.by_content.choose.Goals as goal
 
 pub returns-in_err-base-clause-stops : goal.returns-in_err-base-clause-stops

@@ -1,8 +1,8 @@
 use Rattle.std.proofs.Common.{inl, arith}
 use Rattle.mime_lookup.specs.StepFaults.{of_globs}
-use Rattle.mime_lookup.proofs.ByNames.{costs_passed, gives_all, gives_one, gives_others}
-use Rattle.mime_lookup.proofs.StepStops.{passed_on, stops_for}
-use Rattle.mime_lookup.proofs.UsedUp.{globs_spent}
+use Rattle.mime_lookup.proofs.OrderLemmas.ByNames.{costs_passed, gives_all, gives_one, gives_others}
+use Rattle.mime_lookup.proofs.StopLemmas.StepStops.{passed_on, stops_for}
+use Rattle.mime_lookup.proofs.CostLemmas.UsedUp.{globs_spent}
 use Rattle.mime_lookup.proofs.cached.by_name.by_name.Goals as goal
 
 pub returns-in_err-kept-in-GlobsFirst-clause-stops : goal.returns-in_err-kept-in-GlobsFirst-clause-stops

@@ -1,5 +1,5 @@
 use Rattle.std.proofs.Common.{sym, ◌∙◌}
-use Rattle.mime_lookup.proofs.MediaTypes.{before_slash-none, before_slash-some}
+use Rattle.mime_lookup.proofs.AncestryLemmas.MediaTypes.{before_slash-none, before_slash-some}
 use Rattle.mime_lookup.proofs.cached.icons.before_slash.Goals as goal
 
 pub returns-in-Some : goal.returns-in-Some

@@ -3,8 +3,8 @@ use Rattle.std.proofs.lemmas.Result.{err_from_is_err_and}
 use Rattle.mime_lookup.specs.Icons.{PlainIcons, generic_of_media, icons_by, name_or, with_hyphens}
 use Rattle.mime_lookup.specs.Spelling.{SpellsIcons}
 use Rattle.mime_lookup.specs.StepFaults.{IsIconFault}
-use Rattle.mime_lookup.proofs.Askings.{opened_stops, unopened}
-use Rattle.mime_lookup.proofs.CauseLemmas.{caused}
+use Rattle.mime_lookup.proofs.LookUpLemmas.Askings.{opened_stops, unopened}
+use Rattle.mime_lookup.proofs.StopLemmas.Cause.{caused}
 use Rattle.mime_lookup.proofs.cached.icons.find_icons.Goals as goal
 
 pub returns-in_err-cache-clause-stops : goal.returns-in_err-cache-clause-stops

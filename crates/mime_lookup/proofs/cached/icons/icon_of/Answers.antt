@@ -1,4 +1,4 @@
-use Rattle.mime_lookup.proofs.Askings.{reported}
+use Rattle.mime_lookup.proofs.LookUpLemmas.Askings.{reported}
 use Rattle.mime_lookup.proofs.cached.icons.icon_of.Goals as goal
 
 pub returns-in-Err-clause-stops : goal.returns-in-Err-clause-stops

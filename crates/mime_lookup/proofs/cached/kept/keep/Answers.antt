@@ -2,11 +2,11 @@ use Rattle.std.proofs.Common.{◌≡◌, ◌∙◌, true, false, length, inl, sy
 use Rattle.std.proofs.lemmas.Result.{err_from_is_err_and}
 use Rattle.mime_lookup.specs.Ancestry.{kinds_of}
 use Rattle.mime_lookup.specs.CheckingOrder.{are_one_type}
-use Rattle.mime_lookup.proofs.Answering.{first_text}
-use Rattle.mime_lookup.proofs.CostLemmas.{costs_kinds, owing_none}
-use Rattle.mime_lookup.proofs.KeptTypes.{texts_count}
-use Rattle.mime_lookup.proofs.KindTexts.{first_cache_text, texts_short}
-use Rattle.mime_lookup.proofs.StepStops.{not_given, not_ok, passed_on}
+use Rattle.mime_lookup.proofs.OrderLemmas.Answering.{first_text}
+use Rattle.mime_lookup.proofs.CostLemmas.Costs.{costs_kinds, owing_none}
+use Rattle.mime_lookup.proofs.OrderLemmas.KeptTypes.{texts_count}
+use Rattle.mime_lookup.proofs.LookUpLemmas.KindTexts.{first_cache_text, texts_short}
+use Rattle.mime_lookup.proofs.StopLemmas.StepStops.{not_given, not_ok, passed_on}
 use Rattle.mime_lookup.proofs.cached.kept.keep.Goals as goal
 
 pub returns-in_err-kinds-clause-gives : goal.returns-in_err-kinds-clause-gives

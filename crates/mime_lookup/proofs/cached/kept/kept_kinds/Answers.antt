@@ -7,11 +7,11 @@ use Rattle.mime_base.specs.Kept.{kept_rules}
 use Rattle.mime_base.specs.declared.database.rule.GlobRule.{GlobRule}
 use Rattle.mime_lookup.specs.Cached.{IsCacheText}
 use Rattle.mime_lookup.specs.Choice.{kept}
-use Rattle.mime_lookup.proofs.CostLemmas.{charged_steps}
-use Rattle.mime_lookup.proofs.NearLemmas.{kept_few}
-use Rattle.mime_lookup.proofs.SpelledParts.{spelled_rules}
-use Rattle.mime_lookup.proofs.StepStops.{not_given, passed_on}
-use Rattle.mime_lookup.proofs.KeptTypes.{all_item, stepped-all, stepped-next, texts_count}
+use Rattle.mime_lookup.proofs.CostLemmas.Costs.{charged_steps}
+use Rattle.mime_lookup.proofs.CostLemmas.Near.{kept_few}
+use Rattle.mime_lookup.proofs.LookUpLemmas.SpelledParts.{spelled_rules}
+use Rattle.mime_lookup.proofs.StopLemmas.StepStops.{not_given, passed_on}
+use Rattle.mime_lookup.proofs.OrderLemmas.KeptTypes.{all_item, stepped-all, stepped-next, texts_count}
 use Rattle.mime_view.specs.declared.budget.Budget.{Budget}
 use Rattle.mime_lookup.proofs.cached.kept.kept_kinds.Goals as goal
 

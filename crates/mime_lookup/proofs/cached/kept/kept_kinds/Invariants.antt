@@ -4,7 +4,7 @@ use Rattle.mime_base.specs.Database.{PlainDatabase}
 use Rattle.mime_base.specs.Database.Subclass.{resolved}
 use Rattle.mime_lookup.specs.Spelling.{SpellsGlobs}
 use Rattle.mime_view.specs.Spending.{Looks}
-use Rattle.mime_lookup.proofs.KeptTypes.{stepped}
+use Rattle.mime_lookup.proofs.OrderLemmas.KeptTypes.{stepped}
 use Rattle.mime_lookup.proofs.cached.kept.kept_kinds.Given as goal
 
 abbrev pub invariant-loop-place : goal.invariant-loop-place

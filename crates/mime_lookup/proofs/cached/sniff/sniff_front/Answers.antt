@@ -2,10 +2,10 @@ use Rattle.std.proofs.Common.{◌∙◌, length, inr, sym, ap}
 use Rattle.std.proofs.lemmas.Bool.{true≢false}
 use Rattle.mime_lookup.specs.Finding.{found_by}
 use Rattle.mime_lookup.specs.StepFaults.{of_magic}
-use Rattle.mime_lookup.proofs.ByContents.{content_magic}
-use Rattle.mime_lookup.proofs.CostLemmas.{costs_paid}
-use Rattle.mime_lookup.proofs.StepStops.{passed_on, stops_for}
-use Rattle.mime_lookup.proofs.UsedUp.{sniff_fault_spent}
+use Rattle.mime_lookup.proofs.OrderLemmas.ByContents.{content_magic}
+use Rattle.mime_lookup.proofs.CostLemmas.Costs.{costs_paid}
+use Rattle.mime_lookup.proofs.StopLemmas.StepStops.{passed_on, stops_for}
+use Rattle.mime_lookup.proofs.CostLemmas.UsedUp.{sniff_fault_spent}
 use Rattle.mime_lookup.proofs.cached.sniff.sniff_front.Goals as goal
 
 pub returns-in_err-section-clause-stops : goal.returns-in_err-section-clause-stops

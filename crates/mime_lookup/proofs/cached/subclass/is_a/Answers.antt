@@ -1,8 +1,8 @@
 use Rattle.std.proofs.Common.{sym, ◌∙◌}
 use Rattle.mime_view.specs.declared.fault.CacheFault.TheVariants.{Spent}
-use Rattle.mime_lookup.proofs.Askings.{reported}
-use Rattle.mime_lookup.proofs.CauseLemmas.{says_fault}
-use Rattle.mime_lookup.proofs.ShortTexts.{is_type_name-short}
+use Rattle.mime_lookup.proofs.LookUpLemmas.Askings.{reported}
+use Rattle.mime_lookup.proofs.StopLemmas.Cause.{says_fault}
+use Rattle.mime_lookup.proofs.CostLemmas.ShortTexts.{is_type_name-short}
 use Rattle.mime_lookup.proofs.cached.subclass.is_a.Goals as goal
 
 pub open_and_search-requires : goal.open_and_search-requires

@@ -2,8 +2,8 @@ use Rattle.std.proofs.Common.{length, ap, arith}
 use Rattle.std.proofs.lemmas.Result.{err_from_is_err_and}
 use Rattle.mime_lookup.specs.Spelling.{SpellsPairs}
 use Rattle.mime_lookup.specs.StepFaults.{IsLookUpFault, IsSearchFault, of_header, of_search}
-use Rattle.mime_lookup.proofs.Askings.{opened_stops, unopened}
-use Rattle.mime_lookup.proofs.CauseLemmas.{caused}
+use Rattle.mime_lookup.proofs.LookUpLemmas.Askings.{opened_stops, unopened}
+use Rattle.mime_lookup.proofs.StopLemmas.Cause.{caused}
 use Rattle.mime_lookup.proofs.cached.subclass.open_and_search.Goals as goal
 
 pub returns-in_err-cache-clause-stops : goal.returns-in_err-cache-clause-stops

@@ -4,9 +4,9 @@ use Rattle.mime_base.specs.Database.{pairs_of}
 use Rattle.mime_view.specs.declared.budget.Budget.{Budget}
 use Rattle.mime_lookup.specs.Ancestry.{NoneLeadsTo}
 use Rattle.mime_lookup.specs.Searching.{marked_by}
-use Rattle.mime_lookup.proofs.ShortTexts.{text_short}
-use Rattle.mime_lookup.proofs.PairsLeft.{unmarked_most}
-use Rattle.mime_lookup.proofs.PlaceMarks.{marked-none}
+use Rattle.mime_lookup.proofs.CostLemmas.ShortTexts.{text_short}
+use Rattle.mime_lookup.proofs.AncestryLemmas.PairsLeft.{unmarked_most}
+use Rattle.mime_lookup.proofs.AncestryLemmas.PlaceMarks.{marked-none}
 use Rattle.mime_lookup.proofs.cached.subclass.search.Goals as goal
 
 pub returns-in_err-kind-clause-need : goal.returns-in_err-kind-clause-need

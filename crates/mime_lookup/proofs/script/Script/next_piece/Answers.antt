@@ -3,8 +3,8 @@ use Rattle.std.proofs.lemmas.Bool.{eqb-false, eqb-true}
 use Rattle.std.proofs.lemmas.List.{length-append, length-drop, length-take-le}
 use Rattle.mime_lookup.specs.Content.{Tally}
 use Rattle.mime_lookup.specs.Script.{bytes_in, faults_in, interruptions_in, tally_in}
-use Rattle.mime_lookup.proofs.Scripts.{after_piece, at_end, bytes_more, copied, faults_more, interruptions_more, pieces_more, tally_same}
-use Rattle.mime_lookup.proofs.Healths.{tells_nothing, tells_on}
+use Rattle.mime_lookup.proofs.ContentLemmas.Scripts.{after_piece, at_end, bytes_more, copied, faults_more, interruptions_more, pieces_more, tally_same}
+use Rattle.mime_lookup.proofs.ContentLemmas.Healths.{tells_nothing, tells_on}
 use Rattle.mime_lookup.proofs.script.Script.next_piece.Goals as goal
 use Rattle.mime_lookup.proofs.script.Script.next_piece.Goals.{then-loop-buffer-test+then-self+else-not-is_empty}
 use Rattle.mime_lookup.proofs.script.Script.next_piece.Goals.{then-loop-buffer-test+else-self, else-loop-buffer-test}

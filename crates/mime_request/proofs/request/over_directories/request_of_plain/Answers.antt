@@ -1,7 +1,7 @@
 use Rattle.std.proofs.lemmas.Result.{err_from_is_err_and}
 use Rattle.clap.specs.Words.{found_of, rows_of}
 use Rattle.mime_request.specs.Request.{options_in}
-use Rattle.mime_request.proofs.Meanings.{conflict_means}
+use Rattle.mime_request.proofs.MeaningLemmas.Meanings.{conflict_means}
 use Rattle.mime_request.proofs.request.over_directories.request_of_plain.Goals as goal
 
 pub returns-in_err-options : goal.returns-in_err-options

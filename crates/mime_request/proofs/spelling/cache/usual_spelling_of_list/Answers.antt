@@ -1,4 +1,4 @@
-use Rattle.mime_request.proofs.CacheWords.{meaning_of-usual_list}
+use Rattle.mime_request.proofs.SpellingLemmas.CacheWords.{meaning_of-usual_list}
 use Rattle.mime_request.proofs.spelling.cache.usual_spelling_of_list.Goals as goal
 
 pub returns : goal.returns

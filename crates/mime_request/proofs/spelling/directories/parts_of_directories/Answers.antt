@@ -1,5 +1,5 @@
 use Rattle.std.proofs.Common.{refl}
-use Rattle.mime_request.proofs.DirectoryParts.{parts-append, parts-path}
+use Rattle.mime_request.proofs.MeaningLemmas.DirectoryParts.{parts-append, parts-path}
 use Rattle.mime_request.proofs.spelling.directories.parts_of_directories.Goals as goal
 
 pub returns : goal.returns

@@ -1,8 +1,8 @@
 use Rattle.std.proofs.Common.{◌∙◌}
 use Rattle.std.proofs.lemmas.Result.{err_from_is_err_and}
 use Rattle.mime_tool.specs.Directories.{AreFileLines}
-use Rattle.mime_tool.proofs.DataFiles.{can_be_lines, lines_said, lines_unsaid}
-use Rattle.mime_tool.proofs.Loads.{works_nothing}
+use Rattle.mime_tool.proofs.DirectoryLemmas.DataFiles.{can_be_lines, lines_said, lines_unsaid}
+use Rattle.mime_tool.proofs.RunLemmas.Loads.{works_nothing}
 use Rattle.mime_tool.proofs.directories.line_file.parse_lines.Goals as goal
 
 pub returns-in_err-file : goal.returns-in_err-file

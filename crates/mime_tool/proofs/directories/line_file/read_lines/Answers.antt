@@ -1,8 +1,8 @@
 use Rattle.std.proofs.Common.{◌≡◌, ◌∙◌}
 use Rattle.std.proofs.lemmas.Result.{err_from_is_err_and}
 use Rattle.mime_tool.specs.Directories.{AreLinesAt, path_of}
-use Rattle.mime_tool.proofs.DataFiles.{can_be_lines_at}
-use Rattle.mime_tool.proofs.Loads.{works_nothing}
+use Rattle.mime_tool.proofs.DirectoryLemmas.DataFiles.{can_be_lines_at}
+use Rattle.mime_tool.proofs.RunLemmas.Loads.{works_nothing}
 use Rattle.mime_tool.proofs.directories.line_file.read_lines.Goals as goal
 
 pub returns-in_err-path : goal.returns-in_err-path

@@ -2,8 +2,8 @@ use Rattle.std.proofs.Common.{ℕ, List, Vec}
 use Rattle.std.proofs.lemmas.Result.{err_from_is_err_and}
 use Rattle.std.specs.declared.alloc.Global.{Global}
 use Rattle.mime_tool.specs.Directories.{AreFileLines, IsTextAt}
-use Rattle.mime_tool.proofs.DataFiles.{can_be_lines, works_text}
-use Rattle.mime_tool.proofs.Loads.{works_stop, works_then}
+use Rattle.mime_tool.proofs.DirectoryLemmas.DataFiles.{can_be_lines, works_text}
+use Rattle.mime_tool.proofs.RunLemmas.Loads.{works_stop, works_then}
 use Rattle.mime_tool.proofs.directories.line_file.read_lines_at.Goals as goal
 
 pub returns-in_err-text : goal.returns-in_err-text

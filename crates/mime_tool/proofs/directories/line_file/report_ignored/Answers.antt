@@ -1,7 +1,7 @@
 use Rattle.std.proofs.Common.{◌<◌, ◌∙◌, length, arith}
 use Rattle.std.proofs.lemmas.Result.{err_from_is_err_and}
 use Rattle.mime_tool.specs.Directories.{ignored}
-use Rattle.mime_tool.proofs.Desks.{says_cut_at}
+use Rattle.mime_tool.proofs.DeskLemmas.Desks.{says_cut_at}
 use Rattle.mime_tool.proofs.directories.line_file.report_ignored.Goals as goal
 
 pub returns-in_err-report_line : goal.returns-in_err-report_line

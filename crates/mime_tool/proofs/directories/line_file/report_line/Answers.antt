@@ -2,7 +2,7 @@ use Rattle.std.proofs.Common.{◌∙◌, refl}
 use Rattle.std.proofs.lemmas.Result.{err_from_is_err_and}
 use Rattle.mime_tool.specs.Directories.{ignored}
 use Rattle.mime_tool.specs.Run.{said}
-use Rattle.mime_tool.proofs.Desks.{does_nothing}
+use Rattle.mime_tool.proofs.DeskLemmas.Desks.{does_nothing}
 use Rattle.mime_tool.proofs.directories.line_file.report_line.Goals as goal
 
 pub returns-in_err-text : goal.returns-in_err-text

@@ -1,4 +1,4 @@
-use Rattle.mime_tool.proofs.MagicFiles.{magic_parsed, magic_refused}
+use Rattle.mime_tool.proofs.DirectoryLemmas.MagicFiles.{magic_parsed, magic_refused}
 use Rattle.mime_tool.proofs.directories.magic_file.parse_magic.Goals as goal
 
 pub returns-in-Ok : goal.returns-in-Ok

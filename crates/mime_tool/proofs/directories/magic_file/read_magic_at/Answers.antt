@@ -3,10 +3,10 @@ use Rattle.std.proofs.lemmas.Result.{err_from_is_err_and}
 use Rattle.std.specs.declared.alloc.Global.{Global}
 use Rattle.mime_text.specs.declared.magic.file.MagicFile.{MagicFile}
 use Rattle.mime_tool.specs.Directories.{IsMagicOrFault, IsTextAt, plain_magic}
-use Rattle.mime_tool.proofs.DataFiles.{works_text}
-use Rattle.mime_tool.proofs.DirectoryFiles.{Magic}
-use Rattle.mime_tool.proofs.Loads.{works_stop, works_then}
-use Rattle.mime_tool.proofs.MagicFiles.{can_be_magic}
+use Rattle.mime_tool.proofs.DirectoryLemmas.DataFiles.{works_text}
+use Rattle.mime_tool.proofs.DirectoryLemmas.DirectoryFiles.{Magic}
+use Rattle.mime_tool.proofs.RunLemmas.Loads.{works_stop, works_then}
+use Rattle.mime_tool.proofs.DirectoryLemmas.MagicFiles.{can_be_magic}
 use Rattle.mime_tool.proofs.directories.magic_file.read_magic_at.Goals as goal
 
 pub returns-in_err-text : goal.returns-in_err-text

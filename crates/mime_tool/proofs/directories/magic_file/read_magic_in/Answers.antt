@@ -2,9 +2,9 @@ use Rattle.std.proofs.Common.{◌≡◌, ◌∙◌, codes}
 use Rattle.std.proofs.lemmas.Result.{err_from_is_err_and}
 use Rattle.mime_text.specs.declared.magic.file.MagicFile.{MagicFile}
 use Rattle.mime_tool.specs.Directories.{IsMagicAt, path_of, plain_magic}
-use Rattle.mime_tool.proofs.DirectoryFiles.{Magic}
-use Rattle.mime_tool.proofs.Loads.{works_nothing}
-use Rattle.mime_tool.proofs.MagicFiles.{can_be_magic_at}
+use Rattle.mime_tool.proofs.DirectoryLemmas.DirectoryFiles.{Magic}
+use Rattle.mime_tool.proofs.RunLemmas.Loads.{works_nothing}
+use Rattle.mime_tool.proofs.DirectoryLemmas.MagicFiles.{can_be_magic_at}
 use Rattle.mime_tool.proofs.directories.magic_file.read_magic_in.Goals as goal
 
 pub returns-in_err-path : goal.returns-in_err-path

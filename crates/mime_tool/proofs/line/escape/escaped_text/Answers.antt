@@ -1,5 +1,5 @@
 use Rattle.std.proofs.Common.{◌∙◌, append_assoc, append-nil, sym}
-use Rattle.mime_tool.proofs.Escapes.{escaped_empty, escaped_step}
+use Rattle.mime_tool.proofs.AnswerLemmas.Escapes.{escaped_empty, escaped_step}
 use Rattle.mime_tool.proofs.line.escape.escaped_text.Goals as goal
 
 pub loop-c-preserved : goal.loop-c-preserved

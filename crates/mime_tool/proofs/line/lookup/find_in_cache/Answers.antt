@@ -1,9 +1,9 @@
 use Rattle.std.proofs.Common.{◌≡◌, nat_le, inl, length, refl, true}
 use Rattle.std.proofs.lemmas.Bool.{leb-true}
-use Rattle.mime_lookup.proofs.SpelledParts.{spelled_globs}
+use Rattle.mime_lookup.proofs.LookUpLemmas.SpelledParts.{spelled_globs}
 use Rattle.mime_tool.specs.Line.{base_name}
-use Rattle.mime_tool.proofs.CachedLines.{line_found}
-use Rattle.mime_tool.proofs.CachedStops.{fits_unless, line_refused, not_too_long, read_or_memory}
+use Rattle.mime_tool.proofs.AnswerLemmas.CachedLines.{line_found}
+use Rattle.mime_tool.proofs.AnswerLemmas.CachedStops.{fits_unless, line_refused, not_too_long, read_or_memory}
 use Rattle.mime_tool.proofs.line.lookup.find_in_cache.Goals as goal
 
 pub returns-in-Ok : goal.returns-in-Ok

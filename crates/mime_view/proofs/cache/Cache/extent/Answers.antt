@@ -1,7 +1,7 @@
 use Rattle.std.proofs.Common.{◌≡◌, ℕ, List, get_or, arith, ◌∙◌, ap}
 use Rattle.mime_base.specs.Cache.Bytes.{field}
-use Rattle.mime_view.proofs.Headers.{magic_read}
-use Rattle.mime_view.proofs.Records.{record_inside, second_read}
+use Rattle.mime_view.proofs.ListLemmas.Headers.{magic_read}
+use Rattle.mime_view.proofs.ListLemmas.Records.{record_inside, second_read}
 use Rattle.mime_view.proofs.cache.Cache.extent.Goals as goal
 
 pub returns-in_err-extent-clause-answer : goal.returns-in_err-extent-clause-answer

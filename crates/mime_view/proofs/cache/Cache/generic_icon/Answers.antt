@@ -1,6 +1,6 @@
 use Rattle.std.proofs.Common.{◌≡◌, ℕ, List, get_or, ◌∙◌, sym, ap}
-use Rattle.mime_view.proofs.Headers.{generic_icons_read}
-use Rattle.mime_view.proofs.Spelled.{looked_up-sorted, pairs_reads}
+use Rattle.mime_view.proofs.ListLemmas.Headers.{generic_icons_read}
+use Rattle.mime_view.proofs.ListLemmas.Spelled.{looked_up-sorted, pairs_reads}
 use Rattle.mime_view.proofs.cache.Cache.generic_icon.Goals as goal
 
 pub returns-in_err-name-clause-answer : goal.returns-in_err-name-clause-answer

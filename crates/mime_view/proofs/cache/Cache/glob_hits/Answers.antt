@@ -2,9 +2,9 @@ use Rattle.std.proofs.Common.{◌≡◌, ℕ, ◌+◌, ◌*◌, List, Ok, get_or
 use Rattle.std.specs.List.{All}
 use Rattle.std.specs.Prelude.{IfOk}
 use Rattle.mime_base.specs.Cache.Texts.{text_at}
-use Rattle.mime_view.proofs.Charges.{charged}
-use Rattle.mime_view.proofs.NameLists.{rules_named}
-use Rattle.mime_view.proofs.VisitCounts.{visits_near, visits_within}
+use Rattle.mime_view.proofs.CostLemmas.Charges.{charged}
+use Rattle.mime_view.proofs.ListLemmas.NameLists.{rules_named}
+use Rattle.mime_view.proofs.CostLemmas.VisitCounts.{visits_near, visits_within}
 use Rattle.mime_view.proofs.cache.Cache.glob_hits.Goals as goal
 
 pub returns-clause-gives : goal.returns-clause-gives

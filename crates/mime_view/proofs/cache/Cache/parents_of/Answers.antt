@@ -2,7 +2,7 @@ use Rattle.std.proofs.Common.{◌≡◌, ℕ, Bool, List, length, get_or, ap, su
 use Rattle.mime_base.specs.Cache.Bytes.{field}
 use Rattle.mime_view.specs.Parents.{IsGiven, unmarked_parents}
 use Rattle.mime_view.specs.Spending.{Gives, spending_of}
-use Rattle.mime_view.proofs.ParentLists.{marked_named, parents_named, taken_named}
+use Rattle.mime_view.proofs.ParentsLemmas.ParentLists.{marked_named, parents_named, taken_named}
 use Rattle.mime_view.proofs.cache.Cache.parents_of.Goals as goal
 
 pub returns-clause-answer : goal.returns-clause-answer

@@ -4,7 +4,7 @@ use Rattle.std.proofs.lemmas.Result.{IfOk-weaker, MatchResult-weaker}
 use Rattle.mime_base.specs.Cache.Bytes.{field}
 use Rattle.mime_base.specs.Format.Stored.{glob_rules}
 use Rattle.mime_view.specs.Listing.{IsListed, plain_listed}
-use Rattle.mime_view.proofs.RuleLists.{all_read, are_listed, listing_fault}
+use Rattle.mime_view.proofs.ListingLemmas.RuleLists.{all_read, are_listed, listing_fault}
 use Rattle.mime_view.proofs.cache.Cache.rules.Goals as goal
 
 pub returns-clause-gives : goal.returns-clause-gives

@@ -1,6 +1,6 @@
 use Rattle.std.proofs.Common.{◌≡◌, ℕ, List, get_or, ap}
 use Rattle.mime_base.specs.Cache.Bytes.{field}
-use Rattle.mime_view.proofs.MagicLists.{magic_named}
+use Rattle.mime_view.proofs.MagicLemmas.MagicLists.{magic_named}
 use Rattle.mime_view.proofs.cache.Cache.sniff.Goals as goal
 
 pub returns-clause-answers : goal.returns-clause-answers

@@ -1,6 +1,6 @@
 use Rattle.std.proofs.Common.{◌≡◌, ℕ, List, get_or, ◌∙◌, sym, ap}
-use Rattle.mime_view.proofs.Headers.{aliases_read}
-use Rattle.mime_view.proofs.Spelled.{found_or, looked_up-sorted, pairs_reads, resolved-looked_up}
+use Rattle.mime_view.proofs.ListLemmas.Headers.{aliases_read}
+use Rattle.mime_view.proofs.ListLemmas.Spelled.{found_or, looked_up-sorted, pairs_reads, resolved-looked_up}
 use Rattle.mime_view.proofs.cache.Cache.unalias.Goals as goal
 
 pub returns-in_err-name-clause-answer : goal.returns-in_err-name-clause-answer

@@ -1,4 +1,4 @@
-use Rattle.mime_view.proofs.OffersLemmas.{best-kept, kept_offer}
+use Rattle.mime_view.proofs.HitsLemmas.Offers.{best-kept, kept_offer}
 use Rattle.mime_view.proofs.hits.Hits.offer.Goals as goal
 
 pub returns-clause-offered : goal.returns-clause-offered

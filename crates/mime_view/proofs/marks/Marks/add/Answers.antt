@@ -1,6 +1,6 @@
 use Rattle.std.proofs.Common.{◌≡◌, sym, ap, ◌∙◌}
 use Rattle.mime_view.specs.Parents.{with_first, with_place}
-use Rattle.mime_view.proofs.AddedPlaces.{with_place-swapped}
+use Rattle.mime_view.proofs.ParentsLemmas.AddedPlaces.{with_place-swapped}
 use Rattle.mime_view.proofs.marks.Marks.add.Goals as goal
 
 pub returns-in_ok-insert-in-Some-clause-added : goal.returns-in_ok-insert-in-Some-clause-added

@@ -1,7 +1,7 @@
 use Rattle.std.proofs.Common.{◌≡◌, sym, ap, ◌∙◌}
 use Rattle.std.proofs.lemmas.Bool.{eq-eqb}
 use Rattle.mime_view.specs.Parents.{has_place, with_first, with_place}
-use Rattle.mime_view.proofs.AddedPlaces.{has_place-added, has_place-others}
+use Rattle.mime_view.proofs.ParentsLemmas.AddedPlaces.{has_place-added, has_place-others}
 use Rattle.mime_view.proofs.marks.Marks.contains.Goals as goal
 
 pub returns-then-place-first : goal.returns-then-place-first

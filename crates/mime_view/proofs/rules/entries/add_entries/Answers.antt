@@ -1,8 +1,8 @@
 use Rattle.std.proofs.Common.{◌≡◌, ◌+◌, length, arith, inr, rules, ◌∙◌}
 use Rattle.std.proofs.lemmas.Result.{err_from_is_err_and}
 use Rattle.mime_view.specs.Spending.{per_record}
-use Rattle.mime_view.proofs.Costs.{spends_then}
-use Rattle.mime_view.proofs.EntryRows.{next}
+use Rattle.mime_view.proofs.CostLemmas.Costs.{spends_then}
+use Rattle.mime_view.proofs.LiteralLemmas.EntryRows.{next}
 use Rattle.mime_view.proofs.rules.entries.add_entries.Goals as goal
 
 pub returns-in_err-add_entry-clause-answer : goal.returns-in_err-add_entry-clause-answer

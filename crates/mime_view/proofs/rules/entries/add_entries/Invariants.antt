@@ -4,7 +4,7 @@ use Rattle.mime_base.specs.declared.database.rule.GlobRule.{GlobRule}
 use Rattle.mime_view.specs.Listing.{Adds}
 use Rattle.mime_view.specs.Listing.Faults.{IsRulesFault}
 use Rattle.mime_view.specs.Listing.Reads.{ReadsListedRules}
-use Rattle.mime_view.proofs.EntryRows.{Left}
+use Rattle.mime_view.proofs.LiteralLemmas.EntryRows.{Left}
 use Rattle.mime_view.proofs.rules.entries.add_entries.Given as goal
 
 abbrev pub invariant-loop-i : goal.invariant-loop-i

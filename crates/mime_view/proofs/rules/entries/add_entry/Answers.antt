@@ -1,6 +1,6 @@
 use Rattle.std.proofs.Common.{◌<◌, length, inr, rules}
 use Rattle.std.proofs.lemmas.Result.{err_from_is_err_and}
-use Rattle.mime_view.proofs.ListedTexts.{listed_more, short_text}
+use Rattle.mime_view.proofs.ListingLemmas.ListedTexts.{listed_more, short_text}
 use Rattle.mime_view.proofs.rules.entries.add_entry.Goals as goal
 
 pub returns-in_err-add-clause-adds : goal.returns-in_err-add-clause-adds

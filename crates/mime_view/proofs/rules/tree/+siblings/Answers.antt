@@ -3,10 +3,10 @@ use Rattle.std.proofs.lemmas.Result.{err_from_is_err_and}
 use Rattle.mime_base.specs.declared.database.rule.GlobRule.{GlobRule}
 use Rattle.mime_view.specs.Listing.{listed_rule}
 use Rattle.mime_view.specs.Spending.{per_record}
-use Rattle.mime_view.proofs.Costs.{spends_then}
-use Rattle.mime_view.proofs.SiblingFaults.{among, below, here}
-use Rattle.mime_view.proofs.SiblingNodes.{below_read, leaf_read, node_gives, node_read, some_node, stops_there}
-use Rattle.mime_view.proofs.SiblingRows.{next, none_left}
+use Rattle.mime_view.proofs.CostLemmas.Costs.{spends_then}
+use Rattle.mime_view.proofs.ListingLemmas.SiblingFaults.{among, below, here}
+use Rattle.mime_view.proofs.SuffixTreeLemmas.SiblingNodes.{below_read, leaf_read, node_gives, node_read, some_node, stops_there}
+use Rattle.mime_view.proofs.SuffixTreeLemmas.SiblingRows.{next, none_left}
 use Rattle.mime_view.proofs.rules.tree.+siblings.Goals as goal
 
 pub add_sibling-returns-in_err-row-clause-answer : goal.add_sibling-returns-in_err-row-clause-answer

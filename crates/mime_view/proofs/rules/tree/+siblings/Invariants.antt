@@ -4,7 +4,7 @@ use Rattle.mime_base.specs.Format.Tree.{Tree, sibling_count}
 use Rattle.mime_view.specs.Listing.{Adds}
 use Rattle.mime_view.specs.Listing.Faults.{IsSiblingsFault}
 use Rattle.mime_view.specs.Listing.Reads.{ReadsListedTree}
-use Rattle.mime_view.proofs.SiblingRows.{Left}
+use Rattle.mime_view.proofs.SuffixTreeLemmas.SiblingRows.{Left}
 use Rattle.mime_view.proofs.rules.tree.+siblings.Given as goal
 
 abbrev pub decreases-add_sibling : goal.decreases-add_sibling

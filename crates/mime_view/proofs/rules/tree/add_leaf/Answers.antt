@@ -1,5 +1,5 @@
 use Rattle.std.proofs.Common.{◌<◌, length, arith}
-use Rattle.mime_view.proofs.ListedTexts.{listed_more}
+use Rattle.mime_view.proofs.ListingLemmas.ListedTexts.{listed_more}
 use Rattle.mime_view.proofs.rules.tree.add_leaf.Goals as goal
 
 pub returns-clause-texts : goal.returns-clause-texts

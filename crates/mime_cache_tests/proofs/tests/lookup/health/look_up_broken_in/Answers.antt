@@ -1,5 +1,5 @@
 use Rattle.std.proofs.Common.{rules}
-use Rattle.mime_lookup.proofs.SpelledParts.{spelled_globs}
+use Rattle.mime_lookup.proofs.LookUpLemmas.SpelledParts.{spelled_globs}
 use Rattle.mime_cache_tests.proofs.tests.lookup.health.look_up_broken_in.Goals as goal
 
 pub returns-clause-refused : goal.returns-clause-refused

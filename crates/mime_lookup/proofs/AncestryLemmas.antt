@@ -1,0 +1,12 @@
+-- Lemmas on the search for a subclass: marks, pairs and the queue.
+pub mod PairSteps
+pub mod Places
+pub mod Walks
+pub mod Marks
+pub mod MarkSets
+pub mod Searches
+pub mod MediaTypes
+pub mod PlaceMarks
+pub mod ParentSteps
+pub mod PairsLeft
+pub mod Queues

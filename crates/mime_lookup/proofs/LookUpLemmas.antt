@@ -1,0 +1,6 @@
+-- Lemmas on what a whole lookup promises.
+pub mod SpelledParts
+pub mod KindTexts
+pub mod Askings
+pub mod LookUps
+pub mod Outcomes

@@ -1,0 +1,9 @@
+-- Lemmas on the checking order: what a name keeps, and what is chosen of it.
+pub mod Choices
+pub mod Hits
+pub mod Answering
+pub mod KeptTypes
+pub mod MagicFirst
+pub mod GlobsFirst
+pub mod ByNames
+pub mod ByContents

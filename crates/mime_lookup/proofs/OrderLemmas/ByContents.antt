@@ -1,0 +1,75 @@
+-- What a front of a content gives after the name, by the step that was last, and which databases the steps answer for.
+use Rattle.std.proofs.Common.{◌≡◌, ◌∙◌, ℕ, true, false, List, Option, inl, inr, ap, sym}
+use Rattle.std.specs.Prelude.{None, Some, ⊤}
+use Rattle.mime_base.specs.Cache.Bytes.{Stands}
+use Rattle.mime_base.specs.Database.{PlainDatabase, pairs_of}
+use Rattle.mime_base.specs.Format.Header.{HeaderAt, Offsets}
+use Rattle.mime_base.specs.Format.Pairs.{PairsAt}
+use Rattle.mime_base.specs.declared.magic.host.Host.{Host}
+use Rattle.mime_lookup.specs.CheckingOrder.{GlobsDecide, are_one_type}
+use Rattle.mime_lookup.specs.Choice.{kept}
+use Rattle.mime_lookup.specs.Finding.{PlainFinding, found_in, is_high}
+use Rattle.mime_lookup.specs.Halves.{Leaves, order_of}
+use Rattle.mime_lookup.specs.Spelling.{SpellsGlobs, SpellsMagic}
+use Rattle.mime_lookup.specs.Spent.{IsUsedUp}
+use Rattle.mime_lookup.specs.Steps.{Suffices, SufficesForChoice, SufficesForContent}
+use Rattle.mime_lookup.specs.declared.cached.by_name.Candidates.{Candidates}
+use Rattle.mime_lookup.specs.declared.cached.by_name.Candidates.TheVariants.{Kept, Unasked}
+use Rattle.mime_lookup.specs.declared.order.Order.{Order}
+use Rattle.mime_lookup.specs.declared.order.Order.TheVariants.{GlobsFirst, MagicFirst}
+use Rattle.mime_lookup.proofs.CostLemmas.Near.{decide_without, none_kept}
+use Rattle.mime_lookup.proofs.LookUpLemmas.SpelledParts.{spelled_globs, spelled_magic, spelled_pairs}
+use Rattle.mime_view.specs.declared.budget.Budget.{Budget}
+
+-- where candidates are left and the globs decide, there is no content
+pub without : (b : PlainDatabase) (name : List ℕ) (NoContent : Type 0) (candidates : Candidates) → Leaves b name candidates
+    → GlobsDecide b name (order_of candidates) NoContent → NoContent
+without b name NoContent (Kept kinds) leaves decide = (none_kept b name GlobsFirst NoContent kinds leaves.1 leaves.0 decide).1
+without b name NoContent Unasked leaves decide = (decide_without b name NoContent decide).0
+
+-- then nothing of a high priority is found
+pub not_high : (b : PlainDatabase) (front : Option (List ℕ)) (host : Host) (found : PlainFinding) → found ≡ found_in b front host
+    → front ≡ None → is_high found ≡ true → ⊥
+not_high b front host found is none high =
+    let both : false ≡ true = sym (ap is_high (rw none at is)) ∙ high in
+    absurd cc
+
+-- what implies that there is no content
+pub used_for : (c : List ℕ) {A B : Type 0} (left : Budget) → (A → B) → IsUsedUp c B left → IsUsedUp c A left
+used_for c left weaker (inl records) = inl records
+used_for c left weaker (inr value) = inr ((λ none. value.0 (weaker none)), value.1, value.2)
+
+module _ (c name : List ℕ) (NoContent : Type 0) (b : PlainDatabase) where
+  -- in each case the glob rules stand
+  pub suffices_globs : (order : Order) → Suffices c name order NoContent b → SpellsGlobs c b
+  suffices_globs order (inl whole) = spelled_globs c b whole.0 whole.1
+  suffices_globs order (inr globs) = globs.0
+
+  -- and what is left for the front stands
+  pub suffices_content : (candidates : Candidates) → Leaves b name candidates → Suffices c name (order_of candidates) NoContent b
+      → SufficesForContent c NoContent b
+  suffices_content candidates leaves (inl whole) = inl (spelled_magic c b whole.0 whole.1)
+  suffices_content candidates leaves (inr globs) = inr (without b name NoContent candidates leaves globs.1)
+
+  -- so does what the choice among the kept types needs
+  pub suffices_choice : (kinds : List (List ℕ)) → kinds ≡ kept (pairs_of b) b.rules name
+      → are_one_type (kept (pairs_of b) b.rules name) ≡ false → Suffices c name GlobsFirst NoContent b → SufficesForChoice c kinds b
+  suffices_choice kinds are conflict (inl whole) = inl (spelled_pairs c b whole.1)
+  suffices_choice kinds are conflict (inr globs) = inr ((none_kept b name GlobsFirst NoContent kinds are conflict globs.1).0, globs.0)
+
+  -- and the globs, where they are asked last
+  pub suffices_last : Suffices c name MagicFirst NoContent b → Suffices c name GlobsFirst ⊤ b
+  suffices_last (inl whole) = inl whole
+  suffices_last (inr globs) = inr (globs.0, (decide_without b name NoContent globs.1).1)
+
+-- where there is a content, its magic stands
+pub content_magic : {A : Type 0} (c : List ℕ) (content : A) (b : PlainDatabase) → SufficesForContent c (Some content ≡ None) b
+    → SpellsMagic c b
+content_magic c content b (inl magic) = magic
+content_magic c content b (inr none) = absurd cc
+
+-- where a choice can be made, the aliases stand
+pub choice_aliases : (c : List ℕ) (kinds : List (List ℕ)) (b : PlainDatabase) → SufficesForChoice c kinds b
+    → (offsets : Offsets) × (HeaderAt (Stands c) offsets × PairsAt (Stands c) offsets.aliases b.aliases)
+choice_aliases c kinds b (inl pairs) = (pairs.offsets, (pairs.header, pairs.aliases))
+choice_aliases c kinds b (inr none) = (none.1.offsets, (none.1.header, none.1.aliases))

@@ -1,0 +1,43 @@
+-- What a name gives, why it gives nothing, and what it costs, by what is kept of it.
+use Rattle.std.proofs.Common.{◌≡◌, ℕ, true, false, List, [], get_or, Result, Ok, Err, Some, refl, sym, subst}
+use Rattle.std.specs.Prelude.{IsErrAnd}
+use denote.Bor.{Bor}
+use Rattle.mime_base.specs.Database.{PlainDatabase, pairs_of}
+use Rattle.mime_lookup.specs.CheckingOrder.{are_one_type, globs_suffice}
+use Rattle.mime_lookup.specs.Choice.{kept}
+use Rattle.mime_lookup.specs.Halves.{CostsByName, Decides}
+use Rattle.mime_lookup.specs.declared.cached.by_name.NameDecision.{NameDecision}
+use Rattle.mime_lookup.specs.declared.cached.by_name.NameDecision.TheVariants.{Decided, Left}
+use Rattle.mime_lookup.specs.declared.cached.by_name.Candidates.TheVariants.{Kept, Unasked}
+use Rattle.mime_lookup.specs.declared.order.Order.{Order}
+use Rattle.mime_lookup.specs.declared.order.Order.TheVariants.{GlobsFirst, MagicFirst}
+use Rattle.mime_lookup.proofs.OrderLemmas.GlobsFirst.{alone}
+use Rattle.mime_view.specs.declared.fault.CacheFault.{CacheFault}
+use Rattle.mime_view.specs.declared.spending.Spending.{Spending}
+
+-- the types that are kept are one
+pub gives_one : (b : PlainDatabase) (name : List ℕ) (order : Order) (kind : Bor (List ℕ)) → order ≡ GlobsFirst
+    → are_one_type (kept (pairs_of b) b.rules name) ≡ true → kind.now ≡ get_or (kept (pairs_of b) b.rules name) 0 []
+    → Decides b name order (Decided kind)
+unfolding globs_suffice
+gives_one b name order kind same one is =
+    rw same (one, λ content host. alone b name host (Some content) kind.now one is)
+
+-- they are not
+pub gives_others : (b : PlainDatabase) (name : List ℕ) (order : Order) (kinds : List (List ℕ)) → order ≡ GlobsFirst
+    → are_one_type (kept (pairs_of b) b.rules name) ≡ false → kinds ≡ kept (pairs_of b) b.rules name
+    → Decides b name order (Left (Kept kinds))
+unfolding globs_suffice
+gives_others b name order kinds same conflict are = rw same (conflict, refl, (conflict, are))
+
+-- they are not asked
+pub gives_all : (b : PlainDatabase) (name : List ℕ) (order : Order) → order ≡ MagicFirst → Decides b name order (Left Unasked)
+unfolding globs_suffice
+gives_all b name order same = rw same (refl, refl, tt)
+
+-- a fault is passed on
+pub costs_passed : (c name : List ℕ) {old new : Spending} (e : CacheFault) (result : Result NameDecision CacheFault)
+    → IsErrAnd result (λ passed. passed ≡ e) → CostsByName c name old new (Err e) → CostsByName c name old new result
+costs_passed c name e (Ok x) same is = absurd same
+costs_passed c name {old} {new} e (Err passed) same is =
+    subst (λ (fault : CacheFault). CostsByName c name old new (Err fault)) (sym same) is

@@ -1,0 +1,6 @@
+-- Lemmas on why a lookup stops.
+pub mod Openings
+pub mod OpenFaults
+pub mod StepStops
+pub mod Cause
+pub mod PlacedFaults

@@ -1,0 +1,46 @@
+-- Faults that do not say that the budget is used up.
+use Rattle.std.proofs.Common.{◌≡◌, ◌∙◌, ℕ, List, inl, inr, sym, subst}
+use Rattle.mime_base.specs.Cache.Bytes.{field}
+use Rattle.mime_base.specs.declared.cache.byte_fault.ByteFault.{ByteFault}
+use Rattle.mime_base.specs.declared.cache.byte_fault.ByteFault.TheVariants as byte
+use Rattle.mime_lookup.specs.StepFaults.{IsAliasFault}
+use Rattle.mime_view.specs.Faults.{cache_fault}
+use Rattle.mime_view.specs.Lists.{IsTextFault}
+use Rattle.mime_view.specs.Opening.{IsOpenFault}
+use Rattle.mime_view.specs.SuffixTree.{IsTreeFault}
+use Rattle.mime_view.specs.declared.fault.CacheFault.{CacheFault}
+use Rattle.mime_view.specs.declared.fault.CacheFault.TheVariants.{OutOfMemory, OutOfRange, Spent}
+
+-- a place, a text and a header
+pub no_place : (at : ℕ) → OutOfRange at ≡ Spent → ⊥
+no_place at same = absurd cc
+
+-- a fault of a cache's bytes is not that the budget is spent
+pub no_byte : (f : ByteFault) → cache_fault f ≡ Spent → ⊥
+no_byte (byte.OutOfRange at) same = absurd cc
+no_byte (byte.LongText at) same = absurd cc
+
+-- nor is want of memory
+pub no_memory : (e : CacheFault) → e ≡ OutOfMemory → e ≡ Spent → ⊥
+no_memory e memory same =
+    let both : OutOfMemory ≡ Spent = sym memory ∙ same in
+    absurd cc
+
+-- nor a text's fault
+pub no_text : (c : List ℕ) (e : CacheFault) → IsTextFault c e → e ≡ Spent → ⊥
+no_text c e text same = no_byte text.fault (sym text.is ∙ same)
+
+-- nor the header's
+pub no_header : (c : List ℕ) (e : CacheFault) → IsOpenFault c e → e ≡ Spent → ⊥
+no_header c e is same = subst (IsOpenFault c) same is
+
+-- an alias step, and the tree of suffixes
+pub no_alias : (c : List ℕ) (e : CacheFault) → IsAliasFault c e → e ≡ Spent → ⊥
+no_alias c e (inl list) same = no_place (field c 0 1) (sym list.is ∙ same)
+no_alias c e (inr text) same = no_text c e text same
+
+-- nor the tree's
+pub no_tree : (c : List ℕ) (at : ℕ) (e : CacheFault) → IsTreeFault c at e → e ≡ Spent → ⊥
+no_tree c at e (inl head) same = no_place at (sym head.1 ∙ same)
+no_tree c at e (inr (inl roots)) same = no_place (field c at 1) (sym roots.is ∙ same)
+no_tree c at e (inr (inr child)) same = no_place (field c child.0 2) (sym child.1.is ∙ same)

@@ -1,0 +1,3 @@
+-- Lemmas on what words mean.
+pub mod DirectoryParts
+pub mod Meanings

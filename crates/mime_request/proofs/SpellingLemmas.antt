@@ -1,0 +1,7 @@
+-- Lemmas on the usual spellings of the commands.
+pub mod BuildWords
+pub mod CacheWords
+pub mod UsualEnds
+pub mod UsualMeanings
+pub mod UsualRows
+pub mod UsualWords

@@ -1,0 +1,27 @@
+-- Words that clap takes for no option.
+use Rattle.std.proofs.Common.{◌≡◌, Bool, true, false, [], ◌∷◌, not, ◌&&◌, None, refl}
+use Rattle.std.specs.Str.{bytes_eq}
+use Rattle.clap.specs.Lexer.{long_of, short_of}
+use Rattle.clap.specs.Walk.{Text}
+use Rattle.mime_request.specs.Spelling.{is_option}
+
+-- a word that is taken for no option
+pub record IsPlainWord (word : Text) : Type 0 where
+  pub no_dashes : bytes_eq word (45 ∷ 45 ∷ []) ≡ false
+  pub no_long : long_of word ≡ None
+  pub no_short : short_of word ≡ None
+
+-- a word that looks like no option is plain
+pub plain_word : (word : Text) → is_option word ≡ false → IsPlainWord word
+plain_word [] h = record { no_dashes = refl; no_long = refl; no_short = refl }
+plain_word (x ∷ xs) h = record { no_dashes = rw h refl; no_long = rw h refl; no_short = rw h refl }
+
+-- of a conjunction with a negation both are known
+pub neither : (a b : Bool) → (not a && b) ≡ true → (a ≡ false) × (b ≡ true)
+neither true b h = absurd (cc)
+neither false b h = (refl, h)
+
+-- of a conjunction both hold
+pub both_of : (a b : Bool) → (a && b) ≡ true → (a ≡ true) × (b ≡ true)
+both_of true b h = (refl, h)
+both_of false b h = absurd (cc)

@@ -1,0 +1,3 @@
+-- Lemmas on `build`.
+pub mod BuildOvers
+pub mod Builds

@@ -1,0 +1,9 @@
+-- Lemmas on runs: how parts of a command follow one another, and how they end.
+pub mod Commands
+pub mod Endings
+pub mod Ends
+pub mod Loads
+pub mod Programs
+pub mod Runs
+pub mod SourceCommands
+pub mod Texts

@@ -1,0 +1,10 @@
+-- Lemmas on lines and sections of magic.
+pub mod LineParts
+pub mod LineRows
+pub mod LineValues
+pub mod LinesLeft
+pub mod SectionParts
+pub mod SectionRows
+pub mod SectionsLeft
+pub mod StandingValues
+pub mod MagicLists

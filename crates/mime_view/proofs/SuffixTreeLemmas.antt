@@ -1,0 +1,15 @@
+-- Lemmas on the suffix tree: its siblings, its leaves, and a walk along a name.
+pub mod PathFronts
+pub mod TreeBlocks
+pub mod TreeScans
+pub mod TreeRules
+pub mod TreeStands
+pub mod TreeWalks
+pub mod TreePaths
+pub mod TreeBegins
+pub mod SiblingRows
+pub mod SiblingNodes
+pub mod TreeLeaves
+pub mod TreeOrder
+pub mod EndedRules
+pub mod TreesRead
