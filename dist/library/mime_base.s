@@ -2,273 +2,139 @@
 
 	.text
 	.p2align	4
-	.type	"mime_base::magic::ranges::value_in_windows",@function
-"mime_base::magic::ranges::value_in_windows":
+	.type	"mime_base::magic::ranges::value_is",@function
+"mime_base::magic::ranges::value_is":
 	pushq	%rbp
-	pushq	%r15
 	pushq	%r14
-	pushq	%r13
-	pushq	%r12
 	pushq	%rbx
-	subq	$72, %rsp
-	movq	%rcx, %rbx
-	movq	%rdx, %r10
-	movq	%rsi, %r15
-	movq	152(%rsp), %r11
-	movq	136(%rsp), %r14
-	movq	128(%rsp), %r13
-	testq	%rcx, %rcx
-	setne	%al
-	testq	%rsi, %rsi
-	sete	%cl
-	orb	%al, %cl
-	movq	%rdx, 16(%rsp)
-	movq	%rdi, 24(%rsp)
-	jne	3f
+	movq	40(%rsp), %rax
 	testb	%r9b, %r9b
 	je	2f
 1:
-	movzbl	(%rdi), %eax
-	leaq	(%r14,%r13), %rsi
-	movq	144(%rsp), %r13
-	subq	%r14, %r13
-	cmpq	$1, %r13
-	jne	20f
-	xorl	%edx, %edx
-	cmpb	%al, (%rsi)
-	setne	%dl
-	jmp	21f
+	movl	$1, %r9d
+	jmp	3f
 2:
 	cmpl	$2, %r8d
-	sete	%al
-	testb	$1, %r15b
-	sete	%cl
-	testb	%al, %cl
+	sete	%r10b
+	testb	$1, %sil
+	sete	%r11b
+	movl	$2, %r9d
+	testb	%r10b, %r11b
 	jne	3f
 	cmpl	$4, %r8d
-	sete	%al
-	testb	$3, %r15b
-	sete	%cl
-	testb	%al, %cl
+	sete	%r8b
+	testb	$3, %sil
+	sete	%r10b
+	movl	$4, %r9d
+	testb	%r8b, %r10b
 	je	1b
 3:
-	cmpq	144(%rsp), %r14
-	jae	22f
+	movq	48(%rsp), %r8
+	testq	%rax, %rax
+	je	6f
+	movq	32(%rsp), %r10
+	cmpl	$2, %r9d
+	je	7f
+	cmpl	$4, %r9d
+	jne	10f
+	addq	$3, %rdx
+	addq	$3, %rdi
+	xorl	%r11d, %r11d
+	xorl	%r9d, %r9d
+	.p2align	4
 4:
-	testq	%r15, %r15
-	sete	%al
-	testq	%rbx, %rbx
-	setne	%bpl
-	testb	%r9b, %r9b
-	sete	%cl
-	cmpl	$2, %r8d
-	sete	%dl
-	testb	$1, %r15b
-	sete	%sil
-	andb	%dl, %sil
-	cmpl	$4, %r8d
-	sete	%dl
-	testb	$3, %r15b
-	sete	%r8b
-	andb	%dl, %r8b
-	orb	%sil, %r8b
-	andb	%cl, %r8b
-	xorb	$1, %sil
-	movzbl	%sil, %ecx
-	leaq	2(,%rcx,2), %rcx
-	testb	%r8b, %r8b
-	movl	$1, %edx
-	cmovneq	%rcx, %rdx
-	movq	%rdx, 64(%rsp)
-	orb	%al, %bpl
-	orb	%r8b, %bpl
-	movb	%bpl, 15(%rsp)
-	leaq	3(%r10), %rax
-	movq	%rax, 56(%rsp)
-	leaq	3(%rdi), %rax
-	movq	%rax, 48(%rsp)
-	leaq	1(%r10), %rax
-	movq	%rax, 40(%rsp)
-	leaq	1(%rdi), %rax
-	movq	%rax, 32(%rsp)
-	movq	144(%rsp), %r10
-	jmp	8f
-	.p2align	4
+	movl	%r11d, %ebx
+	andl	$6, %ebx
+	movq	%r9, %r14
+	subq	%rbx, %r14
+	addq	$3, %r14
+	movb	$-1, %bpl
+	cmpq	%rcx, %r14
+	jae	5f
+	movq	%rdx, %r14
+	subq	%rbx, %r14
+	movzbl	(%r14,%r9), %ebp
 5:
-	movzbl	%al, %edi
-	movq	%r13, %rdx
-	callq	"memchr::bytes::memchr"
-	movq	144(%rsp), %r10
-	movq	152(%rsp), %r11
-	movq	24(%rsp), %rdi
-	testb	$1, %al
-	cmoveq	%r13, %rdx
+	movq	%rdi, %r14
+	subq	%rbx, %r14
+	movzbl	(%r14,%r9), %ebx
+	xorb	(%r10,%r9), %bl
+	testb	%bpl, %bl
+	jne	14f
+	incq	%r9
+	addq	$2, %r11
+	cmpq	%r9, %rax
+	jne	4b
+	jmp	13f
 6:
-	addq	%rdx, %r12
-	movq	$-1, %rax
-	cmovaeq	%r12, %rax
-	movq	%rax, 8(%r11)
-	addq	%rdx, %r14
-	movq	128(%rsp), %r13
+	xorl	%r9d, %r9d
+	jmp	14f
 7:
-	cmpq	%r10, %r14
-	jae	23f
-8:
-	testq	%r15, %r15
-	je	11f
-	leaq	(%r14,%r13), %rcx
-	movq	64(%rsp), %rax
-	cmpl	$2, %eax
-	je	12f
-	cmpl	$4, %eax
-	jne	15f
-	xorl	%edx, %edx
-	xorl	%eax, %eax
-	movq	56(%rsp), %r12
-	movq	48(%rsp), %rbp
+	incq	%rdx
+	incq	%rdi
+	xorl	%r11d, %r11d
+	xorl	%r9d, %r9d
 	.p2align	4
+8:
+	movl	%r11d, %ebx
+	andl	$2, %ebx
+	movq	%r9, %r14
+	subq	%rbx, %r14
+	incq	%r14
+	movb	$-1, %bpl
+	cmpq	%rcx, %r14
+	jae	9f
+	movq	%rdx, %r14
+	subq	%rbx, %r14
+	movzbl	(%r14,%r9), %ebp
 9:
-	movl	%edx, %esi
-	andl	$6, %esi
-	movq	%rax, %r8
-	subq	%rsi, %r8
-	addq	$3, %r8
-	movb	$-1, %r9b
-	cmpq	%rbx, %r8
-	jae	10f
-	movq	%r12, %r8
-	subq	%rsi, %r8
-	movzbl	(%r8,%rax), %r9d
+	movq	%rdi, %r14
+	subq	%rbx, %r14
+	movzbl	(%r14,%r9), %ebx
+	xorb	(%r10,%r9), %bl
+	testb	%bpl, %bl
+	jne	14f
+	incq	%r9
+	addq	$2, %r11
+	cmpq	%r9, %rax
+	jne	8b
+	jmp	13f
 10:
-	movq	%rbp, %r8
-	subq	%rsi, %r8
-	movzbl	(%r8,%rax), %esi
-	xorb	(%rcx,%rax), %sil
-	testb	%r9b, %sil
-	jne	19f
-	incq	%rax
-	addq	$2, %rdx
-	cmpq	%rax, %r15
-	jne	9b
-	jmp	18f
+	xorl	%r9d, %r9d
 	.p2align	4
 11:
-	xorl	%eax, %eax
-	jmp	19f
-	.p2align	4
+	movb	$-1, %r11b
+	cmpq	%rcx, %r9
+	jae	12f
+	movzbl	(%rdx,%r9), %r11d
 12:
-	xorl	%edx, %edx
-	xorl	%eax, %eax
-	movq	40(%rsp), %r12
-	movq	32(%rsp), %rbp
-	.p2align	4
+	movzbl	(%rdi,%r9), %ebx
+	xorb	(%r10,%r9), %bl
+	testb	%r11b, %bl
+	jne	14f
+	incq	%r9
+	cmpq	%r9, %rax
+	jne	11b
 13:
-	movl	%edx, %esi
-	andl	$2, %esi
-	movq	%rax, %r8
-	subq	%rsi, %r8
-	incq	%r8
-	movb	$-1, %r9b
-	cmpq	%rbx, %r8
-	jae	14f
-	movq	%r12, %r8
-	subq	%rsi, %r8
-	movzbl	(%r8,%rax), %r9d
+	movq	%rax, %r9
 14:
-	movq	%rbp, %r8
-	subq	%rsi, %r8
-	movzbl	(%r8,%rax), %esi
-	xorb	(%rcx,%rax), %sil
-	testb	%r9b, %sil
-	jne	19f
-	incq	%rax
-	addq	$2, %rdx
-	cmpq	%rax, %r15
-	jne	13b
-	jmp	18f
-	.p2align	4
-15:
-	xorl	%eax, %eax
-	movq	16(%rsp), %r8
-	.p2align	4
-16:
-	movb	$-1, %dl
-	cmpq	%rbx, %rax
-	jae	17f
-	movzbl	(%r8,%rax), %edx
-17:
-	movzbl	(%rdi,%rax), %esi
-	xorb	(%rcx,%rax), %sil
-	testb	%dl, %sil
-	jne	19f
-	incq	%rax
-	cmpq	%rax, %r15
-	jne	16b
-18:
-	movq	%r15, %rax
-19:
-	movq	%rax, %r12
-	incq	%r12
-	movq	$-1, %rcx
-	cmoveq	%rcx, %r12
-	cmpq	%r12, %r15
-	cmovbq	%r15, %r12
-	addq	8(%r11), %r12
-	cmovbq	%rcx, %r12
-	movq	%r12, 8(%r11)
-	cmpq	%r15, %rax
-	sete	%bpl
-	je	23f
-	incq	%r14
-	cmpb	$0, 15(%rsp)
-	jne	7b
-	movzbl	(%rdi), %eax
-	leaq	(%r14,%r13), %rsi
-	movq	%r10, %r13
-	subq	%r14, %r13
-	cmpq	$1, %r13
-	jne	5b
-	xorl	%edx, %edx
-	cmpb	%al, (%rsi)
-	setne	%dl
-	jmp	6b
-20:
-	movzbl	%al, %edi
-	movq	%r13, %rdx
-	movl	%r8d, %ebp
-	movl	%r9d, %r12d
-	callq	"memchr::bytes::memchr"
-	movq	152(%rsp), %r11
-	movq	24(%rsp), %rdi
-	movl	%r12d, %r9d
-	movl	%ebp, %r8d
-	movq	16(%rsp), %r10
-	testb	$1, %al
-	cmoveq	%r13, %rdx
-21:
-	movq	8(%r11), %rax
-	addq	%rdx, %rax
-	movq	$-1, %rcx
-	cmovaeq	%rax, %rcx
-	movq	%rcx, 8(%r11)
-	addq	%rdx, %r14
-	movq	128(%rsp), %r13
-	cmpq	144(%rsp), %r14
-	jb	4b
-22:
-	xorl	%ebp, %ebp
-23:
-	movl	%ebp, %eax
-	addq	$72, %rsp
+	movq	%r9, %rcx
+	incq	%rcx
+	movq	$-1, %rdx
+	cmoveq	%rdx, %rcx
+	cmpq	%rcx, %rsi
+	cmovbq	%rsi, %rcx
+	addq	8(%r8), %rcx
+	cmovbq	%rdx, %rcx
+	movq	%rcx, 8(%r8)
+	cmpq	%rax, %r9
+	sete	%al
 	popq	%rbx
-	popq	%r12
-	popq	%r13
 	popq	%r14
-	popq	%r15
 	popq	%rbp
 	retq
-24:
-	.size	"mime_base::magic::ranges::value_in_windows", 24b-"mime_base::magic::ranges::value_in_windows"
+15:
+	.size	"mime_base::magic::ranges::value_is", 15b-"mime_base::magic::ranges::value_is"
 
 	.text
 	.p2align	4

@@ -1079,221 +1079,129 @@
 	pushq	%r13
 	pushq	%r12
 	pushq	%rbx
-	subq	$152, %rsp
+	subq	$120, %rsp
 	movq	%r9, %r14
-	movq	%rdi, 40(%rsp)
-	movq	(%rsi), %rbp
-	movq	8(%rsi), %rax
-	movq	%rax, 56(%rsp)
-	movq	16(%rsi), %rax
-	movq	%rax, 64(%rsp)
-	movzbl	24(%rsi), %eax
-	movb	%al, 39(%rsp)
-	movl	28(%rsi), %eax
-	movl	%eax, 51(%rsp)
-	movl	25(%rsi), %eax
-	movl	%eax, 48(%rsp)
+	movl	%r8d, %ebp
+	movq	%rdi, %rbx
+	movups	(%rsi), %xmm0
+	movups	16(%rsi), %xmm1
+	movaps	%xmm0, 48(%rsp)
+	movaps	%xmm1, 64(%rsp)
 	movl	%edx, %r15d
-	movl	%ecx, %ebx
-	movq	%r8, 112(%rsp)
-	leal	1(%r8), %eax
-	movl	%eax, 76(%rsp)
+	movl	%ecx, %r12d
+	movq	48(%rsp), %r13
+	movq	56(%rsp), %rax
+	movq	%rax, 32(%rsp)
+	movq	64(%rsp), %rax
+	movq	%rax, 40(%rsp)
 	.p2align	4
 1:
-	xorps	%xmm0, %xmm0
-	movaps	%xmm0, 80(%rsp)
-	movq	$0, 96(%rsp)
 	movq	16(%r14), %rax
-	movb	$5, %cl
 	testq	%rax, %rax
-	je	16f
-	decq	%rax
-	movq	%rax, 16(%r14)
-	movq	(%r14), %rdx
-	movq	24(%r14), %rax
-	incq	%rdx
-	movq	$-1, %rsi
-	cmovneq	%rdx, %rsi
-	movq	%rsi, (%r14)
-	movq	(%rbp), %r10
-	movl	12(%r10,%r15), %edi
-	movl	%edi, %esi
-	bswapl	%esi
-	subq	%rsi, %rax
-	jb	16f
-	movl	4(%r10,%r15), %r9d
-	movl	8(%r10,%r15), %r8d
-	movl	16(%r10,%r15), %ecx
-	movl	20(%r10,%r15), %edx
-	movl	24(%r10,%r15), %r12d
-	movl	28(%r10,%r15), %r13d
-	movl	(%r10,%r15), %r10d
-	movq	%rax, 24(%r14)
-	xorl	%eax, %eax
-	testl	%r9d, %r9d
-	je	8f
-	bswapl	%r10d
-	leaq	(%r10,%rsi), %r11
-	cmpq	%r11, 64(%rsp)
-	jb	8f
-	testl	%edi, %edi
-	je	5f
-	bswapl	%ecx
-	movq	8(%rbp), %r11
-	movl	%ecx, %eax
-	movq	%r11, %rdi
-	movb	$3, %cl
-	subq	%rax, %rdi
-	jb	17f
-	cmpq	%rsi, %rdi
-	jb	17f
-	movq	(%rbp), %rdi
-	testl	%edx, %edx
 	je	2f
-	bswapl	%edx
-	movl	%edx, %edx
-	subq	%rdx, %r11
-	jb	14f
-	cmpq	%rsi, %r11
-	jb	14f
-	addq	%rdi, %rdx
-	movq	%rsi, %rcx
-	addq	%rax, %rdi
-	cmpl	$16777216, %r9d
-	je	3f
-	jmp	4f
-2:
-	leaq	.L88993823cc4d(%rip), %rdx
-	xorl	%ecx, %ecx
-	addq	%rax, %rdi
-	cmpl	$16777216, %r9d
-	jne	4f
-3:
-	testq	%rcx, %rcx
-	jne	4f
-	cmpl	$16777216, %r8d
-	jne	4f
-	movq	56(%rsp), %rax
-	movzbl	(%rax,%r10), %eax
-	cmpb	(%rdi), %al
-	jne	10f
-4:
+	movq	24(%r14), %rcx
+	movq	(%r14), %rsi
+	incq	%rsi
+	movq	$-1, %rdx
+	cmovneq	%rsi, %rdx
+	movq	(%r13), %rsi
+	movl	12(%rsi,%r15), %edi
+	movl	%edi, %r8d
 	bswapl	%r8d
-	bswapl	%r9d
-	movq	64(%rsp), %rax
-	subq	%rsi, %rax
-	addq	%r10, %r9
-	incq	%rax
-	cmpq	%r9, %rax
-	cmovaeq	%r9, %rax
-	movq	%r14, 24(%rsp)
-	movq	%r10, 8(%rsp)
-	movq	56(%rsp), %r9
-	movq	%r9, (%rsp)
-	movq	%rax, 16(%rsp)
-	movzbl	39(%rsp), %r9d
-	callq	"mime_base::magic::ranges::value_in_windows"
+	subq	%r8, %rcx
+	jae	3f
+2:
 	xorps	%xmm0, %xmm0
-	testb	%al, %al
-	je	7f
-5:
-	testl	%r12d, %r12d
-	je	6f
-	cmpl	$63, 112(%rsp)
-	je	15f
-	bswapl	%r12d
-	bswapl	%r13d
-	movl	%r13d, %eax
-	movl	%r12d, %ecx
-	shlq	$5, %rcx
-	addq	%rax, %rcx
-	cmpq	%rcx, 8(%rbp)
-	jb	19f
-	movq	%rbp, 120(%rsp)
-	movq	56(%rsp), %rax
-	movq	%rax, 128(%rsp)
-	movq	64(%rsp), %rax
-	movq	%rax, 136(%rsp)
-	movzbl	39(%rsp), %eax
-	movb	%al, 144(%rsp)
-	movl	48(%rsp), %eax
-	movl	51(%rsp), %ecx
-	leaq	145(%rsp), %rdx
-	movl	%ecx, 3(%rdx)
-	movl	%eax, (%rdx)
-	leaq	80(%rsp), %rdi
-	leaq	120(%rsp), %rsi
-	movl	%r13d, %edx
-	movl	%r12d, %ecx
-	movl	76(%rsp), %r8d
-	movq	%r14, %r9
-	callq	"mime_view::magic::some_child_holds"
-	cmpb	$0, 80(%rsp)
-	jne	20f
-	movzbl	81(%rsp), %eax
-	xorps	%xmm0, %xmm0
-	testb	$1, %al
-	je	9f
-	jmp	11f
-6:
-	movb	$1, %al
-	xorps	%xmm0, %xmm0
-	testb	$1, %al
-	je	9f
-	jmp	11f
-7:
-	xorl	%eax, %eax
-	.p2align	4
-8:
-	xorps	%xmm0, %xmm0
-	testb	$1, %al
-	jne	11f
-9:
+	movaps	%xmm0, (%rsp)
+	movq	$0, 16(%rsp)
+	movups	(%r14), %xmm0
+	movups	16(%r14), %xmm1
+	movaps	%xmm0, 80(%rsp)
+	movaps	%xmm1, 96(%rsp)
+	movq	%rsp, %rdi
+	leaq	48(%rsp), %rsi
+	leaq	80(%rsp), %r8
+	movq	%r15, %rdx
+	movl	%ebp, %ecx
+	callq	"mime_view::magic::whole_line_holds"
+	movaps	80(%rsp), %xmm0
+	movaps	96(%rsp), %xmm1
+	movups	%xmm1, 16(%r14)
+	movups	%xmm0, (%r14)
+	cmpb	$0, (%rsp)
+	jne	5f
+	testb	$1, 1(%rsp)
+	jne	6f
 	addq	$32, %r15
-	decq	%rbx
+	decq	%r12
 	jne	1b
-	jmp	12f
-10:
-	movq	8(%r14), %rax
-	incq	%rax
-	movq	$-1, %rcx
-	cmovneq	%rax, %rcx
-	movq	%rcx, 8(%r14)
+	jmp	4f
+	.p2align	4
+3:
+	cmpl	$16777216, 4(%rsi,%r15)
+	jne	2b
+	cmpl	$0, 20(%rsi,%r15)
+	jne	2b
+	movl	(%rsi,%r15), %r9d
+	bswapl	%r9d
+	leaq	(%r9,%r8), %r10
+	cmpq	%r10, 40(%rsp)
+	jb	2b
+	movl	16(%rsi,%r15), %r10d
+	bswapl	%r10d
+	movq	8(%r13), %r11
+	movl	%r10d, %r10d
+	subq	%r10, %r11
+	jb	2b
+	cmpq	%r8, %r11
+	jb	2b
+	cmpl	$16777216, 8(%rsi,%r15)
+	jne	2b
+	testl	%edi, %edi
+	je	2b
+	movq	32(%rsp), %rdi
+	movzbl	(%rdi,%r9), %edi
+	cmpb	(%rsi,%r10), %dil
+	je	2b
+	movq	8(%r14), %rsi
+	decq	%rax
+	incq	%rsi
+	movq	$-1, %rdi
+	cmovneq	%rsi, %rdi
+	movq	%rdx, (%r14)
+	movq	%rdi, 8(%r14)
+	movq	%rax, 16(%r14)
+	movq	%rcx, 24(%r14)
+	addq	$32, %r15
+	decq	%r12
+	jne	1b
+4:
 	xorl	%eax, %eax
 	xorps	%xmm0, %xmm0
-	testb	$1, %al
-	je	9b
-11:
-	movb	$1, %dl
-	xorl	%ecx, %ecx
-	jmp	13f
-12:
 	xorl	%ecx, %ecx
 	xorl	%edx, %edx
-13:
 	xorl	%esi, %esi
-	xorl	%eax, %eax
-	movq	40(%rsp), %rdi
-	jmp	18f
-14:
-	movq	%rdx, %rax
-	jmp	17f
-15:
-	movb	$6, %cl
-16:
-	xorl	%eax, %eax
-17:
-	movq	40(%rsp), %rdi
-	movzbl	%cl, %esi
+	jmp	7f
+5:
+	movzbl	8(%rsp), %edx
+	movss	10(%rsp), %xmm0
+	movq	16(%rsp), %rsi
+	movb	$1, %al
+	xorl	%ecx, %ecx
+	jmp	7f
+6:
 	movb	$1, %cl
+	xorl	%eax, %eax
 	xorl	%edx, %edx
-18:
-	movb	%cl, (%rdi)
-	movb	%dl, 1(%rdi)
-	movw	%si, 8(%rdi)
-	movss	%xmm0, 10(%rdi)
-	movq	%rax, 16(%rdi)
-	addq	$152, %rsp
+	xorl	%esi, %esi
+	xorps	%xmm0, %xmm0
+7:
+	movb	%al, (%rbx)
+	movb	%cl, 1(%rbx)
+	movw	%dx, 8(%rbx)
+	movss	%xmm0, 10(%rbx)
+	movq	%rsi, 16(%rbx)
+	addq	$120, %rsp
 	popq	%rbx
 	popq	%r12
 	popq	%r13
@@ -1301,16 +1209,585 @@
 	popq	%r15
 	popq	%rbp
 	retq
-19:
-	movb	$3, %cl
-	jmp	17b
-20:
-	movzbl	88(%rsp), %ecx
-	movss	90(%rsp), %xmm0
+8:
+	.size	"mime_view::magic::some_child_holds", 8b-"mime_view::magic::some_child_holds"
+
+	.text
+	.p2align	4
+	.type	"mime_view::magic::whole_line_holds",@function
+"mime_view::magic::whole_line_holds":
+	pushq	%rbp
+	pushq	%r15
+	pushq	%r14
+	pushq	%r13
+	pushq	%r12
+	pushq	%rbx
+	subq	$184, %rsp
+	pxor	%xmm0, %xmm0
+	movdqa	%xmm0, 112(%rsp)
+	movq	$0, 128(%rsp)
+	movq	16(%r8), %rax
+	movw	$5, %r11w
+	testq	%rax, %rax
+	je	1f
+	decq	%rax
+	movq	%rax, 16(%r8)
+	movq	(%rsi), %rbx
+	movq	(%r8), %rax
+	movq	24(%r8), %r14
+	incq	%rax
+	movq	$-1, %r9
+	cmovneq	%rax, %r9
+	movq	%r9, (%r8)
+	movq	(%rbx), %r15
+	movl	12(%r15,%rdx), %eax
+	movl	%eax, %r9d
+	bswapl	%r9d
+	subq	%r9, %r14
+	jae	3f
+1:
+	xorl	%edx, %edx
+2:
+	movw	$1, (%rdi)
+	movw	%r11w, 8(%rdi)
+	movl	$0, 10(%rdi)
+	movq	%rdx, 16(%rdi)
+	jmp	16f
+3:
+	movl	%ecx, 88(%rsp)
+	movl	4(%r15,%rdx), %r10d
+	movl	8(%r15,%rdx), %ecx
+	movl	16(%r15,%rdx), %r11d
+	movl	20(%r15,%rdx), %ebp
+	movl	24(%r15,%rdx), %r12d
+	movl	%r12d, 92(%rsp)
+	movl	28(%r15,%rdx), %r12d
+	movl	%r12d, 84(%rsp)
+	movl	(%r15,%rdx), %r15d
+	movq	%r14, 24(%r8)
+	testl	%r10d, %r10d
+	je	13f
+	bswapl	%r15d
+	movq	16(%rsi), %r14
+	leaq	(%r15,%r9), %rdx
+	movq	%r14, 104(%rsp)
+	cmpq	%rdx, %r14
+	jb	13f
+	testl	%eax, %eax
+	je	37f
+	bswapl	%r11d
+	movq	8(%rbx), %r12
+	movl	%r11d, %edx
+	movq	%r12, %r11
+	subq	%rdx, %r11
+	setae	%r13b
+	cmpq	%r9, %r11
+	setae	%r14b
+	andb	%r13b, %r14b
+	movq	%rdx, %r13
+	cmovneq	%r9, %r13
+	movw	$3, %r11w
+	cmpb	$1, %r14b
+	jne	2b
+	movq	8(%rsi), %r14
+	movq	%r14, 32(%rsp)
+	movzbl	24(%rsi), %r14d
+	movb	%r14b, 30(%rsp)
+	movq	(%rbx), %rbx
+	testl	%ebp, %ebp
+	je	4f
+	movq	%rbx, 72(%rsp)
+	bswapl	%ebp
+	movl	%ebp, %r14d
+	subq	%r14, %r12
+	setae	%bl
+	cmpq	%r9, %r12
+	setae	%bpl
+	andb	%bl, %bpl
+	cmpb	$1, %bpl
+	jne	8f
+	movq	72(%rsp), %rbx
+	addq	%rbx, %r14
+	movq	%r9, %rbp
+	jmp	5f
+4:
+	leaq	.L88993823cc4d(%rip), %r14
+	xorl	%ebp, %ebp
+5:
+	addq	%rdx, %rbx
+	cmpl	$16777216, %r10d
+	sete	%dl
+	testq	%rbp, %rbp
+	sete	%r11b
+	andb	%dl, %r11b
+	cmpl	$16777216, %ecx
+	sete	%dl
+	andb	%r11b, %dl
+	cmpb	$1, %dl
+	jne	6f
+	movq	32(%rsp), %rdx
+	movzbl	(%rdx,%r15), %edx
+	cmpb	(%rbx), %dl
+	jne	12f
+6:
+	movq	%r14, 56(%rsp)
+	movl	%ecx, %r14d
+	bswapl	%r14d
+	bswapl	%r10d
+	movq	104(%rsp), %r12
+	subq	%r9, %r12
+	addq	%r15, %r10
+	incq	%r12
+	cmpq	%r10, %r12
+	cmovaeq	%r10, %r12
+	cmpl	$33554432, %ecx
+	sete	%r10b
+	testb	$1, %r9b
+	sete	%dl
+	cmpl	$67108864, %ecx
+	sete	%cl
+	testb	$3, %r9b
+	sete	%r9b
+	testq	%rbp, %rbp
+	movq	%rdi, 48(%rsp)
+	movq	%r8, 40(%rsp)
+	movq	%rsi, 64(%rsp)
+	je	9f
+7:
+	cmpq	%r15, %r12
+	je	13f
+	movq	32(%rsp), %rax
+	addq	%r15, %rax
+	movq	%r8, 16(%rsp)
+	movq	%r13, 8(%rsp)
+	movq	%rax, (%rsp)
+	movzbl	30(%rsp), %r9d
+	movq	%rbx, %rdi
+	movq	%r13, %rsi
+	movq	56(%rsp), %rdx
+	movq	%rbp, %rcx
+	movl	%r14d, %r8d
+	callq	"mime_base::magic::ranges::value_is"
+	movq	64(%rsp), %rsi
+	movq	40(%rsp), %r8
+	movq	48(%rsp), %rdi
+	testb	%al, %al
+	jne	37f
+	incq	%r15
+	cmpq	%r12, %r15
+	jb	7b
+	jmp	13f
+8:
+	movq	%r14, %rdx
+	jmp	2b
+9:
+	andb	%dl, %r10b
+	andb	%r9b, %cl
+	cmpl	$16777216, %eax
+	movl	%r10d, %ebp
+	jne	17f
+	cmpb	$0, 30(%rsp)
+	je	31f
+10:
+	movq	%r12, %r13
+	subq	%r15, %r13
+	cmpq	$2, %r13
+	jb	11f
+	movq	32(%rsp), %rax
+	leaq	(%rax,%r15), %rsi
+	movzbl	(%rbx), %edi
+	movq	%r13, %rdx
+	callq	"memchr::bytes::memchr"
+	movq	40(%rsp), %r8
+	movq	48(%rsp), %rdi
+	testb	$1, %al
+	cmoveq	%r13, %rdx
+	movq	8(%r8), %rax
+	addq	%rdx, %rax
+	movq	$-1, %rcx
+	cmovaeq	%rax, %rcx
+	movq	%rcx, 8(%r8)
+	addq	%rdx, %r15
+11:
+	cmpq	%r12, %r15
+	je	13f
+	movq	32(%rsp), %rax
+	addq	%r15, %rax
+	movq	%r8, 16(%rsp)
+	movq	%rax, (%rsp)
+	movq	$1, 8(%rsp)
+	movzbl	30(%rsp), %r9d
+	movl	$1, %esi
+	movq	%rbx, %rdi
+	movq	56(%rsp), %rdx
+	xorl	%ecx, %ecx
+	movl	%r14d, %r8d
+	callq	"mime_base::magic::ranges::value_is"
+	movq	64(%rsp), %rsi
+	movq	40(%rsp), %r8
+	movq	48(%rsp), %rdi
+	testb	%al, %al
+	jne	37f
+	incq	%r15
+	cmpq	%r12, %r15
+	jb	10b
+	jmp	13f
+12:
+	movq	8(%r8), %rax
+	incq	%rax
+	movq	$-1, %rcx
+	cmovneq	%rax, %rcx
+	movq	%rcx, 8(%r8)
+13:
+	movw	$0, (%rdi)
+14:
+	movl	$0, 8(%rdi)
+15:
+	movw	$0, 12(%rdi)
+	movq	$0, 16(%rdi)
+16:
+	addq	$184, %rsp
+	popq	%rbx
+	popq	%r12
+	popq	%r13
+	popq	%r14
+	popq	%r15
+	popq	%rbp
+	retq
+17:
+	cmpb	$0, 30(%rsp)
+	sete	%al
+	orb	%cl, %bpl
+	andb	%al, %bpl
+	movq	32(%rsp), %rax
+	incq	%rax
+	movq	%rax, 96(%rsp)
+	movb	%bpl, 31(%rsp)
+	movq	%rbx, 72(%rsp)
+18:
+	movq	%r12, %rsi
+	subq	%r15, %rsi
+	cmpq	$2, %rsi
+	setb	%al
+	orb	%bpl, %al
+	jne	30f
+	movzbl	(%rbx), %r10d
+	movzbl	1(%rbx), %r9d
+	cmpq	$32, %rsi
+	jb	22f
+	movzbl	%r10b, %eax
+	movd	%eax, %xmm0
+	pxor	%xmm2, %xmm2
+	pshufb	%xmm2, %xmm0
+	movzbl	%r9b, %eax
+	movd	%eax, %xmm1
+	pshufb	%xmm2, %xmm1
 	movq	96(%rsp), %rax
-	jmp	17b
+	leaq	(%rax,%r15), %rcx
+	xorl	%eax, %eax
+	movq	%rsi, %r11
+	xorl	%edx, %edx
+	jmp	21f
+19:
+	xorl	%ebx, %ebx
+20:
+	addq	$32, %rax
+	addq	%rbx, %rdx
+	addq	$-32, %r11
+	cmpq	$31, %r11
+	jbe	23f
 21:
-	.size	"mime_view::magic::some_child_holds", 21b-"mime_view::magic::some_child_holds"
+	movdqu	-1(%rcx,%rax), %xmm2
+	movdqu	15(%rcx,%rax), %xmm3
+	pcmpeqb	%xmm0, %xmm2
+	pmovmskb	%xmm2, %ebp
+	pcmpeqb	%xmm0, %xmm3
+	pmovmskb	%xmm3, %ebx
+	shll	$16, %ebx
+	orl	%ebp, %ebx
+	je	19b
+	movdqu	(%rcx,%rax), %xmm4
+	movdqu	16(%rcx,%rax), %xmm5
+	pcmpeqb	%xmm1, %xmm4
+	pcmpeqb	%xmm1, %xmm5
+	pand	%xmm3, %xmm5
+	pand	%xmm2, %xmm4
+	por	%xmm5, %xmm4
+	pmovmskb	%xmm4, %ebp
+	testl	%ebp, %ebp
+	jne	23f
+	popcntl	%ebx, %ebx
+	jmp	20b
+22:
+	xorl	%edx, %edx
+	xorl	%eax, %eax
+23:
+	leaq	(%r15,%rax), %rbp
+	movq	104(%rsp), %rcx
+	subq	%rbp, %rcx
+	subq	%rax, %rsi
+	cmpq	$33, %rcx
+	jb	24f
+	cmpq	$3, %rsi
+	jbe	24f
+	movq	32(%rsp), %rcx
+	addq	%r15, %rcx
+	movzbl	%r10b, %r10d
+	movd	%r10d, %xmm0
+	pxor	%xmm1, %xmm1
+	pshufb	%xmm1, %xmm0
+	movdqu	(%rcx,%rax), %xmm2
+	movdqu	1(%rcx,%rax), %xmm3
+	movdqu	16(%rcx,%rax), %xmm4
+	movdqu	17(%rcx,%rax), %xmm5
+	pcmpeqb	%xmm0, %xmm2
+	pmovmskb	%xmm2, %ecx
+	pcmpeqb	%xmm0, %xmm4
+	pmovmskb	%xmm4, %r10d
+	shll	$16, %r10d
+	orl	%ecx, %r10d
+	movzbl	%r9b, %ecx
+	movd	%ecx, %xmm0
+	pshufb	%xmm1, %xmm0
+	pcmpeqb	%xmm0, %xmm3
+	pcmpeqb	%xmm5, %xmm0
+	pand	%xmm4, %xmm0
+	pand	%xmm2, %xmm3
+	pmovmskb	%xmm3, %ecx
+	pmovmskb	%xmm0, %r9d
+	shll	$16, %r9d
+	orl	%ecx, %r9d
+	movl	$64, %r11d
+	rep		bsfq	%r9, %r11
+	cmpq	%r11, %rsi
+	cmovbq	%rsi, %r11
+	cmpq	$32, %r11
+	movl	$32, %ecx
+	cmovbq	%r11, %rcx
+	movq	$-1, %rsi
+	shlq	%cl, %rsi
+	notl	%esi
+	andl	%r10d, %esi
+	xorl	%r11d, %r11d
+	popcntl	%esi, %r11d
+	jmp	29f
+24:
+	testq	%rsi, %rsi
+	je	28f
+	movq	%r12, %rbx
+	subq	%rax, %rbx
+	subq	%r15, %rbx
+	addq	96(%rsp), %rbp
+	xorl	%r11d, %r11d
+	xorl	%ecx, %ecx
+	jmp	26f
+25:
+	incq	%rcx
+	cmpq	%rcx, %rbx
+	je	27f
+26:
+	cmpb	%r10b, -1(%rbp,%rcx)
+	jne	25b
+	cmpb	%r9b, (%rbp,%rcx)
+	je	29f
+	incq	%r11
+	jmp	25b
+27:
+	movq	%rsi, %rcx
+	jmp	29f
+28:
+	xorl	%ecx, %ecx
+	xorl	%r11d, %r11d
+29:
+	addq	%rdx, %r11
+	addq	%rax, %rcx
+	movq	8(%r8), %rax
+	addq	%rcx, %rax
+	movq	$-1, %rdx
+	cmovbq	%rdx, %rax
+	addq	%r11, %rax
+	cmovbq	%rdx, %rax
+	movq	%rax, 8(%r8)
+	addq	%rcx, %r15
+	movq	72(%rsp), %rbx
+	movzbl	31(%rsp), %ebp
+30:
+	cmpq	%r12, %r15
+	je	13b
+	movq	32(%rsp), %rax
+	addq	%r15, %rax
+	movq	%r8, 16(%rsp)
+	movq	%r13, 8(%rsp)
+	movq	%rax, (%rsp)
+	movzbl	30(%rsp), %r9d
+	movq	%rbx, %rdi
+	movq	%r13, %rsi
+	movq	56(%rsp), %rdx
+	xorl	%ecx, %ecx
+	movl	%r14d, %r8d
+	callq	"mime_base::magic::ranges::value_is"
+	movq	64(%rsp), %rsi
+	movq	40(%rsp), %r8
+	movq	48(%rsp), %rdi
+	testb	%al, %al
+	jne	37f
+	incq	%r15
+	cmpq	%r12, %r15
+	jb	18b
+	jmp	13b
+31:
+	testb	%bpl, %bpl
+	je	33f
+32:
+	cmpq	%r15, %r12
+	je	13b
+	movq	32(%rsp), %rax
+	addq	%r15, %rax
+	movq	%r8, 16(%rsp)
+	movq	%rax, (%rsp)
+	movq	$1, 8(%rsp)
+	movl	$1, %esi
+	movq	%rbx, %rdi
+	movq	56(%rsp), %rdx
+	xorl	%ecx, %ecx
+	movl	$2, %r8d
+	xorl	%r9d, %r9d
+	callq	"mime_base::magic::ranges::value_is"
+	movq	64(%rsp), %rsi
+	movq	40(%rsp), %r8
+	movq	48(%rsp), %rdi
+	testb	%al, %al
+	jne	37f
+	incq	%r15
+	cmpq	%r12, %r15
+	jb	32b
+	jmp	13b
+33:
+	testb	%cl, %cl
+	je	35f
+34:
+	cmpq	%r15, %r12
+	je	13b
+	movq	32(%rsp), %rax
+	addq	%r15, %rax
+	movq	%r8, 16(%rsp)
+	movq	%rax, (%rsp)
+	movq	$1, 8(%rsp)
+	movl	$1, %esi
+	movq	%rbx, %rdi
+	movq	56(%rsp), %rdx
+	xorl	%ecx, %ecx
+	movl	$4, %r8d
+	xorl	%r9d, %r9d
+	callq	"mime_base::magic::ranges::value_is"
+	movq	64(%rsp), %rsi
+	movq	40(%rsp), %r8
+	movq	48(%rsp), %rdi
+	testb	%al, %al
+	jne	37f
+	incq	%r15
+	cmpq	%r12, %r15
+	jb	34b
+	jmp	13b
+35:
+	movq	%r12, %r13
+	subq	%r15, %r13
+	cmpq	$2, %r13
+	jb	36f
+	movq	32(%rsp), %rax
+	leaq	(%rax,%r15), %rsi
+	movzbl	(%rbx), %edi
+	movq	%r13, %rdx
+	callq	"memchr::bytes::memchr"
+	movq	40(%rsp), %r8
+	movq	48(%rsp), %rdi
+	testb	$1, %al
+	cmoveq	%r13, %rdx
+	movq	8(%r8), %rax
+	addq	%rdx, %rax
+	movq	$-1, %rcx
+	cmovaeq	%rax, %rcx
+	movq	%rcx, 8(%r8)
+	addq	%rdx, %r15
+36:
+	cmpq	%r12, %r15
+	je	13b
+	movq	32(%rsp), %rax
+	addq	%r15, %rax
+	movq	%r8, 16(%rsp)
+	movq	%rax, (%rsp)
+	movq	$1, 8(%rsp)
+	movl	$1, %esi
+	movq	%rbx, %rdi
+	movq	56(%rsp), %rdx
+	xorl	%ecx, %ecx
+	movl	%r14d, %r8d
+	xorl	%r9d, %r9d
+	callq	"mime_base::magic::ranges::value_is"
+	movq	64(%rsp), %rsi
+	movq	40(%rsp), %r8
+	movq	48(%rsp), %rdi
+	testb	%al, %al
+	jne	37f
+	incq	%r15
+	cmpq	%r12, %r15
+	jb	35b
+	jmp	13b
+37:
+	movl	92(%rsp), %ecx
+	testl	%ecx, %ecx
+	je	38f
+	movl	88(%rsp), %r10d
+	cmpl	$63, %r10d
+	jne	39f
+	movw	$1, (%rdi)
+	movl	$6, 8(%rdi)
+	jmp	15b
+38:
+	movw	$256, (%rdi)
+	jmp	14b
+39:
+	bswapl	%ecx
+	movl	84(%rsp), %edx
+	bswapl	%edx
+	movq	(%rsi), %r11
+	movl	%edx, %eax
+	movl	%ecx, %r9d
+	shlq	$5, %r9
+	addq	%rax, %r9
+	cmpq	%r9, 8(%r11)
+	jae	40f
+	movw	$1, (%rdi)
+	movl	$3, 8(%rdi)
+	movw	$0, 12(%rdi)
+	movq	%rax, 16(%rdi)
+	jmp	16b
+40:
+	movdqu	(%rsi), %xmm0
+	movdqu	16(%rsi), %xmm1
+	movdqa	%xmm1, 160(%rsp)
+	movdqa	%xmm0, 144(%rsp)
+	incl	%r10d
+	leaq	112(%rsp), %rax
+	leaq	144(%rsp), %rsi
+	movq	%rdi, %rbx
+	movq	%rax, %rdi
+	movq	%r8, %r9
+	movl	%r10d, %r8d
+	callq	"mime_view::magic::some_child_holds"
+	movzbl	112(%rsp), %eax
+	movb	%al, (%rbx)
+	movzbl	113(%rsp), %eax
+	movb	%al, 1(%rbx)
+	movzbl	120(%rsp), %eax
+	movw	%ax, 8(%rbx)
+	movl	122(%rsp), %eax
+	movl	%eax, 10(%rbx)
+	movq	128(%rsp), %rax
+	movq	%rax, 16(%rbx)
+	jmp	16b
+41:
+	.size	"mime_view::magic::whole_line_holds", 41b-"mime_view::magic::whole_line_holds"
 
 	.text
 	.p2align	4

@@ -120,6 +120,12 @@
 	.ascii	"[OPTIONS] "
 	.size	.L13a276205647, 10
 
+	.type	.L148ba5af0845,@object
+	.section	.rodata,"a",@progbits
+.L148ba5af0845:
+	.ascii	"mimelook type [-c CACHE | -d DIRS] [--name-only] [--magic-first] [--cost]\n                     [-0] [-b] [--escape] FILE..."
+	.size	.L148ba5af0845, 123
+
 	.type	.L14f56114f1a6,@object
 	.section	.rodata,"a",@progbits
 .L14f56114f1a6:
@@ -131,6 +137,12 @@
 .L1585dab617f1:
 	.ascii	"Print help (see more with '--help')"
 	.size	.L1585dab617f1, 35
+
+	.type	.L16bb5452660d,@object
+	.section	.rodata,"a",@progbits
+.L16bb5452660d:
+	.ascii	"Print a zero byte after FILE and one after TYPE, in\nplace of a colon and a newline"
+	.size	.L16bb5452660d, 82
 
 	.type	.L192cf5a5ec61,@object
 	.section	.rodata,"a",@progbits
@@ -149,6 +161,12 @@
 .L1b44da35fd51:
 	.ascii	"Let content of high priority (80 or more) decide\nbefore names"
 	.size	.L1b44da35fd51, 61
+
+	.type	.L1bc533bd799b,@object
+	.section	.rodata.cst4,"aM",@progbits,4
+.L1bc533bd799b:
+	.ascii	"null"
+	.size	.L1bc533bd799b, 4
 
 	.type	.L1d8de59378b4,@object
 	.section	.rodata.cst32,"aM",@progbits,32
@@ -259,12 +277,6 @@
 	.ascii	"number too small to fit in target type"
 	.size	.L2cc55e3b3d11, 38
 
-	.type	.L30a41c007cb7,@object
-	.section	.rodata,"a",@progbits
-.L30a41c007cb7:
-	.ascii	"mimelook type [-c CACHE | -d DIRS] [--name-only] [--cost]\n                     [--magic-first] FILE..."
-	.size	.L30a41c007cb7, 102
-
 	.type	.L32d1a5938230,@object
 	.section	.rodata,"a",@progbits
 .L32d1a5938230:
@@ -282,6 +294,12 @@
 .L337bb3f0084d:
 	.ascii	"Prints FILE: TYPE for each FILE, with no cache between"
 	.size	.L337bb3f0084d, 54
+
+	.type	.L349f7f79b527,@object
+	.section	.rodata,"aMS",@progbits,1
+.L349f7f79b527:
+	.zero	1
+	.size	.L349f7f79b527, 1
 
 	.type	.L357803851c0b,@object
 	.section	.rodata,"a",@progbits
@@ -331,6 +349,12 @@
 	.ascii	"file name contained an unexpected NUL byte"
 	.size	.L399de51ae489, 42
 
+	.type	.L39f4ebcc1166,@object
+	.section	.rodata,"a",@progbits
+.L39f4ebcc1166:
+	.ascii	"escape"
+	.size	.L39f4ebcc1166, 6
+
 	.type	.L3a4325345b7b,@object
 	.section	.rodata,"a",@progbits
 .L3a4325345b7b:
@@ -378,6 +402,12 @@
 .L3ef631d2bde6:
 	.ascii	"'.\n"
 	.size	.L3ef631d2bde6, 3
+
+	.type	.L3f2f752be469,@object
+	.section	.rodata.cst16,"aM",@progbits,16
+.L3f2f752be469:
+	.ascii	"Print TYPE alone"
+	.size	.L3f2f752be469, 16
 
 	.type	.L3f46215654cf,@object
 	.section	.rodata,"a",@progbits
@@ -509,6 +539,12 @@
 .L5892175444b0:
 	.ascii	"Messages go to standard error. The --help of a command says more of its exit\nstatuses. Without -c CACHE and -d DIRS, each command asks the user's data\ndirectories: XDG_DATA_HOME, or else .local/share below HOME, and then those of\nXDG_DATA_DIRS, or else /usr/local/share and /usr/share.\n\nExit status:\n  0  what was asked for was done; or help or the version was printed\n  1  some file not answered, or isa says no\n  2  the command line is wrong\n  3  database, cache or output refused\n  4  out of memory\n\nExamples:\n  $ mimelook type notes.txt\n  notes.txt: text/plain\n  $ mimelook type -c /usr/share/mime/mime.cache notes.txt\n  notes.txt: text/plain\n  $ mimelook build -d /usr/local/share:/usr/share -o mime.cache"
 	.size	.L5892175444b0, 710
+
+	.type	.L599d078cb9c2,@object
+	.section	.rodata,"a",@progbits
+.L599d078cb9c2:
+	.ascii	"give --escape or -0, not both"
+	.size	.L599d078cb9c2, 29
 
 	.type	.L5a0b363d9402,@object
 	.section	.rodata,"a",@progbits
@@ -816,12 +852,6 @@
 	.ascii	"budget spent"
 	.size	.L912ff23d9ff8, 12
 
-	.type	.L91e59d88e755,@object
-	.section	.rodata,"a",@progbits
-.L91e59d88e755:
-	.ascii	"mimelook plain [-d DIRS] [--name-only] [--magic-first] FILE..."
-	.size	.L91e59d88e755, 62
-
 	.type	.L920aa9c63673,@object
 	.section	.rodata.cst4,"aM",@progbits,4
 .L920aa9c63673:
@@ -1026,6 +1056,12 @@
 	.ascii	"- "
 	.size	.Lb6d94fa03dd2, 2
 
+	.type	.Lb765a8e8f8e2,@object
+	.section	.rodata,"a",@progbits
+.Lb765a8e8f8e2:
+	.ascii	"no text files"
+	.size	.Lb765a8e8f8e2, 13
+
 	.type	.Lb7b781d5a1fb,@object
 	.section	.rodata,"a",@progbits
 .Lb7b781d5a1fb:
@@ -1112,6 +1148,12 @@
 	.ascii	"cannot parse integer from empty string"
 	.size	.Lc1b67e27bb9f, 38
 
+	.type	.Lc289f296b462,@object
+	.section	.rodata,"a",@progbits
+.Lc289f296b462:
+	.ascii	"mimelook plain [-d DIRS] [--name-only] [--magic-first] [-0] [-b]\n                      [--escape] FILE..."
+	.size	.Lc289f296b462, 105
+
 	.type	.Lc353831ac29d,@object
 	.section	.rodata,"a",@progbits
 .Lc353831ac29d:
@@ -1153,6 +1195,24 @@
 .Lc6ab5bfca453:
 	.ascii	"must specify at least one of read, write, or append access"
 	.size	.Lc6ab5bfca453, 58
+
+	.type	.Lc86eb0c0bc7c,@object
+	.section	.data.rel.ro,"aw",@progbits
+	.p2align	3, 0x0
+.Lc86eb0c0bc7c:
+	.quad	.Lc86eb0c0bc7c+96
+	.asciz	"\006\000\000\000\000\000\000"
+	.quad	.Lc86eb0c0bc7c+102
+	.asciz	"\005\000\000\000\000\000\000"
+	.quad	.Lc86eb0c0bc7c+107
+	.asciz	"\007\000\000\000\000\000\000"
+	.quad	.Lc86eb0c0bc7c+114
+	.asciz	"\n\000\000\000\000\000\000"
+	.quad	.Lc86eb0c0bc7c+124
+	.asciz	"\005\000\000\000\000\000\000"
+	.quad	.Lc86eb0c0bc7c+129
+	.asciz	"\r\000\000\000\000\000\000\000globs2magicaliasessubclassesiconsgeneric-icons\000"
+	.size	.Lc86eb0c0bc7c, 144
 
 	.type	.Lc8bb6ad023bf,@object
 	.section	.rodata,"a",@progbits
@@ -1220,6 +1280,12 @@
 	.ascii	"mimelook"
 	.size	.Ld27fc74a6e00, 8
 
+	.type	.Ld4ff8cedf1ce,@object
+	.section	.rodata,"a",@progbits
+.Ld4ff8cedf1ce:
+	.ascii	"brief"
+	.size	.Ld4ff8cedf1ce, 5
+
 	.type	.Ld53bf20d4a47,@object
 	.section	.rodata,"a",@progbits
 .Ld53bf20d4a47:
@@ -1262,6 +1328,12 @@
 .Ld9a5e6fa4e6b:
 	.ascii	"|--"
 	.size	.Ld9a5e6fa4e6b, 3
+
+	.type	.Lda9e26e33836,@object
+	.section	.rodata,"a",@progbits
+.Lda9e26e33836:
+	.ascii	"In FILE and TYPE, write the bytes below 32, 127 and \\\nas \\ and three octal digits"
+	.size	.Lda9e26e33836, 81
 
 	.type	.Ldd8fd1fef8b0,@object
 	.section	.rodata,"a",@progbits
@@ -1376,6 +1448,12 @@
 .Leb88b6dc7e6f:
 	.ascii	"/.local/share"
 	.size	.Leb88b6dc7e6f, 13
+
+	.type	.Lec2ba9672c9d,@object
+	.section	.rodata,"a",@progbits
+.Lec2ba9672c9d:
+	.ascii	"give --cost without -0 and -b"
+	.size	.Lec2ba9672c9d, 29
 
 	.type	.Lef1df2877dd3,@object
 	.section	.rodata.cst4,"aM",@progbits,4
@@ -1504,12 +1582,12 @@
 	.quad	0,0,2,2,5,0,0,0,0
 	.size	".Lswitch.table.clap::builder::command::building::build_levels", 72
 
-	.type	".Lswitch.table.clap::builder::command::building::build_levels.1819",@object
+	.type	".Lswitch.table.clap::builder::command::building::build_levels.1818",@object
 	.section	.rodata,"a",@progbits
 	.p2align	3, 0x0
-".Lswitch.table.clap::builder::command::building::build_levels.1819":
+".Lswitch.table.clap::builder::command::building::build_levels.1818":
 	.quad	0,0,0,0,255,0,0,0,0
-	.size	".Lswitch.table.clap::builder::command::building::build_levels.1819", 72
+	.size	".Lswitch.table.clap::builder::command::building::build_levels.1818", 72
 
 	.type	".Lswitch.table.clap::parser::parse::Parser::check_value",@object
 	.section	.rodata.cst32,"aM",@progbits,32
@@ -1518,12 +1596,18 @@
 	.quad	38,29,38,38
 	.size	".Lswitch.table.clap::parser::parse::Parser::check_value", 32
 
-	.type	".Lswitch.table.clap::parser::parse::Parser::check_value.1820",@object
+	.type	".Lswitch.table.clap::parser::parse::Parser::check_value.1819",@object
 	.section	.data.rel.ro,"aw",@progbits
 	.p2align	3, 0x0
-".Lswitch.table.clap::parser::parse::Parser::check_value.1820":
+".Lswitch.table.clap::parser::parse::Parser::check_value.1819":
 	.quad	.Lc1b67e27bb9f
 	.quad	.Laa68302af712
 	.quad	.L6e2fce03fc0a
 	.quad	.L2cc55e3b3d11
-	.size	".Lswitch.table.clap::parser::parse::Parser::check_value.1820", 32
+	.size	".Lswitch.table.clap::parser::parse::Parser::check_value.1819", 32
+
+	.type	".Lswitch.table.mime_tool::system::SystemFilesFiles::whole::<#a1ba6ce099ef6b20>.1821",@object
+	.section	.rodata,"a",@progbits
+".Lswitch.table.mime_tool::system::SystemFilesFiles::whole::<#a1ba6ce099ef6b20>.1821":
+	.ascii	"\001\001\001\001\001\001\001\001\001\001\001\001\001\001\001\000\001\001\001\001\001\001\001\001\001\001\001\001\001\001\001\001\001\001\001\001\001\001\002\001\001\001"
+	.size	".Lswitch.table.mime_tool::system::SystemFilesFiles::whole::<#a1ba6ce099ef6b20>.1821", 42

@@ -55,95 +55,66 @@
 	pushq	%r13
 	pushq	%r12
 	pushq	%rbx
-	subq	$40, %rsp
+	subq	$56, %rsp
+	movq	%r9, 48(%rsp)
+	movl	%r8d, 44(%rsp)
 	testq	%rsi, %rsi
-	je	7f
-	movq	%r8, %rbx
+	je	5f
 	movq	%rcx, %r14
 	movq	%rdx, %r15
 	movq	%rsi, %r12
 	movq	%rdi, %r13
-	jmp	3f
-1:
-	movq	8(%rbx), %rax
-	incq	%rax
-	movq	$-1, %rcx
-	cmovneq	%rax, %rcx
-	movq	%rcx, 8(%rbx)
+	jmp	2f
 	.p2align	4
-2:
+1:
 	addq	$96, %r13
 	decq	%r12
-	je	7f
-3:
+	je	5f
+2:
 	cmpb	$1, 40(%r13)
-	jne	4f
+	jne	3f
 	movq	48(%r13), %rdx
 	movq	56(%r13), %rcx
-	movq	24(%r13), %rsi
-	movq	%r14, %rax
-	subq	%rsi, %rax
-	jb	2b
-	jmp	5f
+	jmp	4f
 	.p2align	4
-4:
+3:
 	leaq	.L22d5119de29e(%rip), %rdx
 	xorl	%ecx, %ecx
-	movq	24(%r13), %rsi
-	movq	%r14, %rax
-	subq	%rsi, %rax
-	jb	2b
-5:
-	movl	(%r13), %r9d
-	cmpq	%r9, %rax
-	jb	2b
+4:
 	movq	16(%r13), %rdi
+	movq	24(%r13), %rsi
 	movl	8(%r13), %r8d
-	movl	4(%r13), %r10d
-	movq	%r10, %r11
-	xorq	$1, %r11
-	orq	%rcx, %r11
-	jne	6f
-	testq	%rsi, %rsi
-	sete	%r11b
-	cmpl	$1, %r8d
-	setne	%bpl
-	orb	%r11b, %bpl
-	jne	6f
-	movzbl	(%r15,%r9), %r11d
-	cmpb	(%rdi), %r11b
-	jne	1b
-	.p2align	4
-6:
-	addq	%r9, %r10
-	incq	%rax
-	cmpq	%r10, %rax
-	cmovaeq	%r10, %rax
-	movq	%rbx, 24(%rsp)
-	movq	%r9, 8(%rsp)
-	movq	%r15, (%rsp)
+	movl	(%r13), %eax
+	movl	4(%r13), %r9d
+	movq	48(%rsp), %r10
+	movq	%r10, 32(%rsp)
+	movq	%r9, 24(%rsp)
 	movq	%rax, 16(%rsp)
-	xorl	%r9d, %r9d
-	callq	"mime_base::magic::ranges::value_in_windows"
+	movq	%r14, 8(%rsp)
+	movq	%r15, (%rsp)
+	movzbl	44(%rsp), %ebx
+	movl	%ebx, %r9d
+	callq	"mime_base::magic::ranges::value_in_range"
 	testb	%al, %al
-	je	2b
+	je	1b
 	movq	80(%r13), %rsi
 	movb	$1, %bpl
 	testq	%rsi, %rsi
-	je	8f
+	je	6f
 	movq	72(%r13), %rdi
 	movq	%r15, %rdx
 	movq	%r14, %rcx
-	movq	%rbx, %r8
+	movl	%ebx, %r8d
+	movq	48(%rsp), %r9
 	callq	"mime_base::magic::holding::some_line_matches"
 	testb	%al, %al
-	je	2b
-	jmp	8f
-7:
+	je	1b
+	jmp	6f
+5:
 	xorl	%ebp, %ebp
-8:
+6:
 	movl	%ebp, %eax
-	addq	$40, %rsp
+	addq	$56, %rsp
 	popq	%rbx
 	popq	%r12
 	popq	%r13
@@ -151,269 +122,153 @@
 	popq	%r15
 	popq	%rbp
 	retq
-9:
-	.size	"mime_base::magic::holding::some_line_matches", 9b-"mime_base::magic::holding::some_line_matches"
+7:
+	.size	"mime_base::magic::holding::some_line_matches", 7b-"mime_base::magic::holding::some_line_matches"
 
 	.text
 	.p2align	4
-	.type	"mime_base::magic::ranges::value_in_windows",@function
-"mime_base::magic::ranges::value_in_windows":
+	.type	"mime_base::magic::ranges::value_in_range",@function
+"mime_base::magic::ranges::value_in_range":
 	pushq	%rbp
 	pushq	%r15
 	pushq	%r14
 	pushq	%r13
 	pushq	%r12
 	pushq	%rbx
-	subq	$72, %rsp
-	movq	%rcx, %rbx
-	movq	%rdx, %r10
-	movq	%rsi, %r15
-	movq	152(%rsp), %r11
-	movq	136(%rsp), %r14
-	movq	128(%rsp), %r13
-	testq	%rcx, %rcx
-	setne	%al
-	testq	%rsi, %rsi
+	subq	$56, %rsp
+	movl	%r8d, 36(%rsp)
+	movq	%rdx, 48(%rsp)
+	movq	%rdi, 40(%rsp)
+	movq	120(%rsp), %r15
+	subq	%rsi, %r15
+	jb	7f
+	movq	128(%rsp), %rbx
+	cmpq	%rbx, %r15
+	jb	7f
+	movl	%r9d, %ebp
+	movq	%rcx, %r13
+	movq	%rsi, %r12
+	movq	136(%rsp), %rax
+	movq	112(%rsp), %r14
+	movq	%rax, %rcx
+	xorq	$1, %rcx
+	orq	%r13, %rcx
+	jne	1f
+	testq	%r12, %r12
 	sete	%cl
-	orb	%al, %cl
-	movq	%rdx, 16(%rsp)
-	movq	%rdi, 24(%rsp)
-	jne	3f
-	testb	%r9b, %r9b
-	je	2f
+	cmpl	$1, 36(%rsp)
+	setne	%dl
+	orb	%cl, %dl
+	jne	1f
+	movzbl	(%r14,%rbx), %ecx
+	movq	40(%rsp), %rdx
+	cmpb	(%rdx), %cl
+	jne	6f
 1:
-	movzbl	(%rdi), %eax
-	leaq	(%r14,%r13), %rsi
-	movq	144(%rsp), %r13
-	subq	%r14, %r13
-	cmpq	$1, %r13
-	jne	20f
-	xorl	%edx, %edx
-	cmpb	%al, (%rsi)
-	setne	%dl
-	jmp	21f
-2:
-	cmpl	$2, %r8d
-	sete	%al
-	testb	$1, %r15b
-	sete	%cl
-	testb	%al, %cl
-	jne	3f
-	cmpl	$4, %r8d
-	sete	%al
-	testb	$3, %r15b
-	sete	%cl
-	testb	%al, %cl
-	je	1b
-3:
-	cmpq	144(%rsp), %r14
-	jae	22f
-4:
-	testq	%r15, %r15
-	sete	%al
-	testq	%rbx, %rbx
-	setne	%bpl
-	testb	%r9b, %r9b
-	sete	%cl
-	cmpl	$2, %r8d
-	sete	%dl
-	testb	$1, %r15b
+	addq	%rbx, %rax
+	incq	%r15
+	cmpq	%rax, %r15
+	cmovaeq	%rax, %r15
+	cmpq	%r15, %rbx
+	jae	7f
+	testq	%r13, %r13
 	sete	%sil
-	andb	%dl, %sil
-	cmpl	$4, %r8d
-	sete	%dl
-	testb	$3, %r15b
-	sete	%r8b
-	andb	%dl, %r8b
-	orb	%sil, %r8b
-	andb	%cl, %r8b
-	xorb	$1, %sil
-	movzbl	%sil, %ecx
-	leaq	2(,%rcx,2), %rcx
-	testb	%r8b, %r8b
-	movl	$1, %edx
-	cmovneq	%rcx, %rdx
-	movq	%rdx, 64(%rsp)
-	orb	%al, %bpl
-	orb	%r8b, %bpl
-	movb	%bpl, 15(%rsp)
-	leaq	3(%r10), %rax
-	movq	%rax, 56(%rsp)
-	leaq	3(%rdi), %rax
-	movq	%rax, 48(%rsp)
-	leaq	1(%r10), %rax
-	movq	%rax, 40(%rsp)
-	leaq	1(%rdi), %rax
-	movq	%rax, 32(%rsp)
-	movq	144(%rsp), %r10
-	jmp	8f
-	.p2align	4
-5:
-	movzbl	%al, %edi
-	movq	%r13, %rdx
-	callq	"memchr::bytes::memchr"
-	movq	144(%rsp), %r10
-	movq	152(%rsp), %r11
-	movq	24(%rsp), %rdi
-	testb	$1, %al
-	cmoveq	%r13, %rdx
-6:
-	addq	%rdx, %r12
-	movq	$-1, %rax
-	cmovaeq	%r12, %rax
-	movq	%rax, 8(%r11)
-	addq	%rdx, %r14
-	movq	128(%rsp), %r13
-7:
-	cmpq	%r10, %r14
-	jae	23f
-8:
-	testq	%r15, %r15
-	je	11f
-	leaq	(%r14,%r13), %rcx
-	movq	64(%rsp), %rax
+	testq	%r12, %r12
+	setne	%dil
+	movl	36(%rsp), %eax
 	cmpl	$2, %eax
-	je	12f
+	sete	%cl
+	testb	$1, %r12b
+	sete	%r8b
 	cmpl	$4, %eax
-	jne	15f
-	xorl	%edx, %edx
-	xorl	%eax, %eax
-	movq	56(%rsp), %r12
-	movq	48(%rsp), %rbp
+	sete	%dl
+	testb	$3, %r12b
+	sete	%al
+	testb	%dil, %sil
+	jne	3f
+	addq	%rbx, %r14
+	notq	%rbx
+	addq	%r15, %rbx
 	.p2align	4
-9:
-	movl	%edx, %esi
-	andl	$6, %esi
-	movq	%rax, %r8
-	subq	%rsi, %r8
-	addq	$3, %r8
-	movb	$-1, %r9b
-	cmpq	%rbx, %r8
-	jae	10f
-	movq	%r12, %r8
-	subq	%rsi, %r8
-	movzbl	(%r8,%rax), %r9d
-10:
-	movq	%rbp, %r8
-	subq	%rsi, %r8
-	movzbl	(%r8,%rax), %esi
-	xorb	(%rcx,%rax), %sil
-	testb	%r9b, %sil
-	jne	19f
-	incq	%rax
-	addq	$2, %rdx
-	cmpq	%rax, %r15
-	jne	9b
-	jmp	18f
-	.p2align	4
-11:
-	xorl	%eax, %eax
-	jmp	19f
-	.p2align	4
-12:
-	xorl	%edx, %edx
-	xorl	%eax, %eax
-	movq	40(%rsp), %r12
-	movq	32(%rsp), %rbp
-	.p2align	4
-13:
-	movl	%edx, %esi
-	andl	$2, %esi
-	movq	%rax, %r8
-	subq	%rsi, %r8
-	incq	%r8
-	movb	$-1, %r9b
-	cmpq	%rbx, %r8
-	jae	14f
-	movq	%r12, %r8
-	subq	%rsi, %r8
-	movzbl	(%r8,%rax), %r9d
-14:
-	movq	%rbp, %r8
-	subq	%rsi, %r8
-	movzbl	(%r8,%rax), %esi
-	xorb	(%rcx,%rax), %sil
-	testb	%r9b, %sil
-	jne	19f
-	incq	%rax
-	addq	$2, %rdx
-	cmpq	%rax, %r15
-	jne	13b
-	jmp	18f
-	.p2align	4
-15:
-	xorl	%eax, %eax
-	movq	16(%rsp), %r8
-	.p2align	4
-16:
-	movb	$-1, %dl
-	cmpq	%rbx, %rax
-	jae	17f
-	movzbl	(%r8,%rax), %edx
-17:
-	movzbl	(%rdi,%rax), %esi
-	xorb	(%rcx,%rax), %sil
-	testb	%dl, %sil
-	jne	19f
-	incq	%rax
-	cmpq	%rax, %r15
-	jne	16b
-18:
-	movq	%r15, %rax
-19:
-	movq	%rax, %r12
-	incq	%r12
-	movq	$-1, %rcx
-	cmoveq	%rcx, %r12
-	cmpq	%r12, %r15
-	cmovbq	%r15, %r12
-	addq	8(%r11), %r12
-	cmovbq	%rcx, %r12
-	movq	%r12, 8(%r11)
-	cmpq	%r15, %rax
-	sete	%bpl
-	je	23f
+2:
+	movq	144(%rsp), %rax
+	movq	%rax, 16(%rsp)
+	movq	%r12, 8(%rsp)
+	movq	%r14, (%rsp)
+	movzbl	%bpl, %r9d
+	movq	40(%rsp), %rdi
+	movq	%r12, %rsi
+	movq	48(%rsp), %rdx
+	movq	%r13, %rcx
+	movl	36(%rsp), %r8d
+	callq	"mime_base::magic::ranges::value_is"
+	subq	$1, %rbx
+	setb	%cl
+	testb	%al, %al
+	jne	8f
 	incq	%r14
-	cmpb	$0, 15(%rsp)
-	jne	7b
-	movzbl	(%rdi), %eax
-	leaq	(%r14,%r13), %rsi
-	movq	%r10, %r13
-	subq	%r14, %r13
-	cmpq	$1, %r13
-	jne	5b
-	xorl	%edx, %edx
-	cmpb	%al, (%rsi)
-	setne	%dl
-	jmp	6b
-20:
-	movzbl	%al, %edi
-	movq	%r13, %rdx
-	movl	%r8d, %ebp
-	movl	%r9d, %r12d
+	testb	%cl, %cl
+	je	2b
+	jmp	8f
+3:
+	andb	%cl, %r8b
+	andb	%dl, %al
+	cmpq	$1, %r12
+	jne	9f
+	testb	%bpl, %bpl
+	je	23f
+4:
+	movq	%r15, %r12
+	subq	%rbx, %r12
+	cmpq	$2, %r12
+	jb	5f
+	leaq	(%r14,%rbx), %rsi
+	movq	40(%rsp), %rax
+	movzbl	(%rax), %edi
+	movq	%r12, %rdx
 	callq	"memchr::bytes::memchr"
-	movq	152(%rsp), %r11
-	movq	24(%rsp), %rdi
-	movl	%r12d, %r9d
-	movl	%ebp, %r8d
-	movq	16(%rsp), %r10
 	testb	$1, %al
-	cmoveq	%r13, %rdx
-21:
-	movq	8(%r11), %rax
+	cmoveq	%r12, %rdx
+	movq	144(%rsp), %rsi
+	movq	8(%rsi), %rax
 	addq	%rdx, %rax
 	movq	$-1, %rcx
 	cmovaeq	%rax, %rcx
-	movq	%rcx, 8(%r11)
-	addq	%rdx, %r14
-	movq	128(%rsp), %r13
-	cmpq	144(%rsp), %r14
+	movq	%rcx, 8(%rsi)
+	addq	%rdx, %rbx
+5:
+	cmpq	%r15, %rbx
+	je	7f
+	leaq	(%r14,%rbx), %rax
+	movq	144(%rsp), %rcx
+	movq	%rcx, 16(%rsp)
+	movq	%rax, (%rsp)
+	movq	$1, 8(%rsp)
+	movzbl	%bpl, %r9d
+	movl	$1, %esi
+	movq	40(%rsp), %rdi
+	movq	48(%rsp), %rdx
+	xorl	%ecx, %ecx
+	movl	36(%rsp), %r8d
+	callq	"mime_base::magic::ranges::value_is"
+	testb	%al, %al
+	jne	29f
+	incq	%rbx
+	xorl	%eax, %eax
+	cmpq	%r15, %rbx
 	jb	4b
-22:
-	xorl	%ebp, %ebp
-23:
-	movl	%ebp, %eax
-	addq	$72, %rsp
+	jmp	8f
+6:
+	movq	144(%rsp), %rdx
+	movq	8(%rdx), %rax
+	incq	%rax
+	movq	$-1, %rcx
+	cmovneq	%rax, %rcx
+	movq	%rcx, 8(%rdx)
+7:
+	xorl	%eax, %eax
+8:
+	addq	$56, %rsp
 	popq	%rbx
 	popq	%r12
 	popq	%r13
@@ -421,8 +276,418 @@
 	popq	%r15
 	popq	%rbp
 	retq
+9:
+	testb	%bpl, %bpl
+	sete	%cl
+	orb	%al, %r8b
+	andb	%cl, %r8b
+	movl	%r8d, %r13d
+	.p2align	4
+10:
+	movq	%r15, %rsi
+	subq	%rbx, %rsi
+	cmpq	$2, %rsi
+	setb	%al
+	orb	%r13b, %al
+	jne	22f
+	movq	40(%rsp), %rax
+	movzbl	(%rax), %r8d
+	movzbl	1(%rax), %edi
+	cmpq	$32, %rsi
+	jb	14f
+	movzbl	%r8b, %eax
+	movd	%eax, %xmm0
+	pxor	%xmm2, %xmm2
+	pshufb	%xmm2, %xmm0
+	movzbl	%dil, %eax
+	movd	%eax, %xmm1
+	pshufb	%xmm2, %xmm1
+	leaq	1(%r14), %rax
+	leaq	(%rax,%rbx), %rcx
+	xorl	%eax, %eax
+	movq	%rsi, %r9
+	xorl	%edx, %edx
+	jmp	13f
+	.p2align	4
+11:
+	xorl	%r10d, %r10d
+12:
+	addq	$32, %rax
+	addq	%r10, %rdx
+	addq	$-32, %r9
+	cmpq	$31, %r9
+	jbe	15f
+13:
+	movdqu	-1(%rcx,%rax), %xmm2
+	movdqu	15(%rcx,%rax), %xmm3
+	pcmpeqb	%xmm0, %xmm2
+	pmovmskb	%xmm2, %r11d
+	pcmpeqb	%xmm0, %xmm3
+	pmovmskb	%xmm3, %r10d
+	shll	$16, %r10d
+	orl	%r11d, %r10d
+	je	11b
+	movdqu	(%rcx,%rax), %xmm4
+	movdqu	16(%rcx,%rax), %xmm5
+	pcmpeqb	%xmm1, %xmm4
+	pcmpeqb	%xmm1, %xmm5
+	pand	%xmm3, %xmm5
+	pand	%xmm2, %xmm4
+	por	%xmm5, %xmm4
+	pmovmskb	%xmm4, %r11d
+	testl	%r11d, %r11d
+	jne	15f
+	popcntl	%r10d, %r10d
+	jmp	12b
+14:
+	xorl	%edx, %edx
+	xorl	%eax, %eax
+15:
+	leaq	(%rbx,%rax), %r10
+	movq	120(%rsp), %rcx
+	subq	%r10, %rcx
+	subq	%rax, %rsi
+	cmpq	$33, %rcx
+	jb	16f
+	cmpq	$3, %rsi
+	jbe	16f
+	leaq	(%r14,%rbx), %rcx
+	movzbl	%r8b, %r8d
+	movd	%r8d, %xmm0
+	pxor	%xmm1, %xmm1
+	pshufb	%xmm1, %xmm0
+	movdqu	(%rcx,%rax), %xmm2
+	movdqu	1(%rcx,%rax), %xmm3
+	movdqu	16(%rcx,%rax), %xmm4
+	movdqu	17(%rcx,%rax), %xmm5
+	pcmpeqb	%xmm0, %xmm2
+	pmovmskb	%xmm2, %ecx
+	pcmpeqb	%xmm0, %xmm4
+	pmovmskb	%xmm4, %r8d
+	shll	$16, %r8d
+	orl	%ecx, %r8d
+	movzbl	%dil, %ecx
+	movd	%ecx, %xmm0
+	pshufb	%xmm1, %xmm0
+	pcmpeqb	%xmm0, %xmm3
+	pcmpeqb	%xmm5, %xmm0
+	pand	%xmm4, %xmm0
+	pand	%xmm2, %xmm3
+	pmovmskb	%xmm3, %ecx
+	pmovmskb	%xmm0, %edi
+	shll	$16, %edi
+	orl	%ecx, %edi
+	movl	$64, %r9d
+	rep		bsfq	%rdi, %r9
+	cmpq	%r9, %rsi
+	cmovbq	%rsi, %r9
+	cmpq	$32, %r9
+	movl	$32, %ecx
+	cmovbq	%r9, %rcx
+	movq	$-1, %rsi
+	shlq	%cl, %rsi
+	notl	%esi
+	andl	%r8d, %esi
+	xorl	%r9d, %r9d
+	popcntl	%esi, %r9d
+	jmp	21f
+16:
+	testq	%rsi, %rsi
+	je	20f
+	movq	%r15, %r11
+	subq	%rax, %r11
+	subq	%rbx, %r11
+	leaq	1(%r14), %rcx
+	addq	%rcx, %r10
+	xorl	%r9d, %r9d
+	xorl	%ecx, %ecx
+	jmp	18f
+	.p2align	4
+17:
+	incq	%rcx
+	cmpq	%rcx, %r11
+	je	19f
+18:
+	cmpb	%r8b, -1(%r10,%rcx)
+	jne	17b
+	cmpb	%dil, (%r10,%rcx)
+	je	21f
+	incq	%r9
+	jmp	17b
+19:
+	movq	%rsi, %rcx
+	jmp	21f
+20:
+	xorl	%ecx, %ecx
+	xorl	%r9d, %r9d
+21:
+	addq	%rdx, %r9
+	addq	%rax, %rcx
+	movq	144(%rsp), %rsi
+	movq	8(%rsi), %rax
+	addq	%rcx, %rax
+	movq	$-1, %rdx
+	cmovbq	%rdx, %rax
+	addq	%r9, %rax
+	cmovbq	%rdx, %rax
+	movq	%rax, 8(%rsi)
+	addq	%rcx, %rbx
+22:
+	cmpq	%r15, %rbx
+	je	7b
+	leaq	(%r14,%rbx), %rax
+	movq	144(%rsp), %rcx
+	movq	%rcx, 16(%rsp)
+	movq	%r12, 8(%rsp)
+	movq	%rax, (%rsp)
+	movzbl	%bpl, %r9d
+	movq	40(%rsp), %rdi
+	movq	%r12, %rsi
+	movq	48(%rsp), %rdx
+	xorl	%ecx, %ecx
+	movl	36(%rsp), %r8d
+	callq	"mime_base::magic::ranges::value_is"
+	testb	%al, %al
+	jne	29f
+	incq	%rbx
+	xorl	%eax, %eax
+	cmpq	%r15, %rbx
+	jb	10b
+	jmp	8b
+23:
+	testb	%r8b, %r8b
+	je	25f
+	addq	%rbx, %r14
+	notq	%rbx
+	addq	%r15, %rbx
 24:
-	.size	"mime_base::magic::ranges::value_in_windows", 24b-"mime_base::magic::ranges::value_in_windows"
+	movq	144(%rsp), %rax
+	movq	%rax, 16(%rsp)
+	movq	%r14, (%rsp)
+	movq	$1, 8(%rsp)
+	movl	$1, %esi
+	movq	40(%rsp), %rdi
+	movq	48(%rsp), %rdx
+	xorl	%ecx, %ecx
+	movl	$2, %r8d
+	xorl	%r9d, %r9d
+	callq	"mime_base::magic::ranges::value_is"
+	subq	$1, %rbx
+	setb	%cl
+	testb	%al, %al
+	jne	8b
+	incq	%r14
+	testb	%cl, %cl
+	je	24b
+	jmp	8b
+25:
+	testb	%al, %al
+	je	27f
+	addq	%rbx, %r14
+	notq	%rbx
+	addq	%r15, %rbx
+26:
+	movq	144(%rsp), %rax
+	movq	%rax, 16(%rsp)
+	movq	%r14, (%rsp)
+	movq	$1, 8(%rsp)
+	movl	$1, %esi
+	movq	40(%rsp), %rdi
+	movq	48(%rsp), %rdx
+	xorl	%ecx, %ecx
+	movl	$4, %r8d
+	xorl	%r9d, %r9d
+	callq	"mime_base::magic::ranges::value_is"
+	subq	$1, %rbx
+	setb	%cl
+	testb	%al, %al
+	jne	8b
+	incq	%r14
+	testb	%cl, %cl
+	je	26b
+	jmp	8b
+27:
+	movq	%r15, %r12
+	subq	%rbx, %r12
+	cmpq	$2, %r12
+	jb	28f
+	leaq	(%r14,%rbx), %rsi
+	movq	40(%rsp), %rax
+	movzbl	(%rax), %edi
+	movq	%r12, %rdx
+	callq	"memchr::bytes::memchr"
+	testb	$1, %al
+	cmoveq	%r12, %rdx
+	movq	144(%rsp), %rsi
+	movq	8(%rsi), %rax
+	addq	%rdx, %rax
+	movq	$-1, %rcx
+	cmovaeq	%rax, %rcx
+	movq	%rcx, 8(%rsi)
+	addq	%rdx, %rbx
+28:
+	cmpq	%r15, %rbx
+	je	7b
+	leaq	(%r14,%rbx), %rax
+	movq	144(%rsp), %rcx
+	movq	%rcx, 16(%rsp)
+	movq	%rax, (%rsp)
+	movq	$1, 8(%rsp)
+	movl	$1, %esi
+	movq	40(%rsp), %rdi
+	movq	48(%rsp), %rdx
+	xorl	%ecx, %ecx
+	movl	36(%rsp), %r8d
+	xorl	%r9d, %r9d
+	callq	"mime_base::magic::ranges::value_is"
+	testb	%al, %al
+	jne	29f
+	incq	%rbx
+	xorl	%eax, %eax
+	cmpq	%r15, %rbx
+	jb	27b
+	jmp	8b
+29:
+	movb	$1, %al
+	jmp	8b
+30:
+	.size	"mime_base::magic::ranges::value_in_range", 30b-"mime_base::magic::ranges::value_in_range"
+
+	.text
+	.p2align	4
+	.type	"mime_base::magic::ranges::value_is",@function
+"mime_base::magic::ranges::value_is":
+	pushq	%rbp
+	pushq	%r14
+	pushq	%rbx
+	movq	40(%rsp), %rax
+	testb	%r9b, %r9b
+	je	2f
+1:
+	movl	$1, %r9d
+	jmp	3f
+2:
+	cmpl	$2, %r8d
+	sete	%r10b
+	testb	$1, %sil
+	sete	%r11b
+	movl	$2, %r9d
+	testb	%r10b, %r11b
+	jne	3f
+	cmpl	$4, %r8d
+	sete	%r8b
+	testb	$3, %sil
+	sete	%r10b
+	movl	$4, %r9d
+	testb	%r8b, %r10b
+	je	1b
+3:
+	movq	48(%rsp), %r8
+	testq	%rax, %rax
+	je	6f
+	movq	32(%rsp), %r10
+	cmpl	$2, %r9d
+	je	7f
+	cmpl	$4, %r9d
+	jne	10f
+	addq	$3, %rdx
+	addq	$3, %rdi
+	xorl	%r11d, %r11d
+	xorl	%r9d, %r9d
+	.p2align	4
+4:
+	movl	%r11d, %ebx
+	andl	$6, %ebx
+	movq	%r9, %r14
+	subq	%rbx, %r14
+	addq	$3, %r14
+	movb	$-1, %bpl
+	cmpq	%rcx, %r14
+	jae	5f
+	movq	%rdx, %r14
+	subq	%rbx, %r14
+	movzbl	(%r14,%r9), %ebp
+5:
+	movq	%rdi, %r14
+	subq	%rbx, %r14
+	movzbl	(%r14,%r9), %ebx
+	xorb	(%r10,%r9), %bl
+	testb	%bpl, %bl
+	jne	14f
+	incq	%r9
+	addq	$2, %r11
+	cmpq	%r9, %rax
+	jne	4b
+	jmp	13f
+6:
+	xorl	%r9d, %r9d
+	jmp	14f
+7:
+	incq	%rdx
+	incq	%rdi
+	xorl	%r11d, %r11d
+	xorl	%r9d, %r9d
+	.p2align	4
+8:
+	movl	%r11d, %ebx
+	andl	$2, %ebx
+	movq	%r9, %r14
+	subq	%rbx, %r14
+	incq	%r14
+	movb	$-1, %bpl
+	cmpq	%rcx, %r14
+	jae	9f
+	movq	%rdx, %r14
+	subq	%rbx, %r14
+	movzbl	(%r14,%r9), %ebp
+9:
+	movq	%rdi, %r14
+	subq	%rbx, %r14
+	movzbl	(%r14,%r9), %ebx
+	xorb	(%r10,%r9), %bl
+	testb	%bpl, %bl
+	jne	14f
+	incq	%r9
+	addq	$2, %r11
+	cmpq	%r9, %rax
+	jne	8b
+	jmp	13f
+10:
+	xorl	%r9d, %r9d
+	.p2align	4
+11:
+	movb	$-1, %r11b
+	cmpq	%rcx, %r9
+	jae	12f
+	movzbl	(%rdx,%r9), %r11d
+12:
+	movzbl	(%rdi,%r9), %ebx
+	xorb	(%r10,%r9), %bl
+	testb	%r11b, %bl
+	jne	14f
+	incq	%r9
+	cmpq	%r9, %rax
+	jne	11b
+13:
+	movq	%rax, %r9
+14:
+	movq	%r9, %rcx
+	incq	%rcx
+	movq	$-1, %rdx
+	cmoveq	%rdx, %rcx
+	cmpq	%rcx, %rsi
+	cmovbq	%rsi, %rcx
+	addq	8(%r8), %rcx
+	cmovbq	%rdx, %rcx
+	movq	%rcx, 8(%r8)
+	cmpq	%rax, %r9
+	sete	%al
+	popq	%rbx
+	popq	%r14
+	popq	%rbp
+	retq
+15:
+	.size	"mime_base::magic::ranges::value_is", 15b-"mime_base::magic::ranges::value_is"
 
 	.text
 	.p2align	4

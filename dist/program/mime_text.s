@@ -2059,7 +2059,7 @@
 	movq	%r9, 688(%rsp)
 	movq	%r8, 1280(%rsp)
 	leaq	736(%rsp), %rdi
-	callq	"std_alloc::vec::Vec::grow_amortized::<#9f351709e7e1a03a>"
+	callq	"std_alloc::vec::Vec::grow_amortized::<#9df5fbc9122c907f>"
 	testb	%al, %al
 	je	177f
 	movq	744(%rsp), %rax

@@ -521,221 +521,129 @@
 	pushq	%r13
 	pushq	%r12
 	pushq	%rbx
-	subq	$152, %rsp
+	subq	$120, %rsp
 	movq	%r9, %r14
-	movq	%rdi, 40(%rsp)
-	movq	(%rsi), %rbp
-	movq	8(%rsi), %rax
-	movq	%rax, 56(%rsp)
-	movq	16(%rsi), %rax
-	movq	%rax, 64(%rsp)
-	movzbl	24(%rsi), %eax
-	movb	%al, 39(%rsp)
-	movl	28(%rsi), %eax
-	movl	%eax, 51(%rsp)
-	movl	25(%rsi), %eax
-	movl	%eax, 48(%rsp)
+	movl	%r8d, %ebp
+	movq	%rdi, %rbx
+	movups	(%rsi), %xmm0
+	movups	16(%rsi), %xmm1
+	movaps	%xmm0, 48(%rsp)
+	movaps	%xmm1, 64(%rsp)
 	movl	%edx, %r15d
-	movl	%ecx, %ebx
-	movq	%r8, 112(%rsp)
-	leal	1(%r8), %eax
-	movl	%eax, 76(%rsp)
+	movl	%ecx, %r12d
+	movq	48(%rsp), %r13
+	movq	56(%rsp), %rax
+	movq	%rax, 32(%rsp)
+	movq	64(%rsp), %rax
+	movq	%rax, 40(%rsp)
 	.p2align	4
 1:
-	xorps	%xmm0, %xmm0
-	movaps	%xmm0, 80(%rsp)
-	movq	$0, 96(%rsp)
 	movq	16(%r14), %rax
-	movb	$5, %cl
 	testq	%rax, %rax
-	je	16f
-	decq	%rax
-	movq	%rax, 16(%r14)
-	movq	(%r14), %rdx
-	movq	24(%r14), %rax
-	incq	%rdx
-	movq	$-1, %rsi
-	cmovneq	%rdx, %rsi
-	movq	%rsi, (%r14)
-	movq	(%rbp), %r10
-	movl	12(%r10,%r15), %edi
-	movl	%edi, %esi
-	bswapl	%esi
-	subq	%rsi, %rax
-	jb	16f
-	movl	4(%r10,%r15), %r9d
-	movl	8(%r10,%r15), %r8d
-	movl	16(%r10,%r15), %ecx
-	movl	20(%r10,%r15), %edx
-	movl	24(%r10,%r15), %r12d
-	movl	28(%r10,%r15), %r13d
-	movl	(%r10,%r15), %r10d
-	movq	%rax, 24(%r14)
-	xorl	%eax, %eax
-	testl	%r9d, %r9d
-	je	8f
-	bswapl	%r10d
-	leaq	(%r10,%rsi), %r11
-	cmpq	%r11, 64(%rsp)
-	jb	8f
-	testl	%edi, %edi
-	je	5f
-	bswapl	%ecx
-	movq	8(%rbp), %r11
-	movl	%ecx, %eax
-	movq	%r11, %rdi
-	movb	$3, %cl
-	subq	%rax, %rdi
-	jb	17f
-	cmpq	%rsi, %rdi
-	jb	17f
-	movq	(%rbp), %rdi
-	testl	%edx, %edx
 	je	2f
-	bswapl	%edx
-	movl	%edx, %edx
-	subq	%rdx, %r11
-	jb	14f
-	cmpq	%rsi, %r11
-	jb	14f
-	addq	%rdi, %rdx
-	movq	%rsi, %rcx
-	addq	%rax, %rdi
-	cmpl	$16777216, %r9d
-	je	3f
-	jmp	4f
-2:
-	leaq	.L22d5119de29e(%rip), %rdx
-	xorl	%ecx, %ecx
-	addq	%rax, %rdi
-	cmpl	$16777216, %r9d
-	jne	4f
-3:
-	testq	%rcx, %rcx
-	jne	4f
-	cmpl	$16777216, %r8d
-	jne	4f
-	movq	56(%rsp), %rax
-	movzbl	(%rax,%r10), %eax
-	cmpb	(%rdi), %al
-	jne	10f
-4:
+	movq	24(%r14), %rcx
+	movq	(%r14), %rsi
+	incq	%rsi
+	movq	$-1, %rdx
+	cmovneq	%rsi, %rdx
+	movq	(%r13), %rsi
+	movl	12(%rsi,%r15), %edi
+	movl	%edi, %r8d
 	bswapl	%r8d
-	bswapl	%r9d
-	movq	64(%rsp), %rax
-	subq	%rsi, %rax
-	addq	%r10, %r9
-	incq	%rax
-	cmpq	%r9, %rax
-	cmovaeq	%r9, %rax
-	movq	%r14, 24(%rsp)
-	movq	%r10, 8(%rsp)
-	movq	56(%rsp), %r9
-	movq	%r9, (%rsp)
-	movq	%rax, 16(%rsp)
-	movzbl	39(%rsp), %r9d
-	callq	"mime_base::magic::ranges::value_in_windows"
+	subq	%r8, %rcx
+	jae	3f
+2:
 	xorps	%xmm0, %xmm0
-	testb	%al, %al
-	je	7f
-5:
-	testl	%r12d, %r12d
-	je	6f
-	cmpl	$63, 112(%rsp)
-	je	15f
-	bswapl	%r12d
-	bswapl	%r13d
-	movl	%r13d, %eax
-	movl	%r12d, %ecx
-	shlq	$5, %rcx
-	addq	%rax, %rcx
-	cmpq	%rcx, 8(%rbp)
-	jb	19f
-	movq	%rbp, 120(%rsp)
-	movq	56(%rsp), %rax
-	movq	%rax, 128(%rsp)
-	movq	64(%rsp), %rax
-	movq	%rax, 136(%rsp)
-	movzbl	39(%rsp), %eax
-	movb	%al, 144(%rsp)
-	movl	48(%rsp), %eax
-	movl	51(%rsp), %ecx
-	leaq	145(%rsp), %rdx
-	movl	%ecx, 3(%rdx)
-	movl	%eax, (%rdx)
-	leaq	80(%rsp), %rdi
-	leaq	120(%rsp), %rsi
-	movl	%r13d, %edx
-	movl	%r12d, %ecx
-	movl	76(%rsp), %r8d
-	movq	%r14, %r9
-	callq	"mime_view::magic::some_child_holds"
-	cmpb	$0, 80(%rsp)
-	jne	20f
-	movzbl	81(%rsp), %eax
-	xorps	%xmm0, %xmm0
-	testb	$1, %al
-	je	9f
-	jmp	11f
-6:
-	movb	$1, %al
-	xorps	%xmm0, %xmm0
-	testb	$1, %al
-	je	9f
-	jmp	11f
-7:
-	xorl	%eax, %eax
-	.p2align	4
-8:
-	xorps	%xmm0, %xmm0
-	testb	$1, %al
-	jne	11f
-9:
+	movaps	%xmm0, (%rsp)
+	movq	$0, 16(%rsp)
+	movups	(%r14), %xmm0
+	movups	16(%r14), %xmm1
+	movaps	%xmm0, 80(%rsp)
+	movaps	%xmm1, 96(%rsp)
+	movq	%rsp, %rdi
+	leaq	48(%rsp), %rsi
+	leaq	80(%rsp), %r8
+	movq	%r15, %rdx
+	movl	%ebp, %ecx
+	callq	"mime_view::magic::whole_line_holds"
+	movaps	80(%rsp), %xmm0
+	movaps	96(%rsp), %xmm1
+	movups	%xmm1, 16(%r14)
+	movups	%xmm0, (%r14)
+	cmpb	$0, (%rsp)
+	jne	5f
+	testb	$1, 1(%rsp)
+	jne	6f
 	addq	$32, %r15
-	decq	%rbx
+	decq	%r12
 	jne	1b
-	jmp	12f
-10:
-	movq	8(%r14), %rax
-	incq	%rax
-	movq	$-1, %rcx
-	cmovneq	%rax, %rcx
-	movq	%rcx, 8(%r14)
+	jmp	4f
+	.p2align	4
+3:
+	cmpl	$16777216, 4(%rsi,%r15)
+	jne	2b
+	cmpl	$0, 20(%rsi,%r15)
+	jne	2b
+	movl	(%rsi,%r15), %r9d
+	bswapl	%r9d
+	leaq	(%r9,%r8), %r10
+	cmpq	%r10, 40(%rsp)
+	jb	2b
+	movl	16(%rsi,%r15), %r10d
+	bswapl	%r10d
+	movq	8(%r13), %r11
+	movl	%r10d, %r10d
+	subq	%r10, %r11
+	jb	2b
+	cmpq	%r8, %r11
+	jb	2b
+	cmpl	$16777216, 8(%rsi,%r15)
+	jne	2b
+	testl	%edi, %edi
+	je	2b
+	movq	32(%rsp), %rdi
+	movzbl	(%rdi,%r9), %edi
+	cmpb	(%rsi,%r10), %dil
+	je	2b
+	movq	8(%r14), %rsi
+	decq	%rax
+	incq	%rsi
+	movq	$-1, %rdi
+	cmovneq	%rsi, %rdi
+	movq	%rdx, (%r14)
+	movq	%rdi, 8(%r14)
+	movq	%rax, 16(%r14)
+	movq	%rcx, 24(%r14)
+	addq	$32, %r15
+	decq	%r12
+	jne	1b
+4:
 	xorl	%eax, %eax
 	xorps	%xmm0, %xmm0
-	testb	$1, %al
-	je	9b
-11:
-	movb	$1, %dl
-	xorl	%ecx, %ecx
-	jmp	13f
-12:
 	xorl	%ecx, %ecx
 	xorl	%edx, %edx
-13:
 	xorl	%esi, %esi
-	xorl	%eax, %eax
-	movq	40(%rsp), %rdi
-	jmp	18f
-14:
-	movq	%rdx, %rax
-	jmp	17f
-15:
-	movb	$6, %cl
-16:
-	xorl	%eax, %eax
-17:
-	movq	40(%rsp), %rdi
-	movzbl	%cl, %esi
+	jmp	7f
+5:
+	movzbl	8(%rsp), %edx
+	movss	10(%rsp), %xmm0
+	movq	16(%rsp), %rsi
+	movb	$1, %al
+	xorl	%ecx, %ecx
+	jmp	7f
+6:
 	movb	$1, %cl
+	xorl	%eax, %eax
 	xorl	%edx, %edx
-18:
-	movb	%cl, (%rdi)
-	movb	%dl, 1(%rdi)
-	movw	%si, 8(%rdi)
-	movss	%xmm0, 10(%rdi)
-	movq	%rax, 16(%rdi)
-	addq	$152, %rsp
+	xorl	%esi, %esi
+	xorps	%xmm0, %xmm0
+7:
+	movb	%al, (%rbx)
+	movb	%cl, 1(%rbx)
+	movw	%dx, 8(%rbx)
+	movss	%xmm0, 10(%rbx)
+	movq	%rsi, 16(%rbx)
+	addq	$120, %rsp
 	popq	%rbx
 	popq	%r12
 	popq	%r13
@@ -743,16 +651,207 @@
 	popq	%r15
 	popq	%rbp
 	retq
-19:
-	movb	$3, %cl
-	jmp	17b
-20:
-	movzbl	88(%rsp), %ecx
-	movss	90(%rsp), %xmm0
-	movq	96(%rsp), %rax
-	jmp	17b
-21:
-	.size	"mime_view::magic::some_child_holds", 21b-"mime_view::magic::some_child_holds"
+8:
+	.size	"mime_view::magic::some_child_holds", 8b-"mime_view::magic::some_child_holds"
+
+	.text
+	.p2align	4
+	.type	"mime_view::magic::whole_line_holds",@function
+"mime_view::magic::whole_line_holds":
+	pushq	%rbp
+	pushq	%r15
+	pushq	%r14
+	pushq	%r13
+	pushq	%r12
+	pushq	%rbx
+	subq	$136, %rsp
+	xorps	%xmm0, %xmm0
+	movaps	%xmm0, 64(%rsp)
+	movq	$0, 80(%rsp)
+	movq	16(%r8), %rax
+	movw	$5, %r13w
+	testq	%rax, %rax
+	je	1f
+	decq	%rax
+	movq	%rax, 16(%r8)
+	movq	(%rsi), %r10
+	movq	(%r8), %rax
+	movq	24(%r8), %rbx
+	incq	%rax
+	movq	$-1, %r9
+	cmovneq	%rax, %r9
+	movq	%r9, (%r8)
+	movq	(%r10), %r14
+	movl	12(%r14,%rdx), %r15d
+	movl	%r15d, %eax
+	bswapl	%eax
+	subq	%rax, %rbx
+	jae	3f
+1:
+	xorl	%r15d, %r15d
+2:
+	movw	$1, (%rdi)
+	movw	%r13w, 8(%rdi)
+	movl	$0, 10(%rdi)
+	movq	%r15, 16(%rdi)
+	jmp	10f
+3:
+	movl	8(%r14,%rdx), %r11d
+	movl	16(%r14,%rdx), %r13d
+	movl	20(%r14,%rdx), %ebp
+	movl	24(%r14,%rdx), %r9d
+	movl	%r9d, 52(%rsp)
+	movl	28(%r14,%rdx), %r9d
+	movl	%r9d, 48(%rsp)
+	movl	(%r14,%rdx), %r9d
+	movl	4(%r14,%rdx), %r14d
+	movq	%rbx, 24(%r8)
+	testl	%r14d, %r14d
+	je	7f
+	bswapl	%r9d
+	movq	16(%rsi), %r12
+	leaq	(%r9,%rax), %rdx
+	cmpq	%rdx, %r12
+	jb	7f
+	testl	%r15d, %r15d
+	je	6f
+	bswapl	%r13d
+	movq	8(%r10), %rbx
+	movl	%r13d, %r15d
+	movq	%rbx, %rdx
+	subq	%r15, %rdx
+	setae	%r13b
+	cmpq	%rax, %rdx
+	setae	%dl
+	andb	%r13b, %dl
+	movw	$3, %r13w
+	cmpb	$1, %dl
+	jne	2b
+	movq	8(%rsi), %rdx
+	movq	%rdx, 88(%rsp)
+	movzbl	24(%rsi), %edx
+	movb	%dl, 47(%rsp)
+	movq	(%r10), %r10
+	testl	%ebp, %ebp
+	je	4f
+	bswapl	%ebp
+	movl	%ebp, %edx
+	subq	%rdx, %rbx
+	setae	%bpl
+	cmpq	%rax, %rbx
+	setae	%bl
+	andb	%bpl, %bl
+	cmpb	$1, %bl
+	jne	13f
+	movq	%rsi, 56(%rsp)
+	movl	%ecx, %ebp
+	movq	%rdi, %r13
+	addq	%r10, %rdx
+	movq	%rax, %rcx
+	jmp	5f
+4:
+	movq	%rsi, 56(%rsp)
+	movl	%ecx, %ebp
+	movq	%rdi, %r13
+	leaq	.L22d5119de29e(%rip), %rdx
+	xorl	%ecx, %ecx
+5:
+	bswapl	%r11d
+	bswapl	%r14d
+	addq	%r15, %r10
+	movq	%r8, 32(%rsp)
+	movq	%r14, 24(%rsp)
+	movq	%r9, 16(%rsp)
+	movq	%r12, 8(%rsp)
+	movq	88(%rsp), %rsi
+	movq	%rsi, (%rsp)
+	movzbl	47(%rsp), %r9d
+	movq	%r10, %rdi
+	movq	%rax, %rsi
+	movq	%r8, %rbx
+	movl	%r11d, %r8d
+	callq	"mime_base::magic::ranges::value_in_range"
+	movq	%rbx, %r8
+	testb	%al, %al
+	movq	%r13, %rdi
+	movl	%ebp, %ecx
+	movq	56(%rsp), %rsi
+	je	7f
+6:
+	movl	52(%rsp), %r10d
+	testl	%r10d, %r10d
+	je	11f
+	cmpl	$63, %ecx
+	jne	12f
+	movw	$1, (%rdi)
+	movl	$6, 8(%rdi)
+	jmp	9f
+7:
+	movw	$0, (%rdi)
+8:
+	movl	$0, 8(%rdi)
+9:
+	movw	$0, 12(%rdi)
+	movq	$0, 16(%rdi)
+10:
+	addq	$136, %rsp
+	popq	%rbx
+	popq	%r12
+	popq	%r13
+	popq	%r14
+	popq	%r15
+	popq	%rbp
+	retq
+11:
+	movw	$256, (%rdi)
+	jmp	8b
+12:
+	bswapl	%r10d
+	movl	48(%rsp), %edx
+	bswapl	%edx
+	movq	(%rsi), %r11
+	movl	%edx, %eax
+	movl	%r10d, %r9d
+	shlq	$5, %r9
+	addq	%rax, %r9
+	cmpq	%r9, 8(%r11)
+	jae	14f
+	movw	$1, (%rdi)
+	movl	$3, 8(%rdi)
+	movw	$0, 12(%rdi)
+	movq	%rax, 16(%rdi)
+	jmp	10b
+13:
+	movq	%rdx, %r15
+	jmp	2b
+14:
+	movups	(%rsi), %xmm0
+	movups	16(%rsi), %xmm1
+	movaps	%xmm1, 112(%rsp)
+	movaps	%xmm0, 96(%rsp)
+	incl	%ecx
+	leaq	64(%rsp), %rax
+	leaq	96(%rsp), %rsi
+	movq	%rdi, %rbx
+	movq	%rax, %rdi
+	movl	%ecx, %eax
+	movl	%r10d, %ecx
+	movq	%r8, %r9
+	movl	%eax, %r8d
+	callq	"mime_view::magic::some_child_holds"
+	movzbl	64(%rsp), %eax
+	movb	%al, (%rbx)
+	movzbl	65(%rsp), %eax
+	movb	%al, 1(%rbx)
+	movzbl	72(%rsp), %eax
+	movw	%ax, 8(%rbx)
+	movl	74(%rsp), %eax
+	movl	%eax, 10(%rbx)
+	movq	80(%rsp), %rax
+	movq	%rax, 16(%rbx)
+	jmp	10b
+15:
+	.size	"mime_view::magic::whole_line_holds", 15b-"mime_view::magic::whole_line_holds"
 
 	.text
 	.p2align	4

@@ -281,6 +281,234 @@
 	.byte	16,17,18,19,20,21,22,23,24,25,26,27,28,29,30,31
 	.text
 	.p2align	4
+	.type	"std::fs::apply",@function
+"std::fs::apply":
+	pushq	%rbp
+	pushq	%r15
+	pushq	%r14
+	pushq	%r13
+	pushq	%r12
+	pushq	%rbx
+	subq	$568, %rsp
+	movl	%esi, %ebp
+	movq	%rdi, %rbx
+	movzbl	(%rdx), %r12d
+	movl	4(%rdx), %r14d
+	movq	8(%rdx), %rax
+	movq	%rax, 280(%rsp)
+	pxor	%xmm0, %xmm0
+	movdqa	%xmm0, 544(%rsp)
+	movdqa	%xmm0, 528(%rsp)
+	movdqa	%xmm0, 512(%rsp)
+	movdqa	%xmm0, 496(%rsp)
+	movdqa	%xmm0, 480(%rsp)
+	movq	$0, 558(%rsp)
+	movdqa	%xmm0, 288(%rsp)
+	movdqa	%xmm0, 304(%rsp)
+	movdqa	%xmm0, 320(%rsp)
+	movdqa	%xmm0, 336(%rsp)
+	movdqa	%xmm0, 352(%rsp)
+	movq	$0, 366(%rsp)
+	leaq	194(%rsp), %r13
+	xorl	%r15d, %r15d
+	.p2align	4
+3:
+	incq	%r15
+	je	13f
+	movl	%r12d, %eax
+	leaq	17f(%rip), %rcx
+	movslq	(%rcx,%rax,4), %rax
+	addq	%rcx, %rax
+	jmpq	*%rax
+4:
+	movl	%ebp, %edi
+	movq	280(%rsp), %rsi
+	callq	ftruncate@PLT
+	jmp	9f
+5:
+	movl	%ebp, %edi
+	movl	%r14d, %esi
+	callq	flock@PLT
+	jmp	9f
+6:
+	movl	%ebp, %edi
+	callq	fsync@PLT
+	jmp	9f
+7:
+	movl	%ebp, %edi
+	callq	fdatasync@PLT
+	jmp	9f
+8:
+	movl	%ebp, %edi
+	movl	%r14d, %esi
+	callq	fchmod@PLT
+	.p2align	4
+9:
+	pxor	%xmm0, %xmm0
+	movdqa	%xmm0, (%rsp)
+	movdqa	%xmm0, 16(%rsp)
+	movdqa	%xmm0, 32(%rsp)
+	movdqa	%xmm0, 48(%rsp)
+	movdqa	%xmm0, 64(%rsp)
+	movq	$0, 78(%rsp)
+	testl	%eax, %eax
+	js	10f
+	xorl	%eax, %eax
+	jmp	11f
+	.p2align	4
+10:
+	callq	rattle_errno@PLT
+	leaq	192(%rsp), %rdi
+	movl	%eax, %esi
+	callq	"std_io::io::error::Error::from_raw_os_error"
+	movq	192(%rsp), %xmm0
+	movups	(%r13), %xmm1
+	movups	16(%r13), %xmm2
+	movups	32(%r13), %xmm3
+	movups	48(%r13), %xmm4
+	movaps	%xmm1, (%rsp)
+	movaps	%xmm2, 16(%rsp)
+	movaps	%xmm3, 32(%rsp)
+	movaps	%xmm4, 48(%rsp)
+	movups	64(%r13), %xmm1
+	movaps	%xmm1, 64(%rsp)
+	movq	78(%r13), %rax
+	movq	%rax, 78(%rsp)
+	movb	$1, %al
+11:
+	movq	78(%rsp), %rcx
+	movq	%rcx, 174(%rsp)
+	movaps	64(%rsp), %xmm1
+	movaps	%xmm1, 160(%rsp)
+	movaps	(%rsp), %xmm1
+	movaps	16(%rsp), %xmm2
+	movaps	32(%rsp), %xmm3
+	movaps	48(%rsp), %xmm4
+	movaps	%xmm4, 144(%rsp)
+	movaps	%xmm3, 128(%rsp)
+	movaps	%xmm2, 112(%rsp)
+	movaps	%xmm1, 96(%rsp)
+	movq	174(%rsp), %rcx
+	movq	%rcx, 366(%rsp)
+	movaps	160(%rsp), %xmm1
+	movaps	%xmm1, 352(%rsp)
+	movaps	96(%rsp), %xmm1
+	movaps	112(%rsp), %xmm2
+	movaps	128(%rsp), %xmm3
+	movaps	144(%rsp), %xmm4
+	movaps	%xmm4, 336(%rsp)
+	movaps	%xmm3, 320(%rsp)
+	movaps	%xmm2, 304(%rsp)
+	movaps	%xmm1, 288(%rsp)
+	testb	%al, %al
+	je	14f
+	movaps	1b(%rip), %xmm1
+	movaps	%xmm1, 192(%rsp)
+	movaps	2b(%rip), %xmm1
+	movaps	%xmm1, 208(%rsp)
+	movabsq	$2820983053732684064, %rax
+	movq	%rax, 224(%rsp)
+	movb	$40, 232(%rsp)
+	pextrb	$1, %xmm0, %eax
+	cmpb	$41, %al
+	jae	12f
+	movzbl	%al, %ecx
+	cmpb	$35, 192(%rsp,%rcx)
+	je	3b
+12:
+	movb	$1, (%rbx)
+	pextrb	$0, %xmm0, 8(%rbx)
+	movb	%al, 9(%rbx)
+	movaps	288(%rsp), %xmm0
+	movaps	304(%rsp), %xmm1
+	movaps	320(%rsp), %xmm2
+	movaps	336(%rsp), %xmm3
+	movups	%xmm0, 10(%rbx)
+	movups	%xmm1, 26(%rbx)
+	movups	%xmm2, 42(%rbx)
+	movups	%xmm3, 58(%rbx)
+	movaps	352(%rsp), %xmm0
+	movups	%xmm0, 74(%rbx)
+	movq	366(%rsp), %rax
+	jmp	15f
+13:
+	leaq	.L87b4d4e2734a(%rip), %rcx
+	leaq	192(%rsp), %rdi
+	movl	$43, %r8d
+	movl	$43, %r9d
+	movl	$2, %esi
+	movl	$22, %edx
+	callq	"std_io::io::error::Error::from_bytes"
+	movzwl	192(%rsp), %eax
+	movups	194(%rsp), %xmm0
+	movaps	%xmm0, 384(%rsp)
+	movups	210(%rsp), %xmm0
+	movaps	%xmm0, 400(%rsp)
+	movups	226(%rsp), %xmm0
+	movaps	%xmm0, 416(%rsp)
+	movups	242(%rsp), %xmm0
+	movaps	%xmm0, 432(%rsp)
+	movups	258(%rsp), %xmm0
+	movaps	%xmm0, 448(%rsp)
+	movq	272(%rsp), %rcx
+	movq	%rcx, 462(%rsp)
+	movb	$1, (%rbx)
+	movw	%ax, 8(%rbx)
+	movaps	384(%rsp), %xmm0
+	movaps	400(%rsp), %xmm1
+	movaps	416(%rsp), %xmm2
+	movaps	432(%rsp), %xmm3
+	movups	%xmm0, 10(%rbx)
+	movups	%xmm1, 26(%rbx)
+	movups	%xmm2, 42(%rbx)
+	movups	%xmm3, 58(%rbx)
+	movaps	448(%rsp), %xmm0
+	movups	%xmm0, 74(%rbx)
+	movq	462(%rsp), %rax
+	jmp	15f
+14:
+	movb	$0, (%rbx)
+	movw	$0, 8(%rbx)
+	movaps	480(%rsp), %xmm0
+	movaps	496(%rsp), %xmm1
+	movaps	512(%rsp), %xmm2
+	movaps	528(%rsp), %xmm3
+	movups	%xmm0, 10(%rbx)
+	movups	%xmm1, 26(%rbx)
+	movups	%xmm2, 42(%rbx)
+	movups	%xmm3, 58(%rbx)
+	movaps	544(%rsp), %xmm0
+	movups	%xmm0, 74(%rbx)
+	movq	558(%rsp), %rax
+15:
+	movq	%rax, 88(%rbx)
+	addq	$568, %rsp
+	popq	%rbx
+	popq	%r12
+	popq	%r13
+	popq	%r14
+	popq	%r15
+	popq	%rbp
+	retq
+16:
+	.size	"std::fs::apply", 16b-"std::fs::apply"
+	.section	.rodata,"a",@progbits
+	.p2align	2, 0x0
+17:
+	.long	4b-17b
+	.long	8b-17b
+	.long	6b-17b
+	.long	7b-17b
+	.long	5b-17b
+
+	.section	.rodata.cst16,"aM",@progbits,16
+	.p2align	4, 0x0
+1:
+	.byte	0,1,2,3,4,5,6,7,8,9,10,11,12,13,14,15
+2:
+	.byte	16,17,18,19,20,21,22,23,24,25,26,27,28,29,30,31
+	.text
+	.p2align	4
 	.type	"std::fs::options::OpenOptions::open::<#05cc10b2f530382b>",@function
 "std::fs::options::OpenOptions::open::<#05cc10b2f530382b>":
 	pushq	%rbp
@@ -909,231 +1137,6 @@
 	.long	24b-60b
 	.long	43b-60b
 	.long	44b-60b
-
-	.text
-	.p2align	4
-	.type	"std::fs::rename::<#265af19600708202>",@function
-"std::fs::rename::<#265af19600708202>":
-	pushq	%r15
-	pushq	%r14
-	pushq	%r13
-	pushq	%r12
-	pushq	%rbx
-	subq	$3072, %rsp
-	movq	$0, (%rsp)
-	subq	$3072, %rsp
-	movq	$0, (%rsp)
-	subq	$3072, %rsp
-	movq	$0, (%rsp)
-	subq	$3072, %rsp
-	movq	$0, (%rsp)
-	subq	$3072, %rsp
-	movq	$0, (%rsp)
-	subq	$1184, %rsp
-	movq	%rdi, %rbx
-	testq	%rdx, %rdx
-	je	3f
-	xorl	%eax, %eax
-	.p2align	4
-1:
-	cmpb	$0, (%rsi,%rax)
-	je	2f
-	incq	%rax
-	cmpq	%rax, %rdx
-	jne	1b
-	jmp	3f
-2:
-	cmpq	%rdx, %rax
-	jb	6f
-3:
-	testq	%r8, %r8
-	je	7f
-	xorl	%eax, %eax
-	.p2align	4
-4:
-	cmpb	$0, (%rcx,%rax)
-	je	5f
-	incq	%rax
-	cmpq	%rax, %r8
-	jne	4b
-	jmp	7f
-5:
-	cmpq	%r8, %rax
-	jae	7f
-6:
-	leaq	.L399de51ae489(%rip), %rcx
-	leaq	160(%rsp), %rdi
-	movl	$42, %r8d
-	movl	$42, %r9d
-	movl	$2, %esi
-	movl	$20, %edx
-	callq	"std_io::io::error::Error::from_bytes"
-	movq	160(%rsp), %rcx
-	movq	168(%rsp), %rax
-	movups	176(%rsp), %xmm0
-	movaps	%xmm0, (%rsp)
-	movups	192(%rsp), %xmm0
-	movaps	%xmm0, 16(%rsp)
-	movups	208(%rsp), %xmm0
-	movaps	%xmm0, 32(%rsp)
-	movups	224(%rsp), %xmm0
-	movaps	%xmm0, 48(%rsp)
-	movq	240(%rsp), %rdx
-	movq	%rdx, 64(%rsp)
-	movb	$1, %dl
-	jmp	15f
-7:
-	cmpq	$4096, %rdx
-	jae	11f
-	testq	%rdx, %rdx
-	je	10f
-	xorl	%eax, %eax
-	.p2align	4
-8:
-	cmpb	$0, (%rsi,%rax)
-	je	9f
-	incq	%rax
-	cmpq	%rax, %rdx
-	jne	8b
-	jmp	10f
-9:
-	cmpq	%rdx, %rax
-	jb	19f
-10:
-	cmpq	$4096, %r8
-	jb	16f
-11:
-	movl	$36, %edi
-12:
-	callq	rattle_set_errno@PLT
-13:
-	callq	rattle_errno@PLT
-	leaq	160(%rsp), %rdi
-	movl	%eax, %esi
-	callq	"std_io::io::error::Error::from_raw_os_error"
-	movq	160(%rsp), %rcx
-	movq	168(%rsp), %rax
-	movups	176(%rsp), %xmm0
-	movaps	%xmm0, 80(%rsp)
-	movups	192(%rsp), %xmm0
-	movaps	%xmm0, 96(%rsp)
-	movups	208(%rsp), %xmm0
-	movaps	%xmm0, 112(%rsp)
-	movups	224(%rsp), %xmm0
-	movaps	%xmm0, 128(%rsp)
-	movq	240(%rsp), %rdx
-	movq	%rdx, 144(%rsp)
-	movb	$1, %dl
-14:
-	movaps	80(%rsp), %xmm0
-	movaps	96(%rsp), %xmm1
-	movaps	112(%rsp), %xmm2
-	movaps	128(%rsp), %xmm3
-	movaps	%xmm0, (%rsp)
-	movaps	%xmm1, 16(%rsp)
-	movaps	%xmm2, 32(%rsp)
-	movaps	%xmm3, 48(%rsp)
-	movq	144(%rsp), %rsi
-	movq	%rsi, 64(%rsp)
-15:
-	movb	%dl, (%rbx)
-	movq	%rcx, 8(%rbx)
-	movq	%rax, 16(%rbx)
-	movaps	(%rsp), %xmm0
-	movaps	16(%rsp), %xmm1
-	movaps	32(%rsp), %xmm2
-	movaps	48(%rsp), %xmm3
-	movups	%xmm0, 24(%rbx)
-	movups	%xmm1, 40(%rbx)
-	movups	%xmm2, 56(%rbx)
-	movups	%xmm3, 72(%rbx)
-	movq	64(%rsp), %rax
-	movq	%rax, 88(%rbx)
-	addq	$16544, %rsp
-	popq	%rbx
-	popq	%r12
-	popq	%r13
-	popq	%r14
-	popq	%r15
-	retq
-16:
-	testq	%r8, %r8
-	je	20f
-	xorl	%eax, %eax
-	.p2align	4
-17:
-	cmpb	$0, (%rcx,%rax)
-	je	18f
-	incq	%rax
-	cmpq	%rax, %r8
-	jne	17b
-	jmp	20f
-18:
-	cmpq	%r8, %rax
-	jae	20f
-19:
-	movl	$22, %edi
-	jmp	12b
-20:
-	movq	%rsi, %r15
-	movq	%rcx, %r14
-	movq	%r8, %r12
-	leaq	4256(%rsp), %rdi
-	movq	%rdx, %r13
-	movl	$4095, %edx
-	xorl	%esi, %esi
-	callq	memset@PLT
-	testq	%r13, %r13
-	je	21f
-	movq	%r13, %rdx
-	leaq	4256(%rsp), %rdi
-	movq	%r15, %rsi
-	callq	memcpy@PLT
-21:
-	movb	$0, 8351(%rsp)
-	leaq	8352(%rsp), %rdi
-	leaq	4256(%rsp), %rsi
-	movl	$4096, %edx
-	callq	memcpy@PLT
-	leaq	160(%rsp), %rdi
-	movl	$4095, %edx
-	xorl	%esi, %esi
-	callq	memset@PLT
-	testq	%r12, %r12
-	je	22f
-	movq	%r12, %rdx
-	leaq	160(%rsp), %rdi
-	movq	%r14, %rsi
-	callq	memcpy@PLT
-22:
-	movb	$0, 4255(%rsp)
-	leaq	4256(%rsp), %r14
-	leaq	160(%rsp), %rsi
-	movl	$4096, %edx
-	movq	%r14, %rdi
-	callq	memcpy@PLT
-	leaq	12448(%rsp), %r15
-	movl	$4096, %edx
-	movq	%r15, %rdi
-	movq	%r14, %rsi
-	callq	memcpy@PLT
-	leaq	8352(%rsp), %rdi
-	movq	%r15, %rsi
-	callq	rename@PLT
-	xorps	%xmm0, %xmm0
-	movaps	%xmm0, 80(%rsp)
-	movaps	%xmm0, 96(%rsp)
-	movaps	%xmm0, 112(%rsp)
-	movaps	%xmm0, 128(%rsp)
-	movq	$0, 144(%rsp)
-	testl	%eax, %eax
-	js	13b
-	xorl	%eax, %eax
-	xorl	%ecx, %ecx
-	xorl	%edx, %edx
-	jmp	14b
-23:
-	.size	"std::fs::rename::<#265af19600708202>", 23b-"std::fs::rename::<#265af19600708202>"
 
 	.text
 	.p2align	4

@@ -457,328 +457,6 @@
 
 	.text
 	.p2align	4
-	.type	"std_alloc::string::String::format::<#27a24f97cf48c160>",@function
-"std_alloc::string::String::format::<#27a24f97cf48c160>":
-	pushq	%rbp
-	pushq	%r15
-	pushq	%r14
-	pushq	%r13
-	pushq	%r12
-	pushq	%rbx
-	subq	$152, %rsp
-	movq	%rsi, %rax
-	movq	%rdi, %rbx
-	movq	(%rsi), %rsi
-	movq	8(%rax), %rdx
-	movq	16(%rax), %r15
-	movq	24(%rax), %r14
-	xorps	%xmm0, %xmm0
-	movups	%xmm0, 127(%rsp)
-	movaps	%xmm0, 112(%rsp)
-	movups	%xmm0, 24(%rsp)
-	movl	$0, 73(%rsp)
-	movl	$0, 76(%rsp)
-	leaq	15(%rsp), %r13
-	movq	%r13, 16(%rsp)
-	movl	$32, 40(%rsp)
-	movq	$0, 44(%rsp)
-	movl	$0, 52(%rsp)
-	movq	$-1, 56(%rsp)
-	movq	$0, 64(%rsp)
-	movb	$0, 72(%rsp)
-	movl	40(%rsp), %eax
-	movl	%eax, 80(%rsp)
-	movq	44(%rsp), %rax
-	movq	%rax, 84(%rsp)
-	movl	52(%rsp), %eax
-	movl	%eax, 92(%rsp)
-	movq	$-1, 96(%rsp)
-	movl	$32, 40(%rsp)
-	movq	$0, 44(%rsp)
-	movl	$0, 52(%rsp)
-	movq	24(%rsp), %rax
-	movq	32(%rsp), %r12
-	movq	%r12, %rcx
-	subq	%rax, %rcx
-	cmpq	%rcx, %rdx
-	ja	18f
-1:
-	leaq	44(%rsp), %r11
-	leaq	(%rax,%rdx), %rbp
-	leaq	(%rax,%r13), %rdi
-	movq	%rdi, %rcx
-	subq	%rsi, %rcx
-	cmpq	%rdx, %rcx
-	jae	7f
-	cmpq	$4, %rdx
-	jb	2f
-	cmpq	$32, %rcx
-	jae	12f
-2:
-	xorl	%ecx, %ecx
-3:
-	movq	%rdx, %r9
-	movq	%rcx, %r8
-	andq	$3, %r9
-	je	5f
-	movq	%rcx, %r8
-	.p2align	4
-4:
-	movzbl	(%rsi,%r8), %r10d
-	movb	%r10b, (%rdi,%r8)
-	incq	%r8
-	decq	%r9
-	jne	4b
-5:
-	subq	%rdx, %rcx
-	cmpq	$-4, %rcx
-	ja	8f
-	addq	%r13, %rax
-	addq	$3, %rax
-	.p2align	4
-6:
-	movzbl	(%rsi,%r8), %ecx
-	movb	%cl, -3(%rax,%r8)
-	movzbl	1(%rsi,%r8), %ecx
-	movb	%cl, -2(%rax,%r8)
-	movzbl	2(%rsi,%r8), %ecx
-	movb	%cl, -1(%rax,%r8)
-	movzbl	3(%rsi,%r8), %ecx
-	movb	%cl, (%rax,%r8)
-	addq	$4, %r8
-	cmpq	%r8, %rdx
-	jne	6b
-	jmp	8f
-7:
-	callq	memmove@PLT
-	leaq	44(%rsp), %r11
-8:
-	movq	%rbp, 24(%rsp)
-	movq	%r12, 32(%rsp)
-	movl	$32, 40(%rsp)
-	movl	$0, 8(%r11)
-	movq	$0, (%r11)
-	movq	$-1, 56(%rsp)
-	cmpq	$0, 64(%rsp)
-	jne	19f
-	movq	%r12, %rax
-	subq	%rbp, %rax
-	cmpq	%rax, %r14
-	ja	31f
-9:
-	leaq	(%r14,%rbp), %r9
-	movq	%r13, %rdi
-	addq	%rbp, %rdi
-	movq	%rdi, %rax
-	subq	%r15, %rax
-	cmpq	%r14, %rax
-	jae	10f
-	cmpq	$4, %r14
-	jae	11f
-	xorl	%eax, %eax
-	leaq	40(%rsp), %r8
-	jmp	24f
-10:
-	movq	%r15, %rsi
-	movq	%r14, %rdx
-	movq	%r9, %r14
-	callq	memmove@PLT
-	movq	%r14, %r9
-	leaq	40(%rsp), %r8
-	jmp	28f
-11:
-	cmpq	$32, %rax
-	leaq	40(%rsp), %r8
-	jae	13f
-	xorl	%eax, %eax
-	jmp	24f
-12:
-	cmpq	$32, %rdx
-	jae	14f
-	xorl	%ecx, %ecx
-	jmp	16f
-13:
-	cmpq	$32, %r14
-	jae	20f
-	xorl	%eax, %eax
-	jmp	22f
-14:
-	movq	%rdx, %rcx
-	andq	$-32, %rcx
-	leaq	(%rax,%r13), %r8
-	addq	$16, %r8
-	xorl	%r9d, %r9d
-	.p2align	4
-15:
-	movups	(%rsi,%r9), %xmm0
-	movups	16(%rsi,%r9), %xmm1
-	movups	%xmm0, -16(%r8,%r9)
-	movups	%xmm1, (%r8,%r9)
-	addq	$32, %r9
-	cmpq	%r9, %rcx
-	jne	15b
-	cmpq	%rcx, %rdx
-	je	8b
-	testb	$28, %dl
-	je	3b
-16:
-	movq	%rcx, %r8
-	movq	%rdx, %rcx
-	andq	$-4, %rcx
-	.p2align	4
-17:
-	movl	(%rsi,%r8), %r9d
-	movl	%r9d, (%rdi,%r8)
-	addq	$4, %r8
-	cmpq	%r8, %rcx
-	jne	17b
-	cmpq	%rcx, %rdx
-	je	8b
-	jmp	3b
-18:
-	movq	%rsi, 144(%rsp)
-	leaq	16(%rsp), %rdi
-	movq	%rdx, %rbp
-	movq	%rdx, %rsi
-	callq	"std_alloc::vec::Vec::grow_amortized::<#06f9579a8fe94b13>"
-	testb	%al, %al
-	je	32f
-	movq	16(%rsp), %r13
-	movq	24(%rsp), %rax
-	movq	32(%rsp), %r12
-	movq	144(%rsp), %rsi
-	movq	%rbp, %rdx
-	jmp	1b
-19:
-	leaq	16(%rsp), %rdi
-	movq	%r15, %rsi
-	movq	%r14, %rdx
-	callq	"core::fmt::formatter::Formatter::write_indented::<#d910c43882378494>"
-	movaps	80(%rsp), %xmm0
-	leaq	40(%rsp), %rdx
-	movups	%xmm0, (%rdx)
-	movq	96(%rsp), %rcx
-	movq	%rcx, 16(%rdx)
-	testb	%al, %al
-	jne	32f
-	jmp	29f
-20:
-	movq	%r14, %rax
-	andq	$-32, %rax
-	leaq	16(,%r13), %rcx
-	addq	%rbp, %rcx
-	xorl	%edx, %edx
-	.p2align	4
-21:
-	movups	(%r15,%rdx), %xmm0
-	movups	16(%r15,%rdx), %xmm1
-	movups	%xmm0, -16(%rcx,%rdx)
-	movups	%xmm1, (%rcx,%rdx)
-	addq	$32, %rdx
-	cmpq	%rdx, %rax
-	jne	21b
-	cmpq	%rax, %r14
-	je	28f
-	testb	$28, %r14b
-	je	24f
-22:
-	movq	%rax, %rcx
-	movq	%r14, %rax
-	andq	$-4, %rax
-	.p2align	4
-23:
-	movl	(%r15,%rcx), %edx
-	movl	%edx, (%rdi,%rcx)
-	addq	$4, %rcx
-	cmpq	%rcx, %rax
-	jne	23b
-	cmpq	%rax, %r14
-	je	28f
-24:
-	movq	%r14, %rdx
-	movq	%rax, %rcx
-	andq	$3, %rdx
-	je	26f
-	movq	%rax, %rcx
-	.p2align	4
-25:
-	movzbl	(%r15,%rcx), %esi
-	movb	%sil, (%rdi,%rcx)
-	incq	%rcx
-	decq	%rdx
-	jne	25b
-26:
-	subq	%r14, %rax
-	cmpq	$-4, %rax
-	ja	28f
-	leaq	3(,%r13), %rax
-	addq	%rbp, %rax
-	.p2align	4
-27:
-	movzbl	(%r15,%rcx), %edx
-	movb	%dl, -3(%rax,%rcx)
-	movzbl	1(%r15,%rcx), %edx
-	movb	%dl, -2(%rax,%rcx)
-	movzbl	2(%r15,%rcx), %edx
-	movb	%dl, -1(%rax,%rcx)
-	movzbl	3(%r15,%rcx), %edx
-	movb	%dl, (%rax,%rcx)
-	addq	$4, %rcx
-	cmpq	%rcx, %r14
-	jne	27b
-28:
-	movq	%r9, 24(%rsp)
-	movq	%r12, 32(%rsp)
-	movq	96(%rsp), %rax
-	movq	%rax, 16(%r8)
-	movaps	80(%rsp), %xmm0
-	movups	%xmm0, (%r8)
-29:
-	movq	32(%rsp), %rax
-	movq	%rax, 135(%rsp)
-	movq	16(%rsp), %rax
-	movq	%rax, 119(%rsp)
-	movq	24(%rsp), %rax
-	movq	%rax, 127(%rsp)
-	xorl	%ebp, %ebp
-30:
-	movb	%bpl, (%rbx)
-	movq	119(%rsp), %rax
-	movq	%rax, 8(%rbx)
-	movq	127(%rsp), %rax
-	movq	%rax, 16(%rbx)
-	movq	135(%rsp), %rax
-	movq	%rax, 24(%rbx)
-	addq	$152, %rsp
-	popq	%rbx
-	popq	%r12
-	popq	%r13
-	popq	%r14
-	popq	%r15
-	popq	%rbp
-	retq
-31:
-	leaq	16(%rsp), %rdi
-	movq	%r14, %rsi
-	callq	"std_alloc::vec::Vec::grow_amortized::<#06f9579a8fe94b13>"
-	testb	%al, %al
-	je	32f
-	movq	16(%rsp), %r13
-	movq	24(%rsp), %rbp
-	movq	32(%rsp), %r12
-	jmp	9b
-32:
-	movb	$1, %bpl
-	cmpq	$0, 32(%rsp)
-	je	30b
-	movq	16(%rsp), %rdi
-	callq	rattle_dealloc@PLT
-	jmp	30b
-33:
-	.size	"std_alloc::string::String::format::<#27a24f97cf48c160>", 33b-"std_alloc::string::String::format::<#27a24f97cf48c160>"
-
-	.text
-	.p2align	4
 	.type	"std_alloc::string::String::format::<#404683268f87e58f>",@function
 "std_alloc::string::String::format::<#404683268f87e58f>":
 	pushq	%rbp
@@ -8143,6 +7821,168 @@
 14:
 	.size	"std_alloc::string::add_wide::<#2cbb67ac55bf10f9>", 14b-"std_alloc::string::add_wide::<#2cbb67ac55bf10f9>"
 
+	.section	.rodata.cst16,"aM",@progbits,16
+	.p2align	4, 0x0
+1:
+	.byte	255,63,63,63
+	.zero	1
+	.zero	1
+	.zero	1
+	.zero	1
+	.zero	1
+	.zero	1
+	.zero	1
+	.zero	1
+	.zero	1
+	.zero	1
+	.zero	1
+	.zero	1
+2:
+	.byte	240,128,128,128
+	.zero	1
+	.zero	1
+	.zero	1
+	.zero	1
+	.zero	1
+	.zero	1
+	.zero	1
+	.zero	1
+	.zero	1
+	.zero	1
+	.zero	1
+	.zero	1
+	.text
+	.p2align	4
+	.type	"std_alloc::string::add_wide::<#9405f84352920a8d>",@function
+"std_alloc::string::add_wide::<#9405f84352920a8d>":
+	pushq	%r14
+	pushq	%rbx
+	pushq	%rax
+	cmpl	$2047, %esi
+	ja	4f
+	movq	8(%rdi), %rax
+	movq	16(%rdi), %rcx
+	movq	%rcx, %rdx
+	subq	%rax, %rdx
+	cmpq	$1, %rdx
+	jbe	11f
+3:
+	movq	(%rdi), %rdx
+	movl	%esi, %r8d
+	shrl	$6, %r8d
+	andl	$63, %esi
+	shll	$8, %esi
+	orl	%esi, %r8d
+	orl	$32960, %r8d
+	movw	%r8w, (%rdx,%rax)
+	addq	$2, %rax
+	jmp	8f
+4:
+	cmpl	$65535, %esi
+	ja	6f
+	movq	8(%rdi), %rcx
+	movq	16(%rdi), %rax
+	movq	%rax, %rdx
+	subq	%rcx, %rdx
+	cmpq	$2, %rdx
+	jbe	12f
+5:
+	movl	%esi, %edx
+	shrl	$12, %edx
+	orb	$-32, %dl
+	movl	%esi, %r8d
+	shrl	$6, %r8d
+	andb	$63, %r8b
+	orb	$-128, %r8b
+	andb	$63, %sil
+	orb	$-128, %sil
+	leaq	3(%rcx), %r9
+	movq	(%rdi), %r10
+	movb	%dl, (%r10,%rcx)
+	movb	%r8b, 1(%r10,%rcx)
+	movb	%sil, 2(%r10,%rcx)
+	movq	%r10, (%rdi)
+	movq	%r9, 8(%rdi)
+	movq	%rax, 16(%rdi)
+	jmp	9f
+6:
+	movq	8(%rdi), %rax
+	movq	16(%rdi), %rcx
+	movq	%rcx, %rdx
+	subq	%rax, %rdx
+	cmpq	$3, %rdx
+	jbe	13f
+7:
+	movl	%esi, %edx
+	shrl	$6, %edx
+	movl	%esi, %r8d
+	shrl	$12, %r8d
+	movd	%esi, %xmm0
+	psrld	$18, %xmm0
+	pinsrb	$1, %r8d, %xmm0
+	pinsrb	$2, %edx, %xmm0
+	pinsrb	$3, %esi, %xmm0
+	pand	1b(%rip), %xmm0
+	por	2b(%rip), %xmm0
+	movq	(%rdi), %rdx
+	movd	%xmm0, (%rdx,%rax)
+	addq	$4, %rax
+8:
+	movq	%rdx, (%rdi)
+	movq	%rax, 8(%rdi)
+	movq	%rcx, 16(%rdi)
+9:
+	xorl	%eax, %eax
+10:
+	addq	$8, %rsp
+	popq	%rbx
+	popq	%r14
+	retq
+11:
+	movl	%esi, %ebx
+	movl	$2, %esi
+	movq	%rdi, %r14
+	callq	"std_alloc::vec::Vec::grow_amortized::<#06f9579a8fe94b13>"
+	movl	%eax, %ecx
+	movb	$1, %al
+	testb	%cl, %cl
+	je	10b
+	movq	%r14, %rdi
+	movq	8(%r14), %rax
+	movq	16(%r14), %rcx
+	movl	%ebx, %esi
+	jmp	3b
+12:
+	movl	%esi, %ebx
+	movl	$3, %esi
+	movq	%rdi, %r14
+	callq	"std_alloc::vec::Vec::grow_amortized::<#06f9579a8fe94b13>"
+	movl	%eax, %ecx
+	movb	$1, %al
+	testb	%cl, %cl
+	je	10b
+	movq	%r14, %rdi
+	movq	8(%r14), %rcx
+	movq	16(%r14), %rax
+	movl	%ebx, %esi
+	jmp	5b
+13:
+	movl	%esi, %ebx
+	movl	$4, %esi
+	movq	%rdi, %r14
+	callq	"std_alloc::vec::Vec::grow_amortized::<#06f9579a8fe94b13>"
+	movl	%eax, %ecx
+	movb	$1, %al
+	testb	%cl, %cl
+	je	10b
+	movq	%r14, %rdi
+	movq	8(%r14), %rax
+	movq	16(%r14), %rcx
+	movl	%ebx, %esi
+	jmp	7b
+14:
+	.size	"std_alloc::string::add_wide::<#9405f84352920a8d>", 14b-"std_alloc::string::add_wide::<#9405f84352920a8d>"
+
 	.text
 	.p2align	4
 	.type	"std_alloc::vec::Vec::drop::<#00910116450e14d9>",@function
@@ -9975,8 +9815,8 @@
 
 	.section	.text.unlikely,"ax",@progbits
 	.p2align	4
-	.type	"std_alloc::vec::Vec::grow_amortized::<#9f351709e7e1a03a>",@function
-"std_alloc::vec::Vec::grow_amortized::<#9f351709e7e1a03a>":
+	.type	"std_alloc::vec::Vec::grow_amortized::<#9df5fbc9122c907f>",@function
+"std_alloc::vec::Vec::grow_amortized::<#9df5fbc9122c907f>":
 	movq	8(%rdi), %rax
 	cmpq	$-1, %rax
 	je	2f
@@ -10033,7 +9873,7 @@
 	popq	%r14
 	retq
 5:
-	.size	"std_alloc::vec::Vec::grow_amortized::<#9f351709e7e1a03a>", 5b-"std_alloc::vec::Vec::grow_amortized::<#9f351709e7e1a03a>"
+	.size	"std_alloc::vec::Vec::grow_amortized::<#9df5fbc9122c907f>", 5b-"std_alloc::vec::Vec::grow_amortized::<#9df5fbc9122c907f>"
 
 	.section	.text.unlikely,"ax",@progbits
 	.p2align	4

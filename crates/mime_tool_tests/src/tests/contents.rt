@@ -283,12 +283,7 @@ fn says_why_a_file_has_no_line(rt: HostRuntime) -> Result<(), Fail> {
 }
 
 /// A file whose name is too long is refused for what is stored there, if that can't be opened, and else for its name.
-fn is_refused(
-    rt: &impl Abort,
-    alloc: Global,
-    entry: Entry<'static>,
-    why: &str,
-) -> Result<(), Fail> {
+fn is_refused(rt: &impl Abort, alloc: Global, why: &str) -> Result<(), Fail> {
     let long = "a".repeat(alloc, 4_097)?;
     let message = format!(in alloc; "mimelook: {long}: {why}\n")?;
     let wanted = Said {
@@ -297,13 +292,18 @@ fn is_refused(
         err: message.as_str(),
     };
     let words = ["plain", "-d", "", long.as_str()];
+    let entry = match why {
+        "cannot open" => Entry::Closed,
+        "cannot read" => Entry::Folder,
+        _ => Entry::Unreadable,
+    };
     let entries = [(long.as_str(), entry)];
     says_over(rt, alloc, why, &words, &entries, wanted)
 }
 
 #[test]
 fn opens_before_it_looks_at_the_name(rt: HostRuntime) -> Result<(), Fail> {
-    is_refused(&rt, rt.alloc(), Entry::Closed, "cannot open")?;
-    is_refused(&rt, rt.alloc(), Entry::Folder, "cannot read")?;
-    is_refused(&rt, rt.alloc(), Entry::Unreadable, "name too long")
+    is_refused(&rt, rt.alloc(), "cannot open")?;
+    is_refused(&rt, rt.alloc(), "cannot read")?;
+    is_refused(&rt, rt.alloc(), "name too long")
 }
