@@ -14,6 +14,9 @@ complete -c mimelook -n '__fish_seen_subcommand_from build' -s h -l help -d 'Pri
 complete -c mimelook -n '__fish_seen_subcommand_from plain' -s d -l data-dirs -x -a '(__fish_complete_directories)' -d 'Data directories, most preferred first'
 complete -c mimelook -n '__fish_seen_subcommand_from plain' -l name-only -d 'Go by the names alone'
 complete -c mimelook -n '__fish_seen_subcommand_from plain' -l magic-first -d 'Let content of high priority (80 or more) decide before names'
+complete -c mimelook -n '__fish_seen_subcommand_from plain' -s 0 -l null -d 'Print a zero byte after FILE and one after TYPE, in place of a colon and a newline'
+complete -c mimelook -n '__fish_seen_subcommand_from plain' -s b -l brief -d 'Print TYPE alone'
+complete -c mimelook -n '__fish_seen_subcommand_from plain' -l escape -d 'In FILE and TYPE, write the bytes below 32, 127 and \ as \ and three octal digits'
 complete -c mimelook -n '__fish_seen_subcommand_from plain' -s h -l help -d 'Print help'
 complete -c mimelook -n '__fish_seen_subcommand_from plain' -F
 complete -c mimelook -n '__fish_seen_subcommand_from list' -s c -l cache -r -F -d 'The cache to read'
@@ -28,7 +31,10 @@ complete -c mimelook -n '__fish_seen_subcommand_from icon' -s h -l help -d 'Prin
 complete -c mimelook -n '__fish_seen_subcommand_from type' -s c -l cache -r -F -d 'The cache to read'
 complete -c mimelook -n '__fish_seen_subcommand_from type' -s d -l data-dirs -x -a '(__fish_complete_directories)' -d 'Data directories, most preferred first'
 complete -c mimelook -n '__fish_seen_subcommand_from type' -l name-only -d 'Go by the names alone'
-complete -c mimelook -n '__fish_seen_subcommand_from type' -l cost -d 'Print behind each TYPE what the answer cost'
 complete -c mimelook -n '__fish_seen_subcommand_from type' -l magic-first -d 'Let content of high priority (80 or more) decide before names'
+complete -c mimelook -n '__fish_seen_subcommand_from type' -l cost -d 'Print behind each TYPE what the answer cost'
+complete -c mimelook -n '__fish_seen_subcommand_from type' -s 0 -l null -d 'Print a zero byte after FILE and one after TYPE, in place of a colon and a newline'
+complete -c mimelook -n '__fish_seen_subcommand_from type' -s b -l brief -d 'Print TYPE alone'
+complete -c mimelook -n '__fish_seen_subcommand_from type' -l escape -d 'In FILE and TYPE, write the bytes below 32, 127 and \ as \ and three octal digits'
 complete -c mimelook -n '__fish_seen_subcommand_from type' -s h -l help -d 'Print help'
 complete -c mimelook -n '__fish_seen_subcommand_from type' -F

@@ -54,6 +54,12 @@
 	.ascii	"long text at "
 	.size	.L07334fd0fe93, 13
 
+	.type	.L0791a6fb5224,@object
+	.section	.rodata,"a",@progbits
+.L0791a6fb5224:
+	.zero	1
+	.size	.L0791a6fb5224, 1
+
 	.type	.L08eec631916e,@object
 	.section	.rodata,"a",@progbits
 .L08eec631916e:
@@ -294,12 +300,6 @@
 .L337bb3f0084d:
 	.ascii	"Prints FILE: TYPE for each FILE, with no cache between"
 	.size	.L337bb3f0084d, 54
-
-	.type	.L349f7f79b527,@object
-	.section	.rodata,"aMS",@progbits,1
-.L349f7f79b527:
-	.zero	1
-	.size	.L349f7f79b527, 1
 
 	.type	.L357803851c0b,@object
 	.section	.rodata,"a",@progbits

@@ -13059,7 +13059,7 @@
 	movaps	%xmm0, (%rsp)
 	movaps	%xmm0, 16(%rsp)
 	movq	$0, 32(%rsp)
-	leaq	.L349f7f79b527(%rip), %rdx
+	leaq	.L0791a6fb5224(%rip), %rdx
 	leaq	.Lb9d66d2d8f9c(%rip), %rax
 	testb	$1, %bpl
 	cmovneq	%rdx, %rax
@@ -13154,7 +13154,7 @@
 	movaps	%xmm0, (%rsp)
 	movaps	%xmm0, 16(%rsp)
 	movq	$0, 32(%rsp)
-	leaq	.L349f7f79b527(%rip), %rdx
+	leaq	.L0791a6fb5224(%rip), %rdx
 	leaq	.Lb9d66d2d8f9c(%rip), %rcx
 	testb	$1, %bpl
 	cmovneq	%rdx, %rcx
