@@ -51,7 +51,7 @@ impl<R: rt::Files> Files for SystemFiles<'_, R> {
 
     fn whole(&mut self, alloc: Global, path: &str) -> Result<Option<Vec<u8>>, FileFault> {
         match open_file(self.0, path) {
-            Ok(mut file) => Ok(Some(read_open(alloc, LONGEST_FILE, &mut file)?)),
+            Ok((mut file, size)) => Ok(Some(read_open(alloc, LONGEST_FILE, size, &mut file)?)),
             Err(error) => {
                 if error.kind() == ErrorKind::NotFound {
                     Ok(None)
@@ -76,7 +76,7 @@ impl<R: rt::Files> Files for SystemFiles<'_, R> {
 
     fn open(&mut self, _alloc: Global, path: &str) -> Result<Untold<R::File>, FileFault> {
         match open_file(self.0, path) {
-            Ok(file) => Ok(Untold(file)),
+            Ok((file, _)) => Ok(Untold(file)),
             Err(error) => Err(file_fault(&error)),
         }
     }
@@ -95,12 +95,14 @@ impl<R: rt::Files> Files for SystemFiles<'_, R> {
     }
 }
 
-// Opens a regular file to be read. What the path leads to may change in between, so what was opened is looked at too.
-fn open_file<R: rt::Files>(rt: &R, path: &str) -> io::Result<R::File> {
+// Opens a regular file to be read, and gives how many bytes it says that it has. What the path leads to may change in between, so
+// what was opened is looked at too.
+fn open_file<R: rt::Files>(rt: &R, path: &str) -> io::Result<(R::File, u64)> {
     require_regular(&fs::metadata(rt, path)?)?;
     let file = File::open(rt, path)?;
-    require_regular(&file.metadata()?)?;
-    Ok(file)
+    let metadata = file.metadata()?;
+    require_regular(&metadata)?;
+    Ok((file, metadata.len()))
 }
 
 fn require_regular(metadata: &Metadata) -> io::Result<()> {
@@ -200,24 +202,21 @@ fn remove_left<R: rt::Files>(rt: &R, path: &str) -> io::Result<()> {
     }
 }
 
-// All the bytes of an open file, at most `limit`. A file that says that it is longer isn't read.
-fn read_open<F: Read + OpenFile>(
+// All the bytes of an open file that says that it has `size`, at most `limit`. One that says that it is longer isn't read; for
+// any other, room is made at once.
+fn read_open<F: Read>(
     alloc: Global,
     limit: usize,
+    size: u64,
     file: &mut F,
 ) -> Result<Vec<u8>, FileFault>
     ensures bytes { IfOk result (λ v. IfSome (F.remaining file.old) (λ xs. v.items ≡ xs)) }
     ensures limited { IfOk result (λ v. length v.items ≤ limit) }
 {
-    match file.metadata() {
-        Ok(metadata) => {
-            if metadata.len() > limit as u64 {
-                return Err(FileFault::Failed);
-            }
-            read_whole(alloc, limit, file)
-        }
-        Err(error) => Err(file_fault(&error)),
+    if size > limit as u64 {
+        return Err(FileFault::Failed);
     }
+    read_sized(alloc, size as usize, limit, file)
 }
 
 /// All the bytes that a reader still gives, at most `limit`.
@@ -230,7 +229,20 @@ pub fn read_whole<R: Read>(alloc: Global, limit: usize, file: &mut R) -> Result<
     // An answer is no longer than the limit.
     ensures limited { IfOk result (λ v. length v.items ≤ limit) }
 {
-    let mut bytes = Vec::new(alloc);
+    read_sized(alloc, 0, limit, file)
+}
+
+// The same, with room for so many bytes to begin with.
+fn read_sized<R: Read>(
+    alloc: Global,
+    room: usize,
+    limit: usize,
+    file: &mut R,
+) -> Result<Vec<u8>, FileFault>
+    ensures bytes { IfOk result (λ v. IfSome (R.remaining file.old) (λ xs. v.items ≡ xs)) }
+    ensures limited { IfOk result (λ v. length v.items ≤ limit) }
+{
+    let mut bytes = Vec::with_capacity(alloc, room)?;
     let mut block = [0u8; BLOCK];
     let mut retries = RETRIES;
     for _ in 0..u64::MAX {
