@@ -1,3 +1,4 @@
+pub mod FallingLemmas
 pub mod MatchingLemmas
 pub mod KeptLemmas
 pub mod MagicLemmas

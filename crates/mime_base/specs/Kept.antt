@@ -1,9 +1,11 @@
 -- The rules that are kept of those that match a name: the first class that has one, then the greatest
--- weight, then the longest pattern, then the case-sensitive ones if any is.
+-- weight, then the longest pattern, then the case-sensitive ones if any is. And all that match, in this order.
 pub mod Rows
+pub mod CandidateRows
 pub mod Hidden
 pub mod HiddenRows
-use Rattle.std.specs.Prelude.{◌≡◌, ℕ, ◌+◌, ◌*◌, ◌<◌, Bool, false, ◌&&◌, ◌||◌, ◌==◌, if◌then◌else◌, List, [], ◌∷◌, length, max, filter, All}
+use Rattle.std.specs.Prelude.{◌≡◌, ℕ, ◌+◌, ◌*◌, ◌<◌, Bool, false, ◌&&◌, ◌||◌, ◌==◌, if◌then◌else◌, List, [], ◌∷◌, length, take, max, filter, All}
+use Rattle.mime_base.specs.Falling.{falling}
 use Rattle.mime_base.specs.Matching.Elements.{is_literal_text}
 use Rattle.mime_base.specs.Matching.Matches.{rule_matches}
 use Rattle.mime_base.specs.declared.kept.class.Class.{Class}
@@ -80,6 +82,15 @@ FitsRank rule = (rule.weight < 256) × (length rule.pattern < 65536)
 -- of any hits, those of the greatest rank are those that are preferred
 abbrev pub GreatestRankIsPreferred : Type 0
 GreatestRankIsPreferred = (hits : List GlobRule) → All FitsRank hits → of_greatest rank_of_rule hits ≡ preferred hits
+
+-- all rules that match a name, the preferred first: by falling rank, those of one rank in merged order
+unfoldable pub candidate_rules : List GlobRule → List ℕ → List GlobRule
+candidate_rules rules name = falling rank_of_rule (hits rules name)
+
+-- for every name the kept rules are the first of the candidates
+abbrev pub KeptComeFirst : Type 0
+KeptComeFirst = (rules : List GlobRule) → All FitsRank rules → (name : List ℕ) →
+    take (length (kept_rules rules name)) (candidate_rules rules name) ≡ kept_rules rules name
 
 -- of offers, each a rank and an item, those of the greatest rank, in their order
 abbrev pub best : {X : Type 0} → List (ℕ × X) → List (ℕ × X)

@@ -1,4 +1,5 @@
 pub mod Names
+pub mod Falling
 pub mod Matching
 pub mod Kept
 pub mod Magic

@@ -11,7 +11,7 @@ pub mod hidden;
 
 ghost use Rattle.std.specs.Prelude.{◌≡◌, ℕ, ◌+◌, ◌≤◌, nat_le, List, [], ◌∷◌, ◌++◌, length, map, OnOk, OnErr};
 ghost use Rattle.std.specs.List.{list_all};
-ghost use Rattle.mime_base.specs.Kept.{best, rank, rank_of_rule, FitsRank, GreatestRankIsPreferred};
+ghost use Rattle.mime_base.specs.Kept.{best, rank, rank_of_rule, FitsRank, GreatestRankIsPreferred, KeptComeFirst};
 
 use crate::database::rule::GlobRule;
 use crate::kept::class::{Class, class_of_bytes};
@@ -56,6 +56,13 @@ pub fn rank_of_rule(rule: &GlobRule) -> u32
 pub fn greatest_rank_is_preferred()
     // Of any rules that match, those of the greatest rank are those that the four preferences keep, one after another.
     ensures { GreatestRankIsPreferred }
+{}
+
+/// The law of candidates: the rules that are kept for a name are the first of all that match it, by
+/// falling rank.
+pub fn kept_come_first()
+    // Whatever the name, as many of the first candidates as are kept are the kept rules, in their order.
+    ensures { KeptComeFirst }
 {}
 
 /// What was offered with the greatest rank so far, in the order in which it came.

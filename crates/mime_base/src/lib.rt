@@ -42,7 +42,7 @@ pub use database::pair::Pair;
 pub use database::rule::GlobRule;
 pub use kept::class::{Class, class_of, class_of_bytes};
 pub use kept::hidden::visible_is_enough;
-pub use kept::{Best, greatest_rank_is_preferred, rank_of, rank_of_rule};
+pub use kept::{Best, greatest_rank_is_preferred, kept_come_first, rank_of, rank_of_rule};
 pub use magic::Section;
 pub use magic::extent::extent;
 pub use magic::holding::{line_matches, some_line_matches};

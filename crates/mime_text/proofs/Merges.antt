@@ -2,8 +2,6 @@ pub mod Filters
 pub mod Sets
 pub mod Undeleted
 pub mod Once
-pub mod Falling
-pub mod Sorting
 pub mod Gathered
 pub mod Picking
 pub mod Plain

@@ -2,9 +2,10 @@ pub mod Rows
 pub mod Gathering
 pub mod Hiding
 -- What merged data directories say, the most preferred first.
-use Rattle.std.specs.Prelude.{ℕ, Bool, not, List, [], ◌∷◌, ◌++◌, fold, map, filter, bytes_eq, if◌then◌else◌, nat_lt}
+use Rattle.std.specs.Prelude.{ℕ, Bool, not, List, [], ◌∷◌, ◌++◌, fold, map, filter, bytes_eq, if◌then◌else◌}
 use Rattle.std.specs.List.{flat_map, list_any}
 use Rattle.mime_base.specs.Database.{PlainDatabase}
+use Rattle.mime_base.specs.Falling.{falling}
 use Rattle.mime_base.specs.Kept.Hidden.{visible}
 use Rattle.mime_base.specs.Magic.{PlainSection, plain_sections}
 use Rattle.mime_base.specs.Database.PlainPairs.{is_same_pair, plain_icons, plain_pairs}
@@ -44,20 +45,6 @@ with_kind kinds kind = if is_among kinds kind then kinds else kinds ++ kind ∷ 
 -- the types with more
 abbrev pub with_kinds : List (List ℕ) → List (List ℕ) → List (List ℕ)
 with_kinds kinds more = fold with_kind kinds more
-
--- ---- priorities
-
--- an item before the first whose number is not above its own
-abbrev pub insert_falling : {A : Type 0} → (A → ℕ) → A → List A → List A
-insert_falling number item [] = item ∷ []
-insert_falling number item (first ∷ rest) =
-    if nat_lt (number item) (number first)
-    then first ∷ insert_falling number item rest else item ∷ first ∷ rest
-
--- the items by falling numbers; those of one number stay in their order
-abbrev pub falling : {A : Type 0} → (A → ℕ) → List A → List A
-falling number [] = []
-falling number (item ∷ items) = insert_falling number item (falling number items)
 
 -- ---- first entries
 

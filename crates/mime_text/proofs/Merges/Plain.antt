@@ -3,6 +3,7 @@ use Rattle.std.proofs.Common.{◌≡◌, ℕ, true, List, [], ap, ◌∙◌, ref
 use Rattle.std.proofs.Math.Bool.{and-true}
 use Rattle.std.specs.Str.{bytes_eq}
 use Rattle.mime_base.specs.Database.{PlainDatabase}
+use Rattle.mime_base.specs.Falling.{falling}
 use Rattle.mime_base.specs.Magic.{FallByPriority, PlainSection, are_allowed_sections, plain_section, plain_sections}
 use Rattle.mime_base.specs.Database.PlainPairs.{are_distinct_pairs, have_distinct_names, is_same_pair, plain_icon, plain_icons, plain_pair}
 use Rattle.mime_base.specs.Database.PlainPairs.{plain_pairs}
@@ -10,10 +11,10 @@ use Rattle.mime_base.specs.declared.database.icon.Icon.{Icon}
 use Rattle.mime_base.specs.declared.database.pair.Pair.{Pair}
 use Rattle.mime_base.specs.declared.database.rule.GlobRule.{GlobRule}
 use Rattle.mime_base.specs.declared.magic.Section.{Section}
-use Rattle.mime_text.proofs.Merges.Falling.{falling-map, falls_falling, list_all-falling}
+use Rattle.mime_base.proofs.FallingLemmas.Order.{falling-map, falls_falling, list_all-falling}
+use Rattle.mime_base.proofs.FallingLemmas.Sorting.{sorted_from_falls}
 use Rattle.mime_text.proofs.Merges.Once.{names_once, once-map, pairs_once}
-use Rattle.mime_text.proofs.Merges.Sorting.{sorted_from_falls}
-use Rattle.mime_text.specs.Merging.{falling, has_same_key, has_same_name, once}
+use Rattle.mime_text.specs.Merging.{has_same_key, has_same_name, once}
 
 -- ---- entries
 

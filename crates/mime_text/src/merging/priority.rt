@@ -1,7 +1,7 @@
 //! The order of sections.
 
 ghost use Rattle.std.specs.Prelude.{◌≡◌, IfOk};
-ghost use Rattle.mime_text.specs.Merging.{falling};
+ghost use Rattle.mime_base.specs.Falling.{falling};
 
 use mime_base::{OutOfMemory, Section};
 

@@ -2,9 +2,10 @@
 use Rattle.std.proofs.Common.{◌≡◌, ◌∙◌, ℕ, List, ap, sym}
 use Rattle.mime_base.specs.Database.{PlainDatabase}
 use Rattle.mime_base.specs.Database.PlainPairs.{is_same_pair}
+use Rattle.mime_base.specs.Falling.{falling}
 use Rattle.mime_base.specs.Magic.{PlainSection}
 use Rattle.mime_base.specs.declared.database.rule.GlobRule.{GlobRule}
-use Rattle.mime_text.specs.Merging.{PlainDir, has_same_name, falling, merged, merged_rules, once}
+use Rattle.mime_text.specs.Merging.{PlainDir, has_same_name, merged, merged_rules, once}
 use Rattle.mime_text.specs.Merging.{undeleted_sections}
 use Rattle.mime_tool.specs.FromTexts.{SayDatabase}
 use Rattle.mime_tool.specs.declared.from_texts.DirBytes.{DirBytes}

@@ -5,7 +5,8 @@ use Rattle.mime_base.specs.Database.PlainPairs.{is_same_pair, plain_icon, plain_
 use Rattle.mime_text.proofs.Merges.Gathered.{plain_lists, plain_rules, plain_undeleted, undeleted_allowed}
 use Rattle.mime_text.proofs.Merges.Plain.{aliases_once, aliases_plain, icons_once, icons_plain, parents_once, parents_plain, same_lists}
 use Rattle.mime_text.proofs.Merges.Plain.{sections_allowed, sections_fall, sections_plain}
-use Rattle.mime_text.specs.Merging.{falling, has_same_name, merged, once}
+use Rattle.mime_base.specs.Falling.{falling}
+use Rattle.mime_text.specs.Merging.{has_same_name, merged, once}
 use Rattle.mime_text.proofs.merging.merge.Goals as goal
 
 pub invariant_of-result : goal.invariant_of-result

@@ -2,7 +2,7 @@
 use Rattle.std.proofs.Common.{rules}
 use Rattle.std.proofs.lemmas.List.Sorted.{answers_always}
 use Rattle.mime_base.specs.declared.magic.Section.{Section}
-use Rattle.mime_text.proofs.Merges.Sorting.{before, before_order, sorted_falling}
+use Rattle.mime_base.proofs.FallingLemmas.Sorting.{before, before_order, sorted_falling}
 use Rattle.mime_text.proofs.merging.priority.by_priority.Goals as goal
 
 pub returns : goal.returns

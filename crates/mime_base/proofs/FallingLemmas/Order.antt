@@ -4,7 +4,7 @@ use Rattle.std.proofs.Common.{arith}
 use Rattle.std.proofs.lemmas.Bool.{and_from, and_parts, cases_Bool, cases_order, cond-true, cond-false, cond_both, eq-eqb, eqb-true}
 use Rattle.std.proofs.lemmas.Bool.{ltb-true, ltb-false, ne_eqb}
 use Rattle.std.specs.List.{AllByRecursion, filter, list_all}
-use Rattle.mime_text.specs.Merging.{falling, insert_falling}
+use Rattle.mime_base.specs.Falling.{falling, insert_falling}
 
 module _ {A : Type 0} (number : A → ℕ) where
   -- no number after an item is above its own
@@ -28,6 +28,11 @@ module _ {A : Type 0} (number : A → ℕ) where
   insert_below n x le (y ∷ ys) all =
       elim (ltb (number x) (number y)) as (λ t. AllByRecursion (λ z. number z ≤ n) (cond t (y ∷ insert_falling number x ys) (x ∷ y ∷ ys)))
       [ true ↦ (all.0, insert_below n x le ys all.1) | false ↦ (le, all) ]
+
+  -- a bound of all is one in any order
+  pub below_falling : (n : ℕ) (xs : List A) → AllByRecursion (λ y. number y ≤ n) xs → AllByRecursion (λ y. number y ≤ n) (falling number xs)
+  below_falling n [] all = tt
+  below_falling n (x ∷ xs) all = insert_below n x all.0 (falling number xs) (below_falling n xs all.1)
 
   -- an item more at its place
   falls_insert : (x : A) (ys : List A) → Falls ys → Falls (insert_falling number x ys)
@@ -67,7 +72,7 @@ module _ {A : Type 0} (number : A → ℕ) where
   filter_falling n (x ∷ xs) = filter_insert n x (falling number xs) ∙ ap (λ zs. cond (has n x) (x ∷ zs) zs) (filter_falling n xs)
 
   -- no item has a number above the bound
-  none_above : (m n : ℕ) → m < n → (xs : List A) → AllByRecursion (λ y. number y ≤ m) xs → filter (has n) xs ≡ []
+  pub none_above : (m n : ℕ) → m < n → (xs : List A) → AllByRecursion (λ y. number y ≤ m) xs → filter (has n) xs ≡ []
   none_above m n lt [] all = refl
   none_above m n lt (x ∷ xs) all =
       cond-false _ _ _ (ne_eqb (number x) n (λ e. omega (arith, e, all.0))) ∙ none_above m n lt xs all.1

@@ -11,8 +11,8 @@ use Rattle.std.specs.List.Sorted.{IsSortedBy, IsStableBy, ties}
 use Rattle.std.specs.Ordering.{is_lt, nat_cmp}
 use Rattle.std.specs.declared.cmp.Ordering.{Ordering}
 use Rattle.std.specs.declared.cmp.Ordering.TheVariants.{Less, Equal, Greater}
-use Rattle.mime_text.proofs.Merges.Falling.{Falls, all_below, falls_falling, filter_falling, has, same_order}
-use Rattle.mime_text.specs.Merging.{falling}
+use Rattle.mime_base.proofs.FallingLemmas.Order.{Falls, all_below, falls_falling, filter_falling, has, same_order}
+use Rattle.mime_base.specs.Falling.{falling}
 
 module _ {A : Type 0} (number : A → ℕ) where
   -- a higher number comes before
