@@ -9,7 +9,7 @@
 //! ```text
 //! let globs = read_globs2(alloc, bytes)?;
 //! let magic = read_magic(alloc, bytes)?;
-//! let database = merge(alloc, dirs)?;
+//! let database = merge_visible(alloc, dirs)?;
 //! ```
 //!
 //! `lines` is the module to read first.
@@ -27,4 +27,4 @@ pub use magic::{
     magic_text_or_fault, read_magic, truncated_can_go_on,
 };
 pub use merging::hidden::visible;
-pub use merging::{DirFiles, merge};
+pub use merging::{DirFiles, merge, merge_visible};

@@ -9,7 +9,7 @@
 
 ghost use Rattle.std.specs.Prelude.{◌≡◌, IfOk, OnOk};
 ghost use Rattle.mime_base.specs.Database.{plain_database};
-ghost use Rattle.mime_text.specs.Merging.{merged, plain_dirs};
+ghost use Rattle.mime_text.specs.Merging.{merged, plain_dirs, visible_database};
 ghost use Rattle.mime_text.specs.Merging.Gathering.{Adds, Gathers};
 
 mod first;
@@ -24,6 +24,7 @@ use crate::lines::icons::IconsFile;
 use crate::lines::pairs::PairsFile;
 use crate::magic::MagicFile;
 use first::first_of_each;
+use hidden::visible;
 use kept::Kept;
 use key::{ByName, ByPair};
 use mime_base::{Database, GlobRule, Icon, OutOfMemory, Pair, Section};
@@ -97,6 +98,18 @@ pub fn merge(alloc: Global, dirs: Vec<DirFiles>) -> Result<Database, OutOfMemory
         icons: first_of_each::<Icon, ByName>(alloc, icons)?,
         generic_icons: first_of_each::<Icon, ByName>(alloc, generic_icons)?,
     })
+}
+
+/// Merges what directories say, as [`merge`] does, and leaves out the rules that are never kept.
+///
+/// It is what a cache is made of, and what is asked over text files. For every name the same rules are
+/// kept as over [`merge`]'s database.
+pub fn merge_visible(alloc: Global, dirs: Vec<DirFiles>) -> Result<Database, OutOfMemory>
+    // The database is the merging of what the directories say, with the visible ones of its rules.
+    ensures visible { IfOk result (λ database. plain_database database ≡ visible_database (merged (plain_dirs dirs.items))) }
+{
+    let database = merge(alloc, dirs)?;
+    visible(alloc, database)
 }
 
 /// The lists of the directories.

@@ -6,3 +6,4 @@ pub mod Lines
 pub mod AnswersFrom
 pub mod AnswersOver
 pub mod ContentReaders
+pub mod VisibleChoices

@@ -13,7 +13,7 @@ use Rattle.mime_text.specs.Magic.Entries.{PlainFlatSection}
 use Rattle.mime_text.specs.Magic.File.{deleted_kinds, kept_sections}
 use Rattle.mime_text.specs.Magic.Reading.{magic_fault}
 use Rattle.mime_text.specs.Magic.Text.{MagicText}
-use Rattle.mime_text.specs.Merging.{PlainDir, merged}
+use Rattle.mime_text.specs.Merging.{PlainDir, merged, visible_database}
 use Rattle.mime_text.specs.declared.magic.fault.MagicFault.{MagicFault}
 use Rattle.mime_text.specs.declared.magic.fault.MagicFault.TheVariants as fault
 use Rattle.mime_text.specs.declared.magic.fault.MagicFaultKind.{MagicFaultKind}
@@ -151,11 +151,11 @@ AreDirectories stored (dir ∷ dirs) = do
   others ← AreDirectories stored dirs
   Gives (first ∷ others)
 
--- what directories say, merged, the most preferred first
+-- what directories say, merged, the most preferred first, with the visible ones of its rules
 unfoldable pub IsMerged : (List ℕ → Stored) → List (List ℕ) → Option PlainDatabase → List ℕ → Type 0
 IsMerged stored dirs = do
   plain_dirs ← AreDirectories stored dirs
-  Gives (merged plain_dirs)
+  Gives (visible_database (merged plain_dirs))
 
 -- ---- directories without a text file
 

@@ -1,5 +1,5 @@
 -- What the texts of data directories say, and what an answer from them comes to.
-use Rattle.std.specs.Prelude.{◌≡◌, ◌≢◌, ◌⊎◌, ◌<◌, ◌≤◌, ℕ, zero, suc, Bool, true, false, List, [], ◌∷◌, length, Option, Some, None}
+use Rattle.std.specs.Prelude.{◌≡◌, ◌≢◌, ◌⊎◌, ◌↔◌, ◌<◌, ◌≤◌, ℕ, zero, suc, Bool, true, false, List, [], ◌∷◌, length, Option, Some, None}
 use Rattle.std.specs.Prelude.{IfSome, Result, Ok, Err, IfErr, OnOk, ⊤}
 use Rattle.mime_base.specs.Database.{PlainDatabase}
 use Rattle.mime_base.specs.Format.Room.{room}
@@ -7,7 +7,7 @@ use Rattle.mime_base.specs.Format.Spells.{cache_limit}
 use Rattle.mime_base.specs.declared.magic.host.Host.{Host}
 use Rattle.mime_base.specs.declared.meter.Meter.{Meter}
 use Rattle.mime_lookup.specs.Bounds.{bytes_max, nodes_max}
-use Rattle.mime_lookup.specs.CheckingOrder.{Chooses, read_of}
+use Rattle.mime_lookup.specs.CheckingOrder.{Chooses, globs_suffice, read_of}
 use Rattle.mime_lookup.specs.Content.{Advances, GivesUp, Health, OfReader, Retries, Tally, broken, sound}
 use Rattle.mime_lookup.specs.declared.order.Order.{Order}
 use Rattle.mime_lookup.specs.declared.stopped.Cause.{Cause}
@@ -16,7 +16,7 @@ use Rattle.mime_lookup.specs.declared.stopped.Stopped.{Stopped}
 use Rattle.mime_store.specs.declared.fault.StoreFault.{StoreFault}
 use Rattle.mime_store.specs.declared.fault.StoreFault.TheVariants as store
 use Rattle.mime_text.specs.Magic.Reading.{magic_fault}
-use Rattle.mime_text.specs.Merging.{PlainDir, merged}
+use Rattle.mime_text.specs.Merging.{PlainDir, merged, visible_database}
 use Rattle.mime_text.specs.declared.magic.fault.MagicFault.{MagicFault}
 use Rattle.mime_tool.specs.Directories.{AreGlobs, AreIcons, ArePairs, IsMagic}
 use Rattle.mime_tool.specs.declared.from_texts.AnswerFault.{AnswerFault}
@@ -42,9 +42,24 @@ SayDirs [] (plain ∷ plains) = ⊥
 SayDirs (dir ∷ dirs) [] = ⊥
 SayDirs (dir ∷ dirs) (plain ∷ plains) = SaysDir dir plain × SayDirs dirs plains
 
--- the database that directories say, the most preferred first
+-- the database that directories say: what they say, merged, with the visible ones of its rules
 abbrev pub SayDatabase : List DirBytes → PlainDatabase → Type 0
-SayDatabase dirs b = (plains : List PlainDir) × SayDirs dirs plains × (b ≡ merged plains)
+SayDatabase dirs b = (plains : List PlainDir) × SayDirs dirs plains × (b ≡ visible_database (merged plains))
+
+-- over the visible rules of a database the same types are chosen as over all
+abbrev pub VisibleChoosesAlike : Type 0
+VisibleChoosesAlike = (b : PlainDatabase) (name : List ℕ) (content : Option (List ℕ)) (host : Host) (order : Order) (kind : List ℕ)
+    → (Chooses (visible_database b) name content host order kind ↔ Chooses b name content host order kind)
+
+-- the globs alone decide over both or over neither
+abbrev pub VisibleSufficesAlike : Type 0
+VisibleSufficesAlike =
+    (b : PlainDatabase) (name : List ℕ) (order : Order) → globs_suffice (visible_database b) name order ≡ globs_suffice b name order
+
+-- as much of a content is read
+abbrev pub VisibleReadsAlike : Type 0
+VisibleReadsAlike = (b : PlainDatabase) (name : List ℕ) (content : Option (List ℕ)) (order : Order)
+    → read_of (visible_database b) name content order ≡ read_of b name content order
 
 -- the directory of this number, counted from 0, is the first whose magic has a fault, and this is its first
 abbrev pub FirstRefused : List DirBytes → ℕ → MagicFault → Type 0

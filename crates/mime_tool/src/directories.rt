@@ -27,7 +27,7 @@ use line_file::read_lines;
 use magic_file::read_magic_in;
 use mime_base::{Database, OutOfMemory};
 use mime_request::Directories;
-use mime_text::{DirFiles, merge};
+use mime_text::{DirFiles, merge_visible};
 use std::alloc::{AllocError, Global};
 
 /// The text files of a data directory.
@@ -139,7 +139,7 @@ fn has_file<D: Desk>(desk: &mut D, directory: &str, names: &[&str]) -> Result<bo
     Ok(false)
 }
 
-/// What these data directories say, merged, the most preferred first.
+/// What these data directories say, merged, the most preferred first, less the rules that are never kept.
 ///
 /// Of each directory `mime/globs2`, `mime/magic`, `mime/aliases`, `mime/subclasses`, `mime/icons` and
 /// `mime/generic-icons` are read, in this order, up to the first that stops.
@@ -149,7 +149,7 @@ fn merge_these<D: Desk>(desk: &mut D, directories: &[&str]) -> Result<Database, 
         (D.state desk.old) (D.state desk.new) result }
 {
     let dirs = read_directories(desk, directories)?;
-    let database = merge(desk.alloc(), dirs)?;
+    let database = merge_visible(desk.alloc(), dirs)?;
     Ok(database)
 }
 

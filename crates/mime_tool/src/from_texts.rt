@@ -13,7 +13,7 @@ ghost use Rattle.mime_tool.specs.Build.{IsCacheOf};
 ghost use Rattle.mime_tool.specs.Directories.{IsMagic, plain_magic};
 ghost use Rattle.mime_tool.specs.FromTexts.{AsksOnly, AsksReader, ComesOver, FirstRefused, IfStopped, IsFaultIn, IsFaultOfDirs};
 ghost use Rattle.mime_tool.specs.FromTexts.{IsMagicRefusal, IsStoreFault, SayDatabase, SayDirs, SaysDir, TookBytes};
-ghost use Rattle.mime_tool.specs.FromTexts.{of_stopped, of_store};
+ghost use Rattle.mime_tool.specs.FromTexts.{VisibleChoosesAlike, VisibleReadsAlike, VisibleSufficesAlike, of_stopped, of_store};
 ghost use Rattle.mime_tool.specs.declared.from_texts.AnswerFault.TheVariants as faults;
 
 use mime_base::{
@@ -22,7 +22,7 @@ use mime_base::{
 use mime_lookup::{Answer, Cause, Content, Order, Stopped, look_up};
 use mime_store::{StoreFault, write_cache};
 use mime_text::{
-    DirFiles, MagicFault, MagicFile, merge, read_globs2, read_icons, read_magic, read_pairs,
+    DirFiles, MagicFault, MagicFile, merge_visible, read_globs2, read_icons, read_magic, read_pairs,
 };
 use std::alloc::{AllocError, AllocFailed, Global};
 use thiserror::Error;
@@ -127,7 +127,7 @@ impl From<Stopped> for AnswerFault {
 /// let answer = answer(alloc, &dirs, b"install.sh", &mut content, host, order)?;
 /// ```
 ///
-/// The files are read and merged, a cache is written in memory, and the lookup goes over its bytes: what
+/// The files are read and merged, less the rules that are never kept, a cache is written in memory, and the lookup goes over its bytes: what
 /// it visits, compares and reads keeps to the bounds of a lookup. Malformed lines are passed over.
 ///
 /// Want of memory is [`AnswerFault::OutOfMemory`], wherever it arose. A lookup stops for the content only where
@@ -140,7 +140,8 @@ pub fn answer<R: Content>(
     host: Host,
     order: Order,
 ) -> Result<OwnedAnswer, AnswerFault>
-    // Where all magic is accepted, an answer is that of the checking order over what the texts say, within the bounds of a lookup.
+    // Where all magic is accepted, an answer is that of the checking order over what the texts say, less the rules that are never
+    // kept, within the bounds of a lookup.
     ensures accepted { (b : PlainDatabase) → SayDatabase dirs.now b →
         ComesOver b name.now (known_content R.remaining content.old) host order result }
     // Where some isn't, the first directory of which it isn't is named, with the first fault, unless memory ran out.
@@ -166,13 +167,26 @@ pub fn answer<R: Content>(
     answer_over(alloc, &database, name, content, host, order)
 }
 
+/// The law of what is left out: over the visible rules of a database the checking order says what it says over all.
+///
+/// So what [`answer`] gives over the database of the directories, whose rules are the visible ones, is also the
+/// answer over all that their texts say.
+pub fn visible_chooses_alike()
+    // The same type is chosen for a name and a content, by either order.
+    ensures chooses { VisibleChoosesAlike }
+    // The globs alone decide over both or over neither.
+    ensures suffices { VisibleSufficesAlike }
+    // As much of the content is read.
+    ensures reads { VisibleReadsAlike }
+{}
+
 // The database of the directories.
 fn read_database(alloc: Global, dirs: &[DirBytes<'_>]) -> Result<Database, AnswerFault>
     ensures says { IfOk result (λ database. SayDatabase dirs.now (plain_database database)) }
     ensures fault { IfErr result (IsFaultOfDirs dirs.now) }
 {
     let files = read_dirs(alloc, dirs)?;
-    let database = merge(alloc, files)?;
+    let database = merge_visible(alloc, files)?;
     Ok(database)
 }
 

@@ -41,7 +41,7 @@ mod types;
 
 pub use environment::Environment;
 pub use files::{FileFault, Files};
-pub use from_texts::{AnswerFault, DirBytes, OwnedAnswer, answer};
+pub use from_texts::{AnswerFault, DirBytes, OwnedAnswer, answer, visible_chooses_alike};
 pub use program::run;
 pub use sink::{Sink, SinkFault};
 pub use system::{Stream, SystemFiles, read_whole};

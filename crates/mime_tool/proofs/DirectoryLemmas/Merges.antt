@@ -3,7 +3,7 @@ use Rattle.std.proofs.Common.{◌≡◌, ℕ, List, [], Some, Result, Ok, Err, V
 use Rattle.std.specs.declared.alloc.Global.{Global}
 use Rattle.mime_base.specs.Database.{PlainDatabase, plain_database}
 use Rattle.mime_base.specs.declared.database.Database.{Database}
-use Rattle.mime_text.specs.Merging.{PlainDir, merged, plain_dirs}
+use Rattle.mime_text.specs.Merging.{PlainDir, merged, plain_dirs, visible_database}
 use Rattle.mime_text.specs.declared.merging.DirFiles.{DirFiles}
 use Rattle.mime_tool.specs.Desk.{State, Works}
 use Rattle.mime_tool.specs.Directories.{AreDirectories, IsDatabase, IsMerged, IsNoticed}
@@ -23,16 +23,16 @@ pub database_unread : (dirs : List (List ℕ)) (a b : State) (s : Stop) → Read
 unfolding IsMerged
 database_unread dirs a b s p =
     works_stop (Vec DirFiles Global) (List PlainDir) Database PlainDatabase plain_of plain_database (AreDirectories a.stored dirs)
-    (λ ds. Gives (merged ds)) a b s p (λ ds. can_give PlainDatabase (merged ds))
+    (λ ds. Gives (visible_database (merged ds))) a b s p (λ ds. can_give PlainDatabase (visible_database (merged ds)))
 
 -- they are merged
 pub database_merged : (dirs : List (List ℕ)) (a b : State) (files : Vec DirFiles Global) (database : Database)
-    → plain_database database ≡ merged (plain_dirs files.items) → ReadsDirectories dirs a b (Ok files)
+    → plain_database database ≡ visible_database (merged (plain_dirs files.items)) → ReadsDirectories dirs a b (Ok files)
     → Works (Loads plain_database (IsMerged a.stored dirs)) a b (Ok database)
 unfolding IsMerged
 database_merged dirs a b files database is p =
     works_then (Vec DirFiles Global) (List PlainDir) Database PlainDatabase plain_of plain_database (AreDirectories a.stored dirs)
-    (λ _ ds. Gives (merged ds)) a b b files (Ok database) p
+    (λ _ ds. Gives (visible_database (merged ds))) a b b files (Ok database) p
     (record { same_files = refl; same_setting = refl; sinks = ([], (ap Some is, refl), writes_nothing b.sinks) })
 
 -- there is no memory to merge them
@@ -41,16 +41,16 @@ pub database_unmerged : (dirs : List (List ℕ)) (a b : State) (files : Vec DirF
 unfolding IsMerged
 database_unmerged dirs a b files p =
     works_then (Vec DirFiles Global) (List PlainDir) Database PlainDatabase plain_of plain_database (AreDirectories a.stored dirs)
-    (λ _ ds. Gives (merged ds)) a b b files (Err stop.OutOfMemory) p
-    (works_nothing Database PlainDatabase plain_database (Gives (merged (plain_of files))) b
-    (can_give PlainDatabase (merged (plain_of files))))
+    (λ _ ds. Gives (visible_database (merged ds))) a b b files (Err stop.OutOfMemory) p
+    (works_nothing Database PlainDatabase plain_database (Gives (visible_database (merged (plain_of files)))) b
+    (can_give PlainDatabase (visible_database (merged (plain_of files)))))
 
 -- directories can be merged
 pub can_be_merged : (stored : List ℕ → Stored) (dirs : List (List ℕ)) → CanBe (IsMerged stored dirs)
 unfolding IsMerged
 can_be_merged stored dirs =
-    can_then (List PlainDir) PlainDatabase (AreDirectories stored dirs) (λ ds. Gives (merged ds)) (can_be_directories stored dirs)
-    (λ ds. can_give PlainDatabase (merged ds))
+    can_then (List PlainDir) PlainDatabase (AreDirectories stored dirs) (λ ds. Gives (visible_database (merged ds))) (can_be_directories stored dirs)
+    (λ ds. can_give PlainDatabase (visible_database (merged ds)))
 
 -- some database is that of directories
 pub can_be_database : (stored : List ℕ → Stored) (dirs : List (List ℕ)) → CanBe (IsDatabase stored dirs)

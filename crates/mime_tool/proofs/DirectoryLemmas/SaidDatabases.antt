@@ -5,7 +5,7 @@ use Rattle.mime_base.specs.Database.PlainPairs.{is_same_pair}
 use Rattle.mime_base.specs.Falling.{falling}
 use Rattle.mime_base.specs.Magic.{PlainSection}
 use Rattle.mime_base.specs.declared.database.rule.GlobRule.{GlobRule}
-use Rattle.mime_text.specs.Merging.{PlainDir, has_same_name, merged, merged_rules, once}
+use Rattle.mime_text.specs.Merging.{PlainDir, has_same_name, merged, merged_rules, once, visible_database}
 use Rattle.mime_text.specs.Merging.{undeleted_sections}
 use Rattle.mime_tool.specs.FromTexts.{SayDatabase}
 use Rattle.mime_tool.specs.declared.from_texts.DirBytes.{DirBytes}
@@ -54,4 +54,5 @@ merged_alike lefts rights are =
 -- the texts of directories say one database
 pub one_database : (dirs : List DirBytes) (left right : PlainDatabase) → SayDatabase dirs left → SayDatabase dirs right
     → left ≡ right
-one_database dirs left right p q = p.2 ∙ merged_alike p.0 q.0 (all_alike dirs p.0 q.0 p.1 q.1) ∙ sym q.2
+one_database dirs left right p q =
+    p.2 ∙ ap visible_database (merged_alike p.0 q.0 (all_alike dirs p.0 q.0 p.1 q.1)) ∙ sym q.2

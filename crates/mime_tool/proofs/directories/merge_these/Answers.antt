@@ -15,5 +15,5 @@ returns-in_err-database g c =
 
 pub returns : goal.returns
 returns g c =
-    database_merged (texts c.args.directories.now) _ _ c.in_ok-dirs.dirs c.in_ok-database.database c.in_ok-database.ensures.merged
+    database_merged (texts c.args.directories.now) _ _ c.in_ok-dirs.dirs c.in_ok-database.database c.in_ok-database.ensures.visible
     c.in_ok-dirs.ensures
