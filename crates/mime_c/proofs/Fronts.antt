@@ -11,7 +11,7 @@ use Rattle.mime_lookup.specs.CheckingOrder.{Chooses, are_one_type, before_globs,
 use Rattle.mime_lookup.specs.Choice.{ChoosesAmong, IsFirst, kept}
 use Rattle.mime_lookup.specs.Sniffing.{sniffed}
 use Rattle.mime_lookup.specs.declared.order.Order.{Order}
-use Rattle.mime_lookup.specs.declared.order.Order.TheVariants.{GlobsFirst, MagicFirst}
+use Rattle.mime_lookup.specs.declared.order.Order.TheVariants.{ContentOnly, GlobsFirst, MagicFirst}
 use Rattle.mime_lookup.proofs.SniffLemmas.Sniffs.{front_is_enough}
 
 -- of types that are one type the first is chosen, whatever was sniffed
@@ -29,6 +29,7 @@ unfolding Chooses globs_suffice before_globs
 by_globs b name GlobsFirst content other kind suffice chosen =
     one_type (pairs_of b) (kept (pairs_of b) b.rules name) (sniffed b content Little) (sniffed b other Little) kind suffice chosen
 by_globs b name MagicFirst content other kind suffice chosen = absurd cc
+by_globs b name ContentOnly content other kind suffice chosen = absurd cc
 
 -- where they don't, a front that is long enough is sniffed as the whole
 by_front : (b : PlainDatabase) (name : List ℕ) (order : Order) (content rest kind : List ℕ) → 128 ≤ length content →
@@ -39,6 +40,7 @@ by_front b name GlobsFirst content rest kind least long chosen =
     (front_is_enough b content rest Little (inr (least, long))) chosen
 by_front b name MagicFirst content rest kind least long chosen =
     rw (first_magic-front content rest b.sections Little long, ← front_is_enough b content rest Little (inr (least, long))) chosen
+by_front b name ContentOnly content rest kind least long chosen = chosen ∙ front_is_enough b content rest Little (inr (least, long))
 
 -- where they don't, the whole or so much of it is enough
 by_size : (b : PlainDatabase) (name : List ℕ) (order : Order) (content rest kind : List ℕ) (wanted : ℕ) → wanted ≡ read_limit b →

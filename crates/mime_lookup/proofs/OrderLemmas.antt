@@ -4,6 +4,7 @@ pub mod Hits
 pub mod Answering
 pub mod KeptTypes
 pub mod MagicFirst
+pub mod ContentOnly
 pub mod GlobsFirst
 pub mod ByNames
 pub mod ByContents

@@ -10,7 +10,7 @@ use Rattle.mime_base.specs.declared.magic.host.Host.{Host}
 use Rattle.mime_lookup.specs.Choice.{ChoosesAmong, kept}
 use Rattle.mime_lookup.specs.Sniffing.{sniffed}
 use Rattle.mime_lookup.specs.declared.order.Order.{Order}
-use Rattle.mime_lookup.specs.declared.order.Order.TheVariants.{GlobsFirst, MagicFirst}
+use Rattle.mime_lookup.specs.declared.order.Order.TheVariants.{ContentOnly, GlobsFirst, MagicFirst}
 use Rattle.mime_lookup.specs.declared.sniff.Sniffed.{Sniffed}
 
 -- the resolved type of a section with a priority of 80 or more
@@ -18,11 +18,13 @@ abbrev pub of_high_priority : PlainDatabase → Option (List ℕ × ℕ) → Opt
 of_high_priority b None = None
 of_high_priority b (Some section) = if nat_le 80 section.1 then Some (resolved b.aliases section.0) else None
 
--- the type that magic gives before globs are asked: under MagicFirst that of a first section of high priority
+-- the type that content gives before globs are asked: under MagicFirst that of a first section of high priority, under
+-- ContentOnly the sniffed one
 unfoldable pub before_globs : PlainDatabase → Option (List ℕ) → Host → Order → Option (List ℕ)
 before_globs b content host GlobsFirst = None
 before_globs b None host MagicFirst = None
 before_globs b (Some content) host MagicFirst = of_high_priority b (first_magic b.sections content host)
+before_globs b content host ContentOnly = Some (sniffed b content host)
 
 -- What a content was sniffed as.
 pub record IsSniffed (b : PlainDatabase) (content : Option (List ℕ)) (host : Host) (found : Sniffed) : Type 0 where
@@ -37,6 +39,12 @@ Chooses b name content host order answer =
     MatchOption (before_globs b content host order)
     (ChoosesAmong (pairs_of b) (kept (pairs_of b) b.rules name) (sniffed b content host) answer) (λ kind. answer ≡ kind)
 
+-- where the content alone is asked the answer is what it is sniffed as, whatever the name is
+content_alone : (b : PlainDatabase) (name : List ℕ) (content : Option (List ℕ)) (host : Host) (answer : List ℕ)
+    → Chooses b name content host ContentOnly answer → answer ≡ sniffed b content host
+unfolding Chooses before_globs
+content_alone b name content host answer chosen = chosen
+
 -- whether some types are one type
 abbrev pub are_one_type : List (List ℕ) → Bool
 are_one_type [] = false
@@ -46,6 +54,7 @@ are_one_type (first ∷ more) = list_all (bytes_eq first) more
 unfoldable pub globs_suffice : PlainDatabase → List ℕ → Order → Bool
 globs_suffice b name GlobsFirst = are_one_type (kept (pairs_of b) b.rules name)
 globs_suffice b name MagicFirst = false
+globs_suffice b name ContentOnly = false
 
 -- the globs alone decide: one type is kept, and they are asked first or no content is available; or none is kept, and none is
 -- available

@@ -15,9 +15,9 @@ use Rattle.mime_lookup.specs.Spelling.{SpellsGlobs}
 use Rattle.mime_lookup.specs.declared.cached.by_name.NameDecision.{NameDecision}
 use Rattle.mime_lookup.specs.declared.cached.by_name.NameDecision.TheVariants.{Decided, Left}
 use Rattle.mime_lookup.specs.declared.cached.by_name.Candidates.{Candidates}
-use Rattle.mime_lookup.specs.declared.cached.by_name.Candidates.TheVariants.{Kept, Unasked}
+use Rattle.mime_lookup.specs.declared.cached.by_name.Candidates.TheVariants.{Ignored, Kept, Unasked}
 use Rattle.mime_lookup.specs.declared.order.Order.{Order}
-use Rattle.mime_lookup.specs.declared.order.Order.TheVariants.{GlobsFirst, MagicFirst}
+use Rattle.mime_lookup.specs.declared.order.Order.TheVariants.{ContentOnly, GlobsFirst, MagicFirst}
 use Rattle.mime_view.specs.Hits.{near}
 use Rattle.mime_view.specs.declared.budget.Budget.{Budget}
 use Rattle.mime_view.specs.declared.fault.CacheFault.{CacheFault}
@@ -27,12 +27,14 @@ use Rattle.mime_view.specs.declared.spending.Spending.{Spending}
 abbrev pub order_of : Candidates → Order
 order_of (Kept kinds) = GlobsFirst
 order_of Unasked = MagicFirst
+order_of Ignored = ContentOnly
 
--- over a database a name leaves the types that are kept of it, where they are not one type, or all to be asked
+-- over a database a name leaves the types that are kept of it, where they are not one type, or all to be asked, or none
 abbrev pub Leaves : PlainDatabase → List ℕ → Candidates → Type 0
 Leaves b name (Kept kinds) =
     (are_one_type (kept (pairs_of b) b.rules name) ≡ false) × (kinds ≡ kept (pairs_of b) b.rules name)
 Leaves b name Unasked = ⊤
+Leaves b name Ignored = ⊤
 
 -- over a database a name gives a type where the globs suffice, whatever the content is, else what it leaves
 abbrev pub Decides : PlainDatabase → List ℕ → Order → NameDecision → Type 0
@@ -45,6 +47,7 @@ Decides b name order (Left candidates) =
 abbrev pub AreTexts : List ℕ → Candidates → Type 0
 AreTexts c (Kept kinds) = All (IsCacheText c) kinds
 AreTexts c Unasked = ⊤
+AreTexts c Ignored = ⊤
 
 -- and so are those that a name gives
 abbrev pub AreTextsByName : List ℕ → NameDecision → Type 0
@@ -55,16 +58,19 @@ AreTextsByName c (Left candidates) = AreTexts c candidates
 abbrev pub owed_nodes : ℕ → Candidates → ℕ
 owed_nodes name (Kept kinds) = 29 * length kinds
 owed_nodes name Unasked = glob_cost name
+owed_nodes name Ignored = 0
 
 -- the records of the glob rules that they may still need
 abbrev pub owed_records : PlainDatabase → Candidates → ℕ
 owed_records b (Kept kinds) = 0
 owed_records b Unasked = rule_records b
+owed_records b Ignored = 0
 
 -- the nodes that they may still need where the globs decide alone: an alias step, or all
 abbrev pub owed_near : PlainDatabase → List ℕ → Candidates → ℕ
 owed_near b name (Kept kinds) = 30
 owed_near b name Unasked = near_max (length name) (near name b.rules)
+owed_near b name Ignored = 30
 
 -- the records and the value bytes that are left to be taken after a name was asked
 pub record AffordsRest (b : PlainDatabase) (candidates : Candidates) (budget : Budget) : Type 0 where

@@ -115,6 +115,10 @@ fn kind_of<'a, R: Content>(
             let kind = choose(alloc, database, &kept, sniffed.kind, meter)?;
             Ok(kind)
         }
+        Order::ContentOnly => {
+            let sniffed = sniff_content(alloc, database, content, question.host, read, meter)?;
+            Ok(sniffed.kind)
+        }
     }
 }
 

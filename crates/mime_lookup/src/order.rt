@@ -1,6 +1,6 @@
-//! The two checking orders.
+//! The checking orders.
 
-/// Whether the globs or the content's magic are asked first.
+/// Whether the globs or the content's magic are asked first, or the content alone is asked.
 #[derive(Clone, Copy, Debug, PartialEq, Eq)]
 pub enum Order {
     /// As in "Recommended checking order": the content is read only where the globs conflict or
@@ -9,4 +9,7 @@ pub enum Order {
     /// Where content is available and the first section that holds has a priority of 80 or more,
     /// its type is the answer; else as the other order. This project's own.
     MagicFirst,
+    /// The type that the content is sniffed as is the answer, whatever the name is. This project's
+    /// own.
+    ContentOnly,
 }

@@ -12,7 +12,7 @@ pub struct Question<'q> {
     pub name: &'q [u8],
     /// How numbers of the host's byte order are compared with a content.
     pub host: Host,
-    /// Whether the globs or the content's magic are asked first.
+    /// Whether the globs or the content's magic are asked first, or the content alone.
     pub order: Order,
     /// The name is no longer than a name may be.
     pub ghost short: { length name.now ≤ 4096 },

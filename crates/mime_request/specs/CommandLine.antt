@@ -58,16 +58,17 @@ base_rule = record (new_rule (codes "base")) { value_names = 1; required = true 
 abbrev pub build_app : App
 build_app = with_rule (with_rule (new_app (codes "build")) directories_rule) output_rule
 
--- with `[--name-only] [--magic-first]`
+-- with `[--name-only] [--content-only] [--magic-first]`
 abbrev pub with_looks : App → App
-with_looks app = with_rule (with_rule app (flag_rule (codes "name-only"))) (flag_rule (codes "magic-first"))
+with_looks app = with_rule (with_rule (with_rule app (flag_rule (codes "name-only"))) (flag_rule (codes "content-only")))
+    (flag_rule (codes "magic-first"))
 
 -- with `[-0] [-b] [--escape]`, of which the first two are `--null` and `--brief` too
 abbrev pub with_output : App → App
 with_output app = with_rule (with_rule (with_rule app (short_flag_rule (codes "null") 48)) (short_flag_rule (codes "brief") 98))
     (flag_rule (codes "escape"))
 
--- `plain [-d DIRS] [--name-only] [--magic-first] [-0] [-b] [--escape] FILE...`
+-- `plain [-d DIRS] [--name-only] [--content-only] [--magic-first] [-0] [-b] [--escape] FILE...`
 abbrev pub plain_app : App
 plain_app = with_rule (with_output (with_looks (with_rule (new_app (codes "plain")) directories_rule))) files_rule
 
@@ -87,7 +88,7 @@ is_a_app = with_rule (with_rule (app_of_source (codes "isa")) kind_rule) base_ru
 abbrev pub icon_app : App
 icon_app = with_rule (app_of_source (codes "icon")) kind_rule
 
--- `type [-c CACHE | -d DIRS] [--name-only] [--magic-first] [--cost] [-0] [-b] [--escape] FILE...`
+-- `type [-c CACHE | -d DIRS] [--name-only] [--content-only] [--magic-first] [--cost] [-0] [-b] [--escape] FILE...`
 abbrev pub type_app : App
 type_app = with_rule (with_output (with_rule (with_looks (app_of_source (codes "type"))) (flag_rule (codes "cost")))) files_rule
 

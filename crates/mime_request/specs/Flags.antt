@@ -26,15 +26,18 @@ given_output rows = record {
 abbrev pub given_options : List Row → Options
 given_options rows = record {
   name_only = is_given (codes "name-only") rows;
+  content_only = is_given (codes "content-only") rows;
   magic_first = is_given (codes "magic-first") rows;
   cost = is_given (codes "cost") rows;
   output = given_output rows;
 }
 
--- whether the options can be given together: --escape is for lines, and --cost for lines that name the FILE
+-- whether the options can be given together: --escape is for lines, --cost for lines that name the FILE, and --content-only
+-- is no order of names and contents
 abbrev pub agree : Options → Bool
 agree options = not (options.output.escape && options.output.null)
-    && not (options.cost && (options.output.null || options.output.brief))
+    && (not (options.cost && (options.output.null || options.output.brief))
+    && not (options.content_only && (options.name_only || options.magic_first)))
 
 -- the options, where they can be given together
 abbrev pub agreed : Options → Option Options

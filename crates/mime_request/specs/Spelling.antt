@@ -63,6 +63,7 @@ build_words_output_first dirs file =
 -- a flag as it is written: by its name, or `-0` or `-b`
 pub data Flag : Type 0 where
   name_only : Flag
+  content_only : Flag
   magic_first : Flag
   cost : Flag
   null : Flag
@@ -74,6 +75,7 @@ pub data Flag : Type 0 where
 -- the name of the flag
 abbrev pub flag_name : Flag → Text
 flag_name name_only = codes "name-only"
+flag_name content_only = codes "content-only"
 flag_name magic_first = codes "magic-first"
 flag_name cost = codes "cost"
 flag_name null = codes "null"
@@ -96,6 +98,7 @@ has name flags = list_any (λ flag. bytes_eq (flag_name flag) name) flags
 abbrev pub options_by : List Flag → Options
 options_by flags = record {
   name_only = has (codes "name-only") flags;
+  content_only = has (codes "content-only") flags;
   magic_first = has (codes "magic-first") flags;
   cost = has (codes "cost") flags;
   output = record { null = has (codes "null") flags; brief = has (codes "brief") flags; escape = has (codes "escape") flags };
@@ -162,4 +165,6 @@ conflicting_words =
     ∷ (codes "plain" ∷ codes "-b" ∷ codes "--brief" ∷ codes "a" ∷ [])
     ∷ (codes "plain" ∷ codes "-0" ∷ codes "--escape" ∷ codes "a" ∷ [])
     ∷ (codes "type" ∷ codes "--cost" ∷ codes "-0" ∷ codes "a" ∷ [])
-    ∷ (codes "type" ∷ codes "--cost" ∷ codes "-b" ∷ codes "a" ∷ []) ∷ []
+    ∷ (codes "type" ∷ codes "--cost" ∷ codes "-b" ∷ codes "a" ∷ [])
+    ∷ (codes "type" ∷ codes "--content-only" ∷ codes "--name-only" ∷ codes "a" ∷ [])
+    ∷ (codes "type" ∷ codes "--content-only" ∷ codes "--magic-first" ∷ codes "a" ∷ []) ∷ []

@@ -13,8 +13,8 @@ mod texts;
 use clap::{Arg, ArgAction, Command};
 use std::alloc::{AllocError, Global};
 use texts::{
-    BRIEF, BUILD, COST, DIRS, ESCAPE, FILES, HelpTexts, ICON, IS_A, LIST, MAGIC_FIRST, MIMELOOK,
-    NAME_ONLY, NULL, OUTPUT, PLAIN, TYPE,
+    BRIEF, BUILD, CONTENT_ONLY, COST, DIRS, ESCAPE, FILES, HelpTexts, ICON, IS_A, LIST,
+    MAGIC_FIRST, MIMELOOK, NAME_ONLY, NULL, OUTPUT, PLAIN, TYPE,
 };
 
 /// What `mimelook --version` prints after the program's name.
@@ -77,6 +77,7 @@ fn with_looks<'a>(alloc: Global, command: Command<'a>) -> Result<Command<'a>, Al
     ensures local { IfOk result (λ c. (out-Command c).has_globals ≡ (out-Command command.entry).has_globals) }
 {
     let command = command.arg(flag(alloc, "name-only", NAME_ONLY))?;
+    let command = command.arg(flag(alloc, "content-only", CONTENT_ONLY))?;
     let command = command.arg(flag(alloc, "magic-first", MAGIC_FIRST))?;
     Ok(command)
 }

@@ -56,6 +56,8 @@ pub struct Output {
 pub struct Options {
     /// The names alone decide: no file is opened.
     pub name_only: bool,
+    /// The contents alone decide: no name is looked at.
+    pub content_only: bool,
     /// Content is asked before the globs, where its priority is high (80 or more).
     pub magic_first: bool,
     /// What each answer cost is told.

@@ -1,8 +1,8 @@
 -- What is printed or said of a FILE.
-use Rattle.std.specs.Prelude.{◌≡◌, ◌⊎◌, ◌==◌, ℕ, Bool, true, false, List, Option, Some, None, codes, nat_le, length}
+use Rattle.std.specs.Prelude.{◌≡◌, ◌⊎◌, ◌==◌, ℕ, Bool, true, false, List, [], Option, Some, None, codes, nat_le, length}
 use Rattle.std.specs.List.{after_last}
 use Rattle.mime_lookup.specs.declared.order.Order.{Order}
-use Rattle.mime_lookup.specs.declared.order.Order.TheVariants.{GlobsFirst, MagicFirst}
+use Rattle.mime_lookup.specs.declared.order.Order.TheVariants.{ContentOnly, GlobsFirst, MagicFirst}
 use Rattle.mime_tool.specs.Files.{Stored, bytes, closed, folder, nothing, unknown, unreadable}
 use Rattle.mime_request.specs.declared.request.Output.{Output}
 use Rattle.mime_tool.specs.Output.{written}
@@ -12,9 +12,15 @@ use Rattle.mime_tool.specs.Run.{Run, cannot_read, refusal, unanswered}
 abbrev pub base_name : List ℕ → List ℕ
 base_name file = after_last (λ b. b == 47) file
 
+-- what is looked up of a file: its name, but nothing where the content alone is asked
+abbrev pub name_for : Order → List ℕ → List ℕ
+name_for ContentOnly file = []
+name_for GlobsFirst file = base_name file
+name_for MagicFirst file = base_name file
+
 -- a name of at most 4,096 bytes
 abbrev pub fits : List ℕ → Bool
-fits file = nat_le (length (base_name file)) 4096
+fits name = nat_le (length name) 4096
 
 -- the message on a FILE whose name is too long
 abbrev pub too_long : List ℕ → List ℕ
@@ -24,16 +30,18 @@ too_long file = refusal file (codes "name too long")
 abbrev pub cannot_open : List ℕ → List ℕ
 cannot_open file = refusal file (codes "cannot open")
 
--- the order that is asked for by `--magic-first`, or without it
-abbrev pub order_of : Bool → Order
-order_of true = MagicFirst
-order_of false = GlobsFirst
+-- the order that is asked for by `--content-only`, else by `--magic-first`, or without either
+abbrev pub order_of : Bool → Bool → Order
+order_of true magic_first = ContentOnly
+order_of false true = MagicFirst
+order_of false false = GlobsFirst
 
--- how FILEs are looked up: whether by their names alone, how answers are written, and what the run is over a FILE of this content or of none, over one
--- whose reads all fail, and over one of which nothing is known
+-- how FILEs are looked up: whether by their names alone, how answers are written, what is looked up of a FILE, and what the run is over a FILE of this
+-- content or of none, over one whose reads all fail, and over one of which nothing is known
 pub record PlainLookup : Type 1 where
   pub name_only : Bool
   pub output : Output
+  pub name_of : List ℕ → List ℕ
   pub IsTyped : Option (List ℕ) → List ℕ → Run → Type 0
   pub IsUnread : List ℕ → Run → Type 0
   pub IsGuessed : List ℕ → Run → Type 0
@@ -48,15 +56,15 @@ abbrev pub IsOpened : PlainLookup → Stored → List ℕ → Run → Type 0
 IsOpened lookup nothing file run = run ≡ unanswered (cannot_open (written lookup.output file))
 IsOpened lookup folder file run = run ≡ unanswered (cannot_read (written lookup.output file))
 IsOpened lookup closed file run = run ≡ unanswered (cannot_open (written lookup.output file))
-IsOpened lookup unreadable file run = IsNamed (fits file) (written lookup.output file) (lookup.IsUnread file) run
-IsOpened lookup (bytes bs) file run = IsNamed (fits file) (written lookup.output file) (lookup.IsTyped (Some bs) file) run
+IsOpened lookup unreadable file run = IsNamed (fits (lookup.name_of file)) (written lookup.output file) (lookup.IsUnread file) run
+IsOpened lookup (bytes bs) file run = IsNamed (fits (lookup.name_of file)) (written lookup.output file) (lookup.IsTyped (Some bs) file) run
 IsOpened lookup unknown file run = (run ≡ unanswered (cannot_open (written lookup.output file)))
     ⊎ (run ≡ unanswered (cannot_read (written lookup.output file)))
-    ⊎ IsNamed (fits file) (written lookup.output file) (lookup.IsGuessed file) run
+    ⊎ IsNamed (fits (lookup.name_of file)) (written lookup.output file) (lookup.IsGuessed file) run
 
 -- the run over a file: by its name alone, or it is opened
 abbrev pub IsTypeLineBy : Bool → PlainLookup → Stored → List ℕ → Run → Type 0
-IsTypeLineBy true lookup stored file run = IsNamed (fits file) (written lookup.output file) (lookup.IsTyped None file) run
+IsTypeLineBy true lookup stored file run = IsNamed (fits (lookup.name_of file)) (written lookup.output file) (lookup.IsTyped None file) run
 IsTypeLineBy false lookup stored file run = IsOpened lookup stored file run
 
 -- the run over a file, where this is stored at each path

@@ -10,14 +10,14 @@ use Rattle.mime_request.specs.declared.request.Output.{Output}
 use Rattle.mime_tool.specs.Directories.{IsCommand}
 use Rattle.mime_tool.specs.Environment.{PlainEnvironment}
 use Rattle.mime_tool.specs.Files.{Stored}
-use Rattle.mime_tool.specs.Line.{IsTypeLine, PlainLookup, base_name, order_of}
+use Rattle.mime_tool.specs.Line.{IsTypeLine, PlainLookup, name_for, order_of}
 use Rattle.mime_tool.specs.Output.{type_line, written}
 use Rattle.mime_tool.specs.Run.{IsEach, Run, cannot_read, printed, unanswered}
 
 -- the line of a file, with a type that the checking order gives to its name and this content
 abbrev pub IsTyped : Output → PlainDatabase → Order → Option (List ℕ) → List ℕ → Run → Type 0
 IsTyped output database order content file run =
-    (kind : List ℕ) × Chooses database (base_name file) content Little order kind × (run ≡ printed (type_line output file kind []))
+    (kind : List ℕ) × Chooses database (name_for order file) content Little order kind × (run ≡ printed (type_line output file kind []))
 
 -- the run over a file whose reads all fail: its line, if the globs alone give its type
 abbrev pub IsUnread : Bool → Output → PlainDatabase → Order → List ℕ → Run → Type 0
@@ -34,15 +34,16 @@ abbrev pub lookup_over : Bool → Output → Order → PlainDatabase → PlainLo
 lookup_over name_only output order database = record {
   name_only = name_only;
   output = output;
+  name_of = name_for order;
   IsTyped = IsTyped output database order;
-  IsUnread = λ file. IsUnread (globs_suffice database (base_name file) order) output database order file;
+  IsUnread = λ file. IsUnread (globs_suffice database (name_for order file) order) output database order file;
   IsGuessed = IsGuessed output;
 }
 
 -- the lines of FILEs over this data with these options, where this is stored at each path
 abbrev pub AreTypeLines : (List ℕ → Stored) → Options → PlainDatabase → List (List ℕ) → Run → Type 0
 AreTypeLines stored options database =
-    IsEach (IsTypeLine (lookup_over options.name_only options.output (order_of options.magic_first) database) stored)
+    IsEach (IsTypeLine (lookup_over options.name_only options.output (order_of options.content_only options.magic_first) database) stored)
 
 -- the run of `plain` over these directories with these options, for FILEs
 abbrev pub IsPlain : (List ℕ → Stored) → Option PlainEnvironment → PlainDirectories → Options → List (List ℕ) → Run → Type 0

@@ -17,7 +17,7 @@ use Rattle.mime_request.specs.declared.request.Output.{Output}
 use Rattle.mime_tool.specs.Cache.{IsAnsweredOr, IsRefused}
 use Rattle.mime_tool.specs.Environment.{PlainEnvironment}
 use Rattle.mime_tool.specs.Files.{Stored}
-use Rattle.mime_tool.specs.Line.{IsTypeLine, PlainLookup, base_name, order_of}
+use Rattle.mime_tool.specs.Line.{IsTypeLine, PlainLookup, name_for, order_of}
 use Rattle.mime_tool.specs.Output.{type_line, written}
 use Rattle.mime_tool.specs.Run.{IsEach, Run, cannot_read, printed, unanswered}
 use Rattle.mime_tool.specs.Sources.{IsSourceCommand}
@@ -38,30 +38,30 @@ RefusesLookup cache = IsRefused cache (IsLookUpFault cache) IsWithinLimits
 
 -- the line of a file: a type that the cache or the order has, and a cost within the bounds; where the cache spells a database,
 -- IsSaid holds of it, the type and the bytes that were read
-pub record IsLine (cache : List ℕ) (cost : Bool) (output : Output) (file : List ℕ) (IsSaid : PlainDatabase → List ℕ → ℕ → Type 0)
+pub record IsLine (cache : List ℕ) (cost : Bool) (output : Output) (order : Order) (file : List ℕ) (IsSaid : PlainDatabase → List ℕ → ℕ → Type 0)
     (run : Run) : Type 0 where
   pub kind : List ℕ
   pub meter : Meter
   pub read : ℕ
   pub is_kind : IsKind cache kind
-  pub bounds : KeepsBounds (length (base_name file)) cache read meter
+  pub bounds : KeepsBounds (length (name_for order file)) cache read meter
   pub spelled : (b : PlainDatabase) → IsWithinLimits b → Spells cache b → IsSaid b kind read
   pub is : run ≡ printed (type_line output file kind (cost_tail cost meter read))
 
 -- the checking order gives the type to the name and this content, and reads so many bytes of it
 abbrev pub IsChosen : Option (List ℕ) → Order → List ℕ → PlainDatabase → List ℕ → ℕ → Type 0
 IsChosen content order file b kind read =
-    Chooses b (base_name file) content Little order kind × (read ≡ read_of b (base_name file) content order)
+    Chooses b (name_for order file) content Little order kind × (read ≡ read_of b (name_for order file) content order)
 
 -- the globs give the type alone
 abbrev pub IsChosenByGlobs : Order → List ℕ → PlainDatabase → List ℕ → ℕ → Type 0
-IsChosenByGlobs order file b kind read = (globs_suffice b (base_name file) order ≡ true)
+IsChosenByGlobs order file b kind read = (globs_suffice b (name_for order file) order ≡ true)
     × IsChosen (Some []) order file b kind read
 
 -- the file can't be read, and no database that the cache spells gives its type by the globs alone
 abbrev pub CannotBeRead : List ℕ → Output → Order → List ℕ → Run → Type 0
 CannotBeRead cache output order file run =
-    ((b : PlainDatabase) → IsWithinLimits b → Spells cache b → globs_suffice b (base_name file) order ≡ false)
+    ((b : PlainDatabase) → IsWithinLimits b → Spells cache b → globs_suffice b (name_for order file) order ≡ false)
     × (run ≡ unanswered (cannot_read (written output file)))
 
 -- how FILEs are looked up over the cache at this path
@@ -69,17 +69,18 @@ abbrev pub lookup_by : List ℕ → Bool → Bool → Output → Order → List 
 lookup_by path name_only cost output order cache = record {
   name_only = name_only;
   output = output;
-  IsTyped = λ content file. IsAnsweredOr path (RefusesLookup cache) (IsLine cache cost output file (IsChosen content order file));
+  name_of = name_for order;
+  IsTyped = λ content file. IsAnsweredOr path (RefusesLookup cache) (IsLine cache cost output order file (IsChosen content order file));
   IsUnread = λ file. IsAnsweredOr path (RefusesLookup cache)
-      (λ run. IsLine cache cost output file (IsChosenByGlobs order file) run ⊎ CannotBeRead cache output order file run);
+      (λ run. IsLine cache cost output order file (IsChosenByGlobs order file) run ⊎ CannotBeRead cache output order file run);
   IsGuessed = λ file. IsAnsweredOr path (RefusesLookup cache)
-      (λ run. IsLine cache cost output file (λ _ _ _. ⊤) run ⊎ CannotBeRead cache output order file run);
+      (λ run. IsLine cache cost output order file (λ _ _ _. ⊤) run ⊎ CannotBeRead cache output order file run);
 }
 
 -- the lines of FILEs by a cache at this path with these options, where this is stored at each path
 abbrev pub AreLinesBy : (List ℕ → Stored) → Options → List ℕ → List ℕ → List (List ℕ) → Run → Type 0
 AreLinesBy stored options path cache =
-    IsEach (IsTypeLine (lookup_by path options.name_only options.cost options.output (order_of options.magic_first) cache) stored)
+    IsEach (IsTypeLine (lookup_by path options.name_only options.cost options.output (order_of options.content_only options.magic_first) cache) stored)
 
 -- the run of `type` over what is asked with these options, for FILEs
 abbrev pub IsType : (List ℕ → Stored) → Option PlainEnvironment → PlainSource → Options → List (List ℕ) → Run → Type 0

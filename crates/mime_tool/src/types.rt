@@ -37,7 +37,7 @@ pub(crate) fn print_types<D: Desk>(
             cost: options.cost,
         },
         name_only: options.name_only,
-        order: order_of(options.magic_first),
+        order: order_of(options.content_only, options.magic_first),
         output: options.output,
     };
     print_lines(desk, lookup, files)

@@ -10,7 +10,7 @@ use Rattle.mime_view.specs.Hits.{KeptAreNear, near}
 use Rattle.mime_lookup.specs.CheckingOrder.{GlobsDecide, are_one_type}
 use Rattle.mime_lookup.specs.Choice.{kept}
 use Rattle.mime_lookup.specs.declared.order.Order.{Order}
-use Rattle.mime_lookup.specs.declared.order.Order.TheVariants.{GlobsFirst, MagicFirst}
+use Rattle.mime_lookup.specs.declared.order.Order.TheVariants.{ContentOnly, GlobsFirst, MagicFirst}
 
 -- no more types are kept than rules are near the name
 pub kept_few : KeptAreNear → (b : PlainDatabase) (name : List ℕ) (kinds : List (List ℕ))
@@ -36,3 +36,10 @@ pub decide_without : (b : PlainDatabase) (name : List ℕ) (NoContent : Type 0) 
 decide_without b name NoContent (inl (one, inl same)) = absurd cc
 decide_without b name NoContent (inl (one, inr none)) = (none, inl (one, inl refl))
 decide_without b name NoContent (inr none) = (none.1, inr (none.0, tt))
+
+-- so they do where the content alone is asked
+pub decide_unavailable : (b : PlainDatabase) (name : List ℕ) (NoContent : Type 0) → GlobsDecide b name ContentOnly NoContent
+    → NoContent
+decide_unavailable b name NoContent (inl (one, inl same)) = absurd cc
+decide_unavailable b name NoContent (inl (one, inr none)) = none
+decide_unavailable b name NoContent (inr none) = none.1

@@ -11,7 +11,7 @@ use Rattle.mime_lookup.specs.CheckingOrder.{Chooses, are_one_type, before_globs,
 use Rattle.mime_lookup.specs.Choice.{ChoosesAmong, IsFirst, kept}
 use Rattle.mime_lookup.specs.Sniffing.{sniffed}
 use Rattle.mime_lookup.specs.declared.order.Order.{Order}
-use Rattle.mime_lookup.specs.declared.order.Order.TheVariants.{GlobsFirst, MagicFirst}
+use Rattle.mime_lookup.specs.declared.order.Order.TheVariants.{ContentOnly, GlobsFirst, MagicFirst}
 
 -- of kept types that are one type the first is chosen
 pub one_type_chosen : (pairs : Pairs) (kinds : List (List ℕ)) (base : List ℕ) → are_one_type kinds ≡ true →
@@ -91,3 +91,22 @@ module _ (b : PlainDatabase) (name : List ℕ) (host : Host) (order : Order) whe
     unfolding read_of
     read_first None count size = tt
     read_first (Some content) count size = rw suffice_not size
+
+  module _ (content : order ≡ ContentOnly) where
+    -- nor do they where the content alone is asked
+    pub suffice_never : globs_suffice b name order ≡ false
+    unfolding globs_suffice
+    suffice_never = rw content refl
+
+    -- what is sniffed
+    pub by_content : (known : Option (Option (List ℕ))) (found : List ℕ) → IfSome known (λ content. found ≡ sniffed b content host) →
+        IfSome known (λ content. Chooses b name content host order found)
+    unfolding Chooses before_globs
+    by_content None found same = tt
+    by_content (Some known) found same = rw content same
+
+    pub read_content : (known : Option (Option (List ℕ))) (count : ℕ) → IfSome known (λ content. count ≡ front_size b content) →
+        IfSome known (λ content. count ≡ read_of b name content order)
+    unfolding read_of
+    read_content None count size = tt
+    read_content (Some known) count size = rw suffice_never size

@@ -14,10 +14,10 @@ use Rattle.mime_lookup.specs.Spelling.{SpellsGlobs, SpellsMagic}
 use Rattle.mime_lookup.specs.Spent.{IsUsedUp}
 use Rattle.mime_lookup.specs.Steps.{Suffices, SufficesForChoice, SufficesForContent}
 use Rattle.mime_lookup.specs.declared.cached.by_name.Candidates.{Candidates}
-use Rattle.mime_lookup.specs.declared.cached.by_name.Candidates.TheVariants.{Kept, Unasked}
+use Rattle.mime_lookup.specs.declared.cached.by_name.Candidates.TheVariants.{Ignored, Kept, Unasked}
 use Rattle.mime_lookup.specs.declared.order.Order.{Order}
 use Rattle.mime_lookup.specs.declared.order.Order.TheVariants.{GlobsFirst, MagicFirst}
-use Rattle.mime_lookup.proofs.CostLemmas.Near.{decide_without, none_kept}
+use Rattle.mime_lookup.proofs.CostLemmas.Near.{decide_unavailable, decide_without, none_kept}
 use Rattle.mime_lookup.proofs.LookUpLemmas.SpelledParts.{spelled_globs, spelled_magic, spelled_pairs}
 use Rattle.mime_view.specs.declared.budget.Budget.{Budget}
 
@@ -26,6 +26,7 @@ pub without : (b : PlainDatabase) (name : List ℕ) (NoContent : Type 0) (candid
     → GlobsDecide b name (order_of candidates) NoContent → NoContent
 without b name NoContent (Kept kinds) leaves decide = (none_kept b name GlobsFirst NoContent kinds leaves.1 leaves.0 decide).1
 without b name NoContent Unasked leaves decide = (decide_without b name NoContent decide).0
+without b name NoContent Ignored leaves decide = decide_unavailable b name NoContent decide
 
 -- then nothing of a high priority is found
 pub not_high : (b : PlainDatabase) (front : Option (List ℕ)) (host : Host) (found : PlainFinding) → found ≡ found_in b front host

@@ -8,9 +8,9 @@ use Rattle.mime_lookup.specs.Choice.{kept}
 use Rattle.mime_lookup.specs.Halves.{CostsByName, Decides}
 use Rattle.mime_lookup.specs.declared.cached.by_name.NameDecision.{NameDecision}
 use Rattle.mime_lookup.specs.declared.cached.by_name.NameDecision.TheVariants.{Decided, Left}
-use Rattle.mime_lookup.specs.declared.cached.by_name.Candidates.TheVariants.{Kept, Unasked}
+use Rattle.mime_lookup.specs.declared.cached.by_name.Candidates.TheVariants.{Ignored, Kept, Unasked}
 use Rattle.mime_lookup.specs.declared.order.Order.{Order}
-use Rattle.mime_lookup.specs.declared.order.Order.TheVariants.{GlobsFirst, MagicFirst}
+use Rattle.mime_lookup.specs.declared.order.Order.TheVariants.{ContentOnly, GlobsFirst, MagicFirst}
 use Rattle.mime_lookup.proofs.OrderLemmas.GlobsFirst.{alone}
 use Rattle.mime_view.specs.declared.fault.CacheFault.{CacheFault}
 use Rattle.mime_view.specs.declared.spending.Spending.{Spending}
@@ -34,6 +34,11 @@ gives_others b name order kinds same conflict are = rw same (conflict, refl, (co
 pub gives_all : (b : PlainDatabase) (name : List ℕ) (order : Order) → order ≡ MagicFirst → Decides b name order (Left Unasked)
 unfolding globs_suffice
 gives_all b name order same = rw same (refl, refl, tt)
+
+-- they are never asked
+pub gives_nothing : (b : PlainDatabase) (name : List ℕ) (order : Order) → order ≡ ContentOnly → Decides b name order (Left Ignored)
+unfolding globs_suffice
+gives_nothing b name order same = rw same (refl, refl, tt)
 
 -- a fault is passed on
 pub costs_passed : (c name : List ℕ) {old new : Spending} (e : CacheFault) (result : Result NameDecision CacheFault)

@@ -10,7 +10,7 @@ use Rattle.mime_lookup.specs.Fronts.{IsEnough}
 use Rattle.mime_lookup.specs.Halves.{front_length}
 use Rattle.mime_lookup.specs.Sniffing.{sniffed}
 use Rattle.mime_lookup.specs.declared.order.Order.{Order}
-use Rattle.mime_lookup.specs.declared.order.Order.TheVariants.{GlobsFirst, MagicFirst}
+use Rattle.mime_lookup.specs.declared.order.Order.TheVariants.{ContentOnly, GlobsFirst, MagicFirst}
 use Rattle.mime_lookup.proofs.SniffLemmas.Sniffs.{before_globs-front, front_is_enough, is_read}
 
 -- what was read up to the limit, or to the end
@@ -21,7 +21,15 @@ enough_read b None after front consumed limited ends = tt
 enough_read b (Some whole) after front consumed limited ends = is_read b whole front after consumed limited ends
 
 module _ (b : PlainDatabase) (name : List ℕ) (host : Host) (kind : List ℕ) where
-  -- what comes before the globs is the same
+  -- what is sniffed is the same
+  sniffed-enough : (content front : Option (List ℕ)) → IsEnough b content front → sniffed b front host ≡ sniffed b content host
+  sniffed-enough None None is = refl
+  sniffed-enough None (Some front) is = absurd is
+  sniffed-enough (Some whole) None is = absurd is
+  sniffed-enough (Some whole) (Some front) is =
+      front_is_enough b front is.rest host is.long ∙ ap (λ bytes. sniffed b (Some bytes) host) (sym is.split)
+
+  -- and what comes before the globs
   before-enough : (order : Order) (content front : Option (List ℕ)) → IsEnough b content front
       → before_globs b front host order ≡ before_globs b content host order
   unfolding before_globs
@@ -31,14 +39,7 @@ module _ (b : PlainDatabase) (name : List ℕ) (host : Host) (kind : List ℕ) w
   before-enough MagicFirst (Some whole) None is = absurd is
   before-enough MagicFirst (Some whole) (Some front) is =
       before_globs-front b front is.rest host is.long ∙ ap (λ bytes. before_globs b (Some bytes) host MagicFirst) (sym is.split)
-
-  -- and what is sniffed
-  sniffed-enough : (content front : Option (List ℕ)) → IsEnough b content front → sniffed b front host ≡ sniffed b content host
-  sniffed-enough None None is = refl
-  sniffed-enough None (Some front) is = absurd is
-  sniffed-enough (Some whole) None is = absurd is
-  sniffed-enough (Some whole) (Some front) is =
-      front_is_enough b front is.rest host is.long ∙ ap (λ bytes. sniffed b (Some bytes) host) (sym is.split)
+  before-enough ContentOnly content front is = ap (λ kind. Some kind) (sniffed-enough content front is)
 
   -- so the choice is
   pub chooses_enough : (order : Order) (content front : Option (List ℕ)) → IsEnough b content front

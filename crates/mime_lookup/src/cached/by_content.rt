@@ -69,6 +69,10 @@ pub fn by_content<'a>(
             let kind = by_globs(alloc, cache, question.name, finding, spending)?;
             Ok(kind)
         }
+        Candidates::Ignored => {
+            let kind = resolve(cache, finding, spending)?;
+            Ok(kind)
+        }
     }
 }
 

@@ -31,6 +31,8 @@ pub enum Candidates<'a> {
     Kept(Texts<'a>),
     /// What its globs give, which are asked only where magic of high priority gives no type.
     Unasked,
+    /// Nothing: its globs are not asked at all.
+    Ignored,
 }
 
 /// What a name gives without its content, under an order.
@@ -60,5 +62,6 @@ pub fn by_name<'a>(
             }
         }
         Order::MagicFirst => Ok(NameDecision::Left(Candidates::Unasked)),
+        Order::ContentOnly => Ok(NameDecision::Left(Candidates::Ignored)),
     }
 }

@@ -16,10 +16,10 @@ use Rattle.mime_request.proofs.CommandLemmas.Shapes.{TakesFiles, plain_shape, pl
 use Rattle.mime_request.proofs.SpellingLemmas.UsualRows.{files_row, flag_at_end, no_files, no_source, rows_at_end, rows_before, value_at_end}
 
 -- options are alike where their fields are
-alike : (n m k z b e n' m' k' z' b' e' : Bool) → n ≡ n' → m ≡ m' → k ≡ k' → z ≡ z' → b ≡ b' → e ≡ e'
-    → ◌≡◌ {A = Options} (record { name_only = n; magic_first = m; cost = k; output = record { null = z; brief = b; escape = e } })
-    (record { name_only = n'; magic_first = m'; cost = k'; output = record { null = z'; brief = b'; escape = e' } })
-alike n m k z b e _ _ _ _ _ _ p q r s t u = rw (p, q, r, s, t, u) refl
+alike : (n c m k z b e n' c' m' k' z' b' e' : Bool) → n ≡ n' → c ≡ c' → m ≡ m' → k ≡ k' → z ≡ z' → b ≡ b' → e ≡ e'
+    → ◌≡◌ {A = Options} (record { name_only = n; content_only = c; magic_first = m; cost = k; output = record { null = z; brief = b; escape = e } })
+    (record { name_only = n'; content_only = c'; magic_first = m'; cost = k'; output = record { null = z'; brief = b'; escape = e' } })
+alike n c m k z b e _ _ _ _ _ _ _ p q r s t u v = rw (p, q, r, s, t, u, v) refl
 
 module _ (by : Named) (before after : List Flag) (file : Text) (files : List Text) where
   module _ (rules : List Rule) where
@@ -54,11 +54,12 @@ module _ (by : Named) (before after : List Flag) (file : Text) (files : List Tex
 
     -- and all of them
     flags_are : row_on (defaulted rules (codes "cost")) ≡ false → row_on (defaulted rules (codes "name-only")) ≡ false
-        → row_on (defaulted rules (codes "magic-first")) ≡ false
+        → row_on (defaulted rules (codes "content-only")) ≡ false → row_on (defaulted rules (codes "magic-first")) ≡ false
         → row_on (defaulted rules (codes "null")) ≡ false → row_on (defaulted rules (codes "brief")) ≡ false
         → row_on (defaulted rules (codes "escape")) ≡ false → given_options end ≡ options_by (before ++ after)
-    flags_are k n m z b e = alike _ _ _ _ _ _ _ _ _ _ _ _
-        (flag_is (codes "name-only") refl refl refl n) (flag_is (codes "magic-first") refl refl refl m) (flag_is (codes "cost") refl refl refl k)
+    flags_are k n c m z b e = alike _ _ _ _ _ _ _ _ _ _ _ _ _ _
+        (flag_is (codes "name-only") refl refl refl n) (flag_is (codes "content-only") refl refl refl c)
+        (flag_is (codes "magic-first") refl refl refl m) (flag_is (codes "cost") refl refl refl k)
         (flag_is (codes "null") refl refl refl z) (flag_is (codes "brief") refl refl refl b) (flag_is (codes "escape") refl refl refl e)
 
     -- what `type` asks for
@@ -78,7 +79,7 @@ module _ (by : Named) (before after : List Flag) (file : Text) (files : List Tex
       → type_meaning (rows_at_end by before after (file ∷ files) type_shape.rules)
       ≡ asks (type_of (source_of by) (options_by (before ++ after)) (file ∷ files))
   type_means together = type_asks type_shape.rules _ _ _ _ _ _ (source_is type_shape.rules refl refl)
-      (flags_are type_shape.rules refl refl refl refl refl refl) together (files_are type_shape.rules refl)
+      (flags_are type_shape.rules refl refl refl refl refl refl refl) together (files_are type_shape.rules refl)
 
 -- the directories at the end
 pub plain_means : (dirs : Option Text) (before after : List Flag) (file : Text) (files : List Text)
@@ -88,7 +89,7 @@ pub plain_means : (dirs : Option Text) (before after : List Flag) (file : Text) 
 plain_means dirs before after file files together =
     plain_asks (named_by dirs) before after file files plain_shape.rules _ _ _ _ _ _
     (dirs_are dirs (value_at_end (named_by dirs) before after (file ∷ files) plain_shape.rules (codes "dirs") dirs_is_no_flag refl))
-    (flags_are (named_by dirs) before after file files plain_shape.rules refl refl refl refl refl refl) together
+    (flags_are (named_by dirs) before after file files plain_shape.rules refl refl refl refl refl refl refl) together
     (files_are (named_by dirs) before after file files plain_shape.rules refl)
   where
     dirs_are : (dirs : Option Text) → row_at (codes "dirs") (rows_at_end (named_by dirs) before after (file ∷ files) plain_shape.rules)

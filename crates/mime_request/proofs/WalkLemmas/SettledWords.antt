@@ -7,7 +7,7 @@ use Rattle.clap.specs.Simple.{Shape, filled}
 use Rattle.clap.specs.Walk.{Row, Text, has_row, idle, reading_by, settled_rows}
 use Rattle.clap.proofs.OnLiterals.{clap_on_literals}
 use Rattle.mime_request.specs.CommandLine.{cache_rule}
-use Rattle.mime_request.specs.Spelling.{Flag, brief, cost, escape, flag_name, flag_word, magic_first, name_only, null}
+use Rattle.mime_request.specs.Spelling.{Flag, brief, content_only, cost, escape, flag_name, flag_word, magic_first, name_only, null}
 use Rattle.mime_request.specs.Spelling.{short_brief, short_null}
 use Rattle.mime_request.proofs.WalkLemmas.FileWords.{in_files}
 use Rattle.mime_request.proofs.WalkLemmas.Flags.{flag_row}
@@ -37,6 +37,7 @@ module _ (rows settled : List Row) (pending : Option (Text × List Text)) where
       → Steps type_shape [] (between rows pending idle) (flag_word flag) (between (settled ++ flag_row flag ∷ []) None idle)
   unfolding clap_on_literals
   type_flag name_only h new = record { no_fault = rw (h.no_fault, h.rows_are, new) refl; moves = rw (h.rows_are, set-new _ _ _ settled new) refl }
+  type_flag content_only h new = record { no_fault = rw (h.no_fault, h.rows_are, new) refl; moves = rw (h.rows_are, set-new _ _ _ settled new) refl }
   type_flag magic_first h new = record { no_fault = rw (h.no_fault, h.rows_are, new) refl; moves = rw (h.rows_are, set-new _ _ _ settled new) refl }
   type_flag cost h new = record { no_fault = rw (h.no_fault, h.rows_are, new) refl; moves = rw (h.rows_are, set-new _ _ _ settled new) refl }
   type_flag null h new = record { no_fault = rw (h.no_fault, h.rows_are, new) refl; moves = rw (h.rows_are, set-new _ _ _ settled new) refl }
@@ -51,6 +52,7 @@ module _ (rows settled : List Row) (pending : Option (Text × List Text)) where
       → Steps plain_shape [] (between rows pending idle) (flag_word flag) (between (settled ++ flag_row flag ∷ []) None idle)
   unfolding clap_on_literals
   plain_flag name_only t h new = record { no_fault = rw (h.no_fault, h.rows_are, new) refl; moves = rw (h.rows_are, set-new _ _ _ settled new) refl }
+  plain_flag content_only t h new = record { no_fault = rw (h.no_fault, h.rows_are, new) refl; moves = rw (h.rows_are, set-new _ _ _ settled new) refl }
   plain_flag magic_first t h new = record { no_fault = rw (h.no_fault, h.rows_are, new) refl; moves = rw (h.rows_are, set-new _ _ _ settled new) refl }
   plain_flag cost t h new = absurd (cc)
   plain_flag null t h new = record { no_fault = rw (h.no_fault, h.rows_are, new) refl; moves = rw (h.rows_are, set-new _ _ _ settled new) refl }

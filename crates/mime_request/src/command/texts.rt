@@ -54,8 +54,8 @@ Example:
 pub(crate) const PLAIN: HelpTexts<'static> = HelpTexts {
     about: "Prints FILE: TYPE for each FILE, with no cache between",
     usage: "\
-mimelook plain [-d DIRS] [--name-only] [--magic-first] [-0] [-b]
-                      [--escape] FILE...",
+mimelook plain [-d DIRS] [--name-only | --content-only]
+                      [--magic-first] [-0] [-b] [--escape] FILE...",
     after_help: "\
 Messages go to standard error. The files are DIR/mime/globs2, magic, aliases,
 subclasses, icons and generic-icons; a missing one counts as empty. Without -d
@@ -142,8 +142,8 @@ Example:
 pub(crate) const TYPE: HelpTexts<'static> = HelpTexts {
     about: "Prints FILE: TYPE for each FILE, by a cache",
     usage: "\
-mimelook type [-c CACHE | -d DIRS] [--name-only] [--magic-first] [--cost]
-                     [-0] [-b] [--escape] FILE...",
+mimelook type [-c CACHE | -d DIRS] [--name-only | --content-only]
+                     [--magic-first] [--cost] [-0] [-b] [--escape] FILE...",
     after_help: "\
 Messages go to standard error. With -d the cache is made of DIRS, as build makes
 it; without -c and -d, of the user's data directories (see mimelook --help).
@@ -184,6 +184,10 @@ were read";
 
 pub(crate) const NAME_ONLY: &str = "\
 Go by the names alone: no FILE is opened";
+
+pub(crate) const CONTENT_ONLY: &str = "\
+Go by the contents alone: no name is looked at; not with
+--magic-first";
 
 pub(crate) const MAGIC_FIRST: &str = "\
 Let content of high priority (80 or more) decide

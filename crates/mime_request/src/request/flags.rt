@@ -32,6 +32,7 @@ fn given_options(matches: &ArgMatches<'_>) -> Options
 {
     Options {
         name_only: is_given(matches, "name-only"),
+        content_only: is_given(matches, "content-only"),
         magic_first: is_given(matches, "magic-first"),
         cost: is_given(matches, "cost"),
         output: given_output(matches),
@@ -76,6 +77,8 @@ fn disagreement(options: Options) -> Option<&'static str>
         Some("give --escape or -0, not both")
     } else if options.cost && (null || brief) {
         Some("give --cost without -0 and -b")
+    } else if options.content_only && (options.name_only || options.magic_first) {
+        Some("give --content-only without --name-only and --magic-first")
     } else {
         None
     }

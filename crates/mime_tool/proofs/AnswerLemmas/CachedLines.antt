@@ -14,7 +14,7 @@ use Rattle.mime_lookup.specs.CheckingOrder.{Chooses, globs_suffice, read_of}
 use Rattle.mime_lookup.specs.Content.{Health, OfReader, broken, known_content}
 use Rattle.mime_lookup.specs.declared.order.Order.{Order}
 use Rattle.mime_tool.specs.Files.{IsReaderOf, Stored, bytes, closed, folder, nothing, unknown, unreadable}
-use Rattle.mime_tool.specs.Line.{IsOpened, IsTypeLineBy, base_name, fits}
+use Rattle.mime_tool.specs.Line.{IsOpened, IsTypeLineBy, fits, name_for}
 use Rattle.mime_tool.specs.LineSteps.{IsContent}
 use Rattle.mime_request.specs.declared.request.Output.{Output}
 use Rattle.mime_tool.specs.Output.{type_line, written}
@@ -40,8 +40,8 @@ module _ {R : Type 0} (remaining : R → Option (List ℕ)) (health : R → Heal
 
   -- the line of a type
   line : (IsSaid : PlainDatabase → List ℕ → ℕ → Type 0) (kind : List ℕ) (meter : Meter) (read : ℕ) (tail : List ℕ)
-      → tail ≡ cost_tail cost meter read → IsKind cache kind → KeepsBounds (length (base_name file)) cache read meter
-      → OfSpelled (λ b. IsSaid b kind read) → IsLine cache cost output file IsSaid (printed (type_line output file kind tail))
+      → tail ≡ cost_tail cost meter read → IsKind cache kind → KeepsBounds (length (name_for order file)) cache read meter
+      → OfSpelled (λ b. IsSaid b kind read) → IsLine cache cost output order file IsSaid (printed (type_line output file kind tail))
   line IsSaid kind meter read tail told is_kind bounds says = record {
     kind = kind;
     meter = meter;
@@ -59,46 +59,46 @@ module _ {R : Type 0} (remaining : R → Option (List ℕ)) (health : R → Heal
 
   -- an answer is the line of a file that was opened
   opened : (name_only : Bool) (stored : Stored) (reader : R) (kind : List ℕ) (meter : Meter) (read : ℕ) (tail : List ℕ)
-      → tail ≡ cost_tail cost meter read → fits file ≡ true → IsKind cache kind
-      → KeepsBounds (length (base_name file)) cache read meter
+      → tail ≡ cost_tail cost meter read → fits (name_for order file) ≡ true → IsKind cache kind
+      → KeepsBounds (length (name_for order file)) cache read meter
       → OfSpelled (λ b. IfSome (known_content remaining (Some reader)) (λ it. IsChosen it order file b kind read))
-      → OfSpelled (λ b. health reader ≡ broken → globs_suffice b (base_name file) order ≡ true)
+      → OfSpelled (λ b. health reader ≡ broken → globs_suffice b (name_for order file) order ≡ true)
       → IsReaderOf remaining health stored reader
       → IsOpened (lookup_by path name_only cost output order cache) stored file (printed (type_line output file kind tail))
   opened name_only nothing reader kind meter read tail told fit is_kind bounds chosen asked has = absurd has
   opened name_only folder reader kind meter read tail told fit is_kind bounds chosen asked has = absurd has
   opened name_only closed reader kind meter read tail told fit is_kind bounds chosen asked has = absurd has
   opened name_only unreadable reader kind meter read tail told fit is_kind bounds chosen asked has =
-      named (fits file) (written output file) _ _ fit (inl (inl (line (IsChosenByGlobs order file) kind meter read tail told is_kind bounds
+      named (fits (name_for order file)) (written output file) _ _ fit (inl (inl (line (IsChosenByGlobs order file) kind meter read tail told is_kind bounds
       (λ b limits spells. (
         asked b limits spells has.1,
         known (λ it. IsChosen it order file b kind read) (remaining reader) [] has.0 (chosen b limits spells),
       )))))
   opened name_only (bytes bs) reader kind meter read tail told fit is_kind bounds chosen asked has =
-      named (fits file) (written output file) _ _ fit (inl (line (IsChosen (Some bs) order file) kind meter read tail told is_kind bounds
+      named (fits (name_for order file)) (written output file) _ _ fit (inl (line (IsChosen (Some bs) order file) kind meter read tail told is_kind bounds
       (λ b limits spells. known (λ it. IsChosen it order file b kind read) (remaining reader) bs has.0 (chosen b limits spells))))
   opened name_only unknown reader kind meter read tail told fit is_kind bounds chosen asked has =
-      inr (inr (named (fits file) (written output file) _ _ fit (inl (inl (line (λ _ _ _. ⊤) kind meter read tail told is_kind bounds
+      inr (inr (named (fits (name_for order file)) (written output file) _ _ fit (inl (inl (line (λ _ _ _. ⊤) kind meter read tail told is_kind bounds
       (λ b limits spells. tt))))))
 
   -- an answer is the line of a file
   pub line_found : (content after : Option R) (kind : List ℕ) (meter : Meter) (read : ℕ) (tail : List ℕ)
       → tail ≡ cost_tail cost meter read
-      → fits file ≡ true → IsKind cache kind → KeepsBounds (length (base_name file)) cache read meter
-      → OfSpelled (λ b. IfSome (known_content remaining content) (λ it. Chooses b (base_name file) it Little order kind))
-      → OfSpelled (λ b. IfSome (known_content remaining content) (λ it. read ≡ read_of b (base_name file) it order))
-      → OfSpelled (λ b. OfReader (λ before _. health before ≡ broken → globs_suffice b (base_name file) order ≡ true) ⊤ content
+      → fits (name_for order file) ≡ true → IsKind cache kind → KeepsBounds (length (name_for order file)) cache read meter
+      → OfSpelled (λ b. IfSome (known_content remaining content) (λ it. Chooses b (name_for order file) it Little order kind))
+      → OfSpelled (λ b. IfSome (known_content remaining content) (λ it. read ≡ read_of b (name_for order file) it order))
+      → OfSpelled (λ b. OfReader (λ before _. health before ≡ broken → globs_suffice b (name_for order file) order ≡ true) ⊤ content
       after)
       → (stored : Stored) (name_only : Bool) → IsContent remaining health name_only stored content
       → IsTypeLineBy name_only (lookup_by path name_only cost output order cache) stored file (printed (type_line output file kind tail))
   line_found None after kind meter read tail told fit is_kind bounds chosen reads asked stored true has =
-      named (fits file) (written output file) _ _ fit (inl (line (IsChosen None order file) kind meter read tail told is_kind bounds
+      named (fits (name_for order file)) (written output file) _ _ fit (inl (line (IsChosen None order file) kind meter read tail told is_kind bounds
       (λ b limits spells. (chosen b limits spells, reads b limits spells))))
   line_found (Some reader) after kind meter read tail told fit is_kind bounds chosen reads asked stored true has = absurd has
   line_found None after kind meter read tail told fit is_kind bounds chosen reads asked stored false has = absurd has
   line_found (Some reader) after kind meter read tail told fit is_kind bounds chosen reads asked stored false has =
       opened false stored reader kind meter read tail told fit is_kind bounds
       (λ b limits spells. both (known_content remaining (Some reader)) _ _ (chosen b limits spells) (reads b limits spells))
-      (λ b limits spells. of_reader (λ before. health before ≡ broken → globs_suffice b (base_name file) order ≡ true) reader
+      (λ b limits spells. of_reader (λ before. health before ≡ broken → globs_suffice b (name_for order file) order ≡ true) reader
       after
       (asked b limits spells)) has

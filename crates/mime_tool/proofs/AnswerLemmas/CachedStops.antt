@@ -17,7 +17,7 @@ use Rattle.mime_lookup.specs.declared.stopped.Stopped.{Stopped}
 use Rattle.mime_view.specs.declared.fault.CacheFault.{CacheFault}
 use Rattle.mime_tool.specs.Cache.{GivesOrRefuses, IsCacheFaultStop, cache_fault_name}
 use Rattle.mime_tool.specs.Files.{Stored, bytes, closed, folder, nothing, unknown, unreadable}
-use Rattle.mime_tool.specs.Line.{IsNamed, IsTypeLineBy, fits}
+use Rattle.mime_tool.specs.Line.{IsNamed, IsTypeLineBy, fits, name_for}
 use Rattle.mime_tool.specs.LineSteps.{IsContent, LooksUp}
 use Rattle.mime_request.specs.declared.request.Output.{Output}
 use Rattle.mime_tool.specs.Output.{written}
@@ -67,24 +67,24 @@ fault_of_stop cache f (inr (inr (e, is, other, fault_is))) = subst (IsLookUpFaul
 module _ {R : Type 0} (remaining : R → Option (List ℕ)) (health : R → Health) (path cache : List ℕ) (cost : Bool) (output : Output)
     (order : Order) (file : List ℕ) where
   -- a refusal is the run over a file that was looked up
-  refused_run : (f : CacheFault) (text : List ℕ) (name_only : Bool) (stored : Stored) (content : Option R) → fits file ≡ true
+  refused_run : (f : CacheFault) (text : List ℕ) (name_only : Bool) (stored : Stored) (content : Option R) → fits (name_for order file) ≡ true
       → RefusesLookup cache f → text ≡ refusal path (cache_fault_name f) → IsContent remaining health name_only stored content
       → IsTypeLineBy name_only (lookup_by path name_only cost output order cache) stored file (stopped text silent)
   refused_run f text true stored content fit refuses is has =
-      named (fits file) (written output file) _ _ fit (inr (f, refuses, ap (λ (t : List ℕ). stopped t silent) is))
+      named (fits (name_for order file)) (written output file) _ _ fit (inr (f, refuses, ap (λ (t : List ℕ). stopped t silent) is))
   refused_run f text false stored None fit refuses is has = absurd has
   refused_run f text false nothing (Some reader) fit refuses is has = absurd has
   refused_run f text false folder (Some reader) fit refuses is has = absurd has
   refused_run f text false closed (Some reader) fit refuses is has = absurd has
   refused_run f text false unreadable (Some reader) fit refuses is has =
-      named (fits file) (written output file) _ _ fit (inr (f, refuses, ap (λ (t : List ℕ). stopped t silent) is))
+      named (fits (name_for order file)) (written output file) _ _ fit (inr (f, refuses, ap (λ (t : List ℕ). stopped t silent) is))
   refused_run f text false (bytes bs) (Some reader) fit refuses is has =
-      named (fits file) (written output file) _ _ fit (inr (f, refuses, ap (λ (t : List ℕ). stopped t silent) is))
+      named (fits (name_for order file)) (written output file) _ _ fit (inr (f, refuses, ap (λ (t : List ℕ). stopped t silent) is))
   refused_run f text false unknown (Some reader) fit refuses is has =
-      inr (inr (named (fits file) (written output file) _ _ fit (inr (f, refuses, ap (λ (t : List ℕ). stopped t silent) is))))
+      inr (inr (named (fits (name_for order file)) (written output file) _ _ fit (inr (f, refuses, ap (λ (t : List ℕ). stopped t silent) is))))
 
   -- what stops for a fault of the cache
-  looked_up : (s : Stop) → GivesOrRefuses {X = Unit {0}} path (RefusesLookup cache) (λ _. ⊤) (Err s) → fits file ≡ true
+  looked_up : (s : Stop) → GivesOrRefuses {X = Unit {0}} path (RefusesLookup cache) (λ _. ⊤) (Err s) → fits (name_for order file) ≡ true
       → (stored : Stored) (name_only : Bool) (content : Option R) → IsContent remaining health name_only stored content
       → LooksUp (lookup_by path name_only cost output order cache) stored file (Err s)
   looked_up stop.OutOfMemory p fit stored name_only content has = tt
@@ -93,7 +93,7 @@ module _ {R : Type 0} (remaining : R → Option (List ℕ)) (health : R → Heal
       refused_run p.0 (string_bytes m) name_only stored content fit p.1 p.2 has
 
   -- a fault of the cache is the stop of a lookup
-  pub line_refused : (f : CacheFault) (s : Stop) (content : Option R) → IsCacheFaultStop path f s → fits file ≡ true
+  pub line_refused : (f : CacheFault) (s : Stop) (content : Option R) → IsCacheFaultStop path f s → fits (name_for order file) ≡ true
       → IsStop (IsLookUpFault cache) (cause.Cache f)
       → ((b : PlainDatabase) → IsWithinLimits b → Spells cache b → Packed cache b
       → (cause.Cache f ≡ cause.Read) ⊎ (cause.Cache f ≡ cause.OutOfMemory))

@@ -3,7 +3,7 @@
 ghost use Rattle.std.specs.Prelude.{◌≡◌, Bool};
 ghost use Rattle.mime_base.specs.Database.{plain_database};
 ghost use Rattle.mime_tool.specs.Files.{Stored};
-ghost use Rattle.mime_tool.specs.Line.{order_of};
+ghost use Rattle.mime_tool.specs.Line.{name_for, order_of};
 ghost use Rattle.mime_tool.specs.LineSteps.{IsContent, LooksUp, plain_lookup, tail_of};
 ghost use Rattle.mime_tool.specs.Plain.{lookup_over};
 ghost use Rattle.mime_tool.specs.Types.{cost_tail, lookup_by};
@@ -46,11 +46,13 @@ pub(crate) struct Cost {
     pub(crate) read: u64,
 }
 
-/// The order that `--magic-first` asks for, or its absence.
-pub(crate) fn order_of(magic_first: bool) -> Order
-    ensures { result ≡ order_of magic_first }
+/// The order that `--content-only` asks for, else `--magic-first`, or the absence of both.
+pub(crate) fn order_of(content_only: bool, magic_first: bool) -> Order
+    ensures { result ≡ order_of content_only magic_first }
 {
-    if magic_first {
+    if content_only {
+        Order::ContentOnly
+    } else if magic_first {
         Order::MagicFirst
     } else {
         Order::GlobsFirst
@@ -91,7 +93,7 @@ fn find_in_database<'a, R: Content + Drop>(
     ensures { (stored : Stored) (name_only : Bool) (output : Output) → IsContent R.remaining R.health name_only stored content
         → LooksUp (lookup_over name_only output order (plain_database database.entry.now)) stored file.now result }
 {
-    let name = base_name(file.as_bytes());
+    let name = name_for(order, file.as_bytes());
     match look_up_plain(alloc, database, name, &mut content, Host::Little, order) {
         Ok(answer) => Ok(Outcome::Typed(answer.kind, None)),
         Err(stopped) => match stopped.cause {
@@ -114,7 +116,7 @@ fn find_in_cache<'a, R: Content + Drop>(
     ensures { (stored : Stored) (name_only : Bool) (output : Output) → IsContent R.remaining R.health name_only stored content
         → LooksUp (lookup_by path.now name_only cost output order bytes.entry.now) stored file.now result }
 {
-    let name = base_name(file.as_bytes());
+    let name = name_for(order, file.as_bytes());
     let cache = Counted::new(bytes);
     match look_up(alloc, cache, name, &mut content, Host::Little, order) {
         Ok(answer) => Ok(Outcome::Typed(answer.kind, cost_of(cost, answer.meter, answer.read))),
@@ -135,5 +137,15 @@ fn cost_of(is_told: bool, meter: Meter, read: u64) -> Option<Cost>
         Some(Cost { meter, read })
     } else {
         None
+    }
+}
+
+// What is looked up of a file: its name, but nothing where the content alone is asked.
+fn name_for(order: Order, file: &[u8]) -> &[u8]
+    ensures { result.now ≡ name_for order file.entry.now }
+{
+    match order {
+        Order::ContentOnly => b"",
+        Order::GlobsFirst | Order::MagicFirst => base_name(file),
     }
 }

@@ -92,7 +92,7 @@ fn answers_by_content(rt: HostRuntime) -> Result<(), Fail> {
     are_answered(&rt, rt.alloc(), &BY_CONTENT)
 }
 
-static IN_ORDER: [Row; 4] = [
+static IN_ORDER: [Row; 5] = [
     Row {
         name: "globs before magic",
         words: &["plain", "-d", "/s", "x.a", "x"],
@@ -130,6 +130,20 @@ static IN_ORDER: [Row; 4] = [
         status: 0,
         out: "x.a: t/a\n",
         err: "",
+    },
+    Row {
+        name: "contents alone, whatever the rules are",
+        words: &["plain", "-d", "/s", "--content-only", "x.a", "y.a", "z.a"],
+        entries: &[
+            ("/s/mime/globs2", Entry::Bytes(b"50:t/a:*.a\n90:t/any:*\n")),
+            ("/s/mime/magic", Entry::Bytes(LOW)),
+            ("/s/mime/aliases", Entry::Bytes(b"image/x-sig t/sig\n")),
+            ("x.a", Entry::Bytes(SIGNED)),
+            ("y.a", Entry::Bytes(HELLO)),
+        ],
+        status: 1,
+        out: "x.a: t/sig\ny.a: text/plain\n",
+        err: "mimelook: z.a: cannot open\n",
     },
     Row {
         name: "nothing is opened for names alone",

@@ -5,8 +5,8 @@ use Rattle.mime_base.specs.Database.{pairs_of, plain_database}
 use Rattle.mime_lookup.specs.Ancestry.{kinds_of}
 use Rattle.mime_lookup.specs.CheckingOrder.{IsSniffed, are_one_type, read_limit}
 use Rattle.mime_lookup.specs.Choice.{ChoosesAmong}
-use Rattle.mime_lookup.proofs.OrderLemmas.Answering.{by_globs, by_globs_and_content, by_magic, by_magic_and_globs, first_text}
-use Rattle.mime_lookup.proofs.OrderLemmas.Answering.{read_first, read_front, read_none, suffice, suffice_not}
+use Rattle.mime_lookup.proofs.OrderLemmas.Answering.{by_content, by_globs, by_globs_and_content, by_magic, by_magic_and_globs, first_text}
+use Rattle.mime_lookup.proofs.OrderLemmas.Answering.{read_content, read_first, read_front, read_none, suffice, suffice_never, suffice_not}
 use Rattle.mime_lookup.proofs.ContentLemmas.Reads.{asks_nothing, asks_stopped, reads_nothing, reads_stopped}
 use Rattle.mime_lookup.proofs.lists.kind_of.Goals as goal
 
@@ -128,3 +128,33 @@ pub returns-in_ok-kind-in-MagicFirst-clause-read :
 returns-in_ok-kind-in-MagicFirst-clause-read g c =
     read_first (plain_database c.args.database.now) c.args.question.now.name.now c.args.question.now.host c.args.question.now.order c.in-MagicFirst.is [] true _ _
     c.in_ok-sniffed-in-MagicFirst.ensures.read
+
+pub returns-in_err-sniffed-in-ContentOnly-clause-reader :
+    goal.returns-in_err-sniffed-in-ContentOnly-clause-reader
+returns-in_err-sniffed-in-ContentOnly-clause-reader g c =
+    reads_stopped g.R.Read.remaining g.R.Content.tally g.R.Content.health (read_limit (plain_database c.args.database.now))
+    c.args.content.now c.sniff_content-in-ContentOnly.new.content c.sniff_content-in-ContentOnly.new.read
+    c.in_err-sniffed-in-ContentOnly.field-0.0 c.from_residual-in_err-sniffed-in-ContentOnly.result
+    c.from_residual-in_err-sniffed-in-ContentOnly.ensures.1 c.in_err-sniffed-in-ContentOnly.ensures.reader
+
+pub returns-in_err-sniffed-in-ContentOnly-clause-asks :
+    goal.returns-in_err-sniffed-in-ContentOnly-clause-asks
+returns-in_err-sniffed-in-ContentOnly-clause-asks g c =
+    asks_stopped g.R.Content.health _ c.args.content.now c.sniff_content-in-ContentOnly.new.content
+    c.in_err-sniffed-in-ContentOnly.field-0.0 c.from_residual-in_err-sniffed-in-ContentOnly.result
+    (suffice_never (plain_database c.args.database.now) c.args.question.now.name.now c.args.question.now.host c.args.question.now.order c.in-ContentOnly.is)
+    c.from_residual-in_err-sniffed-in-ContentOnly.ensures.1 c.in_err-sniffed-in-ContentOnly.ensures.asks
+
+pub returns-in_ok-sniffed-in-ContentOnly-clause-chosen :
+    goal.returns-in_ok-sniffed-in-ContentOnly-clause-chosen
+returns-in_ok-sniffed-in-ContentOnly-clause-chosen g c =
+    by_content (plain_database c.args.database.now) c.args.question.now.name.now c.args.question.now.host c.args.question.now.order c.in-ContentOnly.is
+    _ c.in_ok-sniffed-in-ContentOnly.sniffed.kind.now
+    (IfSome_then _ c.in_ok-sniffed-in-ContentOnly.ensures.sniffed
+    (λ known (is : IsSniffed (plain_database c.args.database.now) known c.args.question.now.host c.in_ok-sniffed-in-ContentOnly.sniffed). is.kind))
+
+pub returns-in_ok-sniffed-in-ContentOnly-clause-read :
+    goal.returns-in_ok-sniffed-in-ContentOnly-clause-read
+returns-in_ok-sniffed-in-ContentOnly-clause-read g c =
+    read_content (plain_database c.args.database.now) c.args.question.now.name.now c.args.question.now.host c.args.question.now.order c.in-ContentOnly.is
+    _ _ c.in_ok-sniffed-in-ContentOnly.ensures.read

@@ -23,7 +23,7 @@ static USERS: [Asked; 2] = [
     Asked {
         name: "plain of the user's directories",
         words: &["plain", "--name-only", "x"],
-        request: r#"Plain { directories: User, options: Options { name_only: true, magic_first: false, cost: false, output: Output { null: false, brief: false, escape: false } }, files: ["x"] }"#,
+        request: r#"Plain { directories: User, options: Options { name_only: true, content_only: false, magic_first: false, cost: false, output: Output { null: false, brief: false, escape: false } }, files: ["x"] }"#,
     },
 ];
 
@@ -136,61 +136,71 @@ static ICONS: [Asked; 5] = [
     },
 ];
 
-static TYPES: [Asked; 17] = [
+static TYPES: [Asked; 19] = [
     Asked {
         name: "zero bytes and TYPE alone",
         words: &["type", "-0b", "-c", "c", "x"],
-        request: r#"Type { source: Cache("c"), options: Options { name_only: false, magic_first: false, cost: false, output: Output { null: true, brief: true, escape: false } }, files: ["x"] }"#,
+        request: r#"Type { source: Cache("c"), options: Options { name_only: false, content_only: false, magic_first: false, cost: false, output: Output { null: true, brief: true, escape: false } }, files: ["x"] }"#,
     },
     Asked {
         name: "the same in long",
         words: &["type", "-c", "c", "--brief", "--null", "x"],
-        request: r#"Type { source: Cache("c"), options: Options { name_only: false, magic_first: false, cost: false, output: Output { null: true, brief: true, escape: false } }, files: ["x"] }"#,
+        request: r#"Type { source: Cache("c"), options: Options { name_only: false, content_only: false, magic_first: false, cost: false, output: Output { null: true, brief: true, escape: false } }, files: ["x"] }"#,
     },
     Asked {
         name: "escapes and cost",
         words: &["type", "--escape", "-c", "c", "--cost", "x"],
-        request: r#"Type { source: Cache("c"), options: Options { name_only: false, magic_first: false, cost: true, output: Output { null: false, brief: false, escape: true } }, files: ["x"] }"#,
+        request: r#"Type { source: Cache("c"), options: Options { name_only: false, content_only: false, magic_first: false, cost: true, output: Output { null: false, brief: false, escape: true } }, files: ["x"] }"#,
     },
     Asked {
         name: "escapes and TYPE alone",
         words: &["plain", "-d", "", "-b", "--escape", "x"],
-        request: r#"Plain { directories: Named([]), options: Options { name_only: false, magic_first: false, cost: false, output: Output { null: false, brief: true, escape: true } }, files: ["x"] }"#,
+        request: r#"Plain { directories: Named([]), options: Options { name_only: false, content_only: false, magic_first: false, cost: false, output: Output { null: false, brief: true, escape: true } }, files: ["x"] }"#,
     },
     Asked {
         name: "no source",
         words: &["type", "x"],
-        request: r#"Type { source: Directories(User), options: Options { name_only: false, magic_first: false, cost: false, output: Output { null: false, brief: false, escape: false } }, files: ["x"] }"#,
+        request: r#"Type { source: Directories(User), options: Options { name_only: false, content_only: false, magic_first: false, cost: false, output: Output { null: false, brief: false, escape: false } }, files: ["x"] }"#,
     },
     Asked {
         name: "DIRS",
         words: &["type", "-d", "a", "--cost", "x"],
-        request: r#"Type { source: Directories(Named(["a"])), options: Options { name_only: false, magic_first: false, cost: true, output: Output { null: false, brief: false, escape: false } }, files: ["x"] }"#,
+        request: r#"Type { source: Directories(Named(["a"])), options: Options { name_only: false, content_only: false, magic_first: false, cost: true, output: Output { null: false, brief: false, escape: false } }, files: ["x"] }"#,
     },
     Asked {
         name: "CACHE in long",
         words: &["type", "--cache", "c", "x"],
-        request: r#"Type { source: Cache("c"), options: Options { name_only: false, magic_first: false, cost: false, output: Output { null: false, brief: false, escape: false } }, files: ["x"] }"#,
+        request: r#"Type { source: Cache("c"), options: Options { name_only: false, content_only: false, magic_first: false, cost: false, output: Output { null: false, brief: false, escape: false } }, files: ["x"] }"#,
     },
     Asked {
         name: "no flag",
         words: &["type", "-c", "c", "x", "y"],
-        request: r#"Type { source: Cache("c"), options: Options { name_only: false, magic_first: false, cost: false, output: Output { null: false, brief: false, escape: false } }, files: ["x", "y"] }"#,
+        request: r#"Type { source: Cache("c"), options: Options { name_only: false, content_only: false, magic_first: false, cost: false, output: Output { null: false, brief: false, escape: false } }, files: ["x", "y"] }"#,
     },
     Asked {
         name: "names alone",
         words: &["type", "-c", "c", "--name-only", "x"],
-        request: r#"Type { source: Cache("c"), options: Options { name_only: true, magic_first: false, cost: false, output: Output { null: false, brief: false, escape: false } }, files: ["x"] }"#,
+        request: r#"Type { source: Cache("c"), options: Options { name_only: true, content_only: false, magic_first: false, cost: false, output: Output { null: false, brief: false, escape: false } }, files: ["x"] }"#,
+    },
+    Asked {
+        name: "contents alone",
+        words: &["type", "--content-only", "-c", "c", "--cost", "x"],
+        request: r#"Type { source: Cache("c"), options: Options { name_only: false, content_only: true, magic_first: false, cost: true, output: Output { null: false, brief: false, escape: false } }, files: ["x"] }"#,
+    },
+    Asked {
+        name: "contents alone by text files",
+        words: &["plain", "-d", "a", "x", "--content-only"],
+        request: r#"Plain { directories: Named(["a"]), options: Options { name_only: false, content_only: true, magic_first: false, cost: false, output: Output { null: false, brief: false, escape: false } }, files: ["x"] }"#,
     },
     Asked {
         name: "cost",
         words: &["type", "-c", "c", "--cost", "x"],
-        request: r#"Type { source: Cache("c"), options: Options { name_only: false, magic_first: false, cost: true, output: Output { null: false, brief: false, escape: false } }, files: ["x"] }"#,
+        request: r#"Type { source: Cache("c"), options: Options { name_only: false, content_only: false, magic_first: false, cost: true, output: Output { null: false, brief: false, escape: false } }, files: ["x"] }"#,
     },
     Asked {
         name: "magic first",
         words: &["type", "-c", "c", "--magic-first", "x"],
-        request: r#"Type { source: Cache("c"), options: Options { name_only: false, magic_first: true, cost: false, output: Output { null: false, brief: false, escape: false } }, files: ["x"] }"#,
+        request: r#"Type { source: Cache("c"), options: Options { name_only: false, content_only: false, magic_first: true, cost: false, output: Output { null: false, brief: false, escape: false } }, files: ["x"] }"#,
     },
     Asked {
         name: "all flags",
@@ -203,7 +213,7 @@ static TYPES: [Asked; 17] = [
             "--magic-first",
             "x",
         ],
-        request: r#"Type { source: Cache("c"), options: Options { name_only: true, magic_first: true, cost: true, output: Output { null: false, brief: false, escape: false } }, files: ["x"] }"#,
+        request: r#"Type { source: Cache("c"), options: Options { name_only: true, content_only: false, magic_first: true, cost: true, output: Output { null: false, brief: false, escape: false } }, files: ["x"] }"#,
     },
     Asked {
         name: "flags the other way round",
@@ -216,27 +226,27 @@ static TYPES: [Asked; 17] = [
             "c",
             "x",
         ],
-        request: r#"Type { source: Cache("c"), options: Options { name_only: true, magic_first: true, cost: true, output: Output { null: false, brief: false, escape: false } }, files: ["x"] }"#,
+        request: r#"Type { source: Cache("c"), options: Options { name_only: true, content_only: false, magic_first: true, cost: true, output: Output { null: false, brief: false, escape: false } }, files: ["x"] }"#,
     },
     Asked {
         name: "options last",
         words: &["type", "x", "y", "--cost", "-cc/d"],
-        request: r#"Type { source: Cache("c/d"), options: Options { name_only: false, magic_first: false, cost: true, output: Output { null: false, brief: false, escape: false } }, files: ["x", "y"] }"#,
+        request: r#"Type { source: Cache("c/d"), options: Options { name_only: false, content_only: false, magic_first: false, cost: true, output: Output { null: false, brief: false, escape: false } }, files: ["x", "y"] }"#,
     },
     Asked {
         name: "hyphens",
         words: &["type", "-c", "c", "--", "-x", "--"],
-        request: r#"Type { source: Cache("c"), options: Options { name_only: false, magic_first: false, cost: false, output: Output { null: false, brief: false, escape: false } }, files: ["-x", "--"] }"#,
+        request: r#"Type { source: Cache("c"), options: Options { name_only: false, content_only: false, magic_first: false, cost: false, output: Output { null: false, brief: false, escape: false } }, files: ["-x", "--"] }"#,
     },
     Asked {
         name: "command's name",
         words: &["type", "-c", "type", "type"],
-        request: r#"Type { source: Cache("type"), options: Options { name_only: false, magic_first: false, cost: false, output: Output { null: false, brief: false, escape: false } }, files: ["type"] }"#,
+        request: r#"Type { source: Cache("type"), options: Options { name_only: false, content_only: false, magic_first: false, cost: false, output: Output { null: false, brief: false, escape: false } }, files: ["type"] }"#,
     },
     Asked {
         name: "empty FILE",
         words: &["type", "-c", "c", ""],
-        request: r#"Type { source: Cache("c"), options: Options { name_only: false, magic_first: false, cost: false, output: Output { null: false, brief: false, escape: false } }, files: [""] }"#,
+        request: r#"Type { source: Cache("c"), options: Options { name_only: false, content_only: false, magic_first: false, cost: false, output: Output { null: false, brief: false, escape: false } }, files: [""] }"#,
     },
 ];
 

@@ -18,7 +18,7 @@ struct Refused {
     kind: ErrorKind,
 }
 
-static REFUSED: [Refused; 26] = [
+static REFUSED: [Refused; 28] = [
     Refused {
         name: "escapes with zero bytes",
         words: &["plain", "--escape", "-0", "x"],
@@ -32,6 +32,16 @@ static REFUSED: [Refused; 26] = [
     Refused {
         name: "cost with TYPE alone",
         words: &["type", "-b", "--cost", "x"],
+        kind: ErrorKind::ArgumentConflict,
+    },
+    Refused {
+        name: "contents alone and names alone",
+        words: &["type", "--name-only", "--content-only", "x"],
+        kind: ErrorKind::ArgumentConflict,
+    },
+    Refused {
+        name: "contents alone in an order",
+        words: &["plain", "--content-only", "--magic-first", "x"],
         kind: ErrorKind::ArgumentConflict,
     },
     Refused {
@@ -181,8 +191,8 @@ error: unexpected argument '--names' found
 
   tip: a similar argument exists: '--name-only'
 
-Usage: mimelook plain [-d DIRS] [--name-only] [--magic-first] [-0] [-b]
-                      [--escape] FILE...
+Usage: mimelook plain [-d DIRS] [--name-only | --content-only]
+                      [--magic-first] [-0] [-b] [--escape] FILE...
 
 For more information, try '--help'.
 ";

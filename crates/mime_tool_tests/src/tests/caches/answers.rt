@@ -3,7 +3,7 @@
 use super::{Cache, ROW, Row, WHOLE, are_answered};
 use std::test::Fail;
 
-static ANSWERS: [Row; 8] = [
+static ANSWERS: [Row; 9] = [
     Row {
         name: "the rules of both lists",
         words: &["list", "-c", "/c"],
@@ -50,6 +50,12 @@ static ANSWERS: [Row; 8] = [
         name: "types by contents",
         words: &["type", "-c", "/c", "/x", "/mk"],
         out: "/x: t/g\n/mk: t/m\n",
+        ..ROW
+    },
+    Row {
+        name: "types by contents alone",
+        words: &["type", "-c", "/c", "--content-only", "/x", "/mk"],
+        out: "/x: t/g\n/mk: t/g\n",
         ..ROW
     },
     Row {

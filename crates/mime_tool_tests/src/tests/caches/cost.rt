@@ -15,8 +15,8 @@ struct Row {
 }
 
 /// The header, and what each list says of its length: literals and tree (twice where the name has capitals), globs, then
-/// the extent and magic. No text is compared, since there is none.
-static ROWS: [Row; 4] = [
+/// the extent and magic. No text is compared, since there is none. For contents alone no rule is asked.
+static ROWS: [Row; 5] = [
     Row {
         words: &["type", "-c", "/c", "--name-only", "--cost", "a"],
         printed: "a: application/octet-stream nodes=4 bytes=0 read=0\n",
@@ -32,6 +32,10 @@ static ROWS: [Row; 4] = [
     Row {
         words: &["type", "-c", "/c", "--cost", "/HELLO"],
         printed: "/HELLO: text/plain nodes=8 bytes=0 read=5\n",
+    },
+    Row {
+        words: &["type", "-c", "/c", "--content-only", "--cost", "/HELLO"],
+        printed: "/HELLO: text/plain nodes=3 bytes=0 read=5\n",
     },
 ];
 

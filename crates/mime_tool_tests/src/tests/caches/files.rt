@@ -1,5 +1,6 @@
 //! Files that have no line, and lookups that stop at a cache.
 
+use super::sample::SAMPLE;
 use super::{Cache, ROW, Row, WHOLE, are_answered};
 use crate::Entry;
 use crate::tests::ran::{Said, says_over};
@@ -45,5 +46,24 @@ fn a_name_too_long_is_passed_over(rt: HostRuntime) -> Result<(), Fail> {
     };
     let words = ["type", "-c", "/c", "--name-only", longer.as_str(), "x"];
     let entries = [("/c", Entry::Bytes(b"cut"))];
+    says_over(&rt, alloc, "a long name", &words, &entries, wanted)
+}
+
+// Where contents alone are asked a name may be as long.
+#[test]
+fn a_long_name_has_a_content(rt: HostRuntime) -> Result<(), Fail> {
+    let alloc = rt.alloc();
+    let longer = "a".repeat(alloc, 4_097)?;
+    let said = format!(in alloc; "{longer}: text/plain\n")?;
+    let wanted = Said {
+        status: 0,
+        out: said.as_str(),
+        err: "",
+    };
+    let words = ["type", "-c", "/c", "--content-only", longer.as_str()];
+    let entries = [
+        ("/c", Entry::Bytes(&SAMPLE)),
+        (longer.as_str(), Entry::Bytes(b"hello")),
+    ];
     says_over(&rt, alloc, "a long name", &words, &entries, wanted)
 }

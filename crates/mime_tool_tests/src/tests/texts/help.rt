@@ -73,8 +73,8 @@ Example:
 const PLAIN_HELP: &str = "\
 Prints FILE: TYPE for each FILE, with no cache between
 
-Usage: mimelook plain [-d DIRS] [--name-only] [--magic-first] [-0] [-b]
-                      [--escape] FILE...
+Usage: mimelook plain [-d DIRS] [--name-only | --content-only]
+                      [--magic-first] [-0] [-b] [--escape] FILE...
 
 Arguments:
   <FILE>...  The files to tell the types of; put -- before one that begins
@@ -85,6 +85,8 @@ Options:
                           between them, such as /usr/local/share:/usr/share; an
                           empty part is skipped
       --name-only         Go by the names alone: no FILE is opened
+      --content-only      Go by the contents alone: no name is looked at; not with
+                          --magic-first
       --magic-first       Let content of high priority (80 or more) decide
                           before names
   -0, --null              Print a zero byte after FILE and one after TYPE, in

@@ -35,8 +35,8 @@ const NO_FILE: &str = "\
 error: the following required arguments were not provided:
   <FILE>...
 
-Usage: mimelook plain [-d DIRS] [--name-only] [--magic-first] [-0] [-b]
-                      [--escape] FILE...
+Usage: mimelook plain [-d DIRS] [--name-only | --content-only]
+                      [--magic-first] [-0] [-b] [--escape] FILE...
 
 For more information, try '--help'.
 ";
@@ -50,8 +50,8 @@ For more information, try '--help'.
 const OPTION_TWICE: &str = "\
 error: the argument '--data-dirs <DIRS>' cannot be used multiple times
 
-Usage: mimelook plain [-d DIRS] [--name-only] [--magic-first] [-0] [-b]
-                      [--escape] FILE...
+Usage: mimelook plain [-d DIRS] [--name-only | --content-only]
+                      [--magic-first] [-0] [-b] [--escape] FILE...
 
 For more information, try '--help'.
 ";
@@ -61,8 +61,8 @@ error: unexpected argument '--cost' found
 
   tip: to pass '--cost' as a value, use '-- --cost'
 
-Usage: mimelook plain [-d DIRS] [--name-only] [--magic-first] [-0] [-b]
-                      [--escape] FILE...
+Usage: mimelook plain [-d DIRS] [--name-only | --content-only]
+                      [--magic-first] [-0] [-b] [--escape] FILE...
 
 For more information, try '--help'.
 ";

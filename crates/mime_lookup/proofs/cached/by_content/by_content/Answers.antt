@@ -2,13 +2,14 @@ use Rattle.std.proofs.Common.{◌≡◌, ◌∙◌, None, Some, inl, inr, ap, le
 use Rattle.mime_lookup.specs.Cached.{cause_of, plain_finding}
 use Rattle.mime_lookup.specs.Costs.{record_cost}
 use Rattle.mime_lookup.specs.Halves.{bytes_of}
-use Rattle.mime_lookup.specs.declared.cached.by_name.Candidates.TheVariants.{Kept, Unasked}
-use Rattle.mime_lookup.specs.declared.order.Order.TheVariants.{GlobsFirst, MagicFirst}
+use Rattle.mime_lookup.specs.declared.cached.by_name.Candidates.TheVariants.{Ignored, Kept, Unasked}
+use Rattle.mime_lookup.specs.declared.order.Order.TheVariants.{ContentOnly, GlobsFirst, MagicFirst}
 use Rattle.mime_lookup.proofs.OrderLemmas.ByContents.{not_high, suffices_choice, suffices_content, suffices_globs, suffices_last, used_for}
 use Rattle.mime_lookup.proofs.CostLemmas.Costs.{costs_looks, costs_sniffed, costs_wider}
+use Rattle.mime_lookup.proofs.OrderLemmas.ContentOnly.{by_finding}
 use Rattle.mime_lookup.proofs.OrderLemmas.GlobsFirst.{with_content}
 use Rattle.mime_lookup.proofs.OrderLemmas.MagicFirst.{by_high_magic, by_low_magic}
-use Rattle.mime_lookup.proofs.CostLemmas.Near.{decide_without, none_kept}
+use Rattle.mime_lookup.proofs.CostLemmas.Near.{decide_unavailable, decide_without, none_kept}
 use Rattle.mime_lookup.proofs.StopLemmas.StepStops.{choice_fault, passed_on, stops_for, stops_then}
 use Rattle.mime_lookup.proofs.CostLemmas.UsedUp.{choice_spent}
 use Rattle.mime_view.specs.declared.spending.Spending.{Spending}
@@ -146,3 +147,42 @@ pub returns-in_ok-kind-in-Unasked-2-clause-cost : goal.returns-in_ok-kind-in-Una
 returns-in_ok-kind-in-Unasked-2-clause-cost c =
     rw c.in-Unasked.is (costs_sniffed (length c.args.question.now.name.now) _ c.in_ok-finding.ensures.cost
     c.in_ok-kind-in-Unasked-2.ensures.cost (omega arith) (omega arith))
+
+pub returns-in_err-kind-in-Ignored-clause-stops : goal.returns-in_err-kind-in-Ignored-clause-stops
+returns-in_err-kind-in-Ignored-clause-stops c =
+    let step = c.in_err-kind-in-Ignored in
+    let left = c.resolve-in-Ignored.new.spending.budget in
+    rw c.in-Ignored.is (passed_on _ step.field-0.0 c.from_residual-in_err-kind-in-Ignored.result
+    c.from_residual-in_err-kind-in-Ignored.ensures.1
+    (stops_for c.args.cache.now _ _ _ step.field-0.0 (choice_fault c.args.cache.now left step.field-0.0 (inl step.ensures.fault))
+    (λ same. inl (choice_spent c.args.cache.now left step.field-0.0 (inl step.ensures.fault) same)) (λ b enough.
+    let globs = suffices_globs c.args.cache.now c.args.question.now.name.now (bytes_of c.args.front ≡ None) b ContentOnly enough.0 in
+    absurd (step.ensures.answer b globs.offsets globs.header globs.aliases))))
+
+pub returns-in_err-kind-in-Ignored-clause-cost : goal.returns-in_err-kind-in-Ignored-clause-cost
+returns-in_err-kind-in-Ignored-clause-cost c =
+    costs_sniffed (length c.args.question.now.name.now) _ c.in_ok-finding.ensures.cost (costs_looks 256 0 c.resolve-in-Ignored.ensures.cost)
+    (omega arith) (omega arith)
+
+pub returns-in_ok-kind-in-Ignored-clause-chosen : goal.returns-in_ok-kind-in-Ignored-clause-chosen
+returns-in_ok-kind-in-Ignored-clause-chosen c =
+    rw c.in-Ignored.is (λ b enough leaves.
+    let globs = suffices_globs c.args.cache.now c.args.question.now.name.now (bytes_of c.args.front ≡ None) b ContentOnly enough in
+    by_finding b c.args.question.now.name.now c.args.question.now.host (plain_finding c.in_ok-finding.finding) (Some _) c.in_ok-kind-in-Ignored.kind.now
+    (c.in_ok-finding.ensures.found b (suffices_content c.args.cache.now c.args.question.now.name.now (bytes_of c.args.front ≡ None) b Ignored leaves enough))
+    (c.in_ok-kind-in-Ignored.ensures.answer b globs.offsets globs.header globs.aliases))
+
+pub returns-in_ok-kind-in-Ignored-clause-near : goal.returns-in_ok-kind-in-Ignored-clause-near
+returns-in_ok-kind-in-Ignored-clause-near c =
+    rw c.in-Ignored.is (λ b globs leaves decide.
+    let none = decide_unavailable b c.args.question.now.name.now _ decide in
+    omega (
+      arith,
+      c.resolve-in-Ignored.ensures.cost.looks.most_nodes,
+      ap (λ (spending : Spending). spending.meter.nodes) (c.in_ok-finding.ensures.nothing none),
+    ))
+
+pub returns-in_ok-kind-in-Ignored-clause-cost : goal.returns-in_ok-kind-in-Ignored-clause-cost
+returns-in_ok-kind-in-Ignored-clause-cost c =
+    costs_sniffed (length c.args.question.now.name.now) _ c.in_ok-finding.ensures.cost (costs_looks 256 0 c.resolve-in-Ignored.ensures.cost)
+    (omega arith) (omega arith)

@@ -1,6 +1,6 @@
 use Rattle.std.proofs.Common.{inl, arith}
 use Rattle.mime_lookup.specs.StepFaults.{of_globs}
-use Rattle.mime_lookup.proofs.OrderLemmas.ByNames.{costs_passed, gives_all, gives_one, gives_others}
+use Rattle.mime_lookup.proofs.OrderLemmas.ByNames.{costs_passed, gives_all, gives_nothing, gives_one, gives_others}
 use Rattle.mime_lookup.proofs.StopLemmas.StepStops.{passed_on, stops_for}
 use Rattle.mime_lookup.proofs.CostLemmas.UsedUp.{globs_spent}
 use Rattle.mime_lookup.proofs.cached.by_name.by_name.Goals as goal
@@ -59,3 +59,6 @@ returns-in-Others-clause-costs c =
 
 pub returns-in-MagicFirst-clause-gives : goal.returns-in-MagicFirst-clause-gives
 returns-in-MagicFirst-clause-gives c b globs = gives_all b c.args.question.now.name.now c.args.question.now.order c.in-MagicFirst.is
+
+pub returns-in-ContentOnly-clause-gives : goal.returns-in-ContentOnly-clause-gives
+returns-in-ContentOnly-clause-gives c b globs = gives_nothing b c.args.question.now.name.now c.args.question.now.order c.in-ContentOnly.is

@@ -1,17 +1,17 @@
 use Rattle.std.proofs.Common.{◌≡◌, nat_le, inl, length, refl, true}
 use Rattle.std.proofs.lemmas.Bool.{leb-true}
 use Rattle.mime_lookup.proofs.LookUpLemmas.SpelledParts.{spelled_globs}
-use Rattle.mime_tool.specs.Line.{base_name}
+use Rattle.mime_tool.specs.Line.{name_for}
 use Rattle.mime_tool.proofs.AnswerLemmas.CachedLines.{line_found}
 use Rattle.mime_tool.proofs.AnswerLemmas.CachedStops.{fits_unless, line_refused, not_too_long, read_or_memory}
 use Rattle.mime_tool.proofs.line.lookup.find_in_cache.Goals as goal
 
 pub returns-in-Ok : goal.returns-in-Ok
 returns-in-Ok g c =
-    let is : c.base_name-name.result.now ≡ base_name c.args.file.now = rw c.as_bytes.ensures.value at c.base_name-name.ensures in
+    let is : c.name_for-name.result.now ≡ name_for c.args.order c.args.file.now = rw c.as_bytes.ensures.value at c.name_for-name.ensures in
     let found = rw (is, c.new-cache.ensures) at c.in-Ok.ensures in
     let answer = c.in-Ok.answer in
-    let fit = fits_unless (base_name c.args.file.now) _ refl (λ long. let bad = (found.stops.too_long long).1 in cc) in
+    let fit = fits_unless (name_for c.args.order c.args.file.now) _ refl (λ long. let bad = (found.stops.too_long long).1 in cc) in
     λ stored name_only output. line_found g.R.Read.remaining g.R.Content.health c.args.path.now c.args.bytes.now c.args.cost output
     c.args.order c.args.file.now c.args.content
     c.look_up.new.content answer.kind.now answer.meter answer.read _ c.cost_of.ensures fit found.answers.allowed found.costs.bounds
@@ -20,9 +20,9 @@ returns-in-Ok g c =
 
 pub returns-in-Cache : goal.returns-in-Cache
 returns-in-Cache g c =
-    let is : c.base_name-name.result.now ≡ base_name c.args.file.now = rw c.as_bytes.ensures.value at c.base_name-name.ensures in
+    let is : c.name_for-name.result.now ≡ name_for c.args.order c.args.file.now = rw c.as_bytes.ensures.value at c.name_for-name.ensures in
     let found = rw (is, c.new-cache.ensures) at c.in-Err.ensures in
-    let name = base_name c.args.file.now in
+    let name = name_for c.args.order c.args.file.now in
     let fit : nat_le (length name) 4096 ≡ true = fits_unless name _ refl
     (λ long. not_too_long c.in-Err.stopped _ c.in-Cache.fault refl (found.stops.too_long long).1 c.in-Cache.is) in
     λ stored name_only output. line_refused g.R.Read.remaining g.R.Content.health c.args.path.now c.args.bytes.now c.args.cost output

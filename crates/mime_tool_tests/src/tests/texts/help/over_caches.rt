@@ -100,8 +100,8 @@ Example:
 const TYPE_HELP: &str = "\
 Prints FILE: TYPE for each FILE, by a cache
 
-Usage: mimelook type [-c CACHE | -d DIRS] [--name-only] [--magic-first] [--cost]
-                     [-0] [-b] [--escape] FILE...
+Usage: mimelook type [-c CACHE | -d DIRS] [--name-only | --content-only]
+                     [--magic-first] [--cost] [-0] [-b] [--escape] FILE...
 
 Arguments:
   <FILE>...  The files to tell the types of; put -- before one that begins
@@ -113,6 +113,8 @@ Options:
                           between them, such as /usr/local/share:/usr/share; an
                           empty part is skipped
       --name-only         Go by the names alone: no FILE is opened
+      --content-only      Go by the contents alone: no name is looked at; not with
+                          --magic-first
       --magic-first       Let content of high priority (80 or more) decide
                           before names
       --cost              Print behind each TYPE what the answer cost: nodes=N,

@@ -65,8 +65,8 @@ const TYPE_ALONE: &str = "\
 error: the following required arguments were not provided:
   <FILE>...
 
-Usage: mimelook type [-c CACHE | -d DIRS] [--name-only] [--magic-first] [--cost]
-                     [-0] [-b] [--escape] FILE...
+Usage: mimelook type [-c CACHE | -d DIRS] [--name-only | --content-only]
+                     [--magic-first] [--cost] [-0] [-b] [--escape] FILE...
 
 For more information, try '--help'.
 ";
@@ -75,8 +75,8 @@ const NO_FILE_OF_TYPE: &str = "\
 error: the following required arguments were not provided:
   <FILE>...
 
-Usage: mimelook type [-c CACHE | -d DIRS] [--name-only] [--magic-first] [--cost]
-                     [-0] [-b] [--escape] FILE...
+Usage: mimelook type [-c CACHE | -d DIRS] [--name-only | --content-only]
+                     [--magic-first] [--cost] [-0] [-b] [--escape] FILE...
 
 For more information, try '--help'.
 ";
@@ -84,8 +84,8 @@ For more information, try '--help'.
 const COST_TWICE: &str = "\
 error: the argument '--cost' cannot be used multiple times
 
-Usage: mimelook type [-c CACHE | -d DIRS] [--name-only] [--magic-first] [--cost]
-                     [-0] [-b] [--escape] FILE...
+Usage: mimelook type [-c CACHE | -d DIRS] [--name-only | --content-only]
+                     [--magic-first] [--cost] [-0] [-b] [--escape] FILE...
 
 For more information, try '--help'.
 ";
@@ -106,7 +106,15 @@ Usage: mimelook <COMMAND>
 For more information, try '--help'.
 ";
 
-static MISTAKES: [Row<'static>; 13] = [
+const CONTENT_AND_ORDER: &str = "\
+error: give --content-only without --name-only and --magic-first
+
+Usage: mimelook <COMMAND>
+
+For more information, try '--help'.
+";
+
+static MISTAKES: [Row<'static>; 15] = [
     Row {
         name: "escapes and zero bytes",
         words: &["type", "--escape", "--null", "-c", "c", "x"],
@@ -123,6 +131,18 @@ static MISTAKES: [Row<'static>; 13] = [
         name: "cost and TYPE alone",
         words: &["type", "-b", "--cost", "-c", "c", "x"],
         err: COST_OF_BRIEF,
+        ..SAID
+    },
+    Row {
+        name: "contents alone and names alone",
+        words: &["type", "--content-only", "--name-only", "-c", "c", "x"],
+        err: CONTENT_AND_ORDER,
+        ..SAID
+    },
+    Row {
+        name: "contents alone and magic first",
+        words: &["plain", "--magic-first", "--content-only", "x"],
+        err: CONTENT_AND_ORDER,
         ..SAID
     },
     Row {
