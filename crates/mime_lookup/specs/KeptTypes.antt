@@ -7,9 +7,9 @@ use Rattle.mime_lookup.specs.Cached.{IsKept, others_count}
 use Rattle.mime_lookup.specs.Choice.{kept}
 use Rattle.mime_lookup.specs.Costs.{glob_cost}
 use Rattle.mime_lookup.specs.declared.cached.kept.KeptTypes.{KeptTypes}
-use Rattle.mime_view.specs.Hits.{Charged, near}
+use Rattle.mime_view.specs.Hits.{near}
 use Rattle.mime_view.specs.NameHits.{near_records}
-use Rattle.mime_view.specs.Spending.{Gives}
+use Rattle.mime_view.specs.Spending.{Gives, Spends, per_record}
 use Rattle.mime_view.specs.declared.fault.CacheFault.{CacheFault}
 use Rattle.mime_view.specs.declared.fault.CacheFault.TheVariants.{OutOfMemory}
 use Rattle.mime_view.specs.declared.spending.Spending.{Spending}
@@ -37,7 +37,7 @@ pub record CostsKinds (name : ℕ) (old new : Spending) (result : Result (List (
   -- Each was paid for by a record.
   pub paid : found + new.budget.records ≤ old.budget.records
   -- The search is charged, with 29 nodes for each step.
-  pub cost : Charged (256 * (name + 3)) (glob_cost name + 29 * found) old.budget new.budget old.meter new.meter
+  pub cost : Spends (per_record (256 * (name + 3))) (glob_cost name + 29 * found) (256 * (glob_cost name + 29 * found)) old new
 
 -- What is given as the types that are kept, where the glob rules of a database stand.
 pub record GivesTypes (b : PlainDatabase) (name : List ℕ) (old new : Spending) (result : Result KeptTypes CacheFault) : Type 0 where

@@ -1,4 +1,3 @@
 -- Lemmas on what steps cost.
 pub mod Costs
-pub mod Charges
 pub mod VisitCounts

@@ -11,8 +11,6 @@ use Rattle.mime_base.specs.Matching.Folding.{compared}
 use Rattle.mime_base.specs.Matching.Matches.{rule_matches}
 use Rattle.mime_base.specs.Meter.{raised}
 use Rattle.mime_base.specs.declared.database.rule.GlobRule.{GlobRule}
-use Rattle.mime_base.specs.declared.meter.Meter.{Meter}
-use Rattle.mime_view.specs.declared.budget.Budget.{Budget}
 use Rattle.mime_view.specs.declared.hits.Case.{Case}
 use Rattle.mime_view.specs.declared.hits.Case.TheVariants.{Both, Exact, Folded}
 use Rattle.mime_view.specs.declared.spending.Spending.{Spending}
@@ -111,21 +109,3 @@ near name rules = length (filter (λ rule. is_in_globs rule || rule_matches rule
 -- no more rules are kept for a name than are near it
 abbrev pub KeptAreNear : Type 0
 KeptAreNear = (name : List ℕ) (rules : List GlobRule) → length (kept_rules rules name) ≤ near name rules
-
--- What a search for hits costs: each record adds one node and at most `each` bytes, and `more` nodes come besides, each
--- with at most 256 bytes.
-pub record Charged (each more : ℕ) (old new : Budget) (before after : Meter) : Type 0 where
-  -- Records are taken, and never given back.
-  pub records : new.records ≤ old.records
-  -- No value byte is taken.
-  pub value_bytes : new.value_bytes ≡ old.value_bytes
-  -- The meter's nodes never fall.
-  pub rises : before.nodes ≤ after.nodes
-  -- No more nodes are added than records are taken, and those that come besides.
-  pub nodes : after.nodes + new.records ≤ before.nodes + old.records + more
-  -- Each record that is taken adds a node, until the sum stops.
-  pub fair : raised before.nodes old.records ≤ after.nodes + new.records
-  -- The meter's bytes never fall.
-  pub bytes_rise : before.bytes ≤ after.bytes
-  -- No more bytes are added than the records and the other nodes are worth.
-  pub bytes : after.bytes + each * new.records ≤ before.bytes + each * old.records + 256 * more

@@ -6,11 +6,8 @@ use Rattle.mime_base.specs.Cache.Bytes.{field}
 use Rattle.mime_base.specs.Cache.Texts.{text_at}
 use Rattle.mime_base.specs.Format.Sorted.{IsSortedByText}
 use Rattle.mime_base.specs.Format.Stored.{glob_rules, literal_rules, reversed_ending, stored_text, tree_rules}
-use Rattle.mime_base.specs.Meter.{raised}
 use Rattle.mime_base.specs.declared.database.rule.GlobRule.{GlobRule}
-use Rattle.mime_base.specs.declared.meter.Meter.{Meter}
 use Rattle.mime_view.specs.Spending.{Spends, per_record}
-use Rattle.mime_view.specs.declared.budget.Budget.{Budget}
 use Rattle.mime_view.specs.declared.fault.CacheFault.{CacheFault}
 use Rattle.mime_view.specs.declared.rules.listing.Listed.{Listed}
 use Rattle.mime_view.specs.declared.rules.row.Row.{Row}
@@ -61,16 +58,6 @@ pub record IsListing (rules : List GlobRule) (listed : List PlainListed) : Type 
 -- a type that is a text of the cache, and a pattern of at most 255 bytes
 abbrev pub IsListed : List ℕ → PlainListed → Type 0
 IsListed c listed = ((place : ℕ) × (text_at c place ≡ Ok listed.kind)) × (length listed.pattern < 256)
-
--- What a listing costs: each record adds one node and at most 512 bytes, and so many nodes come besides.
-pub record Lists (more : ℕ) (old new : Budget) (before after : Meter) : Type 0 where
-  pub records : new.records ≤ old.records
-  pub value_bytes : new.value_bytes ≡ old.value_bytes
-  pub rises : before.nodes ≤ after.nodes
-  pub nodes : after.nodes + new.records ≤ before.nodes + old.records + more
-  pub fair : raised before.nodes old.records ≤ after.nodes + new.records
-  pub bytes_rise : before.bytes ≤ after.bytes
-  pub bytes : after.bytes + 512 * new.records ≤ before.bytes + 512 * old.records
 
 -- A row that is taken from the record at `at`.
 pub record IsRow (c : List ℕ) (at : ℕ) (old new : Spending) (row : Row) : Type 0 where

@@ -8,8 +8,6 @@ use Rattle.mime_base.specs.Format.Magic.{line_count, width}
 use Rattle.mime_base.specs.Format.Packed.{forest_value_length, matchlet_count, value_length}
 use Rattle.mime_base.specs.Magic.{Forest, PlainLine, PlainSection, are_allowed, are_allowed_sections, bare, line}
 use Rattle.mime_base.specs.Magic.Holds.{bytes_of_mask, equals_from, first_magic, some_holds}
-use Rattle.mime_base.specs.Meter.{raised}
-use Rattle.mime_base.specs.declared.meter.Meter.{Meter}
 use Rattle.mime_view.specs.Lists.{IsTextFault}
 use Rattle.mime_view.specs.Spending.{Price, Spends}
 use Rattle.mime_view.specs.declared.budget.Budget.{Budget}
@@ -111,21 +109,9 @@ pub record Ends {X : Type 0} (Fault : Budget → CacheFault → Type 0) (price :
 abbrev pub line_price : MagicQuery → Price
 line_price query = record { nodes = 1; bytes = 0; value_byte = length query.content.now + 1 }
 
--- a section costs the text of its type besides
-abbrev pub section_price : MagicQuery → Price
-section_price query = record { nodes = 1; bytes = 256; value_byte = length query.content.now + 1 }
-
--- What a search of magic costs, for a content of so many bytes: each record adds one node and at most so many bytes of
--- texts, each value byte at most one byte more than the content has, and so many nodes come besides.
-pub record Paid (content texts more : ℕ) (old new : Budget) (before after : Meter) : Type 0 where
-  pub records : new.records ≤ old.records
-  pub value_bytes : new.value_bytes ≤ old.value_bytes
-  pub rises : before.nodes ≤ after.nodes
-  pub nodes : after.nodes + new.records ≤ before.nodes + old.records + more
-  pub fair : raised before.nodes old.records ≤ after.nodes + new.records
-  pub bytes_rise : before.bytes ≤ after.bytes
-  pub bytes : after.bytes + (content + 1) * new.value_bytes + texts * new.records
-      ≤ before.bytes + (content + 1) * old.value_bytes + texts * old.records
+-- a section costs the text of its type besides; so a search of magic does, for a content of so many bytes
+abbrev pub magic_price : ℕ → Price
+magic_price content = record { nodes = 1; bytes = 256; value_byte = content + 1 }
 
 -- what was seen of a line names its children
 pub record NamesChildren (c : List ℕ) (at : ℕ) (seen : Seen) : Type 0 where

@@ -18,8 +18,7 @@ ghost use Rattle.mime_base.specs.Format.Packed.{matchlet_count, value_length};
 ghost use Rattle.mime_base.specs.Magic.{PlainSection, are_allowed_sections};
 ghost use Rattle.mime_base.specs.Magic.Holds.{first_magic};
 ghost use Rattle.mime_base.specs.declared.database.rule.GlobRule.{GlobRule};
-ghost use Rattle.mime_view.specs.Hits.{Charged};
-ghost use Rattle.mime_view.specs.Magic.{Answers, IsMagicFault, Paid, plain_found};
+ghost use Rattle.mime_view.specs.Magic.{Answers, IsMagicFault, magic_price, plain_found};
 ghost use Rattle.mime_base.specs.Magic.Extent.{sections_extent};
 ghost use Rattle.mime_view.specs.Lists.{IsSearchFault};
 ghost use Rattle.mime_view.specs.NameHits.{GivesHits, GivesTexts, IsHitsFault, SpellsRules};
@@ -27,7 +26,7 @@ ghost use Rattle.mime_view.specs.Pairs.{IsSecondName, IsUnaliased, looked_up};
 ghost use Rattle.mime_view.specs.Parents.{IsGiven, StopsParents, TakesParents, is_marked, unmarked_parents};
 ghost use Rattle.mime_view.specs.Spending.{Gives, Looks, Spends, per_record, spending_of};
 ghost use Rattle.mime_view.specs.Opening.{IsOpenFault, Opens};
-ghost use Rattle.mime_view.specs.Listing.{IsListed, IsListing, Lists, plain_listed};
+ghost use Rattle.mime_view.specs.Listing.{IsListed, IsListing, plain_listed};
 ghost use Rattle.mime_view.specs.Listing.Faults.{IsListingFault};
 
 use crate::budget::Budget;
@@ -153,8 +152,9 @@ impl<'a> Cache<'a> {
         ensures fault { IfErr result
             (IsHitsFault self.now (field self.now 0 3) (field self.now 0 4) (field self.now 0 5) budget.new) }
         // A record costs as in the glob list, and the text of a type; the halving comes besides, for both cases.
-        ensures cost { Charged (256 * (length name.now + 3)) (29 * (2 * length name.now + 2) + 1)
-            budget.old budget.new meter.old meter.new }
+        ensures cost { let halving = 29 * (2 * length name.now + 2) + 1 in
+            Spends (per_record (256 * (length name.now + 3))) halving (256 * halving)
+            (spending_of meter.old budget.old) (spending_of meter.new budget.new) }
     {
         let lists = RuleLists {
             literals: self.header[3],
@@ -332,7 +332,8 @@ impl<'a> Cache<'a> {
         // A fault is one of the list, of a section or a line, or the budget is spent.
         ensures fault { IfErr result (IsMagicFault self.now (field self.now 0 6) budget.new) }
         // A record costs one node and one text, a value byte one comparison for each place of the content; one node comes besides.
-        ensures cost { Paid (length content.now) 256 1 budget.old budget.new meter.old meter.new }
+        ensures cost { Spends (magic_price (length content.now)) 1 0
+            (spending_of meter.old budget.old) (spending_of meter.new budget.new) }
     {
         let query = MagicQuery {
             counted: &self.counted,
@@ -401,7 +402,8 @@ impl<'a> Cache<'a> {
         // A fault is one of the lists, of the tree or of a text, or the budget is spent, or memory is short.
         ensures fault { IfErr result (IsListingFault self.now budget.new.records) }
         // A record costs one node and two texts; four nodes come besides.
-        ensures cost { Lists 4 budget.old budget.new meter.old meter.new }
+        ensures cost { Spends (per_record 512) 4 0
+            (spending_of meter.old budget.old) (spending_of meter.new budget.new) }
     {
         let literals = u64::from(self.header[3]);
         let tree = u64::from(self.header[4]);

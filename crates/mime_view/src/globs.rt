@@ -13,6 +13,7 @@ ghost use Rattle.mime_view.specs.Lists.{IsTextFault};
 ghost use Rattle.mime_view.specs.Steps.{FindsRules, IsEntriesFault, Searches};
 
 use crate::fault::CacheFault;
+use crate::flags::weight_and_case;
 use crate::list::count_at;
 use crate::query::{Progress, Query};
 use mime_base::{begins_otherwise, class_of_bytes, glob_matches, rank_of};
@@ -68,7 +69,7 @@ fn take_glob(query: &Query<'_, '_>, at: u64, progress: &mut Progress) -> Result<
     let pattern = query
         .counted
         .text_at(u64::from(text), &mut progress.spending.meter)?;
-    let cased = flags / 256 % 2 == 1;
+    let (_, cased) = weight_and_case(flags);
     if begins_otherwise(pattern, cased, query.key) {
         progress.spending.meter.add_bytes(1);
         return Ok(());
@@ -92,10 +93,6 @@ fn rank_of_entry(pattern: &[u8], flags: u32) -> u32
     // Its class, weight, length and flag, in this order.
     ensures { result ≡ rank (class_of pattern.now) (flags % 256) (length pattern.now) (flags / 256 % 2 == 1) }
 {
-    rank_of(
-        class_of_bytes(pattern),
-        (flags % 256) as u8,
-        pattern.len() as u16,
-        flags / 256 % 2 == 1,
-    )
+    let (weight, cased) = weight_and_case(flags);
+    rank_of(class_of_bytes(pattern), weight, pattern.len() as u16, cased)
 }

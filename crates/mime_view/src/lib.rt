@@ -20,6 +20,7 @@ mod budget;
 mod cache;
 mod entry;
 mod fault;
+mod flags;
 mod globs;
 mod hits;
 mod kinds;

@@ -20,15 +20,13 @@ ghost use Rattle.mime_view.specs.Literals.{AreRun, IsLiteral, ReadsRule, ReadsRu
 ghost use Rattle.mime_view.specs.Steps.{FindsRules, IsEntriesFault, Searches};
 
 use crate::fault::CacheFault;
+use crate::flags::weight_and_case;
 use crate::hits::{Case, Hits};
 use crate::list::count_at;
 use crate::query::{Progress, Query};
 use crate::search::seek;
 use mime_base::{Class, rank_of};
 use std::cmp::Ordering;
-
-/// The flag of a case-sensitive rule, above the weight.
-const CASED: u32 = 0x100;
 
 /// Offers the rules of the literal list at `at` whose stored text is the key, if the case takes them.
 ///
@@ -159,10 +157,9 @@ fn offer_entry(
     // Only memory can be short.
     ensures fault { IfErr result (λ e. e ≡ CacheFault.OutOfMemory) }
 {
-    let cased = flags / CASED % 2 == 1;
+    let (weight, cased) = weight_and_case(flags);
     if !case.takes_rule(cased) {
         return Ok(());
     }
-    let weight = (flags % CASED) as u8;
     hits.offer(rank_of(Class::Literal, weight, size, cased), kind)
 }

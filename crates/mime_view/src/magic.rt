@@ -18,7 +18,7 @@ ghost use Rattle.mime_base.specs.Magic.{Forest, PlainLine, PlainSection, bare, l
 ghost use Rattle.mime_view.specs.Magic.{AnswersLine, AnswersLines, AnswersSections, Ends, NamesChildren, NamesText};
 ghost use Rattle.mime_view.specs.Magic.{IsBlockFault, IsLineFault, IsLinesFault, IsMagicFault, IsSectionFault};
 ghost use Rattle.mime_view.specs.Magic.{LiesBlock, ReadsLine, ReadsLines, ReadsMagic, ReadsSection};
-ghost use Rattle.mime_view.specs.Magic.{line_price, section_price};
+ghost use Rattle.mime_view.specs.Magic.{line_price, magic_price};
 ghost use Rattle.mime_view.specs.Spending.{Spends};
 
 use crate::fault::CacheFault;
@@ -51,7 +51,7 @@ pub fn sniff<'a>(
     // A type that is given is a text of the cache.
     ensures text { IfOk result (NamesText query.now.counted.now) }
     // On any bytes: why there is no answer, and what the call costs.
-    ensures ends { Ends (IsMagicFault query.now.counted.now at) (section_price query.now) 1 spending.old spending.new result }
+    ensures ends { Ends (IsMagicFault query.now.counted.now at) (magic_price (length query.now.content.now)) 1 spending.old spending.new result }
 {
     let mut own = *spending;
     let result = sniff_sections(query, at, &mut own);
@@ -72,7 +72,7 @@ fn sniff_sections<'a>(
     // A type that is given is a text of the cache.
     ensures text { IfOk result (NamesText query.now.counted.now) }
     // On any bytes: why there is no answer, and what the call costs.
-    ensures ends { Ends (IsMagicFault query.now.counted.now at) (section_price query.now) 1 spending.old spending.new result }
+    ensures ends { Ends (IsMagicFault query.now.counted.now at) (magic_price (length query.now.content.now)) 1 spending.old spending.new result }
 {
     let counted = query.counted;
     let [count, _, first] = counted.cards::<3>(u64::from(at), &mut spending.meter)?;
@@ -103,7 +103,7 @@ fn take_section<'a>(
     // A type that is given is a text of the cache.
     ensures text { IfOk result (NamesText query.now.counted.now) }
     // On any bytes: why there is no answer, and what the step costs.
-    ensures ends { Ends (IsSectionFault query.now.counted.now) (section_price query.now) 0 spending.old spending.new result }
+    ensures ends { Ends (IsSectionFault query.now.counted.now) (magic_price (length query.now.content.now)) 0 spending.old spending.new result }
 {
     spending.budget.take_record()?;
     let counted = query.counted;

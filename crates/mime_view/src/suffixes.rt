@@ -26,6 +26,7 @@ ghost use Rattle.mime_view.specs.SuffixTree.{IsCharacterPlace, IsChildFault, IsS
 ghost use Rattle.mime_view.specs.SuffixTree.{ReadsBlock, ReadsLeaf, admitted, below_character, scan_visits};
 
 use crate::fault::CacheFault;
+use crate::flags::weight_and_case;
 use crate::query::{Progress, Query};
 use mime_base::{Class, Counted, Meter, rank_of};
 
@@ -257,8 +258,7 @@ fn offer_leaf(
     if character != 0 {
         return Ok(false);
     }
-    let weight = (flags % 0x100) as u8;
-    let cased = flags / 0x100 % 2 == 1;
+    let (weight, cased) = weight_and_case(flags);
     if query.case.takes_rule(cased) {
         let rank = rank_of(Class::Suffix, weight, pattern_length, cased);
         progress.hits.offer(rank, kind)?;

@@ -2,13 +2,11 @@
 use Rattle.std.proofs.Common.{◌≡◌, ◌∙◌, ℕ, ◌+◌, ◌-◌, ◌*◌, ◌≤◌, ap, arith, refl}
 use Rattle.std.proofs.Math.Nat.{mul-le-mul_left}
 use Rattle.mime_lookup.specs.Costs.{Costs, CostsOwing, LooksAt, glob_cost, lookup_price, record_cost}
-use Rattle.mime_view.proofs.CostLemmas.Costs.{spends_looks}
-use Rattle.mime_view.specs.Hits.{Charged}
-use Rattle.mime_view.specs.Magic.{Paid}
-use Rattle.mime_view.specs.Spending.{Looks}
+use Rattle.mime_view.proofs.CostLemmas.Costs.{spends_looks, spends_then, spends_within}
+use Rattle.mime_view.specs.Magic.{magic_price}
+use Rattle.mime_view.specs.Spending.{Looks, Spends, per_record}
 use Rattle.mime_view.specs.declared.budget.Budget.{Budget}
 use Rattle.mime_view.specs.declared.spending.Spending.{Spending}
-use Rattle.mime_base.specs.declared.meter.Meter.{Meter}
 
 -- a look at records
 pub costs_looks : (each value : ℕ) {nodes : ℕ} {old new : Spending} → LooksAt nodes old new → Costs each value nodes old new
@@ -85,37 +83,32 @@ costs_halves {each} {value} {owed} {more} first second third =
     costs_owed (more + 31) (owing_wider value first) (costs_then (31 + owed) (costs_looks each value second) third (omega arith)) (omega arith)
 
 -- a search of magic
-pub costs_paid : (content : ℕ) (old new : Spending) → Paid content 256 1 old.budget new.budget old.meter new.meter
-    → Costs 256 (content + 1) 1 old new
-costs_paid content old new is = record {
+pub costs_magic : (content : ℕ) (old new : Spending) → Spends (magic_price content) 1 0 old new → Costs 256 (content + 1) 1 old new
+costs_magic content old new is = record {
   records = is.records;
   value_bytes = is.value_bytes;
-  untouched = λ free. absurd (omega (arith, free));
+  untouched = is.untouched;
   rises = is.rises;
   bytes_rise = is.bytes_rise;
-  most_nodes = omega (arith, is.nodes, is.records);
-  most_bytes = omega (arith, is.bytes);
+  most_nodes = omega (arith, is.most_nodes, is.records);
+  most_bytes = omega (arith, is.most_bytes);
   fair = is.fair;
 }
 
 -- a search for types, and then so many alias steps
-pub charged_steps : {each more : ℕ} {old mid new : Budget} {before hits after : Meter} (steps : ℕ) → Charged each more old mid before hits
-    → new ≡ mid → Looks (29 * steps) (256 * 29 * steps) hits after → Charged each (more + 29 * steps) old new before after
-charged_steps steps first same looks =
-    let records = ap (λ (budget : Budget). budget.records) same in
-    record {
-      records = omega (arith, first.records, records);
-      value_bytes = ap (λ (budget : Budget). budget.value_bytes) same ∙ first.value_bytes;
-      rises = omega (arith, first.rises, looks.rises);
-      nodes = omega (arith, first.nodes, looks.most_nodes, records);
-      fair = omega (arith, first.fair, looks.rises, records);
-      bytes_rise = omega (arith, first.bytes_rise, looks.bytes_rise);
-      bytes = rw records (omega (arith, first.bytes, looks.most_bytes));
-    }
+pub spends_steps : {each more : ℕ} {old mid new : Spending} (steps : ℕ) → Spends (per_record each) more (256 * more) old mid
+    → new.budget ≡ mid.budget → Looks (29 * steps) (256 * 29 * steps) mid.meter new.meter
+    → Spends (per_record each) (more + 29 * steps) (256 * (more + 29 * steps)) old new
+spends_steps {each} {more} {old} {mid} {new} steps first same looks =
+    let second = spends_looks (per_record each) (29 * steps) (256 * 29 * steps) mid new same looks in
+    spends_within (per_record each) (more + 29 * steps) (256 * more + 256 * 29 * steps) (more + 29 * steps)
+    (256 * (more + 29 * steps)) old new (omega arith) (omega arith)
+    (spends_then (per_record each) more (256 * more) (29 * steps) (256 * 29 * steps) old mid new first second)
 
 -- a search for types with an alias step for each; where they are tested, another step for each is kept back
 pub costs_kinds : (name found kinds : ℕ) (old hits new : Spending) → found + hits.budget.records ≤ old.budget.records → kinds ≤ found
-    → Charged (256 * (name + 3)) (glob_cost name + 29 * found) old.budget hits.budget old.meter hits.meter → new.budget ≡ hits.budget
+    → Spends (per_record (256 * (name + 3))) (glob_cost name + 29 * found) (256 * (glob_cost name + 29 * found)) old hits
+    → new.budget ≡ hits.budget
     → new.meter.nodes ≡ hits.meter.nodes → hits.meter.bytes ≤ new.meter.bytes → new.meter.bytes ≤ hits.meter.bytes + 256 * kinds
     → CostsOwing (29 * kinds) (record_cost name) 0 (glob_cost name) old new
 costs_kinds name found kinds old hits new paid few is same nodes rises bytes =
@@ -125,13 +118,13 @@ costs_kinds name found kinds old hits new paid few is same nodes rises bytes =
       alone = record {
         records = omega (arith, is.records, records);
         value_bytes = omega (arith, is.value_bytes, value_bytes);
-        untouched = λ free. omega (arith, is.value_bytes, value_bytes);
+        untouched = λ free. value_bytes ∙ is.untouched refl;
         rises = omega (arith, is.rises, nodes);
         bytes_rise = omega (arith, is.bytes_rise, rises);
-        most_nodes = omega (arith, is.nodes, nodes, records, paid);
-        most_bytes = rw records (omega (arith, is.bytes, bytes, paid, few));
+        most_nodes = omega (arith, is.most_nodes, nodes, records, paid);
+        most_bytes = rw records (omega (arith, is.most_bytes, bytes, paid, few));
         fair = omega (arith, is.fair, nodes, records);
       };
-      nodes = omega (arith, is.nodes, nodes, records, paid, few);
-      bytes = rw records (omega (arith, is.bytes, bytes, paid, few));
+      nodes = omega (arith, is.most_nodes, nodes, records, paid, few);
+      bytes = rw records (omega (arith, is.most_bytes, bytes, paid, few));
     }

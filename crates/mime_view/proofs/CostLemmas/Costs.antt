@@ -1,6 +1,5 @@
 -- What steps cost, one after another.
-use Rattle.std.proofs.Common.{◌≡◌, ℕ, ◌+◌, ◌-◌, ◌*◌, ◌≤◌, ◌∙◌, refl, ap, arith}
-use Rattle.std.proofs.Math.Nat.{mul-le-mul_left}
+use Rattle.std.proofs.Common.{◌≡◌, ℕ, ◌+◌, ◌*◌, ◌≤◌, ◌∙◌, refl, ap, arith}
 use Rattle.mime_view.specs.Spending.{Looks, Price, Spends}
 use Rattle.mime_view.specs.declared.budget.Budget.{Budget}
 use Rattle.mime_view.specs.declared.spending.Spending.{Spending}
@@ -65,22 +64,3 @@ spends_within price nodes bytes more_nodes more_bytes old new wider longer is = 
   most_bytes = omega (arith, is.most_bytes, longer);
   fair = is.fair;
 }
-
--- a record may cost more bytes
-pub spends_dearer : (nodes bytes dear value_byte more_nodes more_bytes : ℕ) (old new : Spending) → bytes ≤ dear
-    → Spends (record { nodes = nodes; bytes = bytes; value_byte = value_byte }) more_nodes more_bytes old new
-    → Spends (record { nodes = nodes; bytes = dear; value_byte = value_byte }) more_nodes more_bytes old new
-spends_dearer nodes bytes dear value_byte more_nodes more_bytes old new cheaper is =
-    let extra : ℕ = dear - bytes in
-    let paid : extra * new.budget.records ≤ extra * old.budget.records = mul-le-mul_left extra is.records in
-    let split : dear ≡ bytes + extra = omega arith in
-    record {
-      records = is.records;
-      value_bytes = is.value_bytes;
-      untouched = is.untouched;
-      rises = is.rises;
-      bytes_rise = is.bytes_rise;
-      most_nodes = is.most_nodes;
-      most_bytes = rw split (omega (arith, is.most_bytes));
-      fair = is.fair;
-    }

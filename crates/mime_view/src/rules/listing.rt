@@ -4,6 +4,7 @@ ghost use Rattle.std.specs.Prelude.{◌≡◌, ◌/◌, ◌%◌, ◌==◌, [], �
 ghost use Rattle.mime_view.specs.Listing.{listed_by, plain_listed};
 
 use crate::fault::CacheFault;
+use crate::flags::weight_and_case;
 use std::alloc::Global;
 use std::marker::Model;
 
@@ -55,11 +56,12 @@ impl<'a> Listing<'a> {
         // Only memory can be short.
         ensures fault { IfErr result (λ e. e ≡ CacheFault.OutOfMemory) }
     {
+        let (weight, cased) = weight_and_case(flags);
         let rule = Listed {
-            weight: (flags % 256) as u8,
+            weight,
             kind,
             pattern,
-            cased: flags / 256 % 2 == 1,
+            cased,
         };
         self.rules.push(rule)?;
         Ok(())

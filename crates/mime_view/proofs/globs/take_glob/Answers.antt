@@ -20,7 +20,8 @@ returns-then-begins_otherwise-clause-finds c = λ rule reads.
           (class_of c.in_ok-pattern.pattern.now) c.cards_within.result c.from.result c.cards_within.ensures.numbers c.from.ensures
           c.in_ok-pattern.ensures.text refl fits reads in
           offers_other c.args.query.now.counted.now c.args.query.now.key.now rule c.args.progress.now.hits
-          (sym states.its_matches ∙ c.begins_otherwise.ensures.other c.if-begins_otherwise.true);
+          (sym states.its_matches
+          ∙ (rw c.weight_and_case-cased.ensures.cased at (c.begins_otherwise.ensures.other c.if-begins_otherwise.true)));
       need = search rules;
       most = omega (arith, c.in_ok-take_record.ensures.taken);
     }
@@ -47,7 +48,8 @@ returns-in_ok-offer-clause-finds c = λ rule reads.
           (class_of c.in_ok-pattern.pattern.now) c.cards_within.result c.from.result c.cards_within.ensures.numbers c.from.ensures
           c.in_ok-pattern.ensures.text refl fits reads in
           offers_match c.args.query.now.counted.now c.args.query.now.key.now rule c.args.progress.now.hits c.offer.new.self
-          (sym states.its_matches ∙ sym c.glob_matches.ensures.answer ∙ c.if-glob_matches.true)
+          (sym states.its_matches
+          ∙ (rw c.weight_and_case-cased.ensures.cased at (sym c.glob_matches.ensures.answer ∙ c.if-glob_matches.true)))
           (c.in_ok-offer.ensures.offered c.args.query.now.counted.now rule (c.rank_of_entry-then-glob_matches.ensures ∙ states.its_rank) states.its_kind);
       need = search rules;
       most = omega (arith, c.in_ok-take_record.ensures.taken);
@@ -61,7 +63,8 @@ returns-else-glob_matches-clause-finds c = λ rule reads.
           (class_of c.in_ok-pattern.pattern.now) c.cards_within.result c.from.result c.cards_within.ensures.numbers c.from.ensures
           c.in_ok-pattern.ensures.text refl fits reads in
           offers_other c.args.query.now.counted.now c.args.query.now.key.now rule c.args.progress.now.hits
-          (sym states.its_matches ∙ sym c.glob_matches.ensures.answer ∙ c.if-glob_matches.false);
+          (sym states.its_matches
+          ∙ (rw c.weight_and_case-cased.ensures.cased at (sym c.glob_matches.ensures.answer ∙ c.if-glob_matches.false)));
       need = search rules;
       most = omega (arith, c.in_ok-take_record.ensures.taken);
     }

@@ -1,4 +1,5 @@
-use Rattle.mime_view.specs.Magic.{section_price}
+use Rattle.std.proofs.Common.{length}
+use Rattle.mime_view.specs.Magic.{magic_price}
 use Rattle.mime_view.proofs.CostLemmas.Costs.{spends_then}
 use Rattle.mime_view.proofs.MagicLemmas.SectionsLeft.{ended, next}
 use Rattle.mime_view.proofs.magic.sniff_sections.Goals as goal
@@ -19,7 +20,7 @@ loop-i-preserved c = record {
   left = λ sections reads.
       let n = next (c.loop-i.invariant.left sections reads) c.loop-i-test.true in
       n.later c.take_section.new.spending (rw c.in-None.is at (c.in_ok-found.ensures.section n.section n.reads));
-  cost = spends_then (section_price c.args.query.now) 1 0 0 0 c.args.spending.now c.loop-i.spending c.take_section.new.spending
+  cost = spends_then (magic_price (length c.args.query.now.content.now)) 1 0 0 0 c.args.spending.now c.loop-i.spending c.take_section.new.spending
       c.loop-i.invariant.cost c.in_ok-found.ensures.ends.cost;
 }
 

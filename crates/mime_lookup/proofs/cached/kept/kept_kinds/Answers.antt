@@ -7,7 +7,7 @@ use Rattle.mime_base.specs.Kept.{kept_rules}
 use Rattle.mime_base.specs.declared.database.rule.GlobRule.{GlobRule}
 use Rattle.mime_lookup.specs.Cached.{IsCacheText}
 use Rattle.mime_lookup.specs.Choice.{kept}
-use Rattle.mime_lookup.proofs.CostLemmas.Costs.{charged_steps}
+use Rattle.mime_lookup.proofs.CostLemmas.Costs.{spends_steps}
 use Rattle.mime_lookup.proofs.CostLemmas.Near.{kept_few}
 use Rattle.mime_lookup.proofs.LookUpLemmas.SpelledParts.{spelled_rules}
 use Rattle.mime_lookup.proofs.StopLemmas.StepStops.{not_given, passed_on}
@@ -33,7 +33,7 @@ returns-in_err-kinds-clause-cost c = record {
   given = not_given _ _ c.from_residual.result c.from_residual.ensures.1;
   paid = omega (arith, c.in_err-kinds.ensures.cost.records);
   cost =
-      charged_steps 0 c.in_err-kinds.ensures.cost refl
+      spends_steps 0 c.in_err-kinds.ensures.cost refl
       (record { rises = omega arith; bytes_rise = omega arith; most_nodes = omega arith; most_bytes = omega arith });
 }
 
@@ -58,7 +58,7 @@ returns-in_err-kind-clause-cost c =
       found = c.loop-place.place + 1;
       given = not_given _ _ c.from_residual-in_err-kind.result c.from_residual-in_err-kind.ensures.1;
       paid = omega (arith, first, c.loop-place-test.true, c.in_ok-kinds.ensures.texts.count, records);
-      cost = charged_steps (c.loop-place.place + 1) c.in_ok-kinds.ensures.cost (stays ∙ c.loop-place.invariant.budget) (record {
+      cost = spends_steps (c.loop-place.place + 1) c.in_ok-kinds.ensures.cost (stays ∙ c.loop-place.invariant.budget) (record {
         rises = omega (arith, so_far.rises, step.cost.rises);
         bytes_rise = omega (arith, so_far.bytes_rise, step.cost.bytes_rise);
         most_nodes = omega (arith, so_far.most_nodes, step.cost.most_nodes);
@@ -135,7 +135,7 @@ returns-clause-cost c =
       found = length c.loop-place.kinds;
       given = refl;
       paid = omega (arith, i.size, c.in_ok-kinds.ensures.texts.count, records);
-      cost = charged_steps (length c.loop-place.kinds) c.in_ok-kinds.ensures.cost i.budget (record {
+      cost = spends_steps (length c.loop-place.kinds) c.in_ok-kinds.ensures.cost i.budget (record {
         rises = i.cost.rises;
         bytes_rise = i.cost.bytes_rise;
         most_nodes = omega (arith, i.cost.most_nodes, first, i.size, c.loop-place-test.false);

@@ -3,7 +3,7 @@ use Rattle.std.proofs.lemmas.Bool.{true≢false}
 use Rattle.mime_lookup.specs.Finding.{found_by}
 use Rattle.mime_lookup.specs.StepFaults.{of_magic}
 use Rattle.mime_lookup.proofs.OrderLemmas.ByContents.{content_magic}
-use Rattle.mime_lookup.proofs.CostLemmas.Costs.{costs_paid}
+use Rattle.mime_lookup.proofs.CostLemmas.Costs.{costs_magic}
 use Rattle.mime_lookup.proofs.StopLemmas.StepStops.{passed_on, stops_for}
 use Rattle.mime_lookup.proofs.CostLemmas.UsedUp.{sniff_fault_spent}
 use Rattle.mime_lookup.proofs.cached.sniff.sniff_front.Goals as goal
@@ -29,7 +29,7 @@ returns-in_err-section-clause-takes c =
     (c.sniff.ensures.answers spells.offsets b.sections spells.header spells.lines spells.magic).takes.most_records)
 
 pub returns-in_err-section-clause-cost : goal.returns-in_err-section-clause-cost
-returns-in_err-section-clause-cost c = rw c.in-Some.is (costs_paid (length c.in-Some.front.now) _ _ c.sniff.ensures.cost)
+returns-in_err-section-clause-cost c = rw c.in-Some.is (costs_magic (length c.in-Some.front.now) _ _ c.sniff.ensures.cost)
 
 pub returns-clause-found : goal.returns-clause-found
 returns-clause-found c =
@@ -51,4 +51,4 @@ returns-clause-takes c =
     (c.sniff.ensures.answers spells.offsets b.sections spells.header spells.lines spells.magic).takes.most_records)
 
 pub returns-clause-cost : goal.returns-clause-cost
-returns-clause-cost c = rw c.in-Some.is (costs_paid (length c.in-Some.front.now) _ _ c.sniff.ensures.cost)
+returns-clause-cost c = rw c.in-Some.is (costs_magic (length c.in-Some.front.now) _ _ c.sniff.ensures.cost)

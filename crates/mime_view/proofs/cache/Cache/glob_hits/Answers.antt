@@ -2,7 +2,6 @@ use Rattle.std.proofs.Common.{◌≡◌, ℕ, ◌+◌, ◌*◌, List, Ok, get_or
 use Rattle.std.specs.List.{All}
 use Rattle.std.specs.Prelude.{IfOk}
 use Rattle.mime_base.specs.Cache.Texts.{text_at}
-use Rattle.mime_view.proofs.CostLemmas.Charges.{charged}
 use Rattle.mime_view.proofs.ListLemmas.NameLists.{rules_named}
 use Rattle.mime_view.proofs.CostLemmas.VisitCounts.{visits_near, visits_within}
 use Rattle.mime_view.proofs.cache.Cache.glob_hits.Goals as goal
@@ -31,7 +30,3 @@ returns-clause-texts c = record {
       c.self.view_is c.glob_hits-kinds.ensures.gives.text;
   count = c.glob_hits-kinds.ensures.gives.count;
 }
-
-pub returns-clause-cost : goal.returns-clause-cost
-returns-clause-cost c =
-    charged (256 * (length c.args.name.now + 3)) (29 * (2 * length c.args.name.now + 2) + 1) _ _ c.glob_hits-kinds.ensures.cost
