@@ -1,5 +1,5 @@
 -- Why a line gives no answer, from why the line itself or one of its children gives none.
-use Rattle.std.proofs.Common.{◌≡◌, ℕ, suc, ◌+◌, ◌*◌, ◌<◌, ◌≤◌, List, arith, refl, subst, sym}
+use Rattle.std.proofs.Common.{◌≡◌, ℕ, suc, ◌+◌, ◌≤◌, List, arith, refl, sym}
 use Rattle.mime_base.specs.Cache.Bytes.{field}
 use Rattle.mime_view.specs.Magic.{IsLineFault, IsLinesFault, IsOwnFault}
 use Rattle.mime_view.specs.declared.budget.Budget.{Budget}
