@@ -70,7 +70,7 @@ decides b name order P Q f (inr (silent, none)) = inr (silent, f none)
 -- a budget that is used up is so too where there is content for a weaker reason
 used_up_where : {P Q : Type 0} (c : List ℕ) (left : Budget) → (Q → P) → IsUsedUp c P left → IsUsedUp c Q left
 used_up_where c left weaker (inl none) = inl none
-used_up_where c left weaker (inr line) = inr ((λ q. line.0 (weaker q)), line.1, line.2)
+used_up_where c left weaker (inr line) = inr ((λ q. line.0 (weaker q)), line.1, line.2, line.3)
 
 -- what is used up under a condition is so under a stronger one
 uses_up_where : {P Q : Type 0} {c : List ℕ} {nodes : ℕ} → (Q → P) → UsesUp c P nodes → UsesUp c Q nodes

@@ -9,7 +9,7 @@ use Rattle.mime_lookup.specs.Costs.{glob_cost}
 use Rattle.mime_lookup.specs.declared.cached.kept.KeptTypes.{KeptTypes}
 use Rattle.mime_view.specs.Hits.{near}
 use Rattle.mime_view.specs.NameHits.{near_records}
-use Rattle.mime_view.specs.Spending.{Gives}
+use Rattle.mime_view.specs.Spending.{Gives, Spends, per_record}
 use Rattle.mime_view.specs.declared.fault.CacheFault.{CacheFault}
 use Rattle.mime_view.specs.declared.fault.CacheFault.TheVariants.{OutOfMemory}
 use Rattle.mime_view.specs.declared.spending.Spending.{Spending}

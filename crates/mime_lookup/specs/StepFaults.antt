@@ -1,7 +1,7 @@
 -- Why a step of a lookup over a cache gives no answer, with the record or the text that shows it.
 use Rattle.std.specs.Prelude.{◌≡◌, ◌⊎◌, ℕ, ◌+◌, ◌<◌, List, length}
 use Rattle.mime_base.specs.Cache.Bytes.{field}
-use Rattle.mime_view.specs.Lists.{IsListFault, IsTextFault}
+use Rattle.mime_view.specs.Lists.{IsPairsFault}
 use Rattle.mime_view.specs.Magic.{IsMagicFault}
 use Rattle.mime_view.specs.NameHits.{IsHitsFault}
 use Rattle.mime_view.specs.Opening.{IsOpenFault}
@@ -10,9 +10,9 @@ use Rattle.mime_view.specs.declared.budget.Budget.{Budget}
 use Rattle.mime_view.specs.declared.fault.CacheFault.{CacheFault}
 use Rattle.mime_view.specs.declared.fault.CacheFault.TheVariants.{OutOfMemory, OutOfRange}
 
--- of an alias step: the list of aliases, or a text that is compared or given
+-- of an alias step: the list of aliases, or a text that it names
 abbrev pub IsAliasFault : List ℕ → CacheFault → Type 0
-IsAliasFault c e = IsListFault c (field c 0 1) 8 e ⊎ IsTextFault c e
+IsAliasFault c e = IsPairsFault c (field c 0 1) e
 
 -- of the types of a name: the glob rules, or an alias step
 abbrev pub IsGlobsFault : List ℕ → Budget → CacheFault → Type 0
@@ -44,4 +44,4 @@ pub data IsLookUpFault (c : List ℕ) (e : CacheFault) : Type 0 where
 -- of icons: the header, an alias step, or one of the two lists
 abbrev pub IsIconFault : List ℕ → CacheFault → Type 0
 IsIconFault c e =
-    IsOpenFault c e ⊎ IsAliasFault c e ⊎ IsListFault c (field c 0 8) 8 e ⊎ IsListFault c (field c 0 9) 8 e
+    IsOpenFault c e ⊎ IsAliasFault c e ⊎ IsPairsFault c (field c 0 8) e ⊎ IsPairsFault c (field c 0 9) e

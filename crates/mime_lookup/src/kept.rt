@@ -6,7 +6,7 @@ ghost use Rattle.mime_lookup.specs.Ancestry.{kinds_of};
 ghost use Rattle.mime_lookup.specs.Choice.{kept};
 ghost use Rattle.mime_base.specs.Kept.{kept_rules};
 
-use crate::pairs::resolve;
+use crate::pairs::unalias;
 use mime_base::{Best, Database, GlobRule, Meter, OutOfMemory, glob_matches, rank_of_rule};
 use std::alloc::Global;
 
@@ -48,7 +48,7 @@ pub fn kept_kinds<'a>(
     let rules = kept_rules(alloc, &database.rules, name, meter)?;
     let mut kinds = Vec::new(alloc);
     for rule in &rules {
-        kinds.push(resolve(&database.aliases, rule.kind.bytes()))?;
+        kinds.push(unalias(&database.aliases, rule.kind.bytes()))?;
     }
     Ok(kinds)
 }

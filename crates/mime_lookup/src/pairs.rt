@@ -15,7 +15,7 @@ pub fn is_same(left: &[u8], right: &[u8]) -> bool
 }
 
 /// A type after one alias step.
-pub fn resolve<'a>(aliases: &'a [Pair], kind: &'a [u8]) -> &'a [u8]
+pub fn unalias<'a>(aliases: &'a [Pair], kind: &'a [u8]) -> &'a [u8]
     // It is the type after one alias step.
     ensures { result.now ≡ resolved (plain_pairs aliases.entry.now) kind.entry.now }
 {

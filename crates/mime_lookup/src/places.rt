@@ -54,7 +54,7 @@ pub fn places_of<'a>(alloc: Global, pairs: &'a [Pair]) -> Result<Places<'a>, Out
 }
 
 /// A type after one alias step.
-pub fn resolve_at<'a>(aliases: &Places<'a>, kind: &'a [u8]) -> &'a [u8]
+pub fn unalias_at<'a>(aliases: &Places<'a>, kind: &'a [u8]) -> &'a [u8]
     requires indexed { IsPlaced aliases.now }
     // It is the type after one alias step.
     ensures { result.now ≡ resolved (plain_pairs aliases.now.pairs.now) kind.entry.now }
@@ -93,7 +93,7 @@ pub fn push_parents<'a>(
     let mut place = parents.first.get(kind).copied();
     while let Some(here) = place {
         let pair = &pairs[here];
-        queue.push_back(resolve_at(&both.aliases, pair.target.bytes()))?;
+        queue.push_back(unalias_at(&both.aliases, pair.target.bytes()))?;
         place = parents.next[pairs.len() - 1 - here];
     }
     Ok(())

@@ -9,7 +9,7 @@ ghost use Rattle.mime_lookup.specs.Sniffing.{FrontIsEnough, sniffed_by_bytes};
 
 use crate::fixed::{OCTET_STREAM, TEXT_PLAIN, ZERO_SIZE};
 use crate::order::Order;
-use crate::pairs::resolve;
+use crate::pairs::unalias;
 use mime_base::{Database, Host, Meter, Section, looks_textual, some_line_matches};
 
 /// The least priority with which magic comes before the globs.
@@ -47,7 +47,7 @@ pub fn sniff<'a>(
 {
     match first_section(&database.sections, content, host, meter) {
         Some(section) => Sniffed {
-            kind: resolve(&database.aliases, section.kind.bytes()),
+            kind: unalias(&database.aliases, section.kind.bytes()),
             is_high: section.priority >= HIGH_PRIORITY,
         },
         None => Sniffed {

@@ -35,12 +35,12 @@ pub record AreRulesOf (cache : List ℕ) (listed : List PlainListed) : Type 0 wh
   pub texts : All (IsListed cache) listed
 
 -- why the rules of a cache are not listed: its header, or one of its three lists
-abbrev pub IsListFault : List ℕ → CacheFault → Type 0
-IsListFault cache f = IsOpenFault cache f ⊎ ((left : ℕ) × IsListingFault cache left f)
+abbrev pub IsUnlisted : List ℕ → CacheFault → Type 0
+IsUnlisted cache f = IsOpenFault cache f ⊎ ((left : ℕ) × IsListingFault cache left f)
 
 -- `list` refuses the cache for this fault
 abbrev pub RefusesRules : List ℕ → CacheFault → Type 0
-RefusesRules cache = IsRefused cache (IsListFault cache) HasListedRules
+RefusesRules cache = IsRefused cache (IsUnlisted cache) HasListedRules
 
 -- the lines of the rules of a cache are printed
 abbrev pub AreRuleLines : List ℕ → Run → Type 0

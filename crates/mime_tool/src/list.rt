@@ -12,7 +12,7 @@ ghost use Rattle.mime_request.specs.Request.{plain_source};
 ghost use Rattle.mime_tool.specs.Cache.{GivesOrRefuses};
 ghost use Rattle.mime_tool.specs.Desk.{Does, Ends, Works};
 ghost use Rattle.mime_tool.specs.Environment.{known_environment};
-ghost use Rattle.mime_tool.specs.List.{AreRulesOf, HasListedRules, IsList, IsListFault, IsListOver};
+ghost use Rattle.mime_tool.specs.List.{AreRulesOf, HasListedRules, IsList, IsListOver, IsUnlisted};
 ghost use Rattle.mime_tool.specs.List.{RefusesRules, cased_mark, rule_line};
 ghost use Rattle.mime_tool.specs.Run.{printed};
 
@@ -64,7 +64,7 @@ fn rules_of<'a>(alloc: Global, cache: &'a [u8]) -> Result<Vec<Listed<'a>>, Cache
     ensures answer { IfOk result (λ rules. AreRulesOf cache.entry.now (map plain_listed rules.items)) }
     ensures need { (b : PlainDatabase) → HasListedRules b → Spells cache.entry.now b →
         Packed cache.entry.now b → IfErr result (λ e. e ≡ CacheFault.OutOfMemory) }
-    ensures fault { IfErr result (IsListFault cache.entry.now) }
+    ensures fault { IfErr result (IsUnlisted cache.entry.now) }
 {
     let mut meter = Meter::new();
     let cache = Cache::open(Counted::new(cache), &mut meter)?;

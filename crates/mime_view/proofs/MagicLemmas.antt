@@ -1,4 +1,5 @@
 -- Lemmas on lines and sections of magic.
+pub mod LineFaults
 pub mod LineParts
 pub mod LineRows
 pub mod LineValues

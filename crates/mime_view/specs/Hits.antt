@@ -1,5 +1,5 @@
 -- What a cache offers for a name, what is kept of it, and what it costs.
-use Rattle.std.specs.Prelude.{◌≡◌, ℕ, ◌+◌, ◌*◌, ◌≤◌, Bool, true, false, not, ◌||◌, List, [], ◌∷◌, ◌++◌}
+use Rattle.std.specs.Prelude.{◌≡◌, ℕ, ◌+◌, ◌≤◌, Bool, true, false, not, ◌||◌, List, [], ◌∷◌, ◌++◌}
 use Rattle.std.specs.Prelude.{length, min, filter, reverse, Ok}
 use Rattle.std.specs.List.{flat_map}
 use Rattle.mime_base.specs.Cache.Texts.{text_at}

@@ -80,9 +80,31 @@ pub record IsListFault (c : List ℕ) (at size : ℕ) (e : CacheFault) : Type 0 
   pub outside : length c < at + 4 + size * field c at 0
   pub is : e ≡ OutOfRange at
 
--- why the list at `at`, of two numbers an entry, is not searched: the list, or a text
-abbrev pub IsSearchFault : List ℕ → ℕ → CacheFault → Type 0
-IsSearchFault c at e = IsListFault c at 8 e ⊎ IsTextFault c e
+-- No text stands at `at`.
+pub record IsNoText (c : List ℕ) (at : ℕ) (e : CacheFault) : Type 0 where
+  -- A fault of a counted read.
+  pub fault : ByteFault
+  -- It is why no text stands there.
+  pub no_text : text_at c at ≡ Err fault
+  -- It is the one that is reported.
+  pub is : e ≡ cache_fault fault
+
+-- Among `count` records from `first` on, this number of one is the offset of no text.
+pub record IsNamedFault (c : List ℕ) (first size count number : ℕ) (e : CacheFault) : Type 0 where
+  -- Which record it is.
+  pub i : ℕ
+  -- It is one of them.
+  pub within : i < count
+  -- No text stands where it says.
+  pub text : IsNoText c (field c (first + size * i) number) e
+
+-- why no key is found in the list at `at`, of two numbers an entry: the list, or a key that one of its entries names
+abbrev pub IsKeysFault : List ℕ → ℕ → CacheFault → Type 0
+IsKeysFault c at e = IsListFault c at 8 e ⊎ IsNamedFault c (at + 4) 8 (field c at 0) 0 e
+
+-- why no pair is given from the list at `at`: its keys, or a second name that one of its entries names
+abbrev pub IsPairsFault : List ℕ → ℕ → CacheFault → Type 0
+IsPairsFault c at e = IsKeysFault c at e ⊎ IsNamedFault c (at + 4) 8 (field c at 0) 1 e
 
 -- An entry of the list at `at`, of two numbers an entry, whose text is the key.
 pub record IsEntryOf (c : List ℕ) (at : ℕ) (key : List ℕ) (entry : NamedEntry) : Type 0 where

@@ -1,5 +1,5 @@
 -- The magic list as it is read, what sniffing answers of it, what it takes, and why it gives no answer.
-use Rattle.std.specs.Prelude.{◌≡◌, ◌⊎◌, ℕ, ◌+◌, ◌*◌, ◌<◌, ◌≤◌, Bool, true, false, if◌then◌else◌, List, [], ◌∷◌}
+use Rattle.std.specs.Prelude.{◌≡◌, ◌⊎◌, ℕ, zero, suc, ◌+◌, ◌*◌, ◌<◌, ◌≤◌, Bool, true, false, if◌then◌else◌, List, [], ◌∷◌}
 use Rattle.std.specs.Prelude.{length, Result, Ok, IfErr, IfOk, IsOk, Option, None, Some, IfSome}
 use Rattle.std.specs.Borrow.{Bor}
 use Rattle.mime_base.specs.Cache.Bytes.{both_lie, field, lies, optional_mask, value_at}
@@ -8,7 +8,7 @@ use Rattle.mime_base.specs.Format.Magic.{line_count, width}
 use Rattle.mime_base.specs.Format.Packed.{forest_value_length, matchlet_count, value_length}
 use Rattle.mime_base.specs.Magic.{Forest, PlainLine, PlainSection, are_allowed, are_allowed_sections, bare, line}
 use Rattle.mime_base.specs.Magic.Holds.{bytes_of_mask, equals_from, first_magic, some_holds}
-use Rattle.mime_view.specs.Lists.{IsTextFault}
+use Rattle.mime_view.specs.Lists.{IsNoText}
 use Rattle.mime_view.specs.Spending.{Price, Spends}
 use Rattle.mime_view.specs.declared.budget.Budget.{Budget}
 use Rattle.mime_view.specs.declared.fault.CacheFault.{CacheFault}
@@ -139,24 +139,62 @@ pub record IsValueFault (c : List ℕ) (r : ℕ) (e : CacheFault) : Type 0 where
 abbrev pub IsLineSpent : List ℕ → ℕ → Budget → CacheFault → Type 0
 IsLineSpent c r after e = (e ≡ Spent) × ((after.records ≡ 0) ⊎ (after.value_bytes < field c r 3))
 
--- why a line gives no answer: its value, its children, what is left, or that it has children on the last level
-abbrev pub IsLineFault : List ℕ → ℕ → Budget → CacheFault → Type 0
-IsLineFault c r after e =
-    IsValueFault c r e ⊎ IsBlockFault c (field c r 7) 32 (field c r 6) e ⊎ IsLineSpent c r after e
-    ⊎ (e ≡ TooDeep) × (0 < field c r 6)
+-- why a line is not seen: its value, or what is left
+abbrev pub IsSeenFault : List ℕ → ℕ → Budget → CacheFault → Type 0
+IsSeenFault c r after e = IsValueFault c r e ⊎ IsLineSpent c r after e
 
--- some line gives no answer
-abbrev pub IsLinesFault : List ℕ → Budget → CacheFault → Type 0
-IsLinesFault c after e = (r : ℕ) × IsLineFault c r after e
+-- why a line on this level gives no answer: it is not seen, its children do not lie in the cache, or it has some on the last level
+abbrev pub IsOwnFault : List ℕ → ℕ → ℕ → Budget → CacheFault → Type 0
+IsOwnFault c r level after e =
+    IsSeenFault c r after e ⊎ IsBlockFault c (field c r 7) 32 (field c r 6) e ⊎ (e ≡ TooDeep) × (0 < field c r 6) × (level ≡ 63)
 
--- some section gives no answer: its lines, what is left, or its type
-abbrev pub IsSectionFault : List ℕ → Budget → CacheFault → Type 0
-IsSectionFault c after e =
-    ((r : ℕ) × IsBlockFault c (field c r 3) 32 (field c r 2) e) ⊎ ((e ≡ Spent) × (after.records ≡ 0))
-    ⊎ IsLinesFault c after e ⊎ IsTextFault c e
+-- so many steps, each from a line to one of its children, lead from the line at `at` to the one at r
+abbrev pub LeadsToLine : List ℕ → ℕ → ℕ → ℕ → Type 0
+LeadsToLine c zero at r = r ≡ at
+LeadsToLine c (suc steps) at r = (i : ℕ) × (i < field c at 6) × LeadsToLine c steps (field c at 7 + 32 * i) r
 
--- the magic list at `at`, or some section, gives no answer
+-- The line at `at`, on this level, or one below it gives no answer.
+pub record IsLineFault (c : List ℕ) (at level : ℕ) (after : Budget) (e : CacheFault) : Type 0 where
+  -- How many levels below it the line is.
+  pub steps : ℕ
+  -- It is on one of 64 levels.
+  pub within : level + steps ≤ 63
+  -- Where its record stands.
+  pub r : ℕ
+  -- It is below the line at `at`.
+  pub leads : LeadsToLine c steps at r
+  -- Why it gives no answer.
+  pub fault : IsOwnFault c r (level + steps) after e
+
+-- one of so many lines on a level, or one below it, gives no answer
+abbrev pub IsLinesFault : List ℕ → ℕ → ℕ → ℕ → Budget → CacheFault → Type 0
+IsLinesFault c first count level after e = (i : ℕ) × (i < count) × IsLineFault c (first + 32 * i) level after e
+
+-- why the section at `at` gives no answer: where its lines are, what is left, its lines, or its type
+abbrev pub IsSectionFault : List ℕ → ℕ → Budget → CacheFault → Type 0
+IsSectionFault c at after e =
+    IsBlockFault c (field c at 3) 32 (field c at 2) e ⊎ ((e ≡ Spent) × (after.records ≡ 0))
+    ⊎ IsLinesFault c (field c at 3) (field c at 2) 0 after e ⊎ IsNoText c (field c at 1) e
+
+-- the magic list at `at`, or one of its sections, gives no answer
 abbrev pub IsMagicFault : List ℕ → ℕ → Budget → CacheFault → Type 0
 IsMagicFault c at after e =
     ((length c < at + 12) × (e ≡ OutOfRange at)) ⊎ IsBlockFault c (field c at 2) 16 (field c at 0) e
-    ⊎ IsSectionFault c after e
+    ⊎ (i : ℕ) × (i < field c at 0) × IsSectionFault c (field c at 2 + 16 * i) after e
+
+-- The line at r is one of a section of the magic list at `at`, or below one.
+pub record IsMagicLine (c : List ℕ) (at r : ℕ) : Type 0 where
+  -- Which section it is.
+  pub section : ℕ
+  -- It is one of the list's.
+  pub within : section < field c at 0
+  -- Which of its lines leads to the line.
+  pub top : ℕ
+  -- It is one of the section's.
+  pub below : top < field c (field c at 2 + 16 * section) 2
+  -- How many levels below it the line is.
+  pub steps : ℕ
+  -- It is on one of 64 levels.
+  pub few : steps ≤ 63
+  -- It is below that one.
+  pub leads : LeadsToLine c steps (field c (field c at 2 + 16 * section) 3 + 32 * top) r

@@ -9,7 +9,7 @@ use Rattle.mime_base.specs.Cache.Texts.{text_at}
 use Rattle.mime_base.specs.Database.Subclass.{parents}
 use Rattle.mime_base.specs.declared.cache.byte_fault.ByteFault.{ByteFault}
 use Rattle.mime_view.specs.Faults.{cache_fault}
-use Rattle.mime_view.specs.Lists.{IsListFault, IsTextFault, KeysAt, ReadsKeys, place_of}
+use Rattle.mime_view.specs.Lists.{IsKeysFault, IsListFault, IsNamedFault, KeysAt, ReadsKeys, place_of}
 use Rattle.mime_view.specs.declared.fault.CacheFault.{CacheFault}
 use Rattle.mime_view.specs.declared.fault.CacheFault.TheVariants.{OutOfMemory, Spent}
 use Rattle.mime_view.specs.declared.parents.Parents.{Parents}
@@ -103,14 +103,6 @@ pub record TakesParents (c : List ℕ) (at : ℕ) (kind : List ℕ) (old new : S
   pub taken : MatchOption found (new.budget.records ≡ old.budget.records)
       (λ parents. new.budget.records + length parents.types ≡ old.budget.records)
 
--- one of the texts of a list at `at` does not stand
-pub record IsNamedFault (c : List ℕ) (at : ℕ) (e : CacheFault) : Type 0 where
-  pub i : ℕ
-  pub within : i < field c at 0
-  pub fault : ByteFault
-  pub no_text : text_at c (field c (at + 4 + 4 * i) 0) ≡ Err fault
-  pub is : e ≡ cache_fault fault
-
 -- a list of more records than there were left took all of them
 pub record IsShortOfRecords (count before after : ℕ) (e : CacheFault) : Type 0 where
   pub more : before < count
@@ -135,7 +127,7 @@ IsTextUntaken c at before after e = (e ≡ Spent) × (before ≡ 0) × (after �
 -- why the parents at `at` are not given, with the records that were left before and after
 abbrev pub IsTextsFault : List ℕ → ℕ → ℕ → ℕ → CacheFault → Type 0
 IsTextsFault c at before after e =
-    IsListFault c at 4 e ⊎ IsNamedFault c at e ⊎ IsShortOfRecords (field c at 0) before after e ⊎ (e ≡ OutOfMemory)
+    IsListFault c at 4 e ⊎ IsNamedFault c (at + 4) 4 (field c at 0) 0 e ⊎ IsShortOfRecords (field c at 0) before after e ⊎ (e ≡ OutOfMemory)
 
 -- an entry of the type is not marked, and its parents are not given
 pub record IsEntryFault (c : List ℕ) (at : ℕ) (marks kind : List ℕ) (before after : ℕ) (e : CacheFault) : Type 0 where
@@ -144,10 +136,10 @@ pub record IsEntryFault (c : List ℕ) (at : ℕ) (marks kind : List ℕ) (befor
   pub unmarked : has_place marks place ≡ false
   pub fault : IsTextsFault c (parents_at c at place) before after e
 
--- why nothing is said of a type's parents: the list, a text that the search compares, or the parents of its entry
+-- why nothing is said of a type's parents: the list, a type that one of its entries names, or the parents of its entry
 abbrev pub IsParentsFault : List ℕ → ℕ → List ℕ → List ℕ → ℕ → ℕ → CacheFault → Type 0
 IsParentsFault c at marks kind before after e =
-    IsListFault c at 8 e ⊎ IsTextFault c e ⊎ IsEntryFault c at marks kind before after e
+    IsKeysFault c at e ⊎ IsEntryFault c at marks kind before after e
 
 -- Parents of a type are not given on any bytes.
 pub record StopsParents (c : List ℕ) (at : ℕ) (kind : List ℕ) (old new : Spending) (before after : List ℕ)

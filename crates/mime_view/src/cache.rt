@@ -20,7 +20,7 @@ ghost use Rattle.mime_base.specs.Magic.Holds.{first_magic};
 ghost use Rattle.mime_base.specs.declared.database.rule.GlobRule.{GlobRule};
 ghost use Rattle.mime_view.specs.Magic.{Answers, IsMagicFault, magic_price, plain_found};
 ghost use Rattle.mime_base.specs.Magic.Extent.{sections_extent};
-ghost use Rattle.mime_view.specs.Lists.{IsSearchFault};
+ghost use Rattle.mime_view.specs.Lists.{IsPairsFault};
 ghost use Rattle.mime_view.specs.NameHits.{GivesHits, GivesTexts, IsHitsFault, SpellsRules};
 ghost use Rattle.mime_view.specs.Pairs.{IsSecondName, IsUnaliased, looked_up};
 ghost use Rattle.mime_view.specs.Parents.{IsGiven, StopsParents, TakesParents, is_marked, unmarked_parents};
@@ -188,9 +188,9 @@ impl<'a> Cache<'a> {
         // Where the alias list stands, it gives the type that the name stands for, or the name.
         ensures answer { (offsets : Offsets) (pairs : List (List ℕ × List ℕ)) → HeaderAt (Stands self.now) offsets →
             PairsAt (Stands self.now) offsets.aliases pairs → IsOkAnd result (λ name. name.now ≡ resolved pairs kind.now) }
-        // On any bytes it gives the name or a text of the cache, or the list or a text does not stand.
+        // On any bytes it gives the name or a text of the cache, or the list or a text that it names does not stand.
         ensures given { MatchResult result (λ name. IsUnaliased self.now (field self.now 0 1) kind.now name.now)
-            (IsSearchFault self.now (field self.now 0 1)) }
+            (IsPairsFault self.now (field self.now 0 1)) }
         // It takes nothing of the budget.
         ensures budget { budget.new ≡ budget.old }
         // It visits at most 29 records, and compares at most a text for each.
@@ -217,9 +217,9 @@ impl<'a> Cache<'a> {
         ensures answer { (offsets : Offsets) (icons : List (List ℕ × List ℕ)) → HeaderAt (Stands self.now) offsets →
             PairsAt (Stands self.now) offsets.icons icons →
             IsOkAnd result (λ name. option_map (λ text. text.now) name ≡ looked_up icons kind.now) }
-        // On any bytes what it gives is a text of the cache, or the list or a text does not stand.
+        // On any bytes what it gives is a text of the cache, or the list or a text that it names does not stand.
         ensures given { MatchResult result (IsSecondName self.now (field self.now 0 8))
-            (IsSearchFault self.now (field self.now 0 8)) }
+            (IsPairsFault self.now (field self.now 0 8)) }
         // It takes nothing of the budget.
         ensures budget { budget.new ≡ budget.old }
         // It visits at most 29 records, and compares at most a text for each.
@@ -244,9 +244,9 @@ impl<'a> Cache<'a> {
         ensures answer { (offsets : Offsets) (icons : List (List ℕ × List ℕ)) → HeaderAt (Stands self.now) offsets →
             PairsAt (Stands self.now) offsets.generic_icons icons →
             IsOkAnd result (λ name. option_map (λ text. text.now) name ≡ looked_up icons kind.now) }
-        // On any bytes what it gives is a text of the cache, or the list or a text does not stand.
+        // On any bytes what it gives is a text of the cache, or the list or a text that it names does not stand.
         ensures given { MatchResult result (IsSecondName self.now (field self.now 0 9))
-            (IsSearchFault self.now (field self.now 0 9)) }
+            (IsPairsFault self.now (field self.now 0 9)) }
         // It takes nothing of the budget.
         ensures budget { budget.new ≡ budget.old }
         // It visits at most 29 records, and compares at most a text for each.

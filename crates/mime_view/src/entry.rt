@@ -1,7 +1,7 @@
 //! The entry of a key in a sorted list of two offsets an entry.
 
 ghost use Rattle.std.specs.Prelude.{◌≡◌, ℕ, ◌*◌, ◌^◌, ◌≤◌, ◌<◌, List, length, option_map, IsOkAnd, MatchResult};
-ghost use Rattle.mime_view.specs.Lists.{IsFound, IsSearchFault, ReadsKeys, place_of};
+ghost use Rattle.mime_view.specs.Lists.{IsFound, IsKeysFault, ReadsKeys, place_of};
 ghost use Rattle.mime_view.specs.Spending.{Looks};
 
 use crate::fault::CacheFault;
@@ -34,8 +34,8 @@ pub fn find_entry(
     // In a sorted list that stands it finds the first entry of the key, or that there is none.
     ensures answer { (keys : List (List ℕ)) → ReadsKeys counted.now at keys →
         IsOkAnd result (λ found. option_map (λ entry. entry.place) found ≡ place_of keys key.now) }
-    // On any bytes what it finds is an entry of the key, or the list or a text does not stand.
-    ensures found { MatchResult result (IsFound counted.now at key.now) (IsSearchFault counted.now at) }
+    // On any bytes what it finds is an entry of the key, or the list or a key that it names does not stand.
+    ensures found { MatchResult result (IsFound counted.now at key.now) (IsKeysFault counted.now at) }
     // It looks at the list's count, at most 26 texts, and the entry that it finds.
     ensures cost { Looks 28 (256 * 27) meter.old meter.new }
 {

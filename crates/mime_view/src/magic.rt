@@ -16,7 +16,7 @@ ghost use Rattle.std.specs.Prelude.{◌≡◌, ℕ, ◌+◌, ◌-◌, ◌*◌, �
 ghost use Rattle.mime_base.specs.Format.Magic.{width};
 ghost use Rattle.mime_base.specs.Magic.{Forest, PlainLine, PlainSection, bare, line};
 ghost use Rattle.mime_view.specs.Magic.{AnswersLine, AnswersLines, AnswersSections, Ends, NamesChildren, NamesText};
-ghost use Rattle.mime_view.specs.Magic.{IsBlockFault, IsLineFault, IsLinesFault, IsMagicFault, IsSectionFault};
+ghost use Rattle.mime_view.specs.Magic.{IsBlockFault, IsLineFault, IsLinesFault, IsMagicFault, IsSectionFault, IsSeenFault};
 ghost use Rattle.mime_view.specs.Magic.{LiesBlock, ReadsLine, ReadsLines, ReadsMagic, ReadsSection};
 ghost use Rattle.mime_view.specs.Magic.{line_price, magic_price};
 ghost use Rattle.mime_view.specs.Spending.{Spends};
@@ -103,7 +103,7 @@ fn take_section<'a>(
     // A type that is given is a text of the cache.
     ensures text { IfOk result (NamesText query.now.counted.now) }
     // On any bytes: why there is no answer, and what the step costs.
-    ensures ends { Ends (IsSectionFault query.now.counted.now) (magic_price (length query.now.content.now)) 0 spending.old spending.new result }
+    ensures ends { Ends (IsSectionFault query.now.counted.now at) (magic_price (length query.now.content.now)) 0 spending.old spending.new result }
 {
     spending.budget.take_record()?;
     let counted = query.counted;
@@ -159,7 +159,7 @@ fn some_line_holds(
     ensures lines { (lines : Forest) → width lines ≡ count → ReadsLines query.now.counted.now first lines →
         AnswersLines query.now (64 - level) lines spending.old spending.new result }
     // On any bytes: why there is no answer, and what the step costs.
-    ensures ends { Ends (IsLinesFault query.now.counted.now) (line_price query.now) 0 spending.old spending.new result }
+    ensures ends { Ends (IsLinesFault query.now.counted.now first count level) (line_price query.now) 0 spending.old spending.new result }
 {
     let start = u64::from(first);
     for i in 0..u64::from(count) {
@@ -186,7 +186,7 @@ fn line_holds(
     ensures line { (own : PlainLine) (children : Forest) → ReadsLines query.now.counted.now at (line own children bare) →
         AnswersLines query.now (64 - level) (line own children bare) spending.old spending.new result }
     // On any bytes: why there is no answer, and what the step costs.
-    ensures ends { Ends (IsLinesFault query.now.counted.now) (line_price query.now) 0 spending.old spending.new result }
+    ensures ends { Ends (IsLineFault query.now.counted.now at level) (line_price query.now) 0 spending.old spending.new result }
 {
     if differs_at_once(query, at, spending) {
         return Ok(false);
@@ -251,7 +251,7 @@ fn holds_apart(
     ensures line { (own : PlainLine) (children : Forest) → ReadsLines query.now.counted.now at (line own children bare) →
         AnswersLines query.now (64 - level) (line own children bare) spending.old spending.new result }
     // On any bytes: why there is no answer, and what the step costs.
-    ensures ends { Ends (IsLinesFault query.now.counted.now) (line_price query.now) 0 spending.old spending.new result }
+    ensures ends { Ends (IsLineFault query.now.counted.now at level) (line_price query.now) 0 spending.old spending.new result }
 {
     let mut apart = *spending;
     let result = whole_line_holds(query, at, level, &mut apart);
@@ -274,7 +274,7 @@ fn whole_line_holds(
     ensures line { (own : PlainLine) (children : Forest) → ReadsLines query.now.counted.now at (line own children bare) →
         AnswersLines query.now (64 - level) (line own children bare) spending.old spending.new result }
     // On any bytes: why there is no answer, and what the step costs.
-    ensures ends { Ends (IsLinesFault query.now.counted.now) (line_price query.now) 0 spending.old spending.new result }
+    ensures ends { Ends (IsLineFault query.now.counted.now at level) (line_price query.now) 0 spending.old spending.new result }
 {
     let Seen {
         equals,
@@ -316,7 +316,7 @@ fn see_line(
     ensures line { (own : PlainLine) → ReadsLine query.now.counted.now at own →
         AnswersLine query.now own spending.old spending.new result }
     // On any bytes: why there is no answer, and what the step costs.
-    ensures ends { Ends (IsLineFault query.now.counted.now at) (line_price query.now) 0 spending.old spending.new result }
+    ensures ends { Ends (IsSeenFault query.now.counted.now at) (line_price query.now) 0 spending.old spending.new result }
 {
     spending.budget.take_record()?;
     let counted = query.counted;
@@ -363,7 +363,7 @@ fn some_child_holds(
     ensures lines { (lines : Forest) → width lines ≡ count → ReadsLines query.entry.counted.now first lines →
         AnswersLines query.entry (64 - level) lines spending.old spending.new result }
     // On any bytes: why there is no answer, and what the step costs.
-    ensures ends { Ends (IsLinesFault query.entry.counted.now) (line_price query.entry) 0 spending.old spending.new result }
+    ensures ends { Ends (IsLinesFault query.entry.counted.now first count level) (line_price query.entry) 0 spending.old spending.new result }
 {
     some_line_holds(&query, first, count, level, spending)
 }

@@ -9,7 +9,7 @@
 //! says of the texts beside its place is true; but a key that is in the list may be missed.
 
 ghost use Rattle.std.specs.Prelude.{◌≡◌, ℕ, ◌+◌, ◌*◌, ◌^◌, ◌≤◌, List, length, IsOkAnd, MatchResult};
-ghost use Rattle.mime_view.specs.Lists.{AreSorted, IsSought, IsTextFault, KeysAt, SplitsAt};
+ghost use Rattle.mime_view.specs.Lists.{AreSorted, IsNamedFault, IsSought, KeysAt, SplitsAt};
 ghost use Rattle.mime_view.specs.Spending.{Looks};
 
 use crate::fault::CacheFault;
@@ -46,8 +46,9 @@ pub fn seek(
     // Among texts that all stand it finds a place; where they are sorted, those before it are less, and the others are not.
     ensures answer { (keys : List (List ℕ)) → length keys ≡ count → KeysAt counted.now first size keys →
         IsOkAnd result (λ sought. AreSorted keys → SplitsAt keys key.now sought.place) }
-    // On any bytes it says how the texts beside the place compare, or a text does not stand.
-    ensures sought { MatchResult result (IsSought counted.now first size count key.now) (IsTextFault counted.now) }
+    // On any bytes it says how the texts beside the place compare, or a text that one of the records names does not stand.
+    ensures sought { MatchResult result (IsSought counted.now first size count key.now)
+        (IsNamedFault counted.now first size count 0) }
     // It compares at most 26 texts.
     ensures cost { Looks 26 (256 * 26) meter.old meter.new }
 {

@@ -1,11 +1,11 @@
 -- Which faults say that a lookup used up what it may take of a cache, and what is left then.
-use Rattle.std.proofs.Common.{◌≡◌, ◌∙◌, ◌⊎◌, ℕ, ◌/◌, ◌≤◌, List, length, inl, inr, sym, arith}
+use Rattle.std.proofs.Common.{◌≡◌, ◌∙◌, ◌⊎◌, ℕ, ◌+◌, ◌*◌, ◌/◌, ◌<◌, ◌≤◌, List, length, inl, inr, sym, arith}
 use Rattle.mime_base.specs.Cache.Bytes.{field}
 use Rattle.mime_lookup.specs.Costs.{Costs}
 use Rattle.mime_lookup.specs.Spent.{IsUsedUp, UsesUp}
 use Rattle.mime_lookup.specs.StepFaults.{IsAliasFault, IsGlobsFault, IsSearchFault, IsSniffFault}
-use Rattle.mime_lookup.proofs.StopLemmas.PlacedFaults.{no_alias, no_byte, no_memory, no_place, no_text, no_tree}
-use Rattle.mime_view.specs.Magic.{IsLineFault, IsMagicFault}
+use Rattle.mime_lookup.proofs.StopLemmas.PlacedFaults.{no_alias, no_byte, no_keys, no_memory, no_named, no_place, no_text, no_tree}
+use Rattle.mime_view.specs.Magic.{IsMagicFault, IsMagicLine, IsOwnFault, IsSectionFault}
 use Rattle.mime_view.specs.Parents.{IsParentsFault, IsTextsFault, parents_at}
 use Rattle.mime_view.specs.declared.budget.Budget.{Budget}
 use Rattle.mime_view.specs.declared.fault.CacheFault.{CacheFault}
@@ -25,16 +25,15 @@ globs_spent c left e (inr alias) same = absurd (no_alias c e alias same)
 -- and so does the search for a subclass
 texts_spent : (c : List ℕ) (at before after : ℕ) (e : CacheFault) → IsTextsFault c at before after e → e ≡ Spent → after ≡ 0
 texts_spent c at before after e (inl list) same = absurd (no_place at (sym list.is ∙ same))
-texts_spent c at before after e (inr (inl named)) same = absurd (no_byte named.fault (sym named.is ∙ same))
+texts_spent c at before after e (inr (inl named)) same = absurd (no_named c _ _ _ _ e named same)
 texts_spent c at before after e (inr (inr (inl spent))) same = spent.none_left
 texts_spent c at before after e (inr (inr (inr memory))) same = absurd (no_memory e memory same)
 
 -- where parents are spent, no record is left
 parents_spent : (c : List ℕ) (at : ℕ) (marks kind : List ℕ) (before after : ℕ) (e : CacheFault)
     → IsParentsFault c at marks kind before after e → e ≡ Spent → after ≡ 0
-parents_spent c at marks kind before after e (inl list) same = absurd (no_place at (sym list.is ∙ same))
-parents_spent c at marks kind before after e (inr (inl text)) same = absurd (no_text c e text same)
-parents_spent c at marks kind before after e (inr (inr entry)) same =
+parents_spent c at marks kind before after e (inl keys) same = absurd (no_keys c at e keys same)
+parents_spent c at marks kind before after e (inr entry) same =
     texts_spent c (parents_at c at entry.place) before after e entry.fault same
 
 -- where a choice among types is spent, no record is left
@@ -49,28 +48,45 @@ choice_spent c left e (inr (inr (inr memory))) same = absurd (no_memory e memory
 -- magic does where no record is left, or fewer value bytes than a line states
 module _ (c : List ℕ) (left : Budget) (NoContent : Type 0) (content : NoContent → ⊥) where
   -- a line that is spent has used up the budget
-  line_spent : (r : ℕ) (e : CacheFault) → IsLineFault c r left e → e ≡ Spent → IsUsedUp c NoContent left
-  line_spent r e (inl value) same = absurd (no_place _ (sym value.is ∙ same))
-  line_spent r e (inr (inl block)) same = absurd (no_place _ (sym block.is ∙ same))
-  line_spent r e (inr (inr (inl (is, inl records)))) same = inl records
-  line_spent r e (inr (inr (inl (is, inr value)))) same = inr (content, r, value)
-  line_spent r e (inr (inr (inr deep))) same =
+  line_spent : (r level : ℕ) (e : CacheFault) → IsMagicLine c (field c 0 6) r → IsOwnFault c r level left e → e ≡ Spent
+      → IsUsedUp c NoContent left
+  line_spent r level e of_magic (inl (inl value)) same = absurd (no_place _ (sym value.is ∙ same))
+  line_spent r level e of_magic (inl (inr (is, inl records))) same = inl records
+  line_spent r level e of_magic (inl (inr (is, inr value))) same = inr (content, r, of_magic, value)
+  line_spent r level e of_magic (inr (inl block)) same = absurd (no_place _ (sym block.is ∙ same))
+  line_spent r level e of_magic (inr (inr deep)) same =
       let both : TooDeep ≡ Spent = sym deep.0 ∙ same in
       absurd cc
 
-  -- so has magic
-  magic_spent : (at : ℕ) (e : CacheFault) → IsMagicFault c at left e → e ≡ Spent → IsUsedUp c NoContent left
-  magic_spent at e (inl head) same = absurd (no_place at (sym head.1 ∙ same))
-  magic_spent at e (inr (inl block)) same = absurd (no_place _ (sym block.is ∙ same))
-  magic_spent at e (inr (inr (inl block))) same = absurd (no_place _ (sym block.1.is ∙ same))
-  magic_spent at e (inr (inr (inr (inl spent)))) same = inl spent.1
-  magic_spent at e (inr (inr (inr (inr (inl lines))))) same = line_spent lines.0 e lines.1 same
-  magic_spent at e (inr (inr (inr (inr (inr text))))) same = absurd (no_text c e text same)
+  -- so has a section of magic
+  section_spent : (i : ℕ) (e : CacheFault) → i < field c (field c 0 6) 0 → IsSectionFault c (field c (field c 0 6) 2 + 16 * i) left e
+      → e ≡ Spent → IsUsedUp c NoContent left
+  section_spent i e within (inl block) same = absurd (no_place _ (sym block.is ∙ same))
+  section_spent i e within (inr (inl spent)) same = inl spent.1
+  section_spent i e within (inr (inr (inl (top, one, line)))) same =
+      line_spent line.r (0 + line.steps) e
+      (record {
+        section = i;
+        within = within;
+        top = top;
+        below = one;
+        steps = line.steps;
+        few = omega (arith, line.within);
+        leads = line.leads;
+      })
+      line.fault same
+  section_spent i e within (inr (inr (inr text))) same = absurd (no_byte text.fault (sym text.is ∙ same))
+
+  -- and magic
+  magic_spent : (e : CacheFault) → IsMagicFault c (field c 0 6) left e → e ≡ Spent → IsUsedUp c NoContent left
+  magic_spent e (inl head) same = absurd (no_place (field c 0 6) (sym head.1 ∙ same))
+  magic_spent e (inr (inl block)) same = absurd (no_place _ (sym block.is ∙ same))
+  magic_spent e (inr (inr (i, within, section))) same = section_spent i e within section same
 
   -- and so has a sniffed type
   pub sniff_fault_spent : (e : CacheFault) → IsSniffFault c left e → e ≡ Spent → IsUsedUp c NoContent left
   sniff_fault_spent e (inl head) same = absurd (no_place (field c 0 6) (sym head.1 ∙ same))
-  sniff_fault_spent e (inr magic) same = magic_spent (field c 0 6) e magic same
+  sniff_fault_spent e (inr magic) same = magic_spent e magic same
 
 -- what was left of a cache's own budget, after the header and all steps
 pub uses_up : (c : List ℕ) {NoContent : Type 0} {each value more : ℕ} {old left : Spending} → length c ≤ 268435456

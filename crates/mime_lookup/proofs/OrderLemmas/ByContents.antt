@@ -38,7 +38,7 @@ not_high b front host found is none high =
 -- what implies that there is no content
 pub used_for : (c : List ℕ) {A B : Type 0} (left : Budget) → (A → B) → IsUsedUp c B left → IsUsedUp c A left
 used_for c left weaker (inl records) = inl records
-used_for c left weaker (inr value) = inr ((λ none. value.0 (weaker none)), value.1, value.2)
+used_for c left weaker (inr value) = inr ((λ none. value.0 (weaker none)), value.1, value.2, value.3)
 
 module _ (c name : List ℕ) (NoContent : Type 0) (b : PlainDatabase) where
   -- in each case the glob rules stand

@@ -1,11 +1,11 @@
 -- Faults that do not say that the budget is used up.
-use Rattle.std.proofs.Common.{◌≡◌, ◌∙◌, ℕ, List, inl, inr, sym, subst}
+use Rattle.std.proofs.Common.{◌≡◌, ◌∙◌, ℕ, ◌+◌, List, inl, inr, sym, subst}
 use Rattle.mime_base.specs.Cache.Bytes.{field}
 use Rattle.mime_base.specs.declared.cache.byte_fault.ByteFault.{ByteFault}
 use Rattle.mime_base.specs.declared.cache.byte_fault.ByteFault.TheVariants as byte
 use Rattle.mime_lookup.specs.StepFaults.{IsAliasFault}
 use Rattle.mime_view.specs.Faults.{cache_fault}
-use Rattle.mime_view.specs.Lists.{IsTextFault}
+use Rattle.mime_view.specs.Lists.{IsKeysFault, IsNamedFault, IsTextFault}
 use Rattle.mime_view.specs.Opening.{IsOpenFault}
 use Rattle.mime_view.specs.SuffixTree.{IsTreeFault}
 use Rattle.mime_view.specs.declared.fault.CacheFault.{CacheFault}
@@ -26,7 +26,7 @@ no_memory e memory same =
     let both : OutOfMemory ≡ Spent = sym memory ∙ same in
     absurd cc
 
--- nor a text's fault
+-- nor the fault of some text
 pub no_text : (c : List ℕ) (e : CacheFault) → IsTextFault c e → e ≡ Spent → ⊥
 no_text c e text same = no_byte text.fault (sym text.is ∙ same)
 
@@ -34,10 +34,19 @@ no_text c e text same = no_byte text.fault (sym text.is ∙ same)
 pub no_header : (c : List ℕ) (e : CacheFault) → IsOpenFault c e → e ≡ Spent → ⊥
 no_header c e is same = subst (IsOpenFault c) same is
 
--- an alias step, and the tree of suffixes
+-- nor that of a text that a record of a list names
+pub no_named : (c : List ℕ) (first size count number : ℕ) (e : CacheFault) → IsNamedFault c first size count number e → e ≡ Spent → ⊥
+no_named c first size count number e named same = no_byte named.text.fault (sym named.text.is ∙ same)
+
+-- nor the fault of a list's keys
+pub no_keys : (c : List ℕ) (at : ℕ) (e : CacheFault) → IsKeysFault c at e → e ≡ Spent → ⊥
+no_keys c at e (inl list) same = no_place at (sym list.is ∙ same)
+no_keys c at e (inr key) same = no_named c (at + 4) 8 (field c at 0) 0 e key same
+
+-- nor an alias step's
 pub no_alias : (c : List ℕ) (e : CacheFault) → IsAliasFault c e → e ≡ Spent → ⊥
-no_alias c e (inl list) same = no_place (field c 0 1) (sym list.is ∙ same)
-no_alias c e (inr text) same = no_text c e text same
+no_alias c e (inl keys) same = no_keys c (field c 0 1) e keys same
+no_alias c e (inr name) same = no_named c (field c 0 1 + 4) 8 (field c (field c 0 1) 0) 1 e name same
 
 -- nor the tree's
 pub no_tree : (c : List ℕ) (at : ℕ) (e : CacheFault) → IsTreeFault c at e → e ≡ Spent → ⊥

@@ -21,7 +21,7 @@ ghost use Rattle.mime_view.specs.Hits.{near};
 use crate::cached::ancestry::first_of;
 use crate::cached::by_name::Candidates;
 use crate::cached::kept::{KeptTypes, keep};
-use crate::cached::sniff::{Finding, is_high, resolve, sniff_front};
+use crate::cached::sniff::{Finding, is_high, sniff_front, unalias};
 use crate::question::Question;
 use mime_view::{Cache, CacheFault, Spending};
 use std::alloc::Global;
@@ -63,7 +63,7 @@ pub fn by_content<'a>(
         }
         Candidates::Unasked => {
             if is_high(finding) {
-                let kind = resolve(cache, finding, spending)?;
+                let kind = unalias(cache, finding, spending)?;
                 return Ok(kind);
             }
             let kind = by_globs(alloc, cache, question.name, finding, spending)?;
@@ -128,7 +128,7 @@ fn choose<'a>(
     ensures alone { kinds_of kept.now ≡ [] → LooksAt 29 spending.old spending.new }
     ensures cost { Costs search_cost 0 (29 + 29 * length (kinds_of kept.now)) spending.old spending.new }
 {
-    let base = resolve(cache, finding, spending)?;
+    let base = unalias(cache, finding, spending)?;
     if kept.is_empty() {
         return Ok(base);
     }

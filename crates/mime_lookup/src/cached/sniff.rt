@@ -42,7 +42,7 @@ pub fn is_high(finding: Finding<'_>) -> bool
 }
 
 /// Its type, after one alias step. A fixed type is not resolved.
-pub fn resolve<'a>(
+pub fn unalias<'a>(
     cache: &Cache<'a>,
     finding: Finding<'a>,
     spending: &mut Spending,

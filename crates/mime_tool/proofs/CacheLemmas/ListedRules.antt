@@ -20,7 +20,7 @@ use Rattle.mime_view.specs.declared.fault.CacheFault.TheVariants.{OutOfMemory}
 use Rattle.mime_view.specs.declared.rules.listing.Listed.{Listed}
 use Rattle.mime_view.specs.declared.spending.Spending.{Spending}
 use Rattle.mime_tool.specs.Cache.{IsAnsweredOr}
-use Rattle.mime_tool.specs.List.{AreRuleLines, AreRulesOf, HasListedRules, IsListFault, RefusesRules, rule_line}
+use Rattle.mime_tool.specs.List.{AreRuleLines, AreRulesOf, HasListedRules, IsUnlisted, RefusesRules, rule_line}
 use Rattle.mime_tool.specs.Run.{printed}
 use Rattle.mime_tool.proofs.CacheLemmas.Headers.{packed_records}
 
@@ -44,7 +44,7 @@ rules_found c old new (Err f) given texts = tt
 
 -- a fault of the reader is one of the cache
 pub rules_faulty : (c : List ℕ) (left : ℕ) (r : Result (Vec Listed Global) CacheFault) → IfErr r (IsListingFault c left)
-    → IfErr r (IsListFault c)
+    → IfErr r (IsUnlisted c)
 rules_faulty c left (Ok v) p = tt
 rules_faulty c left (Err f) p = inr (left, p)
 

@@ -1,5 +1,5 @@
 -- What steps cost, one after another.
-use Rattle.std.proofs.Common.{◌≡◌, ℕ, ◌+◌, ◌*◌, ◌≤◌, ◌∙◌, refl, ap, arith}
+use Rattle.std.proofs.Common.{◌≡◌, ℕ, ◌+◌, ◌≤◌, ◌∙◌, refl, ap, arith}
 use Rattle.mime_view.specs.Spending.{Looks, Price, Spends}
 use Rattle.mime_view.specs.declared.budget.Budget.{Budget}
 use Rattle.mime_view.specs.declared.spending.Spending.{Spending}

@@ -1,12 +1,12 @@
 -- Texts that a list of offsets names, read one after another.
-use Rattle.std.proofs.Common.{◌≡◌, ◌≤◌, ℕ, suc, ◌+◌, ◌*◌, List, [], ◌∷◌, ◌++◌, length, inl, inr, refl, sym, ap, ap₂, ◌∙◌, arith}
+use Rattle.std.proofs.Common.{◌≡◌, ◌<◌, ◌≤◌, ℕ, suc, ◌+◌, ◌*◌, List, [], ◌∷◌, ◌++◌, length, inl, inr, refl, sym, ap, ap₂, ◌∙◌, arith}
 use Rattle.std.specs.Prelude.{Ok, map}
 use Rattle.std.specs.Borrow.{Bor}
 use Rattle.std.proofs.lemmas.List.{length-map, map-append}
 use Rattle.mime_base.specs.Cache.Bytes.{field}
 use Rattle.mime_base.specs.Cache.Texts.{text_at}
 use Rattle.mime_view.specs.Lists.{KeysAt}
-use Rattle.mime_view.specs.Parents.{IsTextsFault, ReadsTexts}
+use Rattle.mime_view.specs.Parents.{IsTextUntaken, IsTextsFault, ReadsTexts}
 use Rattle.mime_view.specs.declared.fault.CacheFault.{CacheFault}
 use Rattle.mime_view.specs.declared.fault.CacheFault.TheVariants.{OutOfMemory}
 use Rattle.mime_view.proofs.SearchLemmas.Places.{key_at}
@@ -50,7 +50,19 @@ pub texts_stop : (c : List ℕ) (at before after : ℕ) (texts : List (List ℕ)
 texts_stop c at before after texts e reads enough (inl list) = absurd (omega (arith, reads.count, reads.inside, list.outside))
 texts_stop c at before after texts e reads enough (inr (inl named)) =
     let text = key_at c (at + 4) 4 texts named.i reads.named (omega (arith, named.within, reads.count)) in
-    let none = named.no_text in
+    let none = named.text.no_text in
     absurd (cc)
 texts_stop c at before after texts e reads enough (inr (inr (inl spent))) = absurd (omega (arith, spent.more, reads.count, enough))
 texts_stop c at before after texts e reads enough (inr (inr (inr memory))) = memory
+
+-- one of the texts is not taken, so the list is not
+pub text_fault : (c : List ℕ) (at i before mid after : ℕ) (e : CacheFault) → i < field c at 0 → mid + i ≡ before
+    → IsTextUntaken c (at + 4 + 4 * i) mid after e → IsTextsFault c at before after e
+text_fault c at i before mid after e within taken (inl none) =
+    inr (inr (inl (record { more = omega (arith, within, taken, none.1); none_left = none.2; is = none.0 })))
+text_fault c at i before mid after e within taken (inr unread) =
+    inr (inl (record {
+      i = i;
+      within = within;
+      text = record { fault = unread.fault; no_text = unread.no_text; is = unread.is };
+    }))

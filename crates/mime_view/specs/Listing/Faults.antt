@@ -1,7 +1,7 @@
 -- Why the rules of a cache are not listed.
 use Rattle.std.specs.Prelude.{◌≡◌, ◌⊎◌, ℕ, zero, suc, ◌+◌, ◌*◌, ◌<◌, List, length}
 use Rattle.mime_base.specs.Cache.Bytes.{field}
-use Rattle.mime_view.specs.Lists.{IsListFault, IsTextFault}
+use Rattle.mime_view.specs.Lists.{IsListFault, IsNoText}
 use Rattle.mime_view.specs.Magic.{IsBlockFault}
 use Rattle.mime_view.specs.declared.fault.CacheFault.{CacheFault}
 use Rattle.mime_view.specs.declared.fault.CacheFault.TheVariants.{OutOfMemory, OutOfRange, Spent, TooDeep}
@@ -10,13 +10,13 @@ use Rattle.mime_view.specs.declared.fault.CacheFault.TheVariants.{OutOfMemory, O
 abbrev pub IsSpent : ℕ → CacheFault → Type 0
 IsSpent left e = (e ≡ Spent) × (left ≡ 0)
 
--- why a record gives no rule: one of its texts, the records left, or memory
-abbrev pub IsRuleFault : List ℕ → ℕ → CacheFault → Type 0
-IsRuleFault c left e = IsTextFault c e ⊎ IsSpent left e ⊎ (e ≡ OutOfMemory)
+-- why the entry at `at` gives no rule: its text, its type, the records left, or memory
+abbrev pub IsRuleFault : List ℕ → ℕ → ℕ → CacheFault → Type 0
+IsRuleFault c at left e = IsNoText c (field c at 0) e ⊎ IsNoText c (field c at 1) e ⊎ IsSpent left e ⊎ (e ≡ OutOfMemory)
 
--- why a list of rules at `at` is not listed
+-- why a list of rules at `at` is not listed: it does not lie in the cache, or one of its entries gives no rule
 abbrev pub IsRulesFault : List ℕ → ℕ → ℕ → CacheFault → Type 0
-IsRulesFault c at left e = IsListFault c at 12 e ⊎ IsRuleFault c left e
+IsRulesFault c at left e = IsListFault c at 12 e ⊎ (i : ℕ) × (i < field c at 0) × IsRuleFault c (at + 4 + 12 * i) left e
 
 -- the record at `at` is a node, and its character fits a byte
 pub record IsNode (c : List ℕ) (at : ℕ) : Type 0 where
@@ -28,21 +28,26 @@ abbrev pub Leads : List ℕ → ℕ → ℕ → ℕ → Type 0
 Leads c zero at r = r ≡ at
 Leads c (suc steps) at r = IsNode c at × ((i : ℕ) × (i < field c at 1) × Leads c steps (field c at 2 + 12 * i) r)
 
--- a node below 254 characters: `above` of them before these siblings, the others from one of them on
-pub record IsDeep (c : List ℕ) (first count above : ℕ) (e : CacheFault) : Type 0 where
-  pub i : ℕ
-  pub within : i < count
-  pub steps : ℕ
-  pub size : above + steps ≡ 254
-  pub r : ℕ
-  pub leads : Leads c steps (first + 12 * i) r
-  pub node : IsNode c r
-  pub is : e ≡ TooDeep
+-- why the record at r, below so many characters, is not listed: what it leads to, the depth, a leaf's type, the records left, or memory
+abbrev pub IsSiblingFault : List ℕ → ℕ → ℕ → ℕ → CacheFault → Type 0
+IsSiblingFault c r above left e =
+    (IsNode c r × IsBlockFault c (field c r 2) 12 (field c r 1) e) ⊎ (IsNode c r × (above ≡ 254) × (e ≡ TooDeep))
+    ⊎ ((field c r 0 ≡ 0) × IsNoText c (field c r 1) e) ⊎ IsSpent left e ⊎ (e ≡ OutOfMemory)
 
--- why siblings below so many characters are not listed: what is below some record, the depth, or a leaf
-abbrev pub IsSiblingsFault : List ℕ → ℕ → ℕ → ℕ → ℕ → CacheFault → Type 0
-IsSiblingsFault c first count above left e =
-    ((r : ℕ) × IsBlockFault c (field c r 2) 12 (field c r 1) e) ⊎ IsDeep c first count above e ⊎ IsRuleFault c left e
+-- One of so many siblings below `above` characters is not listed, or what one of them leads to.
+pub record IsSiblingsFault (c : List ℕ) (first count above left : ℕ) (e : CacheFault) : Type 0 where
+  -- Which sibling it is that leads there.
+  pub i : ℕ
+  -- It is one of them.
+  pub within : i < count
+  -- How many characters lead on from it.
+  pub steps : ℕ
+  -- The record that is not listed.
+  pub r : ℕ
+  -- They lead to it.
+  pub leads : Leads c steps (first + 12 * i) r
+  -- Why it is not.
+  pub fault : IsSiblingFault c r (above + steps) left e
 
 -- why the tree at `at` is not listed: its head, its roots, or what is below them
 abbrev pub IsListedTreeFault : List ℕ → ℕ → ℕ → CacheFault → Type 0

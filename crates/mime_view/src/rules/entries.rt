@@ -53,7 +53,7 @@ fn add_entry<'a>(
     // On any bytes it takes at most a record.
     ensures most { spending.old.budget.records ≤ spending.new.budget.records + 1 }
     // On any bytes it adds such a rule.
-    ensures adds { Adds source.now.counted.now (IsRuleFault source.now.counted.now) 0
+    ensures adds { Adds source.now.counted.now (IsRuleFault source.now.counted.now at) 0
         listing.old listing.new spending.old spending.new result }
 {
     let row = take_row(source.counted, at, spending)?;

@@ -10,7 +10,7 @@ ghost use Rattle.mime_base.specs.declared.database.rule.GlobRule.{GlobRule};
 ghost use Rattle.mime_view.specs.Listing.{Adds, IsListed, listed_rule};
 ghost use Rattle.mime_view.specs.Listing.Faults.{IsSiblingsFault, IsListedTreeFault};
 ghost use Rattle.mime_view.specs.Listing.Reads.{ReadsListedLeaf, ReadsSuffixTree, ReadsListedTree, rules_in};
-ghost use Rattle.mime_view.specs.Lists.{IsTextFault};
+ghost use Rattle.mime_view.specs.Lists.{IsNoText};
 ghost use Rattle.mime_view.specs.Magic.{LiesBlock};
 ghost use Rattle.mime_view.specs.Spending.{Gives, Looks};
 
@@ -144,7 +144,7 @@ fn add_leaf<'a>(
     // On any bytes it adds a rule with a text of the cache as its type, and a short pattern.
     ensures texts { All (IsListed source.now.counted.now) listing.old → All (IsListed source.now.counted.now) listing.new }
     // It stops where the type is no text, or out of memory.
-    ensures fault { IfErr result (λ e. IsTextFault source.now.counted.now e ⊎ (e ≡ CacheFault.OutOfMemory)) }
+    ensures fault { IfErr result (λ e. IsNoText source.now.counted.now row.second e ⊎ (e ≡ CacheFault.OutOfMemory)) }
     // It reads the type.
     ensures cost { Looks 0 256 meter.old meter.new }
 {

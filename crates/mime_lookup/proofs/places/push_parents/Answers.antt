@@ -55,12 +55,12 @@ loop-place-preserved c =
     let value : c.index-place.result.now ≡ get_or next k None =
     c.index-place.ensures ∙ get_or_default next k c.index-place.result.now None inside in
     rw (c.in_ok-push_back.ensures.items, map-append)
-    (subst (λ place. Walked pairs step c.args.kind.now place (kinds_of c.loop-place.queue.items ++ c.resolve_at.result.now ∷ [])
+    (subst (λ place. Walked pairs step c.args.kind.now place (kinds_of c.loop-place.queue.items ++ c.unalias_at.result.now ∷ [])
     (kinds_of c.args.queue.now.items) (deque_len c.push_back.new.self) (deque_len c.args.queue.now)) (sym value)
     (walked-more pairs step c.args.kind.now (kinds_of c.args.queue.now.items) (deque_len c.args.queue.now) here c.index-pairs-here.result
-    c.index-pairs-here.is (kinds_of c.loop-place.queue.items) c.resolve_at.result.now (deque_len c.loop-place.queue)
+    c.index-pairs-here.is (kinds_of c.loop-place.queue.items) c.unalias_at.result.now (deque_len c.loop-place.queue)
     (deque_len c.push_back.new.self) (place_in c.args.both.now.parents.first) next k at c.requires.placed.parents size
-    (c.resolve_at.ensures ∙ ap step c.bytes.ensures.text) (omega (arith, c.in_ok-push_back.ensures.len))))
+    (c.unalias_at.ensures ∙ ap step c.bytes.ensures.text) (omega (arith, c.in_ok-push_back.ensures.len))))
 
 pub returns-clause-queue : goal.returns-clause-queue
 unfolding above

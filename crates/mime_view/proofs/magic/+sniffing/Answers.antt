@@ -1,7 +1,10 @@
-use Rattle.std.proofs.Common.{◌≡◌, ◌+◌, ◌-◌, ℕ, suc, true, arith, refl, sym, subst}
+use Rattle.std.proofs.Common.{◌≡◌, ◌+◌, ◌*◌, ◌-◌, ◌<◌, ℕ, suc, true, arith, inl, inr, refl, rules, sym, subst}
+use Rattle.std.proofs.lemmas.Result.{IfErr-weaker, err_from_is_err_and}
+use Rattle.mime_base.specs.Cache.Bytes.{field}
 use Rattle.mime_base.specs.Magic.{are_allowed, bare, line}
-use Rattle.mime_view.specs.Magic.{AnswersLines, ReadsLines, line_price}
+use Rattle.mime_view.specs.Magic.{AnswersLines, IsLineFault, ReadsLines, line_price}
 use Rattle.mime_view.proofs.CostLemmas.Costs.{spends_then}
+use Rattle.mime_view.proofs.MagicLemmas.LineFaults.{fault_below, own_fault}
 use Rattle.mime_view.proofs.MagicLemmas.LineParts.{last_level, line_alone, line_differs, line_parent, line_refused}
 use Rattle.mime_view.proofs.MagicLemmas.LinesLeft.{ended, next}
 use Rattle.mime_view.proofs.magic.+sniffing.Goals as goal
@@ -67,3 +70,49 @@ some_line_holds-loop-i-preserved t c = record {
 pub some_line_holds-returns-clause-lines : goal.some_line_holds-returns-clause-lines
 some_line_holds-returns-clause-lines t c = λ lines size reads.
     ended (c.loop-i.invariant.left lines size reads) (omega (arith, c.loop-i-test.false))
+
+pub whole_line_holds-returns-in_err-equals-clause-ends : goal.whole_line_holds-returns-in_err-equals-clause-ends
+whole_line_holds-returns-in_err-equals-clause-ends t c =
+    let p = err_from_is_err_and c.from_residual.result c.from_residual.ensures.1 in
+    rw (p.1, p.2) (record {
+      fault = own_fault c.args.query.now.counted.now c.args.at c.args.level _ _ (omega arith) (inl c.in_err-equals.ensures.ends.fault);
+      cost = c.in_err-equals.ensures.ends.cost;
+    })
+
+pub whole_line_holds-returns-then-level-eq-LAST_LEVEL-clause-ends : goal.whole_line_holds-returns-then-level-eq-LAST_LEVEL-clause-ends
+whole_line_holds-returns-then-level-eq-LAST_LEVEL-clause-ends t c =
+    let some : 0 < field c.args.query.now.counted.now c.args.at 6 = omega (arith, c.in_ok-equals.ensures.children.count) in
+    record {
+      fault = own_fault c.args.query.now.counted.now c.args.at c.args.level _ _ (omega arith) (inr (inr (refl, some, omega arith)));
+      cost = c.in_ok-equals.ensures.ends.cost;
+    }
+
+pub whole_line_holds-returns-in_err-check_block-clause-ends : goal.whole_line_holds-returns-in_err-check_block-clause-ends
+whole_line_holds-returns-in_err-check_block-clause-ends t c =
+    let p = err_from_is_err_and c.from_residual-in_err-check_block.result c.from_residual-in_err-check_block.ensures.1 in
+    let block = c.in_err-check_block.ensures.fault in
+    rw (p.1, p.2) (record {
+      fault = own_fault c.args.query.now.counted.now c.args.at c.args.level _ _ (omega arith) (inr (inl (search rules)));
+      cost = c.in_ok-equals.ensures.ends.cost;
+    })
+
+pub whole_line_holds-returns-clause-ends : goal.whole_line_holds-returns-clause-ends
+whole_line_holds-returns-clause-ends t c = record {
+  fault = IfErr-weaker c.some_child_holds.result _ _
+      (λ e. fault_below c.args.query.now.counted.now c.args.at _ _ c.args.level _ e
+      c.in_ok-equals.ensures.children.count c.in_ok-equals.ensures.children.first)
+      c.some_child_holds.ensures.ends.fault;
+  cost = spends_then (line_price c.args.query.now) 0 0 0 0 c.args.spending.now c.see_line.new.spending c.some_child_holds.new.spending
+      c.in_ok-equals.ensures.ends.cost c.some_child_holds.ensures.ends.cost;
+}
+
+pub some_line_holds-returns-in_err-line_holds-clause-ends : goal.some_line_holds-returns-in_err-line_holds-clause-ends
+some_line_holds-returns-in_err-line_holds-clause-ends t c =
+    let p = err_from_is_err_and c.from_residual.result c.from_residual.ensures.1 in
+    let line = subst (λ (n : ℕ). IsLineFault c.args.query.now.counted.now (n + 32 * c.loop-i.i) c.args.level
+    c.line_holds.new.spending.budget c.in_err-line_holds.field-0.0) c.from-start.ensures c.in_err-line_holds.ensures.ends.fault in
+    rw (p.1, p.2) (record {
+      fault = (c.loop-i.i, omega (arith, c.loop-i-test.true), line);
+      cost = spends_then (line_price c.args.query.now) 0 0 0 0 c.args.spending.now c.loop-i.spending c.line_holds.new.spending
+          c.loop-i.invariant.cost c.in_err-line_holds.ensures.ends.cost;
+    })

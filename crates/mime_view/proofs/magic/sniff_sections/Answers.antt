@@ -1,5 +1,7 @@
-use Rattle.std.proofs.Common.{length}
-use Rattle.mime_view.specs.Magic.{magic_price}
+use Rattle.std.proofs.Common.{◌≡◌, ◌∙◌, ◌+◌, ◌*◌, ℕ, List, ap, arith, get_or, inr, length, subst}
+use Rattle.std.proofs.lemmas.Result.{err_from_is_err_and}
+use Rattle.mime_base.specs.Cache.Bytes.{field}
+use Rattle.mime_view.specs.Magic.{IsSectionFault, magic_price}
 use Rattle.mime_view.proofs.CostLemmas.Costs.{spends_then}
 use Rattle.mime_view.proofs.MagicLemmas.SectionsLeft.{ended, next}
 use Rattle.mime_view.proofs.magic.sniff_sections.Goals as goal
@@ -26,3 +28,20 @@ loop-i-preserved c = record {
 
 pub returns-clause-sections : goal.returns-clause-sections
 returns-clause-sections c = λ sections reads. ended (c.loop-i.invariant.left sections reads) c.loop-i-test.false
+
+pub returns-in_err-found-clause-ends : goal.returns-in_err-found-clause-ends
+returns-in_err-found-clause-ends c =
+    let p = err_from_is_err_and c.from_residual-in_err-found.result c.from_residual-in_err-found.ensures.1 in
+    let count : get_or c.in_ok-count.field-0 0 0 ≡ field c.args.query.now.counted.now c.args.at 0 =
+    ap (λ (ns : List ℕ). get_or ns 0 0) c.in_ok-count.ensures.numbers.1
+    ∙ ap (λ (n : ℕ). field c.args.query.now.counted.now n 0) c.from.ensures in
+    let first : get_or c.in_ok-count.field-0 2 0 ≡ field c.args.query.now.counted.now c.args.at 2 =
+    ap (λ (ns : List ℕ). get_or ns 2 0) c.in_ok-count.ensures.numbers.1
+    ∙ ap (λ (n : ℕ). field c.args.query.now.counted.now n 2) c.from.ensures in
+    let section = subst (λ (n : ℕ). IsSectionFault c.args.query.now.counted.now (n + 16 * c.loop-i.i)
+    c.take_section.new.spending.budget c.in_err-found.field-0.0) (c.from-first.ensures ∙ first) c.in_err-found.ensures.ends.fault in
+    rw (p.1, p.2) (record {
+      fault = inr (inr (c.loop-i.i, omega (arith, c.loop-i-test.true, c.from-count.ensures, count), section));
+      cost = spends_then (magic_price (length c.args.query.now.content.now)) 1 0 0 0 c.args.spending.now c.loop-i.spending
+          c.take_section.new.spending c.loop-i.invariant.cost c.in_err-found.ensures.ends.cost;
+    })

@@ -1,4 +1,5 @@
-use Rattle.std.proofs.Common.{◌+◌, ◌<◌, None, Some, length, arith, ◌∙◌, sym, ap}
+use Rattle.std.proofs.Common.{◌+◌, ◌<◌, None, Some, length, arith, ◌∙◌, sym, ap, inr}
+use Rattle.std.proofs.lemmas.Result.{err_from_is_err_and}
 use Rattle.mime_base.specs.Cache.Texts.{text_at}
 use Rattle.mime_view.proofs.ListLemmas.PairTexts.{looked_up-at, names, reads_keys, target_at}
 use Rattle.mime_view.proofs.pairs.look_up_pair.Goals as goal
@@ -21,6 +22,20 @@ returns-in_err-text-clause-answer c = λ pairs reads.
     let text = ap (text_at c.args.counted.now) (c.from.ensures ∙ entry.second)
     ∙ target_at c.args.counted.now (c.args.at + 4) pairs c.in-Some.entry.place reads.entries below in
     absurd (cc (text, c.in_err-text.ensures.text))
+
+pub returns-in_err-text-clause-given : goal.returns-in_err-text-clause-given
+returns-in_err-text-clause-given c =
+    let entry = rw c.in-Some.is at c.in_ok-entry.ensures.found.entry in
+    let p = err_from_is_err_and c.from_residual-in_err-text.result c.from_residual-in_err-text.ensures.1 in
+    rw p.1 (inr (record {
+      i = c.in-Some.entry.place;
+      within = entry.within;
+      text = record {
+        fault = c.in_err-text.field-0.0;
+        no_text = ap (text_at c.args.counted.now) (sym (c.from.ensures ∙ entry.second)) ∙ c.in_err-text.ensures.text;
+        is = p.2;
+      };
+    }))
 
 pub returns-clause-answer : goal.returns-clause-answer
 returns-clause-answer c = λ pairs reads.

@@ -59,13 +59,13 @@ returns-in_err-types-clause-taken c =
     let at : c.from.result ≡ parents_at c.args.counted.now c.args.at c.in-Some.found.place = c.from.ensures ∙ entry.second in
     let p = err_from_is_err_and c.from_residual-in_err-types.result c.from_residual-in_err-types.ensures.1 in
     rw (p.1, p.2) (record {
-      fault = inr (inr (record {
+      fault = inr (record {
         place = c.in-Some.found.place;
         entry = is;
         unmarked = unmarked;
         fault = subst (λ (n : ℕ). IsTextsFault c.args.counted.now n c.args.spending.now.budget.records
             c.take_texts.new.spending.budget.records c.in_err-types.field-0.0) at c.in_err-types.ensures.texts;
-      }));
+      });
       unmarked = search rules;
     })
 
@@ -92,12 +92,12 @@ returns-in_err-add-clause-taken c =
     let unmarked : has_place c.args.marks.now c.in-Some.found.place ≡ false = sym c.contains.ensures ∙ c.if-contains.false in
     let p = err_from_is_err_and c.from_residual-in_err-add.result c.from_residual-in_err-add.ensures.1 in
     rw (p.1, p.2) (record {
-      fault = inr (inr (record {
+      fault = inr (record {
         place = c.in-Some.found.place;
         entry = is;
         unmarked = unmarked;
         fault = inr (inr (inr c.in_err-add.ensures.fault));
-      }));
+      });
       unmarked = c.in_err-add.ensures.unchanged;
     })
 

@@ -1,6 +1,7 @@
 use Rattle.std.proofs.Common.{◌+◌, arith, rules}
+use Rattle.std.proofs.lemmas.Result.{err_from_is_err_and}
 use Rattle.mime_view.proofs.CostLemmas.Costs.{spends_then}
-use Rattle.mime_view.proofs.ListLemmas.TextLists.{KeysAt-pushed}
+use Rattle.mime_view.proofs.ListLemmas.TextLists.{KeysAt-pushed, text_fault}
 use Rattle.mime_view.specs.Spending.{per_record}
 use Rattle.mime_view.proofs.parents.take_texts.Goals as goal
 
@@ -13,3 +14,9 @@ loop-i-preserved c = record {
   cost = spends_then (per_record 256) 1 0 0 0 c.args.spending.now c.loop-i.spending c.take_text-in-loop-i.new.spending c.loop-i.invariant.cost
       c.take_text-in-loop-i.ensures.cost;
 }
+
+pub returns-in_err-text-2-clause-texts : goal.returns-in_err-text-2-clause-texts
+returns-in_err-text-2-clause-texts c =
+    let p = err_from_is_err_and c.from_residual-in_err-text-2.result c.from_residual-in_err-text-2.ensures.1 in
+    rw (p.1, p.2) (text_fault c.args.counted.now c.args.at c.loop-i.i c.args.spending.now.budget.records c.loop-i.spending.budget.records _ _
+    (omega (arith, c.loop-i-test.true, c.in_ok-count.ensures.count)) c.loop-i.invariant.takes c.in_err-text-2.ensures.text)

@@ -1,4 +1,5 @@
 use Rattle.std.proofs.Common.{◌≡◌, ℕ, ◌+◌, ◌-◌, ◌*◌, ◌/◌, Equal, nat_cmp, true≢false, arith, ◌∙◌, sym, ap, get_or}
+use Rattle.std.proofs.lemmas.Result.{err_from_is_err_and}
 use Rattle.std.specs.Cmp.Lexicographic.{slice_cmp}
 use Rattle.mime_view.proofs.ListLemmas.EqualTexts.{equal_text}
 use Rattle.mime_base.specs.Cache.Bytes.{field}
@@ -16,6 +17,22 @@ returns-in_err-compare_text-clause-answer c = λ keys n stand.
     c.from.ensures ∙ ap (λ xs. get_or xs 0 0) c.cards_within.ensures.numbers in
     let order = c.in_err-compare_text.ensures.text _ (ap (text_at c.args.counted.now) at ∙ text) in
     absurd (cc order)
+
+pub returns-in_err-compare_text-clause-sought : goal.returns-in_err-compare_text-clause-sought
+returns-in_err-compare_text-clause-sought c =
+    let middle : ℕ = (c.loop-low.low + c.loop-low.high) / 2 in
+    let at : c.from.result ≡ field c.args.counted.now (c.args.first + c.args.size * middle) 0 =
+    c.from.ensures ∙ ap (λ xs. get_or xs 0 0) c.cards_within.ensures.numbers in
+    let p = err_from_is_err_and c.from_residual.result c.from_residual.ensures.1 in
+    rw p.1 (record {
+      i = middle;
+      within = omega arith;
+      text = record {
+        fault = c.in_err-compare_text.field-0.0;
+        no_text = ap (text_at c.args.counted.now) (sym at) ∙ c.in_err-compare_text.ensures.fault;
+        is = p.2;
+      };
+    })
 
 pub returns-clause-answer : goal.returns-clause-answer
 returns-clause-answer c = λ keys n stand sorted.

@@ -51,7 +51,7 @@ returns-in_err-kind-in-Kept-clause-cost c =
 pub returns-in_err-kind-in-Unasked-clause-stops : goal.returns-in_err-kind-in-Unasked-clause-stops
 returns-in_err-kind-in-Unasked-clause-stops c =
     let step = c.in_err-kind-in-Unasked in
-    let left = c.resolve.new.spending.budget in
+    let left = c.unalias.new.spending.budget in
     rw c.in-Unasked.is (passed_on _ step.field-0.0 c.from_residual-in_err-kind-in-Unasked.result
     c.from_residual-in_err-kind-in-Unasked.ensures.1
     (stops_for c.args.cache.now _ _ _ step.field-0.0 (choice_fault c.args.cache.now left step.field-0.0 (inl step.ensures.fault))
@@ -61,7 +61,7 @@ returns-in_err-kind-in-Unasked-clause-stops c =
 
 pub returns-in_err-kind-in-Unasked-clause-cost : goal.returns-in_err-kind-in-Unasked-clause-cost
 returns-in_err-kind-in-Unasked-clause-cost c =
-    costs_sniffed (length c.args.question.now.name.now) _ c.in_ok-finding.ensures.cost (costs_looks 256 0 c.resolve.ensures.cost) (omega arith)
+    costs_sniffed (length c.args.question.now.name.now) _ c.in_ok-finding.ensures.cost (costs_looks 256 0 c.unalias.ensures.cost) (omega arith)
     (omega arith)
 
 pub returns-then-is_high-clause-chosen : goal.returns-then-is_high-clause-chosen
@@ -81,7 +81,7 @@ returns-then-is_high-clause-near c =
 
 pub returns-then-is_high-clause-cost : goal.returns-then-is_high-clause-cost
 returns-then-is_high-clause-cost c =
-    costs_sniffed (length c.args.question.now.name.now) _ c.in_ok-finding.ensures.cost (costs_looks 256 0 c.resolve.ensures.cost) (omega arith)
+    costs_sniffed (length c.args.question.now.name.now) _ c.in_ok-finding.ensures.cost (costs_looks 256 0 c.unalias.ensures.cost) (omega arith)
     (omega arith)
 
 pub returns-in_err-kind-in-Unasked-2-clause-stops : goal.returns-in_err-kind-in-Unasked-2-clause-stops

@@ -19,7 +19,7 @@ use Rattle.mime_lookup.proofs.cached.by_content.choose.Goals as goal
 pub returns-in_err-base-clause-stops : goal.returns-in_err-base-clause-stops
 returns-in_err-base-clause-stops c =
     let base = c.in_err-base in
-    let left = c.resolve.new.spending.budget in
+    let left = c.unalias.new.spending.budget in
     passed_on _ base.field-0.0 c.from_residual.result c.from_residual.ensures.1
     (stops_for c.args.cache.now _ _ _ base.field-0.0 (choice_fault c.args.cache.now left base.field-0.0 (inl base.ensures.fault))
     (λ same. inl (choice_spent c.args.cache.now left base.field-0.0 (inl base.ensures.fault) same))

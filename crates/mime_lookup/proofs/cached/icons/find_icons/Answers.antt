@@ -1,4 +1,4 @@
-use Rattle.std.proofs.Common.{ℕ, List, Err, ap, ap₂, inl, inr, ⊎_elim, ◌∙◌}
+use Rattle.std.proofs.Common.{ℕ, List, Err, ap, ap₂, inl, inr, ◌∙◌}
 use Rattle.std.proofs.lemmas.Result.{err_from_is_err_and}
 use Rattle.mime_lookup.specs.Icons.{PlainIcons, generic_of_media, icons_by, name_or, with_hyphens}
 use Rattle.mime_lookup.specs.Spelling.{SpellsIcons}
@@ -30,7 +30,7 @@ returns-in_err-icon-clause-stops c =
     let p = err_from_is_err_and c.from_residual-in_err-icon.result c.from_residual-in_err-icon.ensures.1 in
     let same = c.in_ok-cache.ensures.opened.0 in
     let e = c.in_err-icon.field-0.0 in
-    let is : IsIconFault c.in_ok-cache.cache e = ⊎_elim (λ list. inr (inr (inl list))) (λ text. inr (inl (inr text))) c.in_err-icon.ensures.given in
+    let is : IsIconFault c.in_ok-cache.cache e = inr (inr (inl c.in_err-icon.ensures.given)) in
     rw (p.1, p.2) (opened_stops c.args.cache (IsIconFault c.args.cache) (IsIconFault c.in_ok-cache.cache) _ (Err e)
     c.in_ok-cache.ensures.opened.1 is (λ x fault. caused (IsIconFault c.args.cache) x (rw (← same) fault))
     (λ b spelled small.
@@ -42,7 +42,7 @@ returns-in_err-generic-clause-stops c =
     let p = err_from_is_err_and c.from_residual-in_err-generic.result c.from_residual-in_err-generic.ensures.1 in
     let same = c.in_ok-cache.ensures.opened.0 in
     let e = c.in_err-generic.field-0.0 in
-    let is : IsIconFault c.in_ok-cache.cache e = ⊎_elim (λ list. inr (inr (inr list))) (λ text. inr (inl (inr text))) c.in_err-generic.ensures.given in
+    let is : IsIconFault c.in_ok-cache.cache e = inr (inr (inr c.in_err-generic.ensures.given)) in
     rw (p.1, p.2) (opened_stops c.args.cache (IsIconFault c.args.cache) (IsIconFault c.in_ok-cache.cache) _ (Err e)
     c.in_ok-cache.ensures.opened.1 is (λ x fault. caused (IsIconFault c.args.cache) x (rw (← same) fault))
     (λ b spelled small.

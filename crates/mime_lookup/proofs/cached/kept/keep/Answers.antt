@@ -38,7 +38,7 @@ returns-then-are_one_type-clause-gives c b globs =
     let same = c.as_slice-types.ensures ∙ kinds.answer in
     record {
       given = record { answer = rw (← same) (one, first_text items _ one); need = λ enough. tt; most = kinds.within };
-      near = omega (arith, c.are_one_type.ensures.nodes, cost.cost.nodes, cost.given, kinds.nearly, kinds.few);
+      near = omega (arith, c.are_one_type.ensures.nodes, cost.cost.most_nodes, cost.given, kinds.nearly, kinds.few);
     }
 
 pub returns-then-are_one_type-clause-text : goal.returns-then-are_one_type-clause-text
@@ -64,7 +64,7 @@ returns-clause-gives c b globs =
     rw c.as_slice-types.ensures at (sym c.are_one_type.ensures.answer ∙ c.if-are_one_type.false) in
     record {
       given = record { answer = rw (← kinds.answer) (conflict, refl); need = λ enough. tt; most = kinds.within };
-      near = omega (arith, c.are_one_type.ensures.nodes, cost.cost.nodes, cost.given, kinds.nearly, kinds.few);
+      near = omega (arith, c.are_one_type.ensures.nodes, cost.cost.most_nodes, cost.given, kinds.nearly, kinds.few);
     }
 
 pub returns-clause-cost : goal.returns-clause-cost

@@ -24,7 +24,7 @@ returns-in_err-add_entry-clause-adds c =
     let entry = c.in_err-add_entry.ensures.adds in
     rw (p.1, p.2) (record {
       texts = λ all. entry.texts (c.loop-i.invariant.adds.texts all);
-      fault = inr entry.fault;
+      fault = inr (c.loop-i.i, omega (arith, c.loop-i-test.true, c.in_ok-count.ensures.count.0), entry.fault);
       cost = spends_then (per_record 512) 1 0 0 0 _ _ _ c.loop-i.invariant.adds.cost entry.cost;
     })
 

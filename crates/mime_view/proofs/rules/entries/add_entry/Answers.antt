@@ -8,7 +8,7 @@ returns-in_err-add-clause-adds c =
     let p = err_from_is_err_and c.from_residual-in_err-add.result c.from_residual-in_err-add.ensures.1 in
     rw (p.1, p.2) (record {
       texts = rw c.in_err-add.ensures.stays (λ all. all);
-      fault = inr (inr c.in_err-add.ensures.fault);
+      fault = inr (inr (inr c.in_err-add.ensures.fault));
       cost = search rules;
     })
 

@@ -1,5 +1,6 @@
-use Rattle.std.proofs.Common.{ℕ, List, length, ◌++◌, map, arith, rules, sym, ap, ◌∙◌}
+use Rattle.std.proofs.Common.{◌≡◌, ℕ, List, length, ◌++◌, map, arith, inl, inr, refl, rules, sym, ap, ◌∙◌, ⊎_elim}
 use Rattle.std.proofs.lemmas.Result.{err_from_is_err_and}
+use Rattle.mime_base.specs.Cache.Bytes.{field}
 use Rattle.mime_base.specs.declared.database.rule.GlobRule.{GlobRule}
 use Rattle.mime_view.specs.Listing.{listed_rule}
 use Rattle.mime_view.specs.Spending.{per_record}
@@ -112,14 +113,65 @@ add_siblings-returns-clause-answer t c = λ tree sibling_count reads.
       most = omega (arith, left.records);
     }
 
+pub add_sibling-returns-in_err-row-clause-adds : goal.add_sibling-returns-in_err-row-clause-adds
+add_sibling-returns-in_err-row-clause-adds t c =
+    let none = c.in_err-row.ensures.row in
+    let p = err_from_is_err_and c.from_residual.result c.from_residual.ensures.1 in
+    rw (p.1, p.2) (record {
+      texts = λ all. all;
+      fault = here c.args.source.now.counted.now c.args.at (length c.args.ending.now) _ _ (inr (inr (inr (inl (search rules)))));
+      cost = search rules;
+    })
+
+pub add_sibling-returns-in_err-add_leaf-clause-adds : goal.add_sibling-returns-in_err-add_leaf-clause-adds
+add_sibling-returns-in_err-add_leaf-clause-adds t c =
+    let row = c.in_ok-row.ensures.row in
+    let p = err_from_is_err_and c.from_residual-in_err-add_leaf.result c.from_residual-in_err-add_leaf.ensures.1 in
+    rw (p.1, p.2) (record {
+      texts = c.in_err-add_leaf.ensures.texts;
+      fault = here c.args.source.now.counted.now c.args.at (length c.args.ending.now) _ _
+          (⊎_elim (λ kind. inr (inr (inl (sym row.first ∙ c.if-row-eq0.true, rw row.second at kind)))) (λ memory. inr (inr (inr (inr memory))))
+          c.in_err-add_leaf.ensures.fault);
+      cost = search rules;
+    })
+
 pub add_sibling-returns-then-length-eq-DEEPEST-clause-adds : goal.add_sibling-returns-then-length-eq-DEEPEST-clause-adds
 add_sibling-returns-then-length-eq-DEEPEST-clause-adds t c =
     record {
       texts = λ all. all;
-      fault = here c.args.source.now.counted.now c.args.at (length c.args.ending.now) c.take_row.new.spending.budget.records
-          (omega (arith, c.in_ok-row.ensures.row.first)) (omega (arith, c.in_ok-row.ensures.row.first)) (omega arith);
+      fault = here c.args.source.now.counted.now c.args.at (length c.args.ending.now) c.take_row.new.spending.budget.records _
+          (inr (inl (
+            record { some = omega (arith, c.in_ok-row.ensures.row.first); byte = omega (arith, c.in_ok-row.ensures.row.first) },
+            omega arith,
+            refl,
+          )));
       cost = search rules;
     }
+
+pub add_sibling-returns-in_err-check_block-clause-adds : goal.add_sibling-returns-in_err-check_block-clause-adds
+add_sibling-returns-in_err-check_block-clause-adds t c =
+    let row = c.in_ok-row.ensures.row in
+    let count : c.from-count.result ≡ field c.args.source.now.counted.now c.args.at 1 = c.from-count.ensures ∙ row.second in
+    let first : c.from-first.result ≡ field c.args.source.now.counted.now c.args.at 2 = c.from-first.ensures ∙ row.third in
+    let p = err_from_is_err_and c.from_residual-in_err-check_block.result c.from_residual-in_err-check_block.ensures.1 in
+    rw (p.1, p.2) (record {
+      texts = λ all. all;
+      fault = here c.args.source.now.counted.now c.args.at (length c.args.ending.now) _ _
+          (inl (
+            record { some = omega (arith, row.first); byte = omega (arith, row.first) },
+            rw (first, count) at c.in_err-check_block.ensures.fault,
+          ));
+      cost = search rules;
+    })
+
+pub add_sibling-returns-in_err-grow-clause-adds : goal.add_sibling-returns-in_err-grow-clause-adds
+add_sibling-returns-in_err-grow-clause-adds t c =
+    let p = err_from_is_err_and c.from_residual-in_err-grow.result c.from_residual-in_err-grow.ensures.1 in
+    rw (p.1, p.2) (record {
+      texts = λ all. all;
+      fault = here c.args.source.now.counted.now c.args.at (length c.args.ending.now) _ _ (inr (inr (inr (inr c.in_err-grow.ensures.fault))));
+      cost = search rules;
+    })
 
 pub add_sibling-returns-in_err-add_siblings-clause-adds : goal.add_sibling-returns-in_err-add_siblings-clause-adds
 add_sibling-returns-in_err-add_siblings-clause-adds t c =
@@ -131,7 +183,7 @@ add_sibling-returns-in_err-add_siblings-clause-adds t c =
           (length c.grow.new.self) c.add_siblings.new.spending.budget.records _ (c.from-first.ensures ∙ c.in_ok-row.ensures.row.third)
           (c.from-count.ensures ∙ c.in_ok-row.ensures.row.second)
           (ap (λ (e : List ℕ). length e) c.in_ok-grow.ensures.grown)
-          (omega (arith, c.in_ok-row.ensures.row.first)) (omega (arith, c.in_ok-row.ensures.row.first)) adds.fault;
+          (record { some = omega (arith, c.in_ok-row.ensures.row.first); byte = omega (arith, c.in_ok-row.ensures.row.first) }) adds.fault;
       cost = search rules;
     })
 

@@ -1,7 +1,7 @@
 use Rattle.std.proofs.Common.{◌≡◌, drop}
 use Rattle.mime_base.specs.Database.PlainPairs.{plain_pairs}
 use Rattle.mime_base.specs.Database.Subclass.{resolved}
-use Rattle.mime_lookup.proofs.pairs.resolve.Given as goal
+use Rattle.mime_lookup.proofs.pairs.unalias.Given as goal
 
 abbrev pub invariant-loop-pair : goal.invariant-loop-pair
 invariant-loop-pair l = resolved (plain_pairs l.aliases) l.kind ≡ resolved (plain_pairs (drop l.pair-index l.aliases)) l.kind

@@ -3,7 +3,7 @@ use Rattle.std.proofs.lemmas.List.{drop_all}
 use Rattle.mime_base.specs.Database.PlainPairs.{plain_pairs}
 use Rattle.mime_base.specs.Database.Subclass.{resolved}
 use Rattle.mime_lookup.proofs.AncestryLemmas.PairSteps.{items_from, resolved-here, resolved-past, resolved-nil}
-use Rattle.mime_lookup.proofs.pairs.resolve.Goals as goal
+use Rattle.mime_lookup.proofs.pairs.unalias.Goals as goal
 
 pub returns-then-is_same : goal.returns-then-is_same
 returns-then-is_same c =

@@ -1,4 +1,4 @@
-use Rattle.mime_lookup.proofs.cached.sniff.resolve.Goals as goal
+use Rattle.mime_lookup.proofs.cached.sniff.unalias.Goals as goal
 
 pub returns-in-Magic-clause-answer : goal.returns-in-Magic-clause-answer
 returns-in-Magic-clause-answer c b offsets header aliases =

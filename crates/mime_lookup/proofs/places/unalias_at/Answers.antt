@@ -2,7 +2,7 @@ use Rattle.std.proofs.Common.{◌∙◌, Some, sym, subst}
 use Rattle.mime_base.specs.Database.PlainPairs.{plain_pairs}
 use Rattle.mime_lookup.specs.Places.{IsNext}
 use Rattle.mime_lookup.proofs.AncestryLemmas.Walks.{resolved-none, resolved-to}
-use Rattle.mime_lookup.proofs.places.resolve_at.Goals as goal
+use Rattle.mime_lookup.proofs.places.unalias_at.Goals as goal
 
 pub target_at-requires : goal.target_at-requires
 target_at-requires c =
