@@ -70,7 +70,7 @@ pub fn by_content<'a>(
             Ok(kind)
         }
         Candidates::Ignored => {
-            let kind = resolve(cache, finding, spending)?;
+            let kind = unalias(cache, finding, spending)?;
             Ok(kind)
         }
     }
