@@ -151,7 +151,7 @@ returns-in_ok-kind-in-Unasked-2-clause-cost c =
 pub returns-in_err-kind-in-Ignored-clause-stops : goal.returns-in_err-kind-in-Ignored-clause-stops
 returns-in_err-kind-in-Ignored-clause-stops c =
     let step = c.in_err-kind-in-Ignored in
-    let left = c.resolve-in-Ignored.new.spending.budget in
+    let left = c.unalias-in-Ignored.new.spending.budget in
     rw c.in-Ignored.is (passed_on _ step.field-0.0 c.from_residual-in_err-kind-in-Ignored.result
     c.from_residual-in_err-kind-in-Ignored.ensures.1
     (stops_for c.args.cache.now _ _ _ step.field-0.0 (choice_fault c.args.cache.now left step.field-0.0 (inl step.ensures.fault))
@@ -161,7 +161,7 @@ returns-in_err-kind-in-Ignored-clause-stops c =
 
 pub returns-in_err-kind-in-Ignored-clause-cost : goal.returns-in_err-kind-in-Ignored-clause-cost
 returns-in_err-kind-in-Ignored-clause-cost c =
-    costs_sniffed (length c.args.question.now.name.now) _ c.in_ok-finding.ensures.cost (costs_looks 256 0 c.resolve-in-Ignored.ensures.cost)
+    costs_sniffed (length c.args.question.now.name.now) _ c.in_ok-finding.ensures.cost (costs_looks 256 0 c.unalias-in-Ignored.ensures.cost)
     (omega arith) (omega arith)
 
 pub returns-in_ok-kind-in-Ignored-clause-chosen : goal.returns-in_ok-kind-in-Ignored-clause-chosen
@@ -178,11 +178,11 @@ returns-in_ok-kind-in-Ignored-clause-near c =
     let none = decide_unavailable b c.args.question.now.name.now _ decide in
     omega (
       arith,
-      c.resolve-in-Ignored.ensures.cost.looks.most_nodes,
+      c.unalias-in-Ignored.ensures.cost.looks.most_nodes,
       ap (λ (spending : Spending). spending.meter.nodes) (c.in_ok-finding.ensures.nothing none),
     ))
 
 pub returns-in_ok-kind-in-Ignored-clause-cost : goal.returns-in_ok-kind-in-Ignored-clause-cost
 returns-in_ok-kind-in-Ignored-clause-cost c =
-    costs_sniffed (length c.args.question.now.name.now) _ c.in_ok-finding.ensures.cost (costs_looks 256 0 c.resolve-in-Ignored.ensures.cost)
+    costs_sniffed (length c.args.question.now.name.now) _ c.in_ok-finding.ensures.cost (costs_looks 256 0 c.unalias-in-Ignored.ensures.cost)
     (omega arith) (omega arith)
