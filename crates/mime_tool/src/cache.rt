@@ -1,6 +1,6 @@
 //! What is said of a CACHE that gives no answer. This project's own.
 
-ghost use Rattle.std.specs.Prelude.{◌≡◌, IfOk, string_bytes};
+ghost use Rattle.std.specs.Prelude.{◌≡◌, ◌≢◌, IfOk, string_bytes};
 ghost use Rattle.mime_tool.specs.Cache.{IsCacheFaultStop, cache_fault_name};
 ghost use Rattle.mime_tool.specs.Run.{refusal};
 ghost use Rattle.mime_tool.specs.Stop.{IsRefusal};
@@ -21,8 +21,12 @@ pub(crate) fn faulty(alloc: Global, path: &str, fault: CacheFault) -> Stop
     }
 }
 
-/// The stop of a lookup that reads no content and stopped for this.
+/// The stop of a question that stopped for this, and that has no name and reads no content.
 pub(crate) fn stopped_for(alloc: Global, path: &str, cause: Cause) -> Stop
+    // No name was too long.
+    requires named { cause ≢ Cause.NameTooLong }
+    // No read failed.
+    requires readable { cause ≢ Cause.Read }
     // A fault of the cache is that stop.
     ensures fault { (fault : CacheFault) → cause ≡ Cause.Cache fault → IsCacheFaultStop path.now fault result }
     // Where memory ran out, the stop tells that.
@@ -30,7 +34,8 @@ pub(crate) fn stopped_for(alloc: Global, path: &str, cause: Cause) -> Stop
 {
     match cause {
         Cause::Cache(fault) => faulty(alloc, path, fault),
-        Cause::NameTooLong | Cause::Read | Cause::OutOfMemory => Stop::OutOfMemory,
+        Cause::OutOfMemory => Stop::OutOfMemory,
+        Cause::NameTooLong | Cause::Read => unreachable!(),
     }
 }
 

@@ -99,7 +99,8 @@ fn find_in_database<'a, R: Content + Drop>(
         Err(stopped) => match stopped.cause {
             Cause::NameTooLong => Ok(Outcome::NameTooLong),
             Cause::Read => Ok(Outcome::CannotRead),
-            Cause::Cache(_) | Cause::OutOfMemory => Err(Stop::OutOfMemory),
+            Cause::OutOfMemory => Err(Stop::OutOfMemory),
+            Cause::Cache(_) => unreachable!(),
         },
     }
 }
