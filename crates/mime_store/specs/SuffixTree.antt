@@ -17,15 +17,15 @@ abbrev pub ending_rule : Ending → GlobRule
 ending_rule ending = ending.rule.now
 
 -- a path, and the rule at its end
-abbrev pub Entry : Type 0
-Entry = List ℕ × GlobRule
+abbrev pub PathRule : Type 0
+PathRule = List ℕ × GlobRule
 
 -- what is left of an ending at a depth
-abbrev pub ending_entry : ℕ → Ending → Entry
+abbrev pub ending_entry : ℕ → Ending → PathRule
 ending_entry depth ending = (drop depth ending.path.items, ending.rule.now)
 
 -- the rules of the entries with this path, in their order
-abbrev pub pick : List ℕ → List Entry → List GlobRule
+abbrev pub pick : List ℕ → List PathRule → List GlobRule
 pick path [] = []
 pick path (e ∷ es) = (if bytes_eq e.0 path then e.1 ∷ [] else []) ++ pick path es
 
@@ -36,20 +36,20 @@ common (x ∷ xs) [] = 0
 common (x ∷ xs) (y ∷ ys) = if x == y then common xs ys + 1 else 0
 
 -- a leaf for each entry, and a node for each byte past what its path shares with the path before it
-abbrev pub nodes : List ℕ → List Entry → ℕ
+abbrev pub nodes : List ℕ → List PathRule → ℕ
 nodes before [] = 0
 nodes before (e ∷ es) = (length e.0 - common before e.0) + 1 + nodes e.0 es
 
 -- what the types of the entries take
-abbrev pub kinds_room : List Entry → ℕ
+abbrev pub kinds_room : List PathRule → ℕ
 kinds_room es = sum_by (λ e. text_room e.1.kind) es
 
 -- what the entries take as a tree
-abbrev pub entries_room : List Entry → ℕ
+abbrev pub entries_room : List PathRule → ℕ
 entries_room es = 12 * nodes [] es + kinds_room es
 
 -- what an entry takes as a leaf, with its type and the nodes past what its path shares with the path before it
-abbrev pub ending_room : List ℕ → Entry → ℕ
+abbrev pub ending_room : List ℕ → PathRule → ℕ
 ending_room before e = 12 * (length e.0 - common before e.0 + 1) + text_room e.1.kind
 
 -- one of some siblings
@@ -97,12 +97,12 @@ PathLe (x ∷ xs) [] = ⊥
 PathLe (x ∷ xs) (y ∷ ys) = (x < y) ⊎ ((x ≡ y) × PathLe xs ys)
 
 -- the paths rise, from one before them
-abbrev pub Rises : List ℕ → List Entry → Type 0
+abbrev pub Rises : List ℕ → List PathRule → Type 0
 Rises before [] = Unit {0}
 Rises before (e ∷ es) = PathLe before e.0 × NoZero e.0 × Rises e.0 es
 
 -- the first path does not go on from the one before it
-abbrev pub Fresh : List ℕ → List Entry → Type 0
+abbrev pub Fresh : List ℕ → List PathRule → Type 0
 Fresh before [] = Unit {0}
 Fresh before (e ∷ es) = common before e.0 ≡ 0
 
@@ -112,7 +112,7 @@ first_byte [] = 0
 first_byte (x ∷ xs) = x
 
 -- siblings stand there whose leaves are those of the entries
-pub record IsBlock (S : Standing) (count first : ℕ) (es : List Entry) : Type 0 where
+pub record IsBlock (S : Standing) (count first : ℕ) (es : List PathRule) : Type 0 where
   pub tree : Tree
   pub counted : sibling_count tree ≡ count
   pub stand : TreeAt S first tree
@@ -122,7 +122,7 @@ pub record IsBlock (S : Standing) (count first : ℕ) (es : List Entry) : Type 0
   pub ordered : Rises [] es → InOrder 0 tree
 
 -- after a path that the entries do not go on from, the sibling is in order, and some such path stands before the rest
-pub record GoesBehind (before : List ℕ) (sibling : Sibling) (rest : List Entry) : Type 0 where
+pub record GoesBehind (before : List ℕ) (sibling : Sibling) (rest : List PathRule) : Type 0 where
   pub after : List ℕ
   pub here : InOrder (first_byte before) (as_tree (sibling ∷ []))
   pub now : next_byte (first_byte before) sibling ≡ first_byte after
@@ -130,7 +130,7 @@ pub record GoesBehind (before : List ℕ) (sibling : Sibling) (rest : List Entry
   pub fresh : Fresh after rest
 
 -- the first n entries make one sibling, and what belongs to it was written
-pub record WritesSibling (old new row : List ℕ) (n : ℕ) (es : List Entry) : Type 0 where
+pub record WritesSibling (old new row : List ℕ) (n : ℕ) (es : List PathRule) : Type 0 where
   pub sibling : Sibling
   pub by : ℕ
   pub grew : Grew old new by
@@ -144,24 +144,24 @@ pub record WritesSibling (old new row : List ℕ) (n : ℕ) (es : List Entry) : 
   pub within : n ≤ length es
 
 -- all of them begin with b
-abbrev pub StartAll : ℕ → List Entry → Type 0
+abbrev pub StartAll : ℕ → List PathRule → Type 0
 StartAll b [] = Unit {0}
 StartAll b (e ∷ es) = (k : List ℕ) × (e.0 ≡ b ∷ k) × StartAll b es
 
 -- the first one does not begin with b
-abbrev pub ClearOf : ℕ → List Entry → Type 0
+abbrev pub ClearOf : ℕ → List PathRule → Type 0
 ClearOf b [] = Unit {0}
 ClearOf b (e ∷ es) = (k : List ℕ) → common (b ∷ k) e.0 ≡ 0
 
 -- the entries are those of the rules, by rising paths: with the rules of each path in their order
-pub record AreEndings (es : List Entry) (rules : List GlobRule) : Type 0 where
+pub record AreEndings (es : List PathRule) (rules : List GlobRule) : Type 0 where
   pub rises : Rises [] es
   pub leaves : (path : List ℕ) → pick path es ≡ with_key reversed_ending path rules
   pub size : nodes [] es ≡ length rules + front_count (map reversed_ending rules)
   pub kinds : kinds_room es ≡ sum_by (λ rule. text_room rule.kind) rules
 
 -- the head of a tree stands there, whose leaves are those of the entries
-pub record TreeOf (S : Standing) (at : ℕ) (es : List Entry) : Type 0 where
+pub record TreeOf (S : Standing) (at : ℕ) (es : List PathRule) : Type 0 where
   pub tree : Tree
   pub first : ℕ
   pub head : CardsAt S at (sibling_count tree ∷ first ∷ [])

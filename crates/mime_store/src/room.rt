@@ -107,11 +107,11 @@ fn nodes_of(before: &[u8], ending: &Ending<'_>) -> usize
     ensures nodes { result ≡ length ending.now.path.items - common before.now ending.now.path.items + 1 }
     ensures few { result ≤ 256 }
 {
-    ending.path.len() - common_length(before, &ending.path) + 1
+    ending.path.len() - agreeing_length(before, &ending.path) + 1
 }
 
 /// How many bytes two paths share from the front.
-fn common_length(left: &[u8], right: &[u8]) -> usize
+fn agreeing_length(left: &[u8], right: &[u8]) -> usize
     ensures common { result ≡ common_prefix_len nat_eq left.now right.now }
     ensures left { result ≤ length left.now }
     ensures right { result ≤ length right.now }

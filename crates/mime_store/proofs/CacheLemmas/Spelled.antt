@@ -13,7 +13,7 @@ use Rattle.mime_base.specs.Format.Stored.{literal_rules, stored_text, tree_rules
 use Rattle.mime_base.specs.Format.SuffixTree.{SuffixTreeAt}
 use Rattle.mime_base.specs.declared.database.Database as code
 use Rattle.mime_base.specs.declared.database.rule.GlobRule.{GlobRule}
-use Rattle.mime_store.specs.SuffixTree.{AreEndings, Entry, TreeOf}
+use Rattle.mime_store.specs.SuffixTree.{AreEndings, PathRule, TreeOf}
 use Rattle.mime_store.specs.Parts.{AreParts, parts_room}
 use Rattle.mime_store.specs.Runs.{AreRuns, plain_run}
 use Rattle.mime_store.specs.Views.{first_text, pair_texts}
@@ -43,7 +43,7 @@ magic_carry S S' f at sections m = record {
 }
 
 -- a suffix tree that stands stays as more is written
-pub tree_of_carry : (S S' : Standing) → Carries S S' → (at : ℕ) (es : List Entry) → TreeOf S at es → TreeOf S' at es
+pub tree_of_carry : (S S' : Standing) → Carries S S' → (at : ℕ) (es : List PathRule) → TreeOf S at es → TreeOf S' at es
 tree_of_carry S S' f at es t = record {
   tree = t.tree;
   first = t.first;
@@ -65,7 +65,7 @@ pub literals_stand : (S : Standing) (at : ℕ) (rules sorted : List GlobRule) �
 literals_stand S at rules sorted by_text list = record { entries = sorted; sorted = by_text; stand = list }
 
 -- a tree of sorted endings is the suffix tree
-pub suffix_tree_stands : (S : Standing) (at : ℕ) (rules : List GlobRule) (es : List Entry) → AreEndings es (tree_rules rules)
+pub suffix_tree_stands : (S : Standing) (at : ℕ) (rules : List GlobRule) (es : List PathRule) → AreEndings es (tree_rules rules)
     → TreeOf S at es → SuffixTreeAt S at rules
 suffix_tree_stands S at rules es are t = record {
   tree = t.tree;

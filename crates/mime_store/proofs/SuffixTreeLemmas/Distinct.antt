@@ -6,19 +6,19 @@ use Rattle.std.specs.List.{list_any, flat_map, IsDistinct, AllByRecursion}
 use Rattle.std.specs.Set.{distinct_count, unique_keys, is_member}
 use Rattle.std.proofs.lemmas.List.Folds.{list_any-append}
 use Rattle.std.proofs.lemmas.Bool.{eq-eqb}
-use Rattle.mime_store.specs.SuffixTree.{Entry}
+use Rattle.mime_store.specs.SuffixTree.{PathRule}
 use Rattle.mime_base.specs.Format.SuffixTree.{front_count, fronts}
 
 -- the paths of entries
-abbrev pub paths : List Entry → List (List ℕ)
+abbrev pub paths : List PathRule → List (List ℕ)
 paths es = map (λ e. e.0) es
 
 -- the fronts of all their paths
-abbrev pub all_fronts : List Entry → List (List ℕ)
+abbrev pub all_fronts : List PathRule → List (List ℕ)
 all_fronts es = flat_map fronts (paths es)
 
 -- how many fronts they have, each counted once
-abbrev pub endings_count : List Entry → ℕ
+abbrev pub endings_count : List PathRule → ℕ
 endings_count es = front_count (paths es)
 
 -- how many of a list are not members
@@ -112,7 +112,7 @@ member_fronts x (z ∷ p) (y ∷ k) =
     (elim (eqb x y) as (λ t. ((t && false) || (t && begins (z ∷ p) k)) ≡ (t && begins (z ∷ p) k)) [ true ↦ refl | false ↦ refl ])
 
 -- what is a front of some path
-member_all : (x : ℕ) (p : List ℕ) (es : List Entry) → is_member bytes_eq (all_fronts es) (x ∷ p) ≡ has (x ∷ p) (paths es)
+member_all : (x : ℕ) (p : List ℕ) (es : List PathRule) → is_member bytes_eq (all_fronts es) (x ∷ p) ≡ has (x ∷ p) (paths es)
 member_all x p [] = refl
 member_all x p (e ∷ es) =
     list_any-append (bytes_eq (x ∷ p)) (fronts e.0) (all_fronts es)
@@ -120,7 +120,7 @@ member_all x p (e ∷ es) =
     ∙ ap (λ (t : Bool). begins (x ∷ p) e.0 || t) (member_all x p es)
 
 -- fronts that no other path has
-pub missing_members : (k : List ℕ) (es : List Entry)
+pub missing_members : (k : List ℕ) (es : List PathRule)
     → missing (is_member bytes_eq (all_fronts es)) (fronts k) ≡ missing (λ p. has p (paths es)) (fronts k)
 missing_members [] es = refl
 missing_members (x ∷ k) es =

@@ -5,7 +5,7 @@ use Rattle.std.specs.List.{common_prefix_len}
 use Rattle.std.proofs.lemmas.List.{map-append, take-append-drop}
 use Rattle.std.proofs.lemmas.List.Sums.{sum_by-append, sum_by-cons}
 use Rattle.mime_base.specs.Format.Room.{text_room}
-use Rattle.mime_store.specs.SuffixTree.{Entry, common, ending_room, entries_room, ending_entry}
+use Rattle.mime_store.specs.SuffixTree.{PathRule, common, ending_room, entries_room, ending_entry}
 use Rattle.mime_store.specs.declared.ending.Ending.{Ending}
 use Rattle.mime_store.proofs.ListLemmas.Loops.{views_more}
 use Rattle.mime_store.proofs.SuffixTreeLemmas.Paths.{last_path, nodes-append}
@@ -23,17 +23,17 @@ common-is (x ∷ xs) (y ∷ ys) =
     ]
 
 -- what one entry more takes
-entries_room-push : (es : List Entry) (e : Entry) → entries_room (es ++ e ∷ []) ≡ entries_room es + ending_room (last_path [] es) e
+entries_room-push : (es : List PathRule) (e : PathRule) → entries_room (es ++ e ∷ []) ≡ entries_room es + ending_room (last_path [] es) e
 entries_room-push es e =
     omega (
       arith,
       nodes-append [] es (e ∷ []),
-      sum_by-append (λ (x : Entry). text_room x.1.kind) es (e ∷ []),
-      sum_by-cons (λ (x : Entry). text_room x.1.kind) e [],
+      sum_by-append (λ (x : PathRule). text_room x.1.kind) es (e ∷ []),
+      sum_by-cons (λ (x : PathRule). text_room x.1.kind) e [],
     )
 
 -- the last of some entries and one more
-last_path-push : (before : List ℕ) (es : List Entry) (e : Entry) → last_path before (es ++ e ∷ []) ≡ e.0
+last_path-push : (before : List ℕ) (es : List PathRule) (e : PathRule) → last_path before (es ++ e ∷ []) ≡ e.0
 last_path-push before [] e = refl
 last_path-push before (x ∷ es) e = last_path-push x.0 es e
 
@@ -61,4 +61,4 @@ entries_within endings n =
     let fs = map (ending_entry 0) (drop n endings) in
     let whole : map (ending_entry 0) endings ≡ es ++ fs =
     ap (map (ending_entry 0)) (sym (take-append-drop n endings)) ∙ map-append (ending_entry 0) (take n endings) (drop n endings) in
-    omega (arith, ap entries_room whole, nodes-append [] es fs, sum_by-append (λ (x : Entry). text_room x.1.kind) es fs)
+    omega (arith, ap entries_room whole, nodes-append [] es fs, sum_by-append (λ (x : PathRule). text_room x.1.kind) es fs)

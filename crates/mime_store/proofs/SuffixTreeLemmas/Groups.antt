@@ -4,7 +4,7 @@ use Rattle.std.proofs.Common.{subst, ◌∙◌, arith, add-one}
 use Rattle.std.proofs.lemmas.List.{drop_more, drop_all, drop-drop, take-map, drop-map, length-map, length-take-le, take-append-drop}
 use Rattle.std.proofs.lemmas.List.{take_rest}
 use Rattle.mime_store.specs.Written.{Grew, Written}
-use Rattle.mime_store.specs.SuffixTree.{Entry, ClearOf, IsBlock, StartAll, WritesSibling, entries_room, ending_entry, kinds_room, nodes}
+use Rattle.mime_store.specs.SuffixTree.{PathRule, ClearOf, IsBlock, StartAll, WritesSibling, entries_room, ending_entry, kinds_room, nodes}
 use Rattle.mime_base.specs.Format.Room.{text_room}
 use Rattle.mime_base.specs.Format.Stored.{weight_and_flags}
 use Rattle.mime_base.specs.Format.Records.{TextAt}
@@ -14,7 +14,7 @@ use Rattle.mime_store.proofs.SuffixTreeLemmas.Paths.{tail_of, nodes_split}
 use Rattle.mime_store.proofs.SuffixTreeLemmas.OneSibling.{group_sibling, kinds-tails, leaf_sibling}
 
 -- one entry more that begins with the byte
-pub start_push : (b : ℕ) (es : List Entry) (e : Entry) → StartAll b es → (k : List ℕ) × (e.0 ≡ b ∷ k) → StartAll b (es ++ e ∷ [])
+pub start_push : (b : ℕ) (es : List PathRule) (e : PathRule) → StartAll b es → (k : List ℕ) × (e.0 ≡ b ∷ k) → StartAll b (es ++ e ∷ [])
 start_push b [] e h s = (s.0, s.1, tt)
 start_push b (x ∷ xs) e h s = (h.0, h.1, start_push b xs e h.2 s)
 
@@ -33,7 +33,7 @@ pub deeper : (depth : ℕ) (es : List Ending) → map (ending_entry (depth + 1))
 deeper depth [] = refl
 deeper depth (e ∷ es) =
     ap (λ (k : List ℕ). (k, e.rule.now) ∷ map (ending_entry (depth + 1)) es) (sym (drop-drop 1 depth e.path.items))
-    ∙ ap (λ (l : List Entry). tail_of (ending_entry depth e) ∷ l) (deeper depth es)
+    ∙ ap (λ (l : List PathRule). tail_of (ending_entry depth e) ∷ l) (deeper depth es)
 
 -- the first of a list, and as many more
 take_first : {X : Type 0} (x : X) (xs : List X) (r : ℕ) → take (r + 1) (x ∷ xs) ≡ x ∷ take r xs
@@ -74,7 +74,7 @@ group_room depth b r endings g =
     deeper depth (take (r + 1) endings) ∙ ap (map tail_of) (sym (take-map (ending_entry depth) (r + 1) endings)) in
     let whole = take-append-drop (r + 1) es in
     let kinds : kinds_room es ≡ kinds_room gs + kinds_room fs =
-    ap kinds_room (sym whole) ∙ sum_by-append (λ (x : Entry). text_room x.1.kind) gs fs in
+    ap kinds_room (sym whole) ∙ sum_by-append (λ (x : PathRule). text_room x.1.kind) gs fs in
     omega (arith, long, ap entries_room below, ap (nodes []) whole, kinds, kinds-tails gs)
 
 -- an ending that ends here was written as a leaf
@@ -95,14 +95,14 @@ first_group depth b r count first old new endings g grew t =
     let below : map (ending_entry (depth + 1)) (take (r + 1) endings) ≡ map tail_of (take (r + 1) es) =
     deeper depth (take (r + 1) endings) ∙ ap (map tail_of) (sym (take-map (ending_entry depth) (r + 1) endings)) in
     group_sibling old new b count first (r + 1) es (omega arith) g.within g.all g.clear
-    (subst (λ (l : List Entry). Grew old new (entries_room l)) below grew)
-    (subst (λ (l : List Entry). IsBlock (Written new) count first l) below t)
+    (subst (λ (l : List PathRule). Grew old new (entries_room l)) below grew)
+    (subst (λ (l : List PathRule). IsBlock (Written new) count first l) below t)
 
 -- the type of the first ending fits where all fit
 pub first_fits : (depth : ℕ) (endings : List Ending) (e : Ending) (rest : List Ending) → endings ≡ e ∷ rest
     → text_room e.rule.now.kind ≤ entries_room (map (ending_entry depth) endings)
 first_fits depth endings e rest is =
-    rw is (omega (arith, sum_by-cons (λ (x : Entry). text_room x.1.kind) (ending_entry depth e) (map (ending_entry depth) rest)))
+    rw is (omega (arith, sum_by-cons (λ (x : PathRule). text_room x.1.kind) (ending_entry depth e) (map (ending_entry depth) rest)))
 
 -- the part from a place on
 pub rest_is : (depth at : ℕ) (endings : List Ending)

@@ -2,7 +2,7 @@
 use Rattle.std.proofs.Common.{◌≡◌, ℕ, suc, ◌+◌, ◌<◌, ◌≤◌, true, false, ◌&&◌, ◌||◌, cond, eqb, List, [], ◌∷◌, ◌⊎◌}
 use Rattle.std.proofs.Common.{inl, inr, ⊎_elim, length, refl, sym, subst, ◌∙◌, arith}
 use Rattle.std.proofs.lemmas.Bool.{eq-eqb, ne_eqb}
-use Rattle.mime_store.specs.SuffixTree.{Entry, PathLe, Rises, common, nodes}
+use Rattle.mime_store.specs.SuffixTree.{PathRule, PathLe, Rises, common, nodes}
 use Rattle.mime_base.specs.Format.SuffixTree.{fronts}
 use Rattle.mime_store.proofs.SuffixTreeLemmas.Distinct.{paths, all_fronts, endings_count, missing, missing-map, missing-alike}
 use Rattle.mime_store.proofs.SuffixTreeLemmas.Distinct.{distinct_append, fronts_distinct, begins, has, missing_members}
@@ -76,7 +76,7 @@ missing_fronts (x ∷ k) rs h =
     (next_tails x k rs h)
 
 -- the paths of rising entries rise
-up_paths : (before : List ℕ) (es : List Entry) → Rises before es → Up before (paths es)
+up_paths : (before : List ℕ) (es : List PathRule) → Rises before es → Up before (paths es)
 up_paths before [] h = tt
 up_paths before (e ∷ es) h = (h.0, up_paths e.0 es h.2)
 
@@ -89,7 +89,7 @@ common_le (x ∷ xs) (y ∷ ys) =
     elim (eqb x y) as (λ t. cond t (common xs ys + 1) 0 ≤ suc (length ys)) [ true ↦ omega (arith, ih) | false ↦ omega arith ]
 
 -- the nodes of rising entries are their leaves and their distinct fronts
-nodes_from : (before : List ℕ) (es : List Entry) → Rises before es
+nodes_from : (before : List ℕ) (es : List PathRule) → Rises before es
     → nodes before es + next_common before (paths es) ≡ length es + endings_count es
 nodes_from before [] h = refl
 nodes_from before (e ∷ es) h =
@@ -100,6 +100,6 @@ nodes_from before (e ∷ es) h =
     omega (arith, ih, split, few, long, common_le before e.0)
 
 -- as many nodes as leaves and distinct endings
-pub nodes_are : (es : List Entry) → Rises [] es → nodes [] es ≡ length es + endings_count es
+pub nodes_are : (es : List PathRule) → Rises [] es → nodes [] es ≡ length es + endings_count es
 nodes_are [] h = refl
 nodes_are (e ∷ es) h = let r = nodes_from [] (e ∷ es) h in omega (arith, r)

@@ -7,7 +7,7 @@ use Rattle.mime_base.specs.Format.Records.{CardsAt, TextAt}
 use Rattle.mime_base.specs.Format.Room.{text_room}
 use Rattle.mime_base.specs.Format.Stored.{weight_and_flags}
 use Rattle.mime_base.specs.declared.database.rule.GlobRule.{GlobRule}
-use Rattle.mime_store.specs.SuffixTree.{ClearOf, Entry, Fresh, IsBlock, PathLe, Rises, StartAll, TreeOf, WritesSibling}
+use Rattle.mime_store.specs.SuffixTree.{ClearOf, PathRule, Fresh, IsBlock, PathLe, Rises, StartAll, TreeOf, WritesSibling}
 use Rattle.mime_store.specs.SuffixTree.{a_leaf, a_node, common, entries_room, first_byte, kinds_room, leaves_of}
 use Rattle.mime_store.specs.SuffixTree.{nodes, pick}
 use Rattle.mime_store.specs.Texts.{NoZero}
@@ -24,7 +24,7 @@ below_none [] h = refl
 below_none (x ∷ xs) h = absurd h
 
 -- what a group begins with
-group_first : (before : List ℕ) (b : ℕ) (gs fs : List Entry) → 0 < length gs → StartAll b gs → Rises before (gs ++ fs)
+group_first : (before : List ℕ) (b : ℕ) (gs fs : List PathRule) → 0 < length gs → StartAll b gs → Rises before (gs ++ fs)
     → Fresh before (gs ++ fs) → first_byte before < b
 group_first before b [] fs lt s h f = absurd (omega arith)
 group_first before b (e ∷ es) fs lt s h f =
@@ -32,7 +32,7 @@ group_first before b (e ∷ es) fs lt s h f =
     fresh_byte before b s.0 (subst (PathLe before) s.1 h.0) nz.0 (ap (common before) (sym s.1) ∙ f)
 
 -- an ending that is at its end makes a leaf, once its type is written
-pub leaf_sibling : (old new k : List ℕ) (kind : ℕ) (rule : GlobRule) (es : List Entry) → k ≡ []
+pub leaf_sibling : (old new k : List ℕ) (kind : ℕ) (rule : GlobRule) (es : List PathRule) → k ≡ []
     → Grew old new (text_room rule.kind) → TextAt (Written new) kind rule.kind
     → WritesSibling old new (0 ∷ kind ∷ weight_and_flags rule ∷ []) 1 ((k, rule) ∷ es)
 leaf_sibling old new k kind rule es e g w =
@@ -42,7 +42,7 @@ leaf_sibling old new k kind rule es e g w =
       grew = g;
       is = (kind, refl, w);
       size = omega arith;
-      room = omega (arith, sum_by-cons (λ (x : Entry). text_room x.1.kind) ([], rule) es);
+      room = omega (arith, sum_by-cons (λ (x : PathRule). text_room x.1.kind) ([], rule) es);
       leaves = λ path. elim path as
           (λ q. leaves_of q (a_leaf rule) ++ pick q es ≡ cond (bytes_eq [] q) (rule ∷ []) [] ++ pick q es) [ [] ↦ refl | c ∷ cs ↦ refl ];
       counts = omega arith;
@@ -58,18 +58,18 @@ leaf_sibling old new k kind rule es e g w =
     })
 
 -- what entries take apart from their nodes is what their tails take
-pub kinds-tails : (es : List Entry) → kinds_room (map tail_of es) ≡ kinds_room es
+pub kinds-tails : (es : List PathRule) → kinds_room (map tail_of es) ≡ kinds_room es
 kinds-tails [] = refl
 kinds-tails (e ∷ es) =
     omega (
       arith,
-      sum_by-cons (λ (x : Entry). text_room x.1.kind) (tail_of e) (map tail_of es),
-      sum_by-cons (λ (x : Entry). text_room x.1.kind) e es,
+      sum_by-cons (λ (x : PathRule). text_room x.1.kind) (tail_of e) (map tail_of es),
+      sum_by-cons (λ (x : PathRule). text_room x.1.kind) e es,
       kinds-tails es,
     )
 
 -- endings that go on with one byte make a node
-pub group_sibling : (old new : List ℕ) (b count first n : ℕ) (es : List Entry) → 0 < n → n ≤ length es → StartAll b (take n es)
+pub group_sibling : (old new : List ℕ) (b count first n : ℕ) (es : List PathRule) → 0 < n → n ≤ length es → StartAll b (take n es)
     → ClearOf b (drop n es) → Grew old new (entries_room (map tail_of (take n es)))
     → IsBlock (Written new) count first (map tail_of (take n es)) → WritesSibling old new (b ∷ count ∷ first ∷ []) n es
 group_sibling old new b count first n es pos le all clear g t =
@@ -80,7 +80,7 @@ group_sibling old new b count first n es pos le all clear g t =
     let long = nodes_split b gs fs some all clear in
     let total : nodes [] (map tail_of gs) + 1 + nodes [] fs ≡ nodes [] es = sym long ∙ ap (nodes []) whole in
     let kinds : kinds_room es ≡ kinds_room gs + kinds_room fs =
-    ap kinds_room (sym whole) ∙ sum_by-append (λ (x : Entry). text_room x.1.kind) gs fs in
+    ap kinds_room (sym whole) ∙ sum_by-append (λ (x : PathRule). text_room x.1.kind) gs fs in
     record {
       sibling = a_node b t.tree;
       by = entries_room (map tail_of gs);
@@ -117,7 +117,7 @@ group_sibling old new b count first n es pos le all clear g t =
     }
 
 -- the head of a tree, written after it
-pub tree_head : (mid new : List ℕ) (count first at size : ℕ) (es : List Entry) → IsBlock (Written mid) count first es
+pub tree_head : (mid new : List ℕ) (count first at size : ℕ) (es : List PathRule) → IsBlock (Written mid) count first es
     → Rises [] es → Grew mid new size → CardsAt (Written new) at (count ∷ first ∷ []) → TreeOf (Written new) at es
 tree_head mid new count first at size es block rises g head = record {
   tree = block.tree;

@@ -10,7 +10,7 @@ use Rattle.mime_base.specs.Format.Sorted.{text_lt, with_key}
 use Rattle.mime_base.specs.Format.Stored.{reversed_ending}
 use Rattle.mime_base.specs.Format.SuffixTree.{front_count}
 use Rattle.mime_base.specs.declared.database.rule.GlobRule.{GlobRule}
-use Rattle.mime_store.specs.SuffixTree.{AreEndings, Entry, ending_rule, ending_entry, kinds_room, pick}
+use Rattle.mime_store.specs.SuffixTree.{AreEndings, PathRule, ending_rule, ending_entry, kinds_room, pick}
 use Rattle.mime_store.specs.declared.ending.Ending.{Ending}
 use Rattle.mime_store.proofs.SuffixTreeLemmas.Counts.{front_count-permuted}
 use Rattle.mime_store.proofs.SuffixTreeLemmas.Nodes.{nodes_are}
@@ -53,7 +53,7 @@ kinds-rules (e ∷ es) =
     omega (
       arith,
       kinds-rules es,
-      sum_by-cons (λ (x : Entry). text_room x.1.kind) (ending_entry 0 e) (map (ending_entry 0) es),
+      sum_by-cons (λ (x : PathRule). text_room x.1.kind) (ending_entry 0 e) (map (ending_entry 0) es),
       sum_by-cons (λ (rule : GlobRule). text_room rule.kind) (ending_rule e) (map ending_rule es),
     )
 

@@ -4,7 +4,7 @@ use Rattle.std.proofs.Common.{ap, ◌∙◌, append_assoc, arith, length-append}
 use Rattle.std.proofs.lemmas.List.{append-nil}
 use Rattle.mime_base.specs.Format.Records.{CardsAt}
 use Rattle.mime_base.specs.Format.Tree.{InOrder, leaf_count, leaves_at, node_count}
-use Rattle.mime_store.specs.SuffixTree.{Entry, Fresh, IsBlock, IsSibling, Rises, Sibling, WritesSibling}
+use Rattle.mime_store.specs.SuffixTree.{PathRule, Fresh, IsBlock, IsSibling, Rises, Sibling, WritesSibling}
 use Rattle.mime_store.specs.SuffixTree.{as_tree, entries_room, first_byte, leaves_of, next_byte}
 use Rattle.mime_store.specs.SuffixTree.{nodes, pick}
 use Rattle.mime_store.specs.Lists.{RecordsIn}
@@ -15,7 +15,7 @@ use Rattle.mime_store.proofs.SuffixTreeLemmas.Siblings.{sibling_keeps, sibling_s
 use Rattle.mime_store.proofs.SuffixTreeLemmas.Siblings.{leaf_count-push, leaves-push, last_byte, last_byte-push, order-push}
 
 -- the siblings so far are in order, and some path stands before the rest
-pub record Ordered (xs : List Sibling) (rest : List Entry) : Type 0 where
+pub record Ordered (xs : List Sibling) (rest : List PathRule) : Type 0 where
   pub before : List ℕ
   pub order : InOrder 0 (as_tree xs)
   pub last : last_byte 0 xs ≡ first_byte before
@@ -23,7 +23,7 @@ pub record Ordered (xs : List Sibling) (rest : List Entry) : Type 0 where
   pub fresh : Fresh before rest
 
 -- the siblings so far, and the entries that are left
-pub record Sofar (old now rows : List ℕ) (count : ℕ) (es rest : List Entry) : Type 0 where
+pub record Sofar (old now rows : List ℕ) (count : ℕ) (es rest : List PathRule) : Type 0 where
   pub siblings : List Sibling
   pub by : ℕ
   pub grew : Grew old now by
@@ -37,12 +37,12 @@ pub record Sofar (old now rows : List ℕ) (count : ℕ) (es rest : List Entry) 
   pub ordered : Rises [] es → Ordered siblings rest
 
 -- after no path each is new
-pub none_fresh : (es : List Entry) → Fresh [] es
+pub none_fresh : (es : List PathRule) → Fresh [] es
 none_fresh [] = tt
 none_fresh (e ∷ es) = refl
 
 -- at first no sibling is written
-pub sofar_none : (old : List ℕ) (es : List Entry) → Sofar old old [] 0 es es
+pub sofar_none : (old : List ℕ) (es : List PathRule) → Sofar old old [] 0 es es
 sofar_none old es = record {
   siblings = [];
   by = 0;
@@ -58,7 +58,7 @@ sofar_none old es = record {
 }
 
 -- one sibling more was written
-pub sofar_more : (old now next rows row : List ℕ) (count n : ℕ) (es rest : List Entry) → Sofar old now rows count es rest
+pub sofar_more : (old now next rows row : List ℕ) (count n : ℕ) (es rest : List PathRule) → Sofar old now rows count es rest
     → WritesSibling now next row n rest → Sofar old next (rows ++ row) (count + 1) es (drop n rest)
 sofar_more old now next rows row count n es rest s w =
     let r = s.room in
@@ -92,7 +92,7 @@ sofar_more old now next rows row count n es rest s w =
     }
 
 -- all siblings were written, and then their records
-pub sofar_all : (old now new rows : List ℕ) (size count first : ℕ) (es : List Entry) → Sofar old now rows count es [] → Grew now new size
+pub sofar_all : (old now new rows : List ℕ) (size count first : ℕ) (es : List PathRule) → Sofar old now rows count es [] → Grew now new size
     → CardsAt (Written new) first rows → IsBlock (Written new) count first es
 sofar_all old now new rows size count first es s g c =
     let z = s.size in
@@ -111,7 +111,7 @@ sofar_all old now new rows size count first es s g c =
     }
 
 -- how much all of them took
-pub sofar_grew : (old now new rows : List ℕ) (count : ℕ) (es : List Entry) → Sofar old now rows count es []
+pub sofar_grew : (old now new rows : List ℕ) (count : ℕ) (es : List PathRule) → Sofar old now rows count es []
     → Grew now new (4 * length rows) → Grew old new (entries_room es)
 sofar_grew old now new rows count es s g =
     let r = s.room in

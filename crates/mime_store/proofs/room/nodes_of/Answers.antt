@@ -6,7 +6,7 @@ pub returns-clause-nodes : goal.returns-clause-nodes
 returns-clause-nodes c =
     omega (
       arith,
-      rw c.deref.ensures.value at c.common_length.ensures.common,
+      rw c.deref.ensures.value at c.agreeing_length.ensures.common,
       c.len.ensures,
       c.args.ending.now.path.ok.0,
       common-is c.args.before.now c.args.ending.now.path.items,

@@ -2,7 +2,7 @@ use Rattle.std.proofs.Common.{arith, map, length, drop, List, [], ◌∷◌, ◌
 use Rattle.std.specs.List.{between}
 use Rattle.std.proofs.lemmas.List.{length-map, drop-drop, drop_all, get_or_default, take_rest, length-drop}
 use Rattle.std.proofs.lemmas.Slice.{first_rest}
-use Rattle.mime_store.specs.SuffixTree.{Entry, WritesSibling, entries_room, ending_entry}
+use Rattle.mime_store.specs.SuffixTree.{PathRule, WritesSibling, entries_room, ending_entry}
 use Rattle.mime_store.specs.declared.ending.Ending.{Ending}
 use Rattle.mime_store.proofs.SuffixTreeLemmas.Groups.{a_group, first_fits, first_group, first_leaf, group_room, rest_is, starts}
 use Rattle.mime_store.proofs.SuffixTreeLemmas.SoFar.{sofar_all, sofar_grew, sofar_more, sofar_none}
@@ -81,7 +81,7 @@ write_siblings-loop-at-preserved t c =
     let at = c.loop-at.at in
     let n = c.in_ok-sibling.sibling.taken in
     let w : WritesSibling c.loop-at.out.items c.write_sibling.new.out.items c.in_ok-sibling.sibling.row n (drop at es) =
-    subst (λ (l : List Entry). WritesSibling c.loop-at.out.items c.write_sibling.new.out.items c.in_ok-sibling.sibling.row n l)
+    subst (λ (l : List PathRule). WritesSibling c.loop-at.out.items c.write_sibling.new.out.items c.in_ok-sibling.sibling.row n l)
     (rest_is c.args.depth at xs) c.in_ok-sibling.ensures in
     let within = w.within in
     record {

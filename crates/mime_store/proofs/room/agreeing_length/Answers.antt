@@ -1,6 +1,6 @@
 use Rattle.std.proofs.Common.{nat_eq, drop, length-drop, arith}
 use Rattle.std.proofs.lemmas.List.Sums.{common_prefix_len-le}
-use Rattle.mime_store.proofs.room.common_length.Goals as goal
+use Rattle.mime_store.proofs.room.agreeing_length.Goals as goal
 
 pub returns-clause-common : goal.returns-clause-common
 returns-clause-common c =

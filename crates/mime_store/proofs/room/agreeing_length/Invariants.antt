@@ -1,6 +1,6 @@
 use Rattle.std.proofs.Common.{◌≡◌, ◌+◌, drop, nat_eq}
 use Rattle.std.specs.List.{common_prefix_len}
-use Rattle.mime_store.proofs.room.common_length.Given as goal
+use Rattle.mime_store.proofs.room.agreeing_length.Given as goal
 
 abbrev pub invariant-loop-i : goal.invariant-loop-i
 invariant-loop-i l =
