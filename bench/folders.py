@@ -34,6 +34,15 @@ def globs2_of(dice):
         pattern = pattern_of(dice) if dice.random() < 0.9 else "__NOGLOBS__"
         for kind in dice.sample(TYPES, dice.choice([1, 1, 2, 3])):
             yield f"{weight}:{kind}:{pattern}{flags}"
+            if dice.random() < 0.2:
+                yield from twins_of(dice, kind, pattern)
+
+
+def twins_of(dice, kind, pattern):
+    """A pattern in small letters and in capitals, case-sensitive, and a rule that both may hide."""
+    for spelling in (pattern.lower(), pattern.upper()):
+        yield f"{dice.choice(WEIGHTS)}:{kind}:{spelling}:cs"
+    yield f"{dice.choice(WEIGHTS)}:{kind}:{pattern}"
 
 
 def pairs_of(dice, most):

@@ -4,6 +4,7 @@ It is written from the sentences of docs/DECISIONS.md and of the public specific
 pattern becomes a regular expression of Python, the rules that count are filtered one preference after another, and a
 line of magic is tried at each of its offsets.
 """
+import itertools
 import os
 import re
 
@@ -66,13 +67,39 @@ def earliness(pattern):
 
 class Rule:
     def __init__(self, weight, kind, pattern, flags):
-        self.kind = kind.decode()
+        self.weight, self.kind, self.pattern = weight, kind.decode(), pattern
         self.cased = b"cs" in flags.split(b",")
         self.preference = earliness(pattern), weight, len(pattern)
         self.regular = regular(pattern if self.cased else folded(pattern))
 
     def matches(self, name):
         return self.regular.fullmatch(name if self.cased else folded(name))
+
+    def listed(self):
+        """The line that `list` prints of it."""
+        pattern = self.pattern if self.cased else folded(self.pattern)
+        return b"%d:%s:%s%s" % (self.weight, self.kind.encode(), pattern, b":cs" if self.cased else b"")
+
+
+def spellings(text):
+    """The texts that differ from a text in small letters and capitals alone."""
+    each = ([byte, byte - 32] if 97 <= byte <= 122 else [byte] for byte in folded(text))
+    return map(bytes, itertools.product(*each))
+
+
+def visible(rules):
+    """The rules but for those of which, whatever the name, a case-sensitive one is preferred: it has that spelling, and no less weight."""
+    greatest = {}
+    for rule in rules:
+        if rule.cased:
+            greatest[rule.pattern] = max(rule.weight, greatest.get(rule.pattern, 0))
+
+    def is_hidden(rule):
+        if rule.cased or earliness(rule.pattern) == 0:
+            return False
+        return all(greatest.get(spelling, -1) >= rule.weight for spelling in spellings(rule.pattern))
+
+    return [rule for rule in rules if not is_hidden(rule)]
 
 
 def rules_of(text):
