@@ -211,7 +211,7 @@ fn show_text<D: Desk>(desk: &mut D, is_help: bool, text: &str) -> Result<u8, Sto
         print_text(desk, text)?;
         Ok(ANSWERED)
     } else {
-        desk.complain(text)?;
+        desk.complain(text.as_bytes())?;
         Ok(MISTAKEN)
     }
 }

@@ -61,7 +61,7 @@ pub(crate) fn order_of(magic_first: bool) -> Order
 pub(super) fn find<'a, R: Content + Drop>(
     alloc: Global,
     lookup: Lookup<'a>,
-    file: &str,
+    file: &[u8],
     content: Option<R>,
 ) -> Result<Outcome<'a>, Stop>
     ensures { (stored : Stored) → IsContent R.remaining R.health lookup.entry.name_only stored content
@@ -85,13 +85,13 @@ fn find_in_database<'a, R: Content + Drop>(
     alloc: Global,
     database: &'a Database,
     order: Order,
-    file: &str,
+    file: &[u8],
     mut content: Option<R>,
 ) -> Result<Outcome<'a>, Stop>
     ensures { (stored : Stored) (name_only : Bool) (output : Output) → IsContent R.remaining R.health name_only stored content
         → LooksUp (lookup_over name_only output order (plain_database database.entry.now)) stored file.now result }
 {
-    let name = base_name(file.as_bytes());
+    let name = base_name(file);
     match look_up_plain(alloc, database, name, &mut content, Host::Little, order) {
         Ok(answer) => Ok(Outcome::Typed(answer.kind, None)),
         Err(stopped) => match stopped.cause {
@@ -108,13 +108,13 @@ fn find_in_cache<'a, R: Content + Drop>(
     bytes: &'a [u8],
     cost: bool,
     order: Order,
-    file: &str,
+    file: &[u8],
     mut content: Option<R>,
 ) -> Result<Outcome<'a>, Stop>
     ensures { (stored : Stored) (name_only : Bool) (output : Output) → IsContent R.remaining R.health name_only stored content
         → LooksUp (lookup_by path.now name_only cost output order bytes.entry.now) stored file.now result }
 {
-    let name = base_name(file.as_bytes());
+    let name = base_name(file);
     let cache = Counted::new(bytes);
     match look_up(alloc, cache, name, &mut content, Host::Little, order) {
         Ok(answer) => Ok(Outcome::Typed(answer.kind, cost_of(cost, answer.meter, answer.read))),

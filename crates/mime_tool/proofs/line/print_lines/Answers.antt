@@ -14,7 +14,7 @@ returns-in_err-print_line g c =
     let e = err_from_is_err_and c.from_residual.result c.from_residual.ensures.1 in
     let before = c.loop-file.invariant in
     let line = c.in_err-print_line.ensures in
-    let here = rw before.same_files at line in
+    let here = rw (before.same_files, c.as_bytes.ensures.value) at line in
     let stored = (g.D.Desk.state c.args.desk.now).stored in
     rw (e.1, e.2) (record {
       same_files = line.same_files ∙ before.same_files;
@@ -28,7 +28,7 @@ loop-file-preserved g c =
     let lt : c.loop-file.file-index < length c.args.files.now = omega arith in
     let before = c.loop-file.invariant in
     let line = c.in_ok-print_line.ensures in
-    let here = rw before.same_files at line in
+    let here = rw (before.same_files, c.as_bytes.ensures.value) at line in
     let stored = (g.D.Desk.state c.args.desk.now).stored in
     rw c.max-status.ensures (record {
       same_files = line.same_files ∙ before.same_files;

@@ -8,7 +8,7 @@ use Rattle.mime_tool.proofs.line.lookup.find_in_cache.Goals as goal
 
 pub returns-in-Ok : goal.returns-in-Ok
 returns-in-Ok g c =
-    let is : c.base_name-name.result.now ≡ base_name c.args.file.now = rw c.as_bytes.ensures.value at c.base_name-name.ensures in
+    let is : c.base_name-name.result.now ≡ base_name c.args.file.now = c.base_name-name.ensures in
     let found = rw (is, c.new-cache.ensures) at c.in-Ok.ensures in
     let answer = c.in-Ok.answer in
     let fit = fits_unless (base_name c.args.file.now) _ refl (λ long. let bad = (found.stops.too_long long).1 in cc) in
@@ -20,7 +20,7 @@ returns-in-Ok g c =
 
 pub returns-in-Cache : goal.returns-in-Cache
 returns-in-Cache g c =
-    let is : c.base_name-name.result.now ≡ base_name c.args.file.now = rw c.as_bytes.ensures.value at c.base_name-name.ensures in
+    let is : c.base_name-name.result.now ≡ base_name c.args.file.now = c.base_name-name.ensures in
     let found = rw (is, c.new-cache.ensures) at c.in-Err.ensures in
     let name = base_name c.args.file.now in
     let fit : nat_le (length name) 4096 ≡ true = fits_unless name _ refl
