@@ -8,6 +8,7 @@ ghost use Rattle.mime_tool.specs.LineSteps.{ComesTo, plain_lookup, run_of, tail_
 ghost use Rattle.mime_tool.specs.Output.{answer_end, answer_of, separator, written};
 ghost use Rattle.mime_tool.specs.Run.{IsEach, printed, refusal, unanswered};
 ghost use Rattle.mime_tool.specs.Types.{cost_text};
+ghost use Rattle.mime_tool.specs.Words.{names_of};
 
 mod escape;
 mod lookup;
@@ -15,6 +16,7 @@ mod lookup;
 use crate::desk::{Desk, Opened, report};
 use crate::status::{ANSWERED, NOT_ANSWERED};
 use crate::stop::Stop;
+use crate::words::{RawWord, name_of};
 use escape::escaped;
 use lookup::find;
 pub(crate) use lookup::{Cost, Data, Lookup, order_of};
@@ -31,18 +33,19 @@ pub(crate) enum Outcome<'a> {
     CannotRead,
 }
 
-/// Prints the lines of the files in order, and gives the status.
+/// Prints the lines of the files in order, each by the name of its text, and gives the status.
 pub(crate) fn print_lines<D: Desk>(
     desk: &mut D,
     lookup: Lookup<'_>,
     files: &[&str],
+    raws: &[RawWord<'_>],
 ) -> Result<u8, Stop>
     ensures { Works (Ends (IsEach (IsTypeLine (plain_lookup lookup.entry) (D.state desk.old).stored))
-        (texts files.now)) (D.state desk.old) (D.state desk.new) result }
+        (names_of raws.now (texts files.now))) (D.state desk.old) (D.state desk.new) result }
 {
     let mut status = ANSWERED;
     for file in files {
-        status = status.max(print_line(desk, lookup, file.as_bytes())?);
+        status = status.max(print_line(desk, lookup, name_of(raws, file))?);
     }
     Ok(status)
 }

@@ -10,3 +10,4 @@ mod rows;
 mod sources;
 mod system;
 mod texts;
+mod words;
