@@ -1,7 +1,6 @@
 -- Lemmas on answers, and on the lines of files.
 pub mod CachedLines
 pub mod CachedStops
-pub mod Escapes
 pub mod Lines
 pub mod AnswersFrom
 pub mod AnswersOver

@@ -4,6 +4,7 @@ pub mod Endings
 pub mod Ends
 pub mod Loads
 pub mod Programs
+pub mod Replies
 pub mod Runs
 pub mod SourceCommands
 pub mod Texts

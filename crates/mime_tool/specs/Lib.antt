@@ -5,6 +5,7 @@ pub mod Directories
 pub mod Environment
 pub mod Files
 pub mod Finish
+pub mod Heard
 pub mod Icon
 pub mod IsA
 pub mod Line
@@ -20,4 +21,5 @@ pub mod Sink
 pub mod Stop
 pub mod TypeNames
 pub mod Types
+pub mod Words
 pub mod FromTexts

@@ -11,7 +11,7 @@ use crate::sink::{Sink, put_all};
 use crate::stop::{Stop, complain, unreadable, unwritable};
 use mime_base::OutOfMemory;
 use mime_lookup::Content;
-use std::alloc::Global;
+use std::alloc::{AllocError, Global};
 
 /// What opening a file comes to.
 #[derive(Drop)]
@@ -54,7 +54,7 @@ pub(crate) trait Desk {
         ensures there { IfOk result (IsThere ((state self.old).stored path.now)) };
 
     /// Opens a file.
-    fn open(&mut self, path: &str) -> Result<Opened<Self::Reader>, Stop>
+    fn open(&mut self, path: &[u8]) -> Result<Opened<Self::Reader>, Stop>
         ensures { Works (OpensFile Self.Reader.remaining Self.Reader.health
             ((state self.old).stored path.now)) (state self.old) (state self.new) result };
 
@@ -69,7 +69,7 @@ pub(crate) trait Desk {
 
     /// Says it on standard error, after what was printed. A fault there is passed over, unless memory ran
     /// out.
-    fn complain(&mut self, message: &str) -> Result<(), Stop>
+    fn complain(&mut self, message: &[u8]) -> Result<(), Stop>
         ensures { Works (Does (said message.now)) (state self.old) (state self.new) result };
 }
 
@@ -122,7 +122,7 @@ impl<F: Files, O: Sink, E: Sink> Desk for Streams<'_, '_, '_, F, O, E> {
         self.files.exists(self.alloc, path)
     }
 
-    fn open(&mut self, path: &str) -> Result<Opened<F::Reader>, Stop> {
+    fn open(&mut self, path: &[u8]) -> Result<Opened<F::Reader>, Stop> {
         match self.files.open(self.alloc, path) {
             Ok(reader) => Ok(Opened::File(reader)),
             Err(FileFault::Folder) => Ok(Opened::Folder),
@@ -144,13 +144,13 @@ impl<F: Files, O: Sink, E: Sink> Desk for Streams<'_, '_, '_, F, O, E> {
         Ok(())
     }
 
-    fn complain(&mut self, message: &str) -> Result<(), Stop> {
+    fn complain(&mut self, message: &[u8]) -> Result<(), Stop> {
         complain_after(self.out, self.err, message)
     }
 }
 
 // Says it once what was printed is handed on, so that a log of both streams has them in this order.
-fn complain_after<O: Sink, E: Sink>(out: &mut O, err: &mut E, message: &str) -> Result<(), Stop>
+fn complain_after<O: Sink, E: Sink>(out: &mut O, err: &mut E, message: &[u8]) -> Result<(), Stop>
     ensures says { Does (said message.now) (record { out = O.holds out.old; err = E.holds err.old })
         (record { out = O.holds out.new; err = E.holds err.new }) result }
     ensures capacity { E.capacity err.new ≡ E.capacity err.old }
@@ -162,11 +162,23 @@ fn complain_after<O: Sink, E: Sink>(out: &mut O, err: &mut E, message: &str) -> 
 }
 
 /// Says on standard error what is wrong with a file or a word.
-pub(crate) fn report<D: Desk>(desk: &mut D, subject: &str, why: &str) -> Result<(), Stop>
+pub(crate) fn report<D: Desk>(desk: &mut D, subject: &[u8], why: &str) -> Result<(), Stop>
     // The message is said, or what it begins with where memory runs out.
     ensures { Works (Does (said (refusal subject.now why.now)))
         (D.state desk.old) (D.state desk.new) result }
 {
-    let text = format!(in desk.alloc(); "mimelook: {subject}: {why}\n")?;
-    desk.complain(text.as_str())
+    let message = refusal(desk.alloc(), subject, why)?;
+    desk.complain(message.as_slice())
+}
+
+fn refusal(alloc: Global, subject: &[u8], why: &str) -> Result<Vec<u8>, AllocError>
+    ensures { IfOk result (λ message. message.items ≡ refusal subject.now why.now) }
+{
+    let mut message = Vec::new(alloc);
+    message.extend_from_slice(b"mimelook: ")?;
+    message.extend_from_slice(subject)?;
+    message.extend_from_slice(b": ")?;
+    message.extend_from_slice(why.as_bytes())?;
+    message.extend_from_slice(b"\n")?;
+    Ok(message)
 }

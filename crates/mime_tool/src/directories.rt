@@ -109,7 +109,7 @@ fn notice_missing<D: Desk>(desk: &mut D, directories: &[&str]) -> Result<(), Sto
         return Ok(());
     }
     let dirs = directories.join(desk.alloc(), ":")?;
-    report(desk, dirs.as_str(), "no text files")
+    report(desk, dirs.as_bytes(), "no text files")
 }
 
 // Whether one of the directories has a text file, of whatever kind.

@@ -67,7 +67,7 @@ pub trait Files {
     ///
     /// Errors: [`FileFault::Folder`] for a folder; [`FileFault::Failed`] where there is no such file or it
     /// can't be opened; [`FileFault::OutOfMemory`] where there is no memory for it.
-    fn open(&mut self, alloc: Global, path: &str) -> Result<Self::Reader, FileFault>
+    fn open(&mut self, alloc: Global, path: &[u8]) -> Result<Self::Reader, FileFault>
         // The reader gives just what is stored; a fault says that it is a folder or that it can't be opened, or memory ran out.
         ensures opened { IsOpening Self.Reader.remaining Self.Reader.health
             (tells self.old path.now) result }

@@ -8,7 +8,7 @@
 //! let mut out = Stream(rt.stdout());
 //! let mut err = Stream(rt.stderr());
 //! let words = ["plain", "--name-only", "-d", "", "a"];
-//! let status = run(alloc, &words, None, &mut files, &mut out, &mut err);
+//! let status = run(alloc, &words, &[], None, &mut files, &mut out, &mut err);
 //! ```
 //!
 //! This prints `a: application/octet-stream`, and the status is 0.
@@ -38,6 +38,7 @@ mod stop;
 mod system;
 mod type_names;
 mod types;
+mod words;
 
 pub use environment::Environment;
 pub use files::{FileFault, Files};
@@ -45,3 +46,4 @@ pub use from_texts::{AnswerFault, DirBytes, OwnedAnswer, answer, visible_chooses
 pub use program::run;
 pub use sink::{Sink, SinkFault};
 pub use system::{Stream, SystemFiles, read_whole};
+pub use words::RawWord;

@@ -8,6 +8,7 @@ ghost use Rattle.mime_tool.specs.LineSteps.{ComesTo, plain_lookup, run_of, tail_
 ghost use Rattle.mime_tool.specs.Output.{answer_end, answer_of, separator, written};
 ghost use Rattle.mime_tool.specs.Run.{IsEach, printed, refusal, unanswered};
 ghost use Rattle.mime_tool.specs.Types.{cost_text};
+ghost use Rattle.mime_tool.specs.Words.{names_of};
 
 mod escape;
 mod lookup;
@@ -15,7 +16,8 @@ mod lookup;
 use crate::desk::{Desk, Opened, report};
 use crate::status::{ANSWERED, NOT_ANSWERED};
 use crate::stop::Stop;
-use escape::{escaped_bytes, escaped_text};
+use crate::words::{RawWord, name_of};
+use escape::escaped;
 use lookup::find;
 pub(crate) use lookup::{Cost, Data, Lookup, order_of};
 use mime_request::Output;
@@ -31,24 +33,25 @@ pub(crate) enum Outcome<'a> {
     CannotRead,
 }
 
-/// Prints the lines of the files in order, and gives the status.
+/// Prints the lines of the files in order, each by the name of its text, and gives the status.
 pub(crate) fn print_lines<D: Desk>(
     desk: &mut D,
     lookup: Lookup<'_>,
     files: &[&str],
+    raws: &[RawWord<'_>],
 ) -> Result<u8, Stop>
     ensures { Works (Ends (IsEach (IsTypeLine (plain_lookup lookup.entry) (D.state desk.old).stored))
-        (texts files.now)) (D.state desk.old) (D.state desk.new) result }
+        (names_of raws.now (texts files.now))) (D.state desk.old) (D.state desk.new) result }
 {
     let mut status = ANSWERED;
     for file in files {
-        status = status.max(print_line(desk, lookup, file)?);
+        status = status.max(print_line(desk, lookup, name_of(raws, file))?);
     }
     Ok(status)
 }
 
 // Prints the line of one file, or says why there is none.
-fn print_line<D: Desk>(desk: &mut D, lookup: Lookup<'_>, file: &str) -> Result<u8, Stop>
+fn print_line<D: Desk>(desk: &mut D, lookup: Lookup<'_>, file: &[u8]) -> Result<u8, Stop>
     ensures { Works (Ends (λ _. IsTypeLine (plain_lookup lookup.entry) (D.state desk.old).stored file.now) [])
         (D.state desk.old) (D.state desk.new) result }
 {
@@ -60,7 +63,7 @@ fn print_line<D: Desk>(desk: &mut D, lookup: Lookup<'_>, file: &str) -> Result<u
 fn outcome_of<'a, D: Desk>(
     desk: &mut D,
     lookup: Lookup<'a>,
-    file: &str,
+    file: &[u8],
 ) -> Result<Outcome<'a>, Stop>
     ensures { Works (ComesTo (plain_lookup lookup.entry) ((D.state desk.old).stored file.now) file.now)
         (D.state desk.old) (D.state desk.new) result }
@@ -80,15 +83,15 @@ fn outcome_of<'a, D: Desk>(
 fn print_outcome<D: Desk>(
     desk: &mut D,
     output: Output,
-    file: &str,
+    file: &[u8],
     outcome: Outcome<'_>,
 ) -> Result<u8, Stop>
     ensures { Works (Ends (λ _ run. run ≡ run_of output (written output file.now) outcome.entry) [])
         (D.state desk.old) (D.state desk.new) result }
 {
     if output.escape {
-        let name = escaped_text(desk.alloc(), file)?;
-        print_named(desk, output, name.as_str(), outcome)
+        let name = escaped(desk.alloc(), file)?;
+        print_named(desk, output, name.as_slice(), outcome)
     } else {
         print_named(desk, output, file, outcome)
     }
@@ -98,7 +101,7 @@ fn print_outcome<D: Desk>(
 fn print_named<D: Desk>(
     desk: &mut D,
     output: Output,
-    name: &str,
+    name: &[u8],
     outcome: Outcome<'_>,
 ) -> Result<u8, Stop>
     ensures { Works (Ends (λ _ run. run ≡ run_of output name.now outcome.entry) [])
@@ -115,7 +118,7 @@ fn print_named<D: Desk>(
 fn print_type<D: Desk>(
     desk: &mut D,
     output: Output,
-    name: &str,
+    name: &[u8],
     kind: &[u8],
     cost: Option<Cost>,
 ) -> Result<u8, Stop>
@@ -129,7 +132,7 @@ fn print_type<D: Desk>(
 fn print_kind<D: Desk>(
     desk: &mut D,
     output: Output,
-    name: &str,
+    name: &[u8],
     kind: &[u8],
     cost: Option<Cost>,
 ) -> Result<(), Stop>
@@ -137,7 +140,7 @@ fn print_kind<D: Desk>(
         (D.state desk.old) (D.state desk.new) result }
 {
     if output.escape {
-        let kind = escaped_bytes(desk.alloc(), kind)?;
+        let kind = escaped(desk.alloc(), kind)?;
         print_told(desk, output, name, kind.as_slice(), cost)
     } else {
         print_told(desk, output, name, kind, cost)
@@ -148,7 +151,7 @@ fn print_kind<D: Desk>(
 fn print_told<D: Desk>(
     desk: &mut D,
     output: Output,
-    name: &str,
+    name: &[u8],
     kind: &[u8],
     cost: Option<Cost>,
 ) -> Result<(), Stop>
@@ -175,7 +178,7 @@ fn told(alloc: Global, cost: Cost) -> Result<String, AllocError>
 fn print_pieces<'a, D: Desk>(
     desk: &mut D,
     output: Output,
-    name: &'a str,
+    name: &'a [u8],
     kind: &'a [u8],
     tail: &'a [u8],
 ) -> Result<(), Stop>
@@ -186,7 +189,7 @@ fn print_pieces<'a, D: Desk>(
     if output.brief {
         desk.print(&[kind, tail, end])
     } else {
-        desk.print(&[name.as_bytes(), separator(output), kind, tail, end])
+        desk.print(&[name, separator(output), kind, tail, end])
     }
 }
 
@@ -205,7 +208,7 @@ fn answer_end<'a>(output: Output) -> &'a [u8]
 }
 
 // Says why a file has no line.
-fn refuse<D: Desk>(desk: &mut D, file: &str, why: &str) -> Result<u8, Stop>
+fn refuse<D: Desk>(desk: &mut D, file: &[u8], why: &str) -> Result<u8, Stop>
     ensures { Works (Ends (λ _ run. run ≡ unanswered (refusal file.now why.now)) [])
         (D.state desk.old) (D.state desk.new) result }
 {

@@ -3,15 +3,17 @@
 
 ghost use Rattle.std.specs.Prelude.{◌≡◌, ◌≢◌, [], false, is_some, map, true};
 ghost use Rattle.clap.specs.Values.{kind_of};
-ghost use Rattle.mime_request.specs.Request.{PlainRequest, asks, meaning_of, plain_request};
+ghost use Rattle.clap.specs.Walk.{texts};
+ghost use Rattle.mime_request.specs.Request.{PlainRequest, asks, plain_request};
 ghost use Rattle.mime_tool.specs.Desk.{Does, Ends, Works};
 ghost use Rattle.mime_tool.specs.Environment.{known_environment};
 ghost use Rattle.mime_tool.specs.Finish.{Finishes};
-ghost use Rattle.mime_tool.specs.Program.{Answers, IsAnswer, IsAskedRun, IsShown, Leaves, asked_files, files_of, is_help};
-ghost use Rattle.mime_tool.specs.Program.{shown};
-ghost use Rattle.mime_tool.specs.Run.{printed};
+ghost use Rattle.mime_tool.specs.Heard.{IsRefusedRun, IsReply, LeavesHeard, Replies, heard_files};
+ghost use Rattle.mime_tool.specs.Program.{Answers, IsAskedRun, IsShown, asked_files, is_help, shown};
+ghost use Rattle.mime_tool.specs.Run.{mistaken, printed};
 ghost use Rattle.mime_tool.specs.Sink.{IsHandedOn, Wrote};
 ghost use Rattle.mime_tool.specs.Stop.{IsFlushed};
+ghost use Rattle.mime_tool.specs.Words.{heard, heard_in, means, not_text, with_names};
 
 use crate::build::build;
 use crate::desk::{Desk, Streams};
@@ -23,6 +25,7 @@ use crate::list::list;
 use crate::sink::Sink;
 use crate::status::{ANSWERED, MISTAKEN};
 use crate::stop::{Stop, tell};
+use crate::words::{RawWord, misplaced, refuse_word};
 use crate::{plain, types};
 use clap::Error;
 use clap::error::ErrorKind;
@@ -31,6 +34,10 @@ use std::alloc::Global;
 use std::convert::AsStr;
 
 /// Runs the program on the words after its name, and gives the exit status.
+///
+/// Those that are no text are in `raws`, by their numbers, and in `words` a text stands in for each. Such a
+/// word can only be a FILE, whose name is its bytes. Where one is anything else it is named, and where the
+/// words are refused the first of them is; the status then is 2.
 ///
 /// Data directories that are not named are the user's, by `environment`; it is `None` where some
 /// variable of it is not text.
@@ -44,55 +51,58 @@ use std::convert::AsStr;
 pub fn run<F: Files, O: Sink, E: Sink, S: AsStr>(
     alloc: Global,
     words: &[S],
+    raws: &[RawWord<'_>],
     environment: Option<Environment<'_>>,
     files: &mut F,
     out: &mut O,
     err: &mut E,
 ) -> u8
-    // Whatever the words mean, where it is known what standard output holds.
+    // Whatever the words ask for, where it is known what standard output holds. What they ask for is what they mean, where all
+    // are text.
     ensures answers { is_some (O.holds out.old) ≡ true
-        → Finishes (IsAnswer (known_environment environment.entry) (F.writes files.old) (F.tells files.old) (F.tells files.new)
-        (meaning_of (map S.text words.now)))
-        (files_of (meaning_of (map S.text words.now)))
+        → Finishes (IsReply (known_environment environment.entry) (F.writes files.old) (F.tells files.old) (F.tells files.new)
+        (heard raws.now (map S.text words.now)))
+        (heard_files (heard raws.now (map S.text words.now)))
         (E.capacity err.old) (record { out = O.holds out.old; err = E.holds err.old })
         (record { out = O.holds out.new; err = E.holds err.new }) result }
 
     // The same of words that ask for something; what usual words ask for is told by the laws of `mime_request`.
     ensures asked { is_some (O.holds out.old) ≡ true
-        → (q : PlainRequest) → meaning_of (map S.text words.now) ≡ asks q
+        → (q : PlainRequest) → heard raws.now (map S.text words.now) ≡ means (asks q)
         → Finishes (IsAskedRun (known_environment environment.entry) (F.writes files.old) (F.tells files.old) (F.tells files.new) q)
         (asked_files q)
         (E.capacity err.old) (record { out = O.holds out.old; err = E.holds err.old })
         (record { out = O.holds out.new; err = E.holds err.new }) result }
 
     // What is left stored, however the run ends: all that was, but for what `build` replaces.
-    ensures leaves { Leaves (known_environment environment.entry) (meaning_of (map S.text words.now)) (F.tells files.old) (F.tells files.new) }
+    ensures leaves { LeavesHeard (known_environment environment.entry) (heard raws.now (map S.text words.now)) (F.tells files.old) (F.tells files.new) }
 
     // The last that standard output was asked is to hand on what it held back.
     ensures flushed { is_some (O.holds out.old) ≡ true → IsHandedOn result (O.flushed out.new) }
 {
-    finish(alloc, words, environment, files, out, err)
+    finish(alloc, words, raws, environment, files, out, err)
 }
 
 // Does what the words ask for, hands on what was printed, and says why it stopped.
 fn finish<F: Files, O: Sink, E: Sink, S: AsStr>(
     alloc: Global,
     words: &[S],
+    raws: &[RawWord<'_>],
     environment: Option<Environment<'_>>,
     files: &mut F,
     out: &mut O,
     err: &mut E,
 ) -> u8
     ensures answers { is_some (O.holds out.old) ≡ true
-        → Finishes (IsAnswer (known_environment environment.entry) (F.writes files.old) (F.tells files.old) (F.tells files.new)
-        (meaning_of (map S.text words.now)))
-        (files_of (meaning_of (map S.text words.now)))
+        → Finishes (IsReply (known_environment environment.entry) (F.writes files.old) (F.tells files.old) (F.tells files.new)
+        (heard raws.now (map S.text words.now)))
+        (heard_files (heard raws.now (map S.text words.now)))
         (E.capacity err.old) (record { out = O.holds out.old; err = E.holds err.old })
         (record { out = O.holds out.new; err = E.holds err.new }) result }
-    ensures leaves { Leaves (known_environment environment.entry) (meaning_of (map S.text words.now)) (F.tells files.old) (F.tells files.new) }
+    ensures leaves { LeavesHeard (known_environment environment.entry) (heard raws.now (map S.text words.now)) (F.tells files.old) (F.tells files.new) }
     ensures flushed { is_some (O.holds out.old) ≡ true → IsHandedOn result (O.flushed out.new) }
 {
-    let ended = perform(alloc, words, environment, files, out, err);
+    let ended = perform(alloc, words, raws, environment, files, out, err);
     match flush_after(ended, out) {
         Ok(status) => status,
         Err(stop) => tell(&stop, err),
@@ -103,19 +113,20 @@ fn finish<F: Files, O: Sink, E: Sink, S: AsStr>(
 fn perform<F: Files, O: Sink, E: Sink, S: AsStr>(
     alloc: Global,
     words: &[S],
+    raws: &[RawWord<'_>],
     environment: Option<Environment<'_>>,
     files: &mut F,
     out: &mut O,
     err: &mut E,
 ) -> Result<u8, Stop>
     ensures ended { Ends
-        (IsAnswer (known_environment environment.entry) (F.writes files.old) (F.tells files.old) (F.tells files.new)
-        (meaning_of (map S.text words.now)))
-        (files_of (meaning_of (map S.text words.now)))
+        (IsReply (known_environment environment.entry) (F.writes files.old) (F.tells files.old) (F.tells files.new)
+        (heard raws.now (map S.text words.now)))
+        (heard_files (heard raws.now (map S.text words.now)))
         (record { out = O.holds out.old; err = E.holds err.old })
         (record { out = O.holds out.new; err = E.holds err.new }) result }
     ensures capacity { E.capacity err.new ≡ E.capacity err.old }
-    ensures leaves { Leaves (known_environment environment.entry) (meaning_of (map S.text words.now)) (F.tells files.old) (F.tells files.new) }
+    ensures leaves { LeavesHeard (known_environment environment.entry) (heard raws.now (map S.text words.now)) (F.tells files.old) (F.tells files.new) }
 {
     let mut desk = Streams {
         alloc,
@@ -123,7 +134,7 @@ fn perform<F: Files, O: Sink, E: Sink, S: AsStr>(
         out,
         err,
     };
-    answer_words(&mut desk, words, environment)
+    answer_words(&mut desk, words, raws, environment)
 }
 
 // Hands on what was printed, also before a stop.
@@ -142,14 +153,40 @@ fn flush_after<O: Sink>(ended: Result<u8, Stop>, out: &mut O) -> Result<u8, Stop
 fn answer_words<D: Desk, S: AsStr>(
     desk: &mut D,
     words: &[S],
+    raws: &[RawWord<'_>],
     environment: Option<Environment<'_>>,
 ) -> Result<u8, Stop>
-    ensures { Answers (known_environment environment.entry) (meaning_of (map S.text words.now))
+    ensures { Replies (known_environment environment.entry) (heard raws.now (map S.text words.now))
         (D.state desk.old) (D.state desk.new) result }
 {
     match request_of(desk.alloc(), words) {
-        Ok(request) => answer(desk, environment, &request),
-        Err(error) => show(desk, error),
+        Ok(request) => answer_placed(desk, environment, &request, raws),
+        Err(error) => refuse(desk, error, raws),
+    }
+}
+
+// Does what is asked, where each word that is no text is a FILE.
+fn answer_placed<D: Desk>(
+    desk: &mut D,
+    environment: Option<Environment<'_>>,
+    request: &Request<'_>,
+    raws: &[RawWord<'_>],
+) -> Result<u8, Stop>
+    ensures { Replies (known_environment environment.entry) (heard_in raws.now (asks (plain_request request.now)))
+        (D.state desk.old) (D.state desk.new) result }
+{
+    match misplaced(raws, files_of(request)) {
+        Some(number) => refuse_word(desk, number),
+        None => answer(desk, environment, request, raws),
+    }
+}
+
+fn files_of<'m, 'a>(request: &'m Request<'a>) -> &'m [&'a str]
+    ensures { texts result.now ≡ asked_files (plain_request request.entry.now) }
+{
+    match request {
+        Request::Plain { files, .. } | Request::Type { files, .. } => files.as_slice(),
+        _ => &[],
     }
 }
 
@@ -157,8 +194,9 @@ fn answer<D: Desk>(
     desk: &mut D,
     environment: Option<Environment<'_>>,
     request: &Request<'_>,
+    raws: &[RawWord<'_>],
 ) -> Result<u8, Stop>
-    ensures { Answers (known_environment environment.entry) (asks (plain_request request.now))
+    ensures { Answers (known_environment environment.entry) (asks (with_names raws.now (plain_request request.now)))
         (D.state desk.old) (D.state desk.new) result }
 {
     match request {
@@ -167,7 +205,14 @@ fn answer<D: Desk>(
             directories,
             options,
             files,
-        } => plain::print_types(desk, environment, directories, *options, files.as_slice()),
+        } => plain::print_types(
+            desk,
+            environment,
+            directories,
+            *options,
+            files.as_slice(),
+            raws,
+        ),
         Request::List { source } => list(desk, environment, source),
         Request::IsA { source, kind, base } => is_a(desk, environment, source, *kind, *base),
         Request::Icon { source, kind } => icon(desk, environment, source, *kind),
@@ -175,8 +220,29 @@ fn answer<D: Desk>(
             source,
             options,
             files,
-        } => types::print_types(desk, environment, source, *options, files.as_slice()),
+        } => types::print_types(desk, environment, source, *options, files.as_slice(), raws),
     }
+}
+
+// Says which word is no text, or shows help or what is wrong with the words.
+fn refuse<D: Desk>(desk: &mut D, error: Error, raws: &[RawWord<'_>]) -> Result<u8, Stop>
+    ensures { Works (Ends (λ _. IsRefusedRun raws.now (kind_of error)) [])
+        (D.state desk.old) (D.state desk.new) result }
+{
+    match raws {
+        [] => show(desk, error),
+        [raw, ..] => show_word(desk, &error, raw.number),
+    }
+}
+
+fn show_word<D: Desk>(desk: &mut D, error: &Error, number: u64) -> Result<u8, Stop>
+    ensures { Works (Ends (λ _ run. (kind_of error.now ≢ ErrorKind.OutOfMemory) × (run ≡ mistaken (not_text number))) [])
+        (D.state desk.old) (D.state desk.new) result }
+{
+    if is_memory(error) {
+        return Err(Stop::OutOfMemory);
+    }
+    refuse_word(desk, number)
 }
 
 // Shows help, or says what is wrong with the words.
@@ -211,7 +277,7 @@ fn show_text<D: Desk>(desk: &mut D, is_help: bool, text: &str) -> Result<u8, Sto
         print_text(desk, text)?;
         Ok(ANSWERED)
     } else {
-        desk.complain(text)?;
+        desk.complain(text.as_bytes())?;
         Ok(MISTAKEN)
     }
 }

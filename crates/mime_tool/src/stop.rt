@@ -80,7 +80,7 @@ pub(crate) fn unwritable(alloc: Global, path: &str) -> Stop
 }
 
 /// Says it on standard error. A fault there is passed over, unless memory ran out.
-pub(crate) fn complain<E: Sink>(err: &mut E, text: &str) -> Result<(), OutOfMemory>
+pub(crate) fn complain<E: Sink>(err: &mut E, text: &[u8]) -> Result<(), OutOfMemory>
     // Where standard error tells what it holds, the message is added, or what it begins with where memory runs out.
     ensures says { Says (E.holds err.old) (E.holds err.new) result text.now }
     // Memory does not run out where it tells that it has room for the message.
@@ -88,7 +88,7 @@ pub(crate) fn complain<E: Sink>(err: &mut E, text: &str) -> Result<(), OutOfMemo
     // It can hold as much as before.
     ensures capacity { E.capacity err.new ≡ E.capacity err.old }
 {
-    match put_now(err, text.as_bytes()) {
+    match put_now(err, text) {
         Err(SinkFault::OutOfMemory) => Err(OutOfMemory),
         Err(SinkFault::Failed) => Ok(()),
         Ok(()) => Ok(()),
@@ -103,7 +103,7 @@ pub(crate) fn tell<E: Sink>(stop: &Stop, err: &mut E) -> u8
     match say(stop, err) {
         Ok(()) => STOPPED,
         Err(OutOfMemory) => {
-            let _ = complain(err, "mimelook: out of memory\n");
+            let _ = complain(err, b"mimelook: out of memory\n");
             OUT_OF_MEMORY
         }
     }
@@ -115,8 +115,8 @@ fn say<E: Sink>(stop: &Stop, err: &mut E) -> Result<(), OutOfMemory>
     ensures capacity { E.capacity err.new ≡ E.capacity err.old }
 {
     match stop {
-        Stop::Refused(message) => complain(err, message.as_str()),
-        Stop::CannotWrite => complain(err, "mimelook: cannot write output\n"),
+        Stop::Refused(message) => complain(err, message.as_bytes()),
+        Stop::CannotWrite => complain(err, b"mimelook: cannot write output\n"),
         Stop::OutOfMemory => Err(OutOfMemory),
     }
 }

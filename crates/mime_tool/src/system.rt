@@ -28,7 +28,8 @@ const BLOCK: usize = 65_536;
 ///
 /// Only regular files are opened, and links to them. A folder is [`FileFault::Folder`]; a pipe, a socket
 /// and a device, `/dev/null` too, are [`FileFault::Failed`]: to open one may wait for a writer without
-/// end, or do something.
+/// end, or do something. A path that is no UTF-8 is [`FileFault::Failed`] too, since this runtime opens
+/// only text.
 ///
 /// A regular file alone is replaced, and keeps its mode; where a link leads to it, by way of a file beside
 /// it, and the link stays. Where nothing is, a file is made.
@@ -74,7 +75,10 @@ impl<R: rt::Files> Files for SystemFiles<'_, R> {
         }
     }
 
-    fn open(&mut self, _alloc: Global, path: &str) -> Result<Untold<R::File>, FileFault> {
+    fn open(&mut self, _alloc: Global, path: &[u8]) -> Result<Untold<R::File>, FileFault> {
+        let Ok(path) = str::from_utf8(path) else {
+            return Err(FileFault::Failed);
+        };
         match open_file(self.0, path) {
             Ok((file, _)) => Ok(Untold(file)),
             Err(error) => Err(file_fault(&error)),

@@ -30,6 +30,6 @@ pub(crate) fn refuse<D: Desk>(desk: &mut D, word: &str) -> Result<u8, Stop>
     ensures { Works (Ends (λ _ run. run ≡ mistaken (not_a_type word.now)) [])
         (D.state desk.old) (D.state desk.new) result }
 {
-    report(desk, "not a type", word)?;
+    report(desk, b"not a type", word)?;
     Ok(MISTAKEN)
 }

@@ -5,12 +5,14 @@ ghost use Rattle.mime_request.specs.Request.{plain_source};
 ghost use Rattle.mime_tool.specs.Desk.{Ends, Works};
 ghost use Rattle.mime_tool.specs.Environment.{known_environment};
 ghost use Rattle.mime_tool.specs.Types.{IsType};
+ghost use Rattle.mime_tool.specs.Words.{names_of};
 
 use crate::desk::Desk;
 use crate::environment::Environment;
 use crate::line::{Data, Lookup, order_of, print_lines};
 use crate::sources::{path_of, read_source};
 use crate::stop::Stop;
+use crate::words::RawWord;
 use mime_request::{Options, Source};
 
 /// Prints a line `FILE: TYPE` for each file, by a cache, and gives the status.
@@ -23,9 +25,10 @@ pub(crate) fn print_types<D: Desk>(
     source: &Source<'_>,
     options: Options,
     files: &[&str],
+    raws: &[RawWord<'_>],
 ) -> Result<u8, Stop>
     ensures { Works (Ends (IsType (D.state desk.old).stored (known_environment environment.entry) (plain_source source.now) options)
-        (texts files.now)) (D.state desk.old) (D.state desk.new) result }
+        (names_of raws.now (texts files.now))) (D.state desk.old) (D.state desk.new) result }
 {
     let cache = read_source(desk, environment, source)?;
     let path = path_of(source);
@@ -40,5 +43,5 @@ pub(crate) fn print_types<D: Desk>(
         order: order_of(options.content_only, options.magic_first),
         output: options.output,
     };
-    print_lines(desk, lookup, files)
+    print_lines(desk, lookup, files, raws)
 }

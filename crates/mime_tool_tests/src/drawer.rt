@@ -97,13 +97,13 @@ impl<'a> Files for Drawer<'a> {
         }
     }
 
-    fn open(&mut self, alloc: Global, path: &str) -> Result<Sheet<'a>, FileFault> {
+    fn open(&mut self, alloc: Global, path: &[u8]) -> Result<Sheet<'a>, FileFault> {
         let temp = self.temp(alloc)?;
         match &self.laid {
-            Some(bytes) if path == self.path => {
+            Some(bytes) if path == self.path.as_bytes() => {
                 Ok(Sheet::Laid(Cursor::new(bytes.as_slice().to_vec(alloc)?)))
             }
-            Some(_) if path == temp.as_str() => Err(FileFault::Failed),
+            Some(_) if path == temp.as_bytes() => Err(FileFault::Failed),
             _ => Ok(Sheet::Shelved(self.shelf.open(alloc, path)?)),
         }
     }

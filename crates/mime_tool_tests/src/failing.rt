@@ -20,7 +20,7 @@ impl Files for FailingFiles {
         Ok(true)
     }
 
-    fn open(&mut self, _alloc: Global, _path: &str) -> Result<Page<'static>, FileFault> {
+    fn open(&mut self, _alloc: Global, _path: &[u8]) -> Result<Page<'static>, FileFault> {
         Err(self.0)
     }
 
@@ -55,7 +55,7 @@ impl<'a> Files for FailingShelf<'a> {
         self.shelf.exists(alloc, path)
     }
 
-    fn open(&mut self, alloc: Global, path: &str) -> Result<Page<'a>, FileFault> {
+    fn open(&mut self, alloc: Global, path: &[u8]) -> Result<Page<'a>, FileFault> {
         step(&mut self.calls, self.fault)?;
         self.shelf.open(alloc, path)
     }
@@ -92,7 +92,7 @@ impl<'a> Files for FailingDrawer<'a> {
         self.drawer.exists(alloc, path)
     }
 
-    fn open(&mut self, alloc: Global, path: &str) -> Result<Sheet<'a>, FileFault> {
+    fn open(&mut self, alloc: Global, path: &[u8]) -> Result<Sheet<'a>, FileFault> {
         step(&mut self.calls, self.fault)?;
         self.drawer.open(alloc, path)
     }

@@ -71,7 +71,7 @@ impl<'a> Files for Shelf<'a> {
     type Reader = Page<'a>;
 
     fn whole(&mut self, alloc: Global, path: &str) -> Result<Option<Vec<u8>>, FileFault> {
-        match find_entry(self.entries, path) {
+        match find_entry(self.entries, path.as_bytes()) {
             None => Ok(None),
             Some(Entry::Folder) => Err(FileFault::Folder),
             Some(Entry::Closed | Entry::Unreadable) => Err(FileFault::Failed),
@@ -83,10 +83,10 @@ impl<'a> Files for Shelf<'a> {
     }
 
     fn exists(&mut self, _alloc: Global, path: &str) -> Result<bool, OutOfMemory> {
-        Ok(find_entry(self.entries, path).is_some())
+        Ok(find_entry(self.entries, path.as_bytes()).is_some())
     }
 
-    fn open(&mut self, _alloc: Global, path: &str) -> Result<Page<'a>, FileFault> {
+    fn open(&mut self, _alloc: Global, path: &[u8]) -> Result<Page<'a>, FileFault> {
         match find_entry(self.entries, path) {
             Some(Entry::Folder) => Err(FileFault::Folder),
             None | Some(Entry::Closed) => Err(FileFault::Failed),
@@ -107,11 +107,11 @@ impl<'a> Files for Shelf<'a> {
     }
 }
 
-fn find_entry<'a>(entries: &[(&'a str, Entry<'a>)], path: &str) -> Option<Entry<'a>>
+fn find_entry<'a>(entries: &[(&'a str, Entry<'a>)], path: &[u8]) -> Option<Entry<'a>>
     ensures { result ≡ entry_in entries.now path.now }
 {
     for named in entries {
-        if named.0 == path {
+        if named.0.as_bytes() == path {
             return Some(named.1);
         }
     }

@@ -11,3 +11,4 @@ mod sources;
 mod system;
 mod texts;
 mod visible;
+mod words;

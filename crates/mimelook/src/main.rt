@@ -2,18 +2,18 @@
 //! system's files and the standard streams go to [`run`], which gives the exit status.
 #![tactic(auto)]
 
+mod words;
+
 use mime_tool::{Environment, Stream, SystemFiles, run};
 use std::alloc::AllocError;
 use std::env::VarError;
-use std::io::{BufWriter, ErrorKind};
+use std::io::BufWriter;
 use std::process::ExitCode;
 use std::{env, io};
+use words::Words;
 
 /// How many bytes of output are held back.
 const BUFFER: usize = 65_536;
-
-/// The exit status of a wrong command line.
-const MISTAKEN: u8 = 2;
 
 /// The exit status where memory ran out.
 const OUT_OF_MEMORY: u8 = 4;
@@ -21,14 +21,18 @@ const OUT_OF_MEMORY: u8 = 4;
 fn main(rt: HostRuntime) -> ExitCode {
     ExitCode::from(match run_system(&rt) {
         Ok(status) => status,
-        Err(error) => refuse(&rt, &error),
+        Err(_) => {
+            let _ = rt.eprintln("mimelook: out of memory");
+            OUT_OF_MEMORY
+        }
     })
 }
 
-// Runs the program on the words after its name.
+// Runs the program on the words after its name. An error says that memory ran out before.
 fn run_system(rt: &HostRuntime) -> io::Result<u8> {
     let alloc = rt.alloc();
-    let words = env::args(rt)?.skip(1).collect::<Vec<String>>(alloc)?;
+    let words = Words::read(rt, alloc)?;
+    let raws = words.raws(alloc)?;
     let variables = match Variables::read(rt) {
         Ok(variables) => Some(variables),
         Err(VarError::OutOfMemory) => return Err(io::Error::from(AllocError)),
@@ -40,7 +44,8 @@ fn run_system(rt: &HostRuntime) -> io::Result<u8> {
     let mut err = Stream(rt.stderr());
     Ok(run(
         alloc,
-        words.as_slice(),
+        words.texts.as_slice(),
+        raws.as_slice(),
         environment,
         &mut files,
         &mut out,
@@ -80,16 +85,5 @@ fn variable(rt: &HostRuntime, name: &str) -> Result<Option<String>, VarError> {
         Ok(text) => Ok(Some(text)),
         Err(VarError::NotPresent) => Ok(None),
         Err(error) => Err(error),
-    }
-}
-
-// Says why there was no run.
-fn refuse(rt: &HostRuntime, error: &io::Error) -> u8 {
-    if error.kind() == ErrorKind::OutOfMemory {
-        let _ = rt.eprintln("mimelook: out of memory");
-        OUT_OF_MEMORY
-    } else {
-        let _ = rt.eprintln("mimelook: an argument is not text (UTF-8)");
-        MISTAKEN
     }
 }

@@ -60,14 +60,14 @@ mimelook plain [-d DIRS] [--name-only | --content-only]
 Messages go to standard error. The files are DIR/mime/globs2, magic, aliases,
 subclasses, icons and generic-icons; a missing one counts as empty. Without -d
 the directories are the user's (see mimelook --help).
-A FILE that is not UTF-8 refuses the whole call. A FILE that is a pipe can't be
-opened.
+A FILE that is a pipe can't be opened, nor one whose name is not UTF-8, which
+has a type by --name-only.
 
 Exit status:
   0  every FILE was answered; or help was printed
   1  some FILE can't be opened or read, or its name is too long (above 4096
      bytes); the others were answered
-  2  the command line is wrong, or a word of it is not UTF-8
+  2  the command line is wrong, or a word but a FILE is not UTF-8
   3  the data can't be read or is refused, or the output can't be written
   4  out of memory
 
@@ -147,14 +147,14 @@ mimelook type [-c CACHE | -d DIRS] [--name-only | --content-only]
     after_help: "\
 Messages go to standard error. With -d the cache is made of DIRS, as build makes
 it; without -c and -d, of the user's data directories (see mimelook --help).
-A FILE that is not UTF-8 refuses the whole call. A FILE that is a pipe can't be
-opened, and a CACHE that is one can't be read.
+A FILE that is a pipe can't be opened, nor one whose name is not UTF-8, which
+has a type by --name-only. A CACHE that is a pipe can't be read.
 
 Exit status:
   0  every FILE was answered; or help was printed
   1  some FILE can't be opened or read, or its name is too long (above 4096
      bytes); the others were answered
-  2  the command line is wrong, or a word of it is not UTF-8
+  2  the command line is wrong, or a word but a FILE is not UTF-8
   3  the data can't be read or is refused, or the output can't be written
   4  out of memory
 

@@ -4,14 +4,14 @@ use Rattle.clap.specs.Values.{kind_of}
 use Rattle.clap.specs.declared.error.Error.{Error}
 use Rattle.clap.specs.declared.error.kind.ErrorKind.{ErrorKind}
 use Rattle.clap.specs.declared.error.kind.ErrorKind.TheVariants as kind
-use Rattle.mime_request.specs.Request.{PlainDirectories, PlainRequest, Meaning, Means, plain_request, asks, build, icon, is_a, list, meaning_of}
+use Rattle.mime_request.specs.Request.{PlainDirectories, PlainRequest, Meaning, Means, plain_request, asks, build, icon, is_a, list}
 use Rattle.mime_request.specs.Request.{plain, refused, type_of}
 use Rattle.mime_request.specs.declared.request.Request.{Request}
 use Rattle.mime_tool.specs.Build.{Builds}
 use Rattle.mime_tool.specs.Desk.{Ends, State, Works}
 use Rattle.mime_tool.specs.Environment.{PlainEnvironment}
 use Rattle.mime_tool.specs.Files.{Stored, Writing}
-use Rattle.mime_tool.specs.Finish.{Finishes, Sinks}
+use Rattle.mime_tool.specs.Finish.{Sinks}
 use Rattle.mime_tool.specs.Program.{Answers, IsAnswer, IsAskedRun, IsShown, Leaves, asked_files, files_of, is_help, shown}
 use Rattle.mime_tool.specs.Run.{Run, stopped}
 use Rattle.mime_tool.specs.Stop.{message}
@@ -37,7 +37,7 @@ answers_asked v (asks x) q a b r means p = subst (λ (y : PlainRequest). Answers
 answers_asked v (refused kinds) q a b r means p = absurd means
 
 -- an error that the words mean is shown
-error_shown : (v : Option PlainEnvironment) (writes : List ℕ → List ℕ → Writing) (stored after : List ℕ → Stored) (m : Meaning) (e : Error) (a b : Sinks)
+pub error_shown : (v : Option PlainEnvironment) (writes : List ℕ → List ℕ → Writing) (stored after : List ℕ → Stored) (m : Meaning) (e : Error) (a b : Sinks)
     (r : Result ℕ Stop) → Means m (Err e)
     → Ends (λ _. IsShown (kind_of e)) [] a b r → Ends (IsAnswer v writes stored after m) (files_of m) a b r
 error_shown v writes stored after (asks x) e a b (Ok status) means p = absurd (p.1.0 means)
@@ -55,7 +55,7 @@ error_shown v writes stored after (refused kinds) e a b r (inr among) p =
     (λ fs run q. (kind_of e, among, q)) p
 
 -- what is stored stays
-leaves_same : (v : Option PlainEnvironment) (m : Meaning) (old new : List ℕ → Stored) → new ≡ old → Leaves v m old new
+pub leaves_same : (v : Option PlainEnvironment) (m : Meaning) (old new : List ℕ → Stored) → new ≡ old → Leaves v m old new
 leaves_same v (asks (build dirs file)) old new same = inl (λ other _. ap (λ (stored : List ℕ → Stored). stored other) same)
 leaves_same v (asks (plain dirs options files)) old new same = same
 leaves_same v (asks (list source)) old new same = same
@@ -85,11 +85,3 @@ pub shown_text : (k : ErrorKind) (help : Bool) (text : List ℕ) (a b : Sinks) (
 shown_text k help text a b r other is p =
     ends_weaker (λ _ run. run ≡ shown help text) (λ _. IsShown k) [] a b r
     (λ fs run q. (other, (text, q ∙ ap (λ (h : Bool). shown h text) is))) p
-
--- the run of words that ask for this
-pub asked_finishes : (v : Option PlainEnvironment) (writes : List ℕ → List ℕ → Writing) (stored after : List ℕ → Stored) (words : List (List ℕ))
-    (capacity : Option ℕ) (a b : Sinks) (status : ℕ) (q : PlainRequest) → meaning_of words ≡ asks q
-    → Finishes (IsAnswer v writes stored after (meaning_of words)) (files_of (meaning_of words)) capacity a b status
-    → Finishes (IsAskedRun v writes stored after q) (asked_files q) capacity a b status
-asked_finishes v writes stored after words capacity a b status q is p =
-    subst (λ (m : Meaning). Finishes (IsAnswer v writes stored after m) (files_of m) capacity a b status) is p

@@ -92,7 +92,7 @@ fn report_line<D: Desk>(desk: &mut D, path: &str, number: u64) -> Result<(), Sto
         (D.state desk.old) (D.state desk.new) result }
 {
     let text = format!(in desk.alloc(); "mimelook: {path}: line {number} ignored\n")?;
-    desk.complain(text.as_str())
+    desk.complain(text.as_bytes())
 }
 
 impl LineFile for GlobsFile {

@@ -63,7 +63,7 @@ pub(crate) fn order_of(content_only: bool, magic_first: bool) -> Order
 pub(super) fn find<'a, R: Content + Drop>(
     alloc: Global,
     lookup: Lookup<'a>,
-    file: &str,
+    file: &[u8],
     content: Option<R>,
 ) -> Result<Outcome<'a>, Stop>
     ensures { (stored : Stored) → IsContent R.remaining R.health lookup.entry.name_only stored content
@@ -87,13 +87,13 @@ fn find_in_database<'a, R: Content + Drop>(
     alloc: Global,
     database: &'a Database,
     order: Order,
-    file: &str,
+    file: &[u8],
     mut content: Option<R>,
 ) -> Result<Outcome<'a>, Stop>
     ensures { (stored : Stored) (name_only : Bool) (output : Output) → IsContent R.remaining R.health name_only stored content
         → LooksUp (lookup_over name_only output order (plain_database database.entry.now)) stored file.now result }
 {
-    let name = name_for(order, file.as_bytes());
+    let name = name_for(order, file);
     match look_up_plain(alloc, database, name, &mut content, Host::Little, order) {
         Ok(answer) => Ok(Outcome::Typed(answer.kind, None)),
         Err(stopped) => match stopped.cause {
@@ -111,13 +111,13 @@ fn find_in_cache<'a, R: Content + Drop>(
     bytes: &'a [u8],
     cost: bool,
     order: Order,
-    file: &str,
+    file: &[u8],
     mut content: Option<R>,
 ) -> Result<Outcome<'a>, Stop>
     ensures { (stored : Stored) (name_only : Bool) (output : Output) → IsContent R.remaining R.health name_only stored content
         → LooksUp (lookup_by path.now name_only cost output order bytes.entry.now) stored file.now result }
 {
-    let name = name_for(order, file.as_bytes());
+    let name = name_for(order, file);
     let cache = Counted::new(bytes);
     match look_up(alloc, cache, name, &mut content, Host::Little, order) {
         Ok(answer) => Ok(Outcome::Typed(answer.kind, cost_of(cost, answer.meter, answer.read))),

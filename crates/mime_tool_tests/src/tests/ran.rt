@@ -27,7 +27,7 @@ pub fn ran<F: Files, O: Sink, E: Sink>(
     out: &mut O,
     err: &mut E,
 ) -> u8 {
-    run(alloc, words, Some(UNSET), files, out, err)
+    run(alloc, words, &[], Some(UNSET), files, out, err)
 }
 
 /// A run's status, and what it prints and says.

@@ -211,6 +211,7 @@ fn is_answered(rt: &impl Abort, alloc: Global, row: &Row) -> Result<(), Fail> {
     let status = run(
         alloc,
         row.words,
+        &[],
         row.environment,
         &mut files,
         &mut out,

@@ -46,9 +46,17 @@ static PATHS: [Opening<&str>; 5] = [
 fn opens_regular_files_alone(rt: HostRuntime) {
     let mut files = SystemFiles::new(&rt);
     for &(path, want) in &PATHS {
-        let opened = files.open(rt.alloc(), path).map(|_| ());
+        let opened = files.open(rt.alloc(), path.as_bytes()).map(|_| ());
         alike(&rt, path, opened, want);
     }
+}
+
+// Such a path is refused, whatever file may have it.
+#[test]
+fn opens_no_path_that_is_not_text(rt: HostRuntime) {
+    let path = b"/proc/sys/kernel/ostype\xff";
+    let opened = SystemFiles::new(&rt).open(rt.alloc(), path).map(|_| ());
+    alike(&rt, "Latin-1", opened, REFUSED);
 }
 
 const DENIED: ErrorKind = ErrorKind::PermissionDenied;
@@ -93,7 +101,7 @@ const UNREADABLE: Disk = Disk::Gives(Opened {
 #[test]
 fn names_what_opening_fails_with(rt: HostRuntime) {
     for &(name, (disk, want)) in &DISKS {
-        let opened = SystemFiles::new(&disk).open(rt.alloc(), "a").map(|_| ());
+        let opened = SystemFiles::new(&disk).open(rt.alloc(), b"a").map(|_| ());
         alike(&rt, name, opened, want);
     }
 }

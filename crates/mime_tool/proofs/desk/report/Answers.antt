@@ -4,8 +4,8 @@ use Rattle.mime_tool.specs.Run.{refusal, said}
 use Rattle.mime_tool.proofs.DeskLemmas.Desks.{does_nothing}
 use Rattle.mime_tool.proofs.desk.report.Goals as goal
 
-pub returns-in_err-text : goal.returns-in_err-text
-returns-in_err-text g c =
+pub returns-in_err-message : goal.returns-in_err-message
+returns-in_err-message g c =
     let e = err_from_is_err_and c.from_residual.result c.from_residual.ensures.1 in
     rw (e.1, e.2) (record {
       same_files = refl;
@@ -15,4 +15,4 @@ returns-in_err-text g c =
     })
 
 pub returns : goal.returns
-returns g c = rw (c.as_str.ensures.value ∙ c.in_ok-text.ensures.ok) at c.complain.ensures
+returns g c = rw (c.as_slice.ensures.value ∙ c.in_ok-message.ensures) at c.complain.ensures

@@ -26,6 +26,6 @@ returns-in_err-dirs g c =
 pub returns : goal.returns
 returns g c =
     let same = c.in_ok-have_text_file.ensures.stays in
-    noticed_none (g.D.Desk.state c.args.desk.now) _ c.args.directories.now c.as_str.result.now _
+    noticed_none (g.D.Desk.state c.args.desk.now) _ c.args.directories.now c.as_bytes.result.now _
     (rw c.is_empty.ensures at c.if-is_empty.false) (rw c.if-branch.false at c.in_ok-have_text_file.ensures.has)
-    (c.as_str.ensures.value ∙ c.in_ok-dirs.ensures.ok) (rw same at c.report.ensures)
+    (c.as_bytes.ensures.value ∙ c.in_ok-dirs.ensures.ok) (rw same at c.report.ensures)

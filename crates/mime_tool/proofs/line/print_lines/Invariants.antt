@@ -4,9 +4,10 @@ use Rattle.mime_tool.specs.Desk.{Ends, Works}
 use Rattle.mime_tool.specs.Line.{IsTypeLine}
 use Rattle.mime_tool.specs.LineSteps.{plain_lookup}
 use Rattle.mime_tool.specs.Run.{IsEach}
+use Rattle.mime_tool.specs.Words.{names_of}
 use Rattle.mime_tool.proofs.line.print_lines.Given as goal
 
 abbrev pub invariant-loop-file : goal.invariant-loop-file
 invariant-loop-file g l =
-    Works (Ends (IsEach (IsTypeLine (plain_lookup l.lookup) (g.D.Desk.state l.initial.desk).stored)) (texts (take l.file-index l.files)))
+    Works (Ends (IsEach (IsTypeLine (plain_lookup l.lookup) (g.D.Desk.state l.initial.desk).stored)) (names_of l.raws (texts (take l.file-index l.files))))
     (g.D.Desk.state l.initial.desk) (g.D.Desk.state l.desk) (Ok l.status)

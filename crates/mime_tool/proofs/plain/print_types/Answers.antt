@@ -8,6 +8,7 @@ use Rattle.mime_tool.specs.Environment.{known_environment}
 use Rattle.mime_tool.specs.Plain.{AreTypeLines}
 use Rattle.mime_tool.proofs.RunLemmas.Commands.{command_over, command_unloaded}
 use Rattle.mime_tool.proofs.AnswerLemmas.Lines.{no_lines}
+use Rattle.mime_tool.specs.Words.{names_of}
 use Rattle.mime_tool.proofs.plain.print_types.Goals as goal
 
 pub returns-in_err-database : goal.returns-in_err-database
@@ -19,7 +20,7 @@ returns-in_err-database g c =
       same_files = load.same_files;
       same_setting = load.same_setting;
       sinks = command_unloaded Database plain_database stored (known_environment c.args.environment)
-          (plain_directories c.args.directories.now) (AreTypeLines stored c.args.options) (texts c.args.files.now) _ _ _
+          (plain_directories c.args.directories.now) (AreTypeLines stored c.args.options) (names_of c.args.raws.now (texts c.args.files.now)) _ _ _
           (no_lines stored c.args.options) load.sinks;
     })
 
@@ -33,7 +34,7 @@ returns g c =
       same_files = lines.same_files ∙ load.same_files;
       same_setting = lines.same_setting ∙ load.same_setting;
       sinks = command_over Database plain_database stored (known_environment c.args.environment)
-          (plain_directories c.args.directories.now) (AreTypeLines stored c.args.options) (texts c.args.files.now)
+          (plain_directories c.args.directories.now) (AreTypeLines stored c.args.options) (names_of c.args.raws.now (texts c.args.files.now))
           c.in_ok-database.database _ _ _ _ (no_lines stored c.args.options (plain_database c.in_ok-database.database)) load.sinks
           here.sinks;
     }

@@ -20,7 +20,7 @@ pub returns-in_err-complain : goal.returns-in_err-complain
 returns-in_err-complain g c =
     let e = err_from_is_err_and c.from_residual-in_err-complain.result c.from_residual-in_err-complain.ensures.1 in
     let text = c.args.text.now in
-    let told = c.in_err-complain.ensures in
+    let told = rw c.as_bytes.ensures.value at c.in_err-complain.ensures in
     rw (e.1, e.2, c.if-is_help.false) (record {
       same_files = told.same_files;
       same_setting = told.same_setting;
@@ -41,7 +41,7 @@ returns-in_ok-print_text g c =
 pub returns-in_ok-complain : goal.returns-in_ok-complain
 returns-in_ok-complain g c =
     let text = c.args.text.now in
-    let told = c.in_ok-complain.ensures in
+    let told = rw c.as_bytes.ensures.value at c.in_ok-complain.ensures in
     rw c.if-is_help.false (record {
       same_files = told.same_files;
       same_setting = told.same_setting;

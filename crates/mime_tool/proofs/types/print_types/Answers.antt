@@ -5,6 +5,7 @@ use Rattle.mime_request.specs.Request.{plain_source}
 use Rattle.mime_tool.specs.Environment.{known_environment}
 use Rattle.mime_tool.specs.Types.{AreLinesBy}
 use Rattle.mime_tool.proofs.RunLemmas.SourceCommands.{source_read, source_unread}
+use Rattle.mime_tool.specs.Words.{names_of}
 use Rattle.mime_tool.proofs.types.print_types.Goals as goal
 
 pub returns-in_err-cache : goal.returns-in_err-cache
@@ -16,7 +17,7 @@ returns-in_err-cache g c =
       same_files = read.same_files;
       same_setting = read.same_setting;
       sinks = source_unread stored (known_environment c.args.environment) (plain_source c.args.source.now)
-          (AreLinesBy stored c.args.options) (texts c.args.files.now) _ _ _ read.sinks;
+          (AreLinesBy stored c.args.options) (names_of c.args.raws.now (texts c.args.files.now)) _ _ _ read.sinks;
     })
 
 pub returns : goal.returns
@@ -28,5 +29,5 @@ returns g c =
       same_files = lines.same_files ∙ read.same_files;
       same_setting = lines.same_setting ∙ read.same_setting;
       sinks = source_read stored (known_environment c.args.environment) (plain_source c.args.source.now)
-          (AreLinesBy stored c.args.options) (texts c.args.files.now) c.in_ok-cache.cache _ _ _ _ read.sinks lines.sinks;
+          (AreLinesBy stored c.args.options) (names_of c.args.raws.now (texts c.args.files.now)) c.in_ok-cache.cache _ _ _ _ read.sinks lines.sinks;
     }

@@ -16,4 +16,4 @@ returns-in_err-text g c =
     })
 
 pub returns : goal.returns
-returns g c = rw (c.as_str.ensures.value ∙ c.in_ok-text.ensures.ok) at c.complain.ensures
+returns g c = rw (c.as_bytes.ensures.value ∙ c.in_ok-text.ensures.ok) at c.complain.ensures

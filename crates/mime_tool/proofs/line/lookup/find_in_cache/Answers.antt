@@ -8,7 +8,7 @@ use Rattle.mime_tool.proofs.line.lookup.find_in_cache.Goals as goal
 
 pub returns-in-Ok : goal.returns-in-Ok
 returns-in-Ok g c =
-    let is : c.name_for-name.result.now ≡ name_for c.args.order c.args.file.now = rw c.as_bytes.ensures.value at c.name_for-name.ensures in
+    let is : c.name_for-name.result.now ≡ name_for c.args.order c.args.file.now = c.name_for-name.ensures in
     let found = rw (is, c.new-cache.ensures) at c.in-Ok.ensures in
     let answer = c.in-Ok.answer in
     let fit = fits_unless (name_for c.args.order c.args.file.now) _ refl (λ long. let bad = (found.stops.too_long long).1 in cc) in
@@ -20,7 +20,7 @@ returns-in-Ok g c =
 
 pub returns-in-Cache : goal.returns-in-Cache
 returns-in-Cache g c =
-    let is : c.name_for-name.result.now ≡ name_for c.args.order c.args.file.now = rw c.as_bytes.ensures.value at c.name_for-name.ensures in
+    let is : c.name_for-name.result.now ≡ name_for c.args.order c.args.file.now = c.name_for-name.ensures in
     let found = rw (is, c.new-cache.ensures) at c.in-Err.ensures in
     let name = name_for c.args.order c.args.file.now in
     let fit : nat_le (length name) 4096 ≡ true = fits_unless name _ refl
