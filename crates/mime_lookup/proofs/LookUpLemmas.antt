@@ -4,3 +4,5 @@ pub mod KindTexts
 pub mod Askings
 pub mod LookUps
 pub mod Outcomes
+pub mod EnoughFronts
+pub mod Wants

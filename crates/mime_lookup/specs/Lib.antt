@@ -23,3 +23,4 @@ pub mod Steps
 pub mod Halves
 pub mod Fronts
 pub mod LookUps
+pub mod Wanted

@@ -10,7 +10,8 @@
 //! [`look_up`] goes by the bytes of a cache, whatever they are. Over a cache that spells a database, the
 //! type that it answers is the one that the definition of the checking order gives to the name and the
 //! whole content, of which it reads no more than magic can look at; [`Content`] is what it reads from,
-//! and may tell whether its reads can fail. [`is_a`] and [`icon_of`] go by the same bytes.
+//! and may tell whether its reads can fail. [`wanted`] is the first half of a lookup by itself: how much of a content
+//! the name leaves to be read. [`is_a`] and [`icon_of`] go by the same bytes.
 //! [`look_up_plain`] answers the same by trying every rule, line and pair of a database.
 //!
 //! Read `cached` first, which has the two halves of a lookup: `cached::by_name`, what a name gives by
@@ -40,7 +41,7 @@ mod stopped;
 mod subclass;
 
 pub use answer::Answer;
-pub use cached::{Icons, icon_of, is_a, look_up};
+pub use cached::{Icons, icon_of, is_a, look_up, wanted};
 pub use content::{Content, ReadFault, Untold};
 pub use lists::look_up_plain;
 pub use order::Order;

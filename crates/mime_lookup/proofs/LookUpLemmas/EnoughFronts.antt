@@ -4,14 +4,14 @@ use Rattle.std.proofs.Common.{MatchBool, cond, refl, sym, ap, subst, ◌∙◌, 
 use Rattle.mime_base.specs.Database.{PlainDatabase, pairs_of}
 use Rattle.mime_base.specs.Database.Subclass.{Pairs}
 use Rattle.mime_base.specs.Magic.Extent.{extent}
-use Rattle.mime_base.specs.declared.magic.host.Host.TheVariants.{Little}
+use Rattle.mime_base.specs.declared.magic.host.Host.{Host}
 use Rattle.mime_base.proofs.MagicLemmas.Fronts.{first_magic-front}
-use Rattle.mime_c.specs.Wanted.{IsEnough, wanted_of}
 use Rattle.mime_lookup.specs.CheckingOrder.{Chooses, are_one_type, before_globs, globs_suffice, read_limit}
 use Rattle.mime_lookup.specs.Choice.{ChoosesAmong, IsFirst, kept}
 use Rattle.mime_lookup.specs.Sniffing.{sniffed}
 use Rattle.mime_lookup.specs.declared.order.Order.{Order}
 use Rattle.mime_lookup.specs.declared.order.Order.TheVariants.{ContentOnly, GlobsFirst, MagicFirst}
+use Rattle.mime_lookup.specs.Wanted.{IsFrontEnough, wanted_of}
 use Rattle.mime_lookup.proofs.SniffLemmas.Sniffs.{front_is_enough}
 
 -- of types that are one type the first is chosen, whatever was sniffed
@@ -23,50 +23,51 @@ one_type pairs (first ∷ more) base other answer one chosen =
     (subst (λ b. MatchBool b (answer ≡ first) (IsFirst pairs base first (first ∷ more) answer)) one chosen)
 
 -- where the globs suffice, the content changes nothing
-by_globs : (b : PlainDatabase) (name : List ℕ) (order : Order) (content other : Option (List ℕ)) (kind : List ℕ) →
-    globs_suffice b name order ≡ true → Chooses b name content Little order kind → Chooses b name other Little order kind
+by_globs : (b : PlainDatabase) (name : List ℕ) (host : Host) (order : Order) (content other : Option (List ℕ)) (kind : List ℕ) →
+    globs_suffice b name order ≡ true → Chooses b name content host order kind → Chooses b name other host order kind
 unfolding Chooses globs_suffice before_globs
-by_globs b name GlobsFirst content other kind suffice chosen =
-    one_type (pairs_of b) (kept (pairs_of b) b.rules name) (sniffed b content Little) (sniffed b other Little) kind suffice chosen
-by_globs b name MagicFirst content other kind suffice chosen = absurd cc
-by_globs b name ContentOnly content other kind suffice chosen = absurd cc
+by_globs b name host GlobsFirst content other kind suffice chosen =
+    one_type (pairs_of b) (kept (pairs_of b) b.rules name) (sniffed b content host) (sniffed b other host) kind suffice chosen
+by_globs b name host MagicFirst content other kind suffice chosen = absurd cc
+by_globs b name host ContentOnly content other kind suffice chosen = absurd cc
 
 -- where they don't, a front that is long enough is sniffed as the whole
-by_front : (b : PlainDatabase) (name : List ℕ) (order : Order) (content rest kind : List ℕ) → 128 ≤ length content →
-    extent b ≤ length content → Chooses b name (Some content) Little order kind → Chooses b name (Some (content ++ rest)) Little order kind
+by_front : (b : PlainDatabase) (name : List ℕ) (host : Host) (order : Order) (content rest kind : List ℕ) → 128 ≤ length content →
+    extent b ≤ length content → Chooses b name (Some content) host order kind → Chooses b name (Some (content ++ rest)) host order kind
 unfolding Chooses before_globs
-by_front b name GlobsFirst content rest kind least long chosen =
+by_front b name host GlobsFirst content rest kind least long chosen =
     subst (λ found. ChoosesAmong (pairs_of b) (kept (pairs_of b) b.rules name) found kind)
-    (front_is_enough b content rest Little (inr (least, long))) chosen
-by_front b name MagicFirst content rest kind least long chosen =
-    rw (first_magic-front content rest b.sections Little long, ← front_is_enough b content rest Little (inr (least, long))) chosen
-by_front b name ContentOnly content rest kind least long chosen = chosen ∙ front_is_enough b content rest Little (inr (least, long))
+    (front_is_enough b content rest host (inr (least, long))) chosen
+by_front b name host MagicFirst content rest kind least long chosen =
+    rw (first_magic-front content rest b.sections host long, ← front_is_enough b content rest host (inr (least, long))) chosen
+by_front b name host ContentOnly content rest kind least long chosen =
+    chosen ∙ front_is_enough b content rest host (inr (least, long))
 
 -- where they don't, the whole or so much of it is enough
-by_size : (b : PlainDatabase) (name : List ℕ) (order : Order) (content rest kind : List ℕ) (wanted : ℕ) → wanted ≡ read_limit b →
-    (rest ≡ []) ⊎ (wanted ≤ length content) → Chooses b name (Some content) Little order kind →
-    Chooses b name (Some (content ++ rest)) Little order kind
+by_size : (b : PlainDatabase) (name : List ℕ) (host : Host) (order : Order) (content rest kind : List ℕ) (wanted : ℕ) →
+    wanted ≡ read_limit b → (rest ≡ []) ⊎ (wanted ≤ length content) → Chooses b name (Some content) host order kind →
+    Chooses b name (Some (content ++ rest)) host order kind
 unfolding read_limit
-by_size b name order content rest kind wanted is (inl none) chosen =
-    subst (λ (bytes : List ℕ). Chooses b name (Some bytes) Little order kind)
+by_size b name host order content rest kind wanted is (inl none) chosen =
+    subst (λ (bytes : List ℕ). Chooses b name (Some bytes) host order kind)
     (sym (append-nil content) ∙ ap (λ (end : List ℕ). content ++ end) (sym none)) chosen
-by_size b name order content rest kind wanted is (inr most) chosen =
-    by_front b name order content rest kind (omega (arith, is, most)) (omega (arith, is, most)) chosen
+by_size b name host order content rest kind wanted is (inr most) chosen =
+    by_front b name host order content rest kind (omega (arith, is, most)) (omega (arith, is, most)) chosen
 
 -- so much is enough, by whether the globs suffice
 enough_by : (b : PlainDatabase) (name : List ℕ) (order : Order) (wanted : ℕ) (suffice : Bool) → globs_suffice b name order ≡ suffice →
-    wanted ≡ cond suffice 0 (read_limit b) → IsEnough b name order wanted
+    wanted ≡ cond suffice 0 (read_limit b) → IsFrontEnough b name order wanted
 unfolding read_limit
 enough_by b name order wanted true suffice is = record {
-  front = λ content rest kind long. by_globs b name order (Some content) (Some (content ++ rest)) kind suffice;
-  unopened = λ none content kind. by_globs b name order None content kind suffice;
+  front = λ host content rest kind long. by_globs b name host order (Some content) (Some (content ++ rest)) kind suffice;
+  unopened = λ none host content kind. by_globs b name host order None content kind suffice;
 }
 enough_by b name order wanted false suffice is = record {
-  front = λ content rest kind long. by_size b name order content rest kind wanted is long;
-  unopened = λ none content kind. absurd (omega (arith, is, none));
+  front = λ host content rest kind long. by_size b name host order content rest kind wanted is long;
+  unopened = λ none host content kind. absurd (omega (arith, is, none));
 }
 
 -- so much is enough
 pub enough : (b : PlainDatabase) (name : List ℕ) (order : Order) (wanted : ℕ) → wanted ≡ wanted_of b name order →
-    IsEnough b name order wanted
+    IsFrontEnough b name order wanted
 enough b name order wanted is = enough_by b name order wanted (globs_suffice b name order) refl is

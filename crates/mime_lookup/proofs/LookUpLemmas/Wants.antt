@@ -1,0 +1,103 @@
+-- How much of a content is wanted, by what the name gave.
+use Rattle.std.proofs.Common.{◌≡◌, ◌∙◌, ◌⊎◌, ℕ, ◌+◌, ◌<◌, ◌≤◌, true, false, max, List, length, Result, Ok, Err, refl, sym, ap, inl, inr, arith}
+use Rattle.std.specs.Prelude.{IfErr, IfOk, ⊤}
+use Rattle.mime_base.specs.Cache.Bytes.{field}
+use Rattle.mime_base.specs.Database.{PlainDatabase}
+use Rattle.mime_base.specs.Format.Packed.{Packed}
+use Rattle.mime_lookup.specs.Bounds.{KeepsBounds, stated_extent}
+use Rattle.mime_lookup.specs.Cached.{cause_of}
+use Rattle.mime_lookup.specs.CheckingOrder.{globs_suffice, read_limit}
+use Rattle.mime_lookup.specs.Spelling.{SpellsGlobs, SpellsMagic}
+use Rattle.mime_lookup.specs.Spent.{UsesUp}
+use Rattle.mime_lookup.specs.StepFaults.{of_magic}
+use Rattle.mime_lookup.specs.Steps.{Stops}
+use Rattle.mime_lookup.specs.Wanted.{IsWanted, IsWanting, SufficesForWanted, wanted_of}
+use Rattle.mime_lookup.specs.declared.order.Order.{Order}
+use Rattle.mime_lookup.specs.declared.stopped.Stopped.{Stopped}
+use Rattle.mime_lookup.proofs.LookUpLemmas.EnoughFronts.{enough}
+use Rattle.mime_lookup.proofs.StopLemmas.OpenFaults.{cause_of-open_fault}
+use Rattle.mime_lookup.proofs.StopLemmas.PlacedFaults.{no_place}
+use Rattle.mime_lookup.proofs.StopLemmas.StepStops.{no_read_fault, stops_for}
+use Rattle.mime_view.specs.Opening.{IsOpenFault}
+use Rattle.mime_view.specs.declared.budget.Budget.{Budget}
+use Rattle.mime_view.specs.declared.fault.CacheFault.{CacheFault}
+use Rattle.mime_view.specs.declared.fault.CacheFault.TheVariants.{OutOfRange}
+
+module _ (c name : List ℕ) (order : Order) where
+  -- nothing, where the globs suffice
+  pub wants_none : ((b : PlainDatabase) → SpellsGlobs c b → globs_suffice b name order ≡ true) → IsWanted c name order 0
+  wants_none suffice =
+      let is : (b : PlainDatabase) → SpellsGlobs c b → 0 ≡ wanted_of b name order = λ b globs. rw (suffice b globs) refl in
+      record {
+        any_bytes = inl refl;
+        globs = λ b globs. rw (suffice b globs) refl;
+        most = λ b globs magic. is b globs;
+        enough = λ b globs magic. enough b name order 0 (is b globs);
+      }
+
+  -- the longest front, where they don't
+  pub wants_front : (wanted : ℕ) → ((b : PlainDatabase) → SpellsGlobs c b → globs_suffice b name order ≡ false)
+      → wanted ≡ max 128 (stated_extent c) → ((b : PlainDatabase) → SpellsMagic c b → wanted ≡ read_limit b)
+      → IsWanted c name order wanted
+  wants_front wanted conflict stated spelled =
+      let is : (b : PlainDatabase) → SpellsGlobs c b → SpellsMagic c b → wanted ≡ wanted_of b name order =
+      λ b globs magic. rw (conflict b globs) (spelled b magic) in
+      record {
+        any_bytes = inr stated;
+        globs = λ b globs. rw (conflict b globs) stated;
+        most = is;
+        enough = λ b globs magic. enough b name order wanted (is b globs magic);
+      }
+
+  -- the same of a front that may not be given
+  pub wants_limit : (result : Result ℕ CacheFault) → ((b : PlainDatabase) → SpellsGlobs c b → globs_suffice b name order ≡ false)
+      → IfOk result (λ size. size ≡ max 128 (stated_extent c))
+      → ((b : PlainDatabase) → SpellsMagic c b → IfOk result (λ size. size ≡ read_limit b)) → IfOk result (IsWanted c name order)
+  wants_limit (Ok size) conflict stated spelled = wants_front size conflict stated spelled
+  wants_limit (Err e) conflict stated spelled = tt
+
+  -- which is only where the head of magic does not lie in the cache
+  pub stops_limit : (result : Result ℕ CacheFault) (IsUsed : Type 0) (IsEnough : PlainDatabase → Type 0) (after : Budget)
+      → IfErr result (λ e. (length c < field c 0 6 + 12) × (e ≡ OutOfRange (field c 0 6)))
+      → ((b : PlainDatabase) → IsEnough b → IfErr result (λ _. ⊥))
+      → IfErr result (λ e. Stops c IsUsed IsEnough (λ _. ⊥) (cause_of e))
+  stops_limit (Ok size) IsUsed IsEnough after head need = tt
+  stops_limit (Err e) IsUsed IsEnough after head need =
+      stops_for c IsUsed IsEnough (λ _. ⊥) e (of_magic after (inl head))
+      (λ same. absurd (no_place (field c 0 6) (sym head.1 ∙ same))) (λ b enough. absurd (need b enough))
+
+  -- where they don't, what is enough to say so is the magic
+  pub magic_for_front : (b : PlainDatabase) → globs_suffice b name order ≡ false
+      → (globs_suffice b name order ≡ true) ⊎ SpellsMagic c b → SpellsMagic c b
+  magic_for_front b conflict (inl suffice) = absurd cc
+  magic_for_front b conflict (inr magic) = magic
+
+  -- no number, for a fault of the cache
+  pub stops_wanting : (e : CacheFault) (stopped : Stopped) → stopped.cause ≡ cause_of e → stopped.read ≡ 0 → length name ≤ 4096
+      → ((x : CacheFault) → IsOpenFault c x → e ≡ x)
+      → Stops c (UsesUp c ⊤ stopped.meter.nodes)
+      (λ b. SufficesForWanted c name order b × (length c ≤ 268435456) × Packed c b) (λ _. ⊥) (cause_of e)
+      → KeepsBounds (length name) c 0 stopped.meter → IsWanting c name order (Err stopped)
+  stops_wanting e stopped same none short refused stops bounds = record {
+    wanted = tt;
+    too_long = λ long. absurd (omega (arith, short, long));
+    refused = λ _ x opens. same ∙ ap cause_of (refused x opens) ∙ cause_of-open_fault c x opens;
+    opened = tt;
+    fault = λ _. rw same (unread (no_read_fault e) stops.fault);
+    spent = λ spent. stops.spent (sym same ∙ spent);
+    need = λ b enough small packed _. same ∙ memory (stops.need b (enough, small, packed));
+    read = none;
+    readable = λ failed. no_read_fault e (sym same ∙ failed);
+    bounds = bounds;
+    near = λ b globs suffice. tt;
+  }
+    where
+      -- what is no failed read is one of the others
+      unread : {P Q : Type 0} → (P → ⊥) → P ⊎ Q → Q
+      unread never (inl read) = absurd (never read)
+      unread never (inr other) = other
+
+      -- where no read can fail, memory was refused
+      memory : {P Q : Type 0} → P ⊎ (Q × ⊥) → P
+      memory (inl refused) = refused
+      memory (inr read) = absurd read.1
