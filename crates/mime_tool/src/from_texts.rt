@@ -173,7 +173,7 @@ pub fn answer<R: Content>(
 /// So what [`answer`] gives over the database of the directories, whose rules are the visible ones, is also the
 /// answer over all that their texts say.
 pub fn visible_chooses_alike()
-    // The same type is chosen for a name and a content, by either order.
+    // The same type is chosen for a name and a content, by any order.
     ensures chooses { VisibleChoosesAlike }
     // The globs alone decide over both or over neither.
     ensures suffices { VisibleSufficesAlike }

@@ -11,7 +11,7 @@ use Rattle.mime_lookup.specs.CheckingOrder.{Chooses, are_one_type, before_globs,
 use Rattle.mime_lookup.specs.Choice.{ChoosesAmong, kept}
 use Rattle.mime_lookup.specs.Sniffing.{sniffed}
 use Rattle.mime_lookup.specs.declared.order.Order.{Order}
-use Rattle.mime_lookup.specs.declared.order.Order.TheVariants.{GlobsFirst, MagicFirst}
+use Rattle.mime_lookup.specs.declared.order.Order.TheVariants.{ContentOnly, GlobsFirst, MagicFirst}
 use Rattle.mime_text.specs.Merging.{visible_database}
 use Rattle.mime_tool.specs.FromTexts.{VisibleChoosesAlike, VisibleReadsAlike, VisibleSufficesAlike}
 
@@ -20,20 +20,21 @@ kept-visible : (b : PlainDatabase) (name : List ℕ) → kept (pairs_of b) (visi
 unfolding kept
 kept-visible b name = ap (map (λ (rule : GlobRule). resolved b.aliases rule.kind)) (kept_rules-visible b.rules name)
 
--- magic says the same before the globs
-before_globs-visible : (b : PlainDatabase) (content : Option (List ℕ)) (host : Host) (order : Order)
-    → before_globs (visible_database b) content host order ≡ before_globs b content host order
-unfolding before_globs
-before_globs-visible b content host GlobsFirst = refl
-before_globs-visible b None host MagicFirst = refl
-before_globs-visible b (Some content) host MagicFirst = refl
-
 -- a content is sniffed alike
 sniffed-visible : (b : PlainDatabase) (content : Option (List ℕ)) (host : Host)
     → sniffed (visible_database b) content host ≡ sniffed b content host
 unfolding sniffed
 sniffed-visible b None host = refl
 sniffed-visible b (Some content) host = refl
+
+-- content says the same before the globs
+before_globs-visible : (b : PlainDatabase) (content : Option (List ℕ)) (host : Host) (order : Order)
+    → before_globs (visible_database b) content host order ≡ before_globs b content host order
+unfolding before_globs
+before_globs-visible b content host GlobsFirst = refl
+before_globs-visible b None host MagicFirst = refl
+before_globs-visible b (Some content) host MagicFirst = refl
+before_globs-visible b content host ContentOnly = ap (λ (kind : List ℕ). Some kind) (sniffed-visible b content host)
 
 -- the types that are chosen, by what magic says first, the kept types and what is sniffed
 abbrev Choice : PlainDatabase → List ℕ → Option (List ℕ) → List (List ℕ) → List ℕ → Type 0
@@ -58,6 +59,7 @@ pub suffices_alike : VisibleSufficesAlike
 unfolding globs_suffice
 suffices_alike b name GlobsFirst = ap are_one_type (kept-visible b name)
 suffices_alike b name MagicFirst = refl
+suffices_alike b name ContentOnly = refl
 
 -- as much is read of a content
 front_size-visible : (b : PlainDatabase) (content : Option (List ℕ)) → front_size (visible_database b) content ≡ front_size b content
