@@ -7,6 +7,7 @@ mod many;
 mod names;
 mod orders;
 mod readers;
+mod wanted;
 
 use super::{Outcome, outcome_of};
 use crate::tests::checked::alike;

@@ -19,7 +19,7 @@ const HIGH: Texts<'static> = Texts {
     ..SAMPLE_TEXTS
 };
 
-static ROWS: [Row; 10] = [
+static ROWS: [Row; 13] = [
     Row {
         name: "sample-lookups, an ending",
         dirs: &[SAMPLE_TEXTS],
@@ -118,6 +118,36 @@ static ROWS: [Row; 10] = [
         host: Host::Little,
         order: Order::MagicFirst,
         kind: b"t/m",
+        read: 0,
+    },
+    Row {
+        name: "content only, by its content",
+        dirs: &[SAMPLE_TEXTS],
+        file: b"mk",
+        content: Some(&[0x1f, 0x8b, 8]),
+        host: Host::Little,
+        order: Order::ContentOnly,
+        kind: b"t/g",
+        read: 3,
+    },
+    Row {
+        name: "content only, text",
+        dirs: &[SAMPLE_TEXTS],
+        file: b"mk",
+        content: Some(b"hi\n"),
+        host: Host::Little,
+        order: Order::ContentOnly,
+        kind: b"text/plain",
+        read: 3,
+    },
+    Row {
+        name: "content only, no content",
+        dirs: &[SAMPLE_TEXTS],
+        file: b"mk",
+        content: None,
+        host: Host::Little,
+        order: Order::ContentOnly,
+        kind: b"application/octet-stream",
         read: 0,
     },
 ];
