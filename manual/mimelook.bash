@@ -7,11 +7,11 @@ _mimelook() {
     esac
     case ${COMP_WORDS[1]} in
         build) options='-d --data-dirs -o --output -h --help' ;;
-        plain) options='-d --data-dirs --name-only --magic-first -0 --null -b --brief --escape -h --help' ;;
+        plain) options='-d --data-dirs --name-only --content-only --magic-first -0 --null -b --brief --escape -h --help' ;;
         list) options='-c --cache -d --data-dirs -h --help' ;;
         isa) options='-c --cache -d --data-dirs -h --help' ;;
         icon) options='-c --cache -d --data-dirs -h --help' ;;
-        type) options='-c --cache -d --data-dirs --name-only --magic-first --cost -0 --null -b --brief --escape -h --help' ;;
+        type) options='-c --cache -d --data-dirs --name-only --content-only --magic-first --cost -0 --null -b --brief --escape -h --help' ;;
         *) options='build plain list isa icon type -h --help -V --version' ;;
     esac
     if [[ $word == -* || $COMP_CWORD -eq 1 ]]; then

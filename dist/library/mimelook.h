@@ -6,7 +6,15 @@
  *
  * What is written through a pointer is as it was unless the report's status is MIMELOOK_ANSWERED. Memory is taken by
  * malloc and realloc and given back before the call returns. Not for signal handlers, nor for the child of a fork in a
- * process with threads. */
+ * process with threads.
+ *
+ * A text of a hostile cache may be any bytes but zero, of any length up to 255, none too: escape it before it is shown. Such
+ * a cache may also want 4 GiB of a content: give a front of as much as you care to read, whose type is then the front's.
+ *
+ * A cache that is mapped must not shrink: a page past the end of its file ends the process by SIGBUS, in any reader. A cache
+ * that is replaced by renaming stays as it was; where others may write to the file itself, read it into memory first.
+ *
+ * The code is for Linux on x86-64, for processors of level x86-64-v2 (SSE4.2 and POPCNT, since about 2009) and later. */
 #ifndef MIMELOOK_H
 #define MIMELOOK_H
 
@@ -58,6 +66,31 @@ typedef struct mimelook_icon_lengths {
     size_t icon;
     size_t generic;
 } mimelook_icon_lengths;
+
+/* The layout that the library was built with. */
+#if defined __cplusplus && __cplusplus >= 201103L
+#define MIMELOOK_LAYOUT(holds) static_assert(holds, #holds)
+#elif defined __STDC_VERSION__ && __STDC_VERSION__ >= 201112L
+#define MIMELOOK_LAYOUT(holds) _Static_assert(holds, #holds)
+#endif
+#ifdef MIMELOOK_LAYOUT
+MIMELOOK_LAYOUT(sizeof(bool) == 1);
+MIMELOOK_LAYOUT(sizeof(mimelook_report) == 40);
+MIMELOOK_LAYOUT(offsetof(mimelook_report, status) == 0);
+MIMELOOK_LAYOUT(offsetof(mimelook_report, major) == 4);
+MIMELOOK_LAYOUT(offsetof(mimelook_report, minor) == 6);
+MIMELOOK_LAYOUT(offsetof(mimelook_report, at) == 8);
+MIMELOOK_LAYOUT(offsetof(mimelook_report, read) == 16);
+MIMELOOK_LAYOUT(offsetof(mimelook_report, nodes) == 24);
+MIMELOOK_LAYOUT(offsetof(mimelook_report, bytes) == 32);
+MIMELOOK_LAYOUT(sizeof(mimelook_text) == 16);
+MIMELOOK_LAYOUT(offsetof(mimelook_text, at) == 0);
+MIMELOOK_LAYOUT(offsetof(mimelook_text, length) == 8);
+MIMELOOK_LAYOUT(sizeof(mimelook_icon_lengths) == 16);
+MIMELOOK_LAYOUT(offsetof(mimelook_icon_lengths, icon) == 0);
+MIMELOOK_LAYOUT(offsetof(mimelook_icon_lengths, generic) == 8);
+#undef MIMELOOK_LAYOUT
+#endif
 
 /* So much room is enough for each icon's name. */
 #define MIMELOOK_ICON_ROOM 265

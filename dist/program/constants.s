@@ -12,12 +12,6 @@
 	.ascii	"equal sign is needed when assigning values to '"
 	.size	.L0204640a40f4, 47
 
-	.type	.L0241b87ce347,@object
-	.section	.rodata,"a",@progbits
-.L0241b87ce347:
-	.ascii	"Messages go to standard error. With -d the cache is made of DIRS, as build makes\nit; without -c and -d, of the user's data directories (see mimelook --help).\nA FILE that is not UTF-8 refuses the whole call. A FILE that is a pipe can't be\nopened, and a CACHE that is one can't be read.\n\nExit status:\n  0  every FILE was answered; or help was printed\n  1  some FILE can't be opened or read, or its name is too long (above 4096\n     bytes); the others were answered\n  2  the command line is wrong, or a word of it is not UTF-8\n  3  the data can't be read or is refused, or the output can't be written\n  4  out of memory\n\nExample:\n  $ mimelook type notes.txt\n  notes.txt: text/plain"
-	.size	.L0241b87ce347, 678
-
 	.type	.L0264059b8465,@object
 	.section	.rodata,"a",@progbits
 .L0264059b8465:
@@ -126,12 +120,6 @@
 	.ascii	"[OPTIONS] "
 	.size	.L13a276205647, 10
 
-	.type	.L148ba5af0845,@object
-	.section	.rodata,"a",@progbits
-.L148ba5af0845:
-	.ascii	"mimelook type [-c CACHE | -d DIRS] [--name-only] [--magic-first] [--cost]\n                     [-0] [-b] [--escape] FILE..."
-	.size	.L148ba5af0845, 123
-
 	.type	.L14f56114f1a6,@object
 	.section	.rodata,"a",@progbits
 .L14f56114f1a6:
@@ -167,6 +155,12 @@
 .L1b44da35fd51:
 	.ascii	"Let content of high priority (80 or more) decide\nbefore names"
 	.size	.L1b44da35fd51, 61
+
+	.type	.L1b4658b6bf59,@object
+	.section	.rodata,"a",@progbits
+.L1b4658b6bf59:
+	.ascii	"Go by the contents alone: no name is looked at; not with\n--magic-first"
+	.size	.L1b4658b6bf59, 70
 
 	.type	.L1bc533bd799b,@object
 	.section	.rodata.cst4,"aM",@progbits,4
@@ -325,12 +319,6 @@
 	.ascii	"Messages go to standard error. A line ends in :cs where the rule is\ncase-sensitive. With -d the cache is made of DIRS, as build makes it; without -c\nand -d, of the user's data directories (see mimelook --help).\n\nExit status:\n  0  every rule was printed; or help was printed\n  2  the command line is wrong, or a word of it is not UTF-8\n  3  the data can't be read or is refused, or the output can't be written\n  4  out of memory\n\nExample:\n  $ mimelook list -c /usr/share/mime/mime.cache\n  50:text/plain:*.txt"
 	.size	.L37114b7923ae, 507
 
-	.type	.L37a43c5e9b53,@object
-	.section	.rodata,"a",@progbits
-.L37a43c5e9b53:
-	.ascii	"Messages go to standard error. The files are DIR/mime/globs2, magic, aliases,\nsubclasses, icons and generic-icons; a missing one counts as empty. Without -d\nthe directories are the user's (see mimelook --help).\nA FILE that is not UTF-8 refuses the whole call. A FILE that is a pipe can't be\nopened.\n\nExit status:\n  0  every FILE was answered; or help was printed\n  1  some FILE can't be opened or read, or its name is too long (above 4096\n     bytes); the others were answered\n  2  the command line is wrong, or a word of it is not UTF-8\n  3  the data can't be read or is refused, or the output can't be written\n  4  out of memory\n\nExample:\n  $ mimelook plain -d /usr/local/share:/usr/share notes.txt\n  notes.txt: text/plain"
-	.size	.L37a43c5e9b53, 724
-
 	.type	.L38ad3f25f51f,@object
 	.section	.rodata,"a",@progbits
 .L38ad3f25f51f:
@@ -421,6 +409,12 @@
 	.ascii	"The type that it may be, such as text/plain"
 	.size	.L3fd39479eab8, 43
 
+	.type	.L4292e18dc79c,@object
+	.section	.rodata,"a",@progbits
+.L4292e18dc79c:
+	.ascii	"mimelook plain [-d DIRS] [--name-only | --content-only]\n                      [--magic-first] [-0] [-b] [--escape] FILE..."
+	.size	.L4292e18dc79c, 122
+
 	.type	.L43a52e568a8d,@object
 	.section	.rodata.cst4,"aM",@progbits,4
 .L43a52e568a8d:
@@ -497,6 +491,12 @@
 .L529c2075d67a:
 	.ascii	"give a command that --help names"
 	.size	.L529c2075d67a, 32
+
+	.type	.L52ad132b7e53,@object
+	.section	.rodata,"a",@progbits
+.L52ad132b7e53:
+	.ascii	"mimelook: word "
+	.size	.L52ad132b7e53, 15
 
 	.type	.L533c39e6460b,@object
 	.section	.rodata,"a",@progbits
@@ -671,6 +671,12 @@
 	.ascii	"give a FILE"
 	.size	.L726cb91ce17f, 11
 
+	.type	.L726dde07b5f3,@object
+	.section	.rodata,"a",@progbits
+.L726dde07b5f3:
+	.ascii	"content-only"
+	.size	.L726dde07b5f3, 12
+
 	.type	.L72a2fe0f915b,@object
 	.section	.rodata,"a",@progbits
 .L72a2fe0f915b:
@@ -688,12 +694,6 @@
 .L7545b12a9df2:
 	.ascii	" read="
 	.size	.L7545b12a9df2, 6
-
-	.type	.L75a6d3780b93,@object
-	.section	.rodata,"a",@progbits
-.L75a6d3780b93:
-	.ascii	"mimelook: an argument is not text (UTF-8)"
-	.size	.L75a6d3780b93, 41
 
 	.type	.L75e163a368dc,@object
 	.section	.rodata,"a",@progbits
@@ -876,6 +876,12 @@
 	.ascii	"' cannot be used with"
 	.size	.L95afaa5ccfdf, 21
 
+	.type	.L96a547e61580,@object
+	.section	.rodata,"a",@progbits
+.L96a547e61580:
+	.ascii	"mimelook type [-c CACHE | -d DIRS] [--name-only | --content-only]\n                     [--magic-first] [--cost] [-0] [-b] [--escape] FILE..."
+	.size	.L96a547e61580, 140
+
 	.type	.L96ff05348ebf,@object
 	.section	.rodata,"a",@progbits
 .L96ff05348ebf:
@@ -905,6 +911,12 @@
 .L98fd8ea9c184:
 	.ascii	" is not in "
 	.size	.L98fd8ea9c184, 11
+
+	.type	.L992e85a9ac59,@object
+	.section	.rodata,"a",@progbits
+.L992e85a9ac59:
+	.ascii	"Messages go to standard error. The files are DIR/mime/globs2, magic, aliases,\nsubclasses, icons and generic-icons; a missing one counts as empty. Without -d\nthe directories are the user's (see mimelook --help).\nA FILE that is a pipe can't be opened, nor one whose name is not UTF-8, which\nhas a type by --name-only.\n\nExit status:\n  0  every FILE was answered; or help was printed\n  1  some FILE can't be opened or read, or its name is too long (above 4096\n     bytes); the others were answered\n  2  the command line is wrong, or a word but a FILE is not UTF-8\n  3  the data can't be read or is refused, or the output can't be written\n  4  out of memory\n\nExample:\n  $ mimelook plain -d /usr/local/share:/usr/share notes.txt\n  notes.txt: text/plain"
+	.size	.L992e85a9ac59, 746
 
 	.type	.L9a6d2b0c00a7,@object
 	.section	.rodata,"a",@progbits
@@ -972,6 +984,12 @@
 	.ascii	"build"
 	.size	.La548cbe73342, 5
 
+	.type	.La5c4ab50a415,@object
+	.section	.rodata,"a",@progbits
+.La5c4ab50a415:
+	.ascii	"give --content-only without --name-only and --magic-first"
+	.size	.La5c4ab50a415, 57
+
 	.type	.La61b5a71a1b3,@object
 	.section	.rodata,"a",@progbits
 .La61b5a71a1b3:
@@ -1013,6 +1031,12 @@
 .Laafe98300121:
 	.ascii	"text/plain"
 	.size	.Laafe98300121, 10
+
+	.type	.Lac7356f345ce,@object
+	.section	.rodata,"a",@progbits
+.Lac7356f345ce:
+	.ascii	" is not text (UTF-8)\n"
+	.size	.Lac7356f345ce, 21
 
 	.type	.Lacc9607a0d71,@object
 	.section	.rodata,"a",@progbits
@@ -1148,12 +1172,6 @@
 	.ascii	"cannot parse integer from empty string"
 	.size	.Lc1b67e27bb9f, 38
 
-	.type	.Lc289f296b462,@object
-	.section	.rodata,"a",@progbits
-.Lc289f296b462:
-	.ascii	"mimelook plain [-d DIRS] [--name-only] [--magic-first] [-0] [-b]\n                      [--escape] FILE..."
-	.size	.Lc289f296b462, 105
-
 	.type	.Lc353831ac29d,@object
 	.section	.rodata,"a",@progbits
 .Lc353831ac29d:
@@ -1273,6 +1291,12 @@
 .Lcf324260551e:
 	.ascii	"subclasses"
 	.size	.Lcf324260551e, 10
+
+	.type	.Ld11c250c3383,@object
+	.section	.rodata,"a",@progbits
+.Ld11c250c3383:
+	.ascii	"Messages go to standard error. With -d the cache is made of DIRS, as build makes\nit; without -c and -d, of the user's data directories (see mimelook --help).\nA FILE that is a pipe can't be opened, nor one whose name is not UTF-8, which\nhas a type by --name-only. A CACHE that is a pipe can't be read.\n\nExit status:\n  0  every FILE was answered; or help was printed\n  1  some FILE can't be opened or read, or its name is too long (above 4096\n     bytes); the others were answered\n  2  the command line is wrong, or a word but a FILE is not UTF-8\n  3  the data can't be read or is refused, or the output can't be written\n  4  out of memory\n\nExample:\n  $ mimelook type notes.txt\n  notes.txt: text/plain"
+	.size	.Ld11c250c3383, 699
 
 	.type	.Ld27fc74a6e00,@object
 	.section	.rodata.cst8,"aM",@progbits,8
@@ -1582,12 +1606,12 @@
 	.quad	0,0,2,2,5,0,0,0,0
 	.size	".Lswitch.table.clap::builder::command::building::build_levels", 72
 
-	.type	".Lswitch.table.clap::builder::command::building::build_levels.1818",@object
+	.type	".Lswitch.table.clap::builder::command::building::build_levels.1940",@object
 	.section	.rodata,"a",@progbits
 	.p2align	3, 0x0
-".Lswitch.table.clap::builder::command::building::build_levels.1818":
+".Lswitch.table.clap::builder::command::building::build_levels.1940":
 	.quad	0,0,0,0,255,0,0,0,0
-	.size	".Lswitch.table.clap::builder::command::building::build_levels.1818", 72
+	.size	".Lswitch.table.clap::builder::command::building::build_levels.1940", 72
 
 	.type	".Lswitch.table.clap::parser::parse::Parser::check_value",@object
 	.section	.rodata.cst32,"aM",@progbits,32
@@ -1596,18 +1620,18 @@
 	.quad	38,29,38,38
 	.size	".Lswitch.table.clap::parser::parse::Parser::check_value", 32
 
-	.type	".Lswitch.table.clap::parser::parse::Parser::check_value.1819",@object
+	.type	".Lswitch.table.clap::parser::parse::Parser::check_value.1941",@object
 	.section	.data.rel.ro,"aw",@progbits
 	.p2align	3, 0x0
-".Lswitch.table.clap::parser::parse::Parser::check_value.1819":
+".Lswitch.table.clap::parser::parse::Parser::check_value.1941":
 	.quad	.Lc1b67e27bb9f
 	.quad	.Laa68302af712
 	.quad	.L6e2fce03fc0a
 	.quad	.L2cc55e3b3d11
-	.size	".Lswitch.table.clap::parser::parse::Parser::check_value.1819", 32
+	.size	".Lswitch.table.clap::parser::parse::Parser::check_value.1941", 32
 
-	.type	".Lswitch.table.mime_tool::system::SystemFilesFiles::whole::<#a1ba6ce099ef6b20>.1821",@object
+	.type	".Lswitch.table.mime_tool::system::SystemFilesFiles::whole::<#a1ba6ce099ef6b20>.1942",@object
 	.section	.rodata,"a",@progbits
-".Lswitch.table.mime_tool::system::SystemFilesFiles::whole::<#a1ba6ce099ef6b20>.1821":
+".Lswitch.table.mime_tool::system::SystemFilesFiles::whole::<#a1ba6ce099ef6b20>.1942":
 	.ascii	"\001\001\001\001\001\001\001\001\001\001\001\001\001\001\001\000\001\001\001\001\001\001\001\001\001\001\001\001\001\001\001\001\001\001\001\001\001\001\002\001\001\001"
-	.size	".Lswitch.table.mime_tool::system::SystemFilesFiles::whole::<#a1ba6ce099ef6b20>.1821", 42
+	.size	".Lswitch.table.mime_tool::system::SystemFilesFiles::whole::<#a1ba6ce099ef6b20>.1942", 42

@@ -251,7 +251,7 @@
 	.type	"core::cmp::slices::groups_equal::<i8,31'core::cmp::numbers::U8PartialEq{}>",@function
 "core::cmp::slices::groups_equal::<i8,31'core::cmp::numbers::U8PartialEq{}>":
 	cmpq	$8, %rsi
-	ja	3f
+	ja	1f
 	movd	(%rdi), %xmm0
 	pinsrd	$1, -4(%rdi,%rsi), %xmm0
 	movd	(%rdx), %xmm1
@@ -259,25 +259,37 @@
 	movq	%xmm0, %rax
 	movq	%xmm1, %rcx
 	cmpq	%rcx, %rax
+	jmp	9f
 1:
-	setne	%al
-2:
-	xorb	$1, %al
-	retq
-3:
 	cmpq	$32, %rsi
-	ja	4f
-	pushq	%rax
-	movq	%rsi, %rax
-	movq	%rdx, %rsi
-	movq	%rax, %rdx
-	callq	"core::slice::scan::any_in_quarters::<#953750c03e87c3e2>"
-	addq	$8, %rsp
-	xorb	$1, %al
-	retq
-4:
+	ja	2f
+	leaq	-8(%rsi), %rax
+	cmpq	$8, %rax
+	movl	$8, %ecx
+	cmovbq	%rax, %rcx
+	cmpq	$16, %rax
+	movl	$16, %r8d
+	cmovbq	%rax, %r8
+	movq	(%rdi,%rcx), %xmm0
+	movq	(%rdi), %xmm1
+	punpcklqdq	%xmm0, %xmm1
+	movq	(%rdi,%r8), %xmm0
+	movq	-8(%rdi,%rsi), %xmm2
+	punpcklqdq	%xmm2, %xmm0
+	movq	(%rdx,%rcx), %xmm2
+	movq	(%rdx), %xmm3
+	punpcklqdq	%xmm2, %xmm3
+	pxor	%xmm1, %xmm3
+	movq	(%rdx,%r8), %xmm1
+	movq	-8(%rdx,%rsi), %xmm2
+	punpcklqdq	%xmm2, %xmm1
+	pxor	%xmm0, %xmm1
+	por	%xmm3, %xmm1
+	ptest	%xmm1, %xmm1
+	jmp	9f
+2:
 	cmpq	$65, %rsi
-	jae	5f
+	jae	3f
 	movdqu	(%rdi), %xmm0
 	movdqu	16(%rdi), %xmm1
 	movdqu	(%rdx), %xmm2
@@ -294,12 +306,12 @@
 	por	%xmm0, %xmm1
 	por	%xmm4, %xmm1
 	ptest	%xmm1, %xmm1
-	jmp	1b
-5:
+	jmp	9f
+3:
 	xorl	%eax, %eax
 	movq	%rsi, %rcx
 	.p2align	4
-6:
+4:
 	movdqu	(%rdi,%rax), %xmm0
 	movdqu	16(%rdi,%rax), %xmm1
 	movdqu	32(%rdi,%rax), %xmm2
@@ -317,18 +329,18 @@
 	pand	%xmm1, %xmm2
 	pmovmskb	%xmm2, %r8d
 	cmpl	$65535, %r8d
-	jne	7f
+	jne	5f
 	addq	$64, %rax
 	addq	$-64, %rcx
 	cmpq	$63, %rcx
-	ja	6b
-7:
+	ja	4b
+5:
 	cmpq	$32, %rcx
-	jb	10f
+	jb	8f
 	movq	%rsi, %rcx
 	subq	%rax, %rcx
 	.p2align	4
-8:
+6:
 	movdqu	(%rdi,%rax), %xmm0
 	movdqu	16(%rdi,%rax), %xmm1
 	movdqu	(%rdx,%rax), %xmm2
@@ -337,17 +349,17 @@
 	pxor	%xmm1, %xmm0
 	por	%xmm2, %xmm0
 	ptest	%xmm0, %xmm0
-	jne	9f
+	jne	7f
 	addq	$32, %rax
 	addq	$-32, %rcx
-	cmpq	$32, %rcx
-	jae	8b
-	jmp	10f
-9:
+	cmpq	$31, %rcx
+	ja	6b
+	jmp	8f
+7:
 	movb	$1, %al
 	cmpq	$31, %rcx
-	ja	2b
-10:
+	ja	10f
+8:
 	movdqu	-32(%rdi,%rsi), %xmm0
 	movdqu	-16(%rdi,%rsi), %xmm1
 	movdqu	-32(%rdx,%rsi), %xmm2
@@ -356,7 +368,11 @@
 	pxor	%xmm1, %xmm0
 	por	%xmm2, %xmm0
 	ptest	%xmm0, %xmm0
-	jmp	1b
+9:
+	setne	%al
+10:
+	xorb	$1, %al
+	retq
 11:
 	.size	"core::cmp::slices::groups_equal::<i8,31'core::cmp::numbers::U8PartialEq{}>", 11b-"core::cmp::slices::groups_equal::<i8,31'core::cmp::numbers::U8PartialEq{}>"
 
@@ -1822,7 +1838,7 @@
 	jne	8f
 6:
 	leaq	4(%rsp), %rsi
-	callq	"core::fmt::formatter::Formatter::write_raw::<#86a172efa8724158>"
+	callq	"core::fmt::formatter::Formatter::write_raw::<#0a7ff941e43d6b30>"
 	popq	%rcx
 	retq
 7:
@@ -1842,7 +1858,7 @@
 	je	6b
 8:
 	leaq	4(%rsp), %rsi
-	callq	"core::fmt::formatter::Formatter::write_indented::<#86a172efa8724158>"
+	callq	"core::fmt::formatter::Formatter::write_indented::<#0a7ff941e43d6b30>"
 	popq	%rcx
 	retq
 9:
@@ -1850,8 +1866,8 @@
 
 	.section	.text.unlikely,"ax",@progbits
 	.p2align	4
-	.type	"core::fmt::formatter::Formatter::write_indented::<#86a172efa8724158>",@function
-"core::fmt::formatter::Formatter::write_indented::<#86a172efa8724158>":
+	.type	"core::fmt::formatter::Formatter::write_indented::<#0a7ff941e43d6b30>",@function
+"core::fmt::formatter::Formatter::write_indented::<#0a7ff941e43d6b30>":
 	pushq	%rbp
 	pushq	%r15
 	pushq	%r14
@@ -1874,7 +1890,7 @@
 	movq	%r15, %rdi
 	movq	%r13, %rsi
 	movq	%r12, %rdx
-	callq	"core::fmt::formatter::Formatter::write_raw::<#86a172efa8724158>"
+	callq	"core::fmt::formatter::Formatter::write_raw::<#0a7ff941e43d6b30>"
 	movq	%rbp, %rcx
 	testb	%al, %al
 	movq	(%rsp), %rdx
@@ -1904,7 +1920,7 @@
 	leaq	.L8db0c9845b42(%rip), %rsi
 	movl	$4, %edx
 	movq	%r15, %rdi
-	callq	"core::fmt::formatter::Formatter::write_raw::<#86a172efa8724158>"
+	callq	"core::fmt::formatter::Formatter::write_raw::<#0a7ff941e43d6b30>"
 	testb	%al, %al
 	jne	9f
 	decq	%rbx
@@ -1932,7 +1948,7 @@
 	leaq	.L8db0c9845b42(%rip), %rsi
 	movl	$4, %edx
 	movq	%r15, %rdi
-	callq	"core::fmt::formatter::Formatter::write_raw::<#86a172efa8724158>"
+	callq	"core::fmt::formatter::Formatter::write_raw::<#0a7ff941e43d6b30>"
 	testb	%al, %al
 	jne	9f
 	decq	%rbx
@@ -1950,7 +1966,7 @@
 	popq	%r14
 	popq	%r15
 	popq	%rbp
-	jmp	"core::fmt::formatter::Formatter::write_raw::<#86a172efa8724158>"
+	jmp	"core::fmt::formatter::Formatter::write_raw::<#0a7ff941e43d6b30>"
 9:
 	movb	$1, %al
 10:
@@ -1963,7 +1979,7 @@
 	popq	%rbp
 	retq
 11:
-	.size	"core::fmt::formatter::Formatter::write_indented::<#86a172efa8724158>", 11b-"core::fmt::formatter::Formatter::write_indented::<#86a172efa8724158>"
+	.size	"core::fmt::formatter::Formatter::write_indented::<#0a7ff941e43d6b30>", 11b-"core::fmt::formatter::Formatter::write_indented::<#0a7ff941e43d6b30>"
 
 	.section	.text.unlikely,"ax",@progbits
 	.p2align	4
@@ -2421,7 +2437,7 @@
 	retq
 8:
 	movq	%rbx, %rdi
-	callq	"core::fmt::formatter::Formatter::write_indented::<#86a172efa8724158>"
+	callq	"core::fmt::formatter::Formatter::write_indented::<#0a7ff941e43d6b30>"
 	jmp	7b
 9:
 	movq	%rsi, %r12
@@ -2681,7 +2697,7 @@
 9:
 	leaq	4(%rsp), %rsi
 	movq	%rbx, %rdi
-	callq	"core::fmt::formatter::Formatter::write_indented::<#86a172efa8724158>"
+	callq	"core::fmt::formatter::Formatter::write_indented::<#0a7ff941e43d6b30>"
 	jmp	8b
 10:
 	movq	%rbx, %rdi
@@ -2806,7 +2822,7 @@
 	retq
 8:
 	movq	%rbx, %rdi
-	callq	"core::fmt::formatter::Formatter::write_indented::<#86a172efa8724158>"
+	callq	"core::fmt::formatter::Formatter::write_indented::<#0a7ff941e43d6b30>"
 	jmp	7b
 9:
 	movq	%rsi, %r12
@@ -2845,7 +2861,7 @@
 	leaq	.Lce444474aa36(%rip), %rsi
 	movl	$1, %edx
 	movq	%rbx, %rdi
-	callq	"core::fmt::formatter::Formatter::write_raw::<#86a172efa8724158>"
+	callq	"core::fmt::formatter::Formatter::write_raw::<#0a7ff941e43d6b30>"
 	movb	$1, %bpl
 	testb	%al, %al
 	jne	48f
@@ -2891,7 +2907,7 @@
 	cmpq	$0, 48(%rbx)
 	jne	19f
 	movq	%rbx, %rdi
-	callq	"core::fmt::formatter::Formatter::write_raw::<#86a172efa8724158>"
+	callq	"core::fmt::formatter::Formatter::write_raw::<#0a7ff941e43d6b30>"
 	testb	%al, %al
 	je	5b
 	jmp	48f
@@ -3064,7 +3080,7 @@
 	jmp	14b
 19:
 	movq	%rbx, %rdi
-	callq	"core::fmt::formatter::Formatter::write_indented::<#86a172efa8724158>"
+	callq	"core::fmt::formatter::Formatter::write_indented::<#0a7ff941e43d6b30>"
 	testb	%al, %al
 	je	5b
 	jmp	48f
@@ -3082,7 +3098,7 @@
 	leaq	.L96ff05348ebf(%rip), %rsi
 	movl	$1, %edx
 	movq	%rbx, %rdi
-	callq	"core::fmt::formatter::Formatter::write_raw::<#86a172efa8724158>"
+	callq	"core::fmt::formatter::Formatter::write_raw::<#0a7ff941e43d6b30>"
 	testb	%al, %al
 	je	2b
 	jmp	48f
@@ -3098,7 +3114,7 @@
 	leaq	.L27dbf9885ebd(%rip), %rsi
 	movl	$3, %edx
 	movq	%rbx, %rdi
-	callq	"core::fmt::formatter::Formatter::write_raw::<#86a172efa8724158>"
+	callq	"core::fmt::formatter::Formatter::write_raw::<#0a7ff941e43d6b30>"
 27:
 	xorl	%ecx, %ecx
 	movl	$64, %edx
@@ -3115,7 +3131,7 @@
 	cmpq	$0, 48(%rbx)
 	jne	36f
 	movq	%rbx, %rdi
-	callq	"core::fmt::formatter::Formatter::write_raw::<#86a172efa8724158>"
+	callq	"core::fmt::formatter::Formatter::write_raw::<#0a7ff941e43d6b30>"
 	testb	%al, %al
 	jne	48f
 28:
@@ -3124,7 +3140,7 @@
 	leaq	.Lf989c82a9506(%rip), %rsi
 	movl	$1, %edx
 	movq	%rbx, %rdi
-	callq	"core::fmt::formatter::Formatter::write_raw::<#86a172efa8724158>"
+	callq	"core::fmt::formatter::Formatter::write_raw::<#0a7ff941e43d6b30>"
 	jmp	3b
 29:
 	andl	$127, %eax
@@ -3142,7 +3158,7 @@
 	leaq	.L96ff05348ebf(%rip), %rsi
 	movl	$1, %edx
 	movq	%rbx, %rdi
-	callq	"core::fmt::formatter::Formatter::write_indented::<#86a172efa8724158>"
+	callq	"core::fmt::formatter::Formatter::write_indented::<#0a7ff941e43d6b30>"
 	testb	%al, %al
 	je	2b
 	jmp	48f
@@ -3251,7 +3267,7 @@
 	leaq	.L27dbf9885ebd(%rip), %rsi
 	movl	$3, %edx
 	movq	%rbx, %rdi
-	callq	"core::fmt::formatter::Formatter::write_indented::<#86a172efa8724158>"
+	callq	"core::fmt::formatter::Formatter::write_indented::<#0a7ff941e43d6b30>"
 	jmp	27b
 34:
 	cmpl	$71132, %r12d
@@ -3327,11 +3343,11 @@
 	leaq	.Lf989c82a9506(%rip), %rsi
 	movl	$1, %edx
 	movq	%rbx, %rdi
-	callq	"core::fmt::formatter::Formatter::write_indented::<#86a172efa8724158>"
+	callq	"core::fmt::formatter::Formatter::write_indented::<#0a7ff941e43d6b30>"
 	jmp	3b
 36:
 	movq	%rbx, %rdi
-	callq	"core::fmt::formatter::Formatter::write_indented::<#86a172efa8724158>"
+	callq	"core::fmt::formatter::Formatter::write_indented::<#0a7ff941e43d6b30>"
 	testb	%al, %al
 	je	28b
 	jmp	48f
@@ -3484,7 +3500,7 @@
 	leaq	.Lce444474aa36(%rip), %rsi
 	movl	$1, %edx
 	movq	%rbx, %rdi
-	callq	"core::fmt::formatter::Formatter::write_raw::<#86a172efa8724158>"
+	callq	"core::fmt::formatter::Formatter::write_raw::<#0a7ff941e43d6b30>"
 47:
 	movl	%eax, %ebp
 48:
@@ -3501,7 +3517,7 @@
 	leaq	.Lce444474aa36(%rip), %rsi
 	movl	$1, %edx
 	movq	%rbx, %rdi
-	callq	"core::fmt::formatter::Formatter::write_indented::<#86a172efa8724158>"
+	callq	"core::fmt::formatter::Formatter::write_indented::<#0a7ff941e43d6b30>"
 	movb	$1, %bpl
 	testb	%al, %al
 	je	1b
@@ -3510,7 +3526,7 @@
 	leaq	.Lce444474aa36(%rip), %rsi
 	movl	$1, %edx
 	movq	%rbx, %rdi
-	callq	"core::fmt::formatter::Formatter::write_indented::<#86a172efa8724158>"
+	callq	"core::fmt::formatter::Formatter::write_indented::<#0a7ff941e43d6b30>"
 	jmp	47b
 51:
 	.size	"core::fmt::formatter::Formatter::write_quoted_in_runs::<#86a172efa8724158>", 51b-"core::fmt::formatter::Formatter::write_quoted_in_runs::<#86a172efa8724158>"
@@ -3555,8 +3571,8 @@
 
 	.text
 	.p2align	4
-	.type	"core::fmt::formatter::Formatter::write_raw::<#86a172efa8724158>",@function
-"core::fmt::formatter::Formatter::write_raw::<#86a172efa8724158>":
+	.type	"core::fmt::formatter::Formatter::write_raw::<#0a7ff941e43d6b30>",@function
+"core::fmt::formatter::Formatter::write_raw::<#0a7ff941e43d6b30>":
 	testq	%rdx, %rdx
 	je	5f
 	xorl	%ecx, %ecx
@@ -3761,7 +3777,7 @@
 	movq	16(%rbx), %rbx
 	jmp	6b
 21:
-	.size	"core::fmt::formatter::Formatter::write_raw::<#86a172efa8724158>", 21b-"core::fmt::formatter::Formatter::write_raw::<#86a172efa8724158>"
+	.size	"core::fmt::formatter::Formatter::write_raw::<#0a7ff941e43d6b30>", 21b-"core::fmt::formatter::Formatter::write_raw::<#0a7ff941e43d6b30>"
 
 	.text
 	.p2align	4
@@ -4955,6 +4971,35 @@
 
 	.text
 	.p2align	4
+	.type	"core::slice::edits::mirror::<#2262cf5b90b10fda>",@function
+"core::slice::edits::mirror::<#2262cf5b90b10fda>":
+	leaq	(%rdx,%rdx,2), %rax
+	leaq	(%rsi,%rax,8), %rax
+	addq	$-24, %rax
+	.p2align	4
+1:
+	movq	16(%rdi), %rcx
+	movq	%rcx, -8(%rsp)
+	movups	(%rdi), %xmm0
+	movaps	%xmm0, -24(%rsp)
+	movq	16(%rax), %rcx
+	movups	(%rax), %xmm0
+	movups	%xmm0, (%rdi)
+	movq	%rcx, 16(%rdi)
+	movq	-8(%rsp), %rcx
+	movq	%rcx, 16(%rax)
+	movaps	-24(%rsp), %xmm0
+	movups	%xmm0, (%rax)
+	addq	$24, %rdi
+	addq	$-24, %rax
+	decq	%rdx
+	jne	1b
+	retq
+2:
+	.size	"core::slice::edits::mirror::<#2262cf5b90b10fda>", 2b-"core::slice::edits::mirror::<#2262cf5b90b10fda>"
+
+	.text
+	.p2align	4
 	.type	"core::slice::edits::mirror::<24'(,)::<#ee13f2425f1aee9b>>",@function
 "core::slice::edits::mirror::<24'(,)::<#ee13f2425f1aee9b>>":
 	movq	%rdx, %rax
@@ -5044,6 +5089,30 @@
 
 	.text
 	.p2align	4
+	.type	"core::slice::edits::mirror::<3'&[](*,i64,)>",@function
+"core::slice::edits::mirror::<3'&[](*,i64,)>":
+	movq	%rdx, %rax
+	shlq	$4, %rax
+	addq	%rsi, %rax
+	addq	$-16, %rax
+	.p2align	4
+1:
+	movups	(%rdi), %xmm0
+	movaps	%xmm0, -24(%rsp)
+	movups	(%rax), %xmm0
+	movups	%xmm0, (%rdi)
+	movaps	-24(%rsp), %xmm0
+	movups	%xmm0, (%rax)
+	addq	$16, %rdi
+	addq	$-16, %rax
+	decq	%rdx
+	jne	1b
+	retq
+2:
+	.size	"core::slice::edits::mirror::<3'&[](*,i64,)>", 2b-"core::slice::edits::mirror::<3'&[](*,i64,)>"
+
+	.text
+	.p2align	4
 	.type	"core::slice::edits::mirror::<31'mime_base::database::icon::Icon>",@function
 "core::slice::edits::mirror::<31'mime_base::database::icon::Icon>":
 	pushq	%rax
@@ -5102,6 +5171,139 @@
 	retq
 2:
 	.size	"core::slice::edits::mirror::<31'mime_base::database::icon::Icon>", 2b-"core::slice::edits::mirror::<31'mime_base::database::icon::Icon>"
+
+	.text
+	.p2align	4
+	.type	"core::slice::edits::mirror::<35'mime_base::database::rule::GlobRule>",@function
+"core::slice::edits::mirror::<35'mime_base::database::rule::GlobRule>":
+	imulq	$88, %rdx, %rax
+	addq	%rsi, %rax
+	addq	$-88, %rax
+	.p2align	4
+1:
+	movq	80(%rdi), %rcx
+	movq	%rcx, -8(%rsp)
+	movups	64(%rdi), %xmm0
+	movaps	%xmm0, -24(%rsp)
+	movups	(%rdi), %xmm0
+	movups	16(%rdi), %xmm1
+	movups	32(%rdi), %xmm2
+	movups	48(%rdi), %xmm3
+	movaps	%xmm3, -40(%rsp)
+	movaps	%xmm2, -56(%rsp)
+	movaps	%xmm1, -72(%rsp)
+	movaps	%xmm0, -88(%rsp)
+	movups	64(%rax), %xmm0
+	movq	80(%rax), %rcx
+	movups	(%rax), %xmm1
+	movups	16(%rax), %xmm2
+	movups	32(%rax), %xmm3
+	movups	48(%rax), %xmm4
+	movups	%xmm1, (%rdi)
+	movq	%rcx, 80(%rdi)
+	movups	%xmm0, 64(%rdi)
+	movups	%xmm4, 48(%rdi)
+	movups	%xmm3, 32(%rdi)
+	movups	%xmm2, 16(%rdi)
+	movq	-8(%rsp), %rcx
+	movq	%rcx, 80(%rax)
+	movaps	-24(%rsp), %xmm0
+	movups	%xmm0, 64(%rax)
+	movaps	-88(%rsp), %xmm0
+	movaps	-72(%rsp), %xmm1
+	movaps	-56(%rsp), %xmm2
+	movaps	-40(%rsp), %xmm3
+	movups	%xmm3, 48(%rax)
+	movups	%xmm2, 32(%rax)
+	movups	%xmm1, 16(%rax)
+	movups	%xmm0, (%rax)
+	addq	$88, %rdi
+	addq	$-88, %rax
+	decq	%rdx
+	jne	1b
+	retq
+2:
+	.size	"core::slice::edits::mirror::<35'mime_base::database::rule::GlobRule>", 2b-"core::slice::edits::mirror::<35'mime_base::database::rule::GlobRule>"
+
+	.section	.rodata.cst16,"aM",@progbits,16
+	.p2align	4, 0x0
+1:
+	.byte	14,15,12,13,10,11,8,9,6,7,4,5,2,3,0,1
+	.text
+	.p2align	4
+	.type	"core::slice::edits::mirror::<i16>",@function
+"core::slice::edits::mirror::<i16>":
+	leaq	(%rdi,%rdx,2), %rax
+	leaq	(%rsi,%rdx,2), %rcx
+	cmpq	%rcx, %rdi
+	setb	%cl
+	cmpq	%rax, %rsi
+	setb	%al
+	testb	%al, %cl
+	je	2f
+	xorl	%eax, %eax
+	jmp	4f
+2:
+	movabsq	$9223372036854775800, %rax
+	andq	%rdx, %rax
+	movq	%rdx, %rcx
+	andq	$-8, %rcx
+	negq	%rcx
+	leaq	(%rsi,%rdx,2), %r8
+	addq	$-16, %r8
+	xorl	%r9d, %r9d
+	movq	%rdi, %r10
+	.p2align	4
+3:
+	movdqu	(%r10), %xmm0
+	movdqu	(%r8,%r9,2), %xmm1
+	movdqa	1b(%rip), %xmm2
+	pshufb	%xmm2, %xmm1
+	movdqu	%xmm1, (%r10)
+	pshufb	%xmm2, %xmm0
+	movdqu	%xmm0, (%r8,%r9,2)
+	addq	$-8, %r9
+	addq	$16, %r10
+	cmpq	%r9, %rcx
+	jne	3b
+	cmpq	%rax, %rdx
+	je	7f
+4:
+	movq	%rax, %rcx
+	orq	$1, %rcx
+	testb	$1, %dl
+	je	5f
+	movq	%rax, %r8
+	notq	%r8
+	addq	%rdx, %r8
+	movzwl	(%rdi,%rax,2), %r9d
+	movzwl	(%rsi,%r8,2), %r10d
+	movw	%r10w, (%rdi,%rax,2)
+	movw	%r9w, (%rsi,%r8,2)
+	movq	%rcx, %rax
+5:
+	cmpq	%rcx, %rdx
+	je	7f
+	subq	%rax, %rdx
+	leaq	(%rdi,%rax,2), %rax
+	addq	$2, %rax
+	.p2align	4
+6:
+	movzwl	-2(%rax), %ecx
+	movzwl	-2(%rsi,%rdx,2), %edi
+	movw	%di, -2(%rax)
+	movw	%cx, -2(%rsi,%rdx,2)
+	movzwl	(%rax), %ecx
+	movzwl	-4(%rsi,%rdx,2), %edi
+	movw	%di, (%rax)
+	movw	%cx, -4(%rsi,%rdx,2)
+	addq	$4, %rax
+	addq	$-2, %rdx
+	jne	6b
+7:
+	retq
+8:
+	.size	"core::slice::edits::mirror::<i16>", 8b-"core::slice::edits::mirror::<i16>"
 
 	.text
 	.p2align	4
@@ -5522,38 +5724,6 @@
 	retq
 7:
 	.size	"core::slice::edits::slice+T::reverse::<25'mime_base::magic::Section>", 7b-"core::slice::edits::slice+T::reverse::<25'mime_base::magic::Section>"
-
-	.text
-	.p2align	4
-	.type	"core::slice::scan::any_in_quarters::<#953750c03e87c3e2>",@function
-"core::slice::scan::any_in_quarters::<#953750c03e87c3e2>":
-	leaq	-8(%rdx), %rax
-	cmpq	$8, %rax
-	movl	$8, %ecx
-	cmovbq	%rax, %rcx
-	cmpq	$16, %rax
-	movl	$16, %r8d
-	cmovbq	%rax, %r8
-	movq	(%rdi,%rcx), %xmm0
-	movq	(%rdi), %xmm1
-	punpcklqdq	%xmm0, %xmm1
-	movq	(%rdi,%r8), %xmm0
-	movq	-8(%rdi,%rdx), %xmm2
-	punpcklqdq	%xmm2, %xmm0
-	movq	(%rsi,%rcx), %xmm2
-	movq	(%rsi), %xmm3
-	punpcklqdq	%xmm2, %xmm3
-	pxor	%xmm1, %xmm3
-	movq	(%rsi,%r8), %xmm1
-	movq	-8(%rsi,%rdx), %xmm2
-	punpcklqdq	%xmm2, %xmm1
-	pxor	%xmm0, %xmm1
-	por	%xmm3, %xmm1
-	ptest	%xmm1, %xmm1
-	setne	%al
-	retq
-1:
-	.size	"core::slice::scan::any_in_quarters::<#953750c03e87c3e2>", 1b-"core::slice::scan::any_in_quarters::<#953750c03e87c3e2>"
 
 	.text
 	.p2align	4

@@ -5845,7 +5845,7 @@
 	movq	24(%rbx), %rdi
 	movq	32(%rbx), %rsi
 	movq	(%rax), %rcx
-	callq	"mime_lookup::pairs::resolve"
+	callq	"mime_lookup::pairs::unalias"
 	movq	24(%rsp), %rcx
 	cmpq	%rcx, 32(%rsp)
 	je	23f
@@ -7706,7 +7706,7 @@
 	movq	%rbx, %rax
 19:
 	movq	(%rax), %rcx
-	callq	"mime_lookup::pairs::resolve"
+	callq	"mime_lookup::pairs::unalias"
 	movq	%rax, %r15
 	movq	%rdx, %r12
 	cmpl	$80, -40(%rbx)
@@ -7720,8 +7720,8 @@
 
 	.text
 	.p2align	4
-	.type	"mime_lookup::pairs::resolve",@function
-"mime_lookup::pairs::resolve":
+	.type	"mime_lookup::pairs::unalias",@function
+"mime_lookup::pairs::unalias":
 	pushq	%rbp
 	pushq	%r15
 	pushq	%r14
@@ -7820,7 +7820,7 @@
 	popq	%rbp
 	retq
 11:
-	.size	"mime_lookup::pairs::resolve", 11b-"mime_lookup::pairs::resolve"
+	.size	"mime_lookup::pairs::unalias", 11b-"mime_lookup::pairs::unalias"
 
 	.text
 	.p2align	4

@@ -2019,16 +2019,16 @@
 	movq	%rax, 2512(%rsp)
 	movq	$54, 2520(%rsp)
 	movq	$1, 2600(%rsp)
-	leaq	.L37a43c5e9b53(%rip), %rax
+	leaq	.L992e85a9ac59(%rip), %rax
 	movq	%rax, 2608(%rsp)
-	movq	$724, 2616(%rsp)
+	movq	$746, 2616(%rsp)
 	movq	%r12, 2648(%rsp)
 	movq	%r12, 2672(%rsp)
 	movq	%r12, 2696(%rsp)
 	movq	$1, 2720(%rsp)
-	leaq	.Lc289f296b462(%rip), %rax
+	leaq	.L4292e18dc79c(%rip), %rax
 	movq	%rax, 2728(%rsp)
-	movq	$105, 2736(%rsp)
+	movq	$122, 2736(%rsp)
 	movq	%r12, 2864(%rsp)
 	movq	%r12, 2888(%rsp)
 	movq	%r12, 2912(%rsp)
@@ -2941,12 +2941,12 @@
 	leaq	.L0b4a2d47cb3a(%rip), %rax
 	movq	%rax, 16(%rsp)
 	movq	$43, 24(%rsp)
-	leaq	.L148ba5af0845(%rip), %rax
+	leaq	.L96a547e61580(%rip), %rax
 	movq	%rax, 32(%rsp)
-	movq	$123, 40(%rsp)
-	leaq	.L0241b87ce347(%rip), %rax
+	movq	$140, 40(%rsp)
+	leaq	.Ld11c250c3383(%rip), %rax
 	movq	%rax, 48(%rsp)
-	movq	$678, 56(%rsp)
+	movq	$699, 56(%rsp)
 	leaq	.Lf104d05df27b(%rip), %rsi
 	leaq	16(%rsp), %rcx
 	movl	$4, %edx
@@ -3142,179 +3142,250 @@
 	pushq	%rbx
 	subq	$3072, %rsp
 	movq	$0, (%rsp)
-	subq	$184, %rsp
+	subq	$1480, %rsp
 	movq	%rsi, %r12
 	movq	%rdi, %rbx
-	leaq	1904(%rsp), %r14
+	leaq	3200(%rsp), %r14
 	movl	$680, %edx
 	movq	%r14, %rdi
 	xorl	%esi, %esi
 	callq	memset@PLT
-	leaq	1224(%rsp), %rdi
+	leaq	2520(%rsp), %rdi
 	movl	$680, %edx
 	xorl	%esi, %esi
 	callq	memset@PLT
-	leaq	8(%rsp), %rdi
+	leaq	624(%rsp), %rdi
 	movl	$608, %edx
 	xorl	%esi, %esi
 	callq	memset@PLT
-	leaq	2584(%rsp), %r15
+	leaq	1840(%rsp), %rdi
+	movl	$680, %edx
+	xorl	%esi, %esi
+	callq	memset@PLT
+	leaq	16(%rsp), %rdi
+	movl	$608, %edx
+	xorl	%esi, %esi
+	callq	memset@PLT
+	leaq	3880(%rsp), %r15
 	movl	$672, %edx
 	movq	%r15, %rdi
 	movq	%r12, %rsi
 	callq	memcpy@PLT
 	leaq	.L35e6fa06256e(%rip), %rax
-	movq	%rax, 616(%rsp)
-	movq	$9, 624(%rsp)
-	movq	$1, 632(%rsp)
+	movq	%rax, 1232(%rsp)
+	movq	$9, 1240(%rsp)
+	movq	$1, 1248(%rsp)
 	leaq	.Lacc9607a0d71(%rip), %rcx
-	movq	%rcx, 640(%rsp)
-	movq	$40, 648(%rsp)
+	movq	%rcx, 1256(%rsp)
+	movq	$40, 1264(%rsp)
 	xorps	%xmm0, %xmm0
-	movups	%xmm0, 656(%rsp)
-	movups	%xmm0, 672(%rsp)
-	movq	$1, 688(%rsp)
-	movq	%rax, 696(%rsp)
-	movq	$9, 704(%rsp)
-	movq	%rsp, %r12
-	movq	%r12, 712(%rsp)
-	movups	%xmm0, 720(%rsp)
-	movq	%r12, 736(%rsp)
-	movups	%xmm0, 744(%rsp)
-	movq	%r12, 760(%rsp)
-	movups	%xmm0, 768(%rsp)
-	movq	%r12, 784(%rsp)
-	movups	%xmm0, 792(%rsp)
-	movq	%r12, 808(%rsp)
-	movups	%xmm0, 816(%rsp)
-	movq	%r12, 832(%rsp)
-	movups	%xmm0, 840(%rsp)
-	movq	%r12, 856(%rsp)
-	movups	%xmm0, 864(%rsp)
-	movq	%r12, 880(%rsp)
-	movups	%xmm0, 888(%rsp)
-	movq	%r12, 904(%rsp)
-	movups	%xmm0, 912(%rsp)
-	movq	%r12, 928(%rsp)
-	movups	%xmm0, 936(%rsp)
-	movq	$1, 952(%rsp)
-	movq	%r12, 960(%rsp)
-	movq	$0, 968(%rsp)
-	movq	$1, 976(%rsp)
-	movq	%r12, 984(%rsp)
-	movq	$0, 992(%rsp)
-	movq	%r12, 1000(%rsp)
-	movups	%xmm0, 1008(%rsp)
-	movq	$1, 1024(%rsp)
-	movq	%r12, 1032(%rsp)
-	movups	%xmm0, 1104(%rsp)
-	movups	%xmm0, 1088(%rsp)
-	movups	%xmm0, 1072(%rsp)
-	movups	%xmm0, 1056(%rsp)
-	movups	%xmm0, 1040(%rsp)
-	movw	$513, 1120(%rsp)
-	movups	%xmm0, 1122(%rsp)
-	movups	%xmm0, 1138(%rsp)
-	movups	%xmm0, 1154(%rsp)
-	movups	%xmm0, 1170(%rsp)
-	movups	%xmm0, 1186(%rsp)
-	movups	%xmm0, 1202(%rsp)
-	movq	$0, 1216(%rsp)
-	leaq	616(%rsp), %rdx
+	movups	%xmm0, 1272(%rsp)
+	movups	%xmm0, 1288(%rsp)
+	movq	$1, 1304(%rsp)
+	movq	%rax, 1312(%rsp)
+	movq	$9, 1320(%rsp)
+	leaq	8(%rsp), %r12
+	movq	%r12, 1328(%rsp)
+	movups	%xmm0, 1336(%rsp)
+	movq	%r12, 1352(%rsp)
+	movups	%xmm0, 1360(%rsp)
+	movq	%r12, 1376(%rsp)
+	movups	%xmm0, 1384(%rsp)
+	movq	%r12, 1400(%rsp)
+	movups	%xmm0, 1408(%rsp)
+	movq	%r12, 1424(%rsp)
+	movups	%xmm0, 1432(%rsp)
+	movq	%r12, 1448(%rsp)
+	movups	%xmm0, 1456(%rsp)
+	movq	%r12, 1472(%rsp)
+	movups	%xmm0, 1480(%rsp)
+	movq	%r12, 1496(%rsp)
+	movups	%xmm0, 1504(%rsp)
+	movq	%r12, 1520(%rsp)
+	movups	%xmm0, 1528(%rsp)
+	movq	%r12, 1544(%rsp)
+	movups	%xmm0, 1552(%rsp)
+	movq	$1, 1568(%rsp)
+	movq	%r12, 1576(%rsp)
+	movq	$0, 1584(%rsp)
+	movq	$1, 1592(%rsp)
+	movq	%r12, 1600(%rsp)
+	movq	$0, 1608(%rsp)
+	movq	%r12, 1616(%rsp)
+	movups	%xmm0, 1624(%rsp)
+	movq	$1, 1640(%rsp)
+	movq	%r12, 1648(%rsp)
+	movups	%xmm0, 1720(%rsp)
+	movups	%xmm0, 1704(%rsp)
+	movups	%xmm0, 1688(%rsp)
+	movups	%xmm0, 1672(%rsp)
+	movups	%xmm0, 1656(%rsp)
+	movw	$513, 1736(%rsp)
+	movups	%xmm0, 1738(%rsp)
+	movups	%xmm0, 1754(%rsp)
+	movups	%xmm0, 1770(%rsp)
+	movups	%xmm0, 1786(%rsp)
+	movups	%xmm0, 1802(%rsp)
+	movups	%xmm0, 1818(%rsp)
+	movq	$0, 1832(%rsp)
+	leaq	1232(%rsp), %rdx
 	movq	%r14, %rdi
 	movq	%r15, %rsi
 	callq	"clap::builder::command::Command::arg"
-	cmpb	$0, 1904(%rsp)
-	je	1f
+	cmpb	$0, 3200(%rsp)
+	jne	1f
+	leaq	3208(%rsp), %rsi
+	leaq	.L726dde07b5f3(%rip), %rax
+	movq	%rax, 624(%rsp)
+	movq	$12, 632(%rsp)
+	movq	$1, 640(%rsp)
+	leaq	.L1b4658b6bf59(%rip), %rcx
+	movq	%rcx, 648(%rsp)
+	movq	$70, 656(%rsp)
+	xorps	%xmm0, %xmm0
+	movups	%xmm0, 664(%rsp)
+	movups	%xmm0, 680(%rsp)
+	movq	$1, 696(%rsp)
+	movq	%rax, 704(%rsp)
+	movq	$12, 712(%rsp)
+	movq	%r12, 720(%rsp)
+	movups	%xmm0, 728(%rsp)
+	movq	%r12, 744(%rsp)
+	movups	%xmm0, 752(%rsp)
+	movq	%r12, 768(%rsp)
+	movups	%xmm0, 776(%rsp)
+	movq	%r12, 792(%rsp)
+	movups	%xmm0, 800(%rsp)
+	movq	%r12, 816(%rsp)
+	movups	%xmm0, 824(%rsp)
+	movq	%r12, 840(%rsp)
+	movups	%xmm0, 848(%rsp)
+	movq	%r12, 864(%rsp)
+	movups	%xmm0, 872(%rsp)
+	movq	%r12, 888(%rsp)
+	movups	%xmm0, 896(%rsp)
+	movq	%r12, 912(%rsp)
+	movups	%xmm0, 920(%rsp)
+	movq	%r12, 936(%rsp)
+	movups	%xmm0, 944(%rsp)
+	movq	$1, 960(%rsp)
+	movq	%r12, 968(%rsp)
+	movq	$0, 976(%rsp)
+	movq	$1, 984(%rsp)
+	movq	%r12, 992(%rsp)
+	movq	$0, 1000(%rsp)
+	movq	%r12, 1008(%rsp)
+	movups	%xmm0, 1016(%rsp)
+	movq	$1, 1032(%rsp)
+	movq	%r12, 1040(%rsp)
+	movups	%xmm0, 1112(%rsp)
+	movups	%xmm0, 1096(%rsp)
+	movups	%xmm0, 1080(%rsp)
+	movups	%xmm0, 1064(%rsp)
+	movups	%xmm0, 1048(%rsp)
+	movw	$513, 1128(%rsp)
+	movups	%xmm0, 1130(%rsp)
+	movups	%xmm0, 1146(%rsp)
+	movups	%xmm0, 1162(%rsp)
+	movups	%xmm0, 1178(%rsp)
+	movups	%xmm0, 1194(%rsp)
+	movups	%xmm0, 1210(%rsp)
+	movq	$0, 1224(%rsp)
+	leaq	2520(%rsp), %rdi
+	leaq	624(%rsp), %rdx
+	callq	"clap::builder::command::Command::arg"
+	cmpb	$0, 2520(%rsp)
+	je	4f
+1:
 	movb	$1, (%rbx)
 	addq	$8, %rbx
 	movl	$672, %edx
 	movq	%rbx, %rdi
-	jmp	2f
-1:
-	leaq	1912(%rsp), %rsi
-	leaq	.L533c39e6460b(%rip), %rax
-	movq	%rax, 8(%rsp)
-	movq	$11, 16(%rsp)
-	movq	$1, 24(%rsp)
-	leaq	.L1b44da35fd51(%rip), %rcx
-	movq	%rcx, 32(%rsp)
-	movq	$61, 40(%rsp)
-	xorps	%xmm0, %xmm0
-	movups	%xmm0, 48(%rsp)
-	movups	%xmm0, 64(%rsp)
-	movq	$1, 80(%rsp)
-	movq	%rax, 88(%rsp)
-	movq	$11, 96(%rsp)
-	movq	%r12, 104(%rsp)
-	movups	%xmm0, 112(%rsp)
-	movq	%r12, 128(%rsp)
-	movups	%xmm0, 136(%rsp)
-	movq	%r12, 152(%rsp)
-	movups	%xmm0, 160(%rsp)
-	movq	%r12, 176(%rsp)
-	movups	%xmm0, 184(%rsp)
-	movq	%r12, 200(%rsp)
-	movups	%xmm0, 208(%rsp)
-	movq	%r12, 224(%rsp)
-	movups	%xmm0, 232(%rsp)
-	movq	%r12, 248(%rsp)
-	movups	%xmm0, 256(%rsp)
-	movq	%r12, 272(%rsp)
-	movups	%xmm0, 280(%rsp)
-	movq	%r12, 296(%rsp)
-	movups	%xmm0, 304(%rsp)
-	movq	%r12, 320(%rsp)
-	movups	%xmm0, 328(%rsp)
-	movq	$1, 344(%rsp)
-	movq	%r12, 352(%rsp)
-	movq	$0, 360(%rsp)
-	movq	$1, 368(%rsp)
-	movq	%r12, 376(%rsp)
-	movq	$0, 384(%rsp)
-	movq	%r12, 392(%rsp)
-	movups	%xmm0, 400(%rsp)
-	movq	$1, 416(%rsp)
-	movq	%r12, 424(%rsp)
-	movups	%xmm0, 496(%rsp)
-	movups	%xmm0, 480(%rsp)
-	movups	%xmm0, 464(%rsp)
-	movups	%xmm0, 448(%rsp)
-	movups	%xmm0, 432(%rsp)
-	movw	$513, 512(%rsp)
-	movups	%xmm0, 514(%rsp)
-	movups	%xmm0, 530(%rsp)
-	movups	%xmm0, 546(%rsp)
-	movups	%xmm0, 562(%rsp)
-	movups	%xmm0, 578(%rsp)
-	movups	%xmm0, 594(%rsp)
-	movq	$0, 608(%rsp)
-	leaq	1224(%rsp), %rdi
-	leaq	8(%rsp), %rdx
-	callq	"clap::builder::command::Command::arg"
-	leaq	8(%rbx), %rdi
-	cmpb	$0, 1224(%rsp)
-	je	4f
-	movb	$1, (%rbx)
-	movl	$672, %edx
 2:
 	xorl	%esi, %esi
 	callq	memset@PLT
 3:
-	addq	$3256, %rsp
+	addq	$4552, %rsp
 	popq	%rbx
 	popq	%r12
 	popq	%r14
 	popq	%r15
 	retq
 4:
-	leaq	1232(%rsp), %rsi
+	leaq	2528(%rsp), %rsi
+	leaq	.L533c39e6460b(%rip), %rax
+	movq	%rax, 16(%rsp)
+	movq	$11, 24(%rsp)
+	movq	$1, 32(%rsp)
+	leaq	.L1b44da35fd51(%rip), %rcx
+	movq	%rcx, 40(%rsp)
+	movq	$61, 48(%rsp)
+	xorps	%xmm0, %xmm0
+	movups	%xmm0, 56(%rsp)
+	movups	%xmm0, 72(%rsp)
+	movq	$1, 88(%rsp)
+	movq	%rax, 96(%rsp)
+	movq	$11, 104(%rsp)
+	movq	%r12, 112(%rsp)
+	movups	%xmm0, 120(%rsp)
+	movq	%r12, 136(%rsp)
+	movups	%xmm0, 144(%rsp)
+	movq	%r12, 160(%rsp)
+	movups	%xmm0, 168(%rsp)
+	movq	%r12, 184(%rsp)
+	movups	%xmm0, 192(%rsp)
+	movq	%r12, 208(%rsp)
+	movups	%xmm0, 216(%rsp)
+	movq	%r12, 232(%rsp)
+	movups	%xmm0, 240(%rsp)
+	movq	%r12, 256(%rsp)
+	movups	%xmm0, 264(%rsp)
+	movq	%r12, 280(%rsp)
+	movups	%xmm0, 288(%rsp)
+	movq	%r12, 304(%rsp)
+	movups	%xmm0, 312(%rsp)
+	movq	%r12, 328(%rsp)
+	movups	%xmm0, 336(%rsp)
+	movq	$1, 352(%rsp)
+	movq	%r12, 360(%rsp)
+	movq	$0, 368(%rsp)
+	movq	$1, 376(%rsp)
+	movq	%r12, 384(%rsp)
+	movq	$0, 392(%rsp)
+	movq	%r12, 400(%rsp)
+	movups	%xmm0, 408(%rsp)
+	movq	$1, 424(%rsp)
+	movq	%r12, 432(%rsp)
+	movups	%xmm0, 504(%rsp)
+	movups	%xmm0, 488(%rsp)
+	movups	%xmm0, 472(%rsp)
+	movups	%xmm0, 456(%rsp)
+	movups	%xmm0, 440(%rsp)
+	movw	$513, 520(%rsp)
+	movups	%xmm0, 522(%rsp)
+	movups	%xmm0, 538(%rsp)
+	movups	%xmm0, 554(%rsp)
+	movups	%xmm0, 570(%rsp)
+	movups	%xmm0, 586(%rsp)
+	movups	%xmm0, 602(%rsp)
+	movq	$0, 616(%rsp)
+	leaq	1840(%rsp), %rdi
+	leaq	16(%rsp), %rdx
+	callq	"clap::builder::command::Command::arg"
+	leaq	8(%rbx), %rdi
+	cmpb	$0, 1840(%rsp)
+	je	5f
+	movb	$1, (%rbx)
+	movl	$672, %edx
+	jmp	2b
+5:
+	leaq	1848(%rsp), %rsi
 	movb	$0, (%rbx)
 	movl	$672, %edx
 	callq	memcpy@PLT
 	jmp	3b
-5:
-	.size	"mime_request::command::with_looks", 5b-"mime_request::command::with_looks"
+6:
+	.size	"mime_request::command::with_looks", 6b-"mime_request::command::with_looks"
 
 	.text
 	.p2align	4
@@ -4135,9 +4206,10 @@
 	.type	"mime_request::request::flags::options_of",@function
 "mime_request::request::flags::options_of":
 	pushq	%rbp
+	pushq	%r15
 	pushq	%r14
 	pushq	%rbx
-	subq	$80, %rsp
+	subq	$72, %rsp
 	movq	%rdi, %rbx
 	xorps	%xmm0, %xmm0
 	movaps	%xmm0, (%rsp)
@@ -4146,25 +4218,25 @@
 	movaps	%xmm0, 48(%rsp)
 	movq	$0, 64(%rsp)
 	testq	%rdx, %rdx
-	je	23f
+	je	27f
+	movabsq	$8749489599856078177, %rcx
 	leaq	56(%rsi), %rax
-	movq	%rdx, %rcx
+	movq	%rdx, %rdi
 	jmp	2f
 	.p2align	4
 1:
-	decq	%rcx
+	decq	%rdi
 	addq	$104, %rax
-	testq	%rcx, %rcx
+	testq	%rdi, %rdi
 	je	3f
 2:
 	cmpq	$9, -48(%rax)
 	jne	1b
-	movq	-56(%rax), %rdi
-	movabsq	$7813304644300267886, %r8
-	cmpq	%r8, (%rdi)
+	movq	-56(%rax), %r8
+	movabsq	$7813304644300267886, %r9
+	cmpq	%r9, (%r8)
 	jne	1b
-	movabsq	$8749489599856078177, %r8
-	cmpq	%r8, 1(%rdi)
+	cmpq	%rcx, 1(%r8)
 	jne	1b
 	cmpq	$0, (%rax)
 	je	3f
@@ -4173,38 +4245,38 @@
 	jne	3f
 	movq	(%rax), %rax
 	movl	(%rax), %eax
-	movq	%rax, %rcx
-	shlq	$32, %rcx
-	orq	%rax, %rcx
+	movq	%rax, %rdi
+	shlq	$32, %rdi
+	orq	%rax, %rdi
 	movabsq	$7310875414349836916, %rax
-	cmpq	%rax, %rcx
+	cmpq	%rax, %rdi
 	sete	%al
 	jmp	4f
 3:
 	xorl	%eax, %eax
 4:
-	leaq	56(%rsi), %rcx
-	movq	%rdx, %rdi
+	leaq	56(%rsi), %rdi
+	movq	%rdx, %r8
 	jmp	6f
 	.p2align	4
 5:
-	decq	%rdi
-	addq	$104, %rcx
-	testq	%rdi, %rdi
+	decq	%r8
+	addq	$104, %rdi
+	testq	%r8, %r8
 	je	7f
 6:
-	cmpq	$11, -48(%rcx)
+	cmpq	$12, -48(%rdi)
 	jne	5b
-	movq	-56(%rcx), %r8
-	movabsq	$7594807726600315245, %r9
-	cmpq	%r9, (%r8)
+	movq	-56(%rdi), %r9
+	movabsq	$3275364211029340003, %r10
+	cmpq	%r10, (%r9)
 	jne	5b
-	movabsq	$8391176327732749161, %r9
-	cmpq	%r9, 3(%r8)
+	leaq	983300(%rcx), %r10
+	cmpq	%r10, 4(%r9)
 	jne	5b
-	cmpq	$0, (%rcx)
+	cmpq	$0, (%rdi)
 	je	7f
-	movq	-8(%rcx), %rcx
+	movq	-8(%rdi), %rcx
 	cmpq	$4, 8(%rcx)
 	jne	7f
 	movq	(%rcx), %rcx
@@ -4229,15 +4301,14 @@
 	testq	%r8, %r8
 	je	11f
 10:
-	cmpq	$4, -48(%rdi)
+	cmpq	$11, -48(%rdi)
 	jne	9b
 	movq	-56(%rdi), %r9
-	movl	(%r9), %r9d
-	movq	%r9, %r10
-	shlq	$32, %r10
-	orq	%r9, %r10
-	movabsq	$8391173003667533667, %r9
-	cmpq	%r9, %r10
+	movabsq	$7594807726600315245, %r10
+	cmpq	%r10, (%r9)
+	jne	9b
+	movabsq	$8391176327732749161, %r10
+	cmpq	%r10, 3(%r9)
 	jne	9b
 	cmpq	$0, (%rdi)
 	je	11f
@@ -4273,7 +4344,7 @@
 	movq	%r10, %r11
 	shlq	$32, %r11
 	orq	%r10, %r11
-	movabsq	$7812748570706867566, %r10
+	movabsq	$8391173003667533667, %r10
 	cmpq	%r10, %r11
 	jne	13b
 	cmpq	$0, (%r8)
@@ -4303,15 +4374,15 @@
 	testq	%r10, %r10
 	je	19f
 18:
-	cmpq	$5, -48(%r9)
+	cmpq	$4, -48(%r9)
 	jne	17b
 	movq	-56(%r9), %r11
-	movl	(%r11), %r14d
-	movl	1(%r11), %r11d
-	shlq	$32, %r11
-	orq	%r14, %r11
-	movabsq	$7378419504565023330, %r14
-	cmpq	%r14, %r11
+	movl	(%r11), %r11d
+	movq	%r11, %r14
+	shlq	$32, %r14
+	orq	%r11, %r14
+	movabsq	$7812748570706867566, %r11
+	cmpq	%r11, %r14
 	jne	17b
 	cmpq	$0, (%r9)
 	je	19f
@@ -4330,30 +4401,67 @@
 19:
 	xorl	%r9d, %r9d
 20:
-	addq	$56, %rsi
+	leaq	56(%rsi), %r10
+	movq	%rdx, %r11
 	jmp	22f
 	.p2align	4
 21:
+	decq	%r11
+	addq	$104, %r10
+	testq	%r11, %r11
+	je	23f
+22:
+	cmpq	$5, -48(%r10)
+	jne	21b
+	movq	-56(%r10), %r14
+	movl	(%r14), %r15d
+	movl	1(%r14), %r14d
+	shlq	$32, %r14
+	orq	%r15, %r14
+	movabsq	$7378419504565023330, %r15
+	cmpq	%r15, %r14
+	jne	21b
+	cmpq	$0, (%r10)
+	je	23f
+	movq	-8(%r10), %r10
+	cmpq	$4, 8(%r10)
+	jne	23f
+	movq	(%r10), %r10
+	movl	(%r10), %r10d
+	movq	%r10, %r11
+	shlq	$32, %r11
+	orq	%r10, %r11
+	movabsq	$7310875414349836916, %r10
+	cmpq	%r10, %r11
+	sete	%r10b
+	jmp	24f
+23:
+	xorl	%r10d, %r10d
+24:
+	addq	$56, %rsi
+	jmp	26f
+	.p2align	4
+25:
 	decq	%rdx
 	addq	$104, %rsi
 	testq	%rdx, %rdx
-	je	24f
-22:
+	je	28f
+26:
 	cmpq	$6, -48(%rsi)
-	jne	21b
-	movq	-56(%rsi), %r10
-	movl	(%r10), %r11d
-	movl	2(%r10), %r10d
-	shlq	$32, %r10
-	orq	%r11, %r10
-	movabsq	$7309449274685879141, %r11
-	cmpq	%r11, %r10
-	jne	21b
+	jne	25b
+	movq	-56(%rsi), %r11
+	movl	(%r11), %r14d
+	movl	2(%r11), %r11d
+	shlq	$32, %r11
+	orq	%r14, %r11
+	movabsq	$7309449274685879141, %r14
+	cmpq	%r14, %r11
+	jne	25b
 	cmpq	$0, (%rsi)
-	je	24f
+	je	28f
 	movq	-8(%rsi), %rdx
 	cmpq	$4, 8(%rdx)
-	jne	24f
+	jne	28f
 	movq	(%rdx), %rdx
 	movl	(%rdx), %edx
 	movq	%rdx, %rsi
@@ -4362,74 +4470,89 @@
 	movabsq	$7310875414349836916, %rdx
 	cmpq	%rdx, %rsi
 	sete	%dl
-	jne	25f
-	testb	%r8b, %r8b
-	je	25f
-	leaq	.L599d078cb9c2(%rip), %rdx
-	jmp	26f
-23:
-	xorl	%edi, %edi
-	xorl	%eax, %eax
-	xorl	%ecx, %ecx
-	xorl	%r9d, %r9d
-	xorl	%r8d, %r8d
-24:
-	xorl	%edx, %edx
-25:
-	movzbl	%r8b, %esi
-	movzbl	%r9b, %ebp
-	testb	%r8b, %r8b
-	cmovnel	%esi, %ebp
-	xorl	%esi, %esi
-	xorl	%r10d, %r10d
-	testb	%dil, %dil
-	je	27f
-	movl	$0, %r11d
-	testb	%bpl, %bpl
-	je	28f
-	leaq	.Lec2ba9672c9d(%rip), %rdx
-26:
-	leaq	32(%rsp), %rdi
+	jne	29f
+	testb	%r9b, %r9b
+	je	29f
 	movl	$29, %ecx
+	leaq	.L599d078cb9c2(%rip), %rdx
+	jmp	31f
+27:
+	xorl	%r8d, %r8d
+	xorl	%ecx, %ecx
+	xorl	%eax, %eax
+	xorl	%edi, %edi
+	xorl	%r10d, %r10d
+	xorl	%r9d, %r9d
+28:
+	xorl	%edx, %edx
+29:
+	movzbl	%r9b, %r11d
+	movzbl	%r10b, %esi
+	testb	%r9b, %r9b
+	cmovnel	%r11d, %esi
+	testb	%r8b, %r8b
+	je	30f
+	testb	%sil, %sil
+	je	30f
+	movl	$29, %ecx
+	leaq	.Lec2ba9672c9d(%rip), %rdx
+	jmp	31f
+30:
+	xorl	%esi, %esi
+	xorl	%r11d, %r11d
+	testb	%cl, %cl
+	je	33f
+	movl	%eax, %ebp
+	orb	%dil, %bpl
+	movl	$0, %r14d
+	testb	$1, %bpl
+	je	32f
+	movl	$57, %ecx
+	leaq	.La5c4ab50a415(%rip), %rdx
+31:
+	leaq	32(%rsp), %rdi
 	movl	$8, %esi
 	callq	"mime_request::request::found::refusal"
-	movzbl	32(%rsp), %r11d
+	movzbl	32(%rsp), %r14d
 	movzbl	40(%rsp), %esi
 	movaps	48(%rsp), %xmm0
 	movaps	%xmm0, (%rsp)
 	movq	64(%rsp), %rax
 	movq	%rax, 16(%rsp)
-	movb	$1, %r10b
+	movb	$1, %r11b
 	xorl	%eax, %eax
 	xorl	%ecx, %ecx
 	xorl	%edi, %edi
 	xorl	%r8d, %r8d
 	xorl	%r9d, %r9d
+	xorl	%r10d, %r10d
 	xorl	%edx, %edx
-	jmp	28f
-27:
-	xorl	%r11d, %r11d
-28:
-	movb	%r10b, (%rbx)
+32:
+	movb	%r11b, (%rbx)
 	movb	%al, 1(%rbx)
 	movb	%cl, 2(%rbx)
 	movb	%dil, 3(%rbx)
 	movb	%r8b, 4(%rbx)
 	movb	%r9b, 5(%rbx)
-	movb	%dl, 6(%rbx)
-	movb	%r11b, 8(%rbx)
+	movb	%r10b, 6(%rbx)
+	movb	%dl, 7(%rbx)
+	movb	%r14b, 8(%rbx)
 	movq	%rsi, 16(%rbx)
 	movaps	(%rsp), %xmm0
 	movups	%xmm0, 24(%rbx)
 	movq	16(%rsp), %rax
 	movq	%rax, 40(%rbx)
-	addq	$80, %rsp
+	addq	$72, %rsp
 	popq	%rbx
 	popq	%r14
+	popq	%r15
 	popq	%rbp
 	retq
-29:
-	.size	"mime_request::request::flags::options_of", 29b-"mime_request::request::flags::options_of"
+33:
+	xorl	%r14d, %r14d
+	jmp	32b
+34:
+	.size	"mime_request::request::flags::options_of", 34b-"mime_request::request::flags::options_of"
 
 	.text
 	.p2align	4

@@ -2,6 +2,52 @@
 
 	.text
 	.p2align	4
+	.type	"mime_text::magic::section::after_prefix",@function
+"mime_text::magic::section::after_prefix":
+	xorl	%eax, %eax
+	movl	$0, %r9d
+	movl	$0, %r10d
+	subq	%rdx, %r8
+	jb	1f
+	leaq	-8(%rdx), %rax
+	cmpq	$8, %rax
+	movl	$8, %r9d
+	cmovbq	%rax, %r9
+	movq	-8(%rcx,%rdx), %xmm0
+	movq	-8(%rsi,%rdx), %xmm1
+	pcmpeqb	%xmm0, %xmm1
+	pcmpeqd	%xmm0, %xmm0
+	pxor	%xmm0, %xmm1
+	movq	(%rcx,%r9), %xmm2
+	movq	(%rcx), %xmm3
+	punpcklqdq	%xmm2, %xmm3
+	movq	(%rsi,%r9), %xmm2
+	movq	(%rsi), %xmm4
+	punpcklqdq	%xmm2, %xmm4
+	pcmpeqb	%xmm3, %xmm4
+	pxor	%xmm0, %xmm4
+	por	%xmm4, %xmm1
+	pblendw	$240, %xmm4, %xmm1
+	pmovmskb	%xmm1, %esi
+	addq	%rdx, %rcx
+	xorl	%edx, %edx
+	xorl	%eax, %eax
+	testl	%esi, %esi
+	sete	%al
+	cmovneq	%rdx, %rcx
+	cmovneq	%rdx, %r8
+	movq	%rcx, %r9
+	movq	%r8, %r10
+1:
+	movq	%rax, (%rdi)
+	movq	%r9, 8(%rdi)
+	movq	%r10, 16(%rdi)
+	retq
+2:
+	.size	"mime_text::magic::section::after_prefix", 2b-"mime_text::magic::section::after_prefix"
+
+	.text
+	.p2align	4
 	.type	"mime_text::merging::first::Keys::add",@function
 "mime_text::merging::first::Keys::add":
 	pushq	%rbp
@@ -1772,6 +1818,188 @@
 	jmp	8b
 49:
 	.size	"mime_text::merging::first::marked::<#5757887c02ee9d34>", 49b-"mime_text::merging::first::marked::<#5757887c02ee9d34>"
+
+	.text
+	.p2align	4
+	.type	"mime_text::merging::hidden::least_weight",@function
+"mime_text::merging::hidden::least_weight":
+	pushq	%rbp
+	pushq	%r15
+	pushq	%r14
+	pushq	%r13
+	pushq	%r12
+	pushq	%rbx
+	pushq	%rax
+	movq	%rcx, %rbx
+	cmpq	%rdx, %rcx
+	jne	1f
+	movq	%rbx, %rdx
+	addq	$8, %rsp
+	popq	%rbx
+	popq	%r12
+	popq	%r13
+	popq	%r14
+	popq	%r15
+	popq	%rbp
+	jmp	"mime_text::merging::hidden::weight_of"
+1:
+	movzbl	(%rsi,%rbx), %r14d
+	leaq	1(%rbx), %rbp
+	movq	%rdi, %r12
+	movq	%rsi, %r13
+	movq	%rdx, %r15
+	movq	%rbp, %rcx
+	callq	"mime_text::merging::hidden::least_weight"
+	testw	%ax, %ax
+	je	2f
+	leal	-97(%r14), %ecx
+	cmpb	$25, %cl
+	ja	3f
+	leal	-32(%r14), %ecx
+	movb	%cl, (%r13,%rbx)
+	movq	%r12, %rdi
+	movq	%r13, %rsi
+	movq	%r15, %rdx
+	movq	%rbp, %rcx
+	movl	%eax, %ebp
+	callq	"mime_text::merging::hidden::least_weight"
+	movb	%r14b, (%r13,%rbx)
+	cmpw	%bp, %ax
+	cmovbl	%eax, %ebp
+	movl	%ebp, %eax
+	jmp	4f
+2:
+	xorl	%eax, %eax
+3:
+4:
+	addq	$8, %rsp
+	popq	%rbx
+	popq	%r12
+	popq	%r13
+	popq	%r14
+	popq	%r15
+	popq	%rbp
+	retq
+5:
+	.size	"mime_text::merging::hidden::least_weight", 5b-"mime_text::merging::hidden::least_weight"
+
+	.text
+	.p2align	4
+	.type	"mime_text::merging::hidden::weight_of",@function
+"mime_text::merging::hidden::weight_of":
+	cmpb	$1, (%rdi)
+	jne	13f
+	pushq	%rbp
+	pushq	%r14
+	pushq	%rbx
+	addq	$8, %rdi
+1:
+	movq	(%rdi), %rax
+	movzwl	(%rax), %edi
+	xorl	%ecx, %ecx
+	testq	%rdi, %rdi
+	je	11f
+	.p2align	4
+2:
+	movq	%rcx, %r8
+	shlq	$4, %r8
+	movq	8(%rax,%r8), %r9
+	movq	16(%rax,%r8), %r8
+	cmpq	%rdx, %r8
+	movq	%rdx, %r10
+	cmovbq	%r8, %r10
+	xorl	%r11d, %r11d
+	cmpq	$64, %r10
+	jb	4f
+	movq	%r10, %rbx
+	.p2align	4
+3:
+	movdqu	(%rsi,%r11), %xmm0
+	movdqu	16(%rsi,%r11), %xmm1
+	movdqu	32(%rsi,%r11), %xmm2
+	movdqu	48(%rsi,%r11), %xmm3
+	movdqu	(%r9,%r11), %xmm4
+	pcmpeqb	%xmm0, %xmm4
+	movdqu	16(%r9,%r11), %xmm0
+	pcmpeqb	%xmm1, %xmm0
+	movdqu	32(%r9,%r11), %xmm1
+	pcmpeqb	%xmm2, %xmm1
+	pand	%xmm4, %xmm1
+	movdqu	48(%r9,%r11), %xmm2
+	pcmpeqb	%xmm3, %xmm2
+	pand	%xmm0, %xmm2
+	pand	%xmm1, %xmm2
+	pmovmskb	%xmm2, %ebp
+	cmpl	$65535, %ebp
+	jne	4f
+	addq	$64, %r11
+	addq	$-64, %rbx
+	cmpq	$63, %rbx
+	ja	3b
+4:
+	movq	%r10, %rbx
+	subq	%r11, %rbx
+	cmpq	$8, %rbx
+	jb	6f
+	.p2align	4
+5:
+	movq	(%rsi,%r11), %r14
+	cmpq	(%r9,%r11), %r14
+	jne	6f
+	addq	$8, %r11
+	addq	$-8, %rbx
+	cmpq	$7, %rbx
+	ja	5b
+6:
+	cmpq	%r10, %r11
+	jae	8f
+	.p2align	4
+7:
+	movzbl	(%r9,%r11), %ebx
+	cmpb	%bl, (%rsi,%r11)
+	jne	9f
+	incq	%r11
+	cmpq	%r11, %r10
+	jne	7b
+8:
+	cmpq	%r8, %rdx
+	je	14f
+9:
+	jb	10f
+	incq	%rcx
+	cmpq	%rdi, %rcx
+	jne	2b
+	movq	%rdi, %rcx
+10:
+	shlq	$3, %rcx
+	cmpw	$0, 2(%rax)
+	jne	12f
+	jmp	15f
+	.p2align	4
+11:
+	cmpw	$0, 2(%rax)
+	je	15f
+12:
+	leaq	(%rax,%rcx), %rdi
+	addq	$280, %rdi
+	jmp	1b
+13:
+	xorl	%eax, %eax
+	retq
+14:
+	movzwl	248(%rax,%rcx,2), %eax
+	popq	%rbx
+	popq	%r14
+	popq	%rbp
+	retq
+15:
+	xorl	%eax, %eax
+	popq	%rbx
+	popq	%r14
+	popq	%rbp
+	retq
+16:
+	.size	"mime_text::merging::hidden::weight_of", 16b-"mime_text::merging::hidden::weight_of"
 
 	.text
 	.p2align	4

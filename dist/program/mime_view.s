@@ -12,12 +12,13 @@
 	pushq	%rbx
 	subq	$88, %rsp
 	movq	%rcx, %r9
-	movq	(%rsi), %r8
+	movq	%rdi, 16(%rsp)
+	movq	(%rsi), %rdi
 	movq	8(%rsi), %rax
 	movq	%rax, 32(%rsp)
 	movq	16(%rsi), %r12
 	movl	%edx, %esi
-	movq	8(%r8), %rax
+	movq	8(%rdi), %rax
 	subq	%rsi, %rax
 	setb	%cl
 	cmpq	$4, %rax
@@ -30,7 +31,7 @@
 	movq	%rdx, 40(%r9)
 	testb	%al, %al
 	jne	1f
-	movq	(%r8), %rax
+	movq	(%rdi), %rax
 	movl	(%rax,%rsi), %eax
 	movl	%eax, %ecx
 	bswapl	%ecx
@@ -38,13 +39,14 @@
 	leaq	(%rcx,%rcx,2), %rcx
 	leaq	(%rsi,%rcx,4), %rcx
 	addq	$4, %rcx
-	cmpq	%rcx, 8(%r8)
+	cmpq	%rcx, 8(%rdi)
 	jae	3f
 1:
-	movb	$1, (%rdi)
-	movl	$3, 8(%rdi)
-	movw	$0, 12(%rdi)
-	movq	%rsi, 16(%rdi)
+	movq	16(%rsp), %rax
+	movb	$1, (%rax)
+	movl	$3, 8(%rax)
+	movw	$0, 12(%rax)
+	movq	%rsi, 16(%rax)
 2:
 	addq	$88, %rsp
 	popq	%rbx
@@ -55,7 +57,6 @@
 	popq	%rbp
 	retq
 3:
-	movq	%rdi, 24(%rsp)
 	testl	%eax, %eax
 	je	36f
 	leaq	40(%r9), %rax
@@ -64,24 +65,24 @@
 	movq	%rax, 40(%rsp)
 	xorl	%edx, %edx
 	movq	%rsi, 64(%rsp)
-	movq	%r8, 56(%rsp)
+	movq	%rdi, 56(%rsp)
 	movq	%r9, 8(%rsp)
 	jmp	7f
 4:
 	movq	16(%r9), %rax
 	movq	24(%r9), %rcx
-	movl	%r15d, (%rax,%rcx,4)
+	movl	%ebp, (%rax,%rcx,4)
 	incq	%rcx
 	movq	%rcx, 24(%r9)
 5:
-	movl	%ebx, (%r9)
+	movl	%r15d, (%r9)
 	.p2align	4
 6:
 	movq	80(%rsp), %rdx
 	incq	%rdx
 	cmpq	72(%rsp), %rdx
 	movq	64(%rsp), %rsi
-	movq	56(%rsp), %r8
+	movq	56(%rsp), %rdi
 	je	36f
 7:
 	movq	56(%r9), %rax
@@ -96,17 +97,17 @@
 	cmovneq	%rax, %rcx
 	leaq	(%rdx,%rdx,2), %rax
 	movq	%rcx, 40(%r9)
-	movq	(%r8), %rbp
-	movq	8(%r8), %r12
+	movq	(%rdi), %rbp
+	movq	8(%rdi), %r12
 	leaq	(%rsi,%rbp), %rcx
 	movl	4(%rcx,%rax,4), %ebx
 	bswapl	%ebx
 	subq	%rbx, %r12
 	jbe	38f
 	movl	8(%rcx,%rax,4), %esi
-	movl	%esi, 16(%rsp)
+	movl	%esi, 24(%rsp)
 	movl	12(%rcx,%rax,4), %eax
-	movl	%eax, 20(%rsp)
+	movl	%eax, 28(%rsp)
 	addq	%rbx, %rbp
 	cmpq	$32, %r12
 	movq	%rdx, 80(%rsp)
@@ -151,8 +152,10 @@
 	addq	48(%r9), %rcx
 	movq	$-1, %rax
 	cmovaeq	%rcx, %rax
-	movl	20(%rsp), %ebx
+	movl	28(%rsp), %ebx
 	bswapl	%ebx
+	movl	%ebx, %r15d
+	shrl	$8, %r15d
 	movq	%rax, 48(%r9)
 	movabsq	$1688849862361089, %r10
 	movq	%r14, %r12
@@ -209,19 +212,16 @@
 	shll	$17, %edx
 	movzwl	%r13w, %ecx
 	leal	(%rdx,%rcx,2), %ecx
-	movl	%ebx, %edx
-	shrl	$8, %edx
+	movl	%r15d, %edx
 	andl	$1, %edx
 	orl	%ecx, %edx
 	cmpl	%edx, %eax
 	ja	6b
 18:
-	movl	%ebx, %r15d
-	shrl	$8, %r15d
-	andl	$1, %r15d
+	movzbl	%r15b, %edx
+	andl	$1, %edx
 	movq	%rbp, %rdi
 	movq	%r13, %rsi
-	movl	%r15d, %edx
 	movq	32(%rsp), %rcx
 	movq	%r12, %r8
 	movq	48(%rsp), %r9
@@ -269,15 +269,16 @@
 	orl	%eax, %ecx
 	shll	$17, %ecx
 	movzwl	%r13w, %eax
-	leal	(%rcx,%rax,2), %ebx
-	orl	%r15d, %ebx
+	leal	(%rcx,%rax,2), %eax
+	andl	$1, %r15d
+	orl	%eax, %r15d
 	movl	(%r9), %eax
-	cmpl	%eax, %ebx
+	cmpl	%eax, %r15d
 	jb	6b
-	movzbl	8(%r9), %ebp
-	movl	16(%rsp), %r15d
+	movzbl	8(%r9), %ebx
+	movl	24(%rsp), %ebp
 	jbe	30f
-	testb	%bpl, %bpl
+	testb	%bl, %bl
 	je	28f
 	cmpq	$0, 24(%r9)
 	je	29f
@@ -297,7 +298,7 @@
 	cmpb	$26, %dil
 	movzbl	%r8b, %edi
 	cmovael	%esi, %edi
-	testl	$256, %ebx
+	testb	$1, %r15b
 	cmovnel	%ecx, %edx
 	cmovnel	%esi, %edi
 	cmpb	%dil, %dl
@@ -330,7 +331,7 @@
 	movl	$0, (%r9)
 30:
 	xorl	%eax, %eax
-	testb	%bpl, %bpl
+	testb	%bl, %bl
 	sete	%al
 	movq	24(%r9,%rax,8), %rax
 	je	33f
@@ -338,12 +339,12 @@
 	cmpq	%rcx, %rax
 	je	34f
 31:
-	bswapl	%r15d
-	testb	%bpl, %bpl
+	bswapl	%ebp
+	testb	%bl, %bl
 	jne	4b
 32:
 	movq	32(%r9), %rax
-	movl	%r15d, 16(%r9,%rax,4)
+	movl	%ebp, 16(%r9,%rax,4)
 	incq	%rax
 	movq	%rax, 32(%r9)
 	jmp	5b
@@ -357,17 +358,17 @@
 	callq	"smallvec::small_vec::SmallVec::reserve_one::<#bc37e6e66b18402c>"
 	testb	%al, %al
 	jne	41f
-	movzbl	8(%r14), %ebp
+	movzbl	8(%r14), %ebx
 	movq	%r14, %r9
-	bswapl	%r15d
-	testb	%bpl, %bpl
+	bswapl	%ebp
+	testb	%bl, %bl
 	jne	4b
 	jmp	32b
 35:
 	movl	$256, %eax
 	jmp	23b
 36:
-	movq	24(%rsp), %rax
+	movq	16(%rsp), %rax
 	movb	$0, (%rax)
 	movl	$0, 8(%rax)
 	movw	$0, 12(%rax)
@@ -390,7 +391,7 @@
 	movw	$4, %ax
 	sbbw	$0, %ax
 40:
-	movq	24(%rsp), %rcx
+	movq	16(%rsp), %rcx
 	movb	$1, (%rcx)
 	movw	%ax, 8(%rcx)
 	movl	$0, 10(%rcx)
