@@ -1086,6 +1086,336 @@
 
 	.text
 	.p2align	4
+	.type	"mime_view::magic::sniff",@function
+"mime_view::magic::sniff":
+	pushq	%rbp
+	pushq	%r15
+	pushq	%r14
+	pushq	%r13
+	pushq	%r12
+	pushq	%rbx
+	subq	$136, %rsp
+	movq	%rsi, %r12
+	movq	(%rcx), %r9
+	movq	8(%rcx), %r11
+	movq	16(%rcx), %r13
+	movq	24(%rcx), %r14
+	movq	(%rsi), %r8
+	movl	%edx, %r15d
+	movq	8(%r8), %rax
+	movq	%rax, %rdx
+	subq	%r15, %rdx
+	setb	%sil
+	cmpq	$12, %rdx
+	setb	%dl
+	orb	%sil, %dl
+	incq	%r9
+	movq	$-1, %rbx
+	cmovneq	%r9, %rbx
+	pxor	%xmm0, %xmm0
+	movw	$3, %si
+	movl	$1, %r9d
+	testb	%dl, %dl
+	je	1f
+	xorl	%r8d, %r8d
+	xorl	%edx, %edx
+	jmp	22f
+1:
+	movq	(%r8), %rdx
+	movl	(%rdx,%r15), %r10d
+	testl	%r10d, %r10d
+	je	2f
+	movl	8(%rdx,%r15), %ebp
+	bswapl	%r10d
+	bswapl	%ebp
+	movq	%r10, %rdx
+	shlq	$4, %rdx
+	addq	%rbp, %rdx
+	cmpq	%rdx, %rax
+	jae	3f
+	xorl	%r8d, %r8d
+	movq	%rbp, %r15
+	xorl	%edx, %edx
+	jmp	22f
+2:
+	xorl	%r15d, %r15d
+	xorl	%r8d, %r8d
+	xorl	%edx, %edx
+	xorl	%r9d, %r9d
+	xorl	%esi, %esi
+	jmp	22f
+3:
+	movq	$0, 24(%rsp)
+	movq	%r14, %rax
+	movq	%rdi, 16(%rsp)
+	movq	%rcx, 8(%rsp)
+	movq	%r12, 32(%rsp)
+	movq	%r10, 128(%rsp)
+	movq	%rbp, 120(%rsp)
+4:
+	pxor	%xmm0, %xmm0
+	xorl	%r8d, %r8d
+	testq	%r13, %r13
+	je	19f
+	movq	24(%rsp), %rdx
+	shlq	$4, %rdx
+	decq	%r13
+	movq	(%r12), %r8
+	incq	%rbx
+	movq	$-1, %rcx
+	cmovneq	%rbx, %rcx
+	movq	(%r8), %rsi
+	addq	%rbp, %rsi
+	movl	8(%rdx,%rsi), %ebp
+	testl	%ebp, %ebp
+	je	9f
+	bswapl	%ebp
+	movl	12(%rdx,%rsi), %r15d
+	bswapl	%r15d
+	movq	%rbp, %rdi
+	shlq	$5, %rdi
+	addq	%r15, %rdi
+	cmpq	%rdi, 8(%r8)
+	jb	23f
+	movq	%r8, 112(%rsp)
+	movl	(%rdx,%rsi), %edi
+	movl	%edi, 40(%rsp)
+	movl	4(%rdx,%rsi), %edx
+	movl	%edx, 44(%rsp)
+	.p2align	4
+5:
+	testq	%r13, %r13
+	je	6f
+	movq	(%r12), %rdi
+	movq	%rcx, %rdx
+	incq	%rdx
+	movq	$-1, %rbx
+	cmovneq	%rdx, %rbx
+	movq	(%rdi), %rdx
+	movl	12(%rdx,%r15), %esi
+	movl	%esi, %r8d
+	bswapl	%r8d
+	movq	%rax, %r14
+	subq	%r8, %r14
+	jae	8f
+6:
+	pxor	%xmm0, %xmm0
+	movdqa	%xmm0, 48(%rsp)
+	movq	$0, 64(%rsp)
+	movq	%rcx, 80(%rsp)
+	movq	%r11, 88(%rsp)
+	movq	%r13, 96(%rsp)
+	movq	%rax, 104(%rsp)
+	leaq	48(%rsp), %rdi
+	leaq	80(%rsp), %r8
+	movq	%r12, %rsi
+	movq	%r15, %rdx
+	xorl	%ecx, %ecx
+	callq	"mime_view::magic::whole_line_holds"
+	movq	80(%rsp), %rbx
+	movq	88(%rsp), %r11
+	movq	96(%rsp), %r13
+	movq	104(%rsp), %r14
+	cmpb	$0, 48(%rsp)
+	jne	11f
+	testb	$1, 49(%rsp)
+	jne	12f
+7:
+	addq	$32, %r15
+	movq	%rbx, %rcx
+	movq	%r14, %rax
+	decq	%rbp
+	jne	5b
+	jmp	10f
+	.p2align	4
+8:
+	cmpl	$16777216, 4(%rdx,%r15)
+	jne	6b
+	cmpl	$0, 20(%rdx,%r15)
+	jne	6b
+	movl	(%rdx,%r15), %r9d
+	bswapl	%r9d
+	leaq	(%r9,%r8), %r10
+	cmpq	%r10, 16(%r12)
+	jb	6b
+	movq	%r11, %r12
+	movl	16(%rdx,%r15), %r11d
+	bswapl	%r11d
+	movq	8(%rdi), %r10
+	movl	%r11d, %edi
+	movq	%r12, %r11
+	movq	32(%rsp), %r12
+	subq	%rdi, %r10
+	jb	6b
+	cmpq	%r8, %r10
+	jb	6b
+	testl	%esi, %esi
+	sete	%sil
+	cmpl	$16777216, 8(%rdx,%r15)
+	setne	%r8b
+	orb	%sil, %r8b
+	jne	6b
+	movq	8(%r12), %rsi
+	movzbl	(%rsi,%r9), %esi
+	cmpb	(%rdx,%rdi), %sil
+	je	6b
+	decq	%r13
+	incq	%r11
+	movq	$-1, %rax
+	cmoveq	%rax, %r11
+	jmp	7b
+9:
+	movq	%rax, %r14
+	movq	%rcx, %rbx
+10:
+	movq	24(%rsp), %rdi
+	incq	%rdi
+	pxor	%xmm0, %xmm0
+	xorl	%r15d, %r15d
+	movq	%r14, %rax
+	movl	$0, %r8d
+	movl	$0, %edx
+	movl	$0, %r9d
+	movl	$0, %esi
+	movq	128(%rsp), %r10
+	movq	%rdi, 24(%rsp)
+	cmpq	%r10, %rdi
+	movq	16(%rsp), %rdi
+	movq	8(%rsp), %rcx
+	movq	120(%rsp), %rbp
+	jne	4b
+	jmp	22f
+11:
+	movzbl	56(%rsp), %edx
+	movss	58(%rsp), %xmm0
+	movq	64(%rsp), %r15
+	movq	%r14, %rax
+	movq	16(%rsp), %rdi
+	movq	8(%rsp), %rcx
+	xorl	%r8d, %r8d
+	jmp	21f
+12:
+	movl	44(%rsp), %eax
+	movl	%eax, %r15d
+	bswapl	%r15d
+	movq	112(%rsp), %rax
+	movq	8(%rax), %rbp
+	pxor	%xmm0, %xmm0
+	subq	%r15, %rbp
+	jbe	14f
+	movq	(%rax), %rsi
+	addq	%r15, %rsi
+	cmpq	$32, %rbp
+	jae	16f
+13:
+	movq	%r11, 24(%rsp)
+	cmpq	$256, %rbp
+	movl	$256, %r12d
+	cmovbq	%rbp, %r12
+	xorl	%edi, %edi
+	movq	%rsi, 32(%rsp)
+	movq	%r12, %rdx
+	callq	"memchr::bytes::memchr"
+	cmpb	$1, %al
+	jne	20f
+	movq	%rdx, %rax
+	incq	%rax
+	addq	24(%rsp), %rax
+	movq	$-1, %r11
+	cmovaeq	%rax, %r11
+	movq	32(%rsp), %rsi
+	jmp	18f
+14:
+	movq	%r14, %rax
+15:
+	movq	16(%rsp), %rdi
+	movq	8(%rsp), %rcx
+	xorl	%r8d, %r8d
+	movb	$3, %dl
+	jmp	21f
+16:
+	movdqu	(%rsi), %xmm1
+	pcmpeqb	%xmm0, %xmm1
+	pmovmskb	%xmm1, %ecx
+	movl	$64, %eax
+	movl	$64, %edx
+	rep		bsfq	%rcx, %rdx
+	cmpq	$16, %rdx
+	jb	17f
+	movdqu	16(%rsi), %xmm1
+	pcmpeqb	%xmm0, %xmm1
+	pmovmskb	%xmm1, %ecx
+	rep		bsfq	%rcx, %rax
+	cmpq	$15, %rax
+	ja	13b
+	orq	$16, %rax
+	movq	%rax, %rdx
+17:
+	leaq	1(%rdx), %rax
+	addq	%r11, %rax
+	movq	$-1, %r11
+	cmovaeq	%rax, %r11
+18:
+	movl	40(%rsp), %eax
+	bswapl	%eax
+	pxor	%xmm0, %xmm0
+	xorl	%r9d, %r9d
+	movq	%rsi, %r15
+	movw	$1, %si
+	movl	%eax, %r8d
+	movq	16(%rsp), %rdi
+	movq	8(%rsp), %rcx
+	jmp	22f
+19:
+	movb	$5, %dl
+	xorl	%r15d, %r15d
+	xorl	%r13d, %r13d
+	jmp	21f
+20:
+	addq	24(%rsp), %r12
+	movq	$-1, %r11
+	cmovaeq	%r12, %r11
+	cmpq	$256, %rbp
+	movb	$4, %dl
+	sbbb	$0, %dl
+	movq	%r14, %rax
+	movq	16(%rsp), %rdi
+	movq	8(%rsp), %rcx
+	xorl	%r8d, %r8d
+	pxor	%xmm0, %xmm0
+21:
+	movzbl	%dl, %esi
+	xorl	%edx, %edx
+	movq	%rax, %r14
+	movl	$1, %r9d
+22:
+	movq	%rbx, (%rcx)
+	movq	%r11, 8(%rcx)
+	movq	%r13, 16(%rcx)
+	movq	%r14, 24(%rcx)
+	movq	%r9, (%rdi)
+	movw	%si, 8(%rdi)
+	movd	%xmm0, 10(%rdi)
+	movq	%r15, 16(%rdi)
+	movq	%rdx, 24(%rdi)
+	movl	%r8d, 32(%rdi)
+	movl	$0, 36(%rdi)
+	addq	$136, %rsp
+	popq	%rbx
+	popq	%r12
+	popq	%r13
+	popq	%r14
+	popq	%r15
+	popq	%rbp
+	retq
+23:
+	movq	%rcx, %rbx
+	jmp	15b
+24:
+	.size	"mime_view::magic::sniff", 24b-"mime_view::magic::sniff"
+
+	.text
+	.p2align	4
 	.type	"mime_view::magic::some_child_holds",@function
 "mime_view::magic::some_child_holds":
 	pushq	%rbp

@@ -40,6 +40,8 @@ pub struct MagicQuery<'q, 'a> {
 }
 
 /// The type and the priority of the first section with a top line that holds, by the magic list at `at`.
+// In code of its own, so that its loops have the registers, whatever the caller keeps in some.
+#[inline(never)]
 pub fn sniff<'a>(
     query: &MagicQuery<'_, 'a>,
     at: u32,
