@@ -172,9 +172,9 @@ fn is_answered(rt: &impl Abort, alloc: Global, row: &Row) {
         &mut out,
         &mut err,
     );
+    alike(rt, row.name, status, row.status);
     alike(rt, row.name, err.as_slice(), row.err);
     alike(rt, row.name, out.as_slice(), row.out);
-    alike(rt, row.name, status, row.status);
 }
 
 #[test]
