@@ -26,6 +26,11 @@
 extern "C" {
 #endif
 
+/* The version of this header, which is the library's: a later one of the same major number keeps what this one declares. */
+#define MIMELOOK_VERSION_MAJOR 1
+#define MIMELOOK_VERSION_MINOR 0
+#define MIMELOOK_VERSION_PATCH 0
+
 /* How a call ended. */
 enum mimelook_status {
     MIMELOOK_ANSWERED = 0,

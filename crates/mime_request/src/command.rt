@@ -18,7 +18,7 @@ use texts::{
 };
 
 /// What `mimelook --version` prints after the program's name.
-const VERSION: &str = "0.1.0";
+const VERSION: &str = "1.0.0";
 
 fn with_help<'a>(command: Command<'a>, texts: HelpTexts<'a>) -> Command<'a>
     ensures app { app_of result ≡ app_of command.entry }

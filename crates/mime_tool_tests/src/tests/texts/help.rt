@@ -115,7 +115,7 @@ Example:
   notes.txt: text/plain
 ";
 
-const VERSION: &str = "mimelook 0.1.0\n";
+const VERSION: &str = "mimelook 1.0.0\n";
 
 static HELPS: [Row<'static>; 6] = [
     Row {
