@@ -33,6 +33,8 @@ SELF_CHILD = bytes.fromhex("""
 """)
 # how many of a list's entries are asked for, and the most bytes of caches in one run of the program
 ASKED, BATCH = 4, 1 << 26
+# a lookup in each order
+LOOKUP_ORDERS = (b"type", b"type-magic-first", b"type-all-globs", b"type-content-only")
 
 
 # lines of magic with masks, words and children, and names of the greatest length
@@ -112,12 +114,12 @@ def questions_of(cache):
         *(b"unalias " + kind for kind in dict.fromkeys([*names_in(reader, ALIASES), b"t/g", b"x/none", b"a" * 300])),
         *(call + kind for kind in dict.fromkeys(kinds) for call in (b"parents ", b"icon ", b"generic ")),
         *(call + content.hex().encode() for content in dict.fromkeys(contents) for call in (b"sniff ", b"sniff-big ")),
-        *(b"hits " + name for name in dict.fromkeys([*names, *map(bytes.upper, names), b"", b"\0z", b"a\0.gz", b"a\0", b"z" * 300])),
+        *(call + name for name in dict.fromkeys([*names, *map(bytes.upper, names), b"", b"\0z", b"a\0.gz", b"a\0", b"z" * 300]) for call in (b"hits ", b"candidates ")),
     ]
 
 
 def lookups_of(cache):
-    """Lookups of names and contents in both orders, of names that several rules match, and of types, in an undamaged cache."""
+    """Lookups of names and contents in each order, of names that several rules match, and of types, in an undamaged cache."""
     reader = Reader(cache)
     kinds = list(dict.fromkeys([*names_in(reader, ALIASES), *names_in(reader, PARENTS), *names_in(reader, ICONS), b"t/g"]))
     patterns = [pattern for _, _, pattern in reader.rules()]
@@ -126,7 +128,7 @@ def lookups_of(cache):
     contents = spread(content.hex().encode() for content in (*contents_for(reader), b"", b"text\n", bytes(300)))
     asked = [*((b"-", name) for name in names), *((content, b"\1") for content in contents), *itertools.product(contents[:2], names[-2:])]
     return [
-        *(b" ".join((call, *words)) for words in dict.fromkeys(asked) for call in (b"type", b"type-magic-first")),
+        *(b" ".join((call, *words)) for words in dict.fromkeys(asked) for call in LOOKUP_ORDERS),
         *(b"isa %s %s" % pair for pair in itertools.product(kinds, (*kinds[-1:], b"text/plain", b"x/none"))),
         *(b"icons " + kind for kind in kinds),
     ]

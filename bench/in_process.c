@@ -31,15 +31,15 @@ static size_t cache_length;
 static bool are_names, is_told;
 
 static void ask_mimelook(const unsigned char *item, size_t length) {
-    mimelook_text type = MIMELOOK_NO_TEXT;
+    mimelook_answer answer = MIMELOOK_NO_ANSWER;
     mimelook_report report = are_names
-        ? mimelook_look_up(cache, cache_length, item, length, NULL, 0, false, false, &type)
-        : mimelook_look_up(cache, cache_length, (const uint8_t *)"x", 1, item, length, true, false, &type);
+        ? mimelook_look_up(cache, cache_length, item, length, NULL, 0, MIMELOOK_GLOBS_FIRST, &answer)
+        : mimelook_look_up(cache, cache_length, (const uint8_t *)"x", 1, item, length, MIMELOOK_GLOBS_FIRST, &answer);
     if (report.status != MIMELOOK_ANSWERED) {
         exit(1);
     }
     if (is_told) {
-        printf("%.*s\n", (int)type.length, (const char *)type.at);
+        printf("%.*s\n", (int)answer.type.length, (const char *)answer.type.at);
     }
 }
 

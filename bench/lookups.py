@@ -7,7 +7,7 @@ from reader import Reader, Refused, shown
 
 LONGEST_NAME, HIGH_PRIORITY, SHORTEST_FRONT = 4096, 80, 128
 OCTET_STREAM, TEXT_PLAIN, ZERO_SIZE = b"application/octet-stream", b"text/plain", b"application/x-zerosize"
-LOOKUPS = ("type", "type-magic-first", "isa", "icons")
+LOOKUPS = ("type", "type-magic-first", "type-all-globs", "type-content-only", "isa", "icons")
 
 
 def is_type_name(text):
@@ -33,19 +33,28 @@ class Lookup(Reader):
         self.read = 0
         super().__init__(cache)
 
-    def kind_of(self, name, content, is_magic_first):
+    def kind_of(self, name, content, order):
         found = None
-        if is_magic_first and content is not None:
+        if order == "content-only" or order == "magic-first" and content is not None:
             found = self.found_in(content)
-            if found[1] is not None and found[1] >= HIGH_PRIORITY:
-                return self.unalias(found[0])
-        kinds = [self.unalias(kind) for kind in self.glob_hits(name)]
+            if order == "content-only" or found[1] is not None and found[1] >= HIGH_PRIORITY:
+                return self.resolved(*found)
+        types, kept = self.candidates(name) if order == "all-globs" else (self.glob_hits(name), None)
+        kinds = [self.unalias(kind) for kind in types]
         if len(set(kinds)) == 1:
             return kinds[0]
-        kind, priority = found or self.found_in(content)
-        sniffed = kind if priority is None else self.unalias(kind)
+        found = found or self.found_in(content)
+        sniffed = self.resolved(*found)
+        # where no section of magic holds, those that are kept are asked alone
+        asked = kinds if found[1] is not None else kinds[:kept]
+        if len(set(asked)) == 1:
+            return asked[0]
         marks = set()
-        return next((kind for kind in kinds if self.leads_to(kind, sniffed, marks)), kinds[0]) if kinds else sniffed
+        return next((kind for kind in asked if self.leads_to(kind, sniffed, marks)), kinds[0]) if kinds else sniffed
+
+    def resolved(self, kind, priority):
+        """What was found in a content after its alias step; a type by the bytes alone has none."""
+        return kind if priority is None else self.unalias(kind)
 
     def found_in(self, content):
         """A content's type before its alias step, and the priority of its section, or None where its bytes alone give the type."""
@@ -82,7 +91,7 @@ def answered(lookup, call, word):
     if call == "icons":
         return " ".join(map(shown, lookup.icons_of(word)))
     content, _, name = word.partition(b" ")
-    return shown(lookup.kind_of(name, None if content == b"-" else bytes.fromhex(content.decode()), call == "type-magic-first"))
+    return shown(lookup.kind_of(name, None if content == b"-" else bytes.fromhex(content.decode()), call.removeprefix("type").removeprefix("-")))
 
 
 def bounds(name, cache, read):

@@ -12,6 +12,8 @@ LITERAL, SUFFIX, FULL = range(3)
 CASED = 0x100
 LEVELS = 64
 CHARACTERS = 254
+# by which one hit is preferred to another, one after another: its class, weight, length and flag
+PREFERENCES = (lambda hit: -hit[0], lambda hit: hit[1] & 0xFF, lambda hit: hit[2], lambda hit: hit[1] & CASED)
 ALIASES, PARENTS, LITERALS, TREE, GLOBS, MAGIC, NAMESPACES, ICONS, GENERIC_ICONS = range(9)
 
 # The rules have a search for the name and then one for the folded name. The program makes one search where folding leaves the
@@ -275,6 +277,24 @@ class Reader:
 
     def glob_hits(self, name):
         """The types of the kept hits, in the order in which they were met."""
+        return [self.text(kind) for *_, kind in self.kept(self.all_hits(name))]
+
+    def candidates(self, name):
+        """The types of all hits, the preferred first, else in the order in which they were met, and how many of them are kept."""
+        hits = self.all_hits(name)
+        by_preference = sorted(hits, key=lambda hit: tuple(-preferred(hit) for preferred in PREFERENCES))
+        return [self.text(kind) for *_, kind in by_preference], len(self.kept(hits))
+
+    @staticmethod
+    def kept(hits):
+        """Those that are preferred by each of the preferences in turn."""
+        for preferred in PREFERENCES:
+            most = max(map(preferred, hits), default=0)
+            hits = [hit for hit in hits if preferred(hit) == most]
+        return hits
+
+    def all_hits(self, name):
+        """Class, weight and flags, length and type of each rule that matches, in the order in which they are met."""
         folded, hits = fold(name), []
         searches = [(name, [CASED]), (folded, [0])]
         if ONE_SEARCH_FOR_BOTH and folded == name:
@@ -284,11 +304,7 @@ class Reader:
         roots = self.numbers(self.lists[TREE], 2)
         for key, flags in searches:
             hits += self.tree_hits(roots, key, flags)
-        hits += self.list_hits(name)
-        for preferred in (lambda hit: -hit[0], lambda hit: hit[1] & 0xFF, lambda hit: hit[2], lambda hit: hit[1] & CASED):
-            most = max(map(preferred, hits), default=0)
-            hits = [hit for hit in hits if preferred(hit) == most]
-        return [self.text(kind) for *_, kind in hits]
+        return hits + self.list_hits(name)
 
     def literal_hits(self, key, taken):
         """Entries of the literal list that equal the key, with one of these flags: class, weight and flags, length, type."""
@@ -379,7 +395,7 @@ class Reader:
 # a question's answer as a line, and what the program's meter may say of it
 
 SEARCHES = {"unalias": 1, "icon": 1, "generic": 1, "parents": 2}
-BESIDES = {"open": 1, "extent": 4, "sniff": 4, "sniff-big": 4, "hits": 4, "rules": 4}
+BESIDES = {"open": 1, "extent": 4, "sniff": 4, "sniff-big": 4, "hits": 4, "candidates": 4, "rules": 4}
 
 
 def shown(text):
@@ -416,6 +432,9 @@ def shown_answer(reader, call, word):
         return f"{shown(found[0])} {found[1]}" if found else "none"
     if call == "hits":
         return "hits:" + all_shown(reader.glob_hits(word))
+    if call == "candidates":
+        types, kept = reader.candidates(word)
+        return f"{kept} of:{all_shown(types)}"
     rules = reader.rules()
     return "rules:" + "".join(f" {flags & 0xFF}:{shown(kind)}:{shown(text)}{':cs' if flags & CASED else ''}" for flags, kind, text in rules)
 
@@ -461,7 +480,7 @@ class Expected:
 
 def promised(call, word, records, values):
     """The most nodes and bytes that a call may count that took so many records and value bytes."""
-    searches = 2 * len(word) + 2 if call == "hits" else SEARCHES.get(call, 0)
+    searches = 2 * len(word) + 2 if call in ("hits", "candidates") else SEARCHES.get(call, 0)
     nodes = 29 * searches + 2 * records + BESIDES.get(call, 0)
-    more = 256 * (len(word) + 1) * records if call == "hits" else (len(word) // 2 + 1) * values if call.startswith("sniff") else 0
+    more = 256 * (len(word) + 1) * records if call in ("hits", "candidates") else (len(word) // 2 + 1) * values if call.startswith("sniff") else 0
     return nodes, 256 * nodes + more

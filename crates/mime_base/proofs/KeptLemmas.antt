@@ -7,6 +7,7 @@ pub mod Spellings
 pub mod ByText
 pub mod Lesser
 pub mod Hidden
+pub mod Twins
 pub mod Candidates
 use Rattle.std.proofs.Common.{◌≡◌, ℕ, ◌+◌, ◌*◌, ◌<◌, ◌≤◌, Bool, true, false, cond, ◌&&◌, ◌||◌, ◌==◌, nat_lt, List, []}
 use Rattle.std.proofs.Common.{◌∷◌, length, get_or, max, refl, sym, ap, ◌∙◌, arith}

@@ -4,6 +4,8 @@ pub mod Rows
 pub mod CandidateRows
 pub mod Hidden
 pub mod HiddenRows
+pub mod Twins
+pub mod TwinRows
 use Rattle.std.specs.Prelude.{◌≡◌, ℕ, ◌+◌, ◌*◌, ◌<◌, Bool, false, ◌&&◌, ◌||◌, ◌==◌, if◌then◌else◌, List, [], ◌∷◌, length, take, max, filter, All}
 use Rattle.mime_base.specs.Falling.{falling}
 use Rattle.mime_base.specs.Matching.Elements.{is_literal_text}

@@ -8,6 +8,7 @@
 
 pub mod class;
 pub mod hidden;
+pub mod twins;
 
 ghost use Rattle.std.specs.Prelude.{◌≡◌, ℕ, ◌+◌, ◌≤◌, nat_le, List, [], ◌∷◌, ◌++◌, length, map, OnOk, OnErr};
 ghost use Rattle.std.specs.List.{list_all};

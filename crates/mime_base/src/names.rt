@@ -238,8 +238,11 @@ fn has_inner_slash(bytes: &[u8]) -> bool
     bytes.contains(&b'/') && bytes[0] != b'/' && bytes[bytes.len() - 1] != b'/'
 }
 
+/// Whether the bytes are a type's name: 3 to 255 bytes above the space, none of them a colon, with a `/` that is neither the
+/// first nor the last.
 #[tactic(auto, unfolding(crate::specs::Names::is_type_name))]
-fn is_type_name(bytes: &[u8]) -> bool
+pub fn is_type_name(bytes: &[u8]) -> bool
+    // It says whether they keep these limits.
     ensures { result ≡ is_type_name bytes.now }
 {
     SHORTEST_TYPE_NAME <= bytes.len()

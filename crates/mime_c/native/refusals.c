@@ -36,28 +36,23 @@ void __wrap_free(void *block) {
 /* A call over the sample, and whether it left what it was given as it was. */
 typedef mimelook_report call(bool *is_left);
 
-static mimelook_report by_name(bool *is_left) {
-    static const uint8_t before[] = "before";
-    mimelook_text type = {before, 6};
-    mimelook_report report = mimelook_look_up(SAMPLE, sizeof SAMPLE, bytes_of("A.GZ"), 4, NULL, 0, false, false, &type);
-    *is_left = type.at == before && type.length == 6;
+static const uint8_t before[] = "before";
+
+/* A lookup, and whether the answer is as it was. */
+static mimelook_report looked_up(const char *name, const char *content, size_t length, uint32_t order, bool *is_left) {
+    mimelook_answer answer = {{before, 6}, 77, {7, 7, 7}};
+    mimelook_report report = mimelook_look_up(SAMPLE, sizeof SAMPLE, bytes_of(name), strlen(name), bytes_of(content), length, order,
+        &answer);
+    *is_left = answer.type.at == before && answer.type.length == 6 && answer.wanted == 77 && answer.spare[0] == 7;
     return report;
+}
+
+static mimelook_report by_name(bool *is_left) {
+    return looked_up("A.GZ", NULL, 0, MIMELOOK_GLOBS_FIRST, is_left);
 }
 
 static mimelook_report by_content(bool *is_left) {
-    static const uint8_t before[] = "before";
-    mimelook_text type = {before, 6};
-    mimelook_report report =
-        mimelook_look_up(SAMPLE, sizeof SAMPLE, bytes_of("x"), 1, bytes_of("\x1f\x8b\x08"), 3, true, true, &type);
-    *is_left = type.at == before && type.length == 6;
-    return report;
-}
-
-static mimelook_report wanted(bool *is_left) {
-    uint64_t size = 77;
-    mimelook_report report = mimelook_wanted(SAMPLE, sizeof SAMPLE, bytes_of("A.GZ"), 4, false, &size);
-    *is_left = size == 77;
-    return report;
+    return looked_up("x", "\x1f\x8b\x08", 3, MIMELOOK_MAGIC_FIRST, is_left);
 }
 
 static mimelook_report is_a(bool *is_left) {
@@ -74,6 +69,47 @@ static mimelook_report icons(bool *is_left) {
         sizeof generic, &lengths);
     *is_left = icon[0] == 'b' && generic[0] == 'b' && lengths.icon == 77 && lengths.generic == 77;
     return report;
+}
+
+static mimelook_report parents(bool *is_left) {
+    static const uint8_t before[] = "before";
+    static const uint32_t numbers[] = {3, MK, T_M, T_H};
+    uint8_t cache[sizeof SAMPLE + sizeof numbers];
+    lead_to(cache, 0x3c, numbers, 4);
+    mimelook_text parent = {before, 6};
+    size_t count = 77;
+    mimelook_report report = mimelook_parents(cache, sizeof cache, bytes_of("t/g"), 3, &parent, 1, &count);
+    *is_left = parent.at == before && parent.length == 6 && count == 77;
+    return report;
+}
+
+/* The status of a merging, as a report. */
+static mimelook_report merge(bool *is_left) {
+    static const char globs2[] = "50:t/m:mk\n60:t/z:*.z\n70:t/y:[ab]*.y\n", aliases[] = "t/h t/g\n", icons[] = "t/g:lens\n";
+    static const char magic[] = "MIME-Magic\0\n[40:t/g]\n>0=\0\2\x1f\x8b&\xff\xff\n1>4=\0\1x\n";
+    mimelook_text text = {bytes_of(aliases), sizeof aliases - 1}, icon = {bytes_of(icons), sizeof icons - 1};
+    mimelook_directory directory = {{bytes_of(globs2), sizeof globs2 - 1}, {bytes_of(magic), sizeof magic - 1}, text, text, icon, icon};
+    uint8_t cache[1024] = "before";
+    size_t length = 77;
+    mimelook_merge_report report = mimelook_merge(&directory, 1, cache, sizeof cache, &length);
+    *is_left = cache[0] == 'b' && length == 77;
+    return (mimelook_report){.status = report.status};
+}
+
+/* Calls that take no memory: they answer where all of it is refused. */
+static void take_none(void) {
+    static mimelook_text text, other;
+    static mimelook_sniffed sniffed;
+    uint64_t extent;
+    made = 0;
+    refused = 1;
+    are_all_after = true;
+    CHECK(mimelook_unalias(SAMPLE, sizeof SAMPLE, bytes_of("t/h"), 3, &text).status == MIMELOOK_ANSWERED);
+    CHECK(mimelook_listed_icons(SAMPLE, sizeof SAMPLE, bytes_of("t/h"), 3, &text, &other).status == MIMELOOK_ANSWERED);
+    CHECK(mimelook_extent(SAMPLE, sizeof SAMPLE, &extent).status == MIMELOOK_ANSWERED);
+    CHECK(mimelook_sniff(SAMPLE, sizeof SAMPLE, bytes_of("\x1f\x8b\x08"), 3, &sniffed).status == MIMELOOK_ANSWERED);
+    CHECK(mimelook_is_type_name(bytes_of("t/h"), 3) && made == 0);
+    refused = 0;
 }
 
 static void refuse_in_turn(const char *what, call *ask) {
@@ -97,8 +133,10 @@ static void refuse_in_turn(const char *what, call *ask) {
 int main(void) {
     refuse_in_turn("look_up by name", by_name);
     refuse_in_turn("look_up by content", by_content);
-    refuse_in_turn("wanted", wanted);
     refuse_in_turn("is_a", is_a);
     refuse_in_turn("icons", icons);
+    refuse_in_turn("parents", parents);
+    refuse_in_turn("merge", merge);
+    take_none();
     return told();
 }

@@ -5,11 +5,11 @@
 enum { THREADS = 4, TURNS = 5000 };
 
 static bool is_type(const char *name, const char *content, const char *expected) {
-    mimelook_text type = MIMELOOK_NO_TEXT;
+    mimelook_answer answer = MIMELOOK_NO_ANSWER;
     size_t size = content != NULL ? strlen(content) : 0;
     mimelook_report report = mimelook_look_up(SAMPLE, sizeof SAMPLE, bytes_of(name), strlen(name), bytes_of(content), size,
-        content != NULL, false, &type);
-    return report.status == MIMELOOK_ANSWERED && is_text(type, expected);
+        MIMELOOK_GLOBS_FIRST, &answer);
+    return report.status == MIMELOOK_ANSWERED && is_text(answer.type, expected);
 }
 
 static void *ask(void *answered) {

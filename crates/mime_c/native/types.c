@@ -1,4 +1,4 @@
-/* What is asked of types, and how much of a content is wanted: with each status, and what stays as it was. */
+/* What is asked of types: with each status, and what stays as it was. */
 #include "asked.h"
 
 #define CUT_HEADER 40
@@ -56,35 +56,8 @@ static void icons_of_types(void) {
     CHECK(lengths.icon == 255 && lengths.generic == 263);
 }
 
-static uint64_t wanted(const uint8_t *cache, size_t length, const char *name, bool magic_first, uint32_t status, uint64_t at) {
-    uint64_t size = 77;
-    mimelook_report report = mimelook_wanted(cache, length, bytes_of(name), strlen(name), magic_first, &size);
-    CHECK(report.status == status && report.at == at && report.read == 0);
-    return size;
-}
-
-static void fronts_that_are_wanted(void) {
-    CHECK(wanted(SAMPLE, sizeof SAMPLE, "mk", false, MIMELOOK_ANSWERED, 0) == 0);
-    CHECK(wanted(SAMPLE, sizeof SAMPLE, "A.GZ", false, MIMELOOK_ANSWERED, 0) == 0);
-    CHECK(wanted(SAMPLE, sizeof SAMPLE, "x", false, MIMELOOK_ANSWERED, 0) == 128);
-    CHECK(wanted(SAMPLE, sizeof SAMPLE, "mk", true, MIMELOOK_ANSWERED, 0) == 128);
-    CHECK(wanted(SAMPLE, 39, "mk", false, MIMELOOK_TRUNCATED, 0) == 77);
-    CHECK(wanted(SAMPLE, CUT_HEADER, "mk", false, MIMELOOK_OUT_OF_RANGE, 72) == 77);
-    uint8_t cache[sizeof SAMPLE];
-    memcpy(cache, SAMPLE, sizeof SAMPLE);
-    cache[154] = 1;
-    cache[155] = 44;
-    CHECK(wanted(cache, sizeof cache, "x", false, MIMELOOK_ANSWERED, 0) == 300);
-    char name[4098];
-    memset(name, 'a', 4097);
-    name[4097] = '\0';
-    CHECK(wanted(SAMPLE, sizeof SAMPLE, name, false, MIMELOOK_NAME_TOO_LONG, 0) == 77);
-    CHECK(wanted(SAMPLE, sizeof SAMPLE, name + 1, false, MIMELOOK_ANSWERED, 0) == 128);
-}
-
 int main(void) {
     subclasses();
     icons_of_types();
-    fronts_that_are_wanted();
     return told();
 }

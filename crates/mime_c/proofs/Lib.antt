@@ -1,2 +1,3 @@
-pub mod Outcomes
 pub mod Slices
+pub mod ParentSteps
+pub mod Writing

@@ -1,8 +1,15 @@
 pub mod Status
 pub mod Report
 pub mod Check
+pub mod Order
 pub mod LookUp
 pub mod Headline
 pub mod IsA
 pub mod Icons
-pub mod Wanted
+pub mod Reader
+pub mod Unalias
+pub mod Extent
+pub mod ListedIcons
+pub mod Parents
+pub mod Sniff
+pub mod Merge

@@ -1,5 +1,5 @@
 -- What C gets of a call: a status, a fault's place, and what the call took.
-use Rattle.std.specs.Prelude.{◌≡◌, ℕ}
+use Rattle.std.specs.Prelude.{◌≡◌, ℕ, List, [], ◌∷◌}
 use Rattle.mime_base.specs.declared.meter.Meter.{Meter}
 use Rattle.mime_c.specs.Status.{status_long_text, status_name_too_long, status_out_of_memory, status_out_of_range}
 use Rattle.mime_c.specs.Status.{status_spent, status_too_deep, status_too_large, status_truncated, status_version}
@@ -9,10 +9,14 @@ use Rattle.mime_lookup.specs.declared.stopped.Cause.TheVariants as cause
 use Rattle.mime_view.specs.declared.fault.CacheFault.{CacheFault}
 use Rattle.mime_view.specs.declared.fault.CacheFault.TheVariants as fault
 
+-- the spare fields
+abbrev pub no_spare : List ℕ
+no_spare = 0 ∷ 0 ∷ 0 ∷ []
+
 -- a status, with what was read, visited and compared
 abbrev pub status_report : ℕ → ℕ → Meter → Report
 status_report status read meter =
-    record { status = status; major = 0; minor = 0; at = 0; read = read; nodes = meter.nodes; bytes = meter.bytes }
+    record { status = status; major = 0; minor = 0; at = 0; read = read; nodes = meter.nodes; bytes = meter.bytes; spare = no_spare }
 
 -- a fault of the cache: its status, and its offset or the version
 abbrev pub fault_report : CacheFault → ℕ → Meter → Report

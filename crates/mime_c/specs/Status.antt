@@ -17,7 +17,7 @@ status_out_of_memory = 2
 abbrev pub status_not_a_type : ℕ
 status_not_a_type = 3
 
--- a buffer has no room for a name
+-- a buffer has no room for what goes into it
 abbrev pub status_short_buffer : ℕ
 status_short_buffer = 4
 
@@ -29,7 +29,7 @@ status_truncated = 5
 abbrev pub status_version : ℕ
 status_version = 6
 
--- the cache has more than 268,435,456 bytes
+-- a cache has, or would have, more than 268,435,456 bytes
 abbrev pub status_too_large : ℕ
 status_too_large = 7
 
@@ -48,3 +48,11 @@ status_spent = 10
 -- lines of magic, or characters of the suffix tree, lie deeper than is allowed
 abbrev pub status_too_deep : ℕ
 status_too_deep = 11
+
+-- the number of a checking order is of none
+abbrev pub status_unknown_order : ℕ
+status_unknown_order = 12
+
+-- a text of magic is refused
+abbrev pub status_bad_magic : ℕ
+status_bad_magic = 13

@@ -1,9 +1,9 @@
 //! The lookup over a cache's bytes, for C.
 //!
 //! ```text
-//! mimelook_text type = MIMELOOK_NO_TEXT;
+//! mimelook_answer answer = MIMELOOK_NO_ANSWER;
 //! mimelook_report report = mimelook_look_up(cache, cache_length, name, name_length, content, content_length,
-//!     has_content, magic_first, &type);
+//!     MIMELOOK_GLOBS_FIRST, &answer);
 //! ```
 //!
 //! Each export takes bytes and numbers, whatever they are, and keeps nothing between calls. What it returns is a
@@ -14,17 +14,30 @@
 #![tactic(auto)]
 
 mod check;
+mod extent;
 mod icons;
 mod is_a;
+mod listed_icons;
 mod look_up;
+mod merge;
+mod opening;
+mod order;
+mod parents;
 mod report;
+mod sniff;
 mod status;
 mod type_names;
-mod wanted;
+mod unalias;
 
 pub use check::mimelook_check;
+pub use extent::mimelook_extent;
 pub use icons::{IconLengths, mimelook_icons};
 pub use is_a::mimelook_is_a;
-pub use look_up::{Text, mimelook_look_up};
+pub use listed_icons::mimelook_listed_icons;
+pub use look_up::{Text, TypeAnswer, look_up_with};
+pub use merge::{MergeReport, mimelook_merge};
+pub use parents::mimelook_parents;
 pub use report::Report;
-pub use wanted::mimelook_wanted;
+pub use sniff::{Sniffed, mimelook_sniff};
+pub use type_names::mimelook_is_type_name;
+pub use unalias::mimelook_unalias;

@@ -29,6 +29,8 @@ pub struct Report {
     pub nodes: u64,
     /// Bytes that were read or compared, and tests of a pattern's elements.
     pub bytes: u64,
+    /// Zeros, for what is to come.
+    pub spare: [u64; 3],
 }
 
 /// A report of a status, and of what was read, visited and compared.
@@ -44,6 +46,7 @@ pub fn status_report(status: u32, read: u64, meter: Meter) -> Report
         read,
         nodes: meter.nodes,
         bytes: meter.bytes,
+        spare: [0; 3],
     }
 }
 

@@ -12,7 +12,7 @@ pub const OUT_OF_MEMORY: u32 = 2;
 /// Bytes that have to be a type name are none.
 pub const NOT_A_TYPE: u32 = 3;
 
-/// A buffer has no room for a name.
+/// A buffer has no room for what goes into it.
 pub const SHORT_BUFFER: u32 = 4;
 
 /// The cache ends inside its header.
@@ -21,7 +21,7 @@ pub const TRUNCATED: u32 = 5;
 /// The cache has another version than 1.2.
 pub const VERSION: u32 = 6;
 
-/// The cache has more than 268,435,456 bytes.
+/// A cache has, or would have, more than 268,435,456 bytes.
 pub const TOO_LARGE: u32 = 7;
 
 /// What is needed does not lie in the cache.
@@ -35,3 +35,9 @@ pub const SPENT: u32 = 10;
 
 /// Records lie deeper than is allowed.
 pub const TOO_DEEP: u32 = 11;
+
+/// The checking order's number is of none.
+pub const UNKNOWN_ORDER: u32 = 12;
+
+/// A text of `magic` is refused.
+pub const BAD_MAGIC: u32 = 13;

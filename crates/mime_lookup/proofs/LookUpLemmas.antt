@@ -2,7 +2,9 @@
 pub mod SpelledParts
 pub mod KindTexts
 pub mod Askings
+pub mod ContentsAlone
 pub mod LookUps
 pub mod Outcomes
 pub mod EnoughFronts
 pub mod Wants
+pub mod NamesAlone

@@ -6,5 +6,8 @@ pub mod KeptTypes
 pub mod MagicFirst
 pub mod ContentOnly
 pub mod GlobsFirst
+pub mod Candidates
+pub mod AllGlobs
+pub mod PlainCandidates
 pub mod ByNames
 pub mod ByContents

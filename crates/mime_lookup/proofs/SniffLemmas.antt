@@ -4,3 +4,4 @@ pub mod FirstSections
 pub mod Findings
 pub mod FoundFronts
 pub mod Front
+pub mod TakenFronts

@@ -1,10 +1,10 @@
 -- What the steps of a lookup over a cache give and why they stop, as plain values.
-use Rattle.std.specs.Prelude.{◌≡◌, ◌≢◌, ◌⊎◌, ℕ, true, false, List, ◌∷◌, [], length, get_or, All, Contains, Ok, codes}
+use Rattle.std.specs.Prelude.{◌≡◌, ◌≢◌, ◌⊎◌, ℕ, ◌≤◌, true, false, if◌then◌else◌, List, ◌∷◌, [], length, get_or, All, Contains, Ok, codes}
 use Rattle.mime_base.specs.Cache.Texts.{text_at}
 use Rattle.mime_lookup.specs.Finding.{PlainFinding, by_magic, fixed}
 use Rattle.mime_lookup.specs.CheckingOrder.{are_one_type}
-use Rattle.mime_lookup.specs.declared.cached.kept.KeptTypes.{KeptTypes}
-use Rattle.mime_lookup.specs.declared.cached.kept.KeptTypes.TheVariants as kept
+use Rattle.mime_lookup.specs.declared.cached.name_types.NameTypes.{NameTypes}
+use Rattle.mime_lookup.specs.declared.cached.name_types.NameTypes.TheVariants as types
 use Rattle.mime_lookup.specs.declared.cached.sniff.Finding.{Finding}
 use Rattle.mime_lookup.specs.declared.cached.sniff.Finding.TheVariants as finding
 use Rattle.mime_lookup.specs.declared.stopped.Cause.{Cause}
@@ -34,20 +34,25 @@ abbrev pub IsFinding : List ℕ → Finding → Type 0
 IsFinding c (finding.Magic kind priority) = IsCacheText c kind.now
 IsFinding c (finding.Fixed kind) = Contains fixed_kinds kind.now
 
--- what is kept of these types: the one that all are, or all of them
-abbrev pub IsKept : List (List ℕ) → KeptTypes → Type 0
-IsKept kinds (kept.One kind) = (are_one_type kinds ≡ true) × (kind.now ≡ get_or kinds 0 [])
-IsKept kinds (kept.Others others) = (are_one_type kinds ≡ false) × (others ≡ kinds)
+-- how many of some kept types are asked for what was sniffed: one where all are one type
+abbrev pub asked_count : List (List ℕ) → ℕ
+asked_count kinds = if are_one_type kinds then 1 else length kinds
 
--- texts of the cache
-abbrev pub AreCacheTexts : List ℕ → KeptTypes → Type 0
-AreCacheTexts c (kept.One kind) = IsCacheText c kind.now
-AreCacheTexts c (kept.Others others) = All (IsCacheText c) others
+-- what is given of these types, of which the first are kept: the one that all are, or all of them
+abbrev pub AreNameTypes : List (List ℕ) → List (List ℕ) → NameTypes → Type 0
+AreNameTypes kinds kept (types.One kind) = (are_one_type kinds ≡ true) × (kind.now ≡ get_or kinds 0 [])
+AreNameTypes kinds kept (types.Others others asked) =
+    (are_one_type kinds ≡ false) × (others ≡ kinds) × (asked ≡ asked_count kept)
+
+-- texts of the cache, of which no more are asked than there are
+abbrev pub AreCacheTexts : List ℕ → NameTypes → Type 0
+AreCacheTexts c (types.One kind) = IsCacheText c kind.now
+AreCacheTexts c (types.Others others asked) = All (IsCacheText c) others × (asked ≤ length others)
 
 -- how many types are left to choose among
-abbrev pub others_count : KeptTypes → ℕ
-others_count (kept.One kind) = 0
-others_count (kept.Others others) = length others
+abbrev pub others_count : NameTypes → ℕ
+others_count (types.One kind) = 0
+others_count (types.Others others asked) = length others
 
 -- a read failed, an allocation was refused, or the cache has such a fault
 abbrev pub IsStop : (CacheFault → Type 0) → Cause → Type 0

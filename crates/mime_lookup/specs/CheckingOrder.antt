@@ -7,10 +7,10 @@ use Rattle.mime_base.specs.Magic.Extent.{extent}
 use Rattle.mime_base.specs.Magic.Holds.{first_magic}
 use Rattle.mime_base.specs.Database.Subclass.{resolved}
 use Rattle.mime_base.specs.declared.magic.host.Host.{Host}
-use Rattle.mime_lookup.specs.Choice.{ChoosesAmong, kept}
+use Rattle.mime_lookup.specs.Choice.{ChoosesAmong, candidates, kept}
 use Rattle.mime_lookup.specs.Sniffing.{sniffed}
 use Rattle.mime_lookup.specs.declared.order.Order.{Order}
-use Rattle.mime_lookup.specs.declared.order.Order.TheVariants.{ContentOnly, GlobsFirst, MagicFirst}
+use Rattle.mime_lookup.specs.declared.order.Order.TheVariants.{AllGlobs, ContentOnly, GlobsFirst, MagicFirst}
 use Rattle.mime_lookup.specs.declared.sniff.Sniffed.{Sniffed}
 
 -- the resolved type of a section with a priority of 80 or more
@@ -24,7 +24,26 @@ unfoldable pub before_globs : PlainDatabase → Option (List ℕ) → Host → O
 before_globs b content host GlobsFirst = None
 before_globs b None host MagicFirst = None
 before_globs b (Some content) host MagicFirst = of_high_priority b (first_magic b.sections content host)
+before_globs b content host AllGlobs = None
 before_globs b content host ContentOnly = Some (sniffed b content host)
+
+-- whether there is such a section
+abbrev pub is_section : Option (List ℕ × ℕ) → Bool
+is_section None = false
+is_section (Some section) = true
+
+-- whether a section of magic holds for a content
+abbrev pub has_magic : PlainDatabase → Option (List ℕ) → Host → Bool
+has_magic b None host = false
+has_magic b (Some content) host = is_section (first_magic b.sections content host)
+
+-- the types that are asked for the sniffed one: the kept ones, but under AllGlobs all candidates where a section of magic holds
+abbrev pub asked_types : PlainDatabase → List ℕ → Option (List ℕ) → Host → Order → List (List ℕ)
+asked_types b name content host GlobsFirst = kept (pairs_of b) b.rules name
+asked_types b name content host MagicFirst = kept (pairs_of b) b.rules name
+asked_types b name content host AllGlobs =
+    if has_magic b content host then candidates (pairs_of b) b.rules name else kept (pairs_of b) b.rules name
+asked_types b name content host ContentOnly = kept (pairs_of b) b.rules name
 
 -- What a content was sniffed as.
 pub record IsSniffed (b : PlainDatabase) (content : Option (List ℕ)) (host : Host) (found : Sniffed) : Type 0 where
@@ -32,12 +51,15 @@ pub record IsSniffed (b : PlainDatabase) (content : Option (List ℕ)) (host : H
   pub kind : found.kind.now ≡ sniffed b content host
   -- It is of high priority where it comes before the globs if magic is asked first.
   pub high : (if found.is_high then Some found.kind.now else None) ≡ before_globs b content host MagicFirst
+  -- Whether a section gave it.
+  pub magic : found.by_magic ≡ has_magic b content host
 
--- the answer to a name and a content, where there is one
+-- the answer to a name and a content, where there is one; under AllGlobs candidates that are one type are the answer whichever are
+-- asked, since the kept ones are the first of them
 unfoldable pub Chooses : PlainDatabase → List ℕ → Option (List ℕ) → Host → Order → List ℕ → Type 0
 Chooses b name content host order answer =
     MatchOption (before_globs b content host order)
-    (ChoosesAmong (pairs_of b) (kept (pairs_of b) b.rules name) (sniffed b content host) answer) (λ kind. answer ≡ kind)
+    (ChoosesAmong (pairs_of b) (asked_types b name content host order) (sniffed b content host) answer) (λ kind. answer ≡ kind)
 
 -- where the content alone is asked the answer is what it is sniffed as, whatever the name is
 content_alone : (b : PlainDatabase) (name : List ℕ) (content : Option (List ℕ)) (host : Host) (answer : List ℕ)
@@ -54,14 +76,14 @@ are_one_type (first ∷ more) = list_all (bytes_eq first) more
 unfoldable pub globs_suffice : PlainDatabase → List ℕ → Order → Bool
 globs_suffice b name GlobsFirst = are_one_type (kept (pairs_of b) b.rules name)
 globs_suffice b name MagicFirst = false
+globs_suffice b name AllGlobs = are_one_type (candidates (pairs_of b) b.rules name)
 globs_suffice b name ContentOnly = false
 
--- the globs alone decide: one type is kept, and they are asked first or no content is available; or none is kept, and none is
--- available
+-- the globs alone decide: they suffice, or no content is available and one type is kept or none
 abbrev pub GlobsDecide : PlainDatabase → List ℕ → Order → Type 0 → Type 0
 GlobsDecide b name order NoContent =
-    ((are_one_type (kept (pairs_of b) b.rules name) ≡ true) × ((order ≡ GlobsFirst) ⊎ NoContent))
-    ⊎ ((kept (pairs_of b) b.rules name ≡ []) × NoContent)
+    (globs_suffice b name order ≡ true)
+    ⊎ (NoContent × ((are_one_type (kept (pairs_of b) b.rules name) ≡ true) ⊎ (kept (pairs_of b) b.rules name ≡ [])))
 
 -- the most that is read of a content
 unfoldable pub read_limit : PlainDatabase → ℕ

@@ -1,5 +1,5 @@
 -- What is found in a content, before its alias step.
-use Rattle.std.specs.Prelude.{ℕ, nat_le, Bool, false, List, Option, None, Some, codes}
+use Rattle.std.specs.Prelude.{ℕ, nat_le, Bool, true, false, List, Option, None, Some, codes}
 use Rattle.mime_base.specs.Database.{PlainDatabase}
 use Rattle.mime_base.specs.Database.Subclass.{resolved}
 use Rattle.mime_base.specs.Magic.Holds.{first_magic}
@@ -26,7 +26,17 @@ abbrev pub resolved_finding : List (List ℕ × List ℕ) → PlainFinding → L
 resolved_finding aliases (by_magic kind priority) = resolved aliases kind
 resolved_finding aliases (fixed kind) = kind
 
+-- whether a section gave it
+abbrev pub is_by_magic : PlainFinding → Bool
+is_by_magic (by_magic kind priority) = true
+is_by_magic (fixed kind) = false
+
 -- whether a section of a priority of 80 or more gave it
 abbrev pub is_high : PlainFinding → Bool
 is_high (by_magic kind priority) = nat_le 80 priority
 is_high (fixed kind) = false
+
+-- the priority of the section that gave it, if one did
+abbrev pub priority_of : PlainFinding → Option ℕ
+priority_of (by_magic kind priority) = Some priority
+priority_of (fixed kind) = None

@@ -7,17 +7,17 @@ use Rattle.mime_base.specs.Format.Packed.{value_length}
 use Rattle.mime_base.specs.declared.magic.host.Host.{Host}
 use Rattle.mime_lookup.specs.Affords.{magic_records, rule_records}
 use Rattle.mime_lookup.specs.Bounds.{near_max}
-use Rattle.mime_lookup.specs.Cached.{IsCacheText}
+use Rattle.mime_lookup.specs.Cached.{IsCacheText, asked_count}
 use Rattle.mime_lookup.specs.CheckingOrder.{Chooses, are_one_type, globs_suffice}
-use Rattle.mime_lookup.specs.Choice.{kept}
+use Rattle.mime_lookup.specs.Choice.{candidates, kept}
 use Rattle.mime_lookup.specs.Costs.{CostsOwing, glob_cost, record_cost}
 use Rattle.mime_lookup.specs.Spelling.{SpellsGlobs}
 use Rattle.mime_lookup.specs.declared.cached.by_name.NameDecision.{NameDecision}
 use Rattle.mime_lookup.specs.declared.cached.by_name.NameDecision.TheVariants.{Decided, Left}
 use Rattle.mime_lookup.specs.declared.cached.by_name.Candidates.{Candidates}
-use Rattle.mime_lookup.specs.declared.cached.by_name.Candidates.TheVariants.{Ignored, Kept, Unasked}
+use Rattle.mime_lookup.specs.declared.cached.by_name.Candidates.TheVariants.{Every, Ignored, Kept, Unasked}
 use Rattle.mime_lookup.specs.declared.order.Order.{Order}
-use Rattle.mime_lookup.specs.declared.order.Order.TheVariants.{ContentOnly, GlobsFirst, MagicFirst}
+use Rattle.mime_lookup.specs.declared.order.Order.TheVariants.{AllGlobs, ContentOnly, GlobsFirst, MagicFirst}
 use Rattle.mime_view.specs.Hits.{near}
 use Rattle.mime_view.specs.declared.budget.Budget.{Budget}
 use Rattle.mime_view.specs.declared.fault.CacheFault.{CacheFault}
@@ -26,13 +26,17 @@ use Rattle.mime_view.specs.declared.spending.Spending.{Spending}
 -- the order under which these are left
 abbrev pub order_of : Candidates → Order
 order_of (Kept kinds) = GlobsFirst
+order_of (Every kinds asked) = AllGlobs
 order_of Unasked = MagicFirst
 order_of Ignored = ContentOnly
 
--- over a database a name leaves the types that are kept of it, where they are not one type, or all to be asked, or none
+-- over a database a name leaves the types that are kept of it, or all, where they are not one type, or all to be asked, or none
 abbrev pub Leaves : PlainDatabase → List ℕ → Candidates → Type 0
 Leaves b name (Kept kinds) =
     (are_one_type (kept (pairs_of b) b.rules name) ≡ false) × (kinds ≡ kept (pairs_of b) b.rules name)
+Leaves b name (Every kinds asked) =
+    (are_one_type (candidates (pairs_of b) b.rules name) ≡ false) × (kinds ≡ candidates (pairs_of b) b.rules name)
+    × (asked ≡ asked_count (kept (pairs_of b) b.rules name))
 Leaves b name Unasked = ⊤
 Leaves b name Ignored = ⊤
 
@@ -43,9 +47,10 @@ Decides b name order (Decided kind) = (globs_suffice b name order ≡ true)
 Decides b name order (Left candidates) =
     (globs_suffice b name order ≡ false) × (order_of candidates ≡ order) × Leaves b name candidates
 
--- the types of candidates are texts of the cache
+-- the types of candidates are texts of the cache, and no more of them are asked than there are
 abbrev pub AreTexts : List ℕ → Candidates → Type 0
 AreTexts c (Kept kinds) = All (IsCacheText c) kinds
+AreTexts c (Every kinds asked) = All (IsCacheText c) kinds × (asked ≤ length kinds)
 AreTexts c Unasked = ⊤
 AreTexts c Ignored = ⊤
 
@@ -57,18 +62,21 @@ AreTextsByName c (Left candidates) = AreTexts c candidates
 -- the nodes that candidates may still need, for a name of so many bytes: 29 for each type, or those of a search
 abbrev pub owed_nodes : ℕ → Candidates → ℕ
 owed_nodes name (Kept kinds) = 29 * length kinds
+owed_nodes name (Every kinds asked) = 29 * length kinds
 owed_nodes name Unasked = glob_cost name
 owed_nodes name Ignored = 0
 
 -- the records of the glob rules that they may still need
 abbrev pub owed_records : PlainDatabase → Candidates → ℕ
 owed_records b (Kept kinds) = 0
+owed_records b (Every kinds asked) = 0
 owed_records b Unasked = rule_records b
 owed_records b Ignored = 0
 
 -- the nodes that they may still need where the globs decide alone: an alias step, or all
 abbrev pub owed_near : PlainDatabase → List ℕ → Candidates → ℕ
 owed_near b name (Kept kinds) = 30
+owed_near b name (Every kinds asked) = 30
 owed_near b name Unasked = near_max (length name) (near name b.rules)
 owed_near b name Ignored = 30
 

@@ -8,7 +8,7 @@ pub mod Script
 pub mod Reads
 pub mod Spelling
 pub mod Costs
-pub mod KeptTypes
+pub mod NameTypes
 pub mod Bounds
 pub mod StepFaults
 pub mod Finding
@@ -24,3 +24,5 @@ pub mod Halves
 pub mod Fronts
 pub mod LookUps
 pub mod Wanted
+pub mod NameAlone
+pub mod ContentAlone

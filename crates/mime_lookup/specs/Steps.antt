@@ -1,5 +1,5 @@
 -- What the steps of a lookup over a cache have in common: which databases they answer for, and why they stop.
-use Rattle.std.specs.Prelude.{◌≡◌, ◌⊎◌, ℕ, List, []}
+use Rattle.std.specs.Prelude.{◌≡◌, ◌⊎◌, ℕ, ◌≤◌, List, length}
 use Rattle.mime_base.specs.Database.{PlainDatabase}
 use Rattle.mime_base.specs.Database.Limits.{IsWithinLimits}
 use Rattle.mime_base.specs.Format.Spells.{Spells}
@@ -21,9 +21,9 @@ Suffices c name order NoContent b =
 abbrev pub SufficesForContent : List ℕ → Type 0 → PlainDatabase → Type 0
 SufficesForContent c NoContent b = SpellsMagic c b ⊎ NoContent
 
--- enough of it stands to choose among types: its pairs, or its aliases where there is no type
+-- enough of it stands to choose among types: its pairs, or its aliases where there is one type at most
 abbrev pub SufficesForChoice : List ℕ → List (List ℕ) → PlainDatabase → Type 0
-SufficesForChoice c kinds b = SpellsPairs c b ⊎ ((kinds ≡ []) × SpellsGlobs c b)
+SufficesForChoice c kinds b = SpellsPairs c b ⊎ ((length kinds ≤ 1) × SpellsGlobs c b)
 
 -- Why a step of a lookup stops.
 pub record Stops (c : List ℕ) (IsUsed : Type 0) (IsEnough IsRead : PlainDatabase → Type 0) (stop : Cause) : Type 0 where

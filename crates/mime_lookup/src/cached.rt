@@ -21,8 +21,9 @@ mod ancestry;
 mod by_content;
 mod by_name;
 mod by_name_alone;
+mod content_alone;
 mod icons;
-mod kept;
+mod name_types;
 mod sniff;
 mod subclass;
 
@@ -35,7 +36,8 @@ use crate::order::Order;
 use crate::question::Question;
 use crate::reading::read_front;
 use crate::stopped::{Cause, Stopped};
-pub use by_name_alone::wanted;
+pub use by_name_alone::look_up_name;
+pub use content_alone::{SniffedContent, sniff_alone};
 pub use icons::{Icons, icon_of};
 use mime_base::{Counted, Host, Meter, TEXTUAL_FRONT};
 use mime_view::{Budget, Cache, CacheFault, Spending};
@@ -54,7 +56,8 @@ pub use subclass::is_a;
 /// Any byte of the cache may be damaged or hostile: the lookup returns, and what it visits, compares and reads keeps to
 /// bounds that depend on the lengths of the name and of the cache alone. `None` is content that is not available; a reader
 /// is still there after the call. Of a content at most the greater of 128 bytes and the extent that the cache states is
-/// read, and under [`Order::GlobsFirst`] nothing where the globs give one type.
+/// read; under [`Order::GlobsFirst`] nothing where the globs give one type, under [`Order::AllGlobs`] nothing where all
+/// rules that match give one type.
 ///
 /// A name of more than 4,096 bytes is [`Cause::NameTooLong`], before anything else. [`Cause::Cache`] says what is wrong with
 /// the cache and where; a cache that spells a database and is packed has no such fault. [`Cause::Read`] comes with a failed

@@ -10,21 +10,22 @@
 //! [`look_up`] goes by the bytes of a cache, whatever they are. Over a cache that spells a database, the
 //! type that it answers is the one that the definition of the checking order gives to the name and the
 //! whole content, of which it reads no more than magic can look at; [`Content`] is what it reads from,
-//! and may tell whether its reads can fail. [`wanted`] is the first half of a lookup by itself: how much of a content
-//! the name leaves to be read. [`is_a`] and [`icon_of`] go by the same bytes.
+//! and may tell whether its reads can fail. [`look_up_name`] is a lookup without a content, which says too how much of
+//! one would be read. [`is_a`] and [`icon_of`] go by the same bytes.
 //! [`look_up_plain`] answers the same by trying every rule, line and pair of a database.
 //!
 //! Read `cached` first, which has the two halves of a lookup: `cached::by_name`, what a name gives by
 //! itself, and `cached::by_content`, what a front of the content then gives. Then what these take in
-//! turn: `cached::kept`, the types that a name keeps; `cached::sniff`, the type of a front; and
+//! turn: `cached::name_types`, the types of a name; `cached::sniff`, the type of a front; and
 //! `cached::ancestry`, the search for a subclass. `content` and `reading` are what a lookup reads from and
-//! how. `lists` has the same steps over a database, by `kept`, `sniff` and `ancestry`, the last over
+//! how. `lists` has the same steps over a database, by `kept`, `candidates`, `sniff` and `ancestry`, the last over
 //! `places`, the index of the pairs.
 #![tactic(auto)]
 
 mod ancestry;
 mod answer;
 mod cached;
+mod candidates;
 mod content;
 mod fixed;
 mod kept;
@@ -40,8 +41,8 @@ mod sniff;
 mod stopped;
 mod subclass;
 
-pub use answer::Answer;
-pub use cached::{Icons, icon_of, is_a, look_up, wanted};
+pub use answer::{Answer, NameAnswer};
+pub use cached::{Icons, SniffedContent, icon_of, is_a, look_up, look_up_name, sniff_alone};
 pub use content::{Content, ReadFault, Untold};
 pub use lists::look_up_plain;
 pub use order::Order;

@@ -1,16 +1,17 @@
 //! Lookup by trying every rule, line and pair of a database.
 
-ghost use Rattle.std.specs.Prelude.{◌≡◌, ◌⊎◌, ◌<◌, ◌≤◌, length, false, IfOk, IfErr, OnOk, IfSome};
+ghost use Rattle.std.specs.Prelude.{◌≡◌, ◌⊎◌, ◌<◌, ◌≤◌, if◌then◌else◌, length, false, IfOk, IfErr, OnOk, IfSome};
 ghost use Rattle.mime_base.specs.Database.{pairs_of, plain_database};
 ghost use Rattle.mime_lookup.specs.Ancestry.{kinds_of};
 ghost use Rattle.mime_lookup.specs.CheckingOrder.{Chooses, IsSniffed, are_one_type, front_size, globs_suffice, read_limit, read_of};
-ghost use Rattle.mime_lookup.specs.Choice.{ChoosesAmong};
+ghost use Rattle.mime_lookup.specs.Choice.{ChoosesAmong, kept};
 ghost use Rattle.mime_lookup.specs.Content.{known_content};
 ghost use Rattle.mime_lookup.specs.LookUps.{IsPlainAnswer, cause_in, meter_in, read_in};
 ghost use Rattle.mime_lookup.specs.Reads.{AsksUnless, Reads};
 
 use crate::ancestry::first_of;
 use crate::answer::Answer;
+use crate::candidates::candidate_kinds;
 use crate::content::Content;
 use crate::fixed::OCTET_STREAM;
 use crate::kept::kept_kinds;
@@ -21,14 +22,15 @@ use crate::question::Question;
 use crate::reading::read_front;
 use crate::sniff::{Sniffed, sniff};
 use crate::stopped::{Cause, Stopped};
-use mime_base::{Database, Host, Meter, OutOfMemory, TEXTUAL_FRONT, extent};
+use mime_base::{Database, Host, Meter, OutOfMemory, TEXTUAL_FRONT, database_keeps_limits, extent};
 use std::alloc::Global;
 
 /// The type that the checking order gives to a name and a content ("Recommended checking order").
 ///
 /// `None` is content that is not available; a reader is still there after the call. Of a content at
-/// most the greater of 128 bytes and the database's extent is read, and under
-/// [`Order::GlobsFirst`] nothing where the globs give one type.
+/// most the greater of 128 bytes and the database's extent is read; under [`Order::GlobsFirst`]
+/// nothing where the globs give one type, under [`Order::AllGlobs`] nothing where all rules that
+/// match give one type.
 ///
 /// A name of more than 4,096 bytes is [`Cause::NameTooLong`], before anything else. [`Cause::Read`]
 /// comes with a failed read and with the 1,001st interruption. The meter counts what matching
@@ -115,11 +117,43 @@ fn kind_of<'a, R: Content>(
             let kind = choose(alloc, database, &kept, sniffed.kind, meter)?;
             Ok(kind)
         }
+        Order::AllGlobs => {
+            database_keeps_limits(database);
+            let all = candidate_kinds(alloc, database, question.name, meter)?;
+            if are_one_type(&all) {
+                return Ok(all[0]);
+            }
+            let sniffed = sniff_content(alloc, database, content, question.host, read, meter)?;
+            let by_magic = sniffed.by_magic;
+            let asked = asked_kinds(alloc, database, all, question.name, by_magic, meter)?;
+            let kind = choose(alloc, database, &asked, sniffed.kind, meter)?;
+            Ok(kind)
+        }
         Order::ContentOnly => {
             let sniffed = sniff_content(alloc, database, content, question.host, read, meter)?;
             Ok(sniffed.kind)
         }
     }
+}
+
+/// Of the types of all rules that match those that are asked for what was sniffed: all where magic
+/// gave that, else the kept ones.
+fn asked_kinds<'a>(
+    alloc: Global,
+    database: &'a Database,
+    all: Vec<&'a [u8]>,
+    name: &[u8],
+    by_magic: bool,
+    meter: &mut Meter,
+) -> Result<Vec<&'a [u8]>, OutOfMemory>
+    ensures asked { IfOk result (λ asked. kinds_of asked.items ≡ (if by_magic then kinds_of all.entry.items
+        else kept (pairs_of (plain_database database.entry.now)) database.entry.now.rules.items name.now)) }
+    ensures nodes { meter.new.nodes ≡ meter.old.nodes }
+{
+    if by_magic {
+        return Ok(all);
+    }
+    kept_kinds(alloc, database, name, meter)
 }
 
 /// Whether there are types, and all are one type.
@@ -137,23 +171,23 @@ fn are_one_type(kinds: &[&[u8]]) -> bool
     true
 }
 
-/// What was sniffed where no type is kept, else the first kept type that is it or a subclass of it,
-/// else the first kept type.
+/// What was sniffed where there is no type, else the first of these that is it or a subclass of it,
+/// else the first.
 fn choose<'a>(
     alloc: Global,
     database: &'a Database,
-    kept: &[&'a [u8]],
+    kinds: &[&'a [u8]],
     sniffed: &'a [u8],
     meter: &mut Meter,
 ) -> Result<&'a [u8], OutOfMemory>
     ensures nodes { meter.new.nodes ≡ meter.old.nodes }
     ensures chosen { IfOk result (λ kind. ChoosesAmong (pairs_of (plain_database database.entry.now))
-        (kinds_of kept.now) sniffed.entry.now kind.now) }
+        (kinds_of kinds.now) sniffed.entry.now kind.now) }
 {
-    if kept.is_empty() {
+    if kinds.is_empty() {
         return Ok(sniffed);
     }
-    first_of(alloc, database, kept, kept[0], sniffed, meter)
+    first_of(alloc, database, kinds, kinds[0], sniffed, meter)
 }
 
 /// What a content is sniffed as, by its front: as much of it as magic can look at.
@@ -186,6 +220,7 @@ fn sniff_content<'a, R: Content>(
         None => Ok(Sniffed {
             kind: OCTET_STREAM,
             is_high: false,
+            by_magic: false,
         }),
     }
 }

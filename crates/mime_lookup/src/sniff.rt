@@ -22,6 +22,8 @@ pub struct Sniffed<'a> {
     pub kind: &'a [u8],
     /// Whether a section of a priority of 80 or more gave it.
     pub is_high: bool,
+    /// Whether a section gave it.
+    pub by_magic: bool,
 }
 
 /// The law of fronts: one of at least 128 bytes and the database's extent, or the whole content, is
@@ -49,10 +51,12 @@ pub fn sniff<'a>(
         Some(section) => Sniffed {
             kind: unalias(&database.aliases, section.kind.bytes()),
             is_high: section.priority >= HIGH_PRIORITY,
+            by_magic: true,
         },
         None => Sniffed {
             kind: by_bytes(content),
             is_high: false,
+            by_magic: false,
         },
     }
 }

@@ -29,13 +29,16 @@ flag_rule name = record (new_rule name) { long = Some name; action = Some SetTru
 abbrev pub short_flag_rule : Text → ℕ → Rule
 short_flag_rule name short = record (flag_rule name) { short = Some short }
 
--- `FILE...`
+-- `[FILE...]`
 abbrev pub files_rule : Rule
 files_rule = record (new_rule (codes "file")) {
   range = Some (record { start_inclusive = 1; end_inclusive = usize_max });
   value_names = 1;
-  required = true;
 }
+
+-- `--stdin NAME`
+abbrev pub input_rule : Rule
+input_rule = record (new_rule (codes "stdin")) { long = Some (codes "stdin"); value_names = 1 }
 
 -- `-o FILE`, or `--output FILE`
 abbrev pub output_rule : Rule
@@ -54,23 +57,28 @@ kind_rule = record (new_rule (codes "type")) { value_names = 1; required = true 
 abbrev pub base_rule : Rule
 base_rule = record (new_rule (codes "base")) { value_names = 1; required = true }
 
--- `build [-d DIRS] -o FILE`
+-- `build [-d DIRS] [--drop-twins] -o FILE`
 abbrev pub build_app : App
-build_app = with_rule (with_rule (new_app (codes "build")) directories_rule) output_rule
+build_app = with_rule (with_rule (with_rule (new_app (codes "build")) directories_rule) (flag_rule (codes "drop-twins")))
+    output_rule
 
--- with `[--name-only] [--content-only] [--magic-first]`
+-- with `[--name-only] [--content-only] [--magic-first] [--all-globs] [--inode]`
 abbrev pub with_looks : App → App
-with_looks app = with_rule (with_rule (with_rule app (flag_rule (codes "name-only"))) (flag_rule (codes "content-only")))
-    (flag_rule (codes "magic-first"))
+with_looks app = with_rule (with_rule (with_rule (with_rule (with_rule app (flag_rule (codes "name-only")))
+    (flag_rule (codes "content-only"))) (flag_rule (codes "magic-first"))) (flag_rule (codes "all-globs"))) (flag_rule (codes "inode"))
 
 -- with `[-0] [-b] [--escape]`, of which the first two are `--null` and `--brief` too
 abbrev pub with_output : App → App
 with_output app = with_rule (with_rule (with_rule app (short_flag_rule (codes "null") 48)) (short_flag_rule (codes "brief") 98))
     (flag_rule (codes "escape"))
 
--- `plain [-d DIRS] [--name-only] [--content-only] [--magic-first] [-0] [-b] [--escape] FILE...`
+-- with `[--stdin NAME] [FILE...]`
+abbrev pub with_subjects : App → App
+with_subjects app = with_rule (with_rule app input_rule) files_rule
+
+-- `plain [-d DIRS] [--name-only] [--content-only] [--magic-first] [--all-globs] [--inode] [-0] [-b] [--escape] [--stdin NAME] [FILE...]`
 abbrev pub plain_app : App
-plain_app = with_rule (with_output (with_looks (with_rule (new_app (codes "plain")) directories_rule))) files_rule
+plain_app = with_subjects (with_output (with_looks (with_rule (new_app (codes "plain")) directories_rule)))
 
 -- a command of this name that takes `[-c CACHE | -d DIRS]`
 abbrev pub app_of_source : Text → App
@@ -88,17 +96,18 @@ is_a_app = with_rule (with_rule (app_of_source (codes "isa")) kind_rule) base_ru
 abbrev pub icon_app : App
 icon_app = with_rule (app_of_source (codes "icon")) kind_rule
 
--- `type [-c CACHE | -d DIRS] [--name-only] [--content-only] [--magic-first] [--cost] [-0] [-b] [--escape] FILE...`
+-- `type [-c CACHE | -d DIRS] [--name-only] [--content-only] [--magic-first] [--all-globs] [--inode] [--cost] [-0] [-b] [--escape]
+-- [--stdin NAME] [FILE...]`
 abbrev pub type_app : App
-type_app = with_rule (with_output (with_rule (with_looks (app_of_source (codes "type"))) (flag_rule (codes "cost")))) files_rule
+type_app = with_subjects (with_output (with_rule (with_looks (app_of_source (codes "type"))) (flag_rule (codes "cost"))))
 
--- `mimelook`, without its own name among the words: it has a version and wants a command
+-- `mimelook`, without its own name among the words: it has a version, as each command has, and wants a command
 abbrev pub mimelook_alone : App
 mimelook_alone = on_top (λ s. record s {
   has_version = true;
+  propagate_version = true;
   no_binary_name = true;
   subcommand_required = true;
-  disable_help_subcommand = true;
 }) (new_app (codes "mimelook"))
 
 -- `mimelook` with the commands over data directories

@@ -28,16 +28,19 @@ given_options rows = record {
   name_only = is_given (codes "name-only") rows;
   content_only = is_given (codes "content-only") rows;
   magic_first = is_given (codes "magic-first") rows;
+  all_globs = is_given (codes "all-globs") rows;
+  inode = is_given (codes "inode") rows;
   cost = is_given (codes "cost") rows;
   output = given_output rows;
 }
 
--- whether the options can be given together: --escape is for lines, --cost for lines that name the FILE, and --content-only
--- is no order of names and contents
+-- whether the options can be given together: --escape is for lines, --cost for lines that name the FILE, --magic-first and
+-- --all-globs are two orders of names and contents, and --content-only is none
 abbrev pub agree : Options → Bool
 agree options = not (options.output.escape && options.output.null)
     && (not (options.cost && (options.output.null || options.output.brief))
-    && not (options.content_only && (options.name_only || options.magic_first)))
+    && (not (options.magic_first && options.all_globs)
+    && not (options.content_only && (options.name_only || options.magic_first || options.all_globs))))
 
 -- the options, where they can be given together
 abbrev pub agreed : Options → Option Options

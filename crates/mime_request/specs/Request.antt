@@ -1,6 +1,6 @@
 -- What the words of a command line ask for.
-use Rattle.std.specs.Prelude.{◌≡◌, ◌==◌, not, List, [], ◌∷◌, Option, Some, None, filter, codes}
-use Rattle.std.specs.Prelude.{Result, MatchResult, IsErrAnd, if◌then◌else◌}
+use Rattle.std.specs.Prelude.{◌≡◌, ◌==◌, Bool, not, List, [], ◌∷◌, Option, Some, None, filter, codes}
+use Rattle.std.specs.Prelude.{Result, Ok, Err, MatchResult, IsErrAnd, if◌then◌else◌}
 use Rattle.std.specs.List.{slice_split}
 use Rattle.std.specs.Str.{bytes_eq}
 use Rattle.clap.specs.Walk.{Row, Text, all_of, first_of, is_empty, texts}
@@ -12,7 +12,7 @@ use Rattle.clap.specs.Values.{kind_of}
 use Rattle.clap.specs.declared.error.Error.{Error}
 use Rattle.clap.specs.declared.error.kind.ErrorKind.TheVariants as kind
 use Rattle.mime_request.specs.CommandLine.{mimelook}
-use Rattle.mime_request.specs.Flags.{agreed, given_options}
+use Rattle.mime_request.specs.Flags.{agreed, given_options, is_given}
 use Rattle.mime_request.specs.declared.request.Directories.{Directories}
 use Rattle.mime_request.specs.declared.request.Directories.TheVariants as directories
 use Rattle.mime_request.specs.declared.request.Options.{Options}
@@ -20,6 +20,8 @@ use Rattle.mime_request.specs.declared.request.Request.{Request}
 use Rattle.mime_request.specs.declared.request.Request.TheVariants as request
 use Rattle.mime_request.specs.declared.request.Source.{Source}
 use Rattle.mime_request.specs.declared.request.Source.TheVariants as source
+use Rattle.mime_request.specs.declared.request.Subjects.{Subjects}
+use Rattle.mime_request.specs.declared.request.Subjects.TheVariants as subjects
 
 -- data directories, most preferred first: these, or the user's
 pub data PlainDirectories : Type 0 where
@@ -31,20 +33,25 @@ pub data PlainSource : Type 0 where
   cache_of : Text → PlainSource
   made_of : PlainDirectories → PlainSource
 
+-- what is looked up: these files, or standard input under this name
+pub data PlainSubjects : Type 0 where
+  of_files : List Text → PlainSubjects
+  of_input : Text → PlainSubjects
+
 -- what can be asked for
 pub data PlainRequest : Type 0 where
-  -- the cache of these directories, written to this file
-  build : PlainDirectories → Text → PlainRequest
-  -- from these directories, with these options, the types of these files
-  plain : PlainDirectories → Options → List Text → PlainRequest
+  -- the cache of these directories, without twins if that is true, written to this file
+  build : PlainDirectories → Bool → Text → PlainRequest
+  -- from these directories, with these options, the types of this
+  plain : PlainDirectories → Options → PlainSubjects → PlainRequest
   -- the glob rules of this cache
   list : PlainSource → PlainRequest
   -- by this cache, whether the first type is the second
   is_a : PlainSource → Text → Text → PlainRequest
   -- by this cache, the icons of the type
   icon : PlainSource → Text → PlainRequest
-  -- from this cache, with these options, the types of these files
-  type_of : PlainSource → Options → List Text → PlainRequest
+  -- from this cache, with these options, the types of this
+  type_of : PlainSource → Options → PlainSubjects → PlainRequest
 
 -- what words mean: they ask for something, or are answered by an error of one of these kinds, among
 -- them help and the version
@@ -79,6 +86,27 @@ source_in rows = source_by (first_of (codes "cache") rows) (first_of (codes "dir
 abbrev pub options_in : List Row → Option Options
 options_in rows = agreed (given_options rows)
 
+-- what NAME and FILEs name to be looked up; or the kinds of error where both are given, or neither
+abbrev pub subjects_by : Option Text → Option (List Text) → Result PlainSubjects Kinds
+subjects_by None None = Err (kind.MissingRequiredArgument ∷ [])
+subjects_by None (Some files) = Ok (of_files files)
+subjects_by (Some name) None = Ok (of_input name)
+subjects_by (Some name) (Some files) = Err (kind.ArgumentConflict ∷ [])
+
+-- what clap found to be looked up
+abbrev pub subjects_in : List Row → Result PlainSubjects Kinds
+subjects_in rows = subjects_by (first_of (codes "stdin") rows) (all_of (codes "file") rows)
+
+-- what is asked for by arguments that were right, or else the kinds of error
+abbrev pub right : {A : Type 0} → Result A Kinds → (A → Meaning) → Meaning
+right (Ok x) means = means x
+right (Err kinds) means = refused kinds
+
+-- the kinds of error by such arguments, none where they were right
+abbrev pub wrong : {A : Type 0} → Result A Kinds → Kinds
+wrong (Ok x) = []
+wrong (Err kinds) = kinds
+
 -- what is asked for by arguments that can't be given together; where they are, the words are refused
 abbrev pub apart : {A : Type 0} → Option A → (A → Meaning) → Meaning
 apart None means = refused (kind.ArgumentConflict ∷ [])
@@ -102,12 +130,12 @@ missing (Some x) = []
 -- what `build` means by what clap found after it
 abbrev pub build_meaning : List Row → Meaning
 build_meaning rows = given (first_of (codes "output") rows) (λ file.
-    asks (build (directories_in rows) file))
+    asks (build (directories_in rows) (is_given (codes "drop-twins") rows) file))
 
 -- what `plain` means by what clap found after it
 abbrev pub plain_meaning : List Row → Meaning
-plain_meaning rows = apart (options_in rows) (λ options. given (all_of (codes "file") rows) (λ files.
-    asks (plain (directories_in rows) options files)))
+plain_meaning rows = apart (options_in rows) (λ options. right (subjects_in rows) (λ subjects.
+    asks (plain (directories_in rows) options subjects)))
 
 -- what `list` means by what clap found after it
 abbrev pub list_meaning : List Row → Meaning
@@ -127,7 +155,7 @@ icon_meaning rows = apart (source_in rows) (λ source.
 -- what `type` means by what clap found after it
 abbrev pub type_meaning : List Row → Meaning
 type_meaning rows = apart (source_in rows) (λ source. apart (options_in rows) (λ options.
-    given (all_of (codes "file") rows) (λ files. asks (type_of source options files))))
+    right (subjects_in rows) (λ subjects. asks (type_of source options subjects))))
 
 -- the commands: the name of each, and what it means
 abbrev pub commands : List (Text × (List Row → Meaning))
@@ -170,14 +198,19 @@ abbrev pub plain_source : Source → PlainSource
 plain_source (source.Cache path) = cache_of path.now
 plain_source (source.Directories dirs) = made_of (plain_directories dirs)
 
+-- the plain value of what is looked up
+abbrev pub plain_subjects : Subjects → PlainSubjects
+plain_subjects (subjects.Files files) = of_files (texts files.items)
+plain_subjects (subjects.Input name) = of_input name.now
+
 -- the plain value of a request
 abbrev pub plain_request : Request → PlainRequest
-plain_request (request.Build dirs file) = build (plain_directories dirs) file.now
-plain_request (request.Plain dirs options files) = plain (plain_directories dirs) options (texts files.items)
+plain_request (request.Build dirs drop_twins file) = build (plain_directories dirs) drop_twins file.now
+plain_request (request.Plain dirs options of) = plain (plain_directories dirs) options (plain_subjects of)
 plain_request (request.List from) = list (plain_source from)
 plain_request (request.IsA from kind base) = is_a (plain_source from) kind.now base.now
 plain_request (request.Icon from kind) = icon (plain_source from) kind.now
-plain_request (request.Type from options files) = type_of (plain_source from) options (texts files.items)
+plain_request (request.Type from options of) = type_of (plain_source from) options (plain_subjects of)
 
 -- the request is what the words mean, unless memory ran out
 abbrev pub Means : Meaning → Result Request Error → Type 0

@@ -5,7 +5,7 @@ use Rattle.std.specs.List.{list_all, list_any}
 use Rattle.std.specs.Str.{bytes_eq}
 use Rattle.clap.specs.Walk.{Text}
 use Rattle.mime_request.specs.Flags.{agree}
-use Rattle.mime_request.specs.Request.{PlainSource, cache_of, commands, made_of, named, parts, user}
+use Rattle.mime_request.specs.Request.{PlainSource, PlainSubjects, cache_of, commands, made_of, named, of_files, of_input, parts, user}
 use Rattle.mime_request.specs.declared.request.Options.{Options}
 
 -- whether the word begins with a hyphen (45), as an option does
@@ -13,10 +13,16 @@ abbrev pub is_option : Text → Bool
 is_option [] = false
 is_option (x ∷ xs) = x == 45
 
--- at least one word, and none is an option
-abbrev pub are_files : List Text → Bool
-are_files [] = false
-are_files (file ∷ files) = list_all (λ word. not (is_option word)) (file ∷ files)
+-- at least one FILE, and none is an option; or a NAME that is none
+abbrev pub are_plain : PlainSubjects → Bool
+are_plain (of_files []) = false
+are_plain (of_files (file ∷ files)) = list_all (λ word. not (is_option word)) (file ∷ files)
+are_plain (of_input name) = not (is_option name)
+
+-- `FILE...`, or `--stdin NAME`
+abbrev pub subject_words : PlainSubjects → List Text
+subject_words (of_files files) = files
+subject_words (of_input name) = codes "--stdin" ∷ name ∷ []
 
 -- whether it is one path of DIRS: not empty, and with no colon (58)
 abbrev pub is_path : Text → Bool
@@ -60,11 +66,23 @@ abbrev pub build_words_output_first : Text → Text → List Text
 build_words_output_first dirs file =
     codes "build" ∷ codes "-o" ∷ file ∷ codes "-d" ∷ dirs ∷ []
 
+-- `[-d DIRS]`
+abbrev pub named_by : Option Text → Named
+named_by None = by_nothing
+named_by (Some dirs) = by_directories dirs
+
+-- `build --drop-twins [-d DIRS] -o FILE`
+abbrev pub build_words_without_twins : Option Text → Text → List Text
+build_words_without_twins dirs file =
+    codes "build" ∷ codes "--drop-twins" ∷ (source_words (named_by dirs) ++ codes "-o" ∷ file ∷ [])
+
 -- a flag as it is written: by its name, or `-0` or `-b`
 pub data Flag : Type 0 where
   name_only : Flag
   content_only : Flag
   magic_first : Flag
+  all_globs : Flag
+  inode : Flag
   cost : Flag
   null : Flag
   short_null : Flag
@@ -77,6 +95,8 @@ abbrev pub flag_name : Flag → Text
 flag_name name_only = codes "name-only"
 flag_name content_only = codes "content-only"
 flag_name magic_first = codes "magic-first"
+flag_name all_globs = codes "all-globs"
+flag_name inode = codes "inode"
 flag_name cost = codes "cost"
 flag_name null = codes "null"
 flag_name short_null = codes "null"
@@ -100,6 +120,8 @@ options_by flags = record {
   name_only = has (codes "name-only") flags;
   content_only = has (codes "content-only") flags;
   magic_first = has (codes "magic-first") flags;
+  all_globs = has (codes "all-globs") flags;
+  inode = has (codes "inode") flags;
   cost = has (codes "cost") flags;
   output = record { null = has (codes "null") flags; brief = has (codes "brief") flags; escape = has (codes "escape") flags };
 }
@@ -109,15 +131,10 @@ abbrev pub are_distinct : List Flag → Bool
 are_distinct [] = true
 are_distinct (flag ∷ flags) = not (list_any (λ other. bytes_eq (flag_name flag) (flag_name other)) flags) && are_distinct flags
 
--- `[-d DIRS]`
-abbrev pub named_by : Option Text → Named
-named_by None = by_nothing
-named_by (Some dirs) = by_directories dirs
-
--- `plain [FLAG...] [-d DIRS] [FLAG...] FILE...`
-abbrev pub plain_words : Option Text → List Flag → List Flag → List Text → List Text
-plain_words dirs before after files =
-    codes "plain" ∷ (map flag_word before ++ (source_words (named_by dirs) ++ (map flag_word after ++ files)))
+-- `plain [FLAG...] [-d DIRS] [FLAG...] {FILE... | --stdin NAME}`
+abbrev pub plain_words : Option Text → List Flag → List Flag → PlainSubjects → List Text
+plain_words dirs before after subjects =
+    codes "plain" ∷ (map flag_word before ++ (source_words (named_by dirs) ++ (map flag_word after ++ subject_words subjects)))
 
 -- `list [-c CACHE | -d DIRS]`
 abbrev pub list_words : Named → List Text
@@ -131,22 +148,30 @@ is_a_words by kind base = codes "isa" ∷ (source_words by ++ kind ∷ base ∷ 
 abbrev pub icon_words : Named → Text → List Text
 icon_words by kind = codes "icon" ∷ (source_words by ++ kind ∷ [])
 
--- `type [FLAG...] [-c CACHE | -d DIRS] [FLAG...] FILE...`
-abbrev pub type_words : Named → List Flag → List Flag → List Text → List Text
-type_words by before after files =
-    codes "type" ∷ (map flag_word before ++ (source_words by ++ (map flag_word after ++ files)))
+-- `type [FLAG...] [-c CACHE | -d DIRS] [FLAG...] {FILE... | --stdin NAME}`
+abbrev pub type_words : Named → List Flag → List Flag → PlainSubjects → List Text
+type_words by before after subjects =
+    codes "type" ∷ (map flag_word before ++ (source_words by ++ (map flag_word after ++ subject_words subjects)))
 
--- neither DIRS or CACHE nor a FILE could be taken for an option, no flag is given twice, and the flags can be given together
-pub record AreUsual (source : Text) (flags : List Flag) (files : List Text) : Type 0 where
+-- neither DIRS or CACHE nor a FILE or NAME could be taken for an option, no flag is given twice, and the flags can be given together
+pub record AreUsual (source : Text) (flags : List Flag) (subjects : PlainSubjects) : Type 0 where
   pub plain_source : is_option source ≡ false
-  pub plain_files : are_files files ≡ true
-  pub few : length files < 2 ^ 64
+  pub plain : are_plain subjects ≡ true
+  pub few : length (subject_words subjects) < 2 ^ 64
   pub distinct : are_distinct flags ≡ true
   pub together : agree (options_by flags) ≡ true
 
--- the words of help: `--help`, alone and after each command
+-- the flag, alone and after each command
+abbrev pub at_both_levels : Text → List (List Text)
+at_both_levels flag = (flag ∷ []) ∷ map (λ command. command.0 ∷ flag ∷ []) commands
+
+-- the flags of help, `--help` and `-h`
 abbrev pub help_words : List (List Text)
-help_words = (codes "--help" ∷ []) ∷ map (λ command. command.0 ∷ codes "--help" ∷ []) commands
+help_words = at_both_levels (codes "--help") ++ at_both_levels (codes "-h")
+
+-- the flags of the version, `--version` and `-V`
+abbrev pub version_words : List (List Text)
+version_words = at_both_levels (codes "--version") ++ at_both_levels (codes "-V")
 
 -- words that lack what their command needs
 abbrev pub lacking_words : List (List Text)
@@ -167,4 +192,9 @@ conflicting_words =
     ∷ (codes "type" ∷ codes "--cost" ∷ codes "-0" ∷ codes "a" ∷ [])
     ∷ (codes "type" ∷ codes "--cost" ∷ codes "-b" ∷ codes "a" ∷ [])
     ∷ (codes "type" ∷ codes "--content-only" ∷ codes "--name-only" ∷ codes "a" ∷ [])
-    ∷ (codes "type" ∷ codes "--content-only" ∷ codes "--magic-first" ∷ codes "a" ∷ []) ∷ []
+    ∷ (codes "type" ∷ codes "--content-only" ∷ codes "--magic-first" ∷ codes "a" ∷ [])
+    ∷ (codes "plain" ∷ codes "--magic-first" ∷ codes "--all-globs" ∷ codes "a" ∷ [])
+    ∷ (codes "type" ∷ codes "--content-only" ∷ codes "--all-globs" ∷ codes "a" ∷ [])
+    ∷ (codes "type" ∷ codes "--stdin" ∷ codes "a" ∷ codes "a" ∷ [])
+    ∷ (codes "plain" ∷ codes "--stdin" ∷ [] ∷ codes "a" ∷ [])
+    ∷ (codes "plain" ∷ codes "--stdin" ∷ [] ∷ codes "--stdin" ∷ [] ∷ []) ∷ []

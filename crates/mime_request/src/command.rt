@@ -4,30 +4,35 @@ ghost use Rattle.std.specs.Prelude.{◌≡◌, IfOk, false};
 ghost use Rattle.clap.specs.Words.{app_of, rule_of};
 ghost use Rattle.clap.specs.declared.builder.command.Command.TheViews.{out-Command};
 ghost use Rattle.mime_request.specs.CommandLine.{app_of_source, base_rule, build_app, cache_rule, directories_rule, files_rule};
-ghost use Rattle.mime_request.specs.CommandLine.{flag_rule, icon_app, is_a_app, kind_rule, list_app, mimelook, mimelook_alone};
+ghost use Rattle.mime_request.specs.CommandLine.{flag_rule, icon_app, input_rule, is_a_app, kind_rule, list_app, mimelook, mimelook_alone};
 ghost use Rattle.mime_request.specs.CommandLine.{mimelook_of_directories, output_rule, plain_app, short_flag_rule, type_app};
-ghost use Rattle.mime_request.specs.CommandLine.{with_looks, with_output};
+ghost use Rattle.mime_request.specs.CommandLine.{with_looks, with_output, with_subjects};
 
 mod texts;
 
 use clap::{Arg, ArgAction, Command};
 use std::alloc::{AllocError, Global};
 use texts::{
-    BRIEF, BUILD, CONTENT_ONLY, COST, DIRS, ESCAPE, FILES, HelpTexts, ICON, IS_A, LIST,
-    MAGIC_FIRST, MIMELOOK, NAME_ONLY, NULL, OUTPUT, PLAIN, TYPE,
+    ALL_GLOBS, BRIEF, BUILD, CONTENT_ONLY, COST, DIRS, DROP_TWINS, ESCAPE, FILES, HelpTexts, ICON,
+    INODE, INPUT, IS_A, LIST, MAGIC_FIRST, MIMELOOK, NAME_ONLY, NULL, OUTPUT, PLAIN, TYPE,
 };
+
+const PROGRAM: &str = "mimelook";
 
 /// What `mimelook --version` prints after the program's name.
 const VERSION: &str = "1.0.0";
 
-fn with_help<'a>(command: Command<'a>, texts: HelpTexts<'a>) -> Command<'a>
-    ensures app { app_of result ≡ app_of command.entry }
-    ensures local { (out-Command result).has_globals ≡ (out-Command command.entry).has_globals }
+// With its texts, and the program's name before the version.
+fn with_help<'a>(command: Command<'a>, texts: HelpTexts<'a>) -> Result<Command<'a>, AllocError>
+    ensures app { IfOk result (λ c. app_of c ≡ app_of command.entry) }
+    ensures local { IfOk result (λ c. (out-Command c).has_globals ≡ (out-Command command.entry).has_globals) }
 {
-    command
+    let command = command
         .about(texts.about)
         .override_usage(texts.usage)
         .after_help(texts.after_help)
+        .display_name(PROGRAM)?;
+    Ok(command)
 }
 
 fn directories<'a>(alloc: Global) -> Arg<'a>
@@ -79,6 +84,8 @@ fn with_looks<'a>(alloc: Global, command: Command<'a>) -> Result<Command<'a>, Al
     let command = command.arg(flag(alloc, "name-only", NAME_ONLY))?;
     let command = command.arg(flag(alloc, "content-only", CONTENT_ONLY))?;
     let command = command.arg(flag(alloc, "magic-first", MAGIC_FIRST))?;
+    let command = command.arg(flag(alloc, "all-globs", ALL_GLOBS))?;
+    let command = command.arg(flag(alloc, "inode", INODE))?;
     Ok(command)
 }
 
@@ -93,13 +100,32 @@ fn with_output<'a>(alloc: Global, command: Command<'a>) -> Result<Command<'a>, A
     Ok(command)
 }
 
+// With what is looked up: standard input by its name, or FILEs.
+fn with_subjects<'a>(alloc: Global, command: Command<'a>) -> Result<Command<'a>, AllocError>
+    ensures app { IfOk result (λ c. app_of c ≡ with_subjects (app_of command.entry)) }
+    ensures local { IfOk result (λ c. (out-Command c).has_globals ≡ (out-Command command.entry).has_globals) }
+{
+    let command = command.arg(input(alloc))?;
+    let command = command.arg(files(alloc))?;
+    Ok(command)
+}
+
+fn input<'a>(alloc: Global) -> Arg<'a>
+    ensures rule { rule_of result ≡ input_rule }
+    ensures local { result.global ≡ false }
+{
+    Arg::new(alloc, "stdin")
+        .long("stdin")
+        .value_name("NAME")
+        .help(INPUT)
+}
+
 fn files<'a>(alloc: Global) -> Arg<'a>
     ensures rule { rule_of result ≡ files_rule }
     ensures local { result.global ≡ false }
 {
     Arg::new(alloc, "file")
         .value_name("FILE")
-        .required(true)
         .num_args(1..)
         .help(FILES)
 }
@@ -141,8 +167,9 @@ fn build_command<'a>(alloc: Global) -> Result<Command<'a>, AllocError>
     ensures app { IfOk result (λ c. app_of c ≡ build_app) }
     ensures local { IfOk result (λ c. (out-Command c).has_globals ≡ false) }
 {
-    let command = with_help(Command::new(alloc, "build"), BUILD);
+    let command = with_help(Command::new(alloc, "build"), BUILD)?;
     let command = command.arg(directories(alloc))?;
+    let command = command.arg(flag(alloc, "drop-twins", DROP_TWINS))?;
     let command = command.arg(output(alloc))?;
     Ok(command)
 }
@@ -152,11 +179,11 @@ fn plain_command<'a>(alloc: Global) -> Result<Command<'a>, AllocError>
     ensures app { IfOk result (λ c. app_of c ≡ plain_app) }
     ensures local { IfOk result (λ c. (out-Command c).has_globals ≡ false) }
 {
-    let command = with_help(Command::new(alloc, "plain"), PLAIN);
+    let command = with_help(Command::new(alloc, "plain"), PLAIN)?;
     let command = command.arg(directories(alloc))?;
     let command = with_looks(alloc, command)?;
     let command = with_output(alloc, command)?;
-    let command = command.arg(files(alloc))?;
+    let command = with_subjects(alloc, command)?;
     Ok(command)
 }
 
@@ -169,7 +196,7 @@ fn command_of_source<'a>(
     ensures app { IfOk result (λ c. app_of c ≡ app_of_source name.entry.now) }
     ensures local { IfOk result (λ c. (out-Command c).has_globals ≡ false) }
 {
-    let command = with_help(Command::new(alloc, name), texts);
+    let command = with_help(Command::new(alloc, name), texts)?;
     let command = command.arg(cache(alloc))?;
     let command = command.arg(directories(alloc))?;
     Ok(command)
@@ -213,7 +240,7 @@ fn type_command<'a>(alloc: Global) -> Result<Command<'a>, AllocError>
     let command = with_looks(alloc, command)?;
     let command = command.arg(flag(alloc, "cost", COST))?;
     let command = with_output(alloc, command)?;
-    let command = command.arg(files(alloc))?;
+    let command = with_subjects(alloc, command)?;
     Ok(command)
 }
 
@@ -222,12 +249,12 @@ fn alone<'a>(alloc: Global) -> Result<Command<'a>, AllocError>
     ensures app { IfOk result (λ c. app_of c ≡ mimelook_alone) }
     ensures local { IfOk result (λ c. (out-Command c).has_globals ≡ false) }
 {
-    let command = with_help(Command::new(alloc, "mimelook"), MIMELOOK)
+    let command = with_help(Command::new(alloc, PROGRAM), MIMELOOK)?
         .version(VERSION)
+        .propagate_version(true)
         .no_binary_name(true)
-        .subcommand_required(true)
-        .disable_help_subcommand(true);
-    let command = command.bin_name("mimelook")?;
+        .subcommand_required(true);
+    let command = command.bin_name(PROGRAM)?;
     Ok(command)
 }
 

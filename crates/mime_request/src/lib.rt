@@ -6,13 +6,13 @@
 //! ```text
 //! let words = ["plain", "-d", "/usr/local/share:/usr/share", "--name-only", "notes.txt"];
 //! match request_of(alloc, &words) {
-//!     Ok(Request::Plain { directories, options, files }) => ..,
+//!     Ok(Request::Plain { directories, options, subjects }) => ..,
 //!     Err(error) => ..,
 //! }
 //! ```
 //!
 //! Here `directories` names `/usr/local/share` and `/usr/share`, `options.name_only` is on, the other
-//! options are off, and `files` is `["notes.txt"]`. `build -d DIRS -o FILE` gives a
+//! options are off, and `subjects` are the files `["notes.txt"]`. `build -d DIRS -o FILE` gives a
 //! [`Request::Build`]. Over a cache, `list -c CACHE` gives a [`Request::List`], `isa -c CACHE TYPE
 //! BASE` a [`Request::IsA`], `icon -c CACHE TYPE` a [`Request::Icon`], and `type -c CACHE FILE...` a
 //! [`Request::Type`]; these four take `-d DIRS` in place of `-c CACHE`. Without either, any command is
@@ -26,10 +26,11 @@ mod command;
 mod request;
 mod spelling;
 
-pub use request::{Directories, Options, Output, Request, Source, request_of};
+pub use request::{Directories, Options, Output, Request, Source, Subjects, request_of};
 pub use spelling::{
     no_words, output_first_spelling_of_build, parts_of_directories, spelling_of_build_of_user,
-    spelling_of_version, spellings_of_help, usual_spelling_of_build, usual_spelling_of_icon,
-    usual_spelling_of_is_a, usual_spelling_of_list, usual_spelling_of_plain,
-    usual_spelling_of_type, words_that_conflict, words_that_lack,
+    spelling_of_build_without_twins, spellings_of_help, spellings_of_version,
+    usual_spelling_of_build, usual_spelling_of_icon, usual_spelling_of_is_a,
+    usual_spelling_of_list, usual_spelling_of_plain, usual_spelling_of_type, words_that_conflict,
+    words_that_lack,
 };

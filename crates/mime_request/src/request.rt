@@ -60,10 +60,23 @@ pub struct Options {
     pub content_only: bool,
     /// Content is asked before the globs, where its priority is high (80 or more).
     pub magic_first: bool,
+    /// Content chooses among the types of all globs that match, not among those that are kept.
+    pub all_globs: bool,
+    /// What is no regular file has a type of its own, and isn't looked up.
+    pub inode: bool,
     /// What each answer cost is told.
     pub cost: bool,
     /// How it is printed.
     pub output: Output,
+}
+
+/// What is looked up.
+#[derive(Debug, Drop)]
+pub enum Subjects<'a> {
+    /// These files, as they were written. There is at least one.
+    Files(Vec<&'a str>),
+    /// Standard input, under this name.
+    Input(&'a str),
 }
 
 /// What the words of a command line ask for.
@@ -73,6 +86,8 @@ pub enum Request<'a> {
     Build {
         /// The directories.
         directories: Directories<'a>,
+        /// The twins of case-sensitive rules are left out.
+        drop_twins: bool,
         /// The file that the cache is written to.
         file: &'a str,
     },
@@ -82,8 +97,8 @@ pub enum Request<'a> {
         directories: Directories<'a>,
         /// The options. No cost is told.
         options: Options,
-        /// The files, as they were written. There is at least one.
-        files: Vec<&'a str>,
+        /// The files, or standard input.
+        subjects: Subjects<'a>,
     },
     /// The glob rules of a cache.
     List {
@@ -112,8 +127,8 @@ pub enum Request<'a> {
         source: Source<'a>,
         /// The options.
         options: Options,
-        /// The files, as they were written. There is at least one.
-        files: Vec<&'a str>,
+        /// The files, or standard input.
+        subjects: Subjects<'a>,
     },
 }
 

@@ -7,7 +7,8 @@ mod plain;
 mod refusals;
 
 pub use build::{
-    output_first_spelling_of_build, spelling_of_build_of_user, usual_spelling_of_build,
+    output_first_spelling_of_build, spelling_of_build_of_user, spelling_of_build_without_twins,
+    usual_spelling_of_build,
 };
 pub use cache::{
     usual_spelling_of_icon, usual_spelling_of_is_a, usual_spelling_of_list, usual_spelling_of_type,
@@ -15,5 +16,5 @@ pub use cache::{
 pub use directories::parts_of_directories;
 pub use plain::usual_spelling_of_plain;
 pub use refusals::{
-    no_words, spelling_of_version, spellings_of_help, words_that_conflict, words_that_lack,
+    no_words, spellings_of_help, spellings_of_version, words_that_conflict, words_that_lack,
 };

@@ -2,3 +2,4 @@ pub mod LineFiles
 pub mod Merges
 pub mod MagicLemmas
 pub mod FaultLemmas
+pub mod SaidDirs

@@ -7,4 +7,5 @@ pub mod Picking
 pub mod Plain
 pub mod Spelled
 pub mod Twins
+pub mod TwinKeys
 pub mod Known

@@ -1,3 +1,4 @@
 pub mod Lines
 pub mod Magic
 pub mod Merging
+pub mod DirTexts

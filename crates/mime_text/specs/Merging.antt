@@ -1,12 +1,14 @@
 pub mod Rows
 pub mod Gathering
 pub mod Hiding
+pub mod TwinKeys
 -- What merged data directories say, the most preferred first.
 use Rattle.std.specs.Prelude.{ℕ, Bool, not, List, [], ◌∷◌, ◌++◌, fold, map, filter, bytes_eq, if◌then◌else◌}
 use Rattle.std.specs.List.{flat_map, list_any}
 use Rattle.mime_base.specs.Database.{PlainDatabase}
 use Rattle.mime_base.specs.Falling.{falling}
 use Rattle.mime_base.specs.Kept.Hidden.{visible}
+use Rattle.mime_base.specs.Kept.Twins.{without_twins}
 use Rattle.mime_base.specs.Magic.{PlainSection, plain_sections}
 use Rattle.mime_base.specs.Database.PlainPairs.{is_same_pair, plain_icons, plain_pairs}
 use Rattle.mime_base.specs.declared.database.rule.GlobRule.{GlobRule}
@@ -99,16 +101,24 @@ merged dirs = record {
   generic_icons = once has_same_name (flat_map (λ dir. dir.generic_icons) dirs);
 }
 
--- a database without the rules that are never kept
-abbrev pub visible_database : PlainDatabase → PlainDatabase
-visible_database b = record {
-  rules = visible b.rules;
+-- a database with other rules
+abbrev pub with_rules : PlainDatabase → List GlobRule → PlainDatabase
+with_rules b rules = record {
+  rules = rules;
   aliases = b.aliases;
   parents = b.parents;
   sections = b.sections;
   icons = b.icons;
   generic_icons = b.generic_icons;
 }
+
+-- a database without the rules that are never kept
+abbrev pub visible_database : PlainDatabase → PlainDatabase
+visible_database b = with_rules b (visible b.rules)
+
+-- a database without the twins of case-sensitive rules
+abbrev pub twinless_database : PlainDatabase → PlainDatabase
+twinless_database b = with_rules b (without_twins b.rules)
 
 -- ---- the values of the code
 

@@ -15,10 +15,12 @@
 //! `lines` is the module to read first.
 #![tactic(auto)]
 
+mod dir_texts;
 mod lines;
 mod magic;
 mod merging;
 
+pub use dir_texts::{DirTexts, DirsFault, read_dirs};
 pub use lines::globs2::{GlobsFile, read_globs2};
 pub use lines::icons::{IconsFile, read_icons};
 pub use lines::pairs::{PairsFile, read_pairs};
@@ -27,4 +29,5 @@ pub use magic::{
     magic_text_or_fault, read_magic, truncated_can_go_on,
 };
 pub use merging::hidden::visible;
+pub use merging::twins::without_twins;
 pub use merging::{DirFiles, merge, merge_visible};

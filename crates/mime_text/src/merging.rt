@@ -17,6 +17,7 @@ pub mod hidden;
 mod kept;
 mod key;
 mod priority;
+pub mod twins;
 mod types;
 
 use crate::lines::globs2::GlobsFile;

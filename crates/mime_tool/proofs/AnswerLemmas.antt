@@ -1,6 +1,7 @@
 -- Lemmas on answers, and on the lines of files.
 pub mod CachedLines
 pub mod CachedStops
+pub mod Kinds
 pub mod Lines
 pub mod AnswersFrom
 pub mod AnswersOver

@@ -1,10 +1,12 @@
 -- What `build` stores, and what it says.
-use Rattle.std.specs.Prelude.{◌≡◌, ◌≢◌, ◌⊎◌, ◌<◌, ◌≤◌, ℕ, true, List, [], ◌++◌, Option, Some, Result, Ok, Err, Vec, codes, length, string_bytes}
+use Rattle.std.specs.Prelude.{◌≡◌, ◌≢◌, ◌⊎◌, ◌<◌, ◌≤◌, ℕ, Bool, true, if◌then◌else◌, List, [], ◌++◌, Option, Some}
+use Rattle.std.specs.Prelude.{Result, Ok, Err, Vec, codes, length, string_bytes}
 use Rattle.std.specs.declared.alloc.Global.{Global}
 use Rattle.mime_base.specs.Database.{PlainDatabase}
 use Rattle.mime_base.specs.Format.Packed.{Packed}
 use Rattle.mime_base.specs.Format.Room.{room}
 use Rattle.mime_base.specs.Format.Spells.{Spells, cache_limit}
+use Rattle.mime_text.specs.Merging.{twinless_database}
 use Rattle.mime_tool.specs.Desk.{Ends, State}
 use Rattle.mime_request.specs.Request.{PlainDirectories}
 use Rattle.mime_tool.specs.Directories.{IsCommand, IsDatabaseOf}
@@ -21,6 +23,10 @@ temp_of file = file ++ codes ".new"
 -- what is known of replacing the file by a cache
 abbrev pub writing_of : (List ℕ → List ℕ → Writing) → List ℕ → Writing
 writing_of writes file = writes file (codes ".new")
+
+-- what is written of a database: all of it, or all but the twins of case-sensitive rules
+abbrev pub written_of : Bool → PlainDatabase → PlainDatabase
+written_of drop_twins database = if drop_twins then twinless_database database else database
 
 -- the message on a database that no cache can hold
 abbrev pub too_large : List ℕ
@@ -53,20 +59,21 @@ IsBuildOver file writing old new database run =
     ⊎ ((IsBuilt file old new database × (writing ≢ fails) × (run ≡ silent))
     ⊎ (Untouched (temp_of file) old new × (run ≡ cut_short))))
 
--- the run of `build` over these directories; where it stops, the file is as it was
-abbrev pub IsBuild : Option PlainEnvironment → PlainDirectories → List ℕ → (List ℕ → List ℕ → Writing) → (List ℕ → Stored)
+-- the run of `build` over these directories, with their twins or without; where it stops, the file is as it was
+abbrev pub IsBuild : Option PlainEnvironment → PlainDirectories → Bool → List ℕ → (List ℕ → List ℕ → Writing) → (List ℕ → Stored)
     → (List ℕ → Stored) → List (List ℕ) → Run → Type 0
-IsBuild environment dirs file writes old new files run =
-    IsCommand old environment dirs (λ database _. IsBuildOver file (writing_of writes file) old new database) files run
+IsBuild environment dirs drop_twins file writes old new files run =
+    IsCommand old environment dirs
+    (λ database _. IsBuildOver file (writing_of writes file) old new (written_of drop_twins database)) files run
     × (stops run ≡ true → Untouched (temp_of file) old new)
 
 -- what `build` may leave stored, however it ends: the file is as it was, or it is a cache of the database
--- of these directories
-abbrev pub LeavesBuilt : Option PlainEnvironment → PlainDirectories → List ℕ → (List ℕ → Stored) → (List ℕ → Stored) → Type 0
-LeavesBuilt environment dirs file old new =
+-- of these directories, with its twins or without
+abbrev pub LeavesBuilt : Option PlainEnvironment → PlainDirectories → Bool → List ℕ → (List ℕ → Stored) → (List ℕ → Stored) → Type 0
+LeavesBuilt environment dirs drop_twins file old new =
     Untouched (temp_of file) old new
     ⊎ ((database : PlainDatabase) × (messages : List ℕ) × IsDatabaseOf old environment dirs (Some database) messages
-    × IsBuilt file old new database)
+    × IsBuilt file old new (written_of drop_twins database))
 
 -- ---- the parts of `build`
 
@@ -92,8 +99,10 @@ pub record BuildsOver (database : PlainDatabase) (file : List ℕ) (before after
   pub leaves : LeavesOver file before.stored after.stored database result
 
 -- the run of `build`, up to the message of a stop
-pub record Builds (environment : Option PlainEnvironment) (dirs : PlainDirectories) (file : List ℕ) (before after : State)
-    (result : Result ℕ Stop) : Type 0 where
+pub record Builds (environment : Option PlainEnvironment) (dirs : PlainDirectories) (drop_twins : Bool) (file : List ℕ)
+    (before after : State) (result : Result ℕ Stop) : Type 0 where
   pub same_setting : after.setting ≡ before.setting
-  pub sinks : Ends (IsBuild environment dirs file before.setting.writes before.stored after.stored) [] before.sinks after.sinks result
-  pub leaves : LeavesBuilt environment dirs file before.stored after.stored
+  pub sinks :
+      Ends (IsBuild environment dirs drop_twins file before.setting.writes before.stored after.stored) [] before.sinks
+      after.sinks result
+  pub leaves : LeavesBuilt environment dirs drop_twins file before.stored after.stored

@@ -6,12 +6,16 @@ use Rattle.std.specs.declared.io.ErrorKind.TheVariants as kind
 use Rattle.mime_lookup.specs.Content.{Health, broken, sound}
 use Rattle.mime_tool.specs.declared.files.FileFault.{FileFault}
 use Rattle.mime_tool.specs.declared.files.FileFault.TheVariants.{Failed, Folder, OutOfMemory}
+use Rattle.mime_tool.specs.declared.files.Inode.{Inode}
+use Rattle.mime_tool.specs.declared.files.Inode.TheVariants.{Directory, Symlink}
 
--- what is stored at a path: nothing, a folder, something else that can't be opened, a file whose reads all fail, or a file of
--- these bytes; or that isn't known
+-- what is stored at a path: nothing, a link that leads nowhere, a folder, a device, a pipe or a socket of this kind, something
+-- else that can't be opened, a file whose reads all fail, or a file of these bytes; or that isn't known
 pub data Stored : Type 0 where
   nothing : Stored
+  dangling : Stored
   folder : Stored
+  special : Inode → Stored
   closed : Stored
   unreadable : Stored
   bytes : List ℕ → Stored
@@ -22,20 +26,23 @@ abbrev pub Tells : Stored → Result (Option (Vec ℕ Global)) FileFault → Typ
 Tells unknown answer = Unit {0}
 Tells stored (Err OutOfMemory) = Unit {0}
 Tells stored (Err Folder) = stored ≡ folder
-Tells stored (Err Failed) = (stored ≡ closed) ⊎ (stored ≡ unreadable)
-Tells stored (Ok None) = stored ≡ nothing
+Tells stored (Err Failed) = (stored ≡ closed) ⊎ (stored ≡ unreadable) ⊎ ((kind : Inode) × (stored ≡ special kind))
+Tells stored (Ok None) = (stored ≡ nothing) ⊎ (stored ≡ dangling)
 Tells stored (Ok (Some v)) = stored ≡ bytes v.items
 
 -- whether something is stored, of whatever kind
 abbrev pub IsThere : Stored → Bool → Type 0
 IsThere nothing there = there ≡ false
+IsThere dangling there = there ≡ false
 IsThere unknown there = Unit {0}
 IsThere stored there = there ≡ true
 
 -- a reader of what is stored: it gives just the bytes, or its reads all fail
 abbrev pub IsReaderOf : {R : Type 0} → (R → Option (List ℕ)) → (R → Health) → Stored → R → Type 0
 IsReaderOf remaining health nothing reader = ⊥
+IsReaderOf remaining health dangling reader = ⊥
 IsReaderOf remaining health folder reader = ⊥
+IsReaderOf remaining health (special kind) reader = ⊥
 IsReaderOf remaining health closed reader = ⊥
 IsReaderOf remaining health unreadable reader = (remaining reader ≡ Some []) × (health reader ≡ broken)
 IsReaderOf remaining health (bytes bs) reader = (remaining reader ≡ Some bs) × (health reader ≡ sound)
@@ -50,7 +57,9 @@ IsFolder _ = ⊥
 -- nothing that can be opened is stored, and no folder
 abbrev pub IsShut : Stored → Type 0
 IsShut nothing = Unit {0}
+IsShut dangling = Unit {0}
 IsShut folder = ⊥
+IsShut (special kind) = Unit {0}
 IsShut closed = Unit {0}
 IsShut unreadable = ⊥
 IsShut (bytes bs) = ⊥
@@ -62,6 +71,18 @@ IsOpening remaining health stored (Ok reader) = IsReaderOf remaining health stor
 IsOpening remaining health stored (Err Folder) = IsFolder stored
 IsOpening remaining health stored (Err Failed) = IsShut stored
 IsOpening remaining health stored (Err OutOfMemory) = Unit {0}
+
+-- the kind of what is no regular file: a link is what it leads to, and itself where it leads nowhere
+abbrev pub inode_of : Stored → Option Inode
+inode_of dangling = Some Symlink
+inode_of folder = Some Directory
+inode_of (special kind) = Some kind
+inode_of _ = None
+
+-- what is stored is of this kind
+abbrev pub IsOfKind : Stored → Option Inode → Type 0
+IsOfKind unknown kind = Unit {0}
+IsOfKind stored kind = kind ≡ inode_of stored
 
 -- what is known of a replacement: that it succeeds, that it fails, or nothing; memory aside
 pub data Writing : Type 0 where
@@ -94,7 +115,9 @@ Replaces temp path bs writing old new (Err fault) = Untouched temp old new × (w
 -- the text of a file: an empty one where there is no file, and none where it can't be read
 abbrev pub IsTextOf : Stored → Option (List ℕ) → Type 0
 IsTextOf nothing text = text ≡ Some []
+IsTextOf dangling text = text ≡ Some []
 IsTextOf folder text = text ≡ None
+IsTextOf (special kind) text = text ≡ None
 IsTextOf closed text = text ≡ None
 IsTextOf unreadable text = text ≡ None
 IsTextOf (bytes bs) text = text ≡ Some bs
@@ -103,7 +126,9 @@ IsTextOf unknown text = Unit {0}
 -- the bytes of a file that has to be there: none where there is no file, or it can't be read
 abbrev pub IsBytesOf : Stored → Option (List ℕ) → Type 0
 IsBytesOf nothing found = found ≡ None
+IsBytesOf dangling found = found ≡ None
 IsBytesOf folder found = found ≡ None
+IsBytesOf (special kind) found = found ≡ None
 IsBytesOf closed found = found ≡ None
 IsBytesOf unreadable found = found ≡ None
 IsBytesOf (bytes bs) found = found ≡ Some bs

@@ -10,6 +10,7 @@ use Rattle.mime_lookup.specs.Bounds.{bytes_max, nodes_max}
 use Rattle.mime_lookup.specs.CheckingOrder.{Chooses, globs_suffice, read_of}
 use Rattle.mime_lookup.specs.Content.{Advances, GivesUp, Health, OfReader, Retries, Tally, broken, sound}
 use Rattle.mime_lookup.specs.declared.order.Order.{Order}
+use Rattle.mime_lookup.specs.declared.order.Order.TheVariants.{AllGlobs}
 use Rattle.mime_lookup.specs.declared.stopped.Cause.{Cause}
 use Rattle.mime_lookup.specs.declared.stopped.Cause.TheVariants as cause
 use Rattle.mime_lookup.specs.declared.stopped.Stopped.{Stopped}
@@ -46,20 +47,20 @@ SayDirs (dir ∷ dirs) (plain ∷ plains) = SaysDir dir plain × SayDirs dirs pl
 abbrev pub SayDatabase : List DirBytes → PlainDatabase → Type 0
 SayDatabase dirs b = (plains : List PlainDir) × SayDirs dirs plains × (b ≡ visible_database (merged plains))
 
--- over the visible rules of a database the same types are chosen as over all
+-- over the visible rules of a database the same types are chosen as over all, by an order that asks the kept rules alone
 abbrev pub VisibleChoosesAlike : Type 0
 VisibleChoosesAlike = (b : PlainDatabase) (name : List ℕ) (content : Option (List ℕ)) (host : Host) (order : Order) (kind : List ℕ)
-    → (Chooses (visible_database b) name content host order kind ↔ Chooses b name content host order kind)
+    → order ≢ AllGlobs → (Chooses (visible_database b) name content host order kind ↔ Chooses b name content host order kind)
 
 -- the globs alone decide over both or over neither
 abbrev pub VisibleSufficesAlike : Type 0
 VisibleSufficesAlike =
-    (b : PlainDatabase) (name : List ℕ) (order : Order) → globs_suffice (visible_database b) name order ≡ globs_suffice b name order
+    (b : PlainDatabase) (name : List ℕ) (order : Order) → order ≢ AllGlobs → globs_suffice (visible_database b) name order ≡ globs_suffice b name order
 
 -- as much of a content is read
 abbrev pub VisibleReadsAlike : Type 0
 VisibleReadsAlike = (b : PlainDatabase) (name : List ℕ) (content : Option (List ℕ)) (order : Order)
-    → read_of (visible_database b) name content order ≡ read_of b name content order
+    → order ≢ AllGlobs → read_of (visible_database b) name content order ≡ read_of b name content order
 
 -- the directory of this number, counted from 0, is the first whose magic has a fault, and this is its first
 abbrev pub FirstRefused : List DirBytes → ℕ → MagicFault → Type 0

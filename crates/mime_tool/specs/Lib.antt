@@ -14,11 +14,13 @@ pub mod List
 pub mod Loading
 pub mod Output
 pub mod Plain
+pub mod Process
 pub mod Program
 pub mod Run
 pub mod Sources
 pub mod Sink
 pub mod Stop
+pub mod Subjects
 pub mod TypeNames
 pub mod Types
 pub mod Words

@@ -5,7 +5,7 @@ use Rattle.mime_lookup.specs.Content.{Health}
 use Rattle.mime_request.specs.declared.request.Output.{Output}
 use Rattle.mime_tool.specs.Files.{IsReaderOf, Stored}
 use Rattle.mime_tool.specs.Finish.{Sinks}
-use Rattle.mime_tool.specs.Line.{IsTypeLineBy, PlainLookup, cannot_open, too_long}
+use Rattle.mime_tool.specs.Line.{IsLineOf, IsLineOfKind, PlainLookup, cannot_open, too_long, with_inode}
 use Rattle.mime_tool.specs.Output.{answer_of, written}
 use Rattle.mime_tool.specs.Plain.{lookup_over}
 use Rattle.mime_tool.specs.Run.{Run, cannot_read, printed, silent, stopped, unanswered}
@@ -26,7 +26,7 @@ lookup_in (data_of.Cache path bytes cost) lookup = lookup_by path.now lookup.nam
 
 -- the plain value of a lookup
 abbrev pub plain_lookup : Lookup → PlainLookup
-plain_lookup lookup = lookup_in lookup.by lookup
+plain_lookup lookup = with_inode lookup.inode (lookup_in lookup.by lookup)
 
 -- what is told of a cost
 abbrev pub tail_of : Option Cost → List ℕ
@@ -48,13 +48,20 @@ IsContent remaining health false stored None = ⊥
 IsContent remaining health false stored (Some reader) = IsReaderOf remaining health stored reader
 
 -- what is written of what a file comes to is its line, and so is the message of a refusal; or memory ran out
+abbrev pub GivesLine : (Run → Type 0) → Output → List ℕ → Result Outcome Stop → Type 0
+GivesLine IsLine output file (Ok o) = IsLine (run_of output (written output file) o)
+GivesLine IsLine output file (Err (stop.Refused message)) = IsLine (stopped (string_bytes message) silent)
+GivesLine IsLine output file (Err stop.CannotWrite) = ⊥
+GivesLine IsLine output file (Err stop.OutOfMemory) = Unit {0}
+
+-- what a file that is looked up comes to
 abbrev pub LooksUp : PlainLookup → Stored → List ℕ → Result Outcome Stop → Type 0
-LooksUp lookup stored file (Ok o) = IsTypeLineBy lookup.name_only lookup stored file (run_of lookup.output (written lookup.output file) o)
-LooksUp lookup stored file (Err (stop.Refused message)) =
-    IsTypeLineBy lookup.name_only lookup stored file (stopped (string_bytes message) silent)
-LooksUp lookup stored file (Err stop.CannotWrite) = ⊥
-LooksUp lookup stored file (Err stop.OutOfMemory) = Unit {0}
+LooksUp lookup stored file result = GivesLine (IsLineOfKind None lookup stored file) lookup.output file result
 
 -- the same, and nothing is written yet
+abbrev pub LooksUpHere : PlainLookup → Stored → List ℕ → Sinks → Sinks → Result Outcome Stop → Type 0
+LooksUpHere lookup stored file old new result = (new ≡ old) × LooksUp lookup stored file result
+
+-- what a file comes to, by its kind or looked up, and nothing is written yet
 abbrev pub ComesTo : PlainLookup → Stored → List ℕ → Sinks → Sinks → Result Outcome Stop → Type 0
-ComesTo lookup stored file old new result = (new ≡ old) × LooksUp lookup stored file result
+ComesTo lookup stored file old new result = (new ≡ old) × GivesLine (IsLineOf lookup stored file) lookup.output file result

@@ -4,15 +4,16 @@ use Rattle.mime_base.specs.Database.{PlainDatabase}
 use Rattle.mime_base.specs.declared.magic.host.Host.TheVariants.{Little}
 use Rattle.mime_lookup.specs.CheckingOrder.{Chooses, globs_suffice}
 use Rattle.mime_lookup.specs.declared.order.Order.{Order}
-use Rattle.mime_request.specs.Request.{PlainDirectories}
+use Rattle.mime_request.specs.Request.{PlainDirectories, PlainSubjects}
 use Rattle.mime_request.specs.declared.request.Options.{Options}
 use Rattle.mime_request.specs.declared.request.Output.{Output}
 use Rattle.mime_tool.specs.Directories.{IsCommand}
-use Rattle.mime_tool.specs.Environment.{PlainEnvironment}
 use Rattle.mime_tool.specs.Files.{Stored}
-use Rattle.mime_tool.specs.Line.{IsTypeLine, PlainLookup, name_for, order_of}
+use Rattle.mime_tool.specs.Line.{IsTypeLine, PlainLookup, asked_order, name_for, with_inode}
 use Rattle.mime_tool.specs.Output.{type_line, written}
+use Rattle.mime_tool.specs.Process.{PlainProcess}
 use Rattle.mime_tool.specs.Run.{IsEach, Run, cannot_read, printed, unanswered}
+use Rattle.mime_tool.specs.Subjects.{contents_in}
 
 -- the line of a file, with a type that the checking order gives to its name and this content
 abbrev pub IsTyped : Output → PlainDatabase → Order → Option (List ℕ) → List ℕ → Run → Type 0
@@ -33,6 +34,8 @@ IsGuessed output file run = ((kind : List ℕ) × (run ≡ printed (type_line ou
 abbrev pub lookup_over : Bool → Output → Order → PlainDatabase → PlainLookup
 lookup_over name_only output order database = record {
   name_only = name_only;
+  inode = false;
+  free = [];
   output = output;
   name_of = name_for order;
   IsTyped = IsTyped output database order;
@@ -40,11 +43,13 @@ lookup_over name_only output order database = record {
   IsGuessed = IsGuessed output;
 }
 
--- the lines of FILEs over this data with these options, where this is stored at each path
+-- the lines of names over this data with these options, where this is the content of each
 abbrev pub AreTypeLines : (List ℕ → Stored) → Options → PlainDatabase → List (List ℕ) → Run → Type 0
-AreTypeLines stored options database =
-    IsEach (IsTypeLine (lookup_over options.name_only options.output (order_of options.content_only options.magic_first) database) stored)
+AreTypeLines contents options database =
+    IsEach (IsTypeLine (with_inode options.inode
+    (lookup_over options.name_only options.output (asked_order options) database)) contents)
 
--- the run of `plain` over these directories with these options, for FILEs
-abbrev pub IsPlain : (List ℕ → Stored) → Option PlainEnvironment → PlainDirectories → Options → List (List ℕ) → Run → Type 0
-IsPlain stored environment dirs options = IsCommand stored environment dirs (AreTypeLines stored options)
+-- the run of `plain` over these directories with these options, for what is looked up
+abbrev pub IsPlain : (List ℕ → Stored) → PlainProcess → PlainDirectories → Options → PlainSubjects → List (List ℕ) → Run → Type 0
+IsPlain stored process dirs options subjects =
+    IsCommand stored process.environment dirs (AreTypeLines (contents_in subjects stored process.input) options)

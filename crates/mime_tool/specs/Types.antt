@@ -11,16 +11,17 @@ use Rattle.mime_lookup.specs.CheckingOrder.{Chooses, globs_suffice, read_of}
 use Rattle.mime_lookup.specs.StepFaults.{IsLookUpFault}
 use Rattle.mime_lookup.specs.declared.order.Order.{Order}
 use Rattle.mime_view.specs.declared.fault.CacheFault.{CacheFault}
-use Rattle.mime_request.specs.Request.{PlainSource}
+use Rattle.mime_request.specs.Request.{PlainSource, PlainSubjects}
 use Rattle.mime_request.specs.declared.request.Options.{Options}
 use Rattle.mime_request.specs.declared.request.Output.{Output}
 use Rattle.mime_tool.specs.Cache.{IsAnsweredOr, IsRefused}
-use Rattle.mime_tool.specs.Environment.{PlainEnvironment}
 use Rattle.mime_tool.specs.Files.{Stored}
-use Rattle.mime_tool.specs.Line.{IsTypeLine, PlainLookup, name_for, order_of}
+use Rattle.mime_tool.specs.Line.{IsTypeLine, PlainLookup, asked_order, name_for, with_inode}
 use Rattle.mime_tool.specs.Output.{type_line, written}
+use Rattle.mime_tool.specs.Process.{PlainProcess}
 use Rattle.mime_tool.specs.Run.{IsEach, Run, cannot_read, printed, unanswered}
 use Rattle.mime_tool.specs.Sources.{IsSourceCommand}
+use Rattle.mime_tool.specs.Subjects.{contents_in}
 
 -- what `--cost` tells of an answer: the records that were visited, the bytes that were compared, and those that were read
 abbrev pub cost_text : Meter → ℕ → List ℕ
@@ -68,6 +69,8 @@ CannotBeRead cache output order file run =
 abbrev pub lookup_by : List ℕ → Bool → Bool → Output → Order → List ℕ → PlainLookup
 lookup_by path name_only cost output order cache = record {
   name_only = name_only;
+  inode = false;
+  free = cost_tail cost (record { nodes = 0; bytes = 0 }) 0;
   output = output;
   name_of = name_for order;
   IsTyped = λ content file. IsAnsweredOr path (RefusesLookup cache) (IsLine cache cost output order file (IsChosen content order file));
@@ -77,11 +80,13 @@ lookup_by path name_only cost output order cache = record {
       (λ run. IsLine cache cost output order file (λ _ _ _. ⊤) run ⊎ CannotBeRead cache output order file run);
 }
 
--- the lines of FILEs by a cache at this path with these options, where this is stored at each path
+-- the lines of names by a cache at this path with these options, where this is the content of each
 abbrev pub AreLinesBy : (List ℕ → Stored) → Options → List ℕ → List ℕ → List (List ℕ) → Run → Type 0
-AreLinesBy stored options path cache =
-    IsEach (IsTypeLine (lookup_by path options.name_only options.cost options.output (order_of options.content_only options.magic_first) cache) stored)
+AreLinesBy contents options path cache =
+    IsEach (IsTypeLine (with_inode options.inode
+    (lookup_by path options.name_only options.cost options.output (asked_order options) cache)) contents)
 
--- the run of `type` over what is asked with these options, for FILEs
-abbrev pub IsType : (List ℕ → Stored) → Option PlainEnvironment → PlainSource → Options → List (List ℕ) → Run → Type 0
-IsType stored environment source options = IsSourceCommand stored environment source (AreLinesBy stored options)
+-- the run of `type` over what is asked with these options, for what is looked up
+abbrev pub IsType : (List ℕ → Stored) → PlainProcess → PlainSource → Options → PlainSubjects → List (List ℕ) → Run → Type 0
+IsType stored process source options subjects =
+    IsSourceCommand stored process.environment source (AreLinesBy (contents_in subjects stored process.input) options)

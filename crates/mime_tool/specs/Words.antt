@@ -2,7 +2,7 @@
 use Rattle.std.specs.Prelude.{ℕ, List, [], ◌∷◌, ◌++◌, Option, Some, None, codes, decimal, if◌then◌else◌, map}
 use Rattle.std.specs.List.{list_any}
 use Rattle.std.specs.Str.{bytes_eq}
-use Rattle.mime_request.specs.Request.{Meaning, PlainRequest, asks, meaning_of, plain, refused, type_of}
+use Rattle.mime_request.specs.Request.{Meaning, PlainRequest, PlainSubjects, asks, meaning_of, of_files, of_input, plain, refused, type_of}
 use Rattle.mime_tool.specs.Program.{asked_files}
 use Rattle.mime_tool.specs.declared.words.RawWord.{RawWord}
 
@@ -20,10 +20,15 @@ name_of (raw ∷ raws) text = if bytes_eq text raw.stand_in.now then raw.bytes.n
 abbrev pub names_of : List RawWord → List (List ℕ) → List (List ℕ)
 names_of raws files = map (name_of raws) files
 
+-- what is looked up, with the names of FILEs
+abbrev pub named_subjects : List RawWord → PlainSubjects → PlainSubjects
+named_subjects raws (of_files files) = of_files (names_of raws files)
+named_subjects raws (of_input name) = of_input name
+
 -- a request, with the names of its FILEs
 abbrev pub with_names : List RawWord → PlainRequest → PlainRequest
-with_names raws (plain dirs options files) = plain dirs options (names_of raws files)
-with_names raws (type_of source options files) = type_of source options (names_of raws files)
+with_names raws (plain dirs options subjects) = plain dirs options (named_subjects raws subjects)
+with_names raws (type_of source options subjects) = type_of source options (named_subjects raws subjects)
 with_names raws q = q
 
 -- the number of the first word that is no text and none of these FILEs

@@ -3,10 +3,10 @@
 ghost use Rattle.std.specs.Prelude.{◌≡◌, IfOk, Ok, OnOk, Some, is_some, true};
 ghost use Rattle.std.specs.List.{flat_map};
 ghost use Rattle.mime_tool.specs.Desk.{Does, OpensFile, ReadsWhole, ReplacesFile, State, Works};
-ghost use Rattle.mime_tool.specs.Files.{IsBytesOf, IsTextOf, IsThere};
+ghost use Rattle.mime_tool.specs.Files.{IsBytesOf, IsOfKind, IsTextOf, IsThere};
 ghost use Rattle.mime_tool.specs.Run.{printed, refusal, said};
 
-use crate::files::{FileFault, Files};
+use crate::files::{FileFault, Files, Inode};
 use crate::sink::{Sink, put_all};
 use crate::stop::{Stop, complain, unreadable, unwritable};
 use mime_base::OutOfMemory;
@@ -52,6 +52,11 @@ pub(crate) trait Desk {
     fn exists(&mut self, path: &str) -> Result<bool, OutOfMemory>
         ensures stays { state self.new ≡ state self.old }
         ensures there { IfOk result (IsThere ((state self.old).stored path.now)) };
+
+    /// What kind of thing lies at a path, where it is no regular file.
+    fn inode(&mut self, path: &[u8]) -> Result<Option<Inode>, OutOfMemory>
+        ensures stays { state self.new ≡ state self.old }
+        ensures kind { IfOk result (IsOfKind ((state self.old).stored path.now)) };
 
     /// Opens a file.
     fn open(&mut self, path: &[u8]) -> Result<Opened<Self::Reader>, Stop>
@@ -120,6 +125,10 @@ impl<F: Files, O: Sink, E: Sink> Desk for Streams<'_, '_, '_, F, O, E> {
 
     fn exists(&mut self, path: &str) -> Result<bool, OutOfMemory> {
         self.files.exists(self.alloc, path)
+    }
+
+    fn inode(&mut self, path: &[u8]) -> Result<Option<Inode>, OutOfMemory> {
+        self.files.inode(self.alloc, path)
     }
 
     fn open(&mut self, path: &[u8]) -> Result<Opened<F::Reader>, Stop> {

@@ -1,7 +1,7 @@
 //! Where files come from. This project's own.
 
 ghost use Rattle.std.specs.Prelude.{◌≡◌, ◌++◌, ℕ, List, IfOk};
-ghost use Rattle.mime_tool.specs.Files.{IsOpening, IsThere, Replaces, Stored, Tells, Writing, unforeseen, unknown};
+ghost use Rattle.mime_tool.specs.Files.{IsOfKind, IsOpening, IsThere, Replaces, Stored, Tells, Writing, unforeseen, unknown};
 ghost use Rattle.mime_tool.specs.declared.files.FileFault.TheVariants.{OutOfMemory};
 
 use mime_base::OutOfMemory;
@@ -21,6 +21,23 @@ pub enum FileFault {
     /// There was no memory for it.
     #[error("out of memory")]
     OutOfMemory,
+}
+
+/// What lies at a path, where it is no regular file. A link counts as what it leads to.
+#[derive(Clone, Copy, Debug, PartialEq, Eq)]
+pub enum Inode {
+    /// A folder.
+    Directory,
+    /// A device of characters, such as a terminal.
+    CharDevice,
+    /// A device of blocks, such as a disk.
+    BlockDevice,
+    /// A pipe.
+    Fifo,
+    /// A socket.
+    Socket,
+    /// A link that leads nowhere.
+    Symlink,
 }
 
 impl From<AllocError> for FileFault {
@@ -58,6 +75,16 @@ pub trait Files {
     fn exists(&mut self, alloc: Global, path: &str) -> Result<bool, OutOfMemory>
         // It says whether nothing is stored there.
         ensures there { IfOk result (IsThere (tells self.old path.now)) }
+        // What is stored stays.
+        ensures stays { tells self.new ≡ tells self.old }
+        // What is known of replacing files stays.
+        ensures writes { writes self.new ≡ writes self.old };
+
+    /// What kind of thing lies at a path, or `None` where it is a regular file or none, or can't be looked at.
+    /// Nothing is opened.
+    fn inode(&mut self, alloc: Global, path: &[u8]) -> Result<Option<Inode>, OutOfMemory>
+        // It is the kind of what is stored there.
+        ensures kind { IfOk result (IsOfKind (tells self.old path.now)) }
         // What is stored stays.
         ensures stays { tells self.new ≡ tells self.old }
         // What is known of replacing files stays.

@@ -168,12 +168,13 @@ pub fn answer<R: Content>(
     answer_over(alloc, &database, name, content, host, order)
 }
 
-/// The law of what is left out: over the visible rules of a database the checking order says what it says over all.
+/// The law of what is left out: over the visible rules of a database an order that asks the kept rules alone says what
+/// it says over all.
 ///
 /// So what [`answer`] gives over the database of the directories, whose rules are the visible ones, is also the
-/// answer over all that their texts say.
+/// answer over all that their texts say. Under [`Order::AllGlobs`] a rule that is never kept is no candidate either.
 pub fn visible_chooses_alike()
-    // The same type is chosen for a name and a content, by any order.
+    // The same type is chosen for a name and a content, by any order but that which asks all rules.
     ensures chooses { VisibleChoosesAlike }
     // The globs alone decide over both or over neither.
     ensures suffices { VisibleSufficesAlike }

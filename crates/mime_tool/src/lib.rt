@@ -8,7 +8,8 @@
 //! let mut out = Stream(rt.stdout());
 //! let mut err = Stream(rt.stderr());
 //! let words = ["plain", "--name-only", "-d", "", "a"];
-//! let status = run(alloc, &words, &[], None, &mut files, &mut out, &mut err);
+//! let process = Process { environment: None, input: Untold(rt.stdin()) };
+//! let status = run(alloc, &words, &[], process, &mut files, &mut out, &mut err);
 //! ```
 //!
 //! This prints `a: application/octet-stream`, and the status is 0.
@@ -30,6 +31,7 @@ mod is_a;
 mod line;
 mod list;
 mod plain;
+mod process;
 mod program;
 mod sink;
 mod sources;
@@ -41,8 +43,10 @@ mod types;
 mod words;
 
 pub use environment::Environment;
-pub use files::{FileFault, Files};
+pub use files::{FileFault, Files, Inode};
 pub use from_texts::{AnswerFault, DirBytes, OwnedAnswer, answer, visible_chooses_alike};
+pub use mime_lookup::{Content, Untold};
+pub use process::Process;
 pub use program::run;
 pub use sink::{Sink, SinkFault};
 pub use system::{Stream, SystemFiles, read_whole};

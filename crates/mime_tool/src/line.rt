@@ -1,26 +1,32 @@
 //! The line of a FILE, or why it has none. This project's own.
 
-ghost use Rattle.std.specs.Prelude.{◌≡◌, IfOk, [], string_bytes};
+ghost use Rattle.std.specs.Prelude.{◌≡◌, IfOk, [], ◌∷◌, string_bytes};
 ghost use Rattle.clap.specs.Walk.{texts};
+ghost use Rattle.mime_request.specs.Request.{plain_subjects};
 ghost use Rattle.mime_tool.specs.Desk.{Does, Ends, Works};
-ghost use Rattle.mime_tool.specs.Line.{IsTypeLine, base_name};
-ghost use Rattle.mime_tool.specs.LineSteps.{ComesTo, plain_lookup, run_of, tail_of};
+ghost use Rattle.mime_tool.specs.Line.{IsAskedKind, IsTypeLine, base_name, inode_name};
+ghost use Rattle.mime_tool.specs.LineSteps.{ComesTo, LooksUp, LooksUpHere, plain_lookup, run_of, tail_of};
 ghost use Rattle.mime_tool.specs.Output.{answer_end, answer_of, separator, written};
+ghost use Rattle.mime_tool.specs.Process.{given_by};
 ghost use Rattle.mime_tool.specs.Run.{IsEach, printed, refusal, unanswered};
+ghost use Rattle.mime_tool.specs.Subjects.{contents_in, names_in};
 ghost use Rattle.mime_tool.specs.Types.{cost_text};
-ghost use Rattle.mime_tool.specs.Words.{names_of};
+ghost use Rattle.mime_tool.specs.Words.{named_subjects, names_of};
 
 mod escape;
 mod lookup;
 
 use crate::desk::{Desk, Opened, report};
+use crate::files::Inode;
 use crate::status::{ANSWERED, NOT_ANSWERED};
 use crate::stop::Stop;
 use crate::words::{RawWord, name_of};
 use escape::escaped;
-use lookup::find;
-pub(crate) use lookup::{Cost, Data, Lookup, order_of};
-use mime_request::Output;
+use lookup::{find, free};
+pub(crate) use lookup::{Cost, Data, Lookup, asked_order};
+use mime_base::OutOfMemory;
+use mime_lookup::Content;
+use mime_request::{Output, Subjects};
 use std::alloc::{AllocError, Global};
 
 /// What a FILE comes to.
@@ -33,8 +39,56 @@ pub(crate) enum Outcome<'a> {
     CannotRead,
 }
 
-/// Prints the lines of the files in order, each by the name of its text, and gives the status.
-pub(crate) fn print_lines<D: Desk>(
+/// Prints the lines of what is looked up: of FILEs in order, each by the name of its text, or of standard
+/// input. Gives the status.
+pub(crate) fn print_subjects<D: Desk, I: Content + Drop>(
+    desk: &mut D,
+    lookup: Lookup<'_>,
+    subjects: &Subjects<'_>,
+    raws: &[RawWord<'_>],
+    input: I,
+) -> Result<u8, Stop>
+    // Each line is that of its name and its content: what is stored, or standard input.
+    ensures { Works (Ends (IsEach (IsTypeLine (plain_lookup lookup.entry)
+        (contents_in (named_subjects raws.now (plain_subjects subjects.now)) (D.state desk.old).stored
+        (given_by (I.remaining input) (I.health input)))))
+        (names_in (named_subjects raws.now (plain_subjects subjects.now)))) (D.state desk.old) (D.state desk.new) result }
+{
+    match subjects {
+        Subjects::Files(files) => print_lines(desk, lookup, files.as_slice(), raws),
+        Subjects::Input(name) => print_input(desk, lookup, name.as_bytes(), input),
+    }
+}
+
+// Prints the line of standard input under this name.
+fn print_input<D: Desk, I: Content + Drop>(
+    desk: &mut D,
+    lookup: Lookup<'_>,
+    name: &[u8],
+    input: I,
+) -> Result<u8, Stop>
+    ensures { Works (Ends (IsEach (IsTypeLine (plain_lookup lookup.entry)
+        (λ _. given_by (I.remaining input) (I.health input)))) (name.now ∷ [])) (D.state desk.old) (D.state desk.new) result }
+{
+    let outcome = input_outcome(desk.alloc(), lookup, name, input)?;
+    print_outcome(desk, lookup.output, name, outcome)
+}
+
+// What standard input comes to. It isn't read where its name alone is asked for.
+fn input_outcome<'a, I: Content + Drop>(
+    alloc: Global,
+    lookup: Lookup<'a>,
+    name: &[u8],
+    input: I,
+) -> Result<Outcome<'a>, Stop>
+    ensures { LooksUp (plain_lookup lookup.entry) (given_by (I.remaining input) (I.health input)) name.now result }
+{
+    let content = if lookup.name_only { None } else { Some(input) };
+    find(alloc, lookup, name, content)
+}
+
+// Prints the lines of the files in order.
+fn print_lines<D: Desk>(
     desk: &mut D,
     lookup: Lookup<'_>,
     files: &[&str],
@@ -59,13 +113,49 @@ fn print_line<D: Desk>(desk: &mut D, lookup: Lookup<'_>, file: &[u8]) -> Result<
     print_outcome(desk, lookup.output, file, outcome)
 }
 
-// What a file comes to. It is opened first, unless its name alone is asked for.
+// What a file comes to: by its kind, where that is asked for and it is no regular file, or looked up.
 fn outcome_of<'a, D: Desk>(
     desk: &mut D,
     lookup: Lookup<'a>,
     file: &[u8],
 ) -> Result<Outcome<'a>, Stop>
     ensures { Works (ComesTo (plain_lookup lookup.entry) ((D.state desk.old).stored file.now) file.now)
+        (D.state desk.old) (D.state desk.new) result }
+{
+    match kind_of(desk, lookup.inode, file)? {
+        Some(kind) => Ok(Outcome::Typed(inode_name(kind), free(lookup))),
+        None => file_outcome(desk, lookup, file),
+    }
+}
+
+// The kind of what is no regular file, where it is asked for.
+fn kind_of<D: Desk>(desk: &mut D, is_asked: bool, file: &[u8]) -> Result<Option<Inode>, OutOfMemory>
+    ensures stays { D.state desk.new ≡ D.state desk.old }
+    ensures kind { IfOk result (IsAskedKind is_asked ((D.state desk.old).stored file.now)) }
+{
+    if is_asked { desk.inode(file) } else { Ok(None) }
+}
+
+fn inode_name<'a>(kind: Inode) -> &'a [u8]
+    ensures { result.now ≡ inode_name kind }
+{
+    match kind {
+        Inode::Directory => b"inode/directory",
+        Inode::CharDevice => b"inode/chardevice",
+        Inode::BlockDevice => b"inode/blockdevice",
+        Inode::Fifo => b"inode/fifo",
+        Inode::Socket => b"inode/socket",
+        Inode::Symlink => b"inode/symlink",
+    }
+}
+
+// What a file that is looked up comes to. It is opened first, unless its name alone is asked for.
+fn file_outcome<'a, D: Desk>(
+    desk: &mut D,
+    lookup: Lookup<'a>,
+    file: &[u8],
+) -> Result<Outcome<'a>, Stop>
+    ensures { Works (LooksUpHere (plain_lookup lookup.entry) ((D.state desk.old).stored file.now) file.now)
         (D.state desk.old) (D.state desk.new) result }
 {
     let mut content: Option<D::Reader> = None;

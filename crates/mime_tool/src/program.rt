@@ -4,24 +4,25 @@
 ghost use Rattle.std.specs.Prelude.{◌≡◌, ◌≢◌, [], false, is_some, map, true};
 ghost use Rattle.clap.specs.Values.{kind_of};
 ghost use Rattle.clap.specs.Walk.{texts};
-ghost use Rattle.mime_request.specs.Request.{PlainRequest, asks, plain_request};
+ghost use Rattle.mime_request.specs.Request.{PlainRequest, asks, plain_request, plain_subjects};
 ghost use Rattle.mime_tool.specs.Desk.{Does, Ends, Works};
-ghost use Rattle.mime_tool.specs.Environment.{known_environment};
 ghost use Rattle.mime_tool.specs.Finish.{Finishes};
-ghost use Rattle.mime_tool.specs.Heard.{IsRefusedRun, IsReply, LeavesHeard, Replies, heard_files};
-ghost use Rattle.mime_tool.specs.Program.{Answers, IsAskedRun, IsShown, asked_files, is_help, shown};
+ghost use Rattle.mime_tool.specs.Heard.{IsRefusedRun, IsReply, LeavesHeard, Replies, heard_names};
+ghost use Rattle.mime_tool.specs.Process.{known_process};
+ghost use Rattle.mime_tool.specs.Program.{Answers, IsAskedRun, IsShown, asked_files, asked_names, is_help, shown};
 ghost use Rattle.mime_tool.specs.Run.{mistaken, printed};
 ghost use Rattle.mime_tool.specs.Sink.{IsHandedOn, Wrote};
 ghost use Rattle.mime_tool.specs.Stop.{IsFlushed};
+ghost use Rattle.mime_tool.specs.Subjects.{file_words};
 ghost use Rattle.mime_tool.specs.Words.{heard, heard_in, means, not_text, with_names};
 
 use crate::build::build;
 use crate::desk::{Desk, Streams};
-use crate::environment::Environment;
 use crate::files::Files;
 use crate::icon::icon;
 use crate::is_a::is_a;
 use crate::list::list;
+use crate::process::Process;
 use crate::sink::Sink;
 use crate::status::{ANSWERED, MISTAKEN};
 use crate::stop::{Stop, tell};
@@ -29,7 +30,8 @@ use crate::words::{RawWord, misplaced, refuse_word};
 use crate::{plain, types};
 use clap::Error;
 use clap::error::ErrorKind;
-use mime_request::{Request, request_of};
+use mime_lookup::Content;
+use mime_request::{Request, Subjects, request_of};
 use std::alloc::Global;
 use std::convert::AsStr;
 
@@ -39,8 +41,8 @@ use std::convert::AsStr;
 /// word can only be a FILE, whose name is its bytes. Where one is anything else it is named, and where the
 /// words are refused the first of them is; the status then is 2.
 ///
-/// Data directories that are not named are the user's, by `environment`; it is `None` where some
-/// variable of it is not text.
+/// Data directories that are not named are the user's, by the environment of `process`; its standard input
+/// is read for `--stdin` alone, and no further than the lookup wants.
 ///
 /// The status is 0 where every file was answered, a cache was stored, what was asked of a cache was
 /// printed, or help was shown; 1 where some file can't be opened or read or has a name that is too
@@ -48,11 +50,11 @@ use std::convert::AsStr;
 /// are refused, a cache can't be written or `out` fails; and 4 where memory ran out. Messages go to
 /// `err`, a line each; its faults are passed over, unless memory ran out. Lines that were printed
 /// before a stop stay, and are flushed.
-pub fn run<F: Files, O: Sink, E: Sink, S: AsStr>(
+pub fn run<F: Files, I: Content + Drop, O: Sink, E: Sink, S: AsStr>(
     alloc: Global,
     words: &[S],
     raws: &[RawWord<'_>],
-    environment: Option<Environment<'_>>,
+    process: Process<'_, I>,
     files: &mut F,
     out: &mut O,
     err: &mut E,
@@ -60,49 +62,49 @@ pub fn run<F: Files, O: Sink, E: Sink, S: AsStr>(
     // Whatever the words ask for, where it is known what standard output holds. What they ask for is what they mean, where all
     // are text.
     ensures answers { is_some (O.holds out.old) ≡ true
-        → Finishes (IsReply (known_environment environment.entry) (F.writes files.old) (F.tells files.old) (F.tells files.new)
+        → Finishes (IsReply (known_process I.remaining I.health process.entry) (F.writes files.old) (F.tells files.old) (F.tells files.new)
         (heard raws.now (map S.text words.now)))
-        (heard_files (heard raws.now (map S.text words.now)))
+        (heard_names (heard raws.now (map S.text words.now)))
         (E.capacity err.old) (record { out = O.holds out.old; err = E.holds err.old })
         (record { out = O.holds out.new; err = E.holds err.new }) result }
 
     // The same of words that ask for something; what usual words ask for is told by the laws of `mime_request`.
     ensures asked { is_some (O.holds out.old) ≡ true
         → (q : PlainRequest) → heard raws.now (map S.text words.now) ≡ means (asks q)
-        → Finishes (IsAskedRun (known_environment environment.entry) (F.writes files.old) (F.tells files.old) (F.tells files.new) q)
-        (asked_files q)
+        → Finishes (IsAskedRun (known_process I.remaining I.health process.entry) (F.writes files.old) (F.tells files.old) (F.tells files.new) q)
+        (asked_names q)
         (E.capacity err.old) (record { out = O.holds out.old; err = E.holds err.old })
         (record { out = O.holds out.new; err = E.holds err.new }) result }
 
     // What is left stored, however the run ends: all that was, but for what `build` replaces.
-    ensures leaves { LeavesHeard (known_environment environment.entry) (heard raws.now (map S.text words.now)) (F.tells files.old) (F.tells files.new) }
+    ensures leaves { LeavesHeard (known_process I.remaining I.health process.entry) (heard raws.now (map S.text words.now)) (F.tells files.old) (F.tells files.new) }
 
     // The last that standard output was asked is to hand on what it held back.
     ensures flushed { is_some (O.holds out.old) ≡ true → IsHandedOn result (O.flushed out.new) }
 {
-    finish(alloc, words, raws, environment, files, out, err)
+    finish(alloc, words, raws, process, files, out, err)
 }
 
 // Does what the words ask for, hands on what was printed, and says why it stopped.
-fn finish<F: Files, O: Sink, E: Sink, S: AsStr>(
+fn finish<F: Files, I: Content + Drop, O: Sink, E: Sink, S: AsStr>(
     alloc: Global,
     words: &[S],
     raws: &[RawWord<'_>],
-    environment: Option<Environment<'_>>,
+    process: Process<'_, I>,
     files: &mut F,
     out: &mut O,
     err: &mut E,
 ) -> u8
     ensures answers { is_some (O.holds out.old) ≡ true
-        → Finishes (IsReply (known_environment environment.entry) (F.writes files.old) (F.tells files.old) (F.tells files.new)
+        → Finishes (IsReply (known_process I.remaining I.health process.entry) (F.writes files.old) (F.tells files.old) (F.tells files.new)
         (heard raws.now (map S.text words.now)))
-        (heard_files (heard raws.now (map S.text words.now)))
+        (heard_names (heard raws.now (map S.text words.now)))
         (E.capacity err.old) (record { out = O.holds out.old; err = E.holds err.old })
         (record { out = O.holds out.new; err = E.holds err.new }) result }
-    ensures leaves { LeavesHeard (known_environment environment.entry) (heard raws.now (map S.text words.now)) (F.tells files.old) (F.tells files.new) }
+    ensures leaves { LeavesHeard (known_process I.remaining I.health process.entry) (heard raws.now (map S.text words.now)) (F.tells files.old) (F.tells files.new) }
     ensures flushed { is_some (O.holds out.old) ≡ true → IsHandedOn result (O.flushed out.new) }
 {
-    let ended = perform(alloc, words, raws, environment, files, out, err);
+    let ended = perform(alloc, words, raws, process, files, out, err);
     match flush_after(ended, out) {
         Ok(status) => status,
         Err(stop) => tell(&stop, err),
@@ -110,23 +112,23 @@ fn finish<F: Files, O: Sink, E: Sink, S: AsStr>(
 }
 
 // Does what the words ask for over these files and sinks.
-fn perform<F: Files, O: Sink, E: Sink, S: AsStr>(
+fn perform<F: Files, I: Content + Drop, O: Sink, E: Sink, S: AsStr>(
     alloc: Global,
     words: &[S],
     raws: &[RawWord<'_>],
-    environment: Option<Environment<'_>>,
+    process: Process<'_, I>,
     files: &mut F,
     out: &mut O,
     err: &mut E,
 ) -> Result<u8, Stop>
     ensures ended { Ends
-        (IsReply (known_environment environment.entry) (F.writes files.old) (F.tells files.old) (F.tells files.new)
+        (IsReply (known_process I.remaining I.health process.entry) (F.writes files.old) (F.tells files.old) (F.tells files.new)
         (heard raws.now (map S.text words.now)))
-        (heard_files (heard raws.now (map S.text words.now)))
+        (heard_names (heard raws.now (map S.text words.now)))
         (record { out = O.holds out.old; err = E.holds err.old })
         (record { out = O.holds out.new; err = E.holds err.new }) result }
     ensures capacity { E.capacity err.new ≡ E.capacity err.old }
-    ensures leaves { LeavesHeard (known_environment environment.entry) (heard raws.now (map S.text words.now)) (F.tells files.old) (F.tells files.new) }
+    ensures leaves { LeavesHeard (known_process I.remaining I.health process.entry) (heard raws.now (map S.text words.now)) (F.tells files.old) (F.tells files.new) }
 {
     let mut desk = Streams {
         alloc,
@@ -134,7 +136,7 @@ fn perform<F: Files, O: Sink, E: Sink, S: AsStr>(
         out,
         err,
     };
-    answer_words(&mut desk, words, raws, environment)
+    answer_words(&mut desk, words, raws, process)
 }
 
 // Hands on what was printed, also before a stop.
@@ -150,34 +152,34 @@ fn flush_after<O: Sink>(ended: Result<u8, Stop>, out: &mut O) -> Result<u8, Stop
 }
 
 // Does what the words ask for, or shows help or what is wrong with them.
-fn answer_words<D: Desk, S: AsStr>(
+fn answer_words<D: Desk, I: Content + Drop, S: AsStr>(
     desk: &mut D,
     words: &[S],
     raws: &[RawWord<'_>],
-    environment: Option<Environment<'_>>,
+    process: Process<'_, I>,
 ) -> Result<u8, Stop>
-    ensures { Replies (known_environment environment.entry) (heard raws.now (map S.text words.now))
+    ensures { Replies (known_process I.remaining I.health process.entry) (heard raws.now (map S.text words.now))
         (D.state desk.old) (D.state desk.new) result }
 {
     match request_of(desk.alloc(), words) {
-        Ok(request) => answer_placed(desk, environment, &request, raws),
+        Ok(request) => answer_placed(desk, process, &request, raws),
         Err(error) => refuse(desk, error, raws),
     }
 }
 
 // Does what is asked, where each word that is no text is a FILE.
-fn answer_placed<D: Desk>(
+fn answer_placed<D: Desk, I: Content + Drop>(
     desk: &mut D,
-    environment: Option<Environment<'_>>,
+    process: Process<'_, I>,
     request: &Request<'_>,
     raws: &[RawWord<'_>],
 ) -> Result<u8, Stop>
-    ensures { Replies (known_environment environment.entry) (heard_in raws.now (asks (plain_request request.now)))
+    ensures { Replies (known_process I.remaining I.health process.entry) (heard_in raws.now (asks (plain_request request.now)))
         (D.state desk.old) (D.state desk.new) result }
 {
     match misplaced(raws, files_of(request)) {
         Some(number) => refuse_word(desk, number),
-        None => answer(desk, environment, request, raws),
+        None => answer(desk, process, request, raws),
     }
 }
 
@@ -185,42 +187,49 @@ fn files_of<'m, 'a>(request: &'m Request<'a>) -> &'m [&'a str]
     ensures { texts result.now ≡ asked_files (plain_request request.entry.now) }
 {
     match request {
-        Request::Plain { files, .. } | Request::Type { files, .. } => files.as_slice(),
+        Request::Plain { subjects, .. } | Request::Type { subjects, .. } => file_words(subjects),
         _ => &[],
     }
 }
 
-fn answer<D: Desk>(
+fn file_words<'m, 'a>(subjects: &'m Subjects<'a>) -> &'m [&'a str]
+    ensures { texts result.now ≡ file_words (plain_subjects subjects.entry.now) }
+{
+    match subjects {
+        Subjects::Files(files) => files.as_slice(),
+        Subjects::Input(_) => &[],
+    }
+}
+
+fn answer<D: Desk, I: Content + Drop>(
     desk: &mut D,
-    environment: Option<Environment<'_>>,
+    process: Process<'_, I>,
     request: &Request<'_>,
     raws: &[RawWord<'_>],
 ) -> Result<u8, Stop>
-    ensures { Answers (known_environment environment.entry) (asks (with_names raws.now (plain_request request.now)))
+    ensures { Answers (known_process I.remaining I.health process.entry) (asks (with_names raws.now (plain_request request.now)))
         (D.state desk.old) (D.state desk.new) result }
 {
+    let environment = process.environment;
     match request {
-        Request::Build { directories, file } => build(desk, environment, directories, *file),
+        Request::Build {
+            directories,
+            drop_twins,
+            file,
+        } => build(desk, environment, directories, *drop_twins, *file),
         Request::Plain {
             directories,
             options,
-            files,
-        } => plain::print_types(
-            desk,
-            environment,
-            directories,
-            *options,
-            files.as_slice(),
-            raws,
-        ),
+            subjects,
+        } => plain::print_types(desk, process, directories, *options, subjects, raws),
         Request::List { source } => list(desk, environment, source),
         Request::IsA { source, kind, base } => is_a(desk, environment, source, *kind, *base),
         Request::Icon { source, kind } => icon(desk, environment, source, *kind),
         Request::Type {
             source,
             options,
-            files,
-        } => types::print_types(desk, environment, source, *options, files.as_slice(), raws),
+            subjects,
+        } => types::print_types(desk, process, source, *options, subjects, raws),
     }
 }
 

@@ -6,13 +6,14 @@ ghost use Rattle.std.specs.Io.KnownBytes.{Appends, Keeps, ReadConsumes};
 ghost use Rattle.mime_tool.specs.Files.{fault_of};
 ghost use Rattle.mime_tool.specs.Sink.{IsPut};
 
-use crate::files::{FileFault, Files};
+use crate::files::{FileFault, Files, Inode};
 use crate::sink::{Sink, SinkFault};
 use mime_base::OutOfMemory;
 use mime_lookup::Untold;
 use std::alloc::Global;
 use std::fs::{File, Metadata, OpenFile, Permissions};
 use std::io::{ErrorKind, Read, Write};
+use std::os::unix::fs::FileTypeExt;
 use std::{fs, io, rt};
 
 /// The longest file that is read whole, in bytes.
@@ -75,6 +76,20 @@ impl<R: rt::Files> Files for SystemFiles<'_, R> {
         }
     }
 
+    // What can't be looked at has no kind.
+    fn inode(&mut self, _alloc: Global, path: &[u8]) -> Result<Option<Inode>, OutOfMemory> {
+        let Ok(path) = str::from_utf8(path) else {
+            return Ok(None);
+        };
+        match inode_at(self.0, path) {
+            Ok(inode) => Ok(inode),
+            Err(error) => match error.kind() {
+                ErrorKind::OutOfMemory => Err(OutOfMemory),
+                _ => Ok(None),
+            },
+        }
+    }
+
     fn open(&mut self, _alloc: Global, path: &[u8]) -> Result<Untold<R::File>, FileFault> {
         let Ok(path) = str::from_utf8(path) else {
             return Err(FileFault::Failed);
@@ -116,6 +131,35 @@ fn require_regular(metadata: &Metadata) -> io::Result<()> {
         Err(io::Error::from(ErrorKind::IsADirectory))
     } else {
         Err(io::Error::from(ErrorKind::Unsupported))
+    }
+}
+
+// The kind of what a path leads to, or a link where it leads nowhere.
+fn inode_at<R: rt::Files>(rt: &R, path: &str) -> io::Result<Option<Inode>> {
+    match fs::metadata(rt, path) {
+        Ok(metadata) => Ok(inode_of(&metadata)),
+        Err(error) if error.kind() == ErrorKind::NotFound => {
+            let found = fs::symlink_metadata(rt, path)?;
+            Ok(found.is_symlink().then_some(Inode::Symlink))
+        }
+        Err(error) => Err(error),
+    }
+}
+
+fn inode_of(metadata: &Metadata) -> Option<Inode> {
+    let kind = metadata.file_type();
+    if kind.is_dir() {
+        Some(Inode::Directory)
+    } else if kind.is_char_device() {
+        Some(Inode::CharDevice)
+    } else if kind.is_block_device() {
+        Some(Inode::BlockDevice)
+    } else if kind.is_fifo() {
+        Some(Inode::Fifo)
+    } else if kind.is_socket() {
+        Some(Inode::Socket)
+    } else {
+        None
     }
 }
 

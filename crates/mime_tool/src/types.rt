@@ -1,35 +1,38 @@
 //! The command `type`: the types of files, by a cache.
 
-ghost use Rattle.clap.specs.Walk.{texts};
-ghost use Rattle.mime_request.specs.Request.{plain_source};
+ghost use Rattle.mime_request.specs.Request.{plain_source, plain_subjects};
 ghost use Rattle.mime_tool.specs.Desk.{Ends, Works};
-ghost use Rattle.mime_tool.specs.Environment.{known_environment};
+ghost use Rattle.mime_tool.specs.Process.{known_process};
 ghost use Rattle.mime_tool.specs.Types.{IsType};
-ghost use Rattle.mime_tool.specs.Words.{names_of};
+ghost use Rattle.mime_tool.specs.Subjects.{names_in};
+ghost use Rattle.mime_tool.specs.Words.{named_subjects};
 
 use crate::desk::Desk;
-use crate::environment::Environment;
-use crate::line::{Data, Lookup, order_of, print_lines};
+use crate::line::{Data, Lookup, asked_order, print_subjects};
+use crate::process::Process;
 use crate::sources::{path_of, read_source};
 use crate::stop::Stop;
 use crate::words::RawWord;
-use mime_request::{Options, Source};
+use mime_lookup::Content;
+use mime_request::{Options, Source, Subjects};
 
-/// Prints a line `FILE: TYPE` for each file, by a cache, and gives the status.
+/// Prints a line `FILE: TYPE` for each name that is looked up, by a cache, and gives the status.
 ///
 /// A file that has no line is reported. A cache that gives no answer stops the command at the first
 /// file that is looked up.
-pub(crate) fn print_types<D: Desk>(
+pub(crate) fn print_types<D: Desk, I: Content + Drop>(
     desk: &mut D,
-    environment: Option<Environment<'_>>,
+    process: Process<'_, I>,
     source: &Source<'_>,
     options: Options,
-    files: &[&str],
+    subjects: &Subjects<'_>,
     raws: &[RawWord<'_>],
 ) -> Result<u8, Stop>
-    ensures { Works (Ends (IsType (D.state desk.old).stored (known_environment environment.entry) (plain_source source.now) options)
-        (names_of raws.now (texts files.now))) (D.state desk.old) (D.state desk.new) result }
+    ensures { Works (Ends (IsType (D.state desk.old).stored (known_process I.remaining I.health process.entry) (plain_source source.now)
+        options (named_subjects raws.now (plain_subjects subjects.now))) (names_in (named_subjects raws.now (plain_subjects subjects.now))))
+        (D.state desk.old) (D.state desk.new) result }
 {
+    let Process { environment, input } = process;
     let cache = read_source(desk, environment, source)?;
     let path = path_of(source);
     let bytes = cache.as_slice();
@@ -40,8 +43,9 @@ pub(crate) fn print_types<D: Desk>(
             cost: options.cost,
         },
         name_only: options.name_only,
-        order: order_of(options.content_only, options.magic_first),
+        inode: options.inode,
+        order: asked_order(options),
         output: options.output,
     };
-    print_lines(desk, lookup, files, raws)
+    print_subjects(desk, lookup, subjects, raws, input)
 }

@@ -3,9 +3,9 @@ use Rattle.std.specs.Prelude.{ℕ, List, [], ◌∷◌, Option, Some, None, if�
 use Rattle.std.specs.Borrow.{Bor}
 use Rattle.std.specs.Str.{bytes_eq}
 use Rattle.mime_lookup.specs.Content.{Health, broken, sound}
-use Rattle.mime_tool.specs.Files.{Stored, bytes, closed, folder, nothing, unreadable}
+use Rattle.mime_tool.specs.Files.{Stored, bytes, closed, dangling, folder, nothing, special, unreadable}
 use Rattle.mime_tool_tests.specs.declared.shelf.Entry.{Entry}
-use Rattle.mime_tool_tests.specs.declared.shelf.Entry.TheVariants.{Bytes, Closed, Folder, Unreadable}
+use Rattle.mime_tool_tests.specs.declared.shelf.Entry.TheVariants.{Bytes, Closed, Dangling, Folder, Special, Unreadable}
 use Rattle.mime_tool_tests.specs.declared.shelf.Page.{Page}
 use Rattle.mime_tool_tests.specs.declared.shelf.Page.TheVariants as page
 
@@ -14,6 +14,8 @@ abbrev pub stored : Option Entry → Stored
 stored None = nothing
 stored (Some (Bytes bs)) = bytes bs.now
 stored (Some Folder) = folder
+stored (Some (Special kind)) = special kind
+stored (Some Dangling) = dangling
 stored (Some Closed) = closed
 stored (Some Unreadable) = unreadable
 

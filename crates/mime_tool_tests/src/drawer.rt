@@ -7,7 +7,7 @@ ghost use Rattle.mime_tool_tests.specs.Shelf.{stored_at};
 use crate::{Page, Shelf};
 use mime_base::OutOfMemory;
 use mime_lookup::{Content, ReadFault};
-use mime_tool::{FileFault, Files};
+use mime_tool::{FileFault, Files, Inode};
 use std::alloc::{AllocError, Global};
 use std::io;
 use std::io::{Cursor, Read};
@@ -94,6 +94,14 @@ impl<'a> Files for Drawer<'a> {
             Some(_) if path == self.path => Ok(true),
             Some(_) if path == temp.as_str() => Ok(false),
             _ => self.shelf.exists(alloc, path),
+        }
+    }
+
+    fn inode(&mut self, alloc: Global, path: &[u8]) -> Result<Option<Inode>, OutOfMemory> {
+        let temp = self.temp(alloc)?;
+        match &self.laid {
+            Some(_) if path == self.path.as_bytes() || path == temp.as_bytes() => Ok(None),
+            _ => self.shelf.inode(alloc, path),
         }
     }
 

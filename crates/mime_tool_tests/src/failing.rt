@@ -2,7 +2,7 @@
 
 use crate::{Drawer, Page, Sheet, Shelf};
 use mime_base::OutOfMemory;
-use mime_tool::{FileFault, Files, Sink, SinkFault};
+use mime_tool::{FileFault, Files, Inode, Sink, SinkFault};
 use std::alloc::Global;
 
 /// Files that always fail so.
@@ -18,6 +18,10 @@ impl Files for FailingFiles {
 
     fn exists(&mut self, _alloc: Global, _path: &str) -> Result<bool, OutOfMemory> {
         Ok(true)
+    }
+
+    fn inode(&mut self, _alloc: Global, _path: &[u8]) -> Result<Option<Inode>, OutOfMemory> {
+        Err(OutOfMemory)
     }
 
     fn open(&mut self, _alloc: Global, _path: &[u8]) -> Result<Page<'static>, FileFault> {
@@ -55,6 +59,10 @@ impl<'a> Files for FailingShelf<'a> {
         self.shelf.exists(alloc, path)
     }
 
+    fn inode(&mut self, alloc: Global, path: &[u8]) -> Result<Option<Inode>, OutOfMemory> {
+        self.shelf.inode(alloc, path)
+    }
+
     fn open(&mut self, alloc: Global, path: &[u8]) -> Result<Page<'a>, FileFault> {
         step(&mut self.calls, self.fault)?;
         self.shelf.open(alloc, path)
@@ -90,6 +98,10 @@ impl<'a> Files for FailingDrawer<'a> {
 
     fn exists(&mut self, alloc: Global, path: &str) -> Result<bool, OutOfMemory> {
         self.drawer.exists(alloc, path)
+    }
+
+    fn inode(&mut self, alloc: Global, path: &[u8]) -> Result<Option<Inode>, OutOfMemory> {
+        self.drawer.inode(alloc, path)
     }
 
     fn open(&mut self, alloc: Global, path: &[u8]) -> Result<Sheet<'a>, FileFault> {

@@ -5,7 +5,7 @@ ghost use Rattle.mime_tool_tests.specs.Shelf.{entry_in, stored_at};
 
 use mime_base::OutOfMemory;
 use mime_lookup::{Content, ReadFault};
-use mime_tool::{FileFault, Files};
+use mime_tool::{FileFault, Files, Inode};
 use std::alloc::Global;
 use std::io;
 use std::io::{ErrorKind, Read};
@@ -15,6 +15,10 @@ use std::io::{ErrorKind, Read};
 pub enum Entry<'a> {
     Bytes(&'a [u8]),
     Folder,
+    /// A device, a pipe or a socket, which is never opened.
+    Special(Inode),
+    /// A link that leads nowhere.
+    Dangling,
     /// It is no folder, and can't be opened.
     Closed,
     /// It can be opened, and each read fails.
@@ -72,9 +76,11 @@ impl<'a> Files for Shelf<'a> {
 
     fn whole(&mut self, alloc: Global, path: &str) -> Result<Option<Vec<u8>>, FileFault> {
         match find_entry(self.entries, path.as_bytes()) {
-            None => Ok(None),
+            None | Some(Entry::Dangling) => Ok(None),
             Some(Entry::Folder) => Err(FileFault::Folder),
-            Some(Entry::Closed | Entry::Unreadable) => Err(FileFault::Failed),
+            Some(Entry::Special(_) | Entry::Closed | Entry::Unreadable) => {
+                Err(FileFault::Failed)
+            }
             Some(Entry::Bytes(bytes)) => match bytes.to_vec(alloc) {
                 Ok(bytes) => Ok(Some(bytes)),
                 Err(_) => Err(FileFault::OutOfMemory),
@@ -83,13 +89,27 @@ impl<'a> Files for Shelf<'a> {
     }
 
     fn exists(&mut self, _alloc: Global, path: &str) -> Result<bool, OutOfMemory> {
-        Ok(find_entry(self.entries, path.as_bytes()).is_some())
+        Ok(match find_entry(self.entries, path.as_bytes()) {
+            None | Some(Entry::Dangling) => false,
+            Some(_) => true,
+        })
+    }
+
+    fn inode(&mut self, _alloc: Global, path: &[u8]) -> Result<Option<Inode>, OutOfMemory> {
+        Ok(match find_entry(self.entries, path) {
+            Some(Entry::Folder) => Some(Inode::Directory),
+            Some(Entry::Special(kind)) => Some(kind),
+            Some(Entry::Dangling) => Some(Inode::Symlink),
+            _ => None,
+        })
     }
 
     fn open(&mut self, _alloc: Global, path: &[u8]) -> Result<Page<'a>, FileFault> {
         match find_entry(self.entries, path) {
             Some(Entry::Folder) => Err(FileFault::Folder),
-            None | Some(Entry::Closed) => Err(FileFault::Failed),
+            None | Some(Entry::Special(_) | Entry::Dangling | Entry::Closed) => {
+                Err(FileFault::Failed)
+            }
             Some(Entry::Unreadable) => Ok(Page::Unreadable),
             Some(Entry::Bytes(bytes)) => Ok(Page::Bytes(bytes)),
         }

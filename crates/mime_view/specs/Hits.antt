@@ -1,12 +1,11 @@
--- What a cache offers for a name, what is kept of it, and what it costs.
-use Rattle.std.specs.Prelude.{◌≡◌, ℕ, ◌+◌, ◌≤◌, Bool, true, false, not, ◌||◌, List, [], ◌∷◌, ◌++◌}
-use Rattle.std.specs.Prelude.{length, min, filter, reverse, Ok}
+-- What a cache offers for a name, and what it costs.
+use Rattle.std.specs.Prelude.{◌≡◌, ℕ, ◌+◌, ◌≤◌, Bool, true, false, not, ◌||◌, List, ◌++◌}
+use Rattle.std.specs.Prelude.{length, min, filter, reverse}
 use Rattle.std.specs.List.{flat_map}
-use Rattle.mime_base.specs.Cache.Texts.{text_at}
 use Rattle.mime_base.specs.Format.Sorted.{with_key}
 use Rattle.mime_base.specs.Format.Stored.{glob_rules, is_in_globs, literal_rules, reversed_ending, stored_text, tree_rules}
 use Rattle.mime_base.specs.Format.SuffixTree.{fronts, tree_size}
-use Rattle.mime_base.specs.Kept.{kept_rules, of_greatest, rank_of_rule}
+use Rattle.mime_base.specs.Kept.{candidate_rules, kept_rules}
 use Rattle.mime_base.specs.Matching.Folding.{compared}
 use Rattle.mime_base.specs.Matching.Matches.{rule_matches}
 use Rattle.mime_base.specs.Meter.{raised}
@@ -43,22 +42,6 @@ pub record IsVisit (case : Case) (old new : Spending) : Type 0 where
   pub rises : old.meter.nodes ≤ new.meter.nodes
   -- No bytes are added.
   pub bytes : new.meter.bytes ≡ old.meter.bytes
-
--- these offers, each a rank and the offset of a type, are those of the rules, in their order
-abbrev pub AreOffers : List ℕ → List (ℕ × ℕ) → List GlobRule → Type 0
-AreOffers c [] [] = Unit {0}
-AreOffers c [] (rule ∷ rules) = ⊥
-AreOffers c (offer ∷ offers) [] = ⊥
-AreOffers c (offer ∷ offers) (rule ∷ rules) =
-    (offer.0 ≡ rank_of_rule rule) × (text_at c offer.1 ≡ Ok rule.kind) × AreOffers c offers rules
-
--- of the rules that were offered, those of the greatest rank are kept
-abbrev pub AreKept : List ℕ → List (ℕ × ℕ) → List GlobRule → Type 0
-AreKept c kept offered = AreOffers c kept (of_greatest rank_of_rule offered)
-
--- what was kept of some rules becomes what is kept of them and of these after them
-abbrev pub Offers : List ℕ → List GlobRule → List (ℕ × ℕ) → List (ℕ × ℕ) → Type 0
-Offers c rules old new = (before : List GlobRule) → AreKept c old before → AreKept c new (before ++ rules)
 
 -- the literal rules of a text that a search for it takes
 abbrev pub literal_hits : Case → List ℕ → List GlobRule → List GlobRule
@@ -109,3 +92,7 @@ near name rules = length (filter (λ rule. is_in_globs rule || rule_matches rule
 -- no more rules are kept for a name than are near it
 abbrev pub KeptAreNear : Type 0
 KeptAreNear = (name : List ℕ) (rules : List GlobRule) → length (kept_rules rules name) ≤ near name rules
+
+-- nor are there more candidates
+abbrev pub CandidatesAreNear : Type 0
+CandidatesAreNear = (name : List ℕ) (rules : List GlobRule) → length (candidate_rules rules name) ≤ near name rules

@@ -1,5 +1,6 @@
 pub mod Faults
 pub mod Spending
+pub mod Gathered
 pub mod Hits
 pub mod Steps
 pub mod Opening

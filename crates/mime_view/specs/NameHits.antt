@@ -9,6 +9,7 @@ use Rattle.mime_base.specs.Format.Stored.{glob_rules, literal_rules}
 use Rattle.mime_base.specs.Format.SuffixTree.{SuffixTreeAt, tree_size}
 use Rattle.mime_base.specs.Kept.{FitsRank, kept_rules}
 use Rattle.mime_base.specs.declared.database.rule.GlobRule.{GlobRule}
+use Rattle.mime_view.specs.Gathered.{asked_rules}
 use Rattle.mime_view.specs.Hits.{hit_visits, near}
 use Rattle.mime_view.specs.Lists.{IsListFault, IsTextFault}
 use Rattle.mime_view.specs.SuffixTree.{IsTreeFault}
@@ -16,6 +17,8 @@ use Rattle.mime_view.specs.declared.budget.Budget.{Budget}
 use Rattle.mime_view.specs.declared.fault.CacheFault.{CacheFault}
 use Rattle.mime_view.specs.declared.fault.CacheFault.TheVariants.{OutOfMemory, Spent}
 use Rattle.mime_view.specs.declared.name.RuleLists.{RuleLists}
+use Rattle.mime_view.specs.declared.name_hits.NameHits.{NameHits}
+use Rattle.mime_view.specs.declared.name_hits.Which.{Which}
 use Rattle.mime_view.specs.declared.spending.Spending.{Spending}
 
 -- whether one of A to Z is among the bytes
@@ -63,11 +66,18 @@ list_records rules = 2 * length (literal_rules rules) + 2 * tree_size rules + le
 abbrev pub near_records : List ℕ → List GlobRule → ℕ
 near_records name rules = 2 * near name rules + 2 * length name + 2
 
+-- The types of the rules that are asked for, and how many of these are kept.
+pub record AreHits (which : Which) (name : List ℕ) (rules : List GlobRule) (hits : NameHits) : Type 0 where
+  -- The types, in the order of the rules.
+  pub types : hits.kinds ≡ map (λ rule. rule.kind) (asked_rules which rules name)
+  -- Those of kept rules come first.
+  pub count : hits.kept ≡ length (kept_rules rules name)
+
 -- What a cache gives for a name where these rules stand.
-pub record GivesHits (name : List ℕ) (rules : List GlobRule) (old new : Budget) (result : Result (List (List ℕ)) CacheFault)
+pub record GivesHits (which : Which) (name : List ℕ) (rules : List GlobRule) (old new : Budget) (result : Result NameHits CacheFault)
     : Type 0 where
-  -- The types of the rules that are kept, if their ranks have room for them.
-  pub answer : All FitsRank rules → IfOk result (λ kinds. kinds ≡ map (λ rule. rule.kind) (kept_rules rules name))
+  -- The types of the rules, if their ranks have room for them.
+  pub answer : All FitsRank rules → IfOk result (AreHits which name rules)
   -- With records for all entries, or for those near the name, only memory can be short.
   pub need : All FitsRank rules → (list_records rules ≤ old.records) ⊎ (near_records name rules ≤ old.records)
       → IfErr result (λ e. e ≡ OutOfMemory)
@@ -77,18 +87,20 @@ pub record GivesHits (name : List ℕ) (rules : List GlobRule) (old new : Budget
   pub nearly : old.records ≤ new.records + near_records name rules
 
 -- What is given for a name where these rules stand.
-pub record GivesKept (name : List ℕ) (rules : List GlobRule) (old new : Spending) (result : Result (List (List ℕ)) CacheFault)
+pub record FindsHits (which : Which) (name : List ℕ) (rules : List GlobRule) (old new : Spending) (result : Result NameHits CacheFault)
     : Type 0 where
-  -- The types of the rules that are kept, if their ranks have room for them.
-  pub answer : All FitsRank rules → IfOk result (λ kinds. kinds ≡ map (λ rule. rule.kind) (kept_rules rules name))
+  -- The types of the rules, if their ranks have room for them.
+  pub answer : All FitsRank rules → IfOk result (AreHits which name rules)
   -- Where that many records are left, it stops only if it is out of memory.
   pub need : All FitsRank rules → hit_visits name rules ≤ old.budget.records → IfErr result (λ e. e ≡ OutOfMemory)
   -- It takes no more of them.
   pub most : old.budget.records ≤ new.budget.records + hit_visits name rules
 
 -- What is given for a name, whatever the bytes are.
-pub record GivesTexts (c : List ℕ) (old new : Spending) (result : Result (List (List ℕ)) CacheFault) : Type 0 where
+pub record GivesTexts (c : List ℕ) (old new : Spending) (result : Result NameHits CacheFault) : Type 0 where
   -- Each type is a text of the cache.
-  pub text : IfOk result (λ kinds. All (λ kind. (at : ℕ) × (text_at c at ≡ Ok kind)) kinds)
+  pub text : IfOk result (λ hits. All (λ kind. (at : ℕ) × (text_at c at ≡ Ok kind)) hits.kinds)
   -- Each was paid for by a record.
-  pub count : IfOk result (λ kinds. length kinds + new.budget.records ≤ old.budget.records)
+  pub count : IfOk result (λ hits. length hits.kinds + new.budget.records ≤ old.budget.records)
+  -- No more of them are kept than there are.
+  pub front : IfOk result (λ hits. hits.kept ≤ length hits.kinds)

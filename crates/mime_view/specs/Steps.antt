@@ -1,7 +1,7 @@
 -- What a step of a search for a name's hits does.
 use Rattle.std.specs.Prelude.{◌≡◌, ◌⊎◌, ℕ, ◌+◌, ◌*◌, ◌≤◌, List, length, Result, IfErr, OnOk}
 use Rattle.mime_base.specs.declared.database.rule.GlobRule.{GlobRule}
-use Rattle.mime_view.specs.Hits.{Offers}
+use Rattle.mime_view.specs.Gathered.{Offers}
 use Rattle.mime_view.specs.Lists.{IsListFault, IsTextFault}
 use Rattle.mime_view.specs.Spending.{Spends, per_record}
 use Rattle.mime_view.specs.declared.fault.CacheFault.{CacheFault}
@@ -32,6 +32,6 @@ pub record Searches {X : Type 0} (Fault : CacheFault → Type 0) (each more : �
   -- Why it stops.
   pub fault : IfErr result (IsSearchStop Fault new)
   -- Each hit that it adds was paid for by a record.
-  pub few : OnOk result (length new.hits + new.spending.budget.records ≤ length old.hits + old.spending.budget.records)
+  pub few : OnOk result (length new.hits.offers + new.spending.budget.records ≤ length old.hits.offers + old.spending.budget.records)
   -- A record costs a node and at most `each` bytes; `more` nodes come besides, each with at most 256 bytes.
   pub cost : Spends (per_record each) more (256 * more) old.spending new.spending

@@ -1,5 +1,6 @@
--- The texts that a call gives out.
-use Rattle.std.specs.Prelude.{ℕ, List, [], ◌∷◌, map}
+-- The texts that a call gives out, and where they stand.
+use Rattle.std.specs.Prelude.{◌≡◌, ℕ, List, [], ◌∷◌, map, Ok}
+use Rattle.mime_base.specs.Cache.Texts.{text_at}
 use Rattle.mime_view.specs.declared.texts.Held.{Held}
 use Rattle.mime_view.specs.declared.texts.Held.TheVariants.{Many, One}
 
@@ -7,3 +8,10 @@ use Rattle.mime_view.specs.declared.texts.Held.TheVariants.{Many, One}
 abbrev pub held_texts : Held → List (List ℕ)
 held_texts (One text) = text.now ∷ []
 held_texts (Many texts) = map (λ text. text.now) texts.items
+
+-- these texts stand at these offsets
+abbrev pub AreTexts : List ℕ → List ℕ → List (List ℕ) → Type 0
+AreTexts c [] [] = Unit {0}
+AreTexts c [] (text ∷ texts) = ⊥
+AreTexts c (place ∷ places) [] = ⊥
+AreTexts c (place ∷ places) (text ∷ texts) = (text_at c place ≡ Ok text) × AreTexts c places texts

@@ -35,12 +35,12 @@ use crate::hits::Case;
 use crate::magic::{MagicQuery, sniff};
 use crate::marks::Marks;
 use crate::name::{RuleLists, glob_hits};
+use crate::name_hits::{NameHits, Which};
 use crate::pairs::look_up_pair;
 use crate::parents::{Parents, parents_of};
 use crate::query::Query;
 use crate::rules::{Listed, ListingSource, list_rules};
 use crate::spending::Spending;
-use crate::texts::Texts;
 use mime_base::{Counted, Host, LARGEST_CACHE, Meter};
 use std::alloc::Global;
 use std::marker::Model;
@@ -123,8 +123,8 @@ impl<'a> Cache<'a> {
         self.counted.length()
     }
 
-    /// The types of the glob rules that are kept for a name, in merged order, each as the cache has it: an
-    /// alias is not resolved ("Recommended checking order").
+    /// The types of the glob rules that are kept for a name, in merged order, or of all that match it, by
+    /// falling rank, each as the cache has it: an alias is not resolved ("Recommended checking order").
     ///
     /// The name has at most 4,096 bytes. Each entry or leaf that is scanned takes a record of the budget, two
     /// where one search serves both cases. No more types are given than records were taken.
@@ -138,14 +138,15 @@ impl<'a> Cache<'a> {
         &self,
         alloc: Global,
         name: &[u8],
+        which: Which,
         meter: &mut Meter,
         budget: &mut Budget,
-    ) -> Result<Texts<'a>, CacheFault>
+    ) -> Result<NameHits<'a>, CacheFault>
         // A name has no more bytes.
         requires short { length name.now ≤ 4096 }
-        // Where these rules stand, it gives the types of those that are kept, and takes no more records than they need.
+        // Where these rules stand, it gives the types of those that are asked for, and takes no more records than they need.
         ensures gives { (rules : List GlobRule) → SpellsRules self.now rules →
-            GivesHits name.now rules budget.old budget.new result }
+            GivesHits which name.now rules budget.old budget.new result }
         // Whatever the bytes are, each type is a text of the cache, and was paid for by a record.
         ensures texts { GivesTexts self.now (spending_of meter.old budget.old) (spending_of meter.new budget.new) result }
         // Why nothing is said of the name.
@@ -170,10 +171,10 @@ impl<'a> Cache<'a> {
             meter: *meter,
             budget: *budget,
         };
-        let kinds = glob_hits(alloc, &query, lists, &mut spending);
+        let hits = glob_hits(alloc, &query, which, lists, &mut spending);
         *meter = spending.meter;
         *budget = spending.budget;
-        kinds
+        hits
     }
 
     /// The type that an alias stands for, or the name itself where it is no alias ("Directory layout").

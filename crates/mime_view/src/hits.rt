@@ -1,15 +1,22 @@
-//! What is kept of the hits that the lists of a cache offer.
+//! The hits that are held of those that the lists of a cache offer: the best, or all.
 
-ghost use Rattle.std.specs.Prelude.{◌≡◌, ℕ, ◌+◌, ◌≤◌, nat_le, List, [], ◌∷◌, ◌++◌, length, map, Ok, OnOk, OnErr, IfErr};
-ghost use Rattle.std.specs.List.{list_all};
+ghost use Rattle.std.specs.Prelude.{◌≡◌, ◌⊎◌, ℕ, ◌+◌, ◌*◌, ◌≤◌, List, [], ◌∷◌, length, map, All, Ok, OnOk, OnErr, IfOk, IfErr};
 ghost use Rattle.mime_base.specs.Cache.Texts.{text_at};
+ghost use Rattle.mime_base.specs.Falling.{falling};
 ghost use Rattle.mime_base.specs.Kept.{best, rank_of_rule};
 ghost use Rattle.mime_base.specs.declared.database.rule.GlobRule.{GlobRule};
-ghost use Rattle.mime_view.specs.Hits.{takes_rule, IsVisit, KeptAreNear, Offers, extra_visits, visits};
-ghost use Rattle.mime_view.specs.Spending.{Spends, per_record};
+ghost use Rattle.mime_view.specs.Gathered.{AreGiven, Offers, in_order, plain_hits, wants_rank};
+ghost use Rattle.mime_view.specs.Hits.{CandidatesAreNear, takes_rule, IsVisit, KeptAreNear, extra_visits, visits};
+ghost use Rattle.mime_view.specs.Lists.{IsTextFault};
+ghost use Rattle.mime_view.specs.Spending.{Looks, Spends, per_record};
+ghost use Rattle.mime_view.specs.Texts.{AreTexts};
 
+use crate::best_hits::{BestHits, FEW};
 use crate::fault::CacheFault;
+use crate::kinds::read_kinds;
+use crate::name_hits::{NameHits, Which};
 use crate::spending::Spending;
+use mime_base::{Counted, Meter};
 use smallvec::SmallVec;
 use std::alloc::Global;
 use std::marker::Model;
@@ -75,93 +82,203 @@ impl Case {
     }
 }
 
-/// How many hits are kept with no allocation.
-const FEW: usize = 4;
+/// What is gathered of the hits.
+#[derive(Drop)]
+pub enum Gathered {
+    /// Those of the greatest rank.
+    Best(BestHits),
+    /// All, each its rank and the offset of its type.
+    Every(SmallVec<(u32, u32), FEW>),
+}
 
-/// The hits that are kept, each the offset of its type, and their rank.
+/// The hits that are held of those that the lists of a cache offer.
 #[derive(Drop)]
 pub struct Hits {
-    rank: u32,
-    kinds: SmallVec<u32, FEW>,
+    gathered: Gathered,
 }
 
 impl Model for Hits {
-    ghost use Rattle.std.specs.Prelude.{◌≡◌, ℕ, List, [], map};
+    ghost use Rattle.mime_view.specs.Gathered.{PlainHits, plain_hits};
 
-    ghost Value = { List (ℕ × ℕ) };
+    ghost Value = { PlainHits };
 
-    ghost view = { λ hits. map (λ kind. (hits.rank, kind)) hits.kinds.items };
-
-    ghost invariant = { λ hits. hits.kinds.items ≡ [] → hits.rank ≡ 0 };
+    ghost view = { λ hits. plain_hits hits.gathered };
 }
 
 impl Hits {
     /// No hits. It never allocates.
-    pub fn new(alloc: Global) -> Hits
+    pub fn new(alloc: Global, which: Which) -> Hits
+        // Those that are asked for will be held.
+        ensures which { result.which ≡ which }
         // There are none.
-        ensures { result ≡ [] }
+        ensures none { result.offers ≡ [] }
     {
-        Hits {
-            rank: 0,
-            kinds: SmallVec::new(alloc),
-        }
+        let gathered = match which {
+            Which::Kept => Gathered::Best(BestHits::new(alloc)),
+            Which::Candidates => Gathered::Every(SmallVec::new(alloc)),
+        };
+        Hits { gathered }
     }
 
-    /// Whether a hit of this rank would be kept: unless one that is kept has a greater rank.
+    /// Whether a hit of this rank would be held: of kept rules unless one that is held has a greater rank.
+    // Always inlined: asked for each entry of the glob list.
+    #[inline(always)]
     pub fn wants(&self, rank: u32) -> bool
-        // Whether no hit has a greater rank.
-        ensures { result ≡ list_all (λ hit. nat_le hit.0 rank) self.now }
+        // Whether it is one of those that are asked for, as far as is known.
+        ensures { result ≡ wants_rank self.now.which self.now.offers rank }
     {
-        self.rank <= rank
+        match &self.gathered {
+            Gathered::Best(hits) => hits.wants(rank),
+            Gathered::Every(_) => true,
+        }
     }
 
     /// Offers a hit.
+    // Always inlined: a choice and a write, for each rule that matches.
+    #[inline(always)]
     pub fn offer(&mut self, rank: u32, kind: u32) -> Result<(), CacheFault>
-        // What is kept of the rules before becomes what is kept of them and this one.
+        // What is gathered of the rules before becomes what is gathered of them and this one.
         ensures offered { (c : List ℕ) → (rule : GlobRule) → rank ≡ rank_of_rule rule → text_at c kind ≡ Ok rule.kind →
             OnOk result (Offers c (rule ∷ []) self.old self.new) }
         // At most one hit is added.
-        ensures one_more { length self.new ≤ length self.old + 1 }
+        ensures one_more { length self.new.offers ≤ length self.old.offers + 1 }
         // Only memory can be short.
         ensures fault { IfErr result (λ e. e ≡ CacheFault.OutOfMemory) }
     {
-        self.keep(rank, kind)?;
+        match &mut self.gathered {
+            Gathered::Best(hits) => hits.offer(rank, kind)?,
+            Gathered::Every(hits) => hits.push((rank, kind))?,
+        }
         Ok(())
     }
 
-    /// Keeps a hit unless one that is kept has a greater rank, and drops those of a lesser one.
-    fn keep(&mut self, rank: u32, kind: u32) -> Result<(), CacheFault>
-        // What is the best of the offers before becomes the best of them and this one.
-        ensures kept { (offers : List (ℕ × ℕ)) → self.old ≡ best offers →
-            OnOk result (self.new ≡ best (offers ++ (rank, kind) ∷ [])) }
-        // At most one hit is added.
-        ensures one_more { length self.new ≤ length self.old + 1 }
-        // Only memory can be short.
-        ensures fault { IfErr result (λ e. e ≡ CacheFault.OutOfMemory) }
+    /// Reads the types of the hits.
+    // Always inlined: a choice, once for a name.
+    #[inline(always)]
+    pub fn read<'a>(
+        self,
+        alloc: Global,
+        counted: &Counted<'a>,
+        meter: &mut Meter,
+    ) -> Result<NameHits<'a>, CacheFault>
+        // They are those at the hits' offsets, in the order that is asked for, and it is said how many are kept.
+        ensures answer { IfOk result (AreGiven counted.now self) }
+        // Where texts stand there, only memory can be short.
+        ensures need { (texts : List (List ℕ)) →
+            AreTexts counted.now (map (λ hit. hit.1) (in_order self.which self.offers)) texts →
+            IfErr result (λ e. e ≡ CacheFault.OutOfMemory) }
+        // Else a text is at fault.
+        ensures fault { IfErr result (λ e. IsTextFault counted.now e ⊎ (e ≡ CacheFault.OutOfMemory)) }
+        // It costs their texts.
+        ensures looks { Looks 0 (256 * length self.offers) meter.old meter.new }
     {
-        if rank < self.rank {
-            return Ok(());
+        match self.gathered {
+            Gathered::Best(hits) => read_best(alloc, &hits, counted, meter),
+            Gathered::Every(hits) => read_every(alloc, hits, counted, meter),
         }
-        if rank > self.rank {
-            self.kinds.clear();
-            self.rank = 0;
-        }
-        self.kinds.push(kind)?;
-        self.rank = rank;
-        Ok(())
     }
+}
 
-    /// The offsets of the types of the hits, in their order.
-    pub fn kinds(&self) -> &[u32]
-        // The second of each hit.
-        ensures { result.now ≡ map (λ hit. hit.1) self.now }
-    {
-        self.kinds.as_slice()
+/// Reads the types of the hits of one rank.
+fn read_best<'a>(
+    alloc: Global,
+    hits: &BestHits,
+    counted: &Counted<'a>,
+    meter: &mut Meter,
+) -> Result<NameHits<'a>, CacheFault>
+    // They are those at the hits' offsets, and all are kept.
+    ensures answer { IfOk result (AreGiven counted.now (plain_hits (Gathered.Best hits.now))) }
+    // Where texts stand there, only memory can be short.
+    ensures need { (texts : List (List ℕ)) → AreTexts counted.now (map (λ hit. hit.1) hits.now) texts →
+        IfErr result (λ e. e ≡ CacheFault.OutOfMemory) }
+    // Else a text is at fault.
+    ensures fault { IfErr result (λ e. IsTextFault counted.now e ⊎ (e ≡ CacheFault.OutOfMemory)) }
+    // It costs their texts.
+    ensures looks { Looks 0 (256 * length hits.now) meter.old meter.new }
+{
+    let places = hits.kinds();
+    let kinds = read_kinds(alloc, counted, places, meter)?;
+    Ok(NameHits {
+        kinds,
+        kept: places.len(),
+    })
+}
+
+/// Reads the types of all hits, by falling rank.
+fn read_every<'a>(
+    alloc: Global,
+    hits: SmallVec<(u32, u32), FEW>,
+    counted: &Counted<'a>,
+    meter: &mut Meter,
+) -> Result<NameHits<'a>, CacheFault>
+    // They are those at the hits' offsets, by falling rank, and as many are kept as have the greatest.
+    ensures answer { IfOk result (AreGiven counted.now (plain_hits (Gathered.Every hits))) }
+    // Where texts stand there, only memory can be short.
+    ensures need { (texts : List (List ℕ)) → AreTexts counted.now (map (λ hit. hit.1) (falling (λ hit. hit.0) hits.items)) texts →
+        IfErr result (λ e. e ≡ CacheFault.OutOfMemory) }
+    // Else a text is at fault.
+    ensures fault { IfErr result (λ e. IsTextFault counted.now e ⊎ (e ≡ CacheFault.OutOfMemory)) }
+    // It costs their texts.
+    ensures looks { Looks 0 (256 * length hits.items) meter.old meter.new }
+{
+    let mut sorted = hits;
+    sort_by_rank(alloc, &mut sorted)?;
+    let kept = count_best(&sorted);
+    let places = places_of(alloc, &sorted)?;
+    let kinds = read_kinds(alloc, counted, &places, meter)?;
+    Ok(NameHits { kinds, kept })
+}
+
+/// Puts the hits of the greatest rank first; those of one rank stay in their order. Up to 20 take no memory.
+fn sort_by_rank(alloc: Global, hits: &mut SmallVec<(u32, u32), FEW>) -> Result<(), CacheFault>
+    // The hits are by falling rank then.
+    ensures sorted { OnOk result (hits.new.items ≡ falling (λ hit. hit.0) hits.old.items) }
+    // Only memory can be short.
+    ensures fault { IfErr result (λ e. e ≡ CacheFault.OutOfMemory) }
+{
+    hits.sort_by(alloc, |left, right| right.0.cmp(&left.0))?;
+    Ok(())
+}
+
+/// How many of the first hits have the rank of the first.
+fn count_best(hits: &[(u32, u32)]) -> usize
+    // Where they are by falling rank, those have the greatest.
+    ensures { (offers : List (ℕ × ℕ)) → hits.now ≡ falling (λ offer. offer.0) offers → result ≡ length (best offers) }
+{
+    let Some(first) = hits.first() else {
+        return 0;
+    };
+    let mut count = 0;
+    for hit in hits {
+        if hit.0 == first.0 {
+            count += 1;
+        }
     }
+    count
+}
+
+/// The offsets of the types of the hits.
+fn places_of(alloc: Global, hits: &[(u32, u32)]) -> Result<SmallVec<u32, FEW>, CacheFault>
+    // The second of each hit.
+    ensures places { IfOk result (λ places. places.items ≡ map (λ hit. hit.1) hits.now) }
+    // Only memory can be short.
+    ensures fault { IfErr result (λ e. e ≡ CacheFault.OutOfMemory) }
+{
+    let mut places = SmallVec::new(alloc);
+    for hit in hits {
+        places.push(hit.1)?;
+    }
+    Ok(places)
 }
 
 /// The law of kept rules: no more are kept for a name than are near it.
 pub fn kept_are_near()
     // The law.
     ensures { KeptAreNear }
+{}
+
+/// The law of candidates: there are no more for a name than are near it.
+pub fn candidates_are_near()
+    // The law.
+    ensures { CandidatesAreNear }
 {}

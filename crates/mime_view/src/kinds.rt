@@ -1,48 +1,39 @@
-//! The types of the hits that were kept.
+//! The types of the hits that were held.
 
-ghost use Rattle.std.specs.Prelude.{◌≡◌, ◌⊎◌, ℕ, ◌*◌, List, Ok, length, map, All, IfErr, IfOk};
-ghost use Rattle.mime_base.specs.Cache.Texts.{text_at};
-ghost use Rattle.mime_base.specs.declared.database.rule.GlobRule.{GlobRule};
-ghost use Rattle.mime_view.specs.Hits.{AreOffers};
+ghost use Rattle.std.specs.Prelude.{◌≡◌, ◌⊎◌, ℕ, ◌*◌, List, length, IfErr, IfOk};
 ghost use Rattle.mime_view.specs.Lists.{IsTextFault};
 ghost use Rattle.mime_view.specs.Spending.{Looks};
+ghost use Rattle.mime_view.specs.Texts.{AreTexts};
 
 use crate::fault::CacheFault;
-use crate::hits::Hits;
 use crate::texts::Texts;
 use mime_base::{Counted, Meter};
 use std::alloc::Global;
 
-/// The types of hits, in their order.
+/// The types at these offsets, in their order.
 pub fn read_kinds<'a>(
     alloc: Global,
     counted: &Counted<'a>,
-    hits: &Hits,
+    places: &[u32],
     meter: &mut Meter,
 ) -> Result<Texts<'a>, CacheFault>
-    // They are those of the rules that the hits are of.
-    ensures answer { (rules : List GlobRule) → AreOffers counted.now hits.now rules →
-        IfOk result (λ kinds. kinds ≡ map (λ rule. rule.kind) rules) }
-    // Each is a text of the cache.
-    ensures text { IfOk result (λ kinds. All (λ kind. (at : ℕ) × (text_at counted.now at ≡ Ok kind)) kinds) }
-    // There is one for each hit.
-    ensures count { IfOk result (λ kinds. length kinds ≡ length hits.now) }
-    // Where the hits are of rules, only memory can be short.
-    ensures need { (rules : List GlobRule) → AreOffers counted.now hits.now rules →
+    // They are the texts that stand there.
+    ensures answer { IfOk result (AreTexts counted.now places.now) }
+    // Where texts stand there, only memory can be short.
+    ensures need { (texts : List (List ℕ)) → AreTexts counted.now places.now texts →
         IfErr result (λ e. e ≡ CacheFault.OutOfMemory) }
     // Else a text is at fault.
     ensures fault { IfErr result (λ e. IsTextFault counted.now e ⊎ (e ≡ CacheFault.OutOfMemory)) }
     // It costs their texts.
-    ensures looks { Looks 0 (256 * length hits.now) meter.old meter.new }
+    ensures looks { Looks 0 (256 * length places.now) meter.old meter.new }
 {
-    let kinds = hits.kinds();
-    if kinds.len() == 1 {
-        let text = counted.text_at(u64::from(kinds[0]), meter)?;
+    if places.len() == 1 {
+        let text = counted.text_at(u64::from(places[0]), meter)?;
         return Ok(Texts::one(text));
     }
-    let mut texts = Vec::with_capacity(alloc, kinds.len())?;
-    for kind in kinds {
-        let text = counted.text_at(u64::from(*kind), meter)?;
+    let mut texts = Vec::with_capacity(alloc, places.len())?;
+    for place in places {
+        let text = counted.text_at(u64::from(*place), meter)?;
         texts.push(text)?;
     }
     Ok(Texts::of(texts))

@@ -16,6 +16,7 @@
 //! Read `cache` first, then `search`, by which each sorted list is read.
 #![tactic(auto)]
 
+mod best_hits;
 mod budget;
 mod cache;
 mod entry;
@@ -29,6 +30,7 @@ mod literals;
 mod magic;
 mod marks;
 mod name;
+mod name_hits;
 mod pairs;
 mod parents;
 mod query;
@@ -41,8 +43,9 @@ mod texts;
 pub use budget::Budget;
 pub use cache::Cache;
 pub use fault::CacheFault;
-pub use hits::kept_are_near;
+pub use hits::{candidates_are_near, kept_are_near};
 pub use marks::Marks;
+pub use name_hits::{NameHits, Which};
 pub use parents::Parents;
 pub use rules::Listed;
 pub use spending::Spending;

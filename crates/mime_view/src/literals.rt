@@ -14,7 +14,8 @@ ghost use Rattle.mime_base.specs.Format.Rules.{LiteralsAt};
 ghost use Rattle.mime_base.specs.Format.Stored.{stored_text, weight_and_flags};
 ghost use Rattle.mime_base.specs.Kept.{FitsRank};
 ghost use Rattle.mime_base.specs.declared.database.rule.GlobRule.{GlobRule};
-ghost use Rattle.mime_view.specs.Hits.{Offers, takes_rule, literal_hits, literal_visits, visits};
+ghost use Rattle.mime_view.specs.Gathered.{Offers};
+ghost use Rattle.mime_view.specs.Hits.{takes_rule, literal_hits, literal_visits, visits};
 ghost use Rattle.mime_view.specs.Lists.{IsTextFault};
 ghost use Rattle.mime_view.specs.Literals.{AreRun, IsLiteral, ReadsRule, ReadsRules, run_visits, taken};
 ghost use Rattle.mime_view.specs.Steps.{FindsRules, IsEntriesFault, Searches};
@@ -153,7 +154,7 @@ fn offer_entry(
         flags ≡ weight_and_flags rule → text_at c kind ≡ Ok rule.kind →
         OnOk result (Offers c (filter (λ rule. takes_rule case rule.cased) (rule ∷ [])) hits.old hits.new) }
     // At most one hit is added.
-    ensures one_more { length hits.new ≤ length hits.old + 1 }
+    ensures one_more { length hits.new.offers ≤ length hits.old.offers + 1 }
     // Only memory can be short.
     ensures fault { IfErr result (λ e. e ≡ CacheFault.OutOfMemory) }
 {

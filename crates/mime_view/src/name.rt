@@ -8,12 +8,13 @@ ghost use Rattle.std.specs.Prelude.{All, IfErr, OnOk};
 ghost use Rattle.mime_base.specs.Cache.Bytes.{Stands};
 ghost use Rattle.mime_base.specs.Format.Rules.{LiteralsAt};
 ghost use Rattle.mime_base.specs.Format.SuffixTree.{SuffixTreeAt};
-ghost use Rattle.mime_base.specs.Kept.{FitsRank, kept_rules};
+ghost use Rattle.mime_base.specs.Kept.{FitsRank};
 ghost use Rattle.mime_base.specs.Matching.Folding.{compared};
 ghost use Rattle.mime_base.specs.declared.database.rule.GlobRule.{GlobRule};
-ghost use Rattle.mime_view.specs.Hits.{AreOffers, hit_visits, offered_once, offered_twice};
+ghost use Rattle.mime_view.specs.Gathered.{HoldsRules};
+ghost use Rattle.mime_view.specs.Hits.{hit_visits, offered_once, offered_twice};
 ghost use Rattle.mime_view.specs.Hits.{literal_hits, literal_visits, tree_hits, tree_visits};
-ghost use Rattle.mime_view.specs.NameHits.{GivesTexts, IsHitsFault, IsRuleListsFault, GivesKept, RulesAt, has_capitals};
+ghost use Rattle.mime_view.specs.NameHits.{FindsHits, GivesTexts, IsHitsFault, IsRuleListsFault, RulesAt, has_capitals};
 ghost use Rattle.mime_view.specs.Spending.{Spends, per_record};
 ghost use Rattle.mime_view.specs.Steps.{FindsRules, IsEntriesFault, Searches};
 ghost use Rattle.mime_view.specs.SuffixTree.{IsTreeFault};
@@ -22,12 +23,11 @@ ghost use Rattle.mime_view.specs.declared.hits.Case.TheVariants.{Exact, Folded};
 use crate::fault::CacheFault;
 use crate::globs::glob_list_hits;
 use crate::hits::{Case, Hits};
-use crate::kinds::read_kinds;
 use crate::literals::literal_hits;
+use crate::name_hits::{NameHits, Which};
 use crate::query::{Progress, Query};
 use crate::spending::Spending;
 use crate::suffixes::tree_hits;
-use crate::texts::Texts;
 use mime_base::fold;
 use std::alloc::Global;
 
@@ -42,16 +42,17 @@ pub struct RuleLists {
     pub globs: u32,
 }
 
-/// The types of the rules that are kept for a name.
+/// The types of the rules of a name that are asked for.
 pub fn glob_hits<'a>(
     alloc: Global,
     query: &Query<'_, 'a>,
+    which: Which,
     lists: RuleLists,
     spending: &mut Spending,
-) -> Result<Texts<'a>, CacheFault>
-    // Of the rules that stand in the lists, it gives the types of those that are kept.
+) -> Result<NameHits<'a>, CacheFault>
+    // Of the rules that stand in the lists, it gives the types of those that are asked for.
     ensures found { (rules : List GlobRule) → RulesAt query.now.counted.now lists rules →
-        GivesKept query.now.key.now rules spending.old spending.new result }
+        FindsHits which query.now.key.now rules spending.old spending.new result }
     // Whatever the bytes are, it gives texts of the cache.
     ensures gives { GivesTexts query.now.counted.now spending.old spending.new result }
     // Why it gives none.
@@ -62,27 +63,29 @@ pub fn glob_hits<'a>(
         Spends (per_record (256 * (length query.now.key.now + 3))) more (256 * more) spending.old spending.new }
 {
     let mut progress = Progress {
-        hits: Hits::new(alloc),
+        hits: Hits::new(alloc, which),
         spending: *spending,
     };
-    let kept = keep_hits(alloc, query, lists, &mut progress);
+    let gathered = gather_hits(alloc, query, lists, &mut progress);
     *spending = progress.spending;
-    kept?;
-    read_kinds(alloc, query.counted, &progress.hits, &mut spending.meter)
+    gathered?;
+    progress
+        .hits
+        .read(alloc, query.counted, &mut spending.meter)
 }
 
 /// Offers the rules that match a name.
-fn keep_hits(
+fn gather_hits(
     alloc: Global,
     query: &Query<'_, '_>,
     lists: RuleLists,
     progress: &mut Progress,
 ) -> Result<(), CacheFault>
     // Nothing was offered before.
-    requires none { progress.now.hits ≡ [] }
-    // The hits are of the rules that are kept for the name.
+    requires none { progress.now.hits.offers ≡ [] }
+    // The hits are of the rules that are asked for.
     ensures answer { (rules : List GlobRule) → All FitsRank rules → RulesAt query.now.counted.now lists rules →
-        OnOk result (AreOffers query.now.counted.now progress.new.hits (kept_rules rules query.now.key.now)) }
+        OnOk result (HoldsRules query.now.counted.now progress.old.hits.which query.now.key.now rules progress.new.hits) }
     // It takes no more records than the rules' visits.
     ensures finds { (rules : List GlobRule) → RulesAt query.now.counted.now lists rules →
         FindsRules query.now.counted.now ⊥ [] (hit_visits query.now.key.now rules) progress.old progress.new result }

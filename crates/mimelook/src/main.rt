@@ -4,7 +4,7 @@
 
 mod words;
 
-use mime_tool::{Environment, Stream, SystemFiles, run};
+use mime_tool::{Environment, Process, Stream, SystemFiles, Untold, run};
 use std::alloc::AllocError;
 use std::env::VarError;
 use std::io::BufWriter;
@@ -39,6 +39,10 @@ fn run_system(rt: &HostRuntime) -> io::Result<u8> {
         Err(_) => None,
     };
     let environment = variables.as_ref().map(|variables| variables.environment());
+    let process = Process {
+        environment,
+        input: Untold(rt.stdin()),
+    };
     let mut files = SystemFiles::new(rt);
     let mut out = Stream(BufWriter::with_capacity(alloc, BUFFER, rt.stdout())?);
     let mut err = Stream(rt.stderr());
@@ -46,7 +50,7 @@ fn run_system(rt: &HostRuntime) -> io::Result<u8> {
         alloc,
         words.texts.as_slice(),
         raws.as_slice(),
-        environment,
+        process,
         &mut files,
         &mut out,
         &mut err,

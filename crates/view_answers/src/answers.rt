@@ -4,7 +4,7 @@ use crate::lookups::{content_of, halves, icons, kind, subclass};
 use crate::shown::Shown;
 use mime_base::{Counted, Host, Meter};
 use mime_lookup::Order;
-use mime_view::{Budget, Cache, CacheFault, Marks};
+use mime_view::{Budget, Cache, CacheFault, Marks, Which};
 use std::alloc::Global;
 use std::io;
 
@@ -17,6 +17,8 @@ pub fn answer(alloc: Global, bytes: &[u8], question: &[u8]) -> io::Result<String
     match call {
         b"type" => kind(alloc, bytes, word, Order::GlobsFirst),
         b"type-magic-first" => kind(alloc, bytes, word, Order::MagicFirst),
+        b"type-all-globs" => kind(alloc, bytes, word, Order::AllGlobs),
+        b"type-content-only" => kind(alloc, bytes, word, Order::ContentOnly),
         b"isa" => subclass(alloc, bytes, word),
         b"icons" => icons(alloc, bytes, word),
         _ => of_view(alloc, bytes, call, word),
@@ -74,6 +76,7 @@ fn ask(
         b"sniff" => sniffed(alloc, cache, word, Host::Little, meter, budget),
         b"sniff-big" => sniffed(alloc, cache, word, Host::Big, meter, budget),
         b"hits" => hits(alloc, cache, word, meter, budget),
+        b"candidates" => candidates(alloc, cache, word, meter, budget),
         b"rules" => rules(alloc, cache, meter, budget),
         _ => Ok(format!(in alloc; "no question")?),
     }
@@ -161,14 +164,37 @@ fn hits(
     budget: &mut Budget,
 ) -> io::Result<String> {
     let asked = &name[..name.len().min(LONGEST_NAME)];
-    Ok(match cache.glob_hits(alloc, asked, meter, budget) {
-        Ok(kinds) => {
-            let mut said = format!(in alloc; "hits:")?;
-            add_texts(alloc, &mut said, kinds.as_slice())?;
-            said
-        }
-        Err(fault) => format!(in alloc; "{fault}")?,
-    })
+    Ok(
+        match cache.glob_hits(alloc, asked, Which::Kept, meter, budget) {
+            Ok(hits) => {
+                let mut said = format!(in alloc; "hits:")?;
+                add_texts(alloc, &mut said, hits.kinds.as_slice())?;
+                said
+            }
+            Err(fault) => format!(in alloc; "{fault}")?,
+        },
+    )
+}
+
+/// How many of all rules that match a name are kept, and the types of all.
+fn candidates(
+    alloc: Global,
+    cache: &Cache<'_>,
+    name: &[u8],
+    meter: &mut Meter,
+    budget: &mut Budget,
+) -> io::Result<String> {
+    let asked = &name[..name.len().min(LONGEST_NAME)];
+    Ok(
+        match cache.glob_hits(alloc, asked, Which::Candidates, meter, budget) {
+            Ok(hits) => {
+                let mut said = format!(in alloc; "{} of:", hits.kept)?;
+                add_texts(alloc, &mut said, hits.kinds.as_slice())?;
+                said
+            }
+            Err(fault) => format!(in alloc; "{fault}")?,
+        },
+    )
 }
 
 fn rules(

@@ -3,12 +3,12 @@
 //! The words are the path of a file of caches, each after its length in four bytes, the highest first, and the path
 //! of a file of questions, one a line: `open`, `extent`, `rules`, and with a word after a space `unalias`, `icon`,
 //! `generic` and `parents` of a type (asked twice with the same marks), `sniff` and `sniff-big` of a content in
-//! hexadecimal digits, and `hits` of a name. For each cache and question there is one line: the answer or the fault,
+//! hexadecimal digits, and `hits` and `candidates` of a name. For each cache and question there is one line: the answer or the fault,
 //! what the meter counted from zero, and what the budget of the cache has left. A text stands in quotes, with a byte
 //! outside 33 to 126, a quote and a backslash as `\x` and two digits.
 //!
-//! Whole lookups are `type` and `type-magic-first` of a content in hexadecimal digits, or `-`, and of a name after a
-//! space, `isa` of a type and another, and `icons` of a type. Their lines end with how much of the content was read.
+//! Whole lookups are `type`, `type-magic-first`, `type-all-globs` and `type-content-only` of a content in hexadecimal
+//! digits, or `-`, and of a name after a space, `isa` of a type and another, and `icons` of a type. Their lines end with how much of the content was read.
 #![tactic(auto)]
 
 mod answers;

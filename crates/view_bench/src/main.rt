@@ -1,7 +1,7 @@
 //! A call of a cache's reader for each line of a file, for a tool that counts instructions.
 //!
 //! The words are a call, how many turns, the path of a cache and the path of a file. Its lines are names for
-//! `hits` and `name`, and types for `unalias`, `parents` and `icon`. For `sniff` and `content` it holds contents, each
+//! `hits`, `candidates`, `name` and `name-of-all`, and types for `unalias`, `parents` and `icon`. For `sniff` and `content` it holds contents, each
 //! after its length in four bytes, the highest first. `name` and `content` are whole lookups, the latter of a name that
 //! no rule matches. Any other call asks nothing.
 #![tactic(auto)]
@@ -10,7 +10,7 @@ use bstr::ByteSlice;
 use byteorder::{BigEndian, ByteOrder};
 use mime_base::{Counted, Host, Meter};
 use mime_lookup::{Order, look_up};
-use mime_view::{Budget, Cache, CacheFault, Marks};
+use mime_view::{Budget, Cache, CacheFault, Marks, Which};
 use std::alloc::Global;
 use std::{env, fs, io};
 
@@ -19,22 +19,26 @@ use std::{env, fs, io};
 enum Call {
     Nothing,
     Hits,
+    Candidates,
     Unalias,
     Parents,
     Icon,
     Sniff,
     Name,
+    NameOfAll,
     Content,
 }
 
 fn call_of(word: &str) -> Call {
     match word {
         "hits" => Call::Hits,
+        "candidates" => Call::Candidates,
         "unalias" => Call::Unalias,
         "parents" => Call::Parents,
         "icon" => Call::Icon,
         "sniff" => Call::Sniff,
         "name" => Call::Name,
+        "name-of-all" => Call::NameOfAll,
         "content" => Call::Content,
         _ => Call::Nothing,
     }
@@ -52,27 +56,28 @@ fn ask(
     let mut budget = Budget::of(cache);
     match call {
         Call::Nothing => Ok(asked.len() as u64),
-        Call::Hits => hits(alloc, cache, asked, meter, &mut budget),
+        Call::Hits => hits(alloc, cache, asked, Which::Kept, meter, &mut budget),
+        Call::Candidates => hits(alloc, cache, asked, Which::Candidates, meter, &mut budget),
         Call::Unalias => unalias(cache, asked, meter, &mut budget),
         Call::Parents => parents(alloc, cache, asked, meter, &mut budget),
         Call::Icon => icon(cache, asked, meter, &mut budget),
         Call::Sniff => sniffed(cache, asked, meter, &mut budget),
-        Call::Name => Ok(kind_length(alloc, bytes, asked, None)),
-        Call::Content => Ok(kind_length(alloc, bytes, b"\x01", Some(asked))),
+        Call::Name => Ok(kind_length(alloc, bytes, asked, None, Order::GlobsFirst)),
+        Call::NameOfAll => Ok(kind_length(alloc, bytes, asked, None, Order::AllGlobs)),
+        Call::Content => Ok(kind_length(alloc, bytes, b"\x01", Some(asked), Order::GlobsFirst)),
     }
 }
 
 /// How long the type is that a lookup answers, or 0.
-fn kind_length(alloc: Global, bytes: &[u8], name: &[u8], content: Option<&[u8]>) -> u64 {
+fn kind_length(
+    alloc: Global,
+    bytes: &[u8],
+    name: &[u8],
+    content: Option<&[u8]>,
+    order: Order,
+) -> u64 {
     let (cache, mut content) = (Counted::new(bytes), content);
-    match look_up(
-        alloc,
-        cache,
-        name,
-        &mut content,
-        Host::Little,
-        Order::GlobsFirst,
-    ) {
+    match look_up(alloc, cache, name, &mut content, Host::Little, order) {
         Ok(answer) => answer.kind.len() as u64,
         Err(_) => 0,
     }
@@ -82,14 +87,15 @@ fn hits(
     alloc: Global,
     cache: &Cache<'_>,
     name: &[u8],
+    which: Which,
     meter: &mut Meter,
     budget: &mut Budget,
 ) -> Result<u64, CacheFault> {
     if 4096 < name.len() {
         return Ok(0);
     }
-    let kinds = cache.glob_hits(alloc, name, meter, budget)?;
-    Ok(kinds.as_slice().len() as u64)
+    let hits = cache.glob_hits(alloc, name, which, meter, budget)?;
+    Ok(hits.kinds.as_slice().len() as u64)
 }
 
 fn unalias(

@@ -5,7 +5,7 @@ use Rattle.mime_base.specs.Kept.Hidden.{is_hidden, spellings}
 use Rattle.mime_base.specs.declared.database.rule.GlobRule.{GlobRule}
 
 -- the rule of a line `weight:type:pattern`, with or without the flag `cs`
-abbrev line : ℕ → List ℕ → List ℕ → Bool → GlobRule
+abbrev pub line : ℕ → List ℕ → List ℕ → Bool → GlobRule
 line weight kind pattern cased = record { weight = weight; kind = kind; pattern = pattern; cased = cased }
 
 -- which of the rules are hidden

@@ -1,6 +1,7 @@
 //! Types of names and contents, by the lists of a database, by the bytes of its cache, and from the texts of directories in
 //! one run. A [`Row`] is a lookup over such texts; where it has a content, that comes also in pieces, with interruptions and failures.
 
+mod all_globs;
 mod by_name;
 mod cached;
 mod globs;

@@ -109,7 +109,7 @@ spends_steps {each} {more} {old} {mid} {new} steps first same looks =
 pub costs_kinds : (name found kinds : ℕ) (old hits new : Spending) → found + hits.budget.records ≤ old.budget.records → kinds ≤ found
     → Spends (per_record (256 * (name + 3))) (glob_cost name + 29 * found) (256 * (glob_cost name + 29 * found)) old hits
     → new.budget ≡ hits.budget
-    → new.meter.nodes ≡ hits.meter.nodes → hits.meter.bytes ≤ new.meter.bytes → new.meter.bytes ≤ hits.meter.bytes + 256 * kinds
+    → new.meter.nodes ≡ hits.meter.nodes → hits.meter.bytes ≤ new.meter.bytes → new.meter.bytes ≤ hits.meter.bytes + 512 * kinds
     → CostsOwing (29 * kinds) (record_cost name) 0 (glob_cost name) old new
 costs_kinds name found kinds old hits new paid few is same nodes rises bytes =
     let records = ap (λ (budget : Budget). budget.records) same in

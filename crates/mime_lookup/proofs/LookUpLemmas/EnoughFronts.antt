@@ -1,8 +1,10 @@
 -- A front that is as long as is wanted gives the type of the whole content.
 use Rattle.std.proofs.Common.{◌≡◌, ◌⊎◌, ℕ, ◌≤◌, Bool, true, false, List, [], ◌∷◌, ◌++◌, length, Option, None, Some}
 use Rattle.std.proofs.Common.{MatchBool, cond, refl, sym, ap, subst, ◌∙◌, inl, inr, arith, append-nil}
+use Rattle.std.specs.List.{All}
 use Rattle.mime_base.specs.Database.{PlainDatabase, pairs_of}
 use Rattle.mime_base.specs.Database.Subclass.{Pairs}
+use Rattle.mime_base.specs.Kept.{FitsRank}
 use Rattle.mime_base.specs.Magic.Extent.{extent}
 use Rattle.mime_base.specs.declared.magic.host.Host.{Host}
 use Rattle.mime_base.proofs.MagicLemmas.Fronts.{first_magic-front}
@@ -10,8 +12,9 @@ use Rattle.mime_lookup.specs.CheckingOrder.{Chooses, are_one_type, before_globs,
 use Rattle.mime_lookup.specs.Choice.{ChoosesAmong, IsFirst, kept}
 use Rattle.mime_lookup.specs.Sniffing.{sniffed}
 use Rattle.mime_lookup.specs.declared.order.Order.{Order}
-use Rattle.mime_lookup.specs.declared.order.Order.TheVariants.{ContentOnly, GlobsFirst, MagicFirst}
+use Rattle.mime_lookup.specs.declared.order.Order.TheVariants.{AllGlobs, ContentOnly, GlobsFirst, MagicFirst}
 use Rattle.mime_lookup.specs.Wanted.{IsFrontEnough, wanted_of}
+use Rattle.mime_lookup.proofs.OrderLemmas.AllGlobs.{one_candidate_alone, one_candidate_only}
 use Rattle.mime_lookup.proofs.SniffLemmas.Sniffs.{front_is_enough}
 
 -- of types that are one type the first is chosen, whatever was sniffed
@@ -24,12 +27,14 @@ one_type pairs (first ∷ more) base other answer one chosen =
 
 -- where the globs suffice, the content changes nothing
 by_globs : (b : PlainDatabase) (name : List ℕ) (host : Host) (order : Order) (content other : Option (List ℕ)) (kind : List ℕ) →
-    globs_suffice b name order ≡ true → Chooses b name content host order kind → Chooses b name other host order kind
+    All FitsRank b.rules → globs_suffice b name order ≡ true → Chooses b name content host order kind → Chooses b name other host order kind
 unfolding Chooses globs_suffice before_globs
-by_globs b name host GlobsFirst content other kind suffice chosen =
+by_globs b name host GlobsFirst content other kind ranked suffice chosen =
     one_type (pairs_of b) (kept (pairs_of b) b.rules name) (sniffed b content host) (sniffed b other host) kind suffice chosen
-by_globs b name host MagicFirst content other kind suffice chosen = absurd cc
-by_globs b name host ContentOnly content other kind suffice chosen = absurd cc
+by_globs b name host MagicFirst content other kind ranked suffice chosen = absurd cc
+by_globs b name host AllGlobs content other kind ranked suffice chosen =
+    one_candidate_alone b name host ranked other kind suffice (one_candidate_only b name host ranked content kind suffice chosen)
+by_globs b name host ContentOnly content other kind ranked suffice chosen = absurd cc
 
 -- where they don't, a front that is long enough is sniffed as the whole
 by_front : (b : PlainDatabase) (name : List ℕ) (host : Host) (order : Order) (content rest kind : List ℕ) → 128 ≤ length content →
@@ -39,6 +44,8 @@ by_front b name host GlobsFirst content rest kind least long chosen =
     subst (λ found. ChoosesAmong (pairs_of b) (kept (pairs_of b) b.rules name) found kind)
     (front_is_enough b content rest host (inr (least, long))) chosen
 by_front b name host MagicFirst content rest kind least long chosen =
+    rw (first_magic-front content rest b.sections host long, ← front_is_enough b content rest host (inr (least, long))) chosen
+by_front b name host AllGlobs content rest kind least long chosen =
     rw (first_magic-front content rest b.sections host long, ← front_is_enough b content rest host (inr (least, long))) chosen
 by_front b name host ContentOnly content rest kind least long chosen =
     chosen ∙ front_is_enough b content rest host (inr (least, long))
@@ -55,19 +62,19 @@ by_size b name host order content rest kind wanted is (inr most) chosen =
     by_front b name host order content rest kind (omega (arith, is, most)) (omega (arith, is, most)) chosen
 
 -- so much is enough, by whether the globs suffice
-enough_by : (b : PlainDatabase) (name : List ℕ) (order : Order) (wanted : ℕ) (suffice : Bool) → globs_suffice b name order ≡ suffice →
+enough_by : (b : PlainDatabase) (name : List ℕ) (order : Order) (wanted : ℕ) (suffice : Bool) → All FitsRank b.rules → globs_suffice b name order ≡ suffice →
     wanted ≡ cond suffice 0 (read_limit b) → IsFrontEnough b name order wanted
 unfolding read_limit
-enough_by b name order wanted true suffice is = record {
-  front = λ host content rest kind long. by_globs b name host order (Some content) (Some (content ++ rest)) kind suffice;
-  unopened = λ none host content kind. by_globs b name host order None content kind suffice;
+enough_by b name order wanted true ranked suffice is = record {
+  front = λ host content rest kind long. by_globs b name host order (Some content) (Some (content ++ rest)) kind ranked suffice;
+  unopened = λ none host content kind. by_globs b name host order None content kind ranked suffice;
 }
-enough_by b name order wanted false suffice is = record {
+enough_by b name order wanted false ranked suffice is = record {
   front = λ host content rest kind long. by_size b name host order content rest kind wanted is long;
   unopened = λ none host content kind. absurd (omega (arith, is, none));
 }
 
 -- so much is enough
-pub enough : (b : PlainDatabase) (name : List ℕ) (order : Order) (wanted : ℕ) → wanted ≡ wanted_of b name order →
+pub enough : (b : PlainDatabase) (name : List ℕ) (order : Order) (wanted : ℕ) → All FitsRank b.rules → wanted ≡ wanted_of b name order →
     IsFrontEnough b name order wanted
-enough b name order wanted is = enough_by b name order wanted (globs_suffice b name order) refl is
+enough b name order wanted ranked is = enough_by b name order wanted (globs_suffice b name order) ranked refl is

@@ -23,11 +23,10 @@ use Rattle.mime_lookup.proofs.StopLemmas.StepStops.{stops_then}
 use Rattle.mime_view.specs.declared.budget.Budget.{Budget}
 
 -- what implies that there is no content
-decide_for : (b : PlainDatabase) (name : List ℕ) (order : Order) (A B : Type 0) → (A → B) → GlobsDecide b name order A
+pub decide_for : (b : PlainDatabase) (name : List ℕ) (order : Order) (A B : Type 0) → (A → B) → GlobsDecide b name order A
     → GlobsDecide b name order B
-decide_for b name order A B weaker (inl (one, inl first)) = inl (one, inl first)
-decide_for b name order A B weaker (inl (one, inr none)) = inl (one, inr (weaker none))
-decide_for b name order A B weaker (inr none) = inr (none.0, weaker none.1)
+decide_for b name order A B weaker (inl suffice) = inl suffice
+decide_for b name order A B weaker (inr none) = inr (weaker none.0, none.1)
 
 -- a type that is given whatever the content is
 pub chosen_anyway : (b : PlainDatabase) (name : List ℕ) (host : Host) (order : Order) (kind : Bor (List ℕ)) (known : Option (Option (List ℕ)))
@@ -43,7 +42,7 @@ none_read b name order None read none suffice = tt
 none_read b name order (Some content) read none suffice = rw suffice none
 
 -- where the rules don't suffice, what is read is the front
-front_read : (b : PlainDatabase) (name : List ℕ) (order : Order) (known : Option (Option (List ℕ))) (read : ℕ)
+pub front_read : (b : PlainDatabase) (name : List ℕ) (order : Order) (known : Option (Option (List ℕ))) (read : ℕ)
     → globs_suffice b name order ≡ false → IfSome known (λ content. read ≡ front_size b content)
     → IfSome known (λ content. read ≡ read_of b name content order)
 unfolding read_of

@@ -1,17 +1,18 @@
--- How much of a content is wanted, by what the name gave.
-use Rattle.std.proofs.Common.{◌≡◌, ◌∙◌, ◌⊎◌, ℕ, ◌+◌, ◌<◌, ◌≤◌, true, false, max, List, length, Result, Ok, Err, refl, sym, ap, inl, inr, arith}
-use Rattle.std.specs.Prelude.{IfErr, IfOk, ⊤}
+-- How much of a content is wanted, by what the name gave, and why a lookup of a name alone stops.
+use Rattle.std.proofs.Common.{◌≡◌, ◌∙◌, ◌⊎◌, ℕ, ◌+◌, ◌<◌, ◌≤◌, true, false, max, List, length, Err, refl, sym, ap, inl, inr, arith}
+use Rattle.std.specs.Prelude.{⊤}
 use Rattle.mime_base.specs.Cache.Bytes.{field}
 use Rattle.mime_base.specs.Database.{PlainDatabase}
 use Rattle.mime_base.specs.Format.Packed.{Packed}
 use Rattle.mime_lookup.specs.Bounds.{KeepsBounds, stated_extent}
 use Rattle.mime_lookup.specs.Cached.{cause_of}
 use Rattle.mime_lookup.specs.CheckingOrder.{globs_suffice, read_limit}
+use Rattle.mime_lookup.specs.NameAlone.{IsNameLookUp, SufficesForName}
 use Rattle.mime_lookup.specs.Spelling.{SpellsGlobs, SpellsMagic}
 use Rattle.mime_lookup.specs.Spent.{UsesUp}
 use Rattle.mime_lookup.specs.StepFaults.{of_magic}
 use Rattle.mime_lookup.specs.Steps.{Stops}
-use Rattle.mime_lookup.specs.Wanted.{IsWanted, IsWanting, SufficesForWanted, wanted_of}
+use Rattle.mime_lookup.specs.Wanted.{IsWanted, wanted_of}
 use Rattle.mime_lookup.specs.declared.order.Order.{Order}
 use Rattle.mime_lookup.specs.declared.stopped.Stopped.{Stopped}
 use Rattle.mime_lookup.proofs.LookUpLemmas.EnoughFronts.{enough}
@@ -32,7 +33,7 @@ module _ (c name : List ℕ) (order : Order) where
         any_bytes = inl refl;
         globs = λ b globs. rw (suffice b globs) refl;
         most = λ b globs magic. is b globs;
-        enough = λ b globs magic. enough b name order 0 (is b globs);
+        enough = λ b globs magic. enough b name order 0 globs.ranks (is b globs);
       }
 
   -- the longest front, where they don't
@@ -46,23 +47,14 @@ module _ (c name : List ℕ) (order : Order) where
         any_bytes = inr stated;
         globs = λ b globs. rw (conflict b globs) stated;
         most = is;
-        enough = λ b globs magic. enough b name order wanted (is b globs magic);
+        enough = λ b globs magic. enough b name order wanted globs.ranks (is b globs magic);
       }
 
-  -- the same of a front that may not be given
-  pub wants_limit : (result : Result ℕ CacheFault) → ((b : PlainDatabase) → SpellsGlobs c b → globs_suffice b name order ≡ false)
-      → IfOk result (λ size. size ≡ max 128 (stated_extent c))
-      → ((b : PlainDatabase) → SpellsMagic c b → IfOk result (λ size. size ≡ read_limit b)) → IfOk result (IsWanted c name order)
-  wants_limit (Ok size) conflict stated spelled = wants_front size conflict stated spelled
-  wants_limit (Err e) conflict stated spelled = tt
-
-  -- which is only where the head of magic does not lie in the cache
-  pub stops_limit : (result : Result ℕ CacheFault) (IsUsed : Type 0) (IsEnough : PlainDatabase → Type 0) (after : Budget)
-      → IfErr result (λ e. (length c < field c 0 6 + 12) × (e ≡ OutOfRange (field c 0 6)))
-      → ((b : PlainDatabase) → IsEnough b → IfErr result (λ _. ⊥))
-      → IfErr result (λ e. Stops c IsUsed IsEnough (λ _. ⊥) (cause_of e))
-  stops_limit (Ok size) IsUsed IsEnough after head need = tt
-  stops_limit (Err e) IsUsed IsEnough after head need =
+  -- the head of magic does not lie in the cache
+  pub stops_limit : (e : CacheFault) (IsUsed : Type 0) (IsEnough : PlainDatabase → Type 0) (after : Budget)
+      → (length c < field c 0 6 + 12) × (e ≡ OutOfRange (field c 0 6)) → ((b : PlainDatabase) → IsEnough b → ⊥)
+      → Stops c IsUsed IsEnough (λ _. ⊥) (cause_of e)
+  stops_limit e IsUsed IsEnough after head need =
       stops_for c IsUsed IsEnough (λ _. ⊥) e (of_magic after (inl head))
       (λ same. absurd (no_place (field c 0 6) (sym head.1 ∙ same))) (λ b enough. absurd (need b enough))
 
@@ -72,14 +64,14 @@ module _ (c name : List ℕ) (order : Order) where
   magic_for_front b conflict (inl suffice) = absurd cc
   magic_for_front b conflict (inr magic) = magic
 
-  -- no number, for a fault of the cache
-  pub stops_wanting : (e : CacheFault) (stopped : Stopped) → stopped.cause ≡ cause_of e → stopped.read ≡ 0 → length name ≤ 4096
+  -- no answer, for a fault of the cache
+  pub stops_name : (e : CacheFault) (stopped : Stopped) → stopped.cause ≡ cause_of e → stopped.read ≡ 0 → length name ≤ 4096
       → ((x : CacheFault) → IsOpenFault c x → e ≡ x)
       → Stops c (UsesUp c ⊤ stopped.meter.nodes)
-      (λ b. SufficesForWanted c name order b × (length c ≤ 268435456) × Packed c b) (λ _. ⊥) (cause_of e)
-      → KeepsBounds (length name) c 0 stopped.meter → IsWanting c name order (Err stopped)
-  stops_wanting e stopped same none short refused stops bounds = record {
-    wanted = tt;
+      (λ b. SufficesForName c name order b × (length c ≤ 268435456) × Packed c b) (λ _. ⊥) (cause_of e)
+      → KeepsBounds (length name) c 0 stopped.meter → IsNameLookUp c name order (Err stopped)
+  stops_name e stopped same none short refused stops bounds = record {
+    answers = tt;
     too_long = λ long. absurd (omega (arith, short, long));
     refused = λ _ x opens. same ∙ ap cause_of (refused x opens) ∙ cause_of-open_fault c x opens;
     opened = tt;
@@ -89,7 +81,8 @@ module _ (c name : List ℕ) (order : Order) where
     read = none;
     readable = λ failed. no_read_fault e (sym same ∙ failed);
     bounds = bounds;
-    near = λ b globs suffice. tt;
+    counted = tt;
+    near = λ b globs decide. tt;
   }
     where
       -- what is no failed read is one of the others

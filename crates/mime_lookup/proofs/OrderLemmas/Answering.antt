@@ -20,6 +20,13 @@ one_type_chosen pairs [] base one = absurd cc
 one_type_chosen pairs (first ∷ more) base one =
     subst (λ b. MatchBool b (first ≡ first) (IsFirst pairs base first (first ∷ more) first)) (sym one) refl
 
+-- and no other is
+pub one_type_only : (pairs : Pairs) (kinds : List (List ℕ)) (base answer : List ℕ) → are_one_type kinds ≡ true →
+    ChoosesAmong pairs kinds base answer → answer ≡ get_or kinds 0 []
+one_type_only pairs [] base answer one chosen = absurd cc
+one_type_only pairs (first ∷ more) base answer one chosen =
+    subst (λ b. MatchBool b (answer ≡ first) (IsFirst pairs base first (first ∷ more) answer)) one chosen
+
 -- the first of some types
 pub first_text : (kept : List (Bor (List ℕ))) (d : Bor (List ℕ)) → are_one_type (kinds_of kept) ≡ true →
     (get_or kept 0 d).now ≡ get_or (kinds_of kept) 0 []

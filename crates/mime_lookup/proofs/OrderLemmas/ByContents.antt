@@ -1,5 +1,8 @@
 -- What a front of a content gives after the name, by the step that was last, and which databases the steps answer for.
-use Rattle.std.proofs.Common.{◌≡◌, ◌∙◌, ℕ, true, false, List, Option, inl, inr, ap, sym}
+use Rattle.std.proofs.Common.{◌≡◌, ◌∙◌, ℕ, ◌≤◌, Bool, true, false, cond, List, length, take, Option, inl, inr, ap, sym, arith}
+use Rattle.std.specs.List.{All}
+use Rattle.std.proofs.lemmas.List.{length-take}
+use Rattle.std.proofs.lemmas.List.Elements.{All-take}
 use Rattle.std.specs.Prelude.{None, Some, ⊤}
 use Rattle.mime_base.specs.Cache.Bytes.{Stands}
 use Rattle.mime_base.specs.Database.{PlainDatabase, pairs_of}
@@ -8,23 +11,24 @@ use Rattle.mime_base.specs.Format.Pairs.{PairsAt}
 use Rattle.mime_base.specs.declared.magic.host.Host.{Host}
 use Rattle.mime_lookup.specs.CheckingOrder.{GlobsDecide, are_one_type}
 use Rattle.mime_lookup.specs.Choice.{kept}
-use Rattle.mime_lookup.specs.Finding.{PlainFinding, found_in, is_high}
+use Rattle.mime_lookup.specs.Finding.{PlainFinding, found_in, is_by_magic, is_high}
 use Rattle.mime_lookup.specs.Halves.{Leaves, order_of}
 use Rattle.mime_lookup.specs.Spelling.{SpellsGlobs, SpellsMagic}
 use Rattle.mime_lookup.specs.Spent.{IsUsedUp}
 use Rattle.mime_lookup.specs.Steps.{Suffices, SufficesForChoice, SufficesForContent}
 use Rattle.mime_lookup.specs.declared.cached.by_name.Candidates.{Candidates}
-use Rattle.mime_lookup.specs.declared.cached.by_name.Candidates.TheVariants.{Ignored, Kept, Unasked}
+use Rattle.mime_lookup.specs.declared.cached.by_name.Candidates.TheVariants.{Every, Ignored, Kept, Unasked}
 use Rattle.mime_lookup.specs.declared.order.Order.{Order}
-use Rattle.mime_lookup.specs.declared.order.Order.TheVariants.{GlobsFirst, MagicFirst}
-use Rattle.mime_lookup.proofs.CostLemmas.Near.{decide_unavailable, decide_without, none_kept}
+use Rattle.mime_lookup.specs.declared.order.Order.TheVariants.{AllGlobs, GlobsFirst, MagicFirst}
+use Rattle.mime_lookup.proofs.CostLemmas.Near.{decide_unavailable, decide_without, few_asked, none_kept}
 use Rattle.mime_lookup.proofs.LookUpLemmas.SpelledParts.{spelled_globs, spelled_magic, spelled_pairs}
 use Rattle.mime_view.specs.declared.budget.Budget.{Budget}
 
 -- where candidates are left and the globs decide, there is no content
 pub without : (b : PlainDatabase) (name : List ℕ) (NoContent : Type 0) (candidates : Candidates) → Leaves b name candidates
     → GlobsDecide b name (order_of candidates) NoContent → NoContent
-without b name NoContent (Kept kinds) leaves decide = (none_kept b name GlobsFirst NoContent kinds leaves.1 leaves.0 decide).1
+without b name NoContent (Kept kinds) leaves decide = (none_kept b name NoContent kinds leaves.1 leaves.0 decide).1
+without b name NoContent (Every kinds asked) leaves decide = (few_asked b name NoContent asked leaves.2 leaves.0 decide).1
 without b name NoContent Unasked leaves decide = (decide_without b name NoContent decide).0
 without b name NoContent Ignored leaves decide = decide_unavailable b name NoContent decide
 
@@ -56,12 +60,46 @@ module _ (c name : List ℕ) (NoContent : Type 0) (b : PlainDatabase) where
   pub suffices_choice : (kinds : List (List ℕ)) → kinds ≡ kept (pairs_of b) b.rules name
       → are_one_type (kept (pairs_of b) b.rules name) ≡ false → Suffices c name GlobsFirst NoContent b → SufficesForChoice c kinds b
   suffices_choice kinds are conflict (inl whole) = inl (spelled_pairs c b whole.1)
-  suffices_choice kinds are conflict (inr globs) = inr ((none_kept b name GlobsFirst NoContent kinds are conflict globs.1).0, globs.0)
+  suffices_choice kinds are conflict (inr globs) =
+      inr (omega (arith, ap length (none_kept b name NoContent kinds are conflict globs.1).0), globs.0)
 
   -- and the globs, where they are asked last
   pub suffices_last : Suffices c name MagicFirst NoContent b → Suffices c name GlobsFirst ⊤ b
   suffices_last (inl whole) = inl whole
   suffices_last (inr globs) = inr (globs.0, (decide_without b name NoContent globs.1).1)
+
+-- where no content is available, so few are asked of all types
+few_of : (front : Option (List ℕ)) (b : PlainDatabase) (host : Host) (found : PlainFinding) (kinds : List (List ℕ)) (asked : ℕ)
+    → found ≡ found_in b front host → front ≡ None → asked ≤ 1 → length (cond (is_by_magic found) kinds (take asked kinds)) ≤ 1
+few_of front b host found kinds asked is none few =
+    let fixed : is_by_magic found ≡ false = ap is_by_magic (rw none at is) in
+    rw fixed (omega (arith, length-take asked kinds, few))
+
+module _ (c name : List ℕ) (front : Option (List ℕ)) (b : PlainDatabase) (host : Host) (found : PlainFinding) (kinds : List (List ℕ))
+    (asked : ℕ) (is : found ≡ found_in b front host) (leaves : Leaves b name (Every kinds asked))
+  where
+    -- where the globs decide, one of all types is asked or none
+    pub one_asked : GlobsDecide b name AllGlobs (front ≡ None) → length (cond (is_by_magic found) kinds (take asked kinds)) ≤ 1
+    one_asked decide =
+        let few = few_asked b name (front ≡ None) asked leaves.2 leaves.0 decide in
+        few_of front b host found kinds asked is few.1 few.0
+
+    -- so what the choice among those that are asked needs stands
+    pub suffices_asked : Suffices c name AllGlobs (front ≡ None) b
+        → SufficesForChoice c (cond (is_by_magic found) kinds (take asked kinds)) b
+    suffices_asked (inl whole) = inl (spelled_pairs c b whole.1)
+    suffices_asked (inr globs) = inr (one_asked globs.1, globs.0)
+
+-- those that are asked are some of all
+pub asked_all : (P : List ℕ → Type 0) (magic : Bool) (kinds : List (List ℕ)) (asked : ℕ) → All P kinds
+    → All P (cond magic kinds (take asked kinds))
+asked_all P true kinds asked all = all
+asked_all P false kinds asked all = All-take P asked kinds all
+
+-- and no more than there are
+pub asked_few : (magic : Bool) (kinds : List (List ℕ)) (asked : ℕ) → length (cond magic kinds (take asked kinds)) ≤ length kinds
+asked_few true kinds asked = omega arith
+asked_few false kinds asked = omega (arith, length-take asked kinds)
 
 -- where there is a content, its magic stands
 pub content_magic : {A : Type 0} (c : List ℕ) (content : A) (b : PlainDatabase) → SufficesForContent c (Some content ≡ None) b

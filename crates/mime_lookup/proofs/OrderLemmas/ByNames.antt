@@ -2,15 +2,19 @@
 use Rattle.std.proofs.Common.{◌≡◌, ℕ, true, false, List, [], get_or, Result, Ok, Err, Some, refl, sym, subst}
 use Rattle.std.specs.Prelude.{IsErrAnd}
 use denote.Bor.{Bor}
+use Rattle.std.specs.List.{All}
 use Rattle.mime_base.specs.Database.{PlainDatabase, pairs_of}
+use Rattle.mime_base.specs.Kept.{FitsRank}
 use Rattle.mime_lookup.specs.CheckingOrder.{are_one_type, globs_suffice}
-use Rattle.mime_lookup.specs.Choice.{kept}
+use Rattle.mime_lookup.specs.Cached.{asked_count}
+use Rattle.mime_lookup.specs.Choice.{candidates, kept}
 use Rattle.mime_lookup.specs.Halves.{CostsByName, Decides}
 use Rattle.mime_lookup.specs.declared.cached.by_name.NameDecision.{NameDecision}
 use Rattle.mime_lookup.specs.declared.cached.by_name.NameDecision.TheVariants.{Decided, Left}
-use Rattle.mime_lookup.specs.declared.cached.by_name.Candidates.TheVariants.{Ignored, Kept, Unasked}
+use Rattle.mime_lookup.specs.declared.cached.by_name.Candidates.TheVariants.{Every, Ignored, Kept, Unasked}
 use Rattle.mime_lookup.specs.declared.order.Order.{Order}
-use Rattle.mime_lookup.specs.declared.order.Order.TheVariants.{ContentOnly, GlobsFirst, MagicFirst}
+use Rattle.mime_lookup.specs.declared.order.Order.TheVariants.{AllGlobs, ContentOnly, GlobsFirst, MagicFirst}
+use Rattle.mime_lookup.proofs.OrderLemmas.AllGlobs.{one_candidate_alone}
 use Rattle.mime_lookup.proofs.OrderLemmas.GlobsFirst.{alone}
 use Rattle.mime_view.specs.declared.fault.CacheFault.{CacheFault}
 use Rattle.mime_view.specs.declared.spending.Spending.{Spending}
@@ -29,6 +33,21 @@ pub gives_others : (b : PlainDatabase) (name : List ℕ) (order : Order) (kinds 
     → Decides b name order (Left (Kept kinds))
 unfolding globs_suffice
 gives_others b name order kinds same conflict are = rw same (conflict, refl, (conflict, are))
+
+-- the types of all rules that match are one
+pub gives_one_of_all : (b : PlainDatabase) (name : List ℕ) (order : Order) (kind : Bor (List ℕ)) → All FitsRank b.rules → order ≡ AllGlobs
+    → are_one_type (candidates (pairs_of b) b.rules name) ≡ true → kind.now ≡ get_or (candidates (pairs_of b) b.rules name) 0 []
+    → Decides b name order (Decided kind)
+unfolding globs_suffice
+gives_one_of_all b name order kind ranked same one is =
+    rw same (one, λ content host. one_candidate_alone b name host ranked content kind.now one is)
+
+-- they are not
+pub gives_every : (b : PlainDatabase) (name : List ℕ) (order : Order) (kinds : List (List ℕ)) (asked : ℕ) → order ≡ AllGlobs
+    → are_one_type (candidates (pairs_of b) b.rules name) ≡ false → kinds ≡ candidates (pairs_of b) b.rules name
+    → asked ≡ asked_count (kept (pairs_of b) b.rules name) → Decides b name order (Left (Every kinds asked))
+unfolding globs_suffice
+gives_every b name order kinds asked same conflict are count = rw same (conflict, refl, (conflict, are, count))
 
 -- they are not asked
 pub gives_all : (b : PlainDatabase) (name : List ℕ) (order : Order) → order ≡ MagicFirst → Decides b name order (Left Unasked)

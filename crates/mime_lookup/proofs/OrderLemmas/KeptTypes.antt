@@ -1,10 +1,32 @@
--- The texts of the kept types, each put in its place after one alias step.
+-- The types of the rules that are asked for, each put in its place after one alias step.
 use Rattle.std.proofs.Common.{◌≡◌, ℕ, zero, suc, ◌+◌, ◌<◌, ◌≤◌, List, [], ◌∷◌, length, get_or, set, map, refl, sym, ap, ◌∙◌, arith}
 use Rattle.std.specs.List.{All}
 use Rattle.std.proofs.lemmas.List.{get_or-map, length-map}
 use Rattle.std.proofs.Math.Numerals.{suc-eq-add-one}
+use Rattle.std.proofs.lemmas.Simd.{map-map}
 use denote.Bor.{Bor}
+use Rattle.mime_base.specs.Database.{PlainDatabase, pairs_of}
+use Rattle.mime_base.specs.Database.Subclass.{resolved}
+use Rattle.mime_base.specs.Kept.{candidate_rules, kept_rules}
+use Rattle.mime_base.specs.declared.database.rule.GlobRule.{GlobRule}
 use Rattle.mime_lookup.specs.Ancestry.{kinds_of}
+use Rattle.mime_lookup.specs.Choice.{candidates, kept}
+use Rattle.mime_lookup.specs.NameTypes.{types_for}
+use Rattle.mime_view.specs.Gathered.{asked_rules}
+use Rattle.mime_view.specs.declared.name_hits.Which.{Which}
+use Rattle.mime_view.specs.declared.name_hits.Which.TheVariants.{Candidates, Kept}
+
+-- the types of rules, each after one alias step
+pub types_for-rules : (which : Which) (b : PlainDatabase) (name : List ℕ)
+    → map (resolved b.aliases) (map (λ rule. rule.kind) (asked_rules which b.rules name)) ≡ types_for which b name
+unfolding kept candidates
+types_for-rules Kept b name = map-map (resolved b.aliases) (λ (rule : GlobRule). rule.kind) (kept_rules b.rules name)
+types_for-rules Candidates b name = map-map (resolved b.aliases) (λ (rule : GlobRule). rule.kind) (candidate_rules b.rules name)
+
+-- as many are kept as rules
+pub length-kept : (b : PlainDatabase) (name : List ℕ) → length (kept (pairs_of b) b.rules name) ≡ length (kept_rules b.rules name)
+unfolding kept
+length-kept b name = length-map (kept_rules b.rules name) (λ (rule : GlobRule). resolved b.aliases rule.kind)
 
 -- a list in which what comes before a place went one step
 abbrev pub stepped : (List ℕ → List ℕ) → ℕ → List (List ℕ) → List (List ℕ)

@@ -1,11 +1,13 @@
 -- What is found in a content, against what the content is sniffed as.
 use Rattle.std.proofs.Common.{◌≡◌, ◌∙◌, ℕ, cond, List, Option, None, Some, refl, ap, sym}
 use Rattle.std.specs.Prelude.{IfSome}
+use Rattle.std.specs.Option.{option_map}
 use Rattle.mime_base.specs.Database.{PlainDatabase}
 use Rattle.mime_base.specs.Magic.Holds.{first_magic}
 use Rattle.mime_base.specs.declared.magic.host.Host.{Host}
 use Rattle.mime_lookup.specs.CheckingOrder.{before_globs, of_high_priority}
-use Rattle.mime_lookup.specs.Finding.{PlainFinding, found_by, found_in, is_high, resolved_finding}
+use Rattle.mime_lookup.specs.ContentAlone.{first_priority}
+use Rattle.mime_lookup.specs.Finding.{PlainFinding, found_by, found_in, is_high, priority_of, resolved_finding}
 use Rattle.mime_lookup.specs.Sniffing.{sniffed, sniffed_by_magic}
 use Rattle.mime_lookup.specs.declared.order.Order.TheVariants.{MagicFirst}
 
@@ -21,6 +23,17 @@ pub sniffed-found : (b : PlainDatabase) (known : Option (List ℕ)) (host : Host
 unfolding sniffed
 sniffed-found b None host = refl
 sniffed-found b (Some content) host = sniffed_by_magic-found b (first_magic b.sections content host) content
+
+-- the priority by a section
+priority_of-found : (section : Option (List ℕ × ℕ)) (content : List ℕ) →
+    priority_of (found_by section content) ≡ option_map (λ (pair : List ℕ × ℕ). pair.1) section
+priority_of-found None content = refl
+priority_of-found (Some section) content = refl
+
+-- the priority of what is found in a content is that of its first section that holds
+pub priority-found : (b : PlainDatabase) (content : List ℕ) (host : Host) →
+    priority_of (found_in b (Some content) host) ≡ first_priority b content host
+priority-found b content host = priority_of-found (first_magic b.sections content host) content
 
 -- the type by a section of high priority
 of_high_priority-found : (b : PlainDatabase) (section : Option (List ℕ × ℕ)) (content : List ℕ) →

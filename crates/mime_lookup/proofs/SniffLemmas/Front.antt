@@ -1,17 +1,18 @@
 -- A front that is enough gives what the whole content gives.
-use Rattle.std.proofs.Common.{◌≡◌, ◌∙◌, ℕ, ◌<◌, ◌≤◌, List, Option, None, Some, length, refl, sym, ap}
+use Rattle.std.proofs.Common.{◌≡◌, ◌∙◌, ℕ, ◌<◌, ◌≤◌, List, Option, None, Some, cond, length, refl, sym, ap}
 use Rattle.std.specs.Prelude.{IfSome}
 use Rattle.std.specs.Io.KnownBytes.{Consumes, IsAtEnd}
 use Rattle.std.specs.Option.{option_map}
-use Rattle.mime_base.specs.Database.{PlainDatabase}
+use Rattle.mime_base.specs.Database.{PlainDatabase, pairs_of}
 use Rattle.mime_base.specs.declared.magic.host.Host.{Host}
-use Rattle.mime_lookup.specs.CheckingOrder.{Chooses, before_globs, front_size, read_limit}
+use Rattle.mime_lookup.specs.CheckingOrder.{Chooses, asked_types, before_globs, front_size, has_magic, read_limit}
+use Rattle.mime_lookup.specs.Choice.{candidates, kept}
 use Rattle.mime_lookup.specs.Fronts.{IsEnough}
 use Rattle.mime_lookup.specs.Halves.{front_length}
 use Rattle.mime_lookup.specs.Sniffing.{sniffed}
 use Rattle.mime_lookup.specs.declared.order.Order.{Order}
-use Rattle.mime_lookup.specs.declared.order.Order.TheVariants.{ContentOnly, GlobsFirst, MagicFirst}
-use Rattle.mime_lookup.proofs.SniffLemmas.Sniffs.{before_globs-front, front_is_enough, is_read}
+use Rattle.mime_lookup.specs.declared.order.Order.TheVariants.{AllGlobs, ContentOnly, GlobsFirst, MagicFirst}
+use Rattle.mime_lookup.proofs.SniffLemmas.Sniffs.{before_globs-front, front_is_enough, has_magic-front, is_read}
 
 -- what was read up to the limit, or to the end
 pub enough_read : (b : PlainDatabase) (known after : Option (List ℕ)) (front : List ℕ) → Consumes known after front →
@@ -34,6 +35,7 @@ module _ (b : PlainDatabase) (name : List ℕ) (host : Host) (kind : List ℕ) w
       → before_globs b front host order ≡ before_globs b content host order
   unfolding before_globs
   before-enough GlobsFirst content front is = refl
+  before-enough AllGlobs content front is = refl
   before-enough MagicFirst None None is = refl
   before-enough MagicFirst None (Some front) is = absurd is
   before-enough MagicFirst (Some whole) None is = absurd is
@@ -41,12 +43,29 @@ module _ (b : PlainDatabase) (name : List ℕ) (host : Host) (kind : List ℕ) w
       before_globs-front b front is.rest host is.long ∙ ap (λ bytes. before_globs b (Some bytes) host MagicFirst) (sym is.split)
   before-enough ContentOnly content front is = ap (λ kind. Some kind) (sniffed-enough content front is)
 
+  -- whether a section holds is the same
+  has_magic-enough : (content front : Option (List ℕ)) → IsEnough b content front → has_magic b front host ≡ has_magic b content host
+  has_magic-enough None None is = refl
+  has_magic-enough None (Some front) is = absurd is
+  has_magic-enough (Some whole) None is = absurd is
+  has_magic-enough (Some whole) (Some front) is =
+      has_magic-front b front is.rest host is.long ∙ ap (λ bytes. has_magic b (Some bytes) host) (sym is.split)
+
+  -- and so are the types that are asked
+  asked-enough : (order : Order) (content front : Option (List ℕ)) → IsEnough b content front
+      → asked_types b name front host order ≡ asked_types b name content host order
+  asked-enough GlobsFirst content front is = refl
+  asked-enough MagicFirst content front is = refl
+  asked-enough AllGlobs content front is =
+      ap (λ magic. cond magic (candidates (pairs_of b) b.rules name) (kept (pairs_of b) b.rules name)) (has_magic-enough content front is)
+  asked-enough ContentOnly content front is = refl
+
   -- so the choice is
   pub chooses_enough : (order : Order) (content front : Option (List ℕ)) → IsEnough b content front
       → Chooses b name front host order kind → Chooses b name content host order kind
   unfolding Chooses
   chooses_enough order content front is chosen =
-      rw (← before-enough order content front is, ← sniffed-enough content front is) chosen
+      rw (← before-enough order content front is, ← asked-enough order content front is, ← sniffed-enough content front is) chosen
 
   -- where the content is known
   pub chooses_known : (order : Order) (known : Option (Option (List ℕ))) (front : Option (List ℕ))

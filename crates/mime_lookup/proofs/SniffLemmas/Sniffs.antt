@@ -11,7 +11,7 @@ use Rattle.mime_base.specs.Magic.Extent.{extent}
 use Rattle.mime_base.specs.Magic.Holds.{first_magic}
 use Rattle.mime_base.specs.declared.magic.host.Host.{Host}
 use Rattle.mime_base.proofs.MagicLemmas.Fronts.{first_magic-front, looks_textual-front}
-use Rattle.mime_lookup.specs.CheckingOrder.{IsSniffed, before_globs, front_size, of_high_priority, read_limit}
+use Rattle.mime_lookup.specs.CheckingOrder.{IsSniffed, before_globs, front_size, has_magic, is_section, of_high_priority, read_limit}
 use Rattle.mime_lookup.specs.Fronts.{IsRead}
 use Rattle.mime_lookup.specs.declared.sniff.Sniffed.{Sniffed}
 use Rattle.mime_lookup.specs.Sniffing.{FrontIsEnough, sniffed, sniffed_by_bytes, sniffed_by_magic}
@@ -50,6 +50,15 @@ before_globs-front b front rest host (inl none) =
 before_globs-front b front rest host (inr long) =
     sym (ap (of_high_priority b) (first_magic-front front rest b.sections host long.1))
 
+-- and of whether a section holds
+pub has_magic-front : (b : PlainDatabase) (front rest : List ℕ) (host : Host) →
+    (rest ≡ []) ⊎ ((128 ≤ length front) × (extent b ≤ length front)) →
+    has_magic b (Some front) host ≡ has_magic b (Some (front ++ rest)) host
+has_magic-front b front rest host (inl none) =
+    ap (λ content. is_section (first_magic b.sections content host)) (sym (append-nil front) ∙ ap (λ end. front ++ end) (sym none))
+has_magic-front b front rest host (inr long) =
+    sym (ap is_section (first_magic-front front rest b.sections host long.1))
+
 -- what was read of a content with these bytes
 pub is_read : (b : PlainDatabase) (whole front : List ℕ) (after : Option (List ℕ)) → Consumes (Some whole) after front →
     length front ≤ read_limit b → (length front < read_limit b → IsAtEnd after) → IsRead b whole front
@@ -82,6 +91,7 @@ module _ (b : PlainDatabase) (host : Host) (known after : Option (List ℕ)) (fr
             kind = is.kind ∙ front_is_enough b front read.rest host read.long ∙ ap (λ bytes. sniffed b (Some bytes) host) (sym read.split);
             high = is.high ∙ before_globs-front b front read.rest host read.long
                 ∙ ap (λ bytes. before_globs b (Some bytes) host MagicFirst) (sym read.split);
+            magic = is.magic ∙ has_magic-front b front read.rest host read.long ∙ ap (λ bytes. has_magic b (Some bytes) host) (sym read.split);
           }
 
   -- and the size of the front is what is looked at

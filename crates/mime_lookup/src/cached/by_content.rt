@@ -1,6 +1,6 @@
 //! The second half of a lookup: what a front of the content gives, after the name ("Recommended checking order").
 
-ghost use Rattle.std.specs.Prelude.{◌≡◌, ◌+◌, ◌*◌, ◌<◌, ◌≤◌, [], All, IfErr, IfOk, None, OnOk, length, ⊤};
+ghost use Rattle.std.specs.Prelude.{◌≡◌, ◌+◌, ◌*◌, ◌<◌, ◌≤◌, if◌then◌else◌, All, IfErr, IfOk, None, OnOk, length, take, ⊤};
 ghost use Rattle.mime_base.specs.Database.{PlainDatabase, pairs_of};
 ghost use Rattle.mime_lookup.specs.Affords.{rule_records};
 ghost use Rattle.mime_lookup.specs.Ancestry.{kinds_of};
@@ -10,7 +10,7 @@ ghost use Rattle.mime_lookup.specs.CheckingOrder.{Chooses, GlobsDecide};
 ghost use Rattle.mime_lookup.specs.Choice.{ChoosesAmong, kept};
 ghost use Rattle.mime_lookup.specs.Costs.{Costs, LooksAt, glob_cost, record_cost};
 ghost use Rattle.mime_lookup.specs.Searching.{search_cost};
-ghost use Rattle.mime_lookup.specs.Finding.{resolved_finding};
+ghost use Rattle.mime_lookup.specs.Finding.{is_by_magic, resolved_finding};
 ghost use Rattle.mime_lookup.specs.Halves.{AffordsRest, AreTexts, Leaves, bytes_of, front_length, order_of, owed_near, owed_nodes};
 ghost use Rattle.mime_lookup.specs.Spelling.{SpellsGlobs};
 ghost use Rattle.mime_lookup.specs.Spent.{IsUsedUp};
@@ -20,10 +20,10 @@ ghost use Rattle.mime_view.specs.Hits.{near};
 
 use crate::cached::ancestry::first_of;
 use crate::cached::by_name::Candidates;
-use crate::cached::kept::{KeptTypes, keep};
+use crate::cached::name_types::{NameTypes, types_of};
 use crate::cached::sniff::{Finding, is_high, sniff_front, unalias};
 use crate::question::Question;
-use mime_view::{Cache, CacheFault, Spending};
+use mime_view::{Cache, CacheFault, Spending, Which};
 use std::alloc::Global;
 
 /// The type that a front of a content gives, after the name; `None` is content that is not available.
@@ -61,6 +61,11 @@ pub fn by_content<'a>(
             let kind = choose(alloc, cache, kinds.as_slice(), finding, spending)?;
             Ok(kind)
         }
+        Candidates::Every(kinds, asked) => {
+            let kinds = asked_of(kinds.as_slice(), asked, finding);
+            let kind = choose(alloc, cache, kinds, finding, spending)?;
+            Ok(kind)
+        }
         Candidates::Unasked => {
             if is_high(finding) {
                 let kind = unalias(cache, finding, spending)?;
@@ -73,6 +78,18 @@ pub fn by_content<'a>(
             let kind = unalias(cache, finding, spending)?;
             Ok(kind)
         }
+    }
+}
+
+/// Of the types of all rules that match those that are asked for what was found: all where magic found it, else the first.
+fn asked_of<'k, 'a>(kinds: &'k [&'a [u8]], asked: usize, finding: Finding<'_>) -> &'k [&'a [u8]]
+    requires front { asked ≤ length kinds.now }
+    ensures { kinds_of result.now ≡ (if is_by_magic (plain_finding finding.entry)
+        then kinds_of kinds.now else take asked (kinds_of kinds.now)) }
+{
+    match finding {
+        Finding::Magic(..) => kinds,
+        Finding::Fixed(_) => &kinds[..asked],
     }
 }
 
@@ -97,41 +114,43 @@ fn by_globs<'a>(
         (spending.new.meter.nodes < spending.old.meter.nodes + near_max (length name.now) (near name.now b.rules)) }
     ensures cost { Costs (record_cost (length name.now)) 0 (glob_cost (length name.now) + 29) spending.old spending.new }
 {
-    let kept = keep(alloc, cache, name, spending)?;
-    match kept {
-        KeptTypes::One(kind) => Ok(kind),
-        KeptTypes::Others(kinds) => {
+    let types = types_of(alloc, cache, name, Which::Kept, spending)?;
+    match types {
+        NameTypes::One(kind) => Ok(kind),
+        NameTypes::Others(kinds, _) => {
             let kind = choose(alloc, cache, kinds.as_slice(), finding, spending)?;
             Ok(kind)
         }
     }
 }
 
-/// What was found where no type is kept, else the first kept type that is it or a subclass of it, else the
-/// first kept type.
+/// What was found where no type is asked, else the first of these that is it or a subclass of it, else the first.
 fn choose<'a>(
     alloc: Global,
     cache: &Cache<'a>,
-    kept: &[&'a [u8]],
+    kinds: &[&'a [u8]],
     finding: Finding<'a>,
     spending: &mut Spending,
 ) -> Result<&'a [u8], CacheFault>
     requires finding { IsFinding cache.now finding }
-    requires texts { All (IsCacheText cache.now) (kinds_of kept.now) }
-    ensures chosen { (b : PlainDatabase) → SufficesForChoice cache.now (kinds_of kept.now) b → IfOk result
-        (λ kind. ChoosesAmong (pairs_of b) (kinds_of kept.now)
+    requires texts { All (IsCacheText cache.now) (kinds_of kinds.now) }
+    ensures chosen { (b : PlainDatabase) → SufficesForChoice cache.now (kinds_of kinds.now) b → IfOk result
+        (λ kind. ChoosesAmong (pairs_of b) (kinds_of kinds.now)
         (resolved_finding b.aliases (plain_finding finding.entry)) kind.now) }
     ensures kind { IfOk result (λ kind. IsKind cache.now kind.now) }
     ensures stops { IfErr result (λ e. Stops cache.now (IsUsedUp cache.now ⊤ spending.new.budget)
-        (λ b. SufficesForChoice cache.now (kinds_of kept.now) b × (length b.parents ≤ spending.old.budget.records))
+        (λ b. SufficesForChoice cache.now (kinds_of kinds.now) b × (length b.parents ≤ spending.old.budget.records))
         (λ _. ⊥) (cause_of e)) }
-    ensures alone { kinds_of kept.now ≡ [] → LooksAt 29 spending.old spending.new }
-    ensures cost { Costs search_cost 0 (29 + 29 * length (kinds_of kept.now)) spending.old spending.new }
+    ensures alone { length (kinds_of kinds.now) ≤ 1 → LooksAt 29 spending.old spending.new }
+    ensures cost { Costs search_cost 0 (29 + 29 * length (kinds_of kinds.now)) spending.old spending.new }
 {
     let base = unalias(cache, finding, spending)?;
-    if kept.is_empty() {
+    if kinds.is_empty() {
         return Ok(base);
     }
-    let kind = first_of(alloc, cache, kept, kept[0], base, spending)?;
+    if kinds.len() == 1 {
+        return Ok(kinds[0]);
+    }
+    let kind = first_of(alloc, cache, kinds, kinds[0], base, spending)?;
     Ok(kind)
 }

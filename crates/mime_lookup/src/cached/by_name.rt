@@ -9,10 +9,10 @@ ghost use Rattle.mime_lookup.specs.Spelling.{SpellsGlobs};
 ghost use Rattle.mime_lookup.specs.Spent.{IsUsedUp};
 ghost use Rattle.mime_lookup.specs.Steps.{Stops};
 
-use crate::cached::kept::{KeptTypes, keep};
+use crate::cached::name_types::{NameTypes, types_of};
 use crate::order::Order;
 use crate::question::Question;
-use mime_view::{Cache, CacheFault, Spending, Texts};
+use mime_view::{Cache, CacheFault, Spending, Texts, Which};
 use std::alloc::Global;
 
 /// What a name gives without its content.
@@ -29,6 +29,8 @@ pub enum NameDecision<'a> {
 pub enum Candidates<'a> {
     /// The types that are kept of it: none, or several.
     Kept(Texts<'a>),
+    /// The types of all rules that match it, and how many of the first are asked where no magic holds.
+    Every(Texts<'a>, usize),
     /// What its globs give, which are asked only where magic of high priority gives no type.
     Unasked,
     /// Nothing: its globs are not asked at all.
@@ -55,10 +57,19 @@ pub fn by_name<'a>(
 {
     match question.order {
         Order::GlobsFirst => {
-            let kept = keep(alloc, cache, question.name, spending)?;
-            match kept {
-                KeptTypes::One(kind) => Ok(NameDecision::Decided(kind)),
-                KeptTypes::Others(kinds) => Ok(NameDecision::Left(Candidates::Kept(kinds))),
+            let types = types_of(alloc, cache, question.name, Which::Kept, spending)?;
+            match types {
+                NameTypes::One(kind) => Ok(NameDecision::Decided(kind)),
+                NameTypes::Others(kinds, _) => Ok(NameDecision::Left(Candidates::Kept(kinds))),
+            }
+        }
+        Order::AllGlobs => {
+            let types = types_of(alloc, cache, question.name, Which::Candidates, spending)?;
+            match types {
+                NameTypes::One(kind) => Ok(NameDecision::Decided(kind)),
+                NameTypes::Others(kinds, asked) => {
+                    Ok(NameDecision::Left(Candidates::Every(kinds, asked)))
+                }
             }
         }
         Order::MagicFirst => Ok(NameDecision::Left(Candidates::Unasked)),

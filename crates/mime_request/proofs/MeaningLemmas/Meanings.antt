@@ -9,7 +9,7 @@ use Rattle.clap.specs.declared.error.Error.{Error}
 use Rattle.clap.specs.declared.error.kind.ErrorKind.TheVariants as kind
 use Rattle.clap.specs.declared.parser.matches.ArgMatches.{ArgMatches}
 use Rattle.mime_request.specs.CommandLine.{mimelook}
-use Rattle.mime_request.specs.Request.{Finds, Meaning, Means, apart, asks, conflicts, meaning_by, meaning_of, refused}
+use Rattle.mime_request.specs.Request.{Finds, Meaning, Means, apart, asks, conflicts, meaning_by, meaning_of, refused, right, wrong}
 use Rattle.mime_request.specs.Request.{subcommand_meaning}
 use Rattle.mime_request.specs.declared.request.Request.{Request}
 
@@ -60,3 +60,9 @@ pub conflict_means : {A : Type 0} (x : Option A) (means : A → Meaning) (e : Er
     → Means (apart x means) (Err e)
 conflict_means None means e h = h
 conflict_means (Some x) means e h = elim h [ inl memory ↦ memory_means (means x) e memory | inr none ↦ absurd none ]
+
+-- arguments that are wrong
+pub wrong_means : {A : Type 0} (x : Result A Kinds) (means : A → Meaning) (e : Error) → HasKind (wrong x) e
+    → Means (right x means) (Err e)
+wrong_means (Err kinds) means e h = h
+wrong_means (Ok x) means e h = elim h [ inl memory ↦ memory_means (means x) e memory | inr none ↦ absurd none ]

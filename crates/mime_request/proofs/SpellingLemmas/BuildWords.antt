@@ -13,7 +13,7 @@ use Rattle.mime_request.proofs.WalkLemmas.ValueWords.{value_taken}
 use Rattle.mime_request.proofs.WalkLemmas.Walks.{Steps, Leads, after_value, before_value, end_fault, ends, goes}
 
 -- rows after `-d` with directories
-abbrev directories_used : Text → List Row → List Row
+abbrev pub directories_used : Text → List Row → List Row
 directories_used dirs = used (with_index 1 (filled directories_rule)) (dirs ∷ [])
 
 -- rows after `-o` with a file
@@ -21,12 +21,12 @@ abbrev output_used : Text → List Row → List Row
 output_used file = used (with_index 1 (filled output_rule)) (file ∷ [])
 
 -- after `-d` a plain word is its value
-directories : (rows : List Row) (dirs : Text) → IsPlainWord dirs
+pub directories : (rows : List Row) (dirs : Text) → IsPlainWord dirs
     → Steps build_shape [] (before_value (codes "dirs") rows) dirs (after_value (codes "dirs") rows dirs)
 directories rows dirs h = value_taken build_shape _ _ rows dirs refl refl h
 
 -- after `-o` a plain word is its value
-output : (rows : List Row) (file : Text) → IsPlainWord file
+pub output : (rows : List Row) (file : Text) → IsPlainWord file
     → Steps build_shape [] (before_value (codes "output") rows) file (after_value (codes "output") rows file)
 output rows file h = value_taken build_shape _ _ rows file refl refl h
 
@@ -87,26 +87,26 @@ output_first_fits dirs file = refl
 
 -- what is held at the end of directories and a file asks for that build
 output_last_means : (dirs file : Text) → build_meaning (finished build_shape.rules (output_last dirs file).held)
-    ≡ asks (build (named (parts dirs)) file)
+    ≡ asks (build (named (parts dirs)) false file)
 unfolding clap_on_literals
 output_last_means dirs file = refl
 
 -- so does what is held at the end of a file and directories
 output_first_means : (dirs file : Text)
-    → build_meaning (finished build_shape.rules (output_first dirs file).held) ≡ asks (build (named (parts dirs)) file)
+    → build_meaning (finished build_shape.rules (output_first dirs file).held) ≡ asks (build (named (parts dirs)) false file)
 unfolding clap_on_literals
 output_first_means dirs file = refl
 
 -- the usual words of `build` ask for it
 pub meaning_of-usual_build : (dirs file : Text) → is_option dirs ≡ false → is_option file ≡ false
-    → meaning_of (build_words dirs file) ≡ asks (build (named (parts dirs)) file)
+    → meaning_of (build_words dirs file) ≡ asks (build (named (parts dirs)) false file)
 meaning_of-usual_build dirs file d f =
     meaning_of-met build_met _ (output_last dirs file) _ (output_last_walk dirs file (plain_word dirs d) (plain_word file f))
     (output_last_fits dirs file) (output_last_means dirs file)
 
 -- so do those with the file first
 pub meaning_of-output_first : (dirs file : Text) → is_option dirs ≡ false → is_option file ≡ false
-    → meaning_of (build_words_output_first dirs file) ≡ asks (build (named (parts dirs)) file)
+    → meaning_of (build_words_output_first dirs file) ≡ asks (build (named (parts dirs)) false file)
 meaning_of-output_first dirs file d f =
     meaning_of-met build_met _ (output_first dirs file) _ (output_first_walk dirs file (plain_word dirs d) (plain_word file f))
     (output_first_fits dirs file) (output_first_means dirs file)
@@ -121,12 +121,12 @@ unfolding clap_on_literals
 output_alone_fits file = refl
 
 -- what is held at the end of a file alone asks for a build of the user's directories
-output_alone_means : (file : Text) → build_meaning (finished build_shape.rules (output_alone file).held) ≡ asks (build user file)
+output_alone_means : (file : Text) → build_meaning (finished build_shape.rules (output_alone file).held) ≡ asks (build user false file)
 unfolding clap_on_literals
 output_alone_means file = refl
 
 -- a file alone asks for a build of the user's directories
-pub meaning_of-build_of_user : (file : Text) → is_option file ≡ false → meaning_of (build_words_of_user file) ≡ asks (build user file)
+pub meaning_of-build_of_user : (file : Text) → is_option file ≡ false → meaning_of (build_words_of_user file) ≡ asks (build user false file)
 meaning_of-build_of_user file f =
     meaning_of-met build_met _ (output_alone file) _
     (goes _ _ _ _ _ option_o (goes _ _ _ _ _ (output [] file (plain_word file f)) (ends (output_alone file))))

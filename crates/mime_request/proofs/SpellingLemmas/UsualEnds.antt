@@ -1,23 +1,22 @@
--- That `type` and `plain` end well after the last FILE.
-use Rattle.std.proofs.Common.{◌≡◌, ◌∙◌, ◌<◌, ◌^◌, ◌||◌, Bool, true, false, List, [], ◌∷◌, Some, None, ap, codes, fold, if◌then◌else◌, length, refl}
+-- That `type` and `plain` end well after what is looked up.
+use Rattle.std.proofs.Common.{◌≡◌, ◌<◌, ◌^◌, ◌||◌, Bool, true, false, List, [], ◌∷◌, ◌++◌, Some, ap, codes, fold, if◌then◌else◌, length, refl}
 use Rattle.std.specs.List.{list_all}
-use Rattle.std.specs.Option.{option_or}
-use Rattle.clap.specs.Faults.{check_fault, default_fault, defaults_fault, given_default_fault}
+use Rattle.clap.specs.Faults.{check_fault, default_fault, defaults_fault, given_default_fault, settle_fault}
 use Rattle.clap.specs.Kinds.{Kinds}
 use Rattle.clap.specs.Simple.{Shape}
-use Rattle.clap.specs.Takes.{is_given}
-use Rattle.clap.specs.Walk.{Row, Rule, Text, finished, has_row, is_empty, more_values, with_default}
+use Rattle.clap.specs.Walk.{Row, Rule, Text, Walk, finished, has_row, is_empty, more_values, settled, with_default}
 use Rattle.clap.specs.declared.parser.matches.ValueSource.TheVariants.{CommandLine}
 use Rattle.clap.proofs.OnLiterals.{clap_on_literals}
-use Rattle.mime_request.specs.Spelling.{Flag, Named, by_cache, by_directories, by_nothing}
+use Rattle.mime_request.specs.Request.{PlainSubjects, of_files, of_input}
+use Rattle.mime_request.specs.Spelling.{Flag, Named, are_plain, subject_words}
 use Rattle.mime_request.proofs.WalkLemmas.FileWords.{files_fit, in_files}
-use Rattle.mime_request.proofs.WalkLemmas.FlagWords.{source_rows}
-use Rattle.mime_request.proofs.WalkLemmas.Flags.{file_is_no_flag}
+use Rattle.mime_request.proofs.WalkLemmas.Flags.{file_is_no_flag, stdin_is_no_flag}
 use Rattle.mime_request.proofs.WalkLemmas.PlainWords.{both_of}
-use Rattle.mime_request.proofs.WalkLemmas.Rows.{at_row-new, defaulted, row_at}
-use Rattle.mime_request.proofs.CommandLemmas.Shapes.{TakesFiles, plain_takes, type_takes}
-use Rattle.mime_request.proofs.SpellingLemmas.UsualRows.{files_row, no_files, rows_at_end, rows_before, value_at_end}
-use Rattle.mime_request.proofs.WalkLemmas.Walks.{end_fault, neither_fault}
+use Rattle.mime_request.proofs.WalkLemmas.Rows.{at_row-new, set-new}
+use Rattle.mime_request.proofs.WalkLemmas.SettledWords.{Settles}
+use Rattle.mime_request.proofs.CommandLemmas.Shapes.{TakesFiles, plain_shape, plain_takes, type_shape, type_takes}
+use Rattle.mime_request.proofs.SpellingLemmas.UsualRows.{no_row_before, rows_at_end, rows_before, subject_row}
+use Rattle.mime_request.proofs.WalkLemmas.Walks.{after_value, end_fault, neither_fault}
 
 -- whether there is no fault
 abbrev is_none : Kinds → Bool
@@ -52,50 +51,64 @@ all_fit _ plain_takes = refl
 all_fit _ type_takes = refl
 
 -- nothing is missing at the end of its words
-nothing_missing : (s : Shape) → TakesFiles s → (rows : List Row) → is_given (codes "file") rows ≡ true → check_fault s rows false ≡ []
+nothing_missing : (s : Shape) → TakesFiles s → (rows : List Row) → check_fault s rows false ≡ []
 unfolding clap_on_literals
-nothing_missing _ plain_takes rows h = rw h refl
-nothing_missing _ type_takes rows h = rw h refl
+nothing_missing _ plain_takes rows = refl
+nothing_missing _ type_takes rows = refl
 
--- a FILE has no default
-no_file_default : (s : Shape) → TakesFiles s → defaulted s.rules (codes "file") ≡ None
-no_file_default _ plain_takes = refl
-no_file_default _ type_takes = refl
+-- after what is looked up, where the options before it gave these rows
+abbrev pub in_subjects : List Row → PlainSubjects → Walk
+in_subjects rows (of_files files) = in_files rows files
+in_subjects rows (of_input name) = after_value (codes "stdin") rows name
 
-module _ (by : Named) (before after : List Flag) (file : Text) (files : List Text) where
-  -- all rows at the end of the words
-  abbrev all_rows : Shape → List Row
-  all_rows s = finished s.rules (in_files (rows_before by before after) (file ∷ files)).held
+-- NAME settles to its row
+stdin_settles : (s : Shape) → TakesFiles s → (rows : List Row) (name : Text) → has_row (codes "stdin") rows ≡ false
+    → Settles s rows (Some (codes "stdin", name ∷ [])) (rows ++ subject_row (of_input name) ∷ [])
+stdin_settles _ plain_takes rows name new = record { no_fault = rw new refl; rows_are = set-new _ _ _ rows new; no_file = refl }
+stdin_settles _ type_takes rows name new = record { no_fault = rw new refl; rows_are = set-new _ _ _ rows new; no_file = refl }
 
-  -- the FILEs are the last row
-  pub rows_end : (s : Shape) → TakesFiles s
-      → all_rows s ≡ rows_at_end by before after (file ∷ files) s.rules
-  rows_end s plain_takes = ap (λ (rows : List Row). fold with_default rows s.rules)
-      (at_row-new (codes "file") (more_values CommandLine (file ∷ files)) (files_row (file ∷ files) ∷ []) (rows_before by before after)
-      (no_files by before after))
-  rows_end s type_takes = ap (λ (rows : List Row). fold with_default rows s.rules)
-      (at_row-new (codes "file") (more_values CommandLine (file ∷ files)) (files_row (file ∷ files) ∷ []) (rows_before by before after)
-      (no_files by before after))
+-- what is looked up settles without a fault
+subjects_fit : (s : Shape) → TakesFiles s → (rows : List Row) (subjects : PlainSubjects) → has_row (codes "stdin") rows ≡ false
+    → are_plain subjects ≡ true → length (subject_words subjects) < 2 ^ 64
+    → settle_fault s.rules false (in_subjects rows subjects).held ≡ []
+subjects_fit s t rows (of_files []) new plain few = let never : false ≡ true = plain in absurd (cc)
+subjects_fit s t rows (of_files (file ∷ files)) new plain few = files_fit s t rows file files few
+subjects_fit s t rows (of_input name) new plain few = (stdin_settles s t rows name new).no_fault
 
-  -- a FILE is given
-  file_given : (s : Shape) → TakesFiles s → is_given (codes "file") (rows_at_end by before after (file ∷ files) s.rules) ≡ true
-  file_given s t = by_parts by (value_at_end by before after (file ∷ files) s.rules (codes "file") file_is_no_flag (no_file_default s t))
-    where
-      by_parts : (by' : Named) → row_at (codes "file") (rows_at_end by before after (file ∷ files) s.rules)
-          ≡ option_or (row_at (codes "file") (source_rows by')) (Some (files_row (file ∷ files)))
-          → is_given (codes "file") (rows_at_end by before after (file ∷ files) s.rules) ≡ true
-      by_parts (by_cache cache) f = rw f refl
-      by_parts (by_directories dirs) f = rw f refl
-      by_parts by_nothing f = rw f refl
+-- and to its row
+subjects_settle : (s : Shape) → TakesFiles s → (rows : List Row) (subjects : PlainSubjects) → has_row (codes "stdin") rows ≡ false
+    → has_row (codes "file") rows ≡ false → are_plain subjects ≡ true
+    → (settled s.rules (in_subjects rows subjects).held).rows ≡ rows ++ subject_row subjects ∷ []
+subjects_settle s t rows (of_files []) new no_file plain = let never : false ≡ true = plain in absurd (cc)
+subjects_settle _ plain_takes rows (of_files (file ∷ files)) new no_file plain =
+    at_row-new (codes "file") (more_values CommandLine (file ∷ files)) (subject_row (of_files (file ∷ files)) ∷ []) rows no_file
+subjects_settle _ type_takes rows (of_files (file ∷ files)) new no_file plain =
+    at_row-new (codes "file") (more_values CommandLine (file ∷ files)) (subject_row (of_files (file ∷ files)) ∷ []) rows no_file
+subjects_settle s t rows (of_input name) new no_file plain = (stdin_settles s t rows name new).rows_are
 
-  -- after FILEs that memory can hold nothing is wrong
-  pub ends_well : (s : Shape) → TakesFiles s → length (file ∷ files) < 2 ^ 64
-      → end_fault s false (in_files (rows_before by before after) (file ∷ files)).held ≡ []
-  ends_well s plain_takes few =
-      neither_fault _ _ (files_fit s plain_takes (rows_before by before after) file files few)
-      (neither_fault _ _ (defaults_fit s.rules _ (all_fit s plain_takes)) (nothing_missing s plain_takes (all_rows s)
-      (ap (is_given (codes "file")) (rows_end s plain_takes) ∙ file_given s plain_takes)))
-  ends_well s type_takes few =
-      neither_fault _ _ (files_fit s type_takes (rows_before by before after) file files few)
-      (neither_fault _ _ (defaults_fit s.rules _ (all_fit s type_takes)) (nothing_missing s type_takes (all_rows s)
-      (ap (is_given (codes "file")) (rows_end s type_takes) ∙ file_given s type_takes)))
+module _ (by : Named) (before after : List Flag) (subjects : PlainSubjects) where
+  -- the rows before what is looked up have none of it
+  no_name : has_row (codes "stdin") (rows_before by before after) ≡ false
+  no_name = no_row_before (codes "stdin") stdin_is_no_flag refl refl by before after
+
+  -- nor a FILE
+  no_file : has_row (codes "file") (rows_before by before after) ≡ false
+  no_file = no_row_before (codes "file") file_is_no_flag refl refl by before after
+
+  -- what is looked up is the last row
+  pub rows_end : (s : Shape) → TakesFiles s → are_plain subjects ≡ true
+      → finished s.rules (in_subjects (rows_before by before after) subjects).held ≡ rows_at_end by before after subjects s.rules
+  rows_end s t plain = ap (λ (rows : List Row). fold with_default rows s.rules)
+      (subjects_settle s t (rows_before by before after) subjects no_name no_file plain)
+
+  -- after what memory can hold nothing is wrong
+  pub ends_well : (s : Shape) → TakesFiles s → are_plain subjects ≡ true → length (subject_words subjects) < 2 ^ 64
+      → end_fault s false (in_subjects (rows_before by before after) subjects).held ≡ []
+  ends_well _ plain_takes plain few =
+      neither_fault _ _ (subjects_fit _ plain_takes (rows_before by before after) subjects no_name plain few)
+      (neither_fault _ _ (defaults_fit plain_shape.rules _ (all_fit _ plain_takes)) (nothing_missing _ plain_takes
+      (finished plain_shape.rules (in_subjects (rows_before by before after) subjects).held)))
+  ends_well _ type_takes plain few =
+      neither_fault _ _ (subjects_fit _ type_takes (rows_before by before after) subjects no_name plain few)
+      (neither_fault _ _ (defaults_fit type_shape.rules _ (all_fit _ type_takes)) (nothing_missing _ type_takes
+      (finished type_shape.rules (in_subjects (rows_before by before after) subjects).held)))

@@ -9,7 +9,8 @@ use Rattle.clap.specs.Simple.{filled}
 use Rattle.clap.specs.Walk.{Row, Text, has_row, reading_by}
 use Rattle.mime_request.specs.CommandLine.{flag_rule}
 use Rattle.mime_request.specs.Flags.{is_on}
-use Rattle.mime_request.specs.Spelling.{Flag, are_distinct, brief, content_only, cost, escape, flag_name, has, magic_first, name_only, null}
+use Rattle.mime_request.specs.Spelling.{Flag, all_globs, are_distinct, brief, content_only, cost, escape, flag_name, has, inode, magic_first}
+use Rattle.mime_request.specs.Spelling.{name_only, null}
 use Rattle.mime_request.specs.Spelling.{short_brief, short_null}
 use Rattle.mime_request.proofs.WalkLemmas.PlainWords.{neither}
 use Rattle.mime_request.proofs.WalkLemmas.Rows.{given_row, neither_of, row_at}
@@ -24,37 +25,46 @@ pub record IsNoFlag (name : Text) : Type 0 where
   pub differs : (flag : Flag) → bytes_eq name (flag_name flag) ≡ false
 
 -- what holds of the name of each flag holds of any
-by_cases : (P : Text → Type 0) → P (codes "name-only") → P (codes "content-only") → P (codes "magic-first") → P (codes "cost")
-    → P (codes "null") → P (codes "brief") → P (codes "escape") → (flag : Flag) → P (flag_name flag)
-by_cases P n c m k z b e name_only = n
-by_cases P n c m k z b e content_only = c
-by_cases P n c m k z b e magic_first = m
-by_cases P n c m k z b e cost = k
-by_cases P n c m k z b e null = z
-by_cases P n c m k z b e short_null = z
-by_cases P n c m k z b e brief = b
-by_cases P n c m k z b e short_brief = b
-by_cases P n c m k z b e escape = e
+by_cases : (P : Text → Type 0) → P (codes "name-only") → P (codes "content-only") → P (codes "magic-first") → P (codes "all-globs")
+    → P (codes "inode") → P (codes "cost") → P (codes "null") → P (codes "brief") → P (codes "escape") → (flag : Flag) → P (flag_name flag)
+by_cases P n c m g i k z b e name_only = n
+by_cases P n c m g i k z b e content_only = c
+by_cases P n c m g i k z b e magic_first = m
+by_cases P n c m g i k z b e all_globs = g
+by_cases P n c m g i k z b e inode = i
+by_cases P n c m g i k z b e cost = k
+by_cases P n c m g i k z b e null = z
+by_cases P n c m g i k z b e short_null = z
+by_cases P n c m g i k z b e brief = b
+by_cases P n c m g i k z b e short_brief = b
+by_cases P n c m g i k z b e escape = e
 
 -- no flag is called `cache`
 pub cache_is_no_flag : IsNoFlag (codes "cache")
 cache_is_no_flag = record {
-  flag_differs = by_cases (λ t. bytes_eq t (codes "cache") ≡ false) refl refl refl refl refl refl refl;
-  differs = by_cases (λ t. bytes_eq (codes "cache") t ≡ false) refl refl refl refl refl refl refl;
+  flag_differs = by_cases (λ t. bytes_eq t (codes "cache") ≡ false) refl refl refl refl refl refl refl refl refl;
+  differs = by_cases (λ t. bytes_eq (codes "cache") t ≡ false) refl refl refl refl refl refl refl refl refl;
 }
 
 -- none is called `dirs`
 pub dirs_is_no_flag : IsNoFlag (codes "dirs")
 dirs_is_no_flag = record {
-  flag_differs = by_cases (λ t. bytes_eq t (codes "dirs") ≡ false) refl refl refl refl refl refl refl;
-  differs = by_cases (λ t. bytes_eq (codes "dirs") t ≡ false) refl refl refl refl refl refl refl;
+  flag_differs = by_cases (λ t. bytes_eq t (codes "dirs") ≡ false) refl refl refl refl refl refl refl refl refl;
+  differs = by_cases (λ t. bytes_eq (codes "dirs") t ≡ false) refl refl refl refl refl refl refl refl refl;
 }
 
 -- none is called `file`
 pub file_is_no_flag : IsNoFlag (codes "file")
 file_is_no_flag = record {
-  flag_differs = by_cases (λ t. bytes_eq t (codes "file") ≡ false) refl refl refl refl refl refl refl;
-  differs = by_cases (λ t. bytes_eq (codes "file") t ≡ false) refl refl refl refl refl refl refl;
+  flag_differs = by_cases (λ t. bytes_eq t (codes "file") ≡ false) refl refl refl refl refl refl refl refl refl;
+  differs = by_cases (λ t. bytes_eq (codes "file") t ≡ false) refl refl refl refl refl refl refl refl refl;
+}
+
+-- none is called `stdin`
+pub stdin_is_no_flag : IsNoFlag (codes "stdin")
+stdin_is_no_flag = record {
+  flag_differs = by_cases (λ t. bytes_eq t (codes "stdin") ≡ false) refl refl refl refl refl refl refl refl refl;
+  differs = by_cases (λ t. bytes_eq (codes "stdin") t ≡ false) refl refl refl refl refl refl refl refl refl;
 }
 
 -- the rows of flags have just their names

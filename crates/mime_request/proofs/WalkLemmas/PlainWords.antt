@@ -25,3 +25,8 @@ neither false b h = (refl, h)
 pub both_of : (a b : Bool) → (a && b) ≡ true → (a ≡ true) × (b ≡ true)
 both_of true b h = (refl, h)
 both_of false b h = absurd (cc)
+
+-- what isn't so is false
+pub none_of : (a : Bool) → not a ≡ true → a ≡ false
+none_of true h = absurd (cc)
+none_of false h = refl

@@ -7,7 +7,8 @@ use Rattle.clap.specs.Simple.{Shape, filled}
 use Rattle.clap.specs.Walk.{Row, Text, has_row, idle, reading_by, settled_rows}
 use Rattle.clap.proofs.OnLiterals.{clap_on_literals}
 use Rattle.mime_request.specs.CommandLine.{cache_rule}
-use Rattle.mime_request.specs.Spelling.{Flag, brief, content_only, cost, escape, flag_name, flag_word, magic_first, name_only, null}
+use Rattle.mime_request.specs.Spelling.{Flag, all_globs, brief, content_only, cost, escape, flag_name, flag_word, inode, magic_first}
+use Rattle.mime_request.specs.Spelling.{name_only, null}
 use Rattle.mime_request.specs.Spelling.{short_brief, short_null}
 use Rattle.mime_request.proofs.WalkLemmas.FileWords.{in_files}
 use Rattle.mime_request.proofs.WalkLemmas.Flags.{flag_row}
@@ -39,6 +40,8 @@ module _ (rows settled : List Row) (pending : Option (Text × List Text)) where
   type_flag name_only h new = record { no_fault = rw (h.no_fault, h.rows_are, new) refl; moves = rw (h.rows_are, set-new _ _ _ settled new) refl }
   type_flag content_only h new = record { no_fault = rw (h.no_fault, h.rows_are, new) refl; moves = rw (h.rows_are, set-new _ _ _ settled new) refl }
   type_flag magic_first h new = record { no_fault = rw (h.no_fault, h.rows_are, new) refl; moves = rw (h.rows_are, set-new _ _ _ settled new) refl }
+  type_flag all_globs h new = record { no_fault = rw (h.no_fault, h.rows_are, new) refl; moves = rw (h.rows_are, set-new _ _ _ settled new) refl }
+  type_flag inode h new = record { no_fault = rw (h.no_fault, h.rows_are, new) refl; moves = rw (h.rows_are, set-new _ _ _ settled new) refl }
   type_flag cost h new = record { no_fault = rw (h.no_fault, h.rows_are, new) refl; moves = rw (h.rows_are, set-new _ _ _ settled new) refl }
   type_flag null h new = record { no_fault = rw (h.no_fault, h.rows_are, new) refl; moves = rw (h.rows_are, set-new _ _ _ settled new) refl }
   type_flag short_null h new = record { no_fault = rw (h.no_fault, h.rows_are, new) refl; moves = rw (h.rows_are, set-new _ _ _ settled new) refl }
@@ -54,6 +57,8 @@ module _ (rows settled : List Row) (pending : Option (Text × List Text)) where
   plain_flag name_only t h new = record { no_fault = rw (h.no_fault, h.rows_are, new) refl; moves = rw (h.rows_are, set-new _ _ _ settled new) refl }
   plain_flag content_only t h new = record { no_fault = rw (h.no_fault, h.rows_are, new) refl; moves = rw (h.rows_are, set-new _ _ _ settled new) refl }
   plain_flag magic_first t h new = record { no_fault = rw (h.no_fault, h.rows_are, new) refl; moves = rw (h.rows_are, set-new _ _ _ settled new) refl }
+  plain_flag all_globs t h new = record { no_fault = rw (h.no_fault, h.rows_are, new) refl; moves = rw (h.rows_are, set-new _ _ _ settled new) refl }
+  plain_flag inode t h new = record { no_fault = rw (h.no_fault, h.rows_are, new) refl; moves = rw (h.rows_are, set-new _ _ _ settled new) refl }
   plain_flag cost t h new = absurd (cc)
   plain_flag null t h new = record { no_fault = rw (h.no_fault, h.rows_are, new) refl; moves = rw (h.rows_are, set-new _ _ _ settled new) refl }
   plain_flag short_null t h new = record { no_fault = rw (h.no_fault, h.rows_are, new) refl; moves = rw (h.rows_are, set-new _ _ _ settled new) refl }
@@ -73,6 +78,13 @@ module _ (rows settled : List Row) (pending : Option (Text × List Text)) where
   unfolding clap_on_literals
   option_d _ plain_takes h = record { no_fault = rw (h.no_fault) refl; moves = rw (h.rows_are) refl }
   option_d _ type_takes h = record { no_fault = rw (h.no_fault) refl; moves = rw (h.rows_are) refl }
+
+  -- `--stdin` waits for NAME
+  pub option_stdin : (s : Shape) → TakesFiles s → Settles s rows pending settled
+      → Steps s [] (between rows pending idle) (codes "--stdin") (before_value (codes "stdin") settled)
+  unfolding clap_on_literals
+  option_stdin _ plain_takes h = record { no_fault = rw (h.no_fault) refl; moves = rw (h.rows_are) refl }
+  option_stdin _ type_takes h = record { no_fault = rw (h.no_fault) refl; moves = rw (h.rows_are) refl }
 
   -- the first FILE
   pub first_file : (s : Shape) → TakesFiles s → (file : Text) → Settles s rows pending settled → IsPlainWord file

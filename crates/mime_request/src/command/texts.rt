@@ -34,14 +34,17 @@ Examples:
 
 pub(crate) const BUILD: HelpTexts<'static> = HelpTexts {
     about: "Writes a mime.cache from the text files of data directories",
-    usage: "mimelook build [-d DIRS] -o FILE",
+    usage: "mimelook build [-d DIRS] [--drop-twins] -o FILE",
     after_help: "\
 Messages go to standard error. The files are DIR/mime/globs2, magic, aliases,
 subclasses, icons and generic-icons; a missing one counts as empty. Without -d
 the directories are the user's (see mimelook --help).
+globs2 gives each rule with cs a twin without it, by which CORE and A.GS have a
+type. With --drop-twins they have none, since GLib, Qt and xdgmime read caches
+that have no twins.
 
 Exit status:
-  0  FILE was written; or help was printed
+  0  FILE was written; or help or the version was printed
   2  the command line is wrong, or a word of it is not UTF-8
   3  the data can't be read or is refused, the database is too large, or FILE
      can't be written
@@ -55,16 +58,17 @@ pub(crate) const PLAIN: HelpTexts<'static> = HelpTexts {
     about: "Prints FILE: TYPE for each FILE, with no cache between",
     usage: "\
 mimelook plain [-d DIRS] [--name-only | --content-only]
-                      [--magic-first] [-0] [-b] [--escape] FILE...",
+                      [--magic-first | --all-globs] [--inode] [-0] [-b]
+                      [--escape] {FILE... | --stdin NAME}",
     after_help: "\
 Messages go to standard error. The files are DIR/mime/globs2, magic, aliases,
 subclasses, icons and generic-icons; a missing one counts as empty. Without -d
 the directories are the user's (see mimelook --help).
 A FILE that is a pipe can't be opened, nor one whose name is not UTF-8, which
-has a type by --name-only.
+has a type by --name-only; a pipe has one by --inode.
 
 Exit status:
-  0  every FILE was answered; or help was printed
+  0  every FILE was answered; or help or the version was printed
   1  some FILE can't be opened or read, or its name is too long (above 4096
      bytes); the others were answered
   2  the command line is wrong, or a word but a FILE is not UTF-8
@@ -85,7 +89,7 @@ case-sensitive. With -d the cache is made of DIRS, as build makes it; without -c
 and -d, of the user's data directories (see mimelook --help).
 
 Exit status:
-  0  every rule was printed; or help was printed
+  0  every rule was printed; or help or the version was printed
   2  the command line is wrong, or a word of it is not UTF-8
   3  the data can't be read or is refused, or the output can't be written
   4  out of memory
@@ -106,7 +110,7 @@ cache is made of DIRS, as build makes it; without -c and -d, of the user's data
 directories (see mimelook --help).
 
 Exit status:
-  0  yes was printed; or help was printed
+  0  yes was printed; or help or the version was printed
   1  no was printed
   2  the command line is wrong, a word of it is not UTF-8, or TYPE or BASE is no
      type
@@ -128,7 +132,7 @@ TYPE may be an alias. With -d the cache is made of DIRS, as build makes it;
 without -c and -d, of the user's data directories (see mimelook --help).
 
 Exit status:
-  0  both were printed; or help was printed
+  0  both were printed; or help or the version was printed
   2  the command line is wrong, a word of it is not UTF-8, or TYPE is no type
   3  the data can't be read or is refused, or the output can't be written
   4  out of memory
@@ -143,15 +147,16 @@ pub(crate) const TYPE: HelpTexts<'static> = HelpTexts {
     about: "Prints FILE: TYPE for each FILE, by a cache",
     usage: "\
 mimelook type [-c CACHE | -d DIRS] [--name-only | --content-only]
-                     [--magic-first] [--cost] [-0] [-b] [--escape] FILE...",
+                     [--magic-first | --all-globs] [--inode] [--cost] [-0] [-b]
+                     [--escape] {FILE... | --stdin NAME}",
     after_help: "\
 Messages go to standard error. With -d the cache is made of DIRS, as build makes
 it; without -c and -d, of the user's data directories (see mimelook --help).
 A FILE that is a pipe can't be opened, nor one whose name is not UTF-8, which
-has a type by --name-only. A CACHE that is a pipe can't be read.
+has a type by --name-only; a pipe has one by --inode. A CACHE that is a pipe can't be read.
 
 Exit status:
-  0  every FILE was answered; or help was printed
+  0  every FILE was answered; or help or the version was printed
   1  some FILE can't be opened or read, or its name is too long (above 4096
      bytes); the others were answered
   2  the command line is wrong, or a word but a FILE is not UTF-8
@@ -172,9 +177,17 @@ pub(crate) const OUTPUT: &str = "\
 The cache to write; it is written as FILE.new and then
 renamed";
 
+pub(crate) const DROP_TWINS: &str = "\
+Leave out each rule without cs where one with cs has
+the same weight, type and pattern";
+
 pub(crate) const FILES: &str = "\
 The files to tell the types of; put -- before one that begins
 with -";
+
+pub(crate) const INPUT: &str = "\
+Look up standard input, by the name NAME, in place of
+FILEs; no more of it is read than is needed";
 
 pub(crate) const COST: &str = "\
 Print behind each TYPE what the answer cost: nodes=N,
@@ -187,11 +200,19 @@ Go by the names alone: no FILE is opened";
 
 pub(crate) const CONTENT_ONLY: &str = "\
 Go by the contents alone: no name is looked at; not with
---magic-first";
+--magic-first or --all-globs";
 
 pub(crate) const MAGIC_FIRST: &str = "\
 Let content of high priority (80 or more) decide
 before names";
+
+pub(crate) const ALL_GLOBS: &str = "\
+Let content choose among all patterns that match, not
+among the preferred ones alone; not with --magic-first";
+pub(crate) const INODE: &str = "\
+Print inode/directory, chardevice, blockdevice, fifo or
+socket for what is no regular file, and inode/symlink
+for a link that leads nowhere; none of them is opened";
 
 pub(crate) const NULL: &str = "\
 Print a zero byte after FILE and one after TYPE, in

@@ -6,7 +6,7 @@ ghost use Rattle.mime_request.specs.Request.{Means, icon_meaning, is_a_meaning, 
 use super::Request;
 use super::data::source_of;
 use super::flags::options_of;
-use super::found::{files_of, given};
+use super::found::{given, subjects_of};
 use clap::{ArgMatches, Error};
 use std::alloc::Global;
 
@@ -57,10 +57,10 @@ pub(super) fn request_of_type<'a>(
 {
     let source = source_of(alloc, matches)?;
     let options = options_of(alloc, matches)?;
-    let files = files_of(alloc, matches)?;
+    let subjects = subjects_of(alloc, matches)?;
     Ok(Request::Type {
         source,
         options,
-        files,
+        subjects,
     })
 }

@@ -1,4 +1,4 @@
-//! The flags of `type` and `plain`, and which of them can't be given together.
+//! The flags that are given, and which of `type` and `plain` can't be given together.
 
 ghost use Rattle.std.specs.Prelude.{◌≡◌, IfErr, IfOk, Some, codes, is_some, not, option_map};
 ghost use Rattle.clap.specs.Words.{first_of, found_of, rows_of};
@@ -34,6 +34,8 @@ fn given_options(matches: &ArgMatches<'_>) -> Options
         name_only: is_given(matches, "name-only"),
         content_only: is_given(matches, "content-only"),
         magic_first: is_given(matches, "magic-first"),
+        all_globs: is_given(matches, "all-globs"),
+        inode: is_given(matches, "inode"),
         cost: is_given(matches, "cost"),
         output: given_output(matches),
     }
@@ -49,7 +51,9 @@ fn given_output(matches: &ArgMatches<'_>) -> Output
     }
 }
 
-fn is_given(matches: &ArgMatches<'_>, id: &str) -> bool
+// Whether the flag of this name was found.
+pub(super) fn is_given(matches: &ArgMatches<'_>, id: &str) -> bool
+    // It is on where clap found it.
     ensures { result ≡ is_given id.now (rows_of (found_of matches.now)) }
 {
     is_on(value_of(matches, id))
@@ -77,8 +81,12 @@ fn disagreement(options: Options) -> Option<&'static str>
         Some("give --escape or -0, not both")
     } else if options.cost && (null || brief) {
         Some("give --cost without -0 and -b")
-    } else if options.content_only && (options.name_only || options.magic_first) {
-        Some("give --content-only without --name-only and --magic-first")
+    } else if options.magic_first && options.all_globs {
+        Some("give --magic-first or --all-globs, not both")
+    } else if options.content_only
+        && (options.name_only || options.magic_first || options.all_globs)
+    {
+        Some("give --content-only without --name-only, --magic-first and --all-globs")
     } else {
         None
     }

@@ -1,12 +1,13 @@
 //! What clap found of an argument, and the errors where it found too little.
 
-ghost use Rattle.std.specs.Prelude.{◌≡◌, IfErr, IfOk, Some, codes, option_map, [], ◌∷◌};
+ghost use Rattle.std.specs.Prelude.{◌≡◌, IfErr, IfOk, Ok, Some, option_map, [], ◌∷◌};
 ghost use Rattle.clap.specs.Words.{all_of, first_of, found_of, rows_of, subcommand_rows_of};
 ghost use Rattle.clap.specs.Walk.{texts};
 ghost use Rattle.clap.specs.Kinds.{HasKind};
 ghost use Rattle.clap.specs.Values.{kind_of};
-ghost use Rattle.mime_request.specs.Request.{missing};
+ghost use Rattle.mime_request.specs.Request.{missing, plain_subjects, subjects_in, wrong};
 
+use super::Subjects;
 use crate::command::mimelook_command;
 use clap::error::ErrorKind;
 use clap::{ArgMatches, Error};
@@ -44,21 +45,29 @@ pub(super) fn given<'a>(
     Ok(value)
 }
 
-// The FILEs, of which there must be one.
-pub(super) fn files_of<'a>(alloc: Global, matches: &ArgMatches<'a>) -> Result<Vec<&'a str>, Error>
-    // The FILEs are all that were found, in their order.
-    ensures found { IfOk result (λ v. all_of (codes "file") (rows_of (found_of matches.now))
-        ≡ Some (texts v.items)) }
+// The FILEs, or standard input by its NAME.
+pub(super) fn subjects_of<'a>(
+    alloc: Global,
+    matches: &ArgMatches<'a>,
+) -> Result<Subjects<'a>, Error>
+    // They are all FILEs that were found, in their order, or the NAME.
+    ensures found { IfOk result (λ s. subjects_in (rows_of (found_of matches.now)) ≡ Ok (plain_subjects s)) }
 
-    // An error says that there is none, or that memory ran out.
-    ensures missing { IfErr result
-        (HasKind (missing (all_of (codes "file") (rows_of (found_of matches.now))))) }
+    // An error says that both are given or neither, or that memory ran out.
+    ensures wrong { IfErr result (HasKind (wrong (subjects_in (rows_of (found_of matches.now))))) }
 {
-    let Some(files) = values_of(matches, "file") else {
-        return Err(refusal(alloc, ErrorKind::MissingRequiredArgument, "give a FILE"));
-    };
-    let files = files.to_vec(alloc)?;
-    Ok(files)
+    match (value_of(matches, "stdin"), values_of(matches, "file")) {
+        (None, Some(files)) => Ok(Subjects::Files(files.to_vec(alloc)?)),
+        (Some(name), None) => Ok(Subjects::Input(name)),
+        (None, None) => {
+            let message = "give a FILE or --stdin NAME";
+            Err(refusal(alloc, ErrorKind::MissingRequiredArgument, message))
+        }
+        (Some(_), Some(_)) => {
+            let message = "give FILEs or --stdin NAME, not both";
+            Err(refusal(alloc, ErrorKind::ArgumentConflict, message))
+        }
+    }
 }
 
 // The first value of an argument.

@@ -5,8 +5,8 @@ ghost use Rattle.mime_request.specs.Request.{Means, build_meaning, plain_meaning
 
 use super::Request;
 use super::data::directories_of;
-use super::flags::options_of;
-use super::found::{files_of, given};
+use super::flags::{is_given, options_of};
+use super::found::{given, subjects_of};
 use clap::{ArgMatches, Error};
 use std::alloc::Global;
 
@@ -19,7 +19,11 @@ pub(super) fn request_of_build<'a>(
 {
     let file = given(alloc, matches, "output", "give -o FILE")?;
     let directories = directories_of(alloc, matches)?;
-    Ok(Request::Build { directories, file })
+    Ok(Request::Build {
+        directories,
+        drop_twins: is_given(matches, "drop-twins"),
+        file,
+    })
 }
 
 pub(super) fn request_of_plain<'a>(
@@ -30,11 +34,11 @@ pub(super) fn request_of_plain<'a>(
     ensures { Means (plain_meaning (rows_of (found_of matches.now))) result }
 {
     let options = options_of(alloc, matches)?;
-    let files = files_of(alloc, matches)?;
+    let subjects = subjects_of(alloc, matches)?;
     let directories = directories_of(alloc, matches)?;
     Ok(Request::Plain {
         directories,
         options,
-        files,
+        subjects,
     })
 }

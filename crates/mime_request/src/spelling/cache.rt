@@ -2,7 +2,7 @@
 
 ghost use Rattle.std.specs.Prelude.{◌≡◌, ◌++◌, List, false};
 ghost use Rattle.clap.specs.Walk.{Text};
-ghost use Rattle.mime_request.specs.Request.{asks, icon, is_a, list, meaning_of, type_of};
+ghost use Rattle.mime_request.specs.Request.{PlainSubjects, asks, icon, is_a, list, meaning_of, type_of};
 ghost use Rattle.mime_request.specs.Spelling.{AreUsual, Flag, Named, icon_words, is_a_words, is_option, list_words};
 ghost use Rattle.mime_request.specs.Spelling.{options_by, source_word, source_of, type_words};
 
@@ -30,10 +30,11 @@ pub fn usual_spelling_of_icon()
 {}
 
 /// `type [-c CACHE | -d DIRS] FILE...`, with flags before the source or after it, asks for these
-/// files, from this cache, with just these flags.
+/// files, from this cache, with just these flags; and with `--stdin NAME` in place of FILEs for standard
+/// input under this name.
 pub fn usual_spelling_of_type()
     // For any flags, and any words that don't begin with a hyphen.
-    ensures { (by : Named) (before after : List Flag) (files : List Text)
-        → AreUsual (source_word by) (before ++ after) files
-        → meaning_of (type_words by before after files) ≡ asks (type_of (source_of by) (options_by (before ++ after)) files) }
+    ensures { (by : Named) (before after : List Flag) (subjects : PlainSubjects)
+        → AreUsual (source_word by) (before ++ after) subjects
+        → meaning_of (type_words by before after subjects) ≡ asks (type_of (source_of by) (options_by (before ++ after)) subjects) }
 {}

@@ -1,22 +1,26 @@
 //! What words ask for that name no file.
 
-ghost use Rattle.std.specs.Prelude.{◌≡◌, [], ◌∷◌, codes};
+ghost use Rattle.std.specs.Prelude.{◌≡◌, List, [], ◌∷◌, codes};
 ghost use Rattle.std.specs.List.{AllByRecursion};
 ghost use Rattle.clap.specs.declared.error.kind.ErrorKind.TheVariants.{ArgumentConflict, DisplayHelp, DisplayVersion};
-ghost use Rattle.clap.specs.declared.error.kind.ErrorKind.TheVariants.{MissingRequiredArgument, MissingSubcommand};
+ghost use Rattle.clap.specs.declared.error.kind.ErrorKind.TheVariants.{InvalidSubcommand, MissingRequiredArgument, MissingSubcommand};
+ghost use Rattle.clap.specs.Walk.{Text};
 ghost use Rattle.mime_request.specs.Request.{meaning_of, refused};
-ghost use Rattle.mime_request.specs.Spelling.{conflicting_words, help_words, lacking_words};
+ghost use Rattle.mime_request.specs.Spelling.{conflicting_words, help_words, lacking_words, version_words};
 
-/// `--help`, alone or after a command, asks for help.
+/// `--help` or `-h`, alone or after a command, asks for help, and so does `help` before one.
 pub fn spellings_of_help()
-    // Each of these words is answered by help.
-    ensures { AllByRecursion (λ words. meaning_of words ≡ refused (DisplayHelp ∷ [])) help_words }
+    // Each flag is answered by help.
+    ensures flags { AllByRecursion (λ words. meaning_of words ≡ refused (DisplayHelp ∷ [])) help_words }
+
+    // `help`, whatever follows, is answered by help, or by the message on a command that there is none of.
+    ensures command { (words : List Text) → meaning_of (codes "help" ∷ words) ≡ refused (DisplayHelp ∷ InvalidSubcommand ∷ []) }
 {}
 
-/// `--version` asks for the version.
-pub fn spelling_of_version()
-    // It is answered by the version.
-    ensures { meaning_of (codes "--version" ∷ []) ≡ refused (DisplayVersion ∷ []) }
+/// `--version` or `-V`, alone or after a command, asks for the version.
+pub fn spellings_of_version()
+    // Each flag is answered by the version.
+    ensures { AllByRecursion (λ words. meaning_of words ≡ refused (DisplayVersion ∷ [])) version_words }
 {}
 
 /// No words at all are a mistake.

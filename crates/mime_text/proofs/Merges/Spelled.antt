@@ -5,6 +5,10 @@ use Rattle.std.proofs.lemmas.List.{drop_all, drop_more, drop-set-lt, set-get_or,
 use Rattle.std.specs.List.{flat_map, list_all}
 use Rattle.std.specs.Ordering.{is_lt, nat_cmp, ord_min}
 use Rattle.std.proofs.lemmas.Bool.{le-ltb, lt-ltb, ltb-false, ltb-true}
+use Rattle.std.proofs.lemmas.List.Elements.{All-contains}
+use Rattle.std.proofs.lemmas.List.Sums.{AllPass-from_list_all}
+use Rattle.mime_base.proofs.KeptLemmas.Spellings.{fold-spellings}
+use Rattle.mime_base.specs.Matching.Folding.{compared}
 use Rattle.mime_base.specs.Kept.Hidden.{spellings}
 use Rattle.mime_text.specs.Merging.Hiding.{least}
 
@@ -129,3 +133,15 @@ pub below-least : (f : List ℕ → ℕ) (n : ℕ) → n < 65535 → (texts : Li
 below-least f n small [] = lt-ltb n 65535 small
 below-least f n small (text ∷ texts) =
     below-min n (f text) (least f texts) ∙ ap (λ rest. nat_lt n (f text) && rest) (below-least f n small texts)
+
+-- what isn't below a text's number isn't below that of each spelling, since the text is one
+pub own-decides : (f : List ℕ → ℕ) (n : ℕ) (text : List ℕ) → nat_lt n (f text) ≡ false →
+    list_all (λ other. nat_lt n (f other)) (spellings (compared false text)) ≡ false
+own-decides f n text light = by_cases (list_all (λ other. nat_lt n (f other)) (spellings (compared false text))) refl
+  where
+    by_cases : (t : Bool) → list_all (λ other. nat_lt n (f other)) (spellings (compared false text)) ≡ t → t ≡ false
+    by_cases false is = refl
+    by_cases true is =
+        sym (All-contains (λ other. nat_lt n (f other) ≡ true) _ text
+        (AllPass-from_list_all (λ other. nat_lt n (f other)) _ is) (fold-spellings text text refl))
+        ∙ light

@@ -6,11 +6,10 @@ use Rattle.std.proofs.lemmas.Bool.{le-ltb, leb-false, leb-true, lt-ltb, ltb-fals
 use Rattle.std.proofs.lemmas.List.{drop_more}
 use Rattle.std.proofs.lemmas.Slice.Eq.{bytes_eq-Decides}
 use Rattle.mime_base.specs.Kept.{class_of}
-use Rattle.mime_base.specs.Database.{PlainDatabase}
-use Rattle.mime_base.specs.Kept.Hidden.{is_by_text, is_cased_twin, is_hidden, spellings, visible}
+use Rattle.mime_base.specs.Kept.Hidden.{is_by_text, is_cased_twin, is_hidden, spellings}
 use Rattle.mime_base.specs.Matching.Folding.{compared, folded}
 use Rattle.mime_base.specs.declared.database.rule.GlobRule.{GlobRule}
-use Rattle.mime_text.specs.Merging.{picked, visible_database}
+use Rattle.mime_text.specs.Merging.{picked}
 use Rattle.mime_text.specs.Merging.Hiding.{cased_weight, is_outweighed, or_zero, weight_of_twin}
 
 -- the entries whose marks are what a test gives are those that pass it
@@ -22,21 +21,6 @@ picked-map p (x ∷ xs) = ap (λ ys. cond (p x) (x ∷ ys) ys) (picked-map p xs)
 pub map-agree : {X Y : Type 0} (f g : X → Y) → ((x : X) → f x ≡ g x) → (xs : List X) → map f xs ≡ map g xs
 map-agree f g same [] = refl
 map-agree f g same (x ∷ xs) = ap₂ (λ y ys. y ∷ ys) (same x) (map-agree f g same xs)
-
--- a database with other rules
-abbrev pub with_rules : PlainDatabase → List GlobRule → PlainDatabase
-with_rules b rules = record {
-  rules = rules;
-  aliases = b.aliases;
-  parents = b.parents;
-  sections = b.sections;
-  icons = b.icons;
-  generic_icons = b.generic_icons;
-}
-
--- with its visible ones it is the visible database
-pub visible_database-is : (b : PlainDatabase) (rules : List GlobRule) → rules ≡ visible b.rules → with_rules b rules ≡ visible_database b
-visible_database-is b rules is = ap (with_rules b) is
 
 -- ---- a weight more
 
@@ -135,6 +119,12 @@ is_outweighed-is_hidden rules f same rule =
 pub fold-compared : (text : List ℕ) → map folded text ≡ compared false text
 fold-compared [] = refl
 fold-compared (b ∷ rest) = ap (λ bytes. folded b ∷ bytes) (fold-compared rest)
+
+-- where the last test fails, whatever the others say
+pub last-fails : (first second all : Bool) → all ≡ false → false ≡ (first && second && all)
+last-fails false second all fails = refl
+last-fails true false all fails = refl
+last-fails true true all fails = sym fails
 
 -- the last test decides where the others pass
 pub last-decides : (cased by_text all : Bool) → cased ≡ false → by_text ≡ true → all ≡ (not cased && by_text && all)

@@ -10,7 +10,7 @@
 ghost use Rattle.std.specs.Prelude.{◌≡◌, ◌++◌, ℕ, List, [], IfOk, OnOk, map, max, not, take, drop, length, if◌then◌else◌, bytes_eq, ◌≤◌};
 ghost use Rattle.mime_base.specs.Database.{plain_database};
 ghost use Rattle.mime_base.specs.Kept.Hidden.{is_hidden, spellings};
-ghost use Rattle.mime_text.specs.Merging.{visible_database};
+ghost use Rattle.mime_text.specs.Merging.{picked, visible_database, with_rules};
 ghost use Rattle.mime_text.specs.Merging.Hiding.{AreLeast, cased_weight, is_outweighed, least, weight_in};
 
 use super::first::marked;
@@ -25,6 +25,21 @@ pub fn visible(alloc: Global, database: Database) -> Result<Database, OutOfMemor
     ensures { IfOk result (λ shown. plain_database shown ≡ visible_database (plain_database database)) }
 {
     let shown = visible_marks(alloc, &database.rules)?;
+    with_marked(alloc, database, shown)
+}
+
+/// The database with the rules that are marked, in their order.
+pub fn with_marked(
+    alloc: Global,
+    database: Database,
+    marks: Vec<bool>,
+) -> Result<Database, OutOfMemory>
+    // Each rule has a mark.
+    requires { length marks.items ≡ length database.rules.items }
+    // The marked rules stay in their order, and all else is as it was.
+    ensures { IfOk result (λ kept. plain_database kept
+        ≡ with_rules (plain_database database) (picked marks.items database.rules.items)) }
+{
     let Database {
         rules,
         aliases,
@@ -34,7 +49,7 @@ pub fn visible(alloc: Global, database: Database) -> Result<Database, OutOfMemor
         generic_icons,
     } = database;
     Ok(Database {
-        rules: marked(alloc, rules, shown)?,
+        rules: marked(alloc, rules, marks)?,
         aliases,
         parents,
         sections,
@@ -112,14 +127,16 @@ fn is_outweighed(
     ensures hidden { IfOk result (λ hidden. hidden ≡ is_outweighed (weight_in weights.now) rule.now) }
     ensures known { OnOk result (AreLeast (weight_in weights.now) known.new) }
 {
-    if rule.cased {
+    let weight = u16::from(rule.weight);
+    // most rules have no twin in their own spelling, so that nothing is folded for them
+    if rule.cased || weight_of(weights, rule.pattern.bytes()) <= weight {
         return Ok(false);
     }
     match class_of(&rule.pattern) {
         Class::Full => Ok(false),
         Class::Literal | Class::Suffix => {
             let text = fold(alloc, rule.pattern.bytes())?;
-            Ok(u16::from(rule.weight) < known_least(alloc, weights, known, text)?)
+            Ok(weight < known_least(alloc, weights, known, text)?)
         }
     }
 }

@@ -13,7 +13,7 @@ use Rattle.mime_lookup.specs.Cached.{IsKind}
 use Rattle.mime_lookup.specs.CheckingOrder.{Chooses, globs_suffice, read_of}
 use Rattle.mime_lookup.specs.Content.{Health, OfReader, broken, known_content}
 use Rattle.mime_lookup.specs.declared.order.Order.{Order}
-use Rattle.mime_tool.specs.Files.{IsReaderOf, Stored, bytes, closed, folder, nothing, unknown, unreadable}
+use Rattle.mime_tool.specs.Files.{IsReaderOf, Stored, bytes, closed, dangling, folder, nothing, special, unknown, unreadable}
 use Rattle.mime_tool.specs.Line.{IsOpened, IsTypeLineBy, fits, name_for}
 use Rattle.mime_tool.specs.LineSteps.{IsContent}
 use Rattle.mime_request.specs.declared.request.Output.{Output}
@@ -68,6 +68,8 @@ module _ {R : Type 0} (remaining : R → Option (List ℕ)) (health : R → Heal
   opened name_only nothing reader kind meter read tail told fit is_kind bounds chosen asked has = absurd has
   opened name_only folder reader kind meter read tail told fit is_kind bounds chosen asked has = absurd has
   opened name_only closed reader kind meter read tail told fit is_kind bounds chosen asked has = absurd has
+  opened name_only dangling reader kind meter read tail told fit is_kind bounds chosen asked has = absurd has
+  opened name_only (special special_kind) reader kind meter read tail told fit is_kind bounds chosen asked has = absurd has
   opened name_only unreadable reader kind meter read tail told fit is_kind bounds chosen asked has =
       named (fits (name_for order file)) (written output file) _ _ fit (inl (inl (line (IsChosenByGlobs order file) kind meter read tail told is_kind bounds
       (λ b limits spells. (

@@ -16,7 +16,7 @@ use Rattle.mime_lookup.specs.declared.stopped.Cause.TheVariants as cause
 use Rattle.mime_lookup.specs.declared.stopped.Stopped.{Stopped}
 use Rattle.mime_view.specs.declared.fault.CacheFault.{CacheFault}
 use Rattle.mime_tool.specs.Cache.{GivesOrRefuses, IsCacheFaultStop, cache_fault_name}
-use Rattle.mime_tool.specs.Files.{Stored, bytes, closed, folder, nothing, unknown, unreadable}
+use Rattle.mime_tool.specs.Files.{Stored, bytes, closed, dangling, folder, nothing, special, unknown, unreadable}
 use Rattle.mime_tool.specs.Line.{IsNamed, IsTypeLineBy, fits, name_for}
 use Rattle.mime_tool.specs.LineSteps.{IsContent, LooksUp}
 use Rattle.mime_request.specs.declared.request.Output.{Output}
@@ -76,6 +76,8 @@ module _ {R : Type 0} (remaining : R → Option (List ℕ)) (health : R → Heal
   refused_run f text false nothing (Some reader) fit refuses is has = absurd has
   refused_run f text false folder (Some reader) fit refuses is has = absurd has
   refused_run f text false closed (Some reader) fit refuses is has = absurd has
+  refused_run f text false dangling (Some reader) fit refuses is has = absurd has
+  refused_run f text false (special kind) (Some reader) fit refuses is has = absurd has
   refused_run f text false unreadable (Some reader) fit refuses is has =
       named (fits (name_for order file)) (written output file) _ _ fit (inr (f, refuses, ap (λ (t : List ℕ). stopped t silent) is))
   refused_run f text false (bytes bs) (Some reader) fit refuses is has =

@@ -1,23 +1,25 @@
 -- From what a file comes to, to its line.
-use Rattle.std.proofs.Common.{◌≡◌, ◌∙◌, ℕ, List, [], ap, inl, Ok, Err, Result, refl, subst, sym}
+use Rattle.std.proofs.Common.{◌≡◌, ◌∙◌, ℕ, Bool, Bor, true, false, List, [], ◌∷◌, ap, inl, None, Ok, Option, Err, Result, Some, refl, subst, sym}
 use Rattle.mime_base.specs.Database.{PlainDatabase}
 use Rattle.mime_request.specs.declared.request.Options.{Options}
 use Rattle.mime_request.specs.declared.request.Output.{Output}
 use Rattle.mime_tool.specs.Desk.{Ends}
+use Rattle.mime_lookup.specs.Content.{Health, broken, sound, untold}
 use Rattle.mime_tool.specs.Files.{Stored}
 use Rattle.mime_tool.specs.Finish.{Sinks}
-use Rattle.mime_tool.specs.Line.{IsTypeLine, PlainLookup}
-use Rattle.mime_tool.specs.LineSteps.{ComesTo, lookup_in, plain_lookup, run_of}
+use Rattle.mime_tool.specs.Line.{IsAskedKind, IsLineOf, IsTypeLine, PlainLookup}
+use Rattle.mime_tool.specs.LineSteps.{ComesTo, GivesLine, LooksUp, lookup_in, plain_lookup, run_of}
 use Rattle.mime_tool.specs.Output.{written}
 use Rattle.mime_tool.specs.Plain.{AreTypeLines}
-use Rattle.mime_tool.specs.Run.{Run, silent}
+use Rattle.mime_tool.specs.Process.{given_by}
+use Rattle.mime_tool.specs.Run.{IsEach, Run, silent}
 use Rattle.mime_tool.specs.declared.line.Outcome.{Outcome}
 use Rattle.mime_tool.specs.declared.line.lookup.Data.{Data}
 use Rattle.mime_tool.specs.declared.line.lookup.Data.TheVariants as data_of
 use Rattle.mime_tool.specs.declared.line.lookup.Lookup.{Lookup}
 use Rattle.mime_tool.specs.declared.stop.Stop.{Stop}
 use Rattle.mime_tool.specs.declared.stop.Stop.TheVariants as stop
-use Rattle.mime_tool.proofs.RunLemmas.Ends.{writes_same}
+use Rattle.mime_tool.proofs.RunLemmas.Ends.{ends_one, writes_same}
 use Rattle.mime_tool.proofs.RunLemmas.Programs.{ends_weaker}
 
 -- no file has no line
@@ -48,3 +50,41 @@ comes_written lookup stored file o a b c r p q =
     (ends_weaker (λ _ run. run ≡ run_of lookup.output (written lookup.output file) o) (λ _. IsTypeLine it stored file) [] b c r
     (λ _ run is. subst (IsTypeLine it stored file) (ap (λ (output : Output). run_of output (written output file) o)
     (output_in lookup.by lookup) ∙ sym is) p.1) q)
+
+-- ---- kinds
+
+-- what is looked up has no kind, or none that is asked for
+looked_up : (lookup : PlainLookup) (stored : Stored) (file : List ℕ) (r : Result Outcome Stop) → IsAskedKind lookup.inode stored None
+    → LooksUp lookup stored file r → GivesLine (IsLineOf lookup stored file) lookup.output file r
+looked_up lookup stored file (Ok o) none p = (None, none, p)
+looked_up lookup stored file (Err stop.OutOfMemory) none p = tt
+looked_up lookup stored file (Err stop.CannotWrite) none p = p
+looked_up lookup stored file (Err (stop.Refused m)) none p = (None, none, p)
+
+-- what a reader gives is no other kind of thing
+pub no_kind : (inode : Bool) (left : Option (List ℕ)) (state : Health) → IsAskedKind inode (given_by left state) None
+no_kind false left state = refl
+no_kind true None state = tt
+no_kind true (Some []) sound = refl
+no_kind true (Some []) broken = refl
+no_kind true (Some []) untold = tt
+no_kind true (Some (b ∷ bs)) sound = refl
+no_kind true (Some (b ∷ bs)) broken = tt
+no_kind true (Some (b ∷ bs)) untold = tt
+
+-- ---- one name
+
+module _ (contents : List ℕ → Stored) (name : List ℕ) (a : Sinks) where
+  -- a name that came to nothing is all that was looked up
+  pub one_undone : (lookup : PlainLookup) (s : Stop) → IsAskedKind lookup.inode (contents name) None
+      → LooksUp lookup (contents name) name (Err s) → Ends (IsEach (IsTypeLine lookup contents)) (name ∷ []) a a (Err s)
+  one_undone lookup s none p = ends_one (IsTypeLine lookup contents) name a a (Err s)
+      (comes_undone lookup contents name a a s (refl, looked_up lookup (contents name) name (Err s) none p))
+
+  -- so is one that came to something
+  pub one_written : (lookup : Lookup) (o : Outcome) (c : Sinks) (r : Result ℕ Stop) → IsAskedKind lookup.inode (contents name) None
+      → LooksUp (plain_lookup lookup) (contents name) name (Ok o)
+      → Ends (λ _ run. run ≡ run_of lookup.output (written lookup.output name) o) [] a c r
+      → Ends (IsEach (IsTypeLine (plain_lookup lookup) contents)) (name ∷ []) a c r
+  one_written lookup o c r none p q = ends_one (IsTypeLine (plain_lookup lookup) contents) name a c r
+      (comes_written lookup contents name o a a c r (refl, looked_up (plain_lookup lookup) (contents name) name (Ok o) none p) q)

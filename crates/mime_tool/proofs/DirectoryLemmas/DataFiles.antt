@@ -5,7 +5,7 @@ use Rattle.std.specs.declared.alloc.Global.{Global}
 use Rattle.mime_text.specs.Lines.{skipped_of}
 use Rattle.mime_tool.specs.Desk.{Does, ReadsWhole, State, Works}
 use Rattle.mime_tool.specs.Directories.{AreFileLines, AreLinesAt, IsTextAt, all_ignored, ignored, unread}
-use Rattle.mime_tool.specs.Files.{IsTextOf, Stored, bytes, closed, folder, nothing, unknown, unreadable}
+use Rattle.mime_tool.specs.Files.{IsTextOf, Stored, bytes, closed, dangling, folder, nothing, special, unknown, unreadable}
 use Rattle.mime_tool.specs.Finish.{Sinks}
 use Rattle.mime_tool.specs.Loading.{Loads}
 use Rattle.mime_tool.specs.Run.{said}
@@ -19,7 +19,9 @@ use Rattle.mime_tool.proofs.RunLemmas.Loads.{CanBe, can_then, loads_nothing}
 -- there is some text, or none
 some_text : (stored : Stored) → (text : Option (List ℕ)) × IsTextOf stored text
 some_text nothing = (Some [], refl)
+some_text dangling = (Some [], refl)
 some_text folder = (None, refl)
+some_text (special kind) = (None, refl)
 some_text closed = (None, refl)
 some_text unreadable = (None, refl)
 some_text (bytes bs) = (Some bs, refl)

@@ -6,7 +6,7 @@ use Rattle.std.specs.List.{flat_map, join_by}
 use Rattle.clap.specs.Walk.{texts}
 use Rattle.mime_tool.specs.Desk.{Does, State, Works}
 use Rattle.mime_tool.specs.Directories.{HasFile, HaveTextFile, IsNoticed, OnePasses, no_text_files, path_of, text_names}
-use Rattle.mime_tool.specs.Files.{IsThere, Stored, bytes, closed, folder, nothing, unknown, unreadable}
+use Rattle.mime_tool.specs.Files.{IsThere, Stored, bytes, closed, dangling, folder, nothing, special, unknown, unreadable}
 use Rattle.mime_tool.specs.Loading.{Loads}
 use Rattle.mime_tool.specs.Run.{refusal, said}
 use Rattle.mime_tool.specs.declared.stop.Stop.{Stop}
@@ -63,7 +63,9 @@ Notices dirs a b r = Works (Loads {X = Unit {0}} (λ done. done) (IsNoticed a.st
 -- something is at a path, or nothing
 can_be_there : (stored : Stored) → (there : Bool) × IsThere stored there
 can_be_there nothing = (false, refl)
+can_be_there dangling = (false, refl)
 can_be_there folder = (true, refl)
+can_be_there (special kind) = (true, refl)
 can_be_there closed = (true, refl)
 can_be_there unreadable = (true, refl)
 can_be_there (bytes bs) = (true, refl)

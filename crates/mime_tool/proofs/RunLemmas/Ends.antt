@@ -89,6 +89,18 @@ ends_said P Q files text a b c (Err (stop.Refused m)) more none w p = (
   writes-append a b c (said text) p.0 w p.2,
 )
 
+-- ---- one file
+
+-- a run over one file is one over each of it
+pub ends_one : (P : List ℕ → Run → Type 0) (file : List ℕ) (a b : Sinks) (r : Result ℕ Stop) → Ends (λ _. P file) [] a b r
+    → Ends (IsEach P) (file ∷ []) a b r
+ends_one P file a b (Ok status) p = (p.0, each_one P file p.0 p.1, p.2, p.3, p.4)
+ends_one P file a b (Err stop.OutOfMemory) (inl p) = inl p
+ends_one P file a b (Err stop.OutOfMemory) (inr p) =
+    inr (p.0, part_all (IsEach P) (file ∷ []) p.0 (each_one P file p.0 p.1.is_run), p.2)
+ends_one P file a b (Err stop.CannotWrite) p = p
+ends_one P file a b (Err (stop.Refused m)) p = (p.0, each_one P file (stopped (message (stop.Refused m)) p.0) p.1, p.2)
+
 -- ---- a file after others
 
 -- the file is answered

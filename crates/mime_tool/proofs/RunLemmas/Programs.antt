@@ -1,5 +1,5 @@
 -- From the run of a command to the run of the program.
-use Rattle.std.proofs.Common.{◌≡◌, ◌≢◌, ◌∙◌, ℕ, Bool, List, [], Option, Result, Ok, Err, ap, inl, inr, subst}
+use Rattle.std.proofs.Common.{◌≡◌, ◌≢◌, ◌∙◌, ℕ, Bool, List, [], Result, Ok, Err, ap, inl, inr, subst}
 use Rattle.clap.specs.Values.{kind_of}
 use Rattle.clap.specs.declared.error.Error.{Error}
 use Rattle.clap.specs.declared.error.kind.ErrorKind.{ErrorKind}
@@ -9,10 +9,10 @@ use Rattle.mime_request.specs.Request.{plain, refused, type_of}
 use Rattle.mime_request.specs.declared.request.Request.{Request}
 use Rattle.mime_tool.specs.Build.{Builds}
 use Rattle.mime_tool.specs.Desk.{Ends, State, Works}
-use Rattle.mime_tool.specs.Environment.{PlainEnvironment}
 use Rattle.mime_tool.specs.Files.{Stored, Writing}
 use Rattle.mime_tool.specs.Finish.{Sinks}
-use Rattle.mime_tool.specs.Program.{Answers, IsAnswer, IsAskedRun, IsShown, Leaves, asked_files, files_of, is_help, shown}
+use Rattle.mime_tool.specs.Process.{PlainProcess}
+use Rattle.mime_tool.specs.Program.{Answers, IsAnswer, IsAskedRun, IsShown, Leaves, is_help, names_of, shown}
 use Rattle.mime_tool.specs.Run.{Run, stopped}
 use Rattle.mime_tool.specs.Stop.{message}
 use Rattle.mime_tool.specs.declared.stop.Stop.{Stop}
@@ -31,15 +31,15 @@ ends_weaker P Q files a b (Err stop.CannotWrite) more p = p
 ends_weaker P Q files a b (Err (stop.Refused m)) more p = (p.0, more files (stopped (message (stop.Refused m)) p.0) p.1, p.2)
 
 -- a request that the words mean is answered
-pub answers_asked : (v : Option PlainEnvironment) (m : Meaning) (q : Request) (a b : State) (r : Result ℕ Stop) → Means m (Ok q)
+pub answers_asked : (v : PlainProcess) (m : Meaning) (q : Request) (a b : State) (r : Result ℕ Stop) → Means m (Ok q)
     → Answers v (asks (plain_request q)) a b r → Answers v m a b r
 answers_asked v (asks x) q a b r means p = subst (λ (y : PlainRequest). Answers v (asks y) a b r) means p
 answers_asked v (refused kinds) q a b r means p = absurd means
 
 -- an error that the words mean is shown
-pub error_shown : (v : Option PlainEnvironment) (writes : List ℕ → List ℕ → Writing) (stored after : List ℕ → Stored) (m : Meaning) (e : Error) (a b : Sinks)
+pub error_shown : (v : PlainProcess) (writes : List ℕ → List ℕ → Writing) (stored after : List ℕ → Stored) (m : Meaning) (e : Error) (a b : Sinks)
     (r : Result ℕ Stop) → Means m (Err e)
-    → Ends (λ _. IsShown (kind_of e)) [] a b r → Ends (IsAnswer v writes stored after m) (files_of m) a b r
+    → Ends (λ _. IsShown (kind_of e)) [] a b r → Ends (IsAnswer v writes stored after m) (names_of m) a b r
 error_shown v writes stored after (asks x) e a b (Ok status) means p = absurd (p.1.0 means)
 error_shown v writes stored after (asks x) e a b (Err stop.OutOfMemory) means (inl p) = inl p
 error_shown v writes stored after (asks x) e a b (Err stop.OutOfMemory) means (inr p) = absurd (p.1.is_run.0 means)
@@ -55,17 +55,17 @@ error_shown v writes stored after (refused kinds) e a b r (inr among) p =
     (λ fs run q. (kind_of e, among, q)) p
 
 -- what is stored stays
-pub leaves_same : (v : Option PlainEnvironment) (m : Meaning) (old new : List ℕ → Stored) → new ≡ old → Leaves v m old new
-leaves_same v (asks (build dirs file)) old new same = inl (λ other _. ap (λ (stored : List ℕ → Stored). stored other) same)
-leaves_same v (asks (plain dirs options files)) old new same = same
+pub leaves_same : (v : PlainProcess) (m : Meaning) (old new : List ℕ → Stored) → new ≡ old → Leaves v m old new
+leaves_same v (asks (build dirs drop_twins file)) old new same = inl (λ other _. ap (λ (stored : List ℕ → Stored). stored other) same)
+leaves_same v (asks (plain dirs options subjects)) old new same = same
 leaves_same v (asks (list source)) old new same = same
 leaves_same v (asks (is_a source kind base)) old new same = same
 leaves_same v (asks (icon source kind)) old new same = same
-leaves_same v (asks (type_of source options files)) old new same = same
+leaves_same v (asks (type_of source options subjects)) old new same = same
 leaves_same v (refused kinds) old new same = same
 
 -- showing an error of the words is what they lead to
-pub answers_error : (v : Option PlainEnvironment) (m : Meaning) (e : Error) (a b : State) (r : Result ℕ Stop) → Means m (Err e)
+pub answers_error : (v : PlainProcess) (m : Meaning) (e : Error) (a b : State) (r : Result ℕ Stop) → Means m (Err e)
     → Works (Ends (λ _. IsShown (kind_of e)) []) a b r → Answers v m a b r
 answers_error v m e a b r means p = record {
   same_setting = p.same_setting;
@@ -74,9 +74,9 @@ answers_error v m e a b r means p = record {
 }
 
 -- `build` leaves what it says
-pub answers_build : (v : Option PlainEnvironment) (dirs : PlainDirectories) (file : List ℕ) (a b : State) (r : Result ℕ Stop)
-    → Builds v dirs file a b r → Answers v (asks (build dirs file)) a b r
-answers_build v dirs file a b r p = record { same_setting = p.same_setting; sinks = p.sinks; leaves = p.leaves }
+pub answers_build : (v : PlainProcess) (dirs : PlainDirectories) (drop_twins : Bool) (file : List ℕ) (a b : State)
+    (r : Result ℕ Stop) → Builds v.environment dirs drop_twins file a b r → Answers v (asks (build dirs drop_twins file)) a b r
+answers_build v dirs drop_twins file a b r p = record { same_setting = p.same_setting; sinks = p.sinks; leaves = p.leaves }
 
 -- the text of an error is shown
 pub shown_text : (k : ErrorKind) (help : Bool) (text : List ℕ) (a b : Sinks) (r : Result ℕ Stop) → k ≢ kind.OutOfMemory

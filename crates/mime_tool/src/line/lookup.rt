@@ -3,7 +3,7 @@
 ghost use Rattle.std.specs.Prelude.{◌≡◌, Bool};
 ghost use Rattle.mime_base.specs.Database.{plain_database};
 ghost use Rattle.mime_tool.specs.Files.{Stored};
-ghost use Rattle.mime_tool.specs.Line.{name_for, order_of};
+ghost use Rattle.mime_tool.specs.Line.{asked_order, name_for};
 ghost use Rattle.mime_tool.specs.LineSteps.{IsContent, LooksUp, plain_lookup, tail_of};
 ghost use Rattle.mime_tool.specs.Plain.{lookup_over};
 ghost use Rattle.mime_tool.specs.Types.{cost_tail, lookup_by};
@@ -13,7 +13,7 @@ use crate::cache::faulty;
 use crate::stop::Stop;
 use mime_base::{Counted, Database, Host, Meter};
 use mime_lookup::{Cause, Content, Order, look_up, look_up_plain};
-use mime_request::Output;
+use mime_request::{Options, Output};
 use std::alloc::Global;
 
 /// What FILEs are looked up in.
@@ -34,6 +34,8 @@ pub(crate) struct Lookup<'a> {
     pub(crate) by: Data<'a>,
     /// Whether by their names alone: then none is opened.
     pub(crate) name_only: bool,
+    /// Whether what is no regular file has a type of its own.
+    pub(crate) inode: bool,
     pub(crate) order: Order,
     /// How their answers are printed.
     pub(crate) output: Output,
@@ -46,14 +48,16 @@ pub(crate) struct Cost {
     pub(crate) read: u64,
 }
 
-/// The order that `--content-only` asks for, else `--magic-first`, or the absence of both.
-pub(crate) fn order_of(content_only: bool, magic_first: bool) -> Order
-    ensures { result ≡ order_of content_only magic_first }
+/// The order that `--content-only` asks for, else `--magic-first`, else `--all-globs`, or the absence of all.
+pub(crate) fn asked_order(options: Options) -> Order
+    ensures { result ≡ asked_order options }
 {
-    if content_only {
+    if options.content_only {
         Order::ContentOnly
-    } else if magic_first {
+    } else if options.magic_first {
         Order::MagicFirst
+    } else if options.all_globs {
+        Order::AllGlobs
     } else {
         Order::GlobsFirst
     }
@@ -72,6 +76,7 @@ pub(super) fn find<'a, R: Content + Drop>(
     let Lookup {
         by,
         name_only: _,
+        inode: _,
         order,
         output: _,
     } = lookup;
@@ -130,6 +135,16 @@ fn find_in_cache<'a, R: Content + Drop>(
     }
 }
 
+/// What an answer cost for which nothing was looked at, where that is told.
+pub(super) fn free(lookup: Lookup<'_>) -> Option<Cost>
+    ensures { tail_of result ≡ (plain_lookup lookup.entry).free }
+{
+    match lookup.by {
+        Data::Database(_) => None,
+        Data::Cache { cost, .. } => cost_of(cost, Meter { nodes: 0, bytes: 0 }, 0),
+    }
+}
+
 // What an answer cost, where that is told.
 fn cost_of(is_told: bool, meter: Meter, read: u64) -> Option<Cost>
     ensures { tail_of result ≡ cost_tail is_told meter read }
@@ -147,6 +162,6 @@ fn name_for(order: Order, file: &[u8]) -> &[u8]
 {
     match order {
         Order::ContentOnly => b"",
-        Order::GlobsFirst | Order::MagicFirst => base_name(file),
+        Order::GlobsFirst | Order::MagicFirst | Order::AllGlobs => base_name(file),
     }
 }

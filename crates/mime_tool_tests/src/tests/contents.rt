@@ -92,7 +92,7 @@ fn answers_by_content(rt: HostRuntime) -> Result<(), Fail> {
     are_answered(&rt, rt.alloc(), &BY_CONTENT)
 }
 
-static IN_ORDER: [Row; 5] = [
+static IN_ORDER: [Row; 6] = [
     Row {
         name: "globs before magic",
         words: &["plain", "-d", "/s", "x.a", "x"],
@@ -130,6 +130,19 @@ static IN_ORDER: [Row; 5] = [
         status: 0,
         out: "x.a: t/a\n",
         err: "",
+    },
+    Row {
+        name: "content among all globs",
+        words: &["plain", "-d", "/s", "--all-globs", "x.a", "y.a", "z.a"],
+        entries: &[
+            ("/s/mime/globs2", Entry::Bytes(b"50:t/a:*.a\n40:image/x-sig:*.a\n")),
+            ("/s/mime/magic", Entry::Bytes(LOW)),
+            ("x.a", Entry::Bytes(SIGNED)),
+            ("y.a", Entry::Bytes(HELLO)),
+        ],
+        status: 1,
+        out: "x.a: image/x-sig\ny.a: t/a\n",
+        err: "mimelook: z.a: cannot open\n",
     },
     Row {
         name: "contents alone, whatever the rules are",

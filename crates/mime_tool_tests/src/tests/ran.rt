@@ -1,7 +1,7 @@
 //! Runs of the program, and values that have to be alike.
 
 use crate::{Entry, FailingSink, Shelf};
-use mime_tool::{Environment, Files, Sink, SinkFault, run};
+use mime_tool::{Environment, Files, Process, Sink, SinkFault, run};
 use std::alloc::Global;
 use std::fmt::Debug;
 use std::process::Abort;
@@ -19,6 +19,14 @@ pub const UNSET: Environment<'static> = Environment {
     data_dirs: None,
 };
 
+/// A process with this environment, and nothing on standard input.
+pub fn in_environment<'a>(environment: Option<Environment<'a>>) -> Process<'a, &'a [u8]> {
+    Process {
+        environment,
+        input: b"",
+    }
+}
+
 /// A run, of which nothing is known.
 pub fn ran<F: Files, O: Sink, E: Sink>(
     alloc: Global,
@@ -27,7 +35,15 @@ pub fn ran<F: Files, O: Sink, E: Sink>(
     out: &mut O,
     err: &mut E,
 ) -> u8 {
-    run(alloc, words, &[], Some(UNSET), files, out, err)
+    run(
+        alloc,
+        words,
+        &[],
+        in_environment(Some(UNSET)),
+        files,
+        out,
+        err,
+    )
 }
 
 /// A run's status, and what it prints and says.

@@ -1,6 +1,6 @@
 //! Commands over a cache that is made of data directories, those that are named or the user's.
 
-use crate::tests::ran::{UNSET, alike};
+use crate::tests::ran::{UNSET, alike, in_environment};
 use crate::{Entry, Shelf};
 use mime_tool::{Environment, run};
 use std::alloc::Global;
@@ -212,7 +212,7 @@ fn is_answered(rt: &impl Abort, alloc: Global, row: &Row) -> Result<(), Fail> {
         alloc,
         row.words,
         &[],
-        row.environment,
+        in_environment(row.environment),
         &mut files,
         &mut out,
         &mut err,

@@ -1,6 +1,6 @@
 //! Words that are no text.
 
-use crate::tests::ran::{UNSET, alike};
+use crate::tests::ran::{UNSET, alike, in_environment};
 use crate::{Entry, Shelf};
 use mime_tool::{RawWord, run};
 use std::alloc::Global;
@@ -167,7 +167,7 @@ fn is_answered(rt: &impl Abort, alloc: Global, row: &Row) {
         alloc,
         row.words,
         row.raws,
-        Some(UNSET),
+        in_environment(Some(UNSET)),
         &mut files,
         &mut out,
         &mut err,

@@ -12,10 +12,10 @@ use Rattle.mime_base.specs.declared.database.rule.GlobRule.{GlobRule}
 use Rattle.mime_base.specs.declared.kept.class.Class.{Class}
 use Rattle.mime_base.proofs.CacheLemmas.TextsStand.{text_at-read}
 use Rattle.mime_view.specs.Globs.{ReadsGlob}
-use Rattle.mime_view.specs.Hits.{Offers}
+use Rattle.mime_view.specs.Gathered.{Offers, PlainHits}
 use Rattle.mime_view.specs.Spending.{Spends, per_record}
 use Rattle.mime_view.specs.declared.spending.Spending.{Spending}
-use Rattle.mime_view.proofs.HitsLemmas.Offers.{offers_none}
+use Rattle.mime_view.proofs.HitsLemmas.Gathering.{offers_none}
 use Rattle.mime_view.proofs.HitsLemmas.StoredRules.{rank-stored, cased-stored, rule_matches-stored}
 
 -- a text of a cache has less than 256 bytes
@@ -44,21 +44,21 @@ entry_states c at name rule pattern class numbers place are here text is fits re
 
 module _ (c name : List ℕ) (rule : GlobRule) where
   -- a rule that matches is offered
-  pub offers_match : (old new : List (ℕ × ℕ)) → rule_matches rule.pattern rule.cased name ≡ true → Offers c (rule ∷ []) old new
+  pub offers_match : (old new : PlainHits) → rule_matches rule.pattern rule.cased name ≡ true → Offers c (rule ∷ []) old new
       → Offers c (hits (rule ∷ []) name) old new
   offers_match old new is offered = rw is offered
 
   -- one that doesn't is not
-  pub offers_other : (kept : List (ℕ × ℕ)) → rule_matches rule.pattern rule.cased name ≡ false → Offers c (hits (rule ∷ []) name) kept kept
-  offers_other kept is = rw is (offers_none c kept)
+  pub offers_other : (held : PlainHits) → rule_matches rule.pattern rule.cased name ≡ false → Offers c (hits (rule ∷ []) name) held held
+  offers_other held is = rw is (offers_none c held)
 
-  -- nor need one be that would not be kept
-  pub offers_unwanted : (kept : List (ℕ × ℕ)) → Offers c (rule ∷ []) kept kept → Offers c (hits (rule ∷ []) name) kept kept
-  offers_unwanted kept unwanted = by_match (rule_matches rule.pattern rule.cased name) refl
+  -- nor need one be that would not be held
+  pub offers_either : (held : PlainHits) → Offers c (rule ∷ []) held held → Offers c (hits (rule ∷ []) name) held held
+  offers_either held unwanted = by_match (rule_matches rule.pattern rule.cased name) refl
     where
-      by_match : (is : Bool) → rule_matches rule.pattern rule.cased name ≡ is → Offers c (hits (rule ∷ []) name) kept kept
-      by_match true is = offers_match kept kept is unwanted
-      by_match false is = offers_other kept is
+      by_match : (is : Bool) → rule_matches rule.pattern rule.cased name ≡ is → Offers c (hits (rule ∷ []) name) held held
+      by_match true is = offers_match held held is unwanted
+      by_match false is = offers_other held is
 
 -- a record, the text of a cache, and its tests against a name
 pub entry_spends : (n p mid : ℕ) (old new : Spending) → new.budget.records + 1 ≡ old.budget.records

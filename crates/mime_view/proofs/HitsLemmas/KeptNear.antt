@@ -1,17 +1,18 @@
--- No more rules are kept for a name than are near it.
+-- No more rules match a name than are near it, so no more are kept.
 use Rattle.std.proofs.Common.{◌≡◌, ℕ, ◌≤◌, Bool, true, false, not, ◌&&◌, ◌||◌, ◌==◌, cond, List, length, refl, ◌∙◌, arith}
 use Rattle.std.specs.List.{filter}
 use Rattle.std.proofs.lemmas.Bool.{and_from, and_parts}
 use Rattle.std.proofs.lemmas.List.Filters.{length-filter_both}
 use Rattle.mime_base.specs.Format.Stored.{is_in_globs, is_in_literals, is_in_tree}
-use Rattle.mime_base.specs.Kept.{any_cased, cased_if_any, class_of, earliness, greatest, heaviest, hits, kept_rules, longest}
-use Rattle.mime_base.specs.Kept.{of_first_class, of_greatest, preferred}
+use Rattle.mime_base.specs.Kept.{any_cased, candidate_rules, cased_if_any, class_of, earliness, greatest, heaviest, hits, kept_rules, longest}
+use Rattle.mime_base.specs.Kept.{of_first_class, of_greatest, preferred, rank_of_rule}
 use Rattle.mime_base.specs.Matching.Folding.{compared}
 use Rattle.mime_base.specs.Matching.Matches.{rule_matches}
 use Rattle.mime_base.specs.declared.database.rule.GlobRule.{GlobRule}
-use Rattle.mime_view.specs.Hits.{KeptAreNear}
+use Rattle.mime_view.specs.Hits.{CandidatesAreNear, KeptAreNear, near}
 use Rattle.mime_view.proofs.HitsLemmas.FilterCounts.{length-filter_weaker}
 use Rattle.mime_view.proofs.HitsLemmas.NearRules.{compared-compared, ending-near, literal-near}
+use Rattle.mime_view.proofs.HitsLemmas.SortedOffers.{length-falling}
 use Rattle.mime_view.proofs.HitsLemmas.RulePlaces.{ending-found, literal-found}
 
 -- a filter keeps no more than there are
@@ -19,8 +20,8 @@ filter-shorter : {X : Type 0} (p : X → Bool) (xs : List X) → length (filter 
 filter-shorter p xs = omega (arith, length-filter_both p (λ x. not (p x)) (λ x. refl) xs)
 
 -- so does a choice of the greatest
-greatest-shorter : (f : GlobRule → ℕ) (rules : List GlobRule) → length (of_greatest f rules) ≤ length rules
-greatest-shorter f rules = filter-shorter (λ rule. f rule == greatest f rules) rules
+pub greatest-shorter : {X : Type 0} (f : X → ℕ) (xs : List X) → length (of_greatest f xs) ≤ length xs
+greatest-shorter f xs = filter-shorter (λ x. f x == greatest f xs) xs
 
 -- and one by case
 cased-shorter : (rules : List GlobRule) → length (cased_if_any rules) ≤ length rules
@@ -64,9 +65,17 @@ match-near rule name matched =
     by_cases false true by_literal by_ending = by_ending refl
     by_cases false false by_literal by_ending = refl
 
+-- rules that match are near the name
+hits-near : (name : List ℕ) (rules : List GlobRule) → length (hits rules name) ≤ near name rules
+hits-near name rules =
+    length-filter_weaker (λ rule. rule_matches rule.pattern rule.cased name)
+    (λ rule. is_in_globs rule || rule_matches rule.pattern false name) (λ rule. match-near rule name) rules
+
 -- the law of kept rules
 pub kept_near : KeptAreNear
-kept_near name rules =
-    let fewer = length-filter_weaker (λ rule. rule_matches rule.pattern rule.cased name)
-    (λ rule. is_in_globs rule || rule_matches rule.pattern false name) (λ rule. match-near rule name) rules in
-    omega (arith, kept-shorter rules name)
+kept_near name rules = omega (arith, kept-shorter rules name, hits-near name rules)
+
+-- the law of candidates
+pub candidates_near : CandidatesAreNear
+unfolding candidate_rules
+candidates_near name rules = omega (arith, length-falling rank_of_rule (hits rules name), hits-near name rules)

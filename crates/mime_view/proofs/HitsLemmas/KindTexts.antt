@@ -1,4 +1,4 @@
--- The texts at offsets of types, and the types of the rules that were offered with them.
+-- The texts at offsets.
 use Rattle.std.proofs.Common.{◌≡◌, ℕ, zero, suc, ◌+◌, ◌<◌, List, [], ◌∷◌, ◌++◌}
 use Rattle.std.proofs.Common.{length, get_or, take, map, Ok, refl, sym, ap, ap₂, ◌∙◌, arith}
 use Rattle.std.specs.Borrow.{Bor}
@@ -7,15 +7,7 @@ use Rattle.std.proofs.lemmas.List.{map-append}
 use Rattle.std.proofs.Math.Numerals.{suc-eq-add-one}
 use Rattle.std.proofs.Math.Seq.{take-suc}
 use Rattle.mime_base.specs.Cache.Texts.{text_at}
-use Rattle.mime_base.specs.declared.database.rule.GlobRule.{GlobRule}
-use Rattle.mime_view.specs.Hits.{AreOffers}
-
--- these texts stand at these offsets
-abbrev pub AreTexts : List ℕ → List ℕ → List (List ℕ) → Type 0
-AreTexts c [] [] = Unit {0}
-AreTexts c [] (text ∷ texts) = ⊥
-AreTexts c (place ∷ places) [] = ⊥
-AreTexts c (place ∷ places) (text ∷ texts) = (text_at c place ≡ Ok text) × AreTexts c places texts
+use Rattle.mime_view.specs.Texts.{AreTexts}
 
 -- one text more
 AreTexts-more : (c places : List ℕ) (texts : List (List ℕ)) (place : ℕ) (text : List ℕ) → AreTexts c places texts
@@ -58,26 +50,21 @@ AreTexts-length c [] (text ∷ texts) are = absurd are
 AreTexts-length c (place ∷ places) [] are = absurd are
 AreTexts-length c (place ∷ places) (text ∷ texts) are = ap suc (AreTexts-length c places texts are.1)
 
--- the offsets of the types of hits
-abbrev kinds_at : List (ℕ × ℕ) → List ℕ
-kinds_at hits = map (λ hit. hit.1) hits
+-- at each offset stands a text
+pub AreTexts-at : (c places : List ℕ) (texts : List (List ℕ)) (i : ℕ) → AreTexts c places texts → i < length places
+    → (text : List ℕ) × (text_at c (get_or places i 0) ≡ Ok text)
+AreTexts-at c [] texts i are l = absurd (omega arith)
+AreTexts-at c (place ∷ places) [] i are l = absurd are
+AreTexts-at c (place ∷ places) (text ∷ texts) zero are l = (text, are.0)
+AreTexts-at c (place ∷ places) (text ∷ texts) (suc i) are l = AreTexts-at c places texts i are.1 (omega arith)
 
--- they are the types of the rules that were offered
-pub AreTexts-kinds : (c : List ℕ) (hits : List (ℕ × ℕ)) (rules : List GlobRule) (texts : List (List ℕ)) → AreOffers c hits rules
-    → AreTexts c (kinds_at hits) texts → texts ≡ map (λ rule. rule.kind) rules
-AreTexts-kinds c [] [] [] offers are = refl
-AreTexts-kinds c [] [] (text ∷ texts) offers are = absurd are
-AreTexts-kinds c [] (rule ∷ rules) texts offers are = absurd offers
-AreTexts-kinds c (hit ∷ hits) [] texts offers are = absurd offers
-AreTexts-kinds c (hit ∷ hits) (rule ∷ rules) [] offers are = absurd are
-AreTexts-kinds c (hit ∷ hits) (rule ∷ rules) (text ∷ texts) offers are =
-    let first : text ≡ rule.kind = let e = sym are.0 ∙ offers.1 in cc in
-    ap₂ (λ (x : List ℕ) (xs : List (List ℕ)). x ∷ xs) first (AreTexts-kinds c hits rules texts offers.2 are.1)
-
--- a type that was offered is a text
-pub kind_stands : (c : List ℕ) (hits : List (ℕ × ℕ)) (rules : List GlobRule) (i : ℕ) → AreOffers c hits rules → i < length (kinds_at hits)
-    → (text : List ℕ) × (text_at c (get_or (kinds_at hits) i 0) ≡ Ok text)
-kind_stands c [] rules i offers l = absurd (omega arith)
-kind_stands c (hit ∷ hits) [] i offers l = absurd offers
-kind_stands c (hit ∷ hits) (rule ∷ rules) zero offers l = (rule.kind, offers.1)
-kind_stands c (hit ∷ hits) (rule ∷ rules) (suc i) offers l = kind_stands c hits rules i offers.2 (omega arith)
+-- what stands at offsets is one list
+pub AreTexts-same : (c places : List ℕ) (texts others : List (List ℕ)) → AreTexts c places texts → AreTexts c places others → texts ≡ others
+AreTexts-same c [] [] [] are these = refl
+AreTexts-same c [] [] (other ∷ others) are these = absurd these
+AreTexts-same c [] (text ∷ texts) others are these = absurd are
+AreTexts-same c (place ∷ places) [] others are these = absurd are
+AreTexts-same c (place ∷ places) (text ∷ texts) [] are these = absurd these
+AreTexts-same c (place ∷ places) (text ∷ texts) (other ∷ others) are these =
+    let first : text ≡ other = let e = sym are.0 ∙ these.0 in cc in
+    ap₂ (λ (x : List ℕ) (xs : List (List ℕ)). x ∷ xs) first (AreTexts-same c places texts others are.1 these.1)

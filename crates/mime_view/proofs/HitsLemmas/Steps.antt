@@ -9,7 +9,7 @@ use Rattle.mime_view.specs.Steps.{FindsRules, Searches}
 use Rattle.mime_view.specs.declared.fault.CacheFault.{CacheFault}
 use Rattle.mime_view.specs.declared.query.Progress.{Progress}
 use Rattle.mime_view.proofs.CostLemmas.Costs.{spends_none, spends_then, spends_within}
-use Rattle.mime_view.proofs.HitsLemmas.Offers.{offers_append, offers_none}
+use Rattle.mime_view.proofs.HitsLemmas.Gathering.{offers_append, offers_none}
 
 -- no step finds nothing
 pub finds_none : {c : List ℕ} {fits : Type 0} {n : ℕ} (at : Progress) → FindsRules {X = Unit {0}} c fits [] n at at (Ok tt)

@@ -1,18 +1,16 @@
--- The walk over the lists keeps the rules that are kept for a name: those of one rank all stand in one place, in merged order.
+-- The walk over the lists offers the rules of each rank in merged order: those of one rank all stand in one place.
 use Rattle.std.proofs.Common.{◌≡◌, ℕ, true, false, ◌==◌, List, [], ◌∷◌, ◌++◌}
 use Rattle.std.proofs.Common.{refl, sym, ap, ap₂, ◌∙◌, true≢false}
 use Rattle.std.specs.List.{All}
 use Rattle.std.proofs.lemmas.List.Elements.{All-filter, filter-append}
-use Rattle.mime_base.specs.Kept.{FitsRank, hits, kept_rules, of_greatest, rank_of_rule}
+use Rattle.mime_base.specs.Kept.{FitsRank, hits, rank_of_rule}
 use Rattle.mime_base.specs.Matching.Folding.{compared}
 use Rattle.mime_base.specs.Matching.Matches.{rule_matches}
 use Rattle.mime_base.specs.declared.database.rule.GlobRule.{GlobRule}
-use Rattle.mime_base.proofs.KeptLemmas.{of_greatest-rank_of_rule}
 use Rattle.mime_view.specs.Hits.{offered_once, offered_twice}
 use Rattle.mime_view.specs.declared.hits.Case.TheVariants.{Both, Exact, Folded}
 use Rattle.mime_view.proofs.HitsLemmas.OnePlace.{places-once, places-twice}
 use Rattle.mime_view.proofs.HitsLemmas.RankParts.{Serves, glob_part, literal_part, of_rank, of_rank-ranked, tree_part}
-use Rattle.mime_view.proofs.HitsLemmas.SameRanks.{of_greatest-each}
 
 -- with case a text is compared as it is
 compared-cased : (name : List ℕ) → compared true name ≡ name
@@ -43,34 +41,25 @@ of_rank-append n xs ys first second = filter-append (λ rule. rank_of_rule rule 
 
 module _ (rules : List GlobRule) (name : List ℕ) (fits : All FitsRank rules) where
   -- the rules that match fit a rank
-  hits-fit : All FitsRank (hits rules name)
+  pub hits-fit : All FitsRank (hits rules name)
   hits-fit = All-filter (λ rule. rule_matches rule.pattern rule.cased name) FitsRank rules fits
 
-  -- those of the greatest rank are the kept ones
-  kept-by_rank : of_greatest rank_of_rule (hits rules name) ≡ kept_rules rules name
-  unfolding kept_rules
-  kept-by_rank = of_greatest-rank_of_rule (hits rules name) hits-fit
-
   -- one search of the literals and one walk, where folding leaves the name alone
-  pub walk_once : compared false name ≡ name → of_greatest rank_of_rule (offered_once name rules) ≡ kept_rules rules name
-  walk_once alone =
+  pub walk_once : compared false name ≡ name → (n : ℕ) → of_rank n (offered_once name rules) ≡ of_rank n (hits rules name)
+  walk_once alone n =
       let serves = serves-both name alone in
-      of_greatest-each rank_of_rule (offered_once name rules) (hits rules name) (λ n.
       of_rank-append n _ _ (literal_part n rules name Both name serves)
       (of_rank-append n _ _ (tree_part n rules name Both name serves fits) (glob_part n rules name))
-      ∙ places-once n (of_rank n (hits rules name)) (of_rank-ranked n (hits rules name) hits-fit))
-      ∙ kept-by_rank
+      ∙ places-once n (of_rank n (hits rules name)) (of_rank-ranked n (hits rules name) hits-fit)
 
   -- a search and a walk for the name, and a search and a walk for the folded name
-  pub walk_twice : of_greatest rank_of_rule (offered_twice name rules) ≡ kept_rules rules name
-  walk_twice =
+  pub walk_twice : (n : ℕ) → of_rank n (offered_twice name rules) ≡ of_rank n (hits rules name)
+  walk_twice n =
       let small = compared false name in
       let exact = serves-exact name in
       let folded = serves-folded name in
-      of_greatest-each rank_of_rule (offered_twice name rules) (hits rules name) (λ n.
       of_rank-append n _ _ (literal_part n rules name Exact name exact)
       (of_rank-append n _ _ (literal_part n rules name Folded small folded)
       (of_rank-append n _ _ (tree_part n rules name Exact name exact fits)
       (of_rank-append n _ _ (tree_part n rules name Folded small folded fits) (glob_part n rules name))))
-      ∙ places-twice n (of_rank n (hits rules name)) (of_rank-ranked n (hits rules name) hits-fit))
-      ∙ kept-by_rank
+      ∙ places-twice n (of_rank n (hits rules name)) (of_rank-ranked n (hits rules name) hits-fit)

@@ -4,10 +4,11 @@ use Rattle.mime_base.specs.Cache.Bytes.{Stands}
 use Rattle.mime_base.specs.Format.SuffixTree.{SuffixTreeAt}
 use Rattle.mime_base.specs.Format.Tree.{InOrder, Tree, leaves_at}
 use Rattle.mime_base.specs.declared.database.rule.GlobRule.{GlobRule}
-use Rattle.mime_view.specs.Hits.{Offers, tree_hits}
+use Rattle.mime_view.specs.Gathered.{Offers, PlainHits}
+use Rattle.mime_view.specs.Hits.{tree_hits}
 use Rattle.mime_view.specs.SuffixTree.{admitted, below_character}
 use Rattle.mime_view.specs.declared.hits.Case.{Case}
-use Rattle.mime_view.proofs.HitsLemmas.Offers.{offers_none}
+use Rattle.mime_view.proofs.HitsLemmas.Gathering.{offers_none}
 use Rattle.mime_view.proofs.SuffixTreeLemmas.TreeBlocks.{below_character-past}
 use Rattle.mime_view.proofs.SuffixTreeLemmas.TreePaths.{path_left, path_next}
 use Rattle.mime_view.proofs.SuffixTreeLemmas.TreeStands.{along_name}
@@ -27,7 +28,7 @@ along_none (b ∷ bytes) tree none ordered =
     ∙ ap (λ (t : Tree). leaves_at [] t ++ leaves_along rest t) below ∙ leaves_along-bare rest
 
 -- so nothing is offered, and what was kept stays
-pub nothing_sought : (c : List ℕ) (at : ℕ) (case : Case) (rules : List GlobRule) (name : List ℕ) (h : List (ℕ × ℕ))
+pub nothing_sought : (c : List ℕ) (at : ℕ) (case : Case) (rules : List GlobRule) (name : List ℕ) (h : PlainHits)
     → get_or name (length name - 1) 0 ≡ 0 → SuffixTreeAt (Stands c) at rules → Offers c (tree_hits case name rules) h h
 nothing_sought c at case rules name h none stand =
     subst (λ (met : List GlobRule). Offers c (admitted case met) h h)

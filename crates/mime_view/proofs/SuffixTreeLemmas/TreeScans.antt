@@ -7,7 +7,8 @@ use Rattle.std.proofs.lemmas.List.Elements.{All-head, All-tail, filter-append}
 use Rattle.mime_base.specs.Cache.Bytes.{field}
 use Rattle.mime_base.specs.Format.Tree.{InOrder, Tree, bare, leaf, leaves_at, node, sibling_count}
 use Rattle.mime_base.specs.declared.database.rule.GlobRule.{GlobRule}
-use Rattle.mime_view.specs.Hits.{Offers, takes_rule, visits}
+use Rattle.mime_view.specs.Gathered.{Offers}
+use Rattle.mime_view.specs.Hits.{takes_rule, visits}
 use Rattle.mime_view.specs.Steps.{FindsRules}
 use Rattle.mime_view.specs.SuffixTree.{IsSuffixRule, ReadsLeaf, ReadsTree, admitted, scan_visits}
 use Rattle.mime_view.specs.declared.fault.CacheFault.{CacheFault}

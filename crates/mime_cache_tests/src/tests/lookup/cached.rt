@@ -4,10 +4,10 @@
 mod cut;
 mod hostile;
 mod many;
+mod name_alone;
 mod names;
 mod orders;
 mod readers;
-mod wanted;
 
 use super::{Outcome, outcome_of};
 use crate::tests::checked::alike;

@@ -78,7 +78,7 @@ static ROWS: [Row; 12] = [
 ];
 
 /// Whether the rules of a database are those at these places of another.
-fn are_at(database: &Database, all: &Database, places: &[usize]) -> bool {
+pub fn are_at(database: &Database, all: &Database, places: &[usize]) -> bool {
     let mut same = database.rules.len() == places.len();
     for (rule, place) in database.rules.iter().zip(places) {
         same &= match all.rules.get(*place) {

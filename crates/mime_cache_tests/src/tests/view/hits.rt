@@ -5,24 +5,28 @@
 
 use crate::tests::checked::alike;
 use crate::tests::sample::SAMPLE;
+use crate::tests::texts::{EMPTY, Texts, merged};
 use mime_base::{Counted, Meter};
-use mime_view::{Budget, Cache, CacheFault, Texts};
+use mime_store::write_cache;
+use mime_view::{Budget, Cache, CacheFault, NameHits, Which};
 use std::alloc::Global;
+use std::test::Fail;
 
-/// The types of a name by these bytes, and how many records are left.
+/// The types of the rules of a name that are asked for by these bytes, and how many records are left.
 fn hits<'a>(
     alloc: Global,
     bytes: &'a [u8],
     name: &[u8],
+    which: Which,
     records_left: &mut u64,
-) -> Result<Texts<'a>, CacheFault> {
+) -> Result<NameHits<'a>, CacheFault> {
     if name.len() > 4096 {
         return Err(CacheFault::TooLarge);
     }
     let mut meter = Meter::new();
     let cache = Cache::open(Counted::new(bytes), &mut meter)?;
     let mut budget = Budget::of(&cache);
-    let hits = cache.glob_hits(alloc, name, &mut meter, &mut budget);
+    let hits = cache.glob_hits(alloc, name, which, &mut meter, &mut budget);
     *records_left = budget.records;
     hits
 }
@@ -35,10 +39,10 @@ fn a_tree_that_loops(rt: HostRuntime) -> Result<(), CacheFault> {
     bytes[107] = 0x60;
     let name = [b'z'; 31];
     let mut records_left = 60;
-    let given = hits(alloc, &bytes, &name[..30], &mut records_left)?;
-    let count = given.as_slice().len();
+    let given = hits(alloc, &bytes, &name[..30], Which::Kept, &mut records_left)?;
+    let count = given.kinds.as_slice().len();
     alike(&rt, "30 characters", (count, records_left), (0, 0));
-    let refused = hits(alloc, &bytes, &name, &mut records_left);
+    let refused = hits(alloc, &bytes, &name, Which::Kept, &mut records_left);
     alike(&rt, "31 characters", refused.err(), Some(CacheFault::Spent));
     alike(&rt, "31 characters", records_left, 0);
     Ok(())
@@ -52,7 +56,7 @@ fn a_type_of_many_bytes(rt: HostRuntime) -> Result<(), CacheFault> {
     bytes[..240].copy_from_slice(&SAMPLE);
     bytes[136..140].copy_from_slice(&[0, 0, 0, 240]);
     let mut records_left = 0;
-    let long = hits(alloc, &bytes, b"A.GZ", &mut records_left);
+    let long = hits(alloc, &bytes, b"A.GZ", Which::Kept, &mut records_left);
     alike(
         &rt,
         "256 bytes",
@@ -60,11 +64,11 @@ fn a_type_of_many_bytes(rt: HostRuntime) -> Result<(), CacheFault> {
         Some(CacheFault::LongText(240)),
     );
     bytes[495] = 0;
-    let given = hits(alloc, &bytes, b"A.GZ", &mut records_left)?;
+    let given = hits(alloc, &bytes, b"A.GZ", Which::Candidates, &mut records_left)?;
     alike(
         &rt,
         "255 bytes",
-        given.as_slice(),
+        given.kinds.as_slice(),
         &[[b'a'; 255].as_slice()],
     );
     Ok(())
@@ -75,9 +79,50 @@ fn a_type_of_many_bytes(rt: HostRuntime) -> Result<(), CacheFault> {
 fn a_sample_that_is_cut(rt: HostRuntime) {
     for size in 40..233 {
         let mut records_left = 0;
-        let cut = hits(rt.alloc(), &SAMPLE[..size], b"b.gz", &mut records_left);
+        let cut = hits(
+            rt.alloc(),
+            &SAMPLE[..size],
+            b"b.gz",
+            Which::Candidates,
+            &mut records_left,
+        );
         let at = if size < 88 { 72 } else { 232 };
         let fault = CacheFault::OutOfRange(at);
         alike(&rt, "cut", (size, cut.err()), (size, Some(fault)));
     }
+}
+
+/// Rules of three ranks; the list of literals, the tree and the glob list have one or two each.
+const RANKS: Texts<'static> = Texts {
+    globs2: b"50:t/star:m*\n40:t/light:*.gz\n50:t/name:m.gz\n50:t/one:*.gz\n50:t/two:*.GZ\n",
+    ..EMPTY
+};
+
+/// All rules that match come by falling rank, those of one rank as they are merged, and the kept ones first.
+#[test]
+fn by_falling_rank(rt: HostRuntime) -> Result<(), Fail> {
+    let alloc = rt.alloc();
+    let cache = write_cache(alloc, &merged(alloc, &[RANKS])?, usize::MAX)?;
+    let rows: [(&[u8], &[&[u8]], usize); 3] = [
+        (
+            b"m.gz",
+            &[b"t/name", b"t/one", b"t/two", b"t/light", b"t/star"],
+            1,
+        ),
+        (b"x.gz", &[b"t/one", b"t/two", b"t/light"], 2),
+        (b"x", &[], 0),
+    ];
+    for (name, kinds, kept) in rows {
+        let mut records_left = 0;
+        let all = hits(alloc, &cache, name, Which::Candidates, &mut records_left)?;
+        alike(&rt, "all", (all.kinds.as_slice(), all.kept), (kinds, kept));
+        let best = hits(alloc, &cache, name, Which::Kept, &mut records_left)?;
+        alike(
+            &rt,
+            "kept",
+            (best.kinds.as_slice(), best.kept),
+            (&kinds[..kept], kept),
+        );
+    }
+    Ok(())
 }

@@ -8,8 +8,8 @@ use Rattle.mime_lookup.proofs.lists.choose.Goals as goal
 
 pub returns-clause-chosen : goal.returns-clause-chosen
 returns-clause-chosen c =
-    let some : 0 < length c.args.kept.now = grind (arith, eqb-false) in
+    let some : 0 < length c.args.kinds.now = grind (arith, eqb-false) in
     IfOk-weaker c.first_of.result _ _
     (λ kind first. chooses-from_first (pairs_of (plain_database c.args.database.now)) (λ (text : Bor (List ℕ)). text.now)
-    c.args.sniffed.now c.args.kept.now kind.now _ some first)
+    c.args.sniffed.now c.args.kinds.now kind.now _ some first)
     c.first_of.ensures.first

@@ -1,5 +1,5 @@
 use Rattle.std.proofs.Common.{◌∙◌, ap}
-use Rattle.mime_request.specs.CommandLine.{with_looks, with_output}
+use Rattle.mime_request.specs.CommandLine.{with_looks, with_output, with_subjects}
 use Rattle.mime_request.proofs.CommandLemmas.AddedRules.{with_one_more}
 use Rattle.mime_request.proofs.command.type_command.Goals as goal
 
@@ -8,4 +8,4 @@ returns-clause-app c =
     let one = c.in_ok-command-2.ensures.app ∙ ap with_looks c.in_ok-command.ensures.app in
     let two = with_one_more _ _ _ _ _ (c.in_ok-command-3.ensures.shape c.flag.ensures.local) one c.flag.ensures.rule in
     let three = c.in_ok-command-4.ensures.app ∙ ap with_output two in
-    with_one_more _ _ _ _ _ (c.in_ok-command-5.ensures.shape c.files.ensures.local) three c.files.ensures.rule
+    c.in_ok-command-5.ensures.app ∙ ap with_subjects three

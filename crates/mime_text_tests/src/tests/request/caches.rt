@@ -14,16 +14,21 @@ struct Asked {
     request: &'static str,
 }
 
-static USERS: [Asked; 2] = [
+static USERS: [Asked; 3] = [
     Asked {
         name: "build of the user's directories",
         words: &["build", "-o", "c"],
-        request: r#"Build { directories: User, file: "c" }"#,
+        request: r#"Build { directories: User, drop_twins: false, file: "c" }"#,
+    },
+    Asked {
+        name: "build without twins of the user's directories",
+        words: &["build", "--drop-twins", "-o", "c"],
+        request: r#"Build { directories: User, drop_twins: true, file: "c" }"#,
     },
     Asked {
         name: "plain of the user's directories",
         words: &["plain", "--name-only", "x"],
-        request: r#"Plain { directories: User, options: Options { name_only: true, content_only: false, magic_first: false, cost: false, output: Output { null: false, brief: false, escape: false } }, files: ["x"] }"#,
+        request: r#"Plain { directories: User, options: Options { name_only: true, content_only: false, magic_first: false, all_globs: false, cost: false, output: Output { null: false, brief: false, escape: false } }, files: ["x"] }"#,
     },
 ];
 
@@ -136,71 +141,76 @@ static ICONS: [Asked; 5] = [
     },
 ];
 
-static TYPES: [Asked; 19] = [
+static TYPES: [Asked; 20] = [
     Asked {
         name: "zero bytes and TYPE alone",
         words: &["type", "-0b", "-c", "c", "x"],
-        request: r#"Type { source: Cache("c"), options: Options { name_only: false, content_only: false, magic_first: false, cost: false, output: Output { null: true, brief: true, escape: false } }, files: ["x"] }"#,
+        request: r#"Type { source: Cache("c"), options: Options { name_only: false, content_only: false, magic_first: false, all_globs: false, cost: false, output: Output { null: true, brief: true, escape: false } }, files: ["x"] }"#,
     },
     Asked {
         name: "the same in long",
         words: &["type", "-c", "c", "--brief", "--null", "x"],
-        request: r#"Type { source: Cache("c"), options: Options { name_only: false, content_only: false, magic_first: false, cost: false, output: Output { null: true, brief: true, escape: false } }, files: ["x"] }"#,
+        request: r#"Type { source: Cache("c"), options: Options { name_only: false, content_only: false, magic_first: false, all_globs: false, cost: false, output: Output { null: true, brief: true, escape: false } }, files: ["x"] }"#,
     },
     Asked {
         name: "escapes and cost",
         words: &["type", "--escape", "-c", "c", "--cost", "x"],
-        request: r#"Type { source: Cache("c"), options: Options { name_only: false, content_only: false, magic_first: false, cost: true, output: Output { null: false, brief: false, escape: true } }, files: ["x"] }"#,
+        request: r#"Type { source: Cache("c"), options: Options { name_only: false, content_only: false, magic_first: false, all_globs: false, cost: true, output: Output { null: false, brief: false, escape: true } }, files: ["x"] }"#,
     },
     Asked {
         name: "escapes and TYPE alone",
         words: &["plain", "-d", "", "-b", "--escape", "x"],
-        request: r#"Plain { directories: Named([]), options: Options { name_only: false, content_only: false, magic_first: false, cost: false, output: Output { null: false, brief: true, escape: true } }, files: ["x"] }"#,
+        request: r#"Plain { directories: Named([]), options: Options { name_only: false, content_only: false, magic_first: false, all_globs: false, cost: false, output: Output { null: false, brief: true, escape: true } }, files: ["x"] }"#,
     },
     Asked {
         name: "no source",
         words: &["type", "x"],
-        request: r#"Type { source: Directories(User), options: Options { name_only: false, content_only: false, magic_first: false, cost: false, output: Output { null: false, brief: false, escape: false } }, files: ["x"] }"#,
+        request: r#"Type { source: Directories(User), options: Options { name_only: false, content_only: false, magic_first: false, all_globs: false, cost: false, output: Output { null: false, brief: false, escape: false } }, files: ["x"] }"#,
     },
     Asked {
         name: "DIRS",
         words: &["type", "-d", "a", "--cost", "x"],
-        request: r#"Type { source: Directories(Named(["a"])), options: Options { name_only: false, content_only: false, magic_first: false, cost: true, output: Output { null: false, brief: false, escape: false } }, files: ["x"] }"#,
+        request: r#"Type { source: Directories(Named(["a"])), options: Options { name_only: false, content_only: false, magic_first: false, all_globs: false, cost: true, output: Output { null: false, brief: false, escape: false } }, files: ["x"] }"#,
     },
     Asked {
         name: "CACHE in long",
         words: &["type", "--cache", "c", "x"],
-        request: r#"Type { source: Cache("c"), options: Options { name_only: false, content_only: false, magic_first: false, cost: false, output: Output { null: false, brief: false, escape: false } }, files: ["x"] }"#,
+        request: r#"Type { source: Cache("c"), options: Options { name_only: false, content_only: false, magic_first: false, all_globs: false, cost: false, output: Output { null: false, brief: false, escape: false } }, files: ["x"] }"#,
     },
     Asked {
         name: "no flag",
         words: &["type", "-c", "c", "x", "y"],
-        request: r#"Type { source: Cache("c"), options: Options { name_only: false, content_only: false, magic_first: false, cost: false, output: Output { null: false, brief: false, escape: false } }, files: ["x", "y"] }"#,
+        request: r#"Type { source: Cache("c"), options: Options { name_only: false, content_only: false, magic_first: false, all_globs: false, cost: false, output: Output { null: false, brief: false, escape: false } }, files: ["x", "y"] }"#,
     },
     Asked {
         name: "names alone",
         words: &["type", "-c", "c", "--name-only", "x"],
-        request: r#"Type { source: Cache("c"), options: Options { name_only: true, content_only: false, magic_first: false, cost: false, output: Output { null: false, brief: false, escape: false } }, files: ["x"] }"#,
+        request: r#"Type { source: Cache("c"), options: Options { name_only: true, content_only: false, magic_first: false, all_globs: false, cost: false, output: Output { null: false, brief: false, escape: false } }, files: ["x"] }"#,
     },
     Asked {
         name: "contents alone",
         words: &["type", "--content-only", "-c", "c", "--cost", "x"],
-        request: r#"Type { source: Cache("c"), options: Options { name_only: false, content_only: true, magic_first: false, cost: true, output: Output { null: false, brief: false, escape: false } }, files: ["x"] }"#,
+        request: r#"Type { source: Cache("c"), options: Options { name_only: false, content_only: true, magic_first: false, all_globs: false, cost: true, output: Output { null: false, brief: false, escape: false } }, files: ["x"] }"#,
     },
     Asked {
         name: "contents alone by text files",
         words: &["plain", "-d", "a", "x", "--content-only"],
-        request: r#"Plain { directories: Named(["a"]), options: Options { name_only: false, content_only: true, magic_first: false, cost: false, output: Output { null: false, brief: false, escape: false } }, files: ["x"] }"#,
+        request: r#"Plain { directories: Named(["a"]), options: Options { name_only: false, content_only: true, magic_first: false, all_globs: false, cost: false, output: Output { null: false, brief: false, escape: false } }, files: ["x"] }"#,
     },
     Asked {
         name: "cost",
         words: &["type", "-c", "c", "--cost", "x"],
-        request: r#"Type { source: Cache("c"), options: Options { name_only: false, content_only: false, magic_first: false, cost: true, output: Output { null: false, brief: false, escape: false } }, files: ["x"] }"#,
+        request: r#"Type { source: Cache("c"), options: Options { name_only: false, content_only: false, magic_first: false, all_globs: false, cost: true, output: Output { null: false, brief: false, escape: false } }, files: ["x"] }"#,
     },
     Asked {
         name: "magic first",
         words: &["type", "-c", "c", "--magic-first", "x"],
-        request: r#"Type { source: Cache("c"), options: Options { name_only: false, content_only: false, magic_first: true, cost: false, output: Output { null: false, brief: false, escape: false } }, files: ["x"] }"#,
+        request: r#"Type { source: Cache("c"), options: Options { name_only: false, content_only: false, magic_first: true, all_globs: false, cost: false, output: Output { null: false, brief: false, escape: false } }, files: ["x"] }"#,
+    },
+    Asked {
+        name: "all globs",
+        words: &["type", "-c", "c", "--all-globs", "x"],
+        request: r#"Type { source: Cache("c"), options: Options { name_only: false, content_only: false, magic_first: false, all_globs: true, cost: false, output: Output { null: false, brief: false, escape: false } }, files: ["x"] }"#,
     },
     Asked {
         name: "all flags",
@@ -213,7 +223,7 @@ static TYPES: [Asked; 19] = [
             "--magic-first",
             "x",
         ],
-        request: r#"Type { source: Cache("c"), options: Options { name_only: true, content_only: false, magic_first: true, cost: true, output: Output { null: false, brief: false, escape: false } }, files: ["x"] }"#,
+        request: r#"Type { source: Cache("c"), options: Options { name_only: true, content_only: false, magic_first: true, all_globs: false, cost: true, output: Output { null: false, brief: false, escape: false } }, files: ["x"] }"#,
     },
     Asked {
         name: "flags the other way round",
@@ -226,27 +236,27 @@ static TYPES: [Asked; 19] = [
             "c",
             "x",
         ],
-        request: r#"Type { source: Cache("c"), options: Options { name_only: true, content_only: false, magic_first: true, cost: true, output: Output { null: false, brief: false, escape: false } }, files: ["x"] }"#,
+        request: r#"Type { source: Cache("c"), options: Options { name_only: true, content_only: false, magic_first: true, all_globs: false, cost: true, output: Output { null: false, brief: false, escape: false } }, files: ["x"] }"#,
     },
     Asked {
         name: "options last",
         words: &["type", "x", "y", "--cost", "-cc/d"],
-        request: r#"Type { source: Cache("c/d"), options: Options { name_only: false, content_only: false, magic_first: false, cost: true, output: Output { null: false, brief: false, escape: false } }, files: ["x", "y"] }"#,
+        request: r#"Type { source: Cache("c/d"), options: Options { name_only: false, content_only: false, magic_first: false, all_globs: false, cost: true, output: Output { null: false, brief: false, escape: false } }, files: ["x", "y"] }"#,
     },
     Asked {
         name: "hyphens",
         words: &["type", "-c", "c", "--", "-x", "--"],
-        request: r#"Type { source: Cache("c"), options: Options { name_only: false, content_only: false, magic_first: false, cost: false, output: Output { null: false, brief: false, escape: false } }, files: ["-x", "--"] }"#,
+        request: r#"Type { source: Cache("c"), options: Options { name_only: false, content_only: false, magic_first: false, all_globs: false, cost: false, output: Output { null: false, brief: false, escape: false } }, files: ["-x", "--"] }"#,
     },
     Asked {
         name: "command's name",
         words: &["type", "-c", "type", "type"],
-        request: r#"Type { source: Cache("type"), options: Options { name_only: false, content_only: false, magic_first: false, cost: false, output: Output { null: false, brief: false, escape: false } }, files: ["type"] }"#,
+        request: r#"Type { source: Cache("type"), options: Options { name_only: false, content_only: false, magic_first: false, all_globs: false, cost: false, output: Output { null: false, brief: false, escape: false } }, files: ["type"] }"#,
     },
     Asked {
         name: "empty FILE",
         words: &["type", "-c", "c", ""],
-        request: r#"Type { source: Cache("c"), options: Options { name_only: false, content_only: false, magic_first: false, cost: false, output: Output { null: false, brief: false, escape: false } }, files: [""] }"#,
+        request: r#"Type { source: Cache("c"), options: Options { name_only: false, content_only: false, magic_first: false, all_globs: false, cost: false, output: Output { null: false, brief: false, escape: false } }, files: [""] }"#,
     },
 ];
 

@@ -29,7 +29,7 @@ struct Help {
     first_line: &'static str,
 }
 
-static HELPS: [Help; 10] = [
+static HELPS: [Help; 12] = [
     Help {
         name: "help",
         words: &["--help"],
@@ -44,6 +44,16 @@ static HELPS: [Help; 10] = [
         name: "help before version",
         words: &["--help", "--version"],
         first_line: OF_MIMELOOK,
+    },
+    Help {
+        name: "help as a command",
+        words: &["help"],
+        first_line: OF_MIMELOOK,
+    },
+    Help {
+        name: "help before a command",
+        words: &["help", "isa"],
+        first_line: OF_IS_A,
     },
     Help {
         name: "help of plain",

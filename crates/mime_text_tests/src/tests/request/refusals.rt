@@ -18,7 +18,7 @@ struct Refused {
     kind: ErrorKind,
 }
 
-static REFUSED: [Refused; 28] = [
+static REFUSED: [Refused; 31] = [
     Refused {
         name: "escapes with zero bytes",
         words: &["plain", "--escape", "-0", "x"],
@@ -45,6 +45,16 @@ static REFUSED: [Refused; 28] = [
         kind: ErrorKind::ArgumentConflict,
     },
     Refused {
+        name: "contents alone and all globs",
+        words: &["type", "--all-globs", "--content-only", "x"],
+        kind: ErrorKind::ArgumentConflict,
+    },
+    Refused {
+        name: "two orders",
+        words: &["plain", "--magic-first", "--all-globs", "x"],
+        kind: ErrorKind::ArgumentConflict,
+    },
+    Refused {
         name: "a short flag and its long one",
         words: &["plain", "-0", "--null", "x"],
         kind: ErrorKind::ArgumentConflict,
@@ -60,9 +70,14 @@ static REFUSED: [Refused; 28] = [
         kind: ErrorKind::InvalidSubcommand,
     },
     Refused {
-        name: "help as a command",
-        words: &["help"],
+        name: "help of an unknown command",
+        words: &["help", "sniff"],
         kind: ErrorKind::InvalidSubcommand,
+    },
+    Refused {
+        name: "short version of isa",
+        words: &["isa", "-V"],
+        kind: ErrorKind::DisplayVersion,
     },
     Refused {
         name: "version",
@@ -77,7 +92,7 @@ static REFUSED: [Refused; 28] = [
     Refused {
         name: "version of plain",
         words: &["plain", "--version"],
-        kind: ErrorKind::UnknownArgument,
+        kind: ErrorKind::DisplayVersion,
     },
     Refused {
         name: "no FILE",
@@ -192,7 +207,8 @@ error: unexpected argument '--names' found
   tip: a similar argument exists: '--name-only'
 
 Usage: mimelook plain [-d DIRS] [--name-only | --content-only]
-                      [--magic-first] [-0] [-b] [--escape] FILE...
+                      [--magic-first | --all-globs] [--inode] [-0] [-b]
+                      [--escape] {FILE... | --stdin NAME}
 
 For more information, try '--help'.
 ";

@@ -9,57 +9,87 @@ struct Built {
     name: &'static str,
     words: &'static [&'static str],
     directories: &'static [&'static str],
+    drop_twins: bool,
     file: &'static str,
 }
 
-static BUILT: [Built; 8] = [
+static BUILT: [Built; 11] = [
     Built {
         name: "long names",
         words: &["build", "--output", "c", "--data-dirs=b:a"],
         directories: &["b", "a"],
+        drop_twins: false,
         file: "c",
     },
     Built {
         name: "two directories",
         words: &["build", "-d", "b:a", "-o", "c"],
         directories: &["b", "a"],
+        drop_twins: false,
         file: "c",
     },
     Built {
         name: "no directory",
         words: &["build", "-d", "", "-o", "c"],
         directories: &[],
+        drop_twins: false,
         file: "c",
     },
     Built {
         name: "output first",
         words: &["build", "-o", "c", "-d", "a"],
         directories: &["a"],
+        drop_twins: false,
         file: "c",
     },
     Built {
         name: "values in the options' words",
         words: &["build", "-da:b", "-oc/d"],
         directories: &["a", "b"],
+        drop_twins: false,
         file: "c/d",
     },
     Built {
         name: "colon in FILE",
         words: &["build", "-d", "a", "-o", "c:d"],
         directories: &["a"],
+        drop_twins: false,
         file: "c:d",
     },
     Built {
         name: "empty FILE",
         words: &["build", "-d", "a", "-o", ""],
         directories: &["a"],
+        drop_twins: false,
         file: "",
     },
     Built {
         name: "command's name",
         words: &["build", "-d", "build", "-o", "build"],
         directories: &["build"],
+        drop_twins: false,
         file: "build",
+    },
+    Built {
+        name: "no twins",
+        words: &["build", "--drop-twins", "-d", "a", "-o", "c"],
+        directories: &["a"],
+        drop_twins: true,
+        file: "c",
+    },
+    Built {
+        name: "no twins, said between",
+        words: &["build", "-o", "c", "--drop-twins", "-d", "a"],
+        directories: &["a"],
+        drop_twins: true,
+        file: "c",
+    },
+    Built {
+        name: "no twins, said last",
+        words: &["build", "-o", "c", "-d", "a", "--drop-twins"],
+        directories: &["a"],
+        drop_twins: true,
+        file: "c",
     },
 ];
 
@@ -74,8 +104,14 @@ fn are_named(directories: &Directories<'_>, wanted: &[&str]) -> bool {
 /// Whether a request is the one of a row.
 fn is_built(row: &Built, request: &Request<'_>) -> bool {
     match request {
-        Request::Build { directories, file } => {
-            are_named(directories, row.directories) && *file == row.file
+        Request::Build {
+            directories,
+            drop_twins,
+            file,
+        } => {
+            are_named(directories, row.directories)
+                && *drop_twins == row.drop_twins
+                && *file == row.file
         }
         _ => false,
     }

@@ -17,6 +17,7 @@ Commands:
   isa    Prints yes where TYPE is BASE or is derived from it, and else no
   icon   Prints the icon and the generic icon of a type
   type   Prints FILE: TYPE for each FILE, by a cache
+  help   Print this message or the help of the given subcommand(s)
 
 Options:
   -h, --help     Print help
@@ -45,22 +46,28 @@ Examples:
 const BUILD_HELP: &str = "\
 Writes a mime.cache from the text files of data directories
 
-Usage: mimelook build [-d DIRS] -o FILE
+Usage: mimelook build [-d DIRS] [--drop-twins] -o FILE
 
 Options:
   -d, --data-dirs <DIRS>  Data directories, most preferred first, with colons
                           between them, such as /usr/local/share:/usr/share; an
                           empty part is skipped
+      --drop-twins        Leave out each rule without cs where one with cs has
+                          the same weight, type and pattern
   -o, --output <FILE>     The cache to write; it is written as FILE.new and then
                           renamed
   -h, --help              Print help
+  -V, --version           Print version
 
 Messages go to standard error. The files are DIR/mime/globs2, magic, aliases,
 subclasses, icons and generic-icons; a missing one counts as empty. Without -d
 the directories are the user's (see mimelook --help).
+globs2 gives each rule with cs a twin without it, by which CORE and A.GS have a
+type. With --drop-twins they have none, since GLib, Qt and xdgmime read caches
+that have no twins.
 
 Exit status:
-  0  FILE was written; or help was printed
+  0  FILE was written; or help or the version was printed
   2  the command line is wrong, or a word of it is not UTF-8
   3  the data can't be read or is refused, the database is too large, or FILE
      can't be written
@@ -74,10 +81,11 @@ const PLAIN_HELP: &str = "\
 Prints FILE: TYPE for each FILE, with no cache between
 
 Usage: mimelook plain [-d DIRS] [--name-only | --content-only]
-                      [--magic-first] [-0] [-b] [--escape] FILE...
+                      [--magic-first | --all-globs] [--inode] [-0] [-b]
+                      [--escape] {FILE... | --stdin NAME}
 
 Arguments:
-  <FILE>...  The files to tell the types of; put -- before one that begins
+  [FILE]...  The files to tell the types of; put -- before one that begins
              with -
 
 Options:
@@ -86,24 +94,32 @@ Options:
                           empty part is skipped
       --name-only         Go by the names alone: no FILE is opened
       --content-only      Go by the contents alone: no name is looked at; not with
-                          --magic-first
+                          --magic-first or --all-globs
       --magic-first       Let content of high priority (80 or more) decide
                           before names
+      --all-globs         Let content choose among all patterns that match, not
+                          among the preferred ones alone; not with --magic-first
+      --inode             Print inode/directory, chardevice, blockdevice, fifo or
+                          socket for what is no regular file, and inode/symlink
+                          for a link that leads nowhere; none of them is opened
   -0, --null              Print a zero byte after FILE and one after TYPE, in
                           place of a colon and a newline
   -b, --brief             Print TYPE alone
       --escape            In FILE and TYPE, write the bytes below 32, 127 and \\
                           as \\ and three octal digits
+      --stdin <NAME>      Look up standard input, by the name NAME, in place of
+                          FILEs; no more of it is read than is needed
   -h, --help              Print help
+  -V, --version           Print version
 
 Messages go to standard error. The files are DIR/mime/globs2, magic, aliases,
 subclasses, icons and generic-icons; a missing one counts as empty. Without -d
 the directories are the user's (see mimelook --help).
 A FILE that is a pipe can't be opened, nor one whose name is not UTF-8, which
-has a type by --name-only.
+has a type by --name-only; a pipe has one by --inode.
 
 Exit status:
-  0  every FILE was answered; or help was printed
+  0  every FILE was answered; or help or the version was printed
   1  some FILE can't be opened or read, or its name is too long (above 4096
      bytes); the others were answered
   2  the command line is wrong, or a word but a FILE is not UTF-8
@@ -117,7 +133,7 @@ Example:
 
 const VERSION: &str = "mimelook 1.0.0\n";
 
-static HELPS: [Row<'static>; 6] = [
+static HELPS: [Row<'static>; 10] = [
     Row {
         name: "help",
         words: &["--help"],
@@ -140,6 +156,30 @@ static HELPS: [Row<'static>; 6] = [
         name: "version in short",
         words: &["-V"],
         out: VERSION,
+        ..PRINTED
+    },
+    Row {
+        name: "version of a command",
+        words: &["type", "--version"],
+        out: VERSION,
+        ..PRINTED
+    },
+    Row {
+        name: "version of a command in short",
+        words: &["plain", "-V"],
+        out: VERSION,
+        ..PRINTED
+    },
+    Row {
+        name: "help as a command",
+        words: &["help"],
+        out: HELP,
+        ..PRINTED
+    },
+    Row {
+        name: "help before a command",
+        words: &["help", "plain"],
+        out: PLAIN_HELP,
         ..PRINTED
     },
     Row {

@@ -7,7 +7,7 @@ use std::test::Fail;
 
 const NO_COMMAND: &str = "\
 error: 'mimelook' requires a subcommand but one was not provided
-  [subcommands: build, plain, list, isa, icon, type]
+  [subcommands: build, plain, list, isa, icon, type, help]
 
 Usage: mimelook <COMMAND>
 
@@ -15,7 +15,7 @@ For more information, try '--help'.
 ";
 
 const UNKNOWN_COMMAND: &str = "\
-error: unrecognized subcommand 'help'
+error: unrecognized subcommand 'sniff'
 
 Usage: mimelook <COMMAND>
 
@@ -26,17 +26,15 @@ const NO_OUTPUT: &str = "\
 error: the following required arguments were not provided:
   --output <FILE>
 
-Usage: mimelook build [-d DIRS] -o FILE
+Usage: mimelook build [-d DIRS] [--drop-twins] -o FILE
 
 For more information, try '--help'.
 ";
 
 const NO_FILE: &str = "\
-error: the following required arguments were not provided:
-  <FILE>...
+error: give a FILE or --stdin NAME
 
-Usage: mimelook plain [-d DIRS] [--name-only | --content-only]
-                      [--magic-first] [-0] [-b] [--escape] FILE...
+Usage: mimelook <COMMAND>
 
 For more information, try '--help'.
 ";
@@ -51,7 +49,8 @@ const OPTION_TWICE: &str = "\
 error: the argument '--data-dirs <DIRS>' cannot be used multiple times
 
 Usage: mimelook plain [-d DIRS] [--name-only | --content-only]
-                      [--magic-first] [-0] [-b] [--escape] FILE...
+                      [--magic-first | --all-globs] [--inode] [-0] [-b]
+                      [--escape] {FILE... | --stdin NAME}
 
 For more information, try '--help'.
 ";
@@ -62,12 +61,21 @@ error: unexpected argument '--cost' found
   tip: to pass '--cost' as a value, use '-- --cost'
 
 Usage: mimelook plain [-d DIRS] [--name-only | --content-only]
-                      [--magic-first] [-0] [-b] [--escape] FILE...
+                      [--magic-first | --all-globs] [--inode] [-0] [-b]
+                      [--escape] {FILE... | --stdin NAME}
 
 For more information, try '--help'.
 ";
 
-static MISTAKES: [Row<'static>; 8] = [
+const FILE_AND_INPUT: &str = "\
+error: give FILEs or --stdin NAME, not both
+
+Usage: mimelook <COMMAND>
+
+For more information, try '--help'.
+";
+
+static MISTAKES: [Row<'static>; 11] = [
     Row {
         name: "no command",
         words: &[],
@@ -76,7 +84,13 @@ static MISTAKES: [Row<'static>; 8] = [
     },
     Row {
         name: "unknown command",
-        words: &["help"],
+        words: &["sniff", "x"],
+        err: UNKNOWN_COMMAND,
+        ..SAID
+    },
+    Row {
+        name: "help of an unknown command",
+        words: &["help", "sniff"],
         err: UNKNOWN_COMMAND,
         ..SAID
     },
@@ -96,6 +110,18 @@ static MISTAKES: [Row<'static>; 8] = [
         name: "no FILE",
         words: &["plain", "--name-only", "-d", ""],
         err: NO_FILE,
+        ..SAID
+    },
+    Row {
+        name: "a FILE and standard input",
+        words: &["plain", "a", "--stdin", "b"],
+        err: FILE_AND_INPUT,
+        ..SAID
+    },
+    Row {
+        name: "a FILE after an empty NAME",
+        words: &["type", "--stdin", "", "a"],
+        err: FILE_AND_INPUT,
         ..SAID
     },
     Row {

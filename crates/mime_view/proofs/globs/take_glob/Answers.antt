@@ -1,7 +1,7 @@
 use Rattle.std.proofs.Common.{arith, rules, length, refl, sym, ◌∙◌}
 use Rattle.mime_base.specs.Kept.{class_of}
-use Rattle.mime_view.proofs.GlobLemmas.GlobEntries.{entry_spends, entry_states, offers_match, offers_other, offers_unwanted, text_short}
-use Rattle.mime_view.proofs.HitsLemmas.Offers.{kept_unwanted}
+use Rattle.mime_view.proofs.GlobLemmas.GlobEntries.{entry_spends, entry_states, offers_either, offers_match, offers_other, text_short}
+use Rattle.mime_view.proofs.HitsLemmas.Gathering.{offers_unwanted}
 use Rattle.mime_view.proofs.globs.take_glob.Goals as goal
 
 pub rank_of_entry-requires : goal.rank_of_entry-requires
@@ -33,8 +33,8 @@ returns-then-not-wants-2-clause-finds c = λ rule reads.
           let states = entry_states c.args.query.now.counted.now c.args.at c.args.query.now.key.now rule c.in_ok-pattern.pattern.now
           (class_of c.in_ok-pattern.pattern.now) c.cards_within.result c.from.result c.cards_within.ensures.numbers c.from.ensures
           c.in_ok-pattern.ensures.text refl fits reads in
-          offers_unwanted c.args.query.now.counted.now c.args.query.now.key.now rule c.args.progress.now.hits
-          (kept_unwanted c.args.query.now.counted.now c.args.progress.now.hits rule c.rank_of_entry.result (c.rank_of_entry.ensures ∙ states.its_rank)
+          offers_either c.args.query.now.counted.now c.args.query.now.key.now rule c.args.progress.now.hits
+          (offers_unwanted c.args.query.now.counted.now c.args.progress.now.hits rule c.rank_of_entry.result (c.rank_of_entry.ensures ∙ states.its_rank)
           (sym c.wants-then-not-wants.ensures ∙ c.if-not-wants-2.true));
       need = search rules;
       most = omega (arith, c.in_ok-take_record.ensures.taken);

@@ -5,7 +5,7 @@ use Rattle.mime_base.specs.Cache.Bytes.{field}
 use Rattle.mime_view.specs.Hits.{literal_visits, visits}
 use Rattle.mime_view.proofs.LiteralLemmas.LiteralEntries.{texts_of}
 use Rattle.mime_view.proofs.LiteralLemmas.LiteralPlaces.{placed_by, searched, some_visits, unmet, unmet_visits}
-use Rattle.mime_view.proofs.HitsLemmas.Offers.{offers_none}
+use Rattle.mime_view.proofs.HitsLemmas.Gathering.{offers_none}
 use Rattle.mime_view.proofs.HitsLemmas.Steps.{finds_within}
 use Rattle.mime_view.proofs.literals.literal_hits.Goals as goal
 

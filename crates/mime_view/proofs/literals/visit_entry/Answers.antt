@@ -5,7 +5,7 @@ use Rattle.mime_base.specs.Cache.Texts.{text_at}
 use Rattle.mime_base.specs.Format.Stored.{stored_text}
 use Rattle.mime_view.proofs.LiteralLemmas.LiteralEntries.{length-pattern}
 use Rattle.mime_view.proofs.SearchLemmas.Lookups.{equal_texts, other_texts}
-use Rattle.mime_view.proofs.HitsLemmas.Offers.{offers_none}
+use Rattle.mime_view.proofs.HitsLemmas.Gathering.{offers_none}
 use Rattle.mime_view.proofs.literals.visit_entry.Goals as goal
 
 pub returns-in_ok-offer_entry-in-Equal-clause-same : goal.returns-in_ok-offer_entry-in-Equal-clause-same

@@ -1,4 +1,4 @@
-use Rattle.std.proofs.Common.{◌+◌, ◌*◌, arith, inl, length}
+use Rattle.std.proofs.Common.{◌+◌, ◌*◌, ap, arith, inl, length}
 use Rattle.std.specs.Prelude.{⊤}
 use Rattle.mime_base.specs.Database.{pairs_of}
 use Rattle.mime_lookup.specs.Cached.{cause_of, plain_finding}
@@ -15,38 +15,38 @@ use Rattle.mime_lookup.proofs.StopLemmas.StepStops.{passed_on, stops_for, stops_
 use Rattle.mime_lookup.proofs.CostLemmas.UsedUp.{globs_spent}
 use Rattle.mime_lookup.proofs.cached.by_content.by_globs.Goals as goal
 
-pub returns-in_err-kept-clause-stops : goal.returns-in_err-kept-clause-stops
-returns-in_err-kept-clause-stops c =
-    let keep = c.in_err-kept in
-    passed_on _ keep.field-0.0 c.from_residual.result c.from_residual.ensures.1
-    (stops_for c.args.cache.now _ _ _ keep.field-0.0 (of_globs c.keep.new.spending.budget keep.ensures.fault)
-    (λ same. inl (globs_spent c.args.cache.now c.keep.new.spending.budget keep.field-0.0 keep.ensures.fault same))
-    (λ b enough. (keep.ensures.gives b (suffices_globs c.args.cache.now c.args.name.now ⊤ b GlobsFirst enough.0)).given.need
+pub returns-in_err-types-clause-stops : goal.returns-in_err-types-clause-stops
+returns-in_err-types-clause-stops c =
+    let types = c.in_err-types in
+    passed_on _ types.field-0.0 c.from_residual.result c.from_residual.ensures.1
+    (stops_for c.args.cache.now _ _ _ types.field-0.0 (of_globs c.types_of.new.spending.budget types.ensures.fault)
+    (λ same. inl (globs_spent c.args.cache.now c.types_of.new.spending.budget types.field-0.0 types.ensures.fault same))
+    (λ b enough. (types.ensures.gives b (suffices_globs c.args.cache.now c.args.name.now ⊤ b GlobsFirst enough.0)).given.need
     (omega (arith, enough.1))))
 
-pub returns-in_err-kept-clause-cost : goal.returns-in_err-kept-clause-cost
-returns-in_err-kept-clause-cost c =
-    costs_wider _ _ (glob_cost (length c.args.name.now) + 29) c.in_err-kept.ensures.cost.alone (omega arith) (omega arith) (omega arith)
+pub returns-in_err-types-clause-cost : goal.returns-in_err-types-clause-cost
+returns-in_err-types-clause-cost c =
+    costs_wider _ _ (glob_cost (length c.args.name.now) + 29) c.in_err-types.ensures.cost.alone (omega arith) (omega arith) (omega arith)
 
 pub returns-in-One-clause-chosen : goal.returns-in-One-clause-chosen
 returns-in-One-clause-chosen c b enough =
     let globs = suffices_globs c.args.cache.now c.args.name.now ⊤ b GlobsFirst enough in
-    let is = rw c.in-One.is at (c.in_ok-kept.ensures.gives b globs).given.answer in
+    let is = rw c.in-One.is at (c.in_ok-types.ensures.gives b globs).given.answer in
     rw is.1 (one_type_chosen (pairs_of b) (kept (pairs_of b) b.rules c.args.name.now)
     (resolved_finding b.aliases (plain_finding c.args.finding)) is.0)
 
 pub returns-in-One-clause-kind : goal.returns-in-One-clause-kind
-returns-in-One-clause-kind c = inl (rw c.in-One.is at c.in_ok-kept.ensures.text)
+returns-in-One-clause-kind c = inl (rw c.in-One.is at c.in_ok-types.ensures.text)
 
 pub returns-in-One-clause-near : goal.returns-in-One-clause-near
-returns-in-One-clause-near c b globs decide = omega (arith, (c.in_ok-kept.ensures.gives b globs).near)
+returns-in-One-clause-near c b globs decide = omega (arith, (c.in_ok-types.ensures.gives b globs).near)
 
 pub returns-in-One-clause-cost : goal.returns-in-One-clause-cost
 returns-in-One-clause-cost c =
-    costs_wider _ _ (glob_cost (length c.args.name.now) + 29) c.in_ok-kept.ensures.cost.alone (omega arith) (omega arith) (omega arith)
+    costs_wider _ _ (glob_cost (length c.args.name.now) + 29) c.in_ok-types.ensures.cost.alone (omega arith) (omega arith) (omega arith)
 
 pub choose-requires-clause-texts : goal.choose-requires-clause-texts
-choose-requires-clause-texts c = rw c.as_slice.ensures (rw c.in-Others.is at c.in_ok-kept.ensures.text)
+choose-requires-clause-texts c = rw c.as_slice.ensures (rw c.in-Others.is at c.in_ok-types.ensures.text).0
 
 pub returns-in_err-kind-in-Others-clause-stops : goal.returns-in_err-kind-in-Others-clause-stops
 returns-in_err-kind-in-Others-clause-stops c =
@@ -56,16 +56,16 @@ returns-in_err-kind-in-Others-clause-stops c =
     (stops_then c.args.cache.now (cause_of c.in_err-kind-in-Others.field-0.0) choose (λ used. used)
     (λ b enough.
     let globs = suffices_globs c.args.cache.now c.args.name.now ⊤ b GlobsFirst enough.0 in
-    let is = rw c.in-Others.is at (c.in_ok-kept.ensures.gives b globs).given.answer in (
+    let is = rw c.in-Others.is at (c.in_ok-types.ensures.gives b globs).given.answer in (
       suffices_choice c.args.cache.now c.args.name.now ⊤ b c.in-Others.kinds is.1 is.0 enough.0,
-      omega (arith, enough.1, (c.in_ok-kept.ensures.gives b globs).given.most),
+      omega (arith, enough.1, (c.in_ok-types.ensures.gives b globs).given.most),
     ))
     (λ b enough read. read))
 
 pub returns-in_err-kind-in-Others-clause-cost : goal.returns-in_err-kind-in-Others-clause-cost
 returns-in_err-kind-in-Others-clause-cost c =
     let name = length c.args.name.now in
-    costs_owed (glob_cost name + 29) (rw c.in-Others.is at c.in_ok-kept.ensures.cost)
+    costs_owed (glob_cost name + 29) (rw c.in-Others.is at c.in_ok-types.ensures.cost)
     (costs_wider (record_cost name) 0 (29 + 29 * length c.in-Others.kinds) (rw c.as_slice.ensures at c.in_err-kind-in-Others.ensures.cost) (omega arith) (omega arith)
     (omega arith))
     (omega arith)
@@ -73,21 +73,21 @@ returns-in_err-kind-in-Others-clause-cost c =
 pub returns-in_ok-kind-in-Others-clause-chosen : goal.returns-in_ok-kind-in-Others-clause-chosen
 returns-in_ok-kind-in-Others-clause-chosen c b enough =
     let globs = suffices_globs c.args.cache.now c.args.name.now ⊤ b GlobsFirst enough in
-    let is = rw c.in-Others.is at (c.in_ok-kept.ensures.gives b globs).given.answer in
+    let is = rw c.in-Others.is at (c.in_ok-types.ensures.gives b globs).given.answer in
     rw (← is.1) ((rw c.as_slice.ensures at c.in_ok-kind-in-Others.ensures.chosen) b
     (suffices_choice c.args.cache.now c.args.name.now ⊤ b c.in-Others.kinds is.1 is.0 enough))
 
 pub returns-in_ok-kind-in-Others-clause-near : goal.returns-in_ok-kind-in-Others-clause-near
 returns-in_ok-kind-in-Others-clause-near c b globs decide =
-    let is = rw c.in-Others.is at (c.in_ok-kept.ensures.gives b globs).given.answer in
-    let none = none_kept b c.args.name.now GlobsFirst ⊤ c.in-Others.kinds is.1 is.0 decide in
-    let choose = (rw c.as_slice.ensures at c.in_ok-kind-in-Others.ensures.alone) none.0 in
-    omega (arith, choose.looks.most_nodes, (c.in_ok-kept.ensures.gives b globs).near)
+    let is = rw c.in-Others.is at (c.in_ok-types.ensures.gives b globs).given.answer in
+    let none = none_kept b c.args.name.now ⊤ c.in-Others.kinds is.1 is.0 decide in
+    let choose = (rw c.as_slice.ensures at c.in_ok-kind-in-Others.ensures.alone) (omega (arith, ap length none.0)) in
+    omega (arith, choose.looks.most_nodes, (c.in_ok-types.ensures.gives b globs).near)
 
 pub returns-in_ok-kind-in-Others-clause-cost : goal.returns-in_ok-kind-in-Others-clause-cost
 returns-in_ok-kind-in-Others-clause-cost c =
     let name = length c.args.name.now in
-    costs_owed (glob_cost name + 29) (rw c.in-Others.is at c.in_ok-kept.ensures.cost)
+    costs_owed (glob_cost name + 29) (rw c.in-Others.is at c.in_ok-types.ensures.cost)
     (costs_wider (record_cost name) 0 (29 + 29 * length c.in-Others.kinds) (rw c.as_slice.ensures at c.in_ok-kind-in-Others.ensures.cost) (omega arith) (omega arith)
     (omega arith))
     (omega arith)

@@ -1,4 +1,4 @@
-use Rattle.std.proofs.Common.{◌≡◌, ◌<◌, ◌+◌, ◌*◌, ℕ, List, [], length, inl, inr, arith}
+use Rattle.std.proofs.Common.{◌≡◌, ◌<◌, ◌+◌, ◌*◌, ℕ, List, length, inl, inr, arith}
 use Rattle.std.proofs.lemmas.Bool.{eqb-false, eqb-true}
 use Rattle.std.proofs.lemmas.List.{length-map}
 use denote.Bor.{Bor}
@@ -10,7 +10,6 @@ use Rattle.mime_lookup.specs.Searching.{search_cost}
 use Rattle.mime_lookup.proofs.OrderLemmas.ByContents.{choice_aliases}
 use Rattle.mime_lookup.proofs.OrderLemmas.Choices.{chooses-found, chooses-from_found, one_of}
 use Rattle.mime_lookup.proofs.CostLemmas.Costs.{costs_looks, costs_then, costs_wider}
-use Rattle.mime_lookup.proofs.OrderLemmas.KeptTypes.{texts_count}
 use Rattle.mime_lookup.proofs.LookUpLemmas.KindTexts.{chosen_kind, kind_short}
 use Rattle.mime_lookup.proofs.StopLemmas.StepStops.{choice_fault, passed_on, stops_for}
 use Rattle.mime_lookup.proofs.CostLemmas.UsedUp.{choice_spent}
@@ -24,24 +23,24 @@ returns-in_err-base-clause-stops c =
     (stops_for c.args.cache.now _ _ _ base.field-0.0 (choice_fault c.args.cache.now left base.field-0.0 (inl base.ensures.fault))
     (λ same. inl (choice_spent c.args.cache.now left base.field-0.0 (inl base.ensures.fault) same))
     (λ b enough.
-    let aliases = choice_aliases c.args.cache.now (kinds_of c.args.kept.now) b enough.0 in
+    let aliases = choice_aliases c.args.cache.now (kinds_of c.args.kinds.now) b enough.0 in
     absurd (base.ensures.answer b aliases.0 aliases.1.0 aliases.1.1)))
 
 pub returns-in_err-base-clause-cost : goal.returns-in_err-base-clause-cost
 returns-in_err-base-clause-cost c =
-    costs_wider _ _ (29 + 29 * length (kinds_of c.args.kept.now)) (costs_looks search_cost 0 c.in_err-base.ensures.cost) (omega arith) (omega arith)
+    costs_wider _ _ (29 + 29 * length (kinds_of c.args.kinds.now)) (costs_looks search_cost 0 c.in_err-base.ensures.cost) (omega arith) (omega arith)
     (omega arith)
 
 pub returns-then-is_empty-clause-chosen : goal.returns-then-is_empty-clause-chosen
 returns-then-is_empty-clause-chosen c b enough =
-    let none : length c.args.kept.now ≡ 0 = grind (arith, eqb-true) in
-    let aliases = choice_aliases c.args.cache.now (kinds_of c.args.kept.now) b enough in
-    chooses-found (pairs_of b) c.in_ok-base.base.now (resolved_finding b.aliases (plain_finding c.args.finding)) c.args.kept.now
+    let none : length c.args.kinds.now ≡ 0 = grind (arith, eqb-true) in
+    let aliases = choice_aliases c.args.cache.now (kinds_of c.args.kinds.now) b enough in
+    chooses-found (pairs_of b) c.in_ok-base.base.now (resolved_finding b.aliases (plain_finding c.args.finding)) c.args.kinds.now
     (c.in_ok-base.ensures.answer b aliases.0 aliases.1.0 aliases.1.1) none
 
 pub returns-then-is_empty-clause-cost : goal.returns-then-is_empty-clause-cost
 returns-then-is_empty-clause-cost c =
-    costs_wider _ _ (29 + 29 * length (kinds_of c.args.kept.now)) (costs_looks search_cost 0 c.in_ok-base.ensures.cost) (omega arith) (omega arith)
+    costs_wider _ _ (29 + 29 * length (kinds_of c.args.kinds.now)) (costs_looks search_cost 0 c.in_ok-base.ensures.cost) (omega arith) (omega arith)
     (omega arith)
 
 pub first_of-requires : goal.first_of-requires
@@ -49,7 +48,8 @@ first_of-requires c = record { base = omega (arith, kind_short c.args.cache.now 
 
 pub returns-in_err-kind-clause-stops : goal.returns-in_err-kind-clause-stops
 returns-in_err-kind-clause-stops c =
-    let some : 0 < length c.args.kept.now = grind (arith, eqb-false) in
+    let some : 0 < length c.args.kinds.now = grind (arith, eqb-false) in
+    let other = c.if-kinds-eq1.false in
     let search = c.in_err-kind in
     let left = c.first_of.new.spending.budget in
     passed_on _ search.field-0.0 c.from_residual-in_err-kind.result c.from_residual-in_err-kind.ensures.1
@@ -57,41 +57,45 @@ returns-in_err-kind-clause-stops c =
     (λ same. inl (choice_spent c.args.cache.now left search.field-0.0 (inr search.ensures.fault) same))
     (λ b enough. elim enough.0 [
       | inl pairs ↦ search.ensures.need b pairs (rw c.in_ok-base.ensures.cost.budget enough.1)
-      | inr none ↦ absurd (omega (arith, some, texts_count c.args.kept.now [] none.0))
+      | inr few ↦ absurd (omega (arith, some, other, length-map c.args.kinds.now (λ (text : Bor (List ℕ)). text.now), few.0))
     ]))
 
 pub returns-in_err-kind-clause-alone : goal.returns-in_err-kind-clause-alone
-returns-in_err-kind-clause-alone c none =
-    let some : 0 < length c.args.kept.now = grind (arith, eqb-false) in
-    absurd (omega (arith, some, texts_count c.args.kept.now [] none))
+returns-in_err-kind-clause-alone c few =
+    let some : 0 < length c.args.kinds.now = grind (arith, eqb-false) in
+    let other = c.if-kinds-eq1.false in
+    absurd (omega (arith, some, other, length-map c.args.kinds.now (λ (text : Bor (List ℕ)). text.now), few))
 
 pub returns-in_err-kind-clause-cost : goal.returns-in_err-kind-clause-cost
 returns-in_err-kind-clause-cost c =
     costs_then _ (costs_looks search_cost 0 c.in_ok-base.ensures.cost) c.in_err-kind.ensures.cost
-    (omega (arith, length-map c.args.kept.now (λ (text : Bor (List ℕ)). text.now)))
+    (omega (arith, length-map c.args.kinds.now (λ (text : Bor (List ℕ)). text.now)))
 
 pub returns-clause-chosen : goal.returns-clause-chosen
 returns-clause-chosen c b enough =
-    let some : 0 < length c.args.kept.now = grind (arith, eqb-false) in
+    let some : 0 < length c.args.kinds.now = grind (arith, eqb-false) in
+    let other = c.if-kinds-eq1.false in
     elim enough [
       | inl pairs ↦ chooses-from_found (pairs_of b) c.in_ok-base.base.now (resolved_finding b.aliases (plain_finding c.args.finding))
-          c.args.kept.now _ c.in_ok-kind.kind.now (c.in_ok-base.ensures.answer b pairs.offsets pairs.header pairs.aliases) some
+          c.args.kinds.now _ c.in_ok-kind.kind.now (c.in_ok-base.ensures.answer b pairs.offsets pairs.header pairs.aliases) some
           (c.in_ok-kind.ensures.answer b pairs)
-      | inr none ↦ absurd (omega (arith, some, texts_count c.args.kept.now [] none.0))
+      | inr few ↦ absurd (omega (arith, some, other, length-map c.args.kinds.now (λ (text : Bor (List ℕ)). text.now), few.0))
     ]
 
 pub returns-clause-kind : goal.returns-clause-kind
 returns-clause-kind c =
-    let some : 0 < length c.args.kept.now = grind (arith, eqb-false) in
+    let some : 0 < length c.args.kinds.now = grind (arith, eqb-false) in
+    let other = c.if-kinds-eq1.false in
     chosen_kind c.args.cache.now c.in_ok-kind.kind.now _ c.requires.texts
-    (inr (one_of c.args.kept.now _ c.in_ok-kind.kind.now some c.in_ok-kind.ensures.one))
+    (inr (one_of c.args.kinds.now _ c.in_ok-kind.kind.now some c.in_ok-kind.ensures.one))
 
 pub returns-clause-alone : goal.returns-clause-alone
-returns-clause-alone c none =
-    let some : 0 < length c.args.kept.now = grind (arith, eqb-false) in
-    absurd (omega (arith, some, texts_count c.args.kept.now [] none))
+returns-clause-alone c few =
+    let some : 0 < length c.args.kinds.now = grind (arith, eqb-false) in
+    let other = c.if-kinds-eq1.false in
+    absurd (omega (arith, some, other, length-map c.args.kinds.now (λ (text : Bor (List ℕ)). text.now), few))
 
 pub returns-clause-cost : goal.returns-clause-cost
 returns-clause-cost c =
     costs_then _ (costs_looks search_cost 0 c.in_ok-base.ensures.cost) c.in_ok-kind.ensures.cost
-    (omega (arith, length-map c.args.kept.now (λ (text : Bor (List ℕ)). text.now)))
+    (omega (arith, length-map c.args.kinds.now (λ (text : Bor (List ℕ)). text.now)))

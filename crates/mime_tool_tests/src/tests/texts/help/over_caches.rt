@@ -14,13 +14,14 @@ Options:
                           between them, such as /usr/local/share:/usr/share; an
                           empty part is skipped
   -h, --help              Print help
+  -V, --version           Print version
 
 Messages go to standard error. A line ends in :cs where the rule is
 case-sensitive. With -d the cache is made of DIRS, as build makes it; without -c
 and -d, of the user's data directories (see mimelook --help).
 
 Exit status:
-  0  every rule was printed; or help was printed
+  0  every rule was printed; or help or the version was printed
   2  the command line is wrong, or a word of it is not UTF-8
   3  the data can't be read or is refused, or the output can't be written
   4  out of memory
@@ -45,6 +46,7 @@ Options:
                           between them, such as /usr/local/share:/usr/share; an
                           empty part is skipped
   -h, --help              Print help
+  -V, --version           Print version
 
 Messages go to standard error. TYPE is BASE where they are the same type, or a
 parent of TYPE is BASE. Any text type is text/plain, and any type but those of
@@ -53,7 +55,7 @@ cache is made of DIRS, as build makes it; without -c and -d, of the user's data
 directories (see mimelook --help).
 
 Exit status:
-  0  yes was printed; or help was printed
+  0  yes was printed; or help or the version was printed
   1  no was printed
   2  the command line is wrong, a word of it is not UTF-8, or TYPE or BASE is no
      type
@@ -79,6 +81,7 @@ Options:
                           between them, such as /usr/local/share:/usr/share; an
                           empty part is skipped
   -h, --help              Print help
+  -V, --version           Print version
 
 Messages go to standard error. Where the cache names no icon, it is TYPE with -
 in place of /; the generic one is then the part before the / and -x-generic.
@@ -86,7 +89,7 @@ TYPE may be an alias. With -d the cache is made of DIRS, as build makes it;
 without -c and -d, of the user's data directories (see mimelook --help).
 
 Exit status:
-  0  both were printed; or help was printed
+  0  both were printed; or help or the version was printed
   2  the command line is wrong, a word of it is not UTF-8, or TYPE is no type
   3  the data can't be read or is refused, or the output can't be written
   4  out of memory
@@ -101,10 +104,11 @@ const TYPE_HELP: &str = "\
 Prints FILE: TYPE for each FILE, by a cache
 
 Usage: mimelook type [-c CACHE | -d DIRS] [--name-only | --content-only]
-                     [--magic-first] [--cost] [-0] [-b] [--escape] FILE...
+                     [--magic-first | --all-globs] [--inode] [--cost] [-0] [-b]
+                     [--escape] {FILE... | --stdin NAME}
 
 Arguments:
-  <FILE>...  The files to tell the types of; put -- before one that begins
+  [FILE]...  The files to tell the types of; put -- before one that begins
              with -
 
 Options:
@@ -114,9 +118,14 @@ Options:
                           empty part is skipped
       --name-only         Go by the names alone: no FILE is opened
       --content-only      Go by the contents alone: no name is looked at; not with
-                          --magic-first
+                          --magic-first or --all-globs
       --magic-first       Let content of high priority (80 or more) decide
                           before names
+      --all-globs         Let content choose among all patterns that match, not
+                          among the preferred ones alone; not with --magic-first
+      --inode             Print inode/directory, chardevice, blockdevice, fifo or
+                          socket for what is no regular file, and inode/symlink
+                          for a link that leads nowhere; none of them is opened
       --cost              Print behind each TYPE what the answer cost: nodes=N,
                           records of the cache that were visited; bytes=B, bytes
                           that were read or compared; read=R, bytes of FILE that
@@ -126,15 +135,18 @@ Options:
   -b, --brief             Print TYPE alone
       --escape            In FILE and TYPE, write the bytes below 32, 127 and \\
                           as \\ and three octal digits
+      --stdin <NAME>      Look up standard input, by the name NAME, in place of
+                          FILEs; no more of it is read than is needed
   -h, --help              Print help
+  -V, --version           Print version
 
 Messages go to standard error. With -d the cache is made of DIRS, as build makes
 it; without -c and -d, of the user's data directories (see mimelook --help).
 A FILE that is a pipe can't be opened, nor one whose name is not UTF-8, which
-has a type by --name-only. A CACHE that is a pipe can't be read.
+has a type by --name-only; a pipe has one by --inode. A CACHE that is a pipe can't be read.
 
 Exit status:
-  0  every FILE was answered; or help was printed
+  0  every FILE was answered; or help or the version was printed
   1  some FILE can't be opened or read, or its name is too long (above 4096
      bytes); the others were answered
   2  the command line is wrong, or a word but a FILE is not UTF-8

@@ -62,21 +62,17 @@ For more information, try '--help'.
 ";
 
 const TYPE_ALONE: &str = "\
-error: the following required arguments were not provided:
-  <FILE>...
+error: give a FILE or --stdin NAME
 
-Usage: mimelook type [-c CACHE | -d DIRS] [--name-only | --content-only]
-                     [--magic-first] [--cost] [-0] [-b] [--escape] FILE...
+Usage: mimelook <COMMAND>
 
 For more information, try '--help'.
 ";
 
 const NO_FILE_OF_TYPE: &str = "\
-error: the following required arguments were not provided:
-  <FILE>...
+error: give a FILE or --stdin NAME
 
-Usage: mimelook type [-c CACHE | -d DIRS] [--name-only | --content-only]
-                     [--magic-first] [--cost] [-0] [-b] [--escape] FILE...
+Usage: mimelook <COMMAND>
 
 For more information, try '--help'.
 ";
@@ -85,7 +81,8 @@ const COST_TWICE: &str = "\
 error: the argument '--cost' cannot be used multiple times
 
 Usage: mimelook type [-c CACHE | -d DIRS] [--name-only | --content-only]
-                     [--magic-first] [--cost] [-0] [-b] [--escape] FILE...
+                     [--magic-first | --all-globs] [--inode] [--cost] [-0] [-b]
+                     [--escape] {FILE... | --stdin NAME}
 
 For more information, try '--help'.
 ";
@@ -107,14 +104,22 @@ For more information, try '--help'.
 ";
 
 const CONTENT_AND_ORDER: &str = "\
-error: give --content-only without --name-only and --magic-first
+error: give --content-only without --name-only, --magic-first and --all-globs
 
 Usage: mimelook <COMMAND>
 
 For more information, try '--help'.
 ";
 
-static MISTAKES: [Row<'static>; 15] = [
+const TWO_ORDERS: &str = "\
+error: give --magic-first or --all-globs, not both
+
+Usage: mimelook <COMMAND>
+
+For more information, try '--help'.
+";
+
+static MISTAKES: [Row<'static>; 17] = [
     Row {
         name: "escapes and zero bytes",
         words: &["type", "--escape", "--null", "-c", "c", "x"],
@@ -143,6 +148,18 @@ static MISTAKES: [Row<'static>; 15] = [
         name: "contents alone and magic first",
         words: &["plain", "--magic-first", "--content-only", "x"],
         err: CONTENT_AND_ORDER,
+        ..SAID
+    },
+    Row {
+        name: "contents alone and all globs",
+        words: &["type", "--all-globs", "--content-only", "-c", "c", "x"],
+        err: CONTENT_AND_ORDER,
+        ..SAID
+    },
+    Row {
+        name: "two orders",
+        words: &["plain", "--all-globs", "--magic-first", "x"],
+        err: TWO_ORDERS,
         ..SAID
     },
     Row {

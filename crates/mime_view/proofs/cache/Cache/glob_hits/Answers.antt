@@ -12,7 +12,7 @@ returns-clause-gives c = λ rules spells.
     let stand = rules_named c.args.self.now c.self.inside.counted _ rules c.self.view_is
     (ap (λ (ns : List ℕ). get_or ns 3 0) number) (ap (λ (ns : List ℕ). get_or ns 4 0) number)
     (ap (λ (ns : List ℕ). get_or ns 5 0) number) spells in
-    let found = c.glob_hits-kinds.ensures.found rules stand in
+    let found = c.glob_hits-hits.ensures.found rules stand in
     let within = visits_within rules c.args.name.now in
     let nearly = visits_near rules c.args.name.now in
     record {
@@ -26,7 +26,8 @@ returns-clause-gives c = λ rules spells.
 pub returns-clause-texts : goal.returns-clause-texts
 returns-clause-texts c = record {
   text =
-      subst (λ (bytes : List ℕ). IfOk c.glob_hits-kinds.result (λ kinds. All (λ kind. (at : ℕ) × (text_at bytes at ≡ Ok kind)) kinds))
-      c.self.view_is c.glob_hits-kinds.ensures.gives.text;
-  count = c.glob_hits-kinds.ensures.gives.count;
+      subst (λ (bytes : List ℕ). IfOk c.glob_hits-hits.result (λ hits. All (λ kind. (at : ℕ) × (text_at bytes at ≡ Ok kind)) hits.kinds))
+      c.self.view_is c.glob_hits-hits.ensures.gives.text;
+  count = c.glob_hits-hits.ensures.gives.count;
+  front = c.glob_hits-hits.ensures.gives.front;
 }

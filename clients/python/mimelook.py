@@ -1,0 +1,303 @@
+"""The MIME types of files, by the library libmimelook over the bytes of a mime.cache.
+
+    >>> import mimelook
+    >>> types = mimelook.Cache.merged(["/usr/local/share", "/usr/share"])
+    >>> types.type_of("notes.txt")
+    'text/plain'
+    >>> types.type_of_file("/tmp/photo")
+    'image/jpeg'
+
+A cache may be any bytes: a call answers or raises a Fault, in steps that are bounded by the lengths of the cache and the content.
+Nothing is kept between calls and each lets other threads run, so threads may ask one Cache at once. A name is that of a file alone,
+with no folder, as str or bytes. A type is a str; where a hostile cache has bytes that are no UTF-8, they are surrogates, as in the names
+of files. The library is found as any other, or where the environment has its path in MIMELOOK_LIBRARY.
+"""
+from __future__ import annotations
+
+import errno
+import os
+import stat
+from collections.abc import Callable, Sequence
+from ctypes import CDLL, POINTER, Structure, addressof, byref, create_string_buffer, string_at
+from ctypes import c_bool, c_char_p, c_size_t, c_uint16, c_uint32, c_uint64, c_void_p
+from enum import IntEnum
+from typing import Any, NamedTuple, Optional, Union
+
+Name = Union[str, bytes]
+Path = Union[str, bytes, "os.PathLike[str]", "os.PathLike[bytes]"]
+
+
+class Order(IntEnum):
+    """What is asked first of a file's name and its content."""
+
+    GLOBS_FIRST = 0  #: the specification's: the rules that match the name best, and the content where these leave it open
+    MAGIC_FIRST = 1  #: a content of priority 80 or more before the name
+    ALL_GLOBS = 2  #: all rules that match, among whose types the content chooses, unless they are one type
+
+
+class Status(IntEnum):
+    """Why a call gave no answer: the numbers of enum mimelook_status."""
+
+    NAME_TOO_LONG = 1
+    OUT_OF_MEMORY = 2
+    NOT_A_TYPE = 3
+    SHORT_BUFFER = 4
+    TRUNCATED = 5
+    VERSION = 6
+    TOO_LARGE = 7
+    OUT_OF_RANGE = 8
+    LONG_TEXT = 9
+    SPENT = 10
+    TOO_DEEP = 11
+    UNKNOWN_ORDER = 12
+    BAD_MAGIC = 13
+
+
+class Fault(Exception):
+    """A call that gave no answer."""
+
+    def __init__(self, status: int, offset: int = 0, directory: Optional[Path] = None) -> None:
+        super().__init__(status, offset, directory)
+        #: one of Status
+        self.status = status
+        #: bytes from the front of the cache or, where there is a directory, of its `magic`; 0 where the status has no place
+        self.offset = offset
+        #: the data directory whose `magic` is refused, else None
+        self.directory = directory
+
+    def __str__(self) -> str:
+        where = "" if self.directory is None else f"{os.fsdecode(self.directory)}: "
+        return f"{where}{_library.mimelook_status_text(self.status).decode()}" + (f" (offset {self.offset})" if self.offset else "")
+
+
+class Answer(NamedTuple):
+    """A type, and how many bytes of a content a lookup of the name reads at most: 0 where the type is final."""
+
+    type: str
+    wanted: int
+
+
+class Sniffed(NamedTuple):
+    """The type of a content alone, and the priority of the section of magic that holds; 0 where none does."""
+
+    type: str
+    priority: int
+    holds: bool
+
+
+class Icons(NamedTuple):
+    """The names of a type's icon and of the icon of those like it."""
+
+    icon: str
+    generic: str
+
+
+class Cache:
+    """A cache, from its bytes."""
+
+    def __init__(self, data: bytes) -> None:
+        """Raises a Fault where the bytes can't be opened as a cache."""
+        self._data = bytes(data)
+        self._ask(_library.mimelook_check)
+
+    @classmethod
+    def open(cls, path: Path) -> Cache:
+        """The cache in a file, such as /usr/share/mime/mime.cache."""
+        with open(path, "rb") as file:
+            return cls(file.read())
+
+    @classmethod
+    def merged(cls, directories: Sequence[Path]) -> Cache:
+        """The cache of the text files of data directories such as /usr/share, most preferred first; what is missing is empty."""
+        texts = [_texts_of(directory) for directory in directories]
+        slices = (_Directory * len(texts))(*(_Directory(*(_Slice(*_bytes(text)) for text in each)) for each in texts))
+        room, length = 2 * sum(len(text) for each in texts for text in each), c_size_t()
+        while True:
+            cache = create_string_buffer(room)
+            report = _library.mimelook_merge(slices, len(slices), cache, room, byref(length))
+            if report.status != Status.SHORT_BUFFER:
+                break
+            room = length.value
+        if report.status:
+            raise Fault(report.status, report.at, directories[report.directory] if report.status == Status.BAD_MAGIC else None)
+        return cls(cache.raw[: length.value])
+
+    def look_up(self, name: Name, content: Optional[bytes] = None, order: int = Order.GLOBS_FIRST) -> Answer:
+        """The type of a name and a content, and how much of one is wanted; None is a content that is not available."""
+        found = _Answer(_Text.empty())
+        given = (None, 0) if content is None else _bytes(content)
+        self._ask(_library.mimelook_look_up, *_bytes(name), *given, order, byref(found))
+        return Answer(found.type.text(), found.wanted)
+
+    def type_of(self, name: Name, content: Optional[bytes] = None, order: int = Order.GLOBS_FIRST) -> str:
+        """The type of a name and a content; None is a content that is not available."""
+        return self.look_up(name, content, order).type
+
+    def type_of_file(self, path: Path, order: int = Order.GLOBS_FIRST) -> str:
+        """The type of a regular file, which is opened only where its name leaves the type open; an OSError where it can't be."""
+        name = os.path.basename(os.fsencode(path))
+        found = self.look_up(name, None, order)
+        return self.type_of(name, _front(path, found.wanted), order) if found.wanted else found.type
+
+    def sniff(self, content: bytes) -> Sniffed:
+        """The type of a content alone."""
+        found = _Sniffed(_Text.empty())
+        self._ask(_library.mimelook_sniff, *_bytes(content), byref(found))
+        return Sniffed(found.type.text(), found.priority, bool(found.holds))
+
+    def is_a(self, kind: Name, base: Name) -> bool:
+        """Whether a type is another or a subclass of it, aliases resolved."""
+        is_so = c_bool()
+        self._ask(_library.mimelook_is_a, *_bytes(kind), *_bytes(base), byref(is_so))
+        return is_so.value
+
+    def parents(self, kind: Name) -> list[str]:
+        """The types that a type is a subclass of, as the cache lists them."""
+        count, found = c_size_t(), (_Text * 0)()
+        while True:
+            self._ask(_library.mimelook_parents, *_bytes(kind), found, len(found), byref(count))
+            if count.value <= len(found):
+                return [text.text() for text in found[: count.value]]
+            found = (_Text * count.value)(*[_Text.empty()] * count.value)
+
+    def unalias(self, kind: Name) -> str:
+        """The type that a type is an alias of, else itself."""
+        found, given = _Text.empty(), _bytes(kind)
+        self._ask(_library.mimelook_unalias, *given, byref(found))
+        return found.text()
+
+    def icons(self, kind: Name) -> Icons:
+        """The names of a type's icons: those that the cache lists, else names that are made of the type."""
+        icon, generic, lengths = create_string_buffer(_ICON_ROOM), create_string_buffer(_ICON_ROOM), _IconLengths()
+        self._ask(_library.mimelook_icons, *_bytes(kind), icon, _ICON_ROOM, generic, _ICON_ROOM, byref(lengths))
+        return Icons(_text(icon.raw[: lengths.icon]), _text(generic.raw[: lengths.generic]))
+
+    def _ask(self, function: Callable[..., _Report], *words: Any) -> None:
+        _check(function(*_bytes(self._data), *words))
+
+
+def is_type_name(name: Name) -> bool:
+    """Whether this is the name of a type."""
+    return bool(_library.mimelook_is_type_name(*_bytes(name)))
+
+
+def version() -> str:
+    """The library's version."""
+    return str(_library.mimelook_version(), "ascii")
+
+
+class _Report(Structure):
+    _fields_ = [
+        ("status", c_uint32),
+        ("major", c_uint16),
+        ("minor", c_uint16),
+        ("at", c_uint64),
+        ("read", c_uint64),
+        ("nodes", c_uint64),
+        ("bytes", c_uint64),
+        ("spare", c_uint64 * 3),
+    ]
+
+
+class _Text(Structure):
+    _fields_ = [("at", c_void_p), ("length", c_size_t)]
+
+    @classmethod
+    def empty(cls) -> _Text:
+        return cls(addressof(_NOTHING), 0)
+
+    def text(self) -> str:
+        return _text(string_at(self.at, self.length))
+
+
+class _Answer(Structure):
+    _fields_ = [("type", _Text), ("wanted", c_uint64), ("spare", c_uint64 * 3)]
+
+
+class _Sniffed(Structure):
+    _fields_ = [("type", _Text), ("priority", c_uint32), ("holds", c_uint32), ("spare", c_uint64 * 3)]
+
+
+class _IconLengths(Structure):
+    _fields_ = [("icon", c_size_t), ("generic", c_size_t)]
+
+
+class _Slice(Structure):
+    _fields_ = [("at", c_char_p), ("length", c_size_t)]
+
+
+class _MergeReport(Structure):
+    _fields_ = [("status", c_uint32), ("fault", c_uint32), ("directory", c_uint64), ("at", c_uint64), ("spare", c_uint64 * 2)]
+
+
+_TEXT_FILES = ("globs2", "magic", "aliases", "subclasses", "icons", "generic-icons")
+
+
+class _Directory(Structure):
+    _fields_ = [(name.replace("-", "_"), _Slice) for name in _TEXT_FILES]
+
+
+_NOTHING = create_string_buffer(1)
+_ICON_ROOM = 265
+_BYTES = (c_char_p, c_size_t)
+_CALLS = {
+    "check": (),
+    "look_up": (*_BYTES, *_BYTES, c_uint32, POINTER(_Answer)),
+    "sniff": (*_BYTES, POINTER(_Sniffed)),
+    "is_a": (*_BYTES, *_BYTES, POINTER(c_bool)),
+    "parents": (*_BYTES, POINTER(_Text), c_size_t, POINTER(c_size_t)),
+    "unalias": (*_BYTES, POINTER(_Text)),
+    "icons": (*_BYTES, *_BYTES, *_BYTES, POINTER(_IconLengths)),
+}
+
+
+def _loaded() -> CDLL:
+    """The library with the types of its functions."""
+    library = CDLL(os.environ.get("MIMELOOK_LIBRARY") or "libmimelook.so.1")
+    for name, words in _CALLS.items():
+        function = getattr(library, f"mimelook_{name}")
+        function.argtypes, function.restype = (*_BYTES, *words), _Report
+    library.mimelook_merge.argtypes = (POINTER(_Directory), c_size_t, c_char_p, c_size_t, POINTER(c_size_t))
+    library.mimelook_merge.restype = _MergeReport
+    library.mimelook_is_type_name.argtypes, library.mimelook_is_type_name.restype = _BYTES, c_bool
+    library.mimelook_status_text.argtypes, library.mimelook_status_text.restype = (c_uint32,), c_char_p
+    library.mimelook_version.argtypes, library.mimelook_version.restype = (), c_char_p
+    return library
+
+
+def _bytes(given: Name) -> tuple[bytes, int]:
+    """What a function takes of a name or a content."""
+    encoded = given.encode("utf-8", "surrogateescape") if isinstance(given, str) else bytes(given)
+    return encoded, len(encoded)
+
+
+def _text(found: bytes) -> str:
+    return found.decode("utf-8", "surrogateescape")
+
+
+def _check(report: _Report) -> None:
+    if report.status:
+        raise Fault(report.status, report.at)
+
+
+def _front(path: Path, wanted: int) -> bytes:
+    """The first bytes of a regular file. Nothing else is opened, so no call waits for a writer."""
+    if not stat.S_ISREG(os.stat(path).st_mode):
+        raise OSError(errno.EINVAL, "not a regular file", path)
+    with open(path, "rb", buffering=0, opener=lambda name, flags: os.open(name, flags | os.O_NONBLOCK)) as file:
+        return file.read(min(wanted, os.fstat(file.fileno()).st_size))
+
+
+def _texts_of(directory: Path) -> list[bytes]:
+    """The text files of a data directory."""
+    texts = []
+    for name in _TEXT_FILES:
+        try:
+            with open(os.path.join(os.fsencode(directory), b"mime", name.encode()), "rb") as file:
+                texts.append(file.read())
+        except (FileNotFoundError, NotADirectoryError):
+            texts.append(b"")
+    return texts
+
+
+_library = _loaded()

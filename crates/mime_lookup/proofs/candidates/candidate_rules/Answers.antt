@@ -1,0 +1,43 @@
+use Rattle.std.proofs.Common.{◌≡◌, [], ◌∷◌, ◌++◌, map, take_all, true, false, ap, sym, ◌∙◌}
+use Rattle.std.proofs.lemmas.List.{map-append}
+use Rattle.std.proofs.lemmas.Result.{IfOk-weaker}
+use denote.Bor.{Bor}
+use Rattle.mime_base.specs.Falling.{falling}
+use Rattle.mime_base.specs.Kept.{candidate_rules, hits, rank_of_rule}
+use Rattle.mime_base.specs.Matching.Matches.{rule_matches}
+use Rattle.mime_base.specs.declared.database.rule.GlobRule.{GlobRule}
+use Rattle.mime_base.proofs.FallingLemmas.Order.{falling-map}
+use Rattle.mime_lookup.proofs.OrderLemmas.Hits.{hit_more, miss_more}
+use Rattle.mime_lookup.proofs.candidates.candidate_rules.Goals as goal
+use Rattle.mime_lookup.proofs.candidates.candidate_rules.Goals.{then-glob_matches+in_ok-push, else-glob_matches}
+
+pub loop-rule-preserved : goal.loop-rule-preserved
+loop-rule-preserved c =
+    let rules = c.args.rules.now in
+    let name = c.args.name.now in
+    let rule = c.rule-item.result in
+    let i = c.loop-rule.rule-index in
+    record {
+      found = elim c.if-glob_matches.branch [
+        | then-glob_matches+in_ok-push w ↦
+            (let hit : rule_matches rule.pattern rule.cased name ≡ true =
+            rw c.bytes.ensures.text at (sym c.glob_matches.ensures.answer ∙ w.if-glob_matches.true) in
+            rw (hit_more rules name i rule c.loop-rule-test.true c.rule-item.is hit, w.found-is, w.in_ok-push.ensures.items)
+            (map-append (λ (rule : Bor GlobRule). rule.now) c.loop-rule.found.items _ ∙ ap (λ front. front ++ rule ∷ []) c.loop-rule.invariant.found))
+        | else-glob_matches w ↦
+            (let miss : rule_matches rule.pattern rule.cased name ≡ false =
+            rw c.bytes.ensures.text at (sym c.glob_matches.ensures.answer ∙ w.if-glob_matches.false) in
+            rw (miss_more rules name i rule c.loop-rule-test.true c.rule-item.is miss, w.found-is) c.loop-rule.invariant.found)
+      ];
+      nodes = c.glob_matches.ensures.nodes ∙ c.loop-rule.invariant.nodes;
+    }
+
+pub returns-clause-candidates : goal.returns-clause-candidates
+unfolding candidate_rules
+returns-clause-candidates c =
+    let all = take_all c.loop-rule.rule-index c.args.rules.now c.loop-rule-test.false in
+    IfOk-weaker c.by_rank.result (λ sorted. sorted.items ≡ falling (λ rule. rank_of_rule rule.now) c.loop-rule.found.items)
+    (λ found. map (λ rule. rule.now) found.items ≡ falling rank_of_rule (hits c.args.rules.now c.args.name.now))
+    (λ sorted is. ap (map (λ (rule : Bor GlobRule). rule.now)) is
+    ∙ falling-map (λ (rule : Bor GlobRule). rule.now) rank_of_rule c.loop-rule.found.items
+    ∙ ap (falling rank_of_rule) (rw all at c.loop-rule.invariant.found)) c.by_rank.ensures

@@ -1,0 +1,9 @@
+use Rattle.std.proofs.Common.{◌≡◌, map, take}
+use Rattle.mime_base.specs.Kept.{hits}
+use Rattle.mime_lookup.proofs.candidates.candidate_rules.Given as goal
+
+abbrev pub invariant-loop-rule : goal.invariant-loop-rule
+invariant-loop-rule l = record {
+  found : map (λ rule. rule.now) l.found.items ≡ hits (take l.rule-index l.rules) l.name;
+  nodes : l.meter.nodes ≡ l.initial.meter.nodes;
+}

@@ -1,0 +1,51 @@
+-- What a content is sniffed as by itself over a cache of any bytes, with the priority of the section that holds.
+use Rattle.std.specs.Prelude.{◌≡◌, ℕ, ◌≤◌, max, List, length, Option, Some, option_map, Result, IfErr, IfOk, MatchResult}
+use Rattle.mime_base.specs.Database.{PlainDatabase}
+use Rattle.mime_base.specs.Format.Packed.{Packed}
+use Rattle.mime_base.specs.Magic.Holds.{first_magic}
+use Rattle.mime_base.specs.declared.magic.host.Host.{Host}
+use Rattle.mime_base.specs.declared.meter.Meter.{Meter}
+use Rattle.mime_lookup.specs.Asking.{StopsAsking}
+use Rattle.mime_lookup.specs.Bounds.{KeepsBounds, stated_extent}
+use Rattle.mime_lookup.specs.Cached.{IsKind}
+use Rattle.mime_lookup.specs.Sniffing.{sniffed}
+use Rattle.mime_lookup.specs.Spelling.{SpellsMagic}
+use Rattle.mime_lookup.specs.Spent.{UsesUp}
+use Rattle.mime_lookup.specs.StepFaults.{IsLookUpFault}
+use Rattle.mime_lookup.specs.declared.cached.content_alone.SniffedContent.{SniffedContent}
+use Rattle.mime_lookup.specs.declared.stopped.Cause.TheVariants as cause
+use Rattle.mime_lookup.specs.declared.stopped.Stopped.{Stopped}
+use Rattle.mime_view.specs.declared.fault.CacheFault.TheVariants.{Spent}
+
+-- the priority of the first section that holds for a content, if one does
+abbrev pub first_priority : PlainDatabase → List ℕ → Host → Option ℕ
+first_priority b content host = option_map (λ section. section.1) (first_magic b.sections content host)
+
+-- a type is what a content is sniffed as over a database, and a priority that of its first section that holds
+abbrev pub IsSniffedAs : PlainDatabase → List ℕ → Host → List ℕ → Option ℕ → Type 0
+IsSniffedAs b content host kind priority =
+    (kind ≡ sniffed b (Some content) host) × (priority ≡ first_priority b content host)
+
+-- What is looked at of a content, and what that costs.
+pub record LooksWithin (c content : List ℕ) (read : ℕ) (meter : Meter) : Type 0 where
+  -- No more is looked at than there is.
+  pub there : read ≤ length content
+  -- Nor more than 128 bytes or the extent that the cache states.
+  pub limit : read ≤ max 128 (stated_extent c)
+  -- The nodes and the bytes keep to the bounds of an empty name with so much content.
+  pub bounds : KeepsBounds 0 c read meter
+
+-- All that is promised of what a content is sniffed as.
+pub record IsSniffing (c content : List ℕ) (host : Host) (result : Result SniffedContent Stopped) : Type 0 where
+  -- Where magic and the aliases stand, the type and the priority are those of the whole content.
+  pub answer : (b : PlainDatabase) → SpellsMagic c b →
+      IfOk result (λ found. IsSniffedAs b content host found.kind.now found.priority)
+  -- On any bytes the type is a text of the cache, or fixed.
+  pub kind : IfOk result (λ found. IsKind c found.kind.now)
+  -- Where magic and the aliases of a packed database stand, only memory is refused.
+  pub stops : StopsAsking (λ stopped. stopped.cause) c (IsLookUpFault c) (λ b. SpellsMagic c b × Packed c b) result
+  -- It is spent only where what may be taken of the cache is used up.
+  pub spent : IfErr result (λ stopped. stopped.cause ≡ cause.Cache Spent → UsesUp c ⊥ stopped.meter.nodes)
+  -- Whatever the bytes are, no more is looked at than of a lookup.
+  pub within : MatchResult result
+      (λ found. LooksWithin c content found.read found.meter) (λ stopped. LooksWithin c content stopped.read stopped.meter)

@@ -1,0 +1,164 @@
+//! What a content is sniffed as by itself ("Recommended checking order").
+
+ghost use Rattle.std.specs.Prelude.{◌≡◌, ◌+◌, ◌≤◌, IfErr, IfOk, IsErrAnd, OnOk, length, max, take};
+ghost use Rattle.mime_base.specs.Database.{PlainDatabase};
+ghost use Rattle.mime_base.specs.Format.Packed.{Packed, value_length};
+ghost use Rattle.mime_lookup.specs.Affords.{magic_records};
+ghost use Rattle.mime_lookup.specs.Bounds.{stated_extent};
+ghost use Rattle.mime_lookup.specs.Cached.{IsKind, cause_of, plain_finding};
+ghost use Rattle.mime_lookup.specs.ContentAlone.{IsSniffedAs, IsSniffing, LooksWithin};
+ghost use Rattle.mime_lookup.specs.Costs.{Costs};
+ghost use Rattle.mime_lookup.specs.Finding.{priority_of};
+ghost use Rattle.mime_lookup.specs.Spelling.{SpellsMagic};
+ghost use Rattle.mime_lookup.specs.Spent.{IsUsedUp, UsesUp};
+ghost use Rattle.mime_lookup.specs.Steps.{Stops};
+ghost use Rattle.mime_view.specs.Opening.{IsOpenFault, Opens};
+
+use crate::cached::by_name_alone::front_limit;
+use crate::cached::sniff::{Finding, sniff_front, unalias};
+use crate::stopped::{Cause, Stopped};
+use mime_base::{Counted, Host, Meter};
+use mime_view::{Budget, Cache, CacheFault, Spending};
+
+/// What a content is sniffed as, and what it took to find out.
+#[derive(Clone, Copy, Debug)]
+pub struct SniffedContent<'a> {
+    /// The type: a slice of the cache, or one of three fixed types.
+    pub kind: &'a [u8],
+    /// The priority of the section of magic that holds, if one does.
+    pub priority: Option<u32>,
+    /// How many bytes of the content were looked at.
+    pub read: u64,
+    /// What was looked at.
+    pub meter: Meter,
+}
+
+/// What a content is sniffed as by itself, by a cache ("Recommended checking order").
+///
+/// ```text
+/// let found = sniff_alone(Counted::new(bytes), b"#!/bin/sh\n", Host::Little)?;
+/// // found.kind is the type, and found.priority that of the section that holds
+/// ```
+///
+/// The type is that of the first section of magic that holds, after one alias step, else a type by the bytes alone. At most
+/// the greater of 128 bytes and the extent that the cache states is looked at. It takes no memory. [`Cause::Cache`] says what
+/// is wrong with the cache; no read fails.
+pub fn sniff_alone<'a>(
+    cache: Counted<'a>,
+    content: &[u8],
+    host: Host,
+) -> Result<SniffedContent<'a>, Stopped>
+    // It is what the content is sniffed as, or why that can't be said.
+    ensures promises { IsSniffing cache.entry content.now host result }
+{
+    let mut read = 0;
+    let mut meter = Meter::new();
+    match open_and_sniff(cache, content, host, &mut read, &mut meter) {
+        Ok((kind, priority)) => Ok(SniffedContent {
+            kind,
+            priority,
+            read,
+            meter,
+        }),
+        Err(fault) => Err(Stopped {
+            cause: Cause::from(fault),
+            read,
+            meter,
+        }),
+    }
+}
+
+/// The type and the priority, with how much of the content was looked at.
+fn open_and_sniff<'a>(
+    cache: Counted<'a>,
+    content: &[u8],
+    host: Host,
+    read: &mut u64,
+    meter: &mut Meter,
+) -> Result<(&'a [u8], Option<u32>), CacheFault>
+    requires none { read.old ≡ 0 }
+    requires fresh { meter.old ≡ record { nodes = 0; bytes = 0 } }
+    ensures answer { (b : PlainDatabase) → SpellsMagic cache.entry b →
+        IfOk result (λ found. IsSniffedAs b content.now host found.0.now found.1) }
+    ensures kind { IfOk result (λ found. IsKind cache.entry found.0.now) }
+    ensures refused { (e : CacheFault) → IsOpenFault cache.entry e → IsErrAnd result (λ fault. fault ≡ e) }
+    ensures opened { OnOk result (Opens cache.entry) }
+    ensures stops { IfErr result (λ e. Stops cache.entry (UsesUp cache.entry ⊥ meter.new.nodes)
+        (λ b. SpellsMagic cache.entry b × (length cache.entry ≤ 268435456) × Packed cache.entry b) (λ _. ⊥) (cause_of e)) }
+    ensures within { LooksWithin cache.entry content.now read.new meter.new }
+{
+    let cache = Cache::open(cache, meter)?;
+    let mut spending = Spending {
+        meter: *meter,
+        budget: Budget::of(&cache),
+    };
+    let found = sniff_opened(&cache, content, host, read, &mut spending);
+    *meter = spending.meter;
+    found
+}
+
+/// The same over an opened cache.
+fn sniff_opened<'a>(
+    cache: &Cache<'a>,
+    content: &[u8],
+    host: Host,
+    read: &mut u64,
+    spending: &mut Spending,
+) -> Result<(&'a [u8], Option<u32>), CacheFault>
+    requires none { read.old ≡ 0 }
+    ensures answer { (b : PlainDatabase) → SpellsMagic cache.now b →
+        IfOk result (λ found. IsSniffedAs b content.now host found.0.now found.1) }
+    ensures kind { IfOk result (λ found. IsKind cache.now found.0.now) }
+    ensures stops { IfErr result (λ e. Stops cache.now (IsUsedUp cache.now ⊥ spending.new.budget)
+        (λ b. SpellsMagic cache.now b × (magic_records b ≤ spending.old.budget.records)
+        × (value_length b.sections ≤ spending.old.budget.value_bytes)) (λ _. ⊥) (cause_of e)) }
+    ensures there { read.new ≤ length content.now }
+    ensures limit { read.new ≤ max 128 (stated_extent cache.now) }
+    ensures cost { Costs 256 (read.new + 1) 31 spending.old spending.new }
+{
+    let limit = front_limit(cache, spending)?;
+    let front = front_of(content, limit);
+    *read = front.len() as u64;
+    sniff_whole(cache, front, host, spending)
+}
+
+/// The front of a content, of at most so many bytes.
+fn front_of(content: &[u8], limit: u64) -> &[u8]
+    ensures { result.now ≡ take limit content.now }
+{
+    if content.len() as u64 <= limit {
+        content
+    } else {
+        &content[..limit as usize]
+    }
+}
+
+/// What a front is sniffed as, as if it were the whole.
+fn sniff_whole<'a>(
+    cache: &Cache<'a>,
+    front: &[u8],
+    host: Host,
+    spending: &mut Spending,
+) -> Result<(&'a [u8], Option<u32>), CacheFault>
+    ensures answer { (b : PlainDatabase) → SpellsMagic cache.now b →
+        IfOk result (λ found. IsSniffedAs b front.now host found.0.now found.1) }
+    ensures kind { IfOk result (λ found. IsKind cache.now found.0.now) }
+    ensures stops { IfErr result (λ e. Stops cache.now (IsUsedUp cache.now ⊥ spending.new.budget)
+        (λ b. SpellsMagic cache.now b × (magic_records b ≤ spending.old.budget.records)
+        × (value_length b.sections ≤ spending.old.budget.value_bytes)) (λ _. ⊥) (cause_of e)) }
+    ensures cost { Costs 256 (length front.now + 1) 30 spending.old spending.new }
+{
+    let finding = sniff_front(cache, Some(front), host, spending)?;
+    let kind = unalias(cache, finding, spending)?;
+    Ok((kind, priority_of(finding)))
+}
+
+/// The priority of the section that gave a finding, if one did.
+fn priority_of(finding: Finding<'_>) -> Option<u32>
+    ensures { result ≡ priority_of (plain_finding finding.entry) }
+{
+    match finding {
+        Finding::Magic(_, priority) => Some(priority),
+        Finding::Fixed(_) => None,
+    }
+}

@@ -1,0 +1,13 @@
+use Rattle.std.proofs.Common.{◌∙◌, refl}
+use Rattle.mime_request.proofs.CommandLemmas.AddedRules.{no_more_globals, with_one_more}
+use Rattle.mime_request.proofs.command.with_subjects.Goals as goal
+
+pub returns-clause-app : goal.returns-clause-app
+returns-clause-app c =
+    let one = with_one_more _ _ _ _ _ (c.in_ok-command.ensures.shape c.input.ensures.local) refl c.input.ensures.rule in
+    with_one_more _ _ _ _ _ (c.in_ok-command-2.ensures.shape c.files.ensures.local) one c.files.ensures.rule
+
+pub returns-clause-local : goal.returns-clause-local
+returns-clause-local c =
+    no_more_globals _ _ _ c.in_ok-command-2.ensures.globals c.files.ensures.local
+    ∙ no_more_globals _ _ _ c.in_ok-command.ensures.globals c.input.ensures.local
