@@ -153,7 +153,8 @@ mimelook type [-c CACHE | -d DIRS] [--name-only | --content-only]
 Messages go to standard error. With -d the cache is made of DIRS, as build makes
 it; without -c and -d, of the user's data directories (see mimelook --help).
 A FILE that is a pipe can't be opened, nor one whose name is not UTF-8, which
-has a type by --name-only; a pipe has one by --inode. A CACHE that is a pipe can't be read.
+has a type by --name-only; a pipe has one by --inode. A CACHE that is a pipe
+can't be read.
 
 Exit status:
   0  every FILE was answered; or help or the version was printed
@@ -199,8 +200,8 @@ pub(crate) const NAME_ONLY: &str = "\
 Go by the names alone: no FILE is opened";
 
 pub(crate) const CONTENT_ONLY: &str = "\
-Go by the contents alone: no name is looked at; not with
---magic-first or --all-globs";
+Go by the contents alone: no name is looked at; not
+with --magic-first or --all-globs";
 
 pub(crate) const MAGIC_FIRST: &str = "\
 Let content of high priority (80 or more) decide
@@ -209,10 +210,12 @@ before names";
 pub(crate) const ALL_GLOBS: &str = "\
 Let content choose among all patterns that match, not
 among the preferred ones alone; not with --magic-first";
+
 pub(crate) const INODE: &str = "\
-Print inode/directory, chardevice, blockdevice, fifo or
-socket for what is no regular file, and inode/symlink
-for a link that leads nowhere; none of them is opened";
+Print inode/directory, chardevice, blockdevice, fifo
+or socket for what is no regular file, and
+inode/symlink for a link that leads nowhere; none of
+them is opened";
 
 pub(crate) const NULL: &str = "\
 Print a zero byte after FILE and one after TYPE, in

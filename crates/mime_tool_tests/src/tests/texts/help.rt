@@ -93,15 +93,16 @@ Options:
                           between them, such as /usr/local/share:/usr/share; an
                           empty part is skipped
       --name-only         Go by the names alone: no FILE is opened
-      --content-only      Go by the contents alone: no name is looked at; not with
-                          --magic-first or --all-globs
+      --content-only      Go by the contents alone: no name is looked at; not
+                          with --magic-first or --all-globs
       --magic-first       Let content of high priority (80 or more) decide
                           before names
       --all-globs         Let content choose among all patterns that match, not
                           among the preferred ones alone; not with --magic-first
-      --inode             Print inode/directory, chardevice, blockdevice, fifo or
-                          socket for what is no regular file, and inode/symlink
-                          for a link that leads nowhere; none of them is opened
+      --inode             Print inode/directory, chardevice, blockdevice, fifo
+                          or socket for what is no regular file, and
+                          inode/symlink for a link that leads nowhere; none of
+                          them is opened
   -0, --null              Print a zero byte after FILE and one after TYPE, in
                           place of a colon and a newline
   -b, --brief             Print TYPE alone

@@ -117,15 +117,16 @@ Options:
                           between them, such as /usr/local/share:/usr/share; an
                           empty part is skipped
       --name-only         Go by the names alone: no FILE is opened
-      --content-only      Go by the contents alone: no name is looked at; not with
-                          --magic-first or --all-globs
+      --content-only      Go by the contents alone: no name is looked at; not
+                          with --magic-first or --all-globs
       --magic-first       Let content of high priority (80 or more) decide
                           before names
       --all-globs         Let content choose among all patterns that match, not
                           among the preferred ones alone; not with --magic-first
-      --inode             Print inode/directory, chardevice, blockdevice, fifo or
-                          socket for what is no regular file, and inode/symlink
-                          for a link that leads nowhere; none of them is opened
+      --inode             Print inode/directory, chardevice, blockdevice, fifo
+                          or socket for what is no regular file, and
+                          inode/symlink for a link that leads nowhere; none of
+                          them is opened
       --cost              Print behind each TYPE what the answer cost: nodes=N,
                           records of the cache that were visited; bytes=B, bytes
                           that were read or compared; read=R, bytes of FILE that
@@ -143,7 +144,8 @@ Options:
 Messages go to standard error. With -d the cache is made of DIRS, as build makes
 it; without -c and -d, of the user's data directories (see mimelook --help).
 A FILE that is a pipe can't be opened, nor one whose name is not UTF-8, which
-has a type by --name-only; a pipe has one by --inode. A CACHE that is a pipe can't be read.
+has a type by --name-only; a pipe has one by --inode. A CACHE that is a pipe
+can't be read.
 
 Exit status:
   0  every FILE was answered; or help or the version was printed
