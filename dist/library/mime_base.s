@@ -384,3 +384,283 @@
 	jmp	27b
 29:
 	.size	"mime_base::matching::attempt::attempt", 29b-"mime_base::matching::attempt::attempt"
+
+	.text
+	.p2align	4
+	.type	"mime_base::matching::folding::fold",@function
+"mime_base::matching::folding::fold":
+	pushq	%rbp
+	pushq	%r15
+	pushq	%r14
+	pushq	%r12
+	pushq	%rbx
+	subq	$48, %rsp
+	movq	%rdx, %r14
+	movq	%rdi, %rbx
+	xorps	%xmm0, %xmm0
+	movaps	%xmm0, 16(%rsp)
+	movq	$0, 32(%rsp)
+	testq	%rdx, %rdx
+	je	1f
+	js	6f
+	movq	%rsi, %r15
+	movl	$1, %esi
+	movq	%r14, %rdi
+	callq	rattle_alloc@PLT
+	testb	$1, %al
+	je	6f
+	movq	%rdx, 16(%rsp)
+	movq	$0, 24(%rsp)
+	movq	%r14, 32(%rsp)
+	xorl	%eax, %eax
+	xorl	%r12d, %r12d
+	jmp	5f
+1:
+	leaq	15(%rsp), %rax
+	movq	%rax, 16(%rsp)
+	movq	%r14, 32(%rsp)
+2:
+	movb	$0, (%rbx)
+	movq	16(%rsp), %rax
+	movq	%rax, 8(%rbx)
+	movq	24(%rsp), %rax
+	movq	%rax, 16(%rbx)
+	movq	32(%rsp), %rax
+	movq	%rax, 24(%rbx)
+	jmp	7f
+3:
+	movq	16(%rsp), %rdx
+	movq	24(%rsp), %rax
+	.p2align	4
+4:
+	movb	%bpl, (%rdx,%rax)
+	incq	%rax
+	movq	%rax, 24(%rsp)
+	incq	%r12
+	cmpq	%r12, %r14
+	je	2b
+5:
+	movzbl	(%r15,%r12), %ecx
+	leal	-65(%rcx), %esi
+	leal	32(%rcx), %edi
+	cmpb	$26, %sil
+	movzbl	%dil, %ebp
+	cmovael	%ecx, %ebp
+	cmpq	%rax, 32(%rsp)
+	jne	4b
+	leaq	16(%rsp), %rdi
+	callq	"std_alloc::vec::Vec::grow_amortized::<#0cdf28b7eeb0a4d1>"
+	testb	%al, %al
+	jne	3b
+	cmpq	$0, 32(%rsp)
+	je	6f
+	movq	16(%rsp), %rdi
+	callq	rattle_dealloc@PLT
+6:
+	movb	$1, (%rbx)
+	xorps	%xmm0, %xmm0
+	movups	%xmm0, 8(%rbx)
+	movq	$0, 24(%rbx)
+7:
+	addq	$48, %rsp
+	popq	%rbx
+	popq	%r12
+	popq	%r14
+	popq	%r15
+	popq	%rbp
+	retq
+8:
+	.size	"mime_base::matching::folding::fold", 8b-"mime_base::matching::folding::fold"
+
+	.section	.rodata.cst16,"aM",@progbits,16
+	.p2align	4, 0x0
+1:
+	.zero	16,32
+2:
+	.zero	16,58
+3:
+	.zero	16,47
+4:
+	.byte	47,47,47,47,47,47,47,47
+	.zero	1
+	.zero	1
+	.zero	1
+	.zero	1
+	.zero	1
+	.zero	1
+	.zero	1
+	.zero	1
+	.text
+	.p2align	4
+	.type	"mime_base::names::is_type_name",@function
+"mime_base::names::is_type_name":
+	leaq	-3(%rsi), %rax
+	cmpq	$252, %rax
+	ja	21f
+	movq	%rdi, %rdx
+	movq	%rsi, %rcx
+	cmpq	$16, %rsi
+	jb	6f
+	movq	%rsi, %rcx
+	movq	%rdi, %rdx
+	.p2align	4
+5:
+	movdqu	(%rdx), %xmm0
+	movdqa	1b(%rip), %xmm1
+	pminub	%xmm0, %xmm1
+	pcmpeqb	%xmm0, %xmm1
+	pcmpeqb	2b(%rip), %xmm0
+	por	%xmm1, %xmm0
+	pmovmskb	%xmm0, %eax
+	testl	%eax, %eax
+	jne	21f
+	addq	$16, %rdx
+	addq	$-16, %rcx
+	cmpq	$15, %rcx
+	ja	5b
+6:
+	xorl	%r8d, %r8d
+	.p2align	4
+7:
+	cmpq	%r8, %rcx
+	je	9f
+	movzbl	(%rdx,%r8), %r9d
+	xorl	%eax, %eax
+	cmpb	$33, %r9b
+	jb	8f
+	incq	%r8
+	cmpb	$58, %r9b
+	jne	7b
+8:
+	retq
+9:
+	cmpq	$3, %rsi
+	ja	10f
+	testq	%rsi, %rsi
+	je	21f
+	cmpb	$47, (%rdi)
+	je	20f
+	movq	%rsi, %rax
+	shrq	%rax
+	cmpb	$47, (%rdi,%rax)
+	je	20f
+	cmpb	$47, -1(%rdi,%rsi)
+	jne	21f
+	jmp	20f
+10:
+	cmpq	$8, %rsi
+	ja	11f
+	movd	(%rdi), %xmm0
+	pinsrd	$1, -4(%rdi,%rsi), %xmm0
+	pcmpeqb	4b(%rip), %xmm0
+	pmovmskb	%xmm0, %eax
+	testb	%al, %al
+	jne	20f
+	jmp	21f
+11:
+	cmpq	$32, %rsi
+	ja	12f
+	leaq	-8(%rsi), %rax
+	cmpq	$8, %rax
+	movl	$8, %ecx
+	cmovbq	%rax, %rcx
+	cmpq	$16, %rax
+	movl	$16, %edx
+	cmovbq	%rax, %rdx
+	movq	(%rdi,%rcx), %xmm0
+	movq	(%rdi), %xmm1
+	punpcklqdq	%xmm0, %xmm1
+	movq	(%rdi,%rdx), %xmm0
+	movq	-8(%rdi,%rsi), %xmm2
+	punpcklqdq	%xmm2, %xmm0
+	movdqa	3b(%rip), %xmm2
+	pcmpeqb	%xmm2, %xmm0
+	pcmpeqb	%xmm2, %xmm1
+	jmp	13f
+12:
+	cmpq	$65, %rsi
+	jae	14f
+	movdqu	(%rdi), %xmm0
+	movdqu	16(%rdi), %xmm1
+	movdqu	-32(%rdi,%rsi), %xmm2
+	movdqu	-16(%rdi,%rsi), %xmm3
+	movdqa	3b(%rip), %xmm4
+	pcmpeqb	%xmm4, %xmm2
+	pcmpeqb	%xmm4, %xmm0
+	por	%xmm2, %xmm0
+	pcmpeqb	%xmm4, %xmm3
+	pcmpeqb	%xmm4, %xmm1
+	por	%xmm3, %xmm1
+13:
+	por	%xmm0, %xmm1
+	pmovmskb	%xmm1, %eax
+	testl	%eax, %eax
+	jne	20f
+	jmp	21f
+14:
+	xorl	%eax, %eax
+	movq	%rsi, %rcx
+15:
+	movdqu	(%rdi,%rax), %xmm1
+	movdqu	16(%rdi,%rax), %xmm2
+	movdqu	32(%rdi,%rax), %xmm3
+	movdqu	48(%rdi,%rax), %xmm4
+	movdqa	3b(%rip), %xmm0
+	pcmpeqb	%xmm0, %xmm3
+	pcmpeqb	%xmm0, %xmm1
+	por	%xmm3, %xmm1
+	pcmpeqb	%xmm0, %xmm4
+	pcmpeqb	%xmm0, %xmm2
+	por	%xmm4, %xmm2
+	por	%xmm1, %xmm2
+	pmovmskb	%xmm2, %edx
+	testl	%edx, %edx
+	jne	16f
+	addq	$64, %rax
+	addq	$-64, %rcx
+	cmpq	$63, %rcx
+	ja	15b
+16:
+	cmpq	$32, %rcx
+	jb	19f
+	movq	%rsi, %rcx
+	subq	%rax, %rcx
+	addq	%rdi, %rax
+17:
+	movdqu	(%rax), %xmm1
+	movdqu	16(%rax), %xmm2
+	pcmpeqb	%xmm0, %xmm2
+	pcmpeqb	%xmm0, %xmm1
+	por	%xmm2, %xmm1
+	pmovmskb	%xmm1, %edx
+	testl	%edx, %edx
+	jne	18f
+	addq	$-32, %rcx
+	addq	$32, %rax
+	cmpq	$31, %rcx
+	ja	17b
+	jmp	19f
+18:
+	cmpq	$31, %rcx
+	ja	20f
+19:
+	movdqu	-32(%rdi,%rsi), %xmm1
+	movdqu	-16(%rdi,%rsi), %xmm2
+	pcmpeqb	%xmm0, %xmm2
+	pcmpeqb	%xmm0, %xmm1
+	por	%xmm2, %xmm1
+	pmovmskb	%xmm1, %eax
+	testl	%eax, %eax
+	je	21f
+20:
+	cmpb	$47, (%rdi)
+	jne	22f
+21:
+	xorl	%eax, %eax
+	retq
+22:
+	cmpb	$47, -1(%rdi,%rsi)
+	setne	%al
+	retq
+23:
+	.size	"mime_base::names::is_type_name", 23b-"mime_base::names::is_type_name"

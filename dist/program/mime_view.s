@@ -11,11 +11,11 @@
 	pushq	%r12
 	pushq	%rbx
 	subq	$88, %rsp
-	movq	%rcx, %r9
-	movq	%rdi, 16(%rsp)
+	movq	%rcx, %rbx
+	movq	%rdi, 8(%rsp)
 	movq	(%rsi), %rdi
 	movq	8(%rsi), %rax
-	movq	%rax, 32(%rsp)
+	movq	%rax, 24(%rsp)
 	movq	16(%rsi), %r12
 	movl	%edx, %esi
 	movq	8(%rdi), %rax
@@ -24,11 +24,11 @@
 	cmpq	$4, %rax
 	setb	%al
 	orb	%cl, %al
-	movq	40(%r9), %rcx
+	movq	56(%rbx), %rcx
 	incq	%rcx
 	movq	$-1, %rdx
 	cmovneq	%rcx, %rdx
-	movq	%rdx, 40(%r9)
+	movq	%rdx, 56(%rbx)
 	testb	%al, %al
 	jne	1f
 	movq	(%rdi), %rax
@@ -42,7 +42,7 @@
 	cmpq	%rcx, 8(%rdi)
 	jae	3f
 1:
-	movq	16(%rsp), %rax
+	movq	8(%rsp), %rax
 	movb	$1, (%rax)
 	movl	$3, 8(%rax)
 	movw	$0, 12(%rax)
@@ -58,61 +58,60 @@
 	retq
 3:
 	testl	%eax, %eax
-	je	36f
-	leaq	40(%r9), %rax
-	movq	%rax, 48(%rsp)
-	leaq	16(%r9), %rax
+	je	42f
+	leaq	56(%rbx), %rax
 	movq	%rax, 40(%rsp)
+	leaq	24(%rbx), %rax
+	movq	%rax, 32(%rsp)
 	xorl	%edx, %edx
-	movq	%rsi, 64(%rsp)
-	movq	%rdi, 56(%rsp)
-	movq	%r9, 8(%rsp)
-	jmp	7f
+	movq	%rsi, 56(%rsp)
+	movq	%rdi, 48(%rsp)
+	movq	%rbx, (%rsp)
+	movq	%r12, 64(%rsp)
+	jmp	6f
 4:
-	movq	16(%r9), %rax
-	movq	24(%r9), %rcx
-	movl	%ebp, (%rax,%rcx,4)
-	incq	%rcx
-	movq	%rcx, 24(%r9)
-5:
-	movl	%r15d, (%r9)
+	movq	16(%rbx), %rax
+	movq	24(%rbx), %rdx
+	shlq	$32, %r14
+	orq	%r14, %rcx
+	movq	%rcx, (%rax,%rdx,8)
+	incq	%rdx
+	movq	%rdx, 24(%rbx)
 	.p2align	4
-6:
+5:
 	movq	80(%rsp), %rdx
 	incq	%rdx
 	cmpq	72(%rsp), %rdx
-	movq	64(%rsp), %rsi
-	movq	56(%rsp), %rdi
-	je	36f
-7:
-	movq	56(%r9), %rax
+	movq	56(%rsp), %rsi
+	movq	48(%rsp), %rdi
+	je	42f
+6:
+	movq	72(%rbx), %rax
 	testq	%rax, %rax
-	je	37f
-	movq	%r12, %r14
+	je	43f
 	decq	%rax
-	movq	%rax, 56(%r9)
-	movq	40(%r9), %rax
+	movq	%rax, 72(%rbx)
+	movq	56(%rbx), %rax
 	incq	%rax
 	movq	$-1, %rcx
 	cmovneq	%rax, %rcx
 	leaq	(%rdx,%rdx,2), %rax
-	movq	%rcx, 40(%r9)
+	movq	%rcx, 56(%rbx)
 	movq	(%rdi), %rbp
 	movq	8(%rdi), %r12
 	leaq	(%rsi,%rbp), %rcx
 	movl	4(%rcx,%rax,4), %ebx
 	bswapl	%ebx
 	subq	%rbx, %r12
-	jbe	38f
+	jbe	44f
 	movl	8(%rcx,%rax,4), %esi
-	movl	%esi, 24(%rsp)
-	movl	12(%rcx,%rax,4), %eax
-	movl	%eax, 28(%rsp)
+	movq	%rsi, 16(%rsp)
+	movl	12(%rcx,%rax,4), %r14d
 	addq	%rbx, %rbp
 	cmpq	$32, %r12
 	movq	%rdx, 80(%rsp)
-	jae	9f
-8:
+	jae	8f
+7:
 	cmpq	$256, %r12
 	movl	$256, %r15d
 	cmovbq	%r12, %r15
@@ -121,14 +120,13 @@
 	movq	%r15, %rdx
 	callq	"memchr::bytes::memchr"
 	cmpb	$1, %al
-	jne	39f
+	jne	45f
 	movq	%rdx, %r13
 	movq	%rdx, %rcx
 	incq	%rcx
-	movq	8(%rsp), %r9
-	jmp	11f
+	jmp	10f
 	.p2align	4
-9:
+8:
 	movdqu	(%rbp), %xmm1
 	pxor	%xmm0, %xmm0
 	pcmpeqb	%xmm0, %xmm1
@@ -137,66 +135,86 @@
 	movl	$64, %r13d
 	rep		bsfq	%rcx, %r13
 	cmpq	$16, %r13
-	jb	10f
+	jb	9f
 	movdqu	16(%rbp), %xmm1
 	pcmpeqb	%xmm0, %xmm1
 	pmovmskb	%xmm1, %ecx
 	rep		bsfq	%rcx, %rax
 	cmpq	$15, %rax
-	ja	8b
+	ja	7b
 	orq	$16, %rax
 	movq	%rax, %r13
-10:
+9:
 	leaq	1(%r13), %rcx
-11:
-	addq	48(%r9), %rcx
+10:
+	movq	(%rsp), %rbx
+	addq	64(%rbx), %rcx
 	movq	$-1, %rax
 	cmovaeq	%rcx, %rax
-	movl	28(%rsp), %ebx
-	bswapl	%ebx
-	movl	%ebx, %r15d
+	bswapl	%r14d
+	movl	%r14d, %r15d
 	shrl	$8, %r15d
-	movq	%rax, 48(%r9)
+	movq	%rax, 64(%rbx)
 	movabsq	$1688849862361089, %r10
-	movq	%r14, %r12
-	testq	%r14, %r14
-	je	12f
+	movq	64(%rsp), %r12
+	testq	%r12, %r12
+	je	11f
 	testq	%r13, %r13
-	je	12f
+	je	11f
 	movzbl	(%rbp), %ecx
 	leal	-42(%rcx), %edx
 	cmpl	$50, %edx
-	ja	24f
+	ja	27f
 	btq	%rdx, %r10
-	jae	24f
-12:
-	movl	(%r9), %eax
-	testl	%eax, %eax
-	je	18f
-	testq	%r13, %r13
+	jae	27f
+11:
+	cmpb	$0, (%rbx)
 	je	14f
+12:
+	movzbl	%r15b, %edx
+	andl	$1, %edx
+	movq	%rbp, %rdi
+	movq	%r13, %rsi
+	movq	24(%rsp), %rcx
+	movq	%r12, %r8
+	movq	40(%rsp), %r9
+	callq	"mime_base::matching::glob_matches"
+	movabsq	$1688849862361089, %rsi
+	testb	%al, %al
+	je	5b
+	movl	%r14d, %edx
+	testq	%r13, %r13
+	je	16f
 	cmpb	$42, (%rbp)
-	jne	14f
-	movl	$1, %ecx
+	jne	16f
+	movl	$1, %eax
+	movq	16(%rsp), %r14
 	.p2align	4
 13:
-	cmpq	%rcx, %r13
-	je	27f
-	movzbl	(%rbp,%rcx), %edx
-	incq	%rcx
-	addl	$-42, %edx
-	cmpl	$50, %edx
+	cmpq	%rax, %r13
+	je	32f
+	movzbl	(%rbp,%rax), %ecx
+	incq	%rax
+	addl	$-42, %ecx
+	cmpl	$50, %ecx
 	ja	13b
-	btq	%rdx, %r10
+	btq	%rcx, %rsi
 	jae	13b
-	jmp	16f
+	jmp	18f
 	.p2align	4
 14:
-	xorl	%ecx, %ecx
+	movl	8(%rbx), %eax
+	testl	%eax, %eax
+	je	12b
+	testq	%r13, %r13
+	je	23f
+	cmpb	$42, (%rbp)
+	jne	23f
+	movl	$1, %ecx
 	.p2align	4
 15:
 	cmpq	%rcx, %r13
-	je	25f
+	je	33f
 	movzbl	(%rbp,%rcx), %edx
 	incq	%rcx
 	addl	$-42, %edx
@@ -204,10 +222,88 @@
 	ja	15b
 	btq	%rdx, %r10
 	jae	15b
+	jmp	25f
+	.p2align	4
 16:
-	xorl	%ecx, %ecx
+	xorl	%eax, %eax
+	movq	16(%rsp), %r14
+	.p2align	4
 17:
-	movzbl	%bl, %edx
+	cmpq	%rax, %r13
+	je	30f
+	movzbl	(%rbp,%rax), %ecx
+	incq	%rax
+	addl	$-42, %ecx
+	cmpl	$50, %ecx
+	ja	17b
+	btq	%rcx, %rsi
+	jae	17b
+18:
+	xorl	%eax, %eax
+19:
+	bswapl	%r14d
+	movzbl	%dl, %ecx
+	orl	%eax, %ecx
+	shll	$17, %ecx
+	movzwl	%r13w, %eax
+	leal	(%rcx,%rax,2), %eax
+	andl	$1, %r15d
+	orl	%eax, %r15d
+	cmpb	$0, (%rbx)
+	je	22f
+	movzbl	8(%rbx), %eax
+	leaq	16(%rbx), %rcx
+	leaq	40(%rbx), %rdx
+	testb	%al, %al
+	cmoveq	%rdx, %rcx
+	je	28f
+	movq	32(%rbx), %rdx
+	cmpq	%rdx, 8(%rcx)
+	je	29f
+20:
+	movl	%r15d, %ecx
+	testb	%al, %al
+	jne	4b
+21:
+	movq	48(%rbx), %rax
+	shlq	$32, %r14
+	orq	%r14, %rcx
+	movq	%rcx, 16(%rbx,%rax,8)
+	incq	%rax
+	movq	%rax, 48(%rbx)
+	jmp	5b
+22:
+	movl	8(%rbx), %eax
+	cmpl	%eax, %r15d
+	jb	5b
+	movq	%r14, %r13
+	movq	%rbx, %r14
+	movzbl	16(%rbx), %ebx
+	jbe	36f
+	testb	%bl, %bl
+	je	34f
+	movq	(%rsp), %r14
+	cmpq	$0, 32(%r14)
+	je	35f
+	movq	$0, 32(%r14)
+	jmp	35f
+23:
+	xorl	%ecx, %ecx
+	.p2align	4
+24:
+	cmpq	%rcx, %r13
+	je	31f
+	movzbl	(%rbp,%rcx), %edx
+	incq	%rcx
+	addl	$-42, %edx
+	cmpl	$50, %edx
+	ja	24b
+	btq	%rdx, %r10
+	jae	24b
+25:
+	xorl	%ecx, %ecx
+26:
+	movzbl	%r14b, %edx
 	orl	%ecx, %edx
 	shll	$17, %edx
 	movzwl	%r13w, %ecx
@@ -216,82 +312,16 @@
 	andl	$1, %edx
 	orl	%ecx, %edx
 	cmpl	%edx, %eax
-	ja	6b
-18:
-	movzbl	%r15b, %edx
-	andl	$1, %edx
-	movq	%rbp, %rdi
-	movq	%r13, %rsi
-	movq	32(%rsp), %rcx
-	movq	%r12, %r8
-	movq	48(%rsp), %r9
-	movq	%r10, %r14
-	callq	"mime_base::matching::glob_matches"
-	movq	8(%rsp), %r9
-	testb	%al, %al
-	je	6b
-	movq	%r14, %rdx
-	testq	%r13, %r13
-	je	20f
-	cmpb	$42, (%rbp)
-	jne	20f
-	movl	$1, %eax
-	.p2align	4
-19:
-	cmpq	%rax, %r13
-	je	35f
-	movzbl	(%rbp,%rax), %ecx
-	incq	%rax
-	addl	$-42, %ecx
-	cmpl	$50, %ecx
-	ja	19b
-	btq	%rcx, %rdx
-	jae	19b
-	jmp	22f
-	.p2align	4
-20:
-	xorl	%eax, %eax
-	.p2align	4
-21:
-	cmpq	%rax, %r13
-	je	26f
-	movzbl	(%rbp,%rax), %ecx
-	incq	%rax
-	addl	$-42, %ecx
-	cmpl	$50, %ecx
-	ja	21b
-	btq	%rcx, %rdx
-	jae	21b
-22:
-	xorl	%eax, %eax
-23:
-	movzbl	%bl, %ecx
-	orl	%eax, %ecx
-	shll	$17, %ecx
-	movzwl	%r13w, %eax
-	leal	(%rcx,%rax,2), %eax
-	andl	$1, %r15d
-	orl	%eax, %r15d
-	movl	(%r9), %eax
-	cmpl	%eax, %r15d
-	jb	6b
-	movzbl	8(%r9), %ebx
-	movl	24(%rsp), %ebp
-	jbe	30f
-	testb	%bl, %bl
-	je	28f
-	cmpq	$0, 24(%r9)
-	je	29f
-	movq	$0, 24(%r9)
-	jmp	29f
-24:
+	ja	5b
+	jmp	12b
+27:
 	leal	-65(%rcx), %edx
 	leal	32(%rcx), %esi
 	cmpb	$26, %dl
 	movzbl	%sil, %edx
 	movzbl	%cl, %ecx
 	cmovael	%ecx, %edx
-	movq	32(%rsp), %rsi
+	movq	24(%rsp), %rsi
 	movzbl	(%rsi), %esi
 	leal	-65(%rsi), %edi
 	leal	32(%rsi), %r8d
@@ -302,215 +332,417 @@
 	cmovnel	%ecx, %edx
 	cmovnel	%esi, %edi
 	cmpb	%dil, %dl
-	je	12b
+	je	11b
 	incq	%rax
 	movq	$-1, %rcx
 	cmovneq	%rax, %rcx
-	movq	%rcx, 48(%r9)
-	jmp	6b
-25:
-	movl	$512, %ecx
-	jmp	17b
-26:
-	movl	$512, %eax
-	jmp	23b
-27:
-	movl	$256, %ecx
-	jmp	17b
+	movq	%rcx, 64(%rbx)
+	jmp	5b
 28:
-	movq	32(%r9), %rdx
+	movl	$4, %edx
+	cmpq	%rdx, 8(%rcx)
+	jne	20b
+29:
+	leaq	8(%rbx), %rdi
+	callq	"smallvec::small_vec::SmallVec::reserve_one::<#c56eefbaea896dc3>"
+	testb	%al, %al
+	jne	47f
+	movzbl	8(%rbx), %eax
+	movl	%r15d, %ecx
+	testb	%al, %al
+	jne	4b
+	jmp	21b
+30:
+	movl	$512, %eax
+	jmp	19b
+31:
+	movl	$512, %ecx
+	jmp	26b
+32:
+	movl	$256, %eax
+	jmp	19b
+33:
+	movl	$256, %ecx
+	jmp	26b
+34:
+	movq	(%rsp), %r14
+	movq	40(%r14), %rdx
 	testq	%rdx, %rdx
-	je	29f
+	je	35f
 	shlq	$2, %rdx
-	movq	40(%rsp), %rdi
+	movq	32(%rsp), %rdi
 	xorl	%esi, %esi
 	callq	memset@PLT
-	movq	8(%rsp), %r9
-	movq	$0, 32(%r9)
-29:
-	movl	$0, (%r9)
-30:
+	movq	$0, 40(%r14)
+35:
+	movl	$0, 8(%r14)
+36:
 	xorl	%eax, %eax
 	testb	%bl, %bl
 	sete	%al
-	movq	24(%r9,%rax,8), %rax
-	je	33f
-	movq	32(%r9), %rcx
+	movq	32(%r14,%rax,8), %rax
+	je	39f
+	movq	40(%r14), %rcx
 	cmpq	%rcx, %rax
-	je	34f
-31:
-	bswapl	%ebp
+	je	40f
+37:
 	testb	%bl, %bl
-	jne	4b
-32:
-	movq	32(%r9), %rax
-	movl	%ebp, 16(%r9,%rax,4)
-	incq	%rax
-	movq	%rax, 32(%r9)
+	je	41f
+38:
+	movq	(%rsp), %rbx
+	movq	24(%rbx), %rax
+	movq	32(%rbx), %rcx
+	movl	%r13d, (%rax,%rcx,4)
+	incq	%rcx
+	movq	%rcx, 32(%rbx)
+	movl	%r15d, 8(%rbx)
 	jmp	5b
-33:
+39:
 	movl	$4, %ecx
 	cmpq	%rcx, %rax
-	jne	31b
-34:
-	leaq	8(%r9), %rdi
-	movq	%r9, %r14
+	jne	37b
+40:
+	movq	(%rsp), %rbx
+	leaq	16(%rbx), %rdi
 	callq	"smallvec::small_vec::SmallVec::reserve_one::<#bc37e6e66b18402c>"
 	testb	%al, %al
-	jne	41f
-	movzbl	8(%r14), %ebx
-	movq	%r14, %r9
-	bswapl	%ebp
+	jne	47f
+	movzbl	16(%rbx), %ebx
 	testb	%bl, %bl
-	jne	4b
-	jmp	32b
-35:
-	movl	$256, %eax
-	jmp	23b
-36:
-	movq	16(%rsp), %rax
+	jne	38b
+41:
+	movq	(%rsp), %rbx
+	movq	40(%rbx), %rax
+	movl	%r13d, 24(%rbx,%rax,4)
+	incq	%rax
+	movq	%rax, 40(%rbx)
+	movl	%r15d, 8(%rbx)
+	jmp	5b
+42:
+	movq	8(%rsp), %rax
 	movb	$0, (%rax)
 	movl	$0, 8(%rax)
 	movw	$0, 12(%rax)
 	movq	$0, 16(%rax)
 	jmp	2b
-37:
+43:
 	movw	$5, %ax
 	xorl	%ebx, %ebx
-	jmp	40f
-38:
+	jmp	46f
+44:
 	movw	$3, %ax
-	jmp	40f
-39:
-	movq	8(%rsp), %rcx
-	addq	48(%rcx), %r15
+	jmp	46f
+45:
+	movq	(%rsp), %rcx
+	addq	64(%rcx), %r15
 	movq	$-1, %rax
 	cmovaeq	%r15, %rax
-	movq	%rax, 48(%rcx)
+	movq	%rax, 64(%rcx)
 	cmpq	$256, %r12
 	movw	$4, %ax
 	sbbw	$0, %ax
-40:
-	movq	16(%rsp), %rcx
+46:
+	movq	8(%rsp), %rcx
 	movb	$1, (%rcx)
 	movw	%ax, 8(%rcx)
 	movl	$0, 10(%rcx)
 	movq	%rbx, 16(%rcx)
 	jmp	2b
-41:
+47:
 	movw	$7, %ax
 	xorl	%ebx, %ebx
-	jmp	40b
-42:
-	.size	"mime_view::globs::glob_list_hits", 42b-"mime_view::globs::glob_list_hits"
+	jmp	46b
+48:
+	.size	"mime_view::globs::glob_list_hits", 48b-"mime_view::globs::glob_list_hits"
 
 	.text
 	.p2align	4
-	.type	"mime_view::hits::Hits::offer",@function
-"mime_view::hits::Hits::offer":
+	.type	"mime_view::kinds::read_kinds",@function
+"mime_view::kinds::read_kinds":
 	pushq	%rbp
 	pushq	%r15
 	pushq	%r14
+	pushq	%r13
 	pushq	%r12
 	pushq	%rbx
-	movl	(%rsi), %eax
-	cmpl	%eax, %edx
-	jb	11f
-	movzbl	8(%rsi), %ebx
-	jbe	3f
-	testb	%bl, %bl
-	je	1f
-	cmpq	$0, 24(%rsi)
+	subq	$88, %rsp
+	movq	%rdx, %rbp
+	movq	%rsi, %r13
+	cmpq	$1, %rcx
 	je	2f
-	movq	$0, 24(%rsi)
-	jmp	2f
-1:
-	movq	32(%rsi), %rax
-	testq	%rax, %rax
-	je	2f
-	leaq	16(%rsi), %r8
-	shlq	$2, %rax
-	movq	%rdi, %r14
-	movq	%r8, %rdi
-	movq	%rsi, %r15
-	xorl	%esi, %esi
-	movl	%edx, %ebp
-	movq	%rax, %rdx
-	movl	%ecx, %r12d
-	callq	memset@PLT
-	movl	%r12d, %ecx
-	movq	%r15, %rsi
-	movl	%ebp, %edx
-	movq	%r14, %rdi
-	movq	$0, 32(%r15)
-2:
-	movl	$0, (%rsi)
-3:
+	testq	%rcx, %rcx
+	jne	4f
+	movq	%rsp, %rcx
 	xorl	%eax, %eax
-	testb	%bl, %bl
-	sete	%al
-	movq	24(%rsi,%rax,8), %rax
-	je	6f
-	movq	32(%rsi), %r8
-	cmpq	%r8, %rax
-	je	7f
-4:
-	testb	%bl, %bl
-	je	9f
-5:
-	movq	16(%rsi), %rax
-	movq	24(%rsi), %r8
-	movl	%ecx, (%rax,%r8,4)
-	incq	%r8
-	movq	%r8, 24(%rsi)
-	jmp	10f
-6:
-	movl	$4, %r8d
-	cmpq	%r8, %rax
-	jne	4b
-7:
-	movl	%ecx, %ebp
-	movl	%edx, %r15d
-	movq	%rdi, %r14
-	movq	%rsi, %rbx
-	leaq	8(%rsi), %rdi
-	callq	"smallvec::small_vec::SmallVec::reserve_one::<#bc37e6e66b18402c>"
-	testb	%al, %al
-	je	8f
-	movb	$1, (%r14)
-	movl	$7, 8(%r14)
-	movw	$0, 12(%r14)
-	movq	$0, 16(%r14)
-	jmp	12f
-8:
-	movq	%rbx, %rsi
-	movzbl	8(%rbx), %ebx
-	movq	%r14, %rdi
-	movl	%r15d, %edx
-	movl	%ebp, %ecx
-	testb	%bl, %bl
-	jne	5b
-9:
-	movq	32(%rsi), %rax
-	movl	%ecx, 16(%rsi,%rax,4)
-	incq	%rax
-	movq	%rax, 32(%rsi)
-10:
-	movl	%edx, (%rsi)
-11:
-	movb	$0, (%rdi)
-	movl	$0, 8(%rdi)
+	xorl	%ebx, %ebx
+1:
+	movq	$0, (%rdi)
+	movl	$1, 8(%rdi)
 	movw	$0, 12(%rdi)
-	movq	$0, 16(%rdi)
+	movq	%rcx, 16(%rdi)
+	movq	%rbx, 24(%rdi)
+	movq	%rax, 32(%rdi)
+	jmp	18f
+2:
+	movl	(%rbp), %ebx
+	movq	8(%r13), %r12
+	movw	$3, %ax
+	subq	%rbx, %r12
+	jbe	17f
+	movq	(%r13), %r14
+	addq	%rbx, %r14
+	cmpq	$32, %r12
+	jae	12f
+3:
+	movq	%r8, %rbp
+	movq	%rdi, %r13
+	cmpq	$256, %r12
+	movl	$256, %r15d
+	cmovbq	%r12, %r15
+	xorl	%edi, %edi
+	movq	%r14, %rsi
+	movq	%r15, %rdx
+	callq	"memchr::bytes::memchr"
+	cmpb	$1, %al
+	jne	16f
+	movq	%rdx, %rax
+	incq	%rax
+	addq	8(%rbp), %rax
+	movq	$-1, %rcx
+	cmovaeq	%rax, %rcx
+	movq	%rcx, 8(%rbp)
+	movq	%r13, %rdi
+	jmp	14f
+4:
+	movq	%rcx, %rax
+	shrq	$59, %rax
+	jne	11f
+	movq	%rdi, %rbx
+	movq	%rcx, %rdi
+	shlq	$4, %rdi
+	movl	$8, %esi
+	movq	%r8, %r14
+	movq	%rcx, 40(%rsp)
+	callq	rattle_alloc@PLT
+	movq	40(%rsp), %r8
+	movq	%rbx, %rdi
+	testb	$1, %al
+	je	11f
+	movq	%r14, %r9
+	movq	%rdi, 32(%rsp)
+	movq	%rdx, 8(%rsp)
+	movq	$0, 16(%rsp)
+	movq	%r8, 24(%rsp)
+	xorl	%ebx, %ebx
+	xorl	%edi, %edi
+	movq	%r13, 80(%rsp)
+	movq	%rbp, 72(%rsp)
+	.p2align	4
+5:
+	movl	(%rbp,%rdi,4), %r15d
+	movq	8(%r13), %r14
+	subq	%r15, %r14
+	jbe	19f
+	movq	(%r13), %rsi
+	addq	%r15, %rsi
+	cmpq	$32, %r14
+	jae	7f
+6:
+	movq	%r15, 64(%rsp)
+	movq	%rdi, 48(%rsp)
+	movq	%rdx, 56(%rsp)
+	movq	%r9, %r13
+	cmpq	$256, %r14
+	movl	$256, %ebp
+	cmovbq	%r14, %rbp
+	xorl	%edi, %edi
+	movq	%rsi, %r15
+	movq	%rbp, %rdx
+	callq	"memchr::bytes::memchr"
+	cmpb	$1, %al
+	jne	21f
+	movq	%rdx, %r12
+	movq	%rdx, %rcx
+	incq	%rcx
+	movq	%r13, %r9
+	addq	8(%r13), %rcx
+	movq	$-1, %rax
+	cmovaeq	%rcx, %rax
+	movq	80(%rsp), %r13
+	movq	72(%rsp), %rbp
+	movq	40(%rsp), %r8
+	movq	56(%rsp), %rdx
+	movq	%r15, %rsi
+	movq	48(%rsp), %rdi
+	movq	%rax, 8(%r9)
+	cmpq	%rbx, 24(%rsp)
+	jne	9f
+	jmp	10f
+	.p2align	4
+7:
+	movdqu	(%rsi), %xmm1
+	pxor	%xmm0, %xmm0
+	pcmpeqb	%xmm0, %xmm1
+	pmovmskb	%xmm1, %ecx
+	movl	$64, %eax
+	movl	$64, %r12d
+	rep		bsfq	%rcx, %r12
+	cmpq	$16, %r12
+	jb	8f
+	movdqu	16(%rsi), %xmm1
+	pcmpeqb	%xmm0, %xmm1
+	pmovmskb	%xmm1, %ecx
+	rep		bsfq	%rcx, %rax
+	cmpq	$15, %rax
+	ja	6b
+	orq	$16, %rax
+	movq	%rax, %r12
+8:
+	leaq	1(%r12), %rcx
+	addq	8(%r9), %rcx
+	movq	$-1, %rax
+	cmovaeq	%rcx, %rax
+	movq	%rax, 8(%r9)
+	cmpq	%rbx, 24(%rsp)
+	je	10f
+9:
+	movq	%rbx, %rax
+	shlq	$4, %rax
+	movq	%rsi, (%rdx,%rax)
+	movq	%r12, 8(%rdx,%rax)
+	incq	%rbx
+	movq	%rbx, 16(%rsp)
+	incq	%rdi
+	cmpq	%rdi, %r8
+	jne	5b
+	jmp	20f
+10:
+	movq	%rdi, 48(%rsp)
+	movq	%rsi, %r15
+	movq	%r9, %r14
+	leaq	8(%rsp), %rdi
+	callq	"std_alloc::vec::Vec::grow_amortized::<#25095d740b27081c>"
+	testb	%al, %al
+	je	24f
+	movq	8(%rsp), %rdx
+	movq	16(%rsp), %rbx
+	movq	%r14, %r9
+	movq	40(%rsp), %r8
+	movq	%r15, %rsi
+	movq	48(%rsp), %rdi
+	jmp	9b
+11:
+	movq	$1, (%rdi)
+	movl	$7, 8(%rdi)
+	movw	$0, 12(%rdi)
+	pxor	%xmm0, %xmm0
+	movdqu	%xmm0, 16(%rdi)
+	jmp	15f
 12:
+	movdqu	(%r14), %xmm1
+	pxor	%xmm0, %xmm0
+	pcmpeqb	%xmm0, %xmm1
+	pmovmskb	%xmm1, %ecx
+	movl	$64, %eax
+	movl	$64, %edx
+	rep		bsfq	%rcx, %rdx
+	cmpq	$16, %rdx
+	jb	13f
+	movdqu	16(%r14), %xmm1
+	pcmpeqb	%xmm0, %xmm1
+	pmovmskb	%xmm1, %ecx
+	rep		bsfq	%rcx, %rax
+	cmpq	$15, %rax
+	ja	3b
+	orq	$16, %rax
+	movq	%rax, %rdx
+13:
+	leaq	1(%rdx), %rax
+	addq	8(%r8), %rax
+	movq	$-1, %rcx
+	cmovaeq	%rax, %rcx
+	movq	%rcx, 8(%r8)
+14:
+	movq	$0, 6(%rdi)
+	movq	$0, (%rdi)
+	movq	%r14, 16(%rdi)
+	movq	%rdx, 24(%rdi)
+15:
+	movq	$0, 32(%rdi)
+	jmp	18f
+16:
+	addq	8(%rbp), %r15
+	movq	$-1, %rax
+	cmovaeq	%r15, %rax
+	movq	%rax, 8(%rbp)
+	cmpq	$256, %r12
+	movw	$4, %ax
+	sbbw	$0, %ax
+	movq	%r13, %rdi
+17:
+	movq	$1, (%rdi)
+	movw	%ax, 8(%rdi)
+	movl	$0, 10(%rdi)
+	movq	%rbx, 16(%rdi)
+	pxor	%xmm0, %xmm0
+	movdqu	%xmm0, 24(%rdi)
+18:
+	addq	$88, %rsp
 	popq	%rbx
 	popq	%r12
+	popq	%r13
 	popq	%r14
 	popq	%r15
 	popq	%rbp
 	retq
-13:
-	.size	"mime_view::hits::Hits::offer", 13b-"mime_view::hits::Hits::offer"
+19:
+	movw	$3, %bx
+	jmp	22f
+20:
+	movq	8(%rsp), %rcx
+	movq	24(%rsp), %rax
+	movq	32(%rsp), %rdi
+	jmp	1b
+21:
+	addq	8(%r13), %rbp
+	movq	$-1, %rax
+	cmovaeq	%rbp, %rax
+	movq	%rax, 8(%r13)
+	cmpq	$256, %r14
+	movw	$4, %bx
+	sbbw	$0, %bx
+	movq	56(%rsp), %rdx
+	movq	64(%rsp), %r15
+22:
+	cmpq	$0, 24(%rsp)
+	movq	32(%rsp), %r14
+	je	23f
+	movq	%rdx, %rdi
+	callq	rattle_dealloc@PLT
+23:
+	movq	$1, (%r14)
+	movw	%bx, 8(%r14)
+	movl	$0, 10(%r14)
+	movq	%r15, 16(%r14)
+	pxor	%xmm0, %xmm0
+	movdqu	%xmm0, 24(%r14)
+	jmp	18b
+24:
+	cmpq	$0, 24(%rsp)
+	je	25f
+	movq	8(%rsp), %rdi
+	callq	rattle_dealloc@PLT
+25:
+	movq	32(%rsp), %rax
+	movq	$1, (%rax)
+	movl	$7, 8(%rax)
+	movw	$0, 12(%rax)
+	pxor	%xmm0, %xmm0
+	movdqu	%xmm0, 16(%rax)
+	movq	$0, 32(%rax)
+	jmp	18b
+26:
+	.size	"mime_view::kinds::read_kinds", 26b-"mime_view::kinds::read_kinds"
 
 	.text
 	.p2align	4
