@@ -823,12 +823,6 @@
 	.ascii	", "
 	.size	.L807e89e39460, 2
 
-	.type	.L81e1518d14b9,@object
-	.section	.rodata,"a",@progbits
-.L81e1518d14b9:
-	.ascii	"Print inode/directory, chardevice, blockdevice, fifo or\nsocket for what is no regular file, and inode/symlink\nfor a link that leads nowhere; none of them is opened"
-	.size	.L81e1518d14b9, 163
-
 	.type	.L83a8e6e0358f,@object
 	.section	.rodata,"a",@progbits
 .L83a8e6e0358f:
@@ -1068,6 +1062,12 @@
 	.ascii	"es"
 	.size	.La7e343717825, 2
 
+	.type	.La883b7dbfd0a,@object
+	.section	.rodata,"a",@progbits
+.La883b7dbfd0a:
+	.ascii	"Messages go to standard error. With -d the cache is made of DIRS, as build makes\nit; without -c and -d, of the user's data directories (see mimelook --help).\nA FILE that is a pipe can't be opened, nor one whose name is not UTF-8, which\nhas a type by --name-only; a pipe has one by --inode. A CACHE that is a pipe\ncan't be read.\n\nExit status:\n  0  every FILE was answered; or help or the version was printed\n  1  some FILE can't be opened or read, or its name is too long (above 4096\n     bytes); the others were answered\n  2  the command line is wrong, or a word but a FILE is not UTF-8\n  3  the data can't be read or is refused, or the output can't be written\n  4  out of memory\n\nExample:\n  $ mimelook type notes.txt\n  notes.txt: text/plain"
+	.size	.La883b7dbfd0a, 741
+
 	.type	.Laa12b8a65fd3,@object
 	.section	.rodata,"a",@progbits
 .Laa12b8a65fd3:
@@ -1274,12 +1274,6 @@
 	.ascii	"must specify at least one of read, write, or append access"
 	.size	.Lc6ab5bfca453, 58
 
-	.type	.Lc8501059a586,@object
-	.section	.rodata,"a",@progbits
-.Lc8501059a586:
-	.ascii	"Messages go to standard error. With -d the cache is made of DIRS, as build makes\nit; without -c and -d, of the user's data directories (see mimelook --help).\nA FILE that is a pipe can't be opened, nor one whose name is not UTF-8, which\nhas a type by --name-only; a pipe has one by --inode. A CACHE that is a pipe can't be read.\n\nExit status:\n  0  every FILE was answered; or help or the version was printed\n  1  some FILE can't be opened or read, or its name is too long (above 4096\n     bytes); the others were answered\n  2  the command line is wrong, or a word but a FILE is not UTF-8\n  3  the data can't be read or is refused, or the output can't be written\n  4  out of memory\n\nExample:\n  $ mimelook type notes.txt\n  notes.txt: text/plain"
-	.size	.Lc8501059a586, 741
-
 	.type	.Lc86eb0c0bc7c,@object
 	.section	.data.rel.ro,"aw",@progbits
 	.p2align	3, 0x0
@@ -1334,12 +1328,6 @@
 	.ascii	"mimelook list [-c CACHE | -d DIRS]"
 	.size	.Lca64d732d5f8, 34
 
-	.type	.Lcbc41e807bbe,@object
-	.section	.rodata,"a",@progbits
-.Lcbc41e807bbe:
-	.ascii	"Go by the contents alone: no name is looked at; not with\n--magic-first or --all-globs"
-	.size	.Lcbc41e807bbe, 85
-
 	.type	.Lcbd2e040a5e1,@object
 	.section	.rodata,"a",@progbits
 .Lcbd2e040a5e1:
@@ -1369,6 +1357,12 @@
 .Lcf324260551e:
 	.ascii	"subclasses"
 	.size	.Lcf324260551e, 10
+
+	.type	.Ld225cf273187,@object
+	.section	.rodata,"a",@progbits
+.Ld225cf273187:
+	.ascii	"Print inode/directory, chardevice, blockdevice, fifo\nor socket for what is no regular file, and\ninode/symlink for a link that leads nowhere; none of\nthem is opened"
+	.size	.Ld225cf273187, 163
 
 	.type	.Ld27fc74a6e00,@object
 	.section	.rodata.cst8,"aM",@progbits,8
@@ -1592,6 +1586,12 @@
 .Lf1c38b9a8d70:
 	.byte	58
 	.size	.Lf1c38b9a8d70, 1
+
+	.type	.Lf21f90705abb,@object
+	.section	.rodata,"a",@progbits
+.Lf21f90705abb:
+	.ascii	"Go by the contents alone: no name is looked at; not\nwith --magic-first or --all-globs"
+	.size	.Lf21f90705abb, 85
 
 	.type	.Lf2c7ae87a724,@object
 	.section	.rodata.cst8,"aM",@progbits,8

@@ -3207,7 +3207,7 @@
 	leaq	.Lbe3499bcd3e4(%rip), %rax
 	movq	%rax, 32(%rsp)
 	movq	$202, 40(%rsp)
-	leaq	.Lc8501059a586(%rip), %rax
+	leaq	.La883b7dbfd0a(%rip), %rax
 	movq	%rax, 48(%rsp)
 	movq	$741, 56(%rsp)
 	leaq	.Lf104d05df27b(%rip), %rsi
@@ -4246,7 +4246,7 @@
 	movq	%rax, 1840(%rsp)
 	movq	$12, 1848(%rsp)
 	movq	$1, 1856(%rsp)
-	leaq	.Lcbc41e807bbe(%rip), %rcx
+	leaq	.Lf21f90705abb(%rip), %rcx
 	movq	%rcx, 1864(%rsp)
 	movq	$85, 1872(%rsp)
 	xorps	%xmm0, %xmm0
@@ -4448,7 +4448,7 @@
 	movq	%rax, 16(%rsp)
 	movq	$5, 24(%rsp)
 	movq	$1, 32(%rsp)
-	leaq	.L81e1518d14b9(%rip), %rcx
+	leaq	.Ld225cf273187(%rip), %rcx
 	movq	%rcx, 40(%rsp)
 	movq	$163, 48(%rsp)
 	xorps	%xmm0, %xmm0
