@@ -1,9 +1,10 @@
 -- The first entries of each key: marks, plain pairs, and that no key stands twice.
-use Rattle.std.proofs.Common.{◌≡◌, ℕ, suc, Bool, true, false, not, ◌&&◌, ◌||◌, cond, List, [], ◌∷◌, ◌++◌, length, map, ap, ap₂, ◌∙◌, refl}
-use Rattle.std.proofs.Common.{sym, subst, ⊎_elim}
+use Rattle.std.proofs.Common.{◌≡◌, ℕ, suc, ◌+◌, ◌<◌, Bool, true, false, not, ◌&&◌, ◌||◌, cond, List, [], ◌∷◌, ◌++◌, length, map, ap, ap₂, ◌∙◌, refl}
+use Rattle.std.proofs.Common.{sym, append_assoc, drop, get_or, ⊎_elim}
 use Rattle.std.proofs.lemmas.Bool.{and_from, and_left, and_parts, cases_Bool, cond-true, cond-false, not-true, not_from_false}
 use Rattle.std.proofs.lemmas.Bool.{not_from_true}
 use Rattle.std.proofs.lemmas.Cmp.{nat_list_eq_equiv}
+use Rattle.std.proofs.lemmas.List.{drop_more}
 use Rattle.std.proofs.lemmas.List.Elements.{filter_agree}
 use Rattle.std.proofs.lemmas.List.Folds.{list_any-append}
 use Rattle.std.proofs.lemmas.Slice.Eq.{bytes_eq-Decides}
@@ -69,6 +70,19 @@ marks-alike seen others alike [] = refl
 marks-alike seen others alike (key ∷ keys) =
     ap₂ (λ mark more. mark ∷ more) (ap not (alike key))
     (marks-alike (key ∷ seen) (key ∷ others) (λ other. ap (λ b. is_same_pair other key || b) (alike other)) keys)
+
+-- a mark more, of the first entry that is left
+pub marks-more : {A : Type 0} (key_of : A → List ℕ × List ℕ) (entries : List A) (i : ℕ) (here : A)
+    → i < length entries → here ≡ get_or entries i here → (marked : List Bool) (seen new : List (List ℕ × List ℕ)) (mark : Bool)
+    (key : List ℕ × List ℕ) → key ≡ key_of here → mark ≡ not (list_any (is_same_pair key) seen)
+    → ((other : List ℕ × List ℕ) → list_any (is_same_pair other) new ≡ list_any (is_same_pair other) (key ∷ seen))
+    → (marked ++ mark ∷ []) ++ marks new (map key_of (drop (i + 1) entries)) ≡ marked ++ marks seen (map key_of (drop i entries))
+marks-more key_of entries i here inside is marked seen new mark key keyed new_mark more =
+    let rest = drop (i + 1) entries in
+    append_assoc marked (mark ∷ []) (marks new (map key_of rest))
+    ∙ ap (λ ms. marked ++ ms) (ap₂ (λ m ms. m ∷ ms) new_mark (marks-alike new (key ∷ seen) more (map key_of rest))
+    ∙ ap (marks seen) (ap (λ k. k ∷ map key_of rest) keyed ∙ ap (λ entry. map key_of (entry ∷ rest)) is
+    ∙ ap (map key_of) (sym (drop_more entries i here inside))))
 
 -- ---- plain entries
 

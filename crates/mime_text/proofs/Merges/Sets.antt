@@ -20,6 +20,12 @@ or-again : (a b : Bool) → (a || b) ≡ (a || (a || b))
 or-again true b = refl
 or-again false b = refl
 
+-- of three tests any may come first
+pub or-turn : (a b c : Bool) → ((a || b) || c) ≡ (b || (a || c))
+or-turn true true c = refl
+or-turn true false c = refl
+or-turn false b c = refl
+
 -- what finds a key finds it in a set that has it more
 pub inserted-any : {K : Type 0} (cmp : K → K → Ordering) (test : K → Bool) → ((x y : K) → cmp x y ≡ Equal → test x ≡ test y) →
     (key : K) (keys : List K) → list_any test (insert_key cmp keys key) ≡ (test key || list_any test keys)

@@ -14,7 +14,7 @@ use Rattle.std.proofs.lemmas.Map.Text.{is_eq-slice_cmp}
 use Rattle.std.proofs.lemmas.Slice.Eq.{bytes_eq-Decides}
 use Rattle.mime_base.specs.Kept.Twins.{are_alike, is_twin}
 use Rattle.mime_base.specs.declared.database.rule.GlobRule.{GlobRule}
-use Rattle.mime_text.proofs.Merges.Sets.{inserted-any}
+use Rattle.mime_text.proofs.Merges.Sets.{inserted-any, or-turn}
 use Rattle.mime_text.specs.Merging.TwinKeys.{has_key_of, is_kept}
 
 -- ---- keys
@@ -85,11 +85,6 @@ module _ (rules : List GlobRule) (i : ℕ) (here : GlobRule) (inside : i < lengt
       ∙ sym (ap (λ b. has_key_of old rule || b)
       (copies-here ∙ ap (λ c. (c && are_alike rule here) || list_any is_copy (drop (i + 1) rules)) cased))
       ∙ all
-    where
-      or-turn : (a b c : Bool) → ((a || b) || c) ≡ (b || (a || c))
-      or-turn true true c = refl
-      or-turn true false c = refl
-      or-turn false b c = refl
 
   -- any other, which added none
   pub copies-same : (old : BTreeSet (ℕ × Bor (List ℕ) × Bor (List ℕ))) → here.cased ≡ false →

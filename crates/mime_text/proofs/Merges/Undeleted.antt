@@ -1,12 +1,14 @@
 -- What markers leave, a directory more at a time.
-use Rattle.std.proofs.Common.{◌≡◌, ℕ, Bool, true, false, not, ◌&&◌, ◌||◌, List, [], ◌∷◌, ◌++◌, ap, ap₂, ◌∙◌, refl, sym}
-use Rattle.std.proofs.Common.{append_assoc, append-nil}
+use Rattle.std.proofs.Common.{◌≡◌, ℕ, ◌+◌, ◌<◌, Bool, true, false, not, ◌&&◌, ◌||◌, List, [], ◌∷◌, ◌++◌, ap, ap₂, ◌∙◌, refl, sym}
+use Rattle.std.proofs.Common.{append_assoc, append-nil, drop, get_or, length}
 use Rattle.std.proofs.lemmas.Grind.{flat_map-append}
 use Rattle.std.proofs.lemmas.List.Elements.{filter-append, filter_agree}
 use Rattle.std.proofs.lemmas.List.Folds.{list_any-append}
 use Rattle.std.specs.List.{flat_map}
 use Rattle.std.specs.Str.{bytes_eq}
+use Rattle.std.proofs.lemmas.List.{drop_more}
 use Rattle.mime_text.proofs.Merges.Filters.{filter-all, filter-filter}
+use Rattle.mime_text.proofs.Merges.Sets.{or-turn}
 use Rattle.mime_text.specs.Merging.{is_among, undeleted, without}
 use Rattle.mime_text.specs.Merging.Gathering.{AddsPart, KeepsParts}
 
@@ -18,6 +20,18 @@ not-or true true = refl
 not-or true false = refl
 not-or false true = refl
 not-or false false = refl
+
+-- a type more of those that are left
+pub kinds-more : (all : List (List ℕ)) (i : ℕ) (here : List ℕ) → i < length all → here ≡ get_or all i here
+    → (old new : List (List ℕ)) (kind : List ℕ) → is_among new kind ≡ is_among (here ∷ old) kind
+    → is_among (new ++ drop (i + 1) all) kind ≡ is_among (old ++ drop i all) kind
+kinds-more all i here inside is old new kind more =
+    let rest = drop (i + 1) all in
+    list_any-append (bytes_eq kind) new rest ∙ ap (λ b. b || is_among rest kind) more
+    ∙ or-turn (bytes_eq kind here) (is_among old kind) (is_among rest kind)
+    ∙ sym (list_any-append (bytes_eq kind) old (here ∷ rest))
+    ∙ ap (λ first. is_among (old ++ first ∷ rest) kind) is
+    ∙ ap (λ kinds. is_among (old ++ kinds) kind) (sym (drop_more all i here inside))
 
 module _ {A : Type 0} (kind_of : A → List ℕ) where
   -- ---- items
