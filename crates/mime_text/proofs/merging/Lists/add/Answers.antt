@@ -1,9 +1,24 @@
-use Rattle.std.proofs.Common.{rules, ◌≡◌, IfOk, OnOk, ℕ, ◌+◌, ◌-◌, ◌*◌, ◌<◌, ◌≤◌, length, ◌/◌, ◌%◌, Bool, true, false, nat_eq, nat_lt, List, [], ◌∷◌, ◌++◌, slice_index_or, slice_set, bit_and, bit_or, Fits, w8, w32, w64, Bor, MutBor}
-use Rattle.mime_base.specs.Database.{plain_database}
-use Rattle.mime_text.specs.Merging.{merged, plain_dirs, visible_database}
-use Rattle.mime_text.specs.Merging.Gathering.{Adds, Gathers}
+-- Each list has what the directory adds to it.
+use Rattle.std.proofs.Common.{◌∙◌, ◌++◌, ap}
+use Rattle.mime_text.specs.Merging.{is_among}
 use Rattle.mime_text.proofs.merging.Lists.add.Goals as goal
 
--- src/merging.rt:136:5
 pub returns : goal.returns
-returns c = ?
+returns c = record {
+  rules = record {
+    kept = c.in_ok-add.ensures.items;
+    kinds = λ kind.
+        c.in_ok-add.ensures.deleted kind
+        ∙ ap (λ more. is_among (c.args.self.now.rules.deleted ++ more) kind) c.deref.ensures.value;
+  };
+  sections = record {
+    kept = c.in_ok-add-2.ensures.items;
+    kinds = λ kind.
+        c.in_ok-add-2.ensures.deleted kind
+        ∙ ap (λ more. is_among (c.args.self.now.sections.deleted ++ more) kind) c.deref-2.ensures.value;
+  };
+  aliases = c.in_ok-append.ensures.items;
+  subclasses = c.in_ok-append-2.ensures.items;
+  icons = c.in_ok-append-3.ensures.items;
+  generic_icons = c.in_ok-append-4.ensures.items;
+}

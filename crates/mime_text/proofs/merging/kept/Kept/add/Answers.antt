@@ -1,4 +1,5 @@
 -- A type more of those that are left.
+use Rattle.std.proofs.Common.{◌∙◌}
 use Rattle.mime_text.proofs.Merges.Undeleted.{kinds-more}
 use Rattle.mime_text.proofs.merging.kept.Kept.add.Goals as goal
 
