@@ -3,7 +3,7 @@ pub mod Gathering
 pub mod Hiding
 pub mod TwinKeys
 -- What merged data directories say, the most preferred first.
-use Rattle.std.specs.Prelude.{ℕ, Bool, not, List, [], ◌∷◌, ◌++◌, fold, map, filter, bytes_eq, if◌then◌else◌}
+use Rattle.std.specs.Prelude.{ℕ, Bool, not, List, [], ◌∷◌, ◌++◌, map, filter, bytes_eq, if◌then◌else◌}
 use Rattle.std.specs.List.{flat_map, list_any}
 use Rattle.mime_base.specs.Database.{PlainDatabase}
 use Rattle.mime_base.specs.Falling.{falling}
@@ -40,14 +40,6 @@ abbrev pub undeleted : {A : Type 0} → (A → List ℕ) → List (List A × Lis
 undeleted kind_of [] = []
 undeleted kind_of (dir ∷ dirs) = dir.0 ++ without kind_of dir.1 (undeleted kind_of dirs)
 
--- the types with one more
-abbrev pub with_kind : List (List ℕ) → List ℕ → List (List ℕ)
-with_kind kinds kind = if is_among kinds kind then kinds else kinds ++ kind ∷ []
-
--- the types with more
-abbrev pub with_kinds : List (List ℕ) → List (List ℕ) → List (List ℕ)
-with_kinds kinds more = fold with_kind kinds more
-
 -- ---- first entries
 
 -- the entries that are not the same as an earlier one
@@ -63,14 +55,10 @@ has_same_name left right = bytes_eq left.0 right.0
 abbrev pub has_same_key : {A : Type 0} → (A → List ℕ × List ℕ) → A → A → Bool
 has_same_key key_of left right = is_same_pair (key_of left) (key_of right)
 
--- the keys with one more
-abbrev pub with_new_key : List (List ℕ × List ℕ) → (List ℕ × List ℕ) → List (List ℕ × List ℕ)
-with_new_key keys key = if list_any (is_same_pair key) keys then keys else keys ++ key ∷ []
-
 -- which of these keys are none of those before
 abbrev pub marks : List (List ℕ × List ℕ) → List (List ℕ × List ℕ) → List Bool
 marks seen [] = []
-marks seen (key ∷ keys) = not (list_any (is_same_pair key) seen) ∷ marks (with_new_key seen key) keys
+marks seen (key ∷ keys) = not (list_any (is_same_pair key) seen) ∷ marks (key ∷ seen) keys
 
 -- the entries that are marked
 abbrev pub picked : {A : Type 0} → List Bool → List A → List A

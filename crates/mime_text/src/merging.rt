@@ -5,7 +5,7 @@
 //! give for its type; those of its own directory and of more preferred ones stay. That the first pair
 //! of an alias counts, and the first icon of a type, is this project's own.
 //!
-//! It is linear in what the files hold, but for the sort of sections.
+//! Its work is n log n in the entries, whatever names they have.
 
 ghost use Rattle.std.specs.Prelude.{◌≡◌, IfOk, OnOk};
 ghost use Rattle.mime_base.specs.Database.{plain_database};

@@ -1,9 +1,10 @@
 -- The first entries of each key: marks, plain pairs, and that no key stands twice.
-use Rattle.std.proofs.Common.{◌≡◌, ℕ, suc, Bool, true, false, not, ◌&&◌, ◌||◌, cond, List, [], ◌∷◌, ◌++◌, length, map, ap, ap₂, ◌∙◌, refl}
-use Rattle.std.proofs.Common.{sym, subst, ⊎_elim}
+use Rattle.std.proofs.Common.{◌≡◌, ℕ, suc, ◌+◌, ◌<◌, Bool, true, false, not, ◌&&◌, ◌||◌, cond, List, [], ◌∷◌, ◌++◌, length, map, ap, ap₂, ◌∙◌, refl}
+use Rattle.std.proofs.Common.{sym, append_assoc, drop, get_or, ⊎_elim}
 use Rattle.std.proofs.lemmas.Bool.{and_from, and_left, and_parts, cases_Bool, cond-true, cond-false, not-true, not_from_false}
 use Rattle.std.proofs.lemmas.Bool.{not_from_true}
 use Rattle.std.proofs.lemmas.Cmp.{nat_list_eq_equiv}
+use Rattle.std.proofs.lemmas.List.{drop_more}
 use Rattle.std.proofs.lemmas.List.Elements.{filter_agree}
 use Rattle.std.proofs.lemmas.List.Folds.{list_any-append}
 use Rattle.std.proofs.lemmas.Slice.Eq.{bytes_eq-Decides}
@@ -11,12 +12,12 @@ use Rattle.std.specs.List.{filter, list_any}
 use Rattle.std.specs.Str.{bytes_eq}
 use Rattle.mime_base.specs.Database.PlainPairs.{are_distinct_pairs, have_distinct_names, is_same_pair}
 use Rattle.mime_text.proofs.Merges.Filters.{filter-all, filter-filter, filter-map, list_any-filter, list_any-others}
-use Rattle.mime_text.specs.Merging.{has_same_key, has_same_name, marks, once, picked, with_new_key}
+use Rattle.mime_text.specs.Merging.{has_same_key, has_same_name, marks, once, picked}
 
 -- ---- keys
 
 -- two keys that are the same are equal
-same_is : (left right : List ℕ × List ℕ) → is_same_pair left right ≡ true → left ≡ right
+pub same_is : (left right : List ℕ × List ℕ) → is_same_pair left right ≡ true → left ≡ right
 same_is left right same =
     let parts = and_parts (bytes_eq left.0 right.0) (bytes_eq left.1 right.1) same in
     ap₂ (λ x y. (x, y)) ((bytes_eq-Decides left.0 right.0).0 parts.0) ((bytes_eq-Decides left.1 right.1).0 parts.1)
@@ -30,56 +31,27 @@ module _ {A : Type 0} (key_of : A → List ℕ × List ℕ) where
   abbrev is_new : List (List ℕ × List ℕ) → A → Bool
   is_new seen entry = not (list_any (is_same_pair (key_of entry)) seen)
 
-  -- of entries that are not the same as one with a known key, those with a new key
-  new-known : (seen : List (List ℕ × List ℕ)) (entry other : A) → list_any (is_same_pair (key_of entry)) seen ≡ true
-      → (not (has_same_key key_of entry other) && is_new seen other) ≡ is_new seen other
-  new-known seen entry other known = ⊎_elim
-      (λ (same : has_same_key key_of entry other ≡ true).
-      let found : list_any (is_same_pair (key_of other)) seen ≡ true =
-      subst (λ key. list_any (is_same_pair key) seen ≡ true) (same_is (key_of entry) (key_of other) same) known in
-      and_left _ _ (not_from_true _ same) ∙ sym (not_from_true _ found))
-      (λ (differs : has_same_key key_of entry other ≡ false). ap (λ b. not b && is_new seen other) differs)
-      (cases_Bool (has_same_key key_of entry other))
-
   -- neither of two tests holds where not one or the other does
-  not-or-false : (b c : Bool) → (not c && not b) ≡ not (b || (c || false))
-  not-or-false true true = refl
-  not-or-false true false = refl
-  not-or-false false true = refl
-  not-or-false false false = refl
+  not-or : (a b : Bool) → (not a && not b) ≡ not (a || b)
+  not-or true b = refl
+  not-or false b = refl
 
   -- of entries that are not the same as one, those with a new key
   new-more : (seen : List (List ℕ × List ℕ)) (entry other : A)
-      → (not (has_same_key key_of entry other) && is_new seen other) ≡ is_new (seen ++ key_of entry ∷ []) other
+      → (not (has_same_key key_of entry other) && is_new seen other) ≡ is_new (key_of entry ∷ seen) other
   new-more seen entry other =
-      let found = list_any (is_same_pair (key_of other)) seen in
-      ap (λ b. not b && not found) (same_both_ways (key_of entry) (key_of other))
-      ∙ not-or-false found (is_same_pair (key_of other) (key_of entry))
-      ∙ ap not (sym (list_any-append (is_same_pair (key_of other)) seen (key_of entry ∷ [])))
+      ap (λ b. not b && is_new seen other) (same_both_ways (key_of entry) (key_of other))
+      ∙ not-or (is_same_pair (key_of other) (key_of entry)) (list_any (is_same_pair (key_of other)) seen)
 
   -- the marked entries are the first of each key that was not seen before
   picked-marks : (seen : List (List ℕ × List ℕ)) (entries : List A)
       → picked (marks seen (map key_of entries)) entries ≡ filter (is_new seen) (once (has_same_key key_of) entries)
   picked-marks seen [] = refl
   picked-marks seen (entry ∷ entries) =
-      let key = key_of entry in
-      let others = filter (λ other. not (has_same_key key_of entry other)) (once (has_same_key key_of) entries) in
-      ⊎_elim
-      (λ (known : list_any (is_same_pair key) seen ≡ true).
-      cond-false _ _ _ (not_from_true _ known)
-      ∙ ap (λ keys. picked (marks keys (map key_of entries)) entries) (cond-true _ seen (seen ++ key ∷ []) known)
-      ∙ picked-marks seen entries
-      ∙ sym (cond-false _ (entry ∷ filter (is_new seen) others) (filter (is_new seen) others) (not_from_true _ known)
-      ∙ filter-filter (is_new seen) _ (once (has_same_key key_of) entries)
-      ∙ filter_agree _ _ (λ other. new-known seen entry other known) (once (has_same_key key_of) entries)))
-      (λ (new : list_any (is_same_pair key) seen ≡ false).
-      cond-true _ _ _ (not_from_false _ new)
-      ∙ ap (λ keys. entry ∷ picked (marks keys (map key_of entries)) entries) (cond-false _ seen (seen ++ key ∷ []) new)
-      ∙ ap (λ rest. entry ∷ rest) (picked-marks (seen ++ key ∷ []) entries)
-      ∙ sym (cond-true _ (entry ∷ filter (is_new seen) others) (filter (is_new seen) others) (not_from_false _ new)
-      ∙ ap (λ rest. entry ∷ rest) (filter-filter (is_new seen) _ (once (has_same_key key_of) entries)
-      ∙ filter_agree _ _ (λ other. new-more seen entry other) (once (has_same_key key_of) entries))))
-      (cases_Bool (list_any (is_same_pair key) seen))
+      let firsts = once (has_same_key key_of) entries in
+      ap (λ rest. cond (is_new seen entry) (entry ∷ rest) rest)
+      (picked-marks (key_of entry ∷ seen) entries
+      ∙ sym (filter-filter (is_new seen) _ firsts ∙ filter_agree _ _ (λ other. new-more seen entry other) firsts))
 
   -- where none was seen
   pub picked-once : (entries : List A) → picked (marks [] (map key_of entries)) entries ≡ once (has_same_key key_of) entries
@@ -88,7 +60,29 @@ module _ {A : Type 0} (key_of : A → List ℕ × List ℕ) where
   -- there is a mark for each entry
   pub length-marks : (seen : List (List ℕ × List ℕ)) (entries : List A) → length (marks seen (map key_of entries)) ≡ length entries
   length-marks seen [] = refl
-  length-marks seen (entry ∷ entries) = ap suc (length-marks (with_new_key seen (key_of entry)) entries)
+  length-marks seen (entry ∷ entries) = ap suc (length-marks (key_of entry ∷ seen) entries)
+
+-- keys that find alike mark alike
+pub marks-alike : (seen others : List (List ℕ × List ℕ))
+    → ((key : List ℕ × List ℕ) → list_any (is_same_pair key) seen ≡ list_any (is_same_pair key) others)
+    → (keys : List (List ℕ × List ℕ)) → marks seen keys ≡ marks others keys
+marks-alike seen others alike [] = refl
+marks-alike seen others alike (key ∷ keys) =
+    ap₂ (λ mark more. mark ∷ more) (ap not (alike key))
+    (marks-alike (key ∷ seen) (key ∷ others) (λ other. ap (λ b. is_same_pair other key || b) (alike other)) keys)
+
+-- a mark more, of the first entry that is left
+pub marks-more : {A : Type 0} (key_of : A → List ℕ × List ℕ) (entries : List A) (i : ℕ) (here : A)
+    → i < length entries → here ≡ get_or entries i here → (marked : List Bool) (seen new : List (List ℕ × List ℕ)) (mark : Bool)
+    (key : List ℕ × List ℕ) → key ≡ key_of here → mark ≡ not (list_any (is_same_pair key) seen)
+    → ((other : List ℕ × List ℕ) → list_any (is_same_pair other) new ≡ list_any (is_same_pair other) (key ∷ seen))
+    → (marked ++ mark ∷ []) ++ marks new (map key_of (drop (i + 1) entries)) ≡ marked ++ marks seen (map key_of (drop i entries))
+marks-more key_of entries i here inside is marked seen new mark key keyed new_mark more =
+    let rest = drop (i + 1) entries in
+    append_assoc marked (mark ∷ []) (marks new (map key_of rest))
+    ∙ ap (λ ms. marked ++ ms) (ap₂ (λ m ms. m ∷ ms) new_mark (marks-alike new (key ∷ seen) more (map key_of rest))
+    ∙ ap (marks seen) (ap (λ k. k ∷ map key_of rest) keyed ∙ ap (λ entry. map key_of (entry ∷ rest)) is
+    ∙ ap (map key_of) (sym (drop_more entries i here inside))))
 
 -- ---- plain entries
 

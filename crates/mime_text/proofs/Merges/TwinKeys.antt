@@ -1,12 +1,12 @@
 -- The set of the weights, types and patterns of case-sensitive rules, by which a rule is a twin or not.
-use Rattle.std.proofs.Common.{◌≡◌, ℕ, ◌+◌, ◌<◌, ◌==◌, bytes_eq, Bool, true, false, not, ◌&&◌, ◌||◌, List, [], ◌∷◌, refl, sym, ap, ap₂, ◌∙◌}
-use Rattle.std.proofs.Common.{drop, length, get_or, Ordering, Less, Equal, Greater}
+use Rattle.std.proofs.Common.{◌≡◌, ℕ, ◌+◌, ◌<◌, ◌==◌, bytes_eq, Bool, true, false, not, ◌&&◌, ◌||◌, List, refl, sym, ap, ap₂, ◌∙◌}
+use Rattle.std.proofs.Common.{drop, length, get_or, Ordering, Equal}
 use Rattle.std.specs.List.{list_any}
 use Rattle.std.specs.Borrow.{Bor}
 use Rattle.std.specs.BTreeSet.{BTreeSet, insert_key}
 use Rattle.std.specs.Cmp.{tied_then, unsigned_ties}
 use Rattle.std.specs.Cmp.Lexicographic.{slice_cmp}
-use Rattle.std.specs.Ordering.{is_eq, match_ordering, nat_cmp, ordering_then}
+use Rattle.std.specs.Ordering.{is_eq, nat_cmp, ordering_then}
 use Rattle.std.proofs.lemmas.Bool.{and_parts}
 use Rattle.std.proofs.lemmas.Bool.Decides.{Decides-eqb}
 use Rattle.std.proofs.lemmas.List.{drop_more}
@@ -14,34 +14,8 @@ use Rattle.std.proofs.lemmas.Map.Text.{is_eq-slice_cmp}
 use Rattle.std.proofs.lemmas.Slice.Eq.{bytes_eq-Decides}
 use Rattle.mime_base.specs.Kept.Twins.{are_alike, is_twin}
 use Rattle.mime_base.specs.declared.database.rule.GlobRule.{GlobRule}
+use Rattle.mime_text.proofs.Merges.Sets.{inserted-any, or-turn}
 use Rattle.mime_text.specs.Merging.TwinKeys.{has_key_of, is_kept}
-
--- ---- a key more
-
--- of two tests either may come first
-or-swap : (a b c : Bool) → (a || (b || c)) ≡ (b || (a || c))
-or-swap true true c = refl
-or-swap true false c = refl
-or-swap false b c = refl
-
--- a test may be repeated
-or-again : (a b : Bool) → (a || b) ≡ (a || (a || b))
-or-again true b = refl
-or-again false b = refl
-
--- what finds a key finds it in a set that has it more
-inserted-any : {K : Type 0} (cmp : K → K → Ordering) (test : K → Bool) → ((x y : K) → cmp x y ≡ Equal → test x ≡ test y) →
-    (key : K) (keys : List K) → list_any test (insert_key cmp keys key) ≡ (test key || list_any test keys)
-inserted-any cmp test same key [] = refl
-inserted-any cmp test same key (x ∷ keys) = by_order (cmp key x) refl (inserted-any cmp test same key keys)
-  where
-    by_order : (o : Ordering) → cmp key x ≡ o → list_any test (insert_key cmp keys key) ≡ (test key || list_any test keys) →
-        list_any test (match_ordering o (key ∷ x ∷ keys) (x ∷ keys) (x ∷ insert_key cmp keys key))
-        ≡ (test key || (test x || list_any test keys))
-    by_order Less is rest = refl
-    by_order Equal is rest =
-        or-again (test x) (list_any test keys) ∙ ap (λ b. b || (test x || list_any test keys)) (sym (same key x is))
-    by_order Greater is rest = ap (λ b. test x || b) rest ∙ or-swap (test x) (test key) (list_any test keys)
 
 -- ---- keys
 
@@ -111,11 +85,6 @@ module _ (rules : List GlobRule) (i : ℕ) (here : GlobRule) (inside : i < lengt
       ∙ sym (ap (λ b. has_key_of old rule || b)
       (copies-here ∙ ap (λ c. (c && are_alike rule here) || list_any is_copy (drop (i + 1) rules)) cased))
       ∙ all
-    where
-      or-turn : (a b c : Bool) → ((a || b) || c) ≡ (b || (a || c))
-      or-turn true true c = refl
-      or-turn true false c = refl
-      or-turn false b c = refl
 
   -- any other, which added none
   pub copies-same : (old : BTreeSet (ℕ × Bor (List ℕ) × Bor (List ℕ))) → here.cased ≡ false →

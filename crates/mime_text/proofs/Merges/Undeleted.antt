@@ -1,28 +1,18 @@
 -- What markers leave, a directory more at a time.
-use Rattle.std.proofs.Common.{◌≡◌, ℕ, Bool, true, false, not, ◌&&◌, ◌||◌, List, [], ◌∷◌, ◌++◌, ap, ap₂, ◌∙◌, refl, sym, subst, ⊎_elim}
-use Rattle.std.proofs.Common.{append_assoc, append-nil}
-use Rattle.std.proofs.lemmas.Bool.{cases_Bool, cond-true, cond-false, or_right}
+use Rattle.std.proofs.Common.{◌≡◌, ℕ, ◌+◌, ◌<◌, Bool, true, false, not, ◌&&◌, ◌||◌, List, [], ◌∷◌, ◌++◌, ap, ap₂, ◌∙◌, refl, sym}
+use Rattle.std.proofs.Common.{append_assoc, append-nil, drop, get_or, length}
 use Rattle.std.proofs.lemmas.Grind.{flat_map-append}
 use Rattle.std.proofs.lemmas.List.Elements.{filter-append, filter_agree}
 use Rattle.std.proofs.lemmas.List.Folds.{list_any-append}
-use Rattle.std.proofs.lemmas.Slice.Eq.{bytes_eq-Decides}
 use Rattle.std.specs.List.{flat_map}
 use Rattle.std.specs.Str.{bytes_eq}
+use Rattle.std.proofs.lemmas.List.{drop_more}
 use Rattle.mime_text.proofs.Merges.Filters.{filter-all, filter-filter}
-use Rattle.mime_text.specs.Merging.{is_among, undeleted, with_kind, with_kinds, without}
+use Rattle.mime_text.proofs.Merges.Sets.{or-turn}
+use Rattle.mime_text.specs.Merging.{is_among, undeleted, without}
 use Rattle.mime_text.specs.Merging.Gathering.{AddsPart, KeepsParts}
 
 -- ---- tests
-
--- a test or one that fails
-or-false : (b : Bool) → (b || false) ≡ b
-or-false true = refl
-or-false false = refl
-
--- three tests, of which one passes
-or-assoc : (a b c : Bool) → ((a || b) || c) ≡ (a || (b || c))
-or-assoc true b c = refl
-or-assoc false b c = refl
 
 -- neither of two tests
 not-or : (a b : Bool) → (not b && not a) ≡ not (a || b)
@@ -31,34 +21,17 @@ not-or true false = refl
 not-or false true = refl
 not-or false false = refl
 
--- a type that is one of these already changes no test
-one_of_them : (kinds : List (List ℕ)) (kind other : List ℕ) → is_among kinds kind ≡ true
-    → is_among kinds other ≡ (is_among kinds other || bytes_eq other kind)
-one_of_them kinds kind other there = ⊎_elim
-    (λ (same : bytes_eq other kind ≡ true).
-    let found : is_among kinds other ≡ true = subst (λ k. is_among kinds k ≡ true) (sym ((bytes_eq-Decides other kind).0 same)) there in
-    found ∙ sym (or_right _ _ same))
-    (λ (differs : bytes_eq other kind ≡ false). sym (ap (λ b. is_among kinds other || b) differs ∙ or-false _))
-    (cases_Bool (bytes_eq other kind))
-
--- a type more
-pub is_among-with_kind : (kinds : List (List ℕ)) (kind other : List ℕ)
-    → is_among (with_kind kinds kind) other ≡ (is_among kinds other || bytes_eq other kind)
-is_among-with_kind kinds kind other = ⊎_elim
-    (λ (there : is_among kinds kind ≡ true). ap (λ ks. is_among ks other) (cond-true _ kinds (kinds ++ kind ∷ []) there)
-    ∙ one_of_them kinds kind other there)
-    (λ (new : is_among kinds kind ≡ false).
-    ap (λ ks. is_among ks other) (cond-false _ kinds (kinds ++ kind ∷ []) new)
-    ∙ list_any-append (bytes_eq other) kinds (kind ∷ []) ∙ ap (λ b. is_among kinds other || b) (or-false (bytes_eq other kind)))
-    (cases_Bool (is_among kinds kind))
-
--- types more
-pub is_among-with_kinds : (kinds more : List (List ℕ)) (other : List ℕ)
-    → is_among (with_kinds kinds more) other ≡ (is_among kinds other || is_among more other)
-is_among-with_kinds kinds [] other = sym (or-false _)
-is_among-with_kinds kinds (kind ∷ more) other =
-    is_among-with_kinds (with_kind kinds kind) more other ∙ ap (λ b. b || is_among more other) (is_among-with_kind kinds kind other)
-    ∙ or-assoc (is_among kinds other) (bytes_eq other kind) (is_among more other)
+-- a type more of those that are left
+pub kinds-more : (all : List (List ℕ)) (i : ℕ) (here : List ℕ) → i < length all → here ≡ get_or all i here
+    → (old new : List (List ℕ)) (kind : List ℕ) → is_among new kind ≡ is_among (here ∷ old) kind
+    → is_among (new ++ drop (i + 1) all) kind ≡ is_among (old ++ drop i all) kind
+kinds-more all i here inside is old new kind more =
+    let rest = drop (i + 1) all in
+    list_any-append (bytes_eq kind) new rest ∙ ap (λ b. b || is_among rest kind) more
+    ∙ or-turn (bytes_eq kind here) (is_among old kind) (is_among rest kind)
+    ∙ sym (list_any-append (bytes_eq kind) old (here ∷ rest))
+    ∙ ap (λ first. is_among (old ++ first ∷ rest) kind) is
+    ∙ ap (λ kinds. is_among (old ++ kinds) kind) (sym (drop_more all i here inside))
 
 module _ {A : Type 0} (kind_of : A → List ℕ) where
   -- ---- items
@@ -103,7 +76,7 @@ module _ {A : Type 0} (kind_of : A → List ℕ) where
     kept = adds.kept ∙ ap₂ ◌++◌ keeps.kept (without-alike deleted (flat_map (λ p. p.1) parts) keeps.kinds part.0)
         ∙ sym (undeleted-more parts part);
     kinds = λ kind.
-        ap (λ kinds. is_among kinds kind) adds.kinds ∙ is_among-with_kinds deleted part.1 kind
+        adds.kinds kind ∙ list_any-append (bytes_eq kind) deleted part.1
         ∙ ap (λ b. b || is_among part.1 kind) (keeps.kinds kind)
         ∙ sym (ap (λ kinds. is_among kinds kind) (flat_map-append (λ p. p.1) parts (part ∷ [])
         ∙ ap (λ kinds. flat_map (λ p. p.1) parts ++ kinds) (append-nil part.1))

@@ -5,7 +5,7 @@ use Rattle.mime_base.specs.declared.database.rule.GlobRule.{GlobRule}
 use Rattle.mime_base.specs.declared.magic.Section.{Section}
 use Rattle.mime_text.specs.declared.merging.DirFiles as code
 use Rattle.mime_text.specs.declared.merging.Lists.{Lists}
-use Rattle.mime_text.specs.Merging.{is_among, undeleted, with_kinds, without}
+use Rattle.mime_text.specs.Merging.{is_among, undeleted, without}
 
 -- the rules of a directory, and the types whose rules it deletes
 abbrev pub globs_part : code.DirFiles → List GlobRule × List (List ℕ)
@@ -34,7 +34,7 @@ pub record Gathers (lists : Lists) (dirs : List code.DirFiles) : Type 0 where
 pub record AddsPart {A : Type 0} (kind_of : A → List ℕ) (items : List A) (deleted : List (List ℕ))
     (part : List A × List (List ℕ)) (new_items : List A) (new_deleted : List (List ℕ)) : Type 0 where
   pub kept : new_items ≡ items ++ without kind_of deleted part.0
-  pub kinds : new_deleted ≡ with_kinds deleted part.1
+  pub kinds : (kind : List ℕ) → is_among new_deleted kind ≡ is_among (deleted ++ part.1) kind
 
 -- lists to which a directory was added
 pub record Adds (old : Lists) (dir : code.DirFiles) (new : Lists) : Type 0 where

@@ -1,23 +1,23 @@
 //! The first entry of each key.
 //!
 //! Marks are found first, with keys that borrow from the entries; then the entries are moved. So no
-//! text is copied.
+//! text is copied. The keys are held in a tree, so that no choice of keys makes it slow.
 
-ghost use Rattle.std.specs.Prelude.{◌≡◌, [], IfOk, OnOk, List, ℕ, length, map, not};
+ghost use Rattle.std.specs.Prelude.{◌≡◌, ◌∷◌, [], IfOk, OnOk, List, ℕ, length, map, not};
 ghost use Rattle.std.specs.List.{list_any};
 ghost use Rattle.mime_base.specs.Database.PlainPairs.{is_same_pair};
-ghost use Rattle.mime_text.specs.Merging.{has_same_key, marks, once, picked, with_new_key};
+ghost use Rattle.mime_text.specs.Merging.{has_same_key, marks, once, picked};
 
 use super::key::Key;
-use indexmap::IndexSet;
 use mime_base::OutOfMemory;
 use std::alloc::Global;
+use std::collections::BTreeSet;
 use std::marker::Model;
 
 /// The keys that were met.
 #[derive(Drop)]
 pub struct Keys<'a> {
-    texts: IndexSet<(&'a [u8], &'a [u8])>,
+    texts: BTreeSet<(&'a [u8], &'a [u8])>,
 }
 
 impl<'a> Model for Keys<'a> {
@@ -29,18 +29,20 @@ impl<'a> Model for Keys<'a> {
 }
 
 impl<'a> Keys<'a> {
-    /// No keys, and room for so many.
-    fn with_capacity(alloc: Global, capacity: usize) -> Result<Keys<'a>, OutOfMemory>
-        ensures { IfOk result (λ keys. keys ≡ []) }
+    /// No keys.
+    fn new(alloc: Global) -> Keys<'a>
+        ensures { result ≡ [] }
     {
-        let texts = IndexSet::with_capacity(alloc, capacity)?;
-        Ok(Keys { texts })
+        Keys {
+            texts: BTreeSet::new(alloc),
+        }
     }
 
     /// Adds a key, and answers whether it is new.
     fn add(&mut self, key: (&'a [u8], &'a [u8])) -> Result<bool, OutOfMemory>
         ensures new { IfOk result (λ new. new ≡ not (list_any (is_same_pair (key.entry.0.now, key.entry.1.now)) self.old)) }
-        ensures keys { OnOk result (self.new ≡ with_new_key self.old (key.entry.0.now, key.entry.1.now)) }
+        ensures keys { OnOk result ((other : List ℕ × List ℕ) → list_any (is_same_pair other) self.new
+            ≡ list_any (is_same_pair other) ((key.entry.0.now, key.entry.1.now) ∷ self.old)) }
     {
         Ok(self.texts.insert(key)?)
     }
@@ -62,7 +64,7 @@ pub fn first_of_each<T: Drop, K: Key<T>>(
 fn first_marks<T: Drop, K: Key<T>>(alloc: Global, entries: &[T]) -> Result<Vec<bool>, OutOfMemory>
     ensures { IfOk result (λ firsts. firsts.items ≡ marks [] (map K.key_of entries.now)) }
 {
-    let mut keys = Keys::with_capacity(alloc, entries.len())?;
+    let mut keys = Keys::new(alloc);
     let mut firsts = Vec::with_capacity(alloc, entries.len())?;
     for entry in entries {
         firsts.push(keys.add(K::of(entry))?)?;

@@ -1,7 +1,7 @@
 //! What markers leave of rules and sections.
 
 ghost use Rattle.std.specs.Prelude.{◌≡◌, ◌++◌, [], OnOk, ℕ, List};
-ghost use Rattle.mime_text.specs.Merging.{with_kinds, without};
+ghost use Rattle.mime_text.specs.Merging.{is_among, without};
 
 use super::types::Types;
 use mime_base::{GlobRule, OutOfMemory, Section, TypeName};
@@ -68,7 +68,8 @@ impl<T: Kinded> Kept<T> {
         ensures items { OnOk result
             (self.new.items.items ≡ self.old.items.items ++ without T.kind_of self.old.deleted items.items) }
         // Its own markers discard types of the directories after it.
-        ensures deleted { OnOk result (self.new.deleted ≡ with_kinds self.old.deleted deleted.now) }
+        ensures deleted { OnOk result
+            ((kind : List ℕ) → is_among self.new.deleted kind ≡ is_among (self.old.deleted ++ deleted.now) kind) }
     {
         self.keep(items)?;
         for kind in deleted {

@@ -1,17 +1,17 @@
 //! Sets of types.
 
-ghost use Rattle.std.specs.Prelude.{◌≡◌, [], OnOk};
-ghost use Rattle.mime_text.specs.Merging.{is_among, with_kind};
+ghost use Rattle.std.specs.Prelude.{◌≡◌, ◌∷◌, [], List, OnOk, ℕ};
+ghost use Rattle.mime_text.specs.Merging.{is_among};
 
-use indexmap::IndexSet;
 use mime_base::{OutOfMemory, TypeName};
 use std::alloc::Global;
+use std::collections::BTreeSet;
 use std::marker::Model;
 
-/// A set of types.
+/// A set of types. It is a tree, so that no choice of names makes it slow.
 #[derive(Drop)]
 pub struct Types {
-    names: IndexSet<Vec<u8>>,
+    names: BTreeSet<Vec<u8>>,
 }
 
 impl Model for Types {
@@ -29,7 +29,7 @@ impl Types {
         ensures { result ≡ [] }
     {
         Types {
-            names: IndexSet::new(alloc),
+            names: BTreeSet::new(alloc),
         }
     }
 
@@ -38,13 +38,13 @@ impl Types {
         // It is true exactly of a type that was added.
         ensures { result ≡ is_among self.now kind.now }
     {
-        !self.names.is_empty() && self.names.contains(kind.bytes())
+        self.names.contains(kind.bytes())
     }
 
     /// Adds a type.
     pub fn add(&mut self, alloc: Global, kind: &TypeName) -> Result<(), OutOfMemory>
         // The type is held besides all others, unless memory runs out.
-        ensures { OnOk result (self.new ≡ with_kind self.old kind.now) }
+        ensures { OnOk result ((other : List ℕ) → is_among self.new other ≡ is_among (kind.now ∷ self.old) other) }
     {
         self.names.insert(Vec::from_slice(alloc, kind.bytes())?)?;
         Ok(())
