@@ -78,7 +78,11 @@ def names_of(dice, rules, count):
     """That many names."""
     endings = [rule.pattern[1:] for rule in rules if earliness(rule.pattern) == 1]
     made = itertools.chain(
-        of_each_rule(dice, rules), of_endings(dice, endings, count // 4), of_c_files(dice, endings, count // 20), beside(dice, rules, count // 10),
+        of_each_rule(dice, rules),
+        contested(dice, rules, count // 10),
+        of_endings(dice, endings, count // 4),
+        of_c_files(dice, endings, count // 20),
+        beside(dice, rules, count // 10),
     )
     names = dict.fromkeys(name for name in made if is_file_name(name))
     names = dict.fromkeys(dice.sample(list(names), min(len(names), count * 19 // 20)))
