@@ -1,4 +1,4 @@
-/* The type that GLib guesses, and whether it is uncertain. */
+/* The type that GLib guesses, and whether it is uncertain; the names of a type's icons. */
 #include "peers.h"
 #include <gio/gio.h>
 #include <stdlib.h>
@@ -25,4 +25,17 @@ char *by_file(const char *path, const char *name, const unsigned char *content, 
 
 char *by_content(const unsigned char *content, size_t length) {
     return guessed(NULL, content, length);
+}
+
+char *of_type(const char *type) {
+    char *generic = g_content_type_get_generic_icon_name(type);
+    GIcon *icon = g_content_type_get_icon(type);
+    char *names = g_strjoinv(" ", (char **)g_themed_icon_get_names(G_THEMED_ICON(icon)));
+    char *said = g_strdup_printf("%s %s", generic, names);
+    char *copy = strdup(said);
+    g_free(generic);
+    g_object_unref(icon);
+    g_free(names);
+    g_free(said);
+    return copy;
 }

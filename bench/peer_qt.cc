@@ -1,4 +1,4 @@
-// All types that Qt has of a name, and the type that it has of a file or a content.
+// All types that Qt has of a name, and the type that it has of a file or a content; a type's name, icons, parents and aliases.
 #include "peers.h"
 #include <QByteArray>
 #include <QFile>
@@ -32,4 +32,10 @@ char *by_file(const char *, const char *name, const unsigned char *content, size
 
 char *by_content(const unsigned char *content, size_t length) {
     return copied(QMimeDatabase().mimeTypeForData(bytes_of(content, length)).name());
+}
+
+char *of_type(const char *type) {
+    const QMimeType found = QMimeDatabase().mimeTypeForName(QString::fromUtf8(type));
+    const QStringList icons{found.name(), found.iconName(), found.genericIconName()};
+    return copied((icons + found.parentMimeTypes() + found.aliases()).join(QLatin1Char(' ')));
 }

@@ -1,5 +1,5 @@
-/* Prints a line for each question, the answer of whatever reader it is linked with: peers name NAME.., peers file PATH.. or
- * peers content PATH... */
+/* Prints a line for each question, the answer of whatever reader it is linked with: peers name NAME.., peers file PATH..,
+ * peers content PATH.. or peers type TYPE... */
 #include "peers.h"
 #include <stdbool.h>
 #include <stdio.h>
@@ -30,12 +30,19 @@ static char *by_path(bool is_named, const char *path) {
     return answer;
 }
 
+static char *answer_of(const char *way, const char *word) {
+    if (strcmp(way, "name") == 0) {
+        return by_name(word);
+    }
+    return strcmp(way, "type") == 0 ? of_type(word) : by_path(strcmp(way, "file") == 0, word);
+}
+
 int main(int count, char **words) {
     if (count < 2) {
         return 2;
     }
     for (int i = 2; i < count; i++) {
-        char *answer = strcmp(words[1], "name") == 0 ? by_name(words[i]) : by_path(strcmp(words[1], "file") == 0, words[i]);
+        char *answer = answer_of(words[1], words[i]);
         if (answer == NULL) {
             return 1;
         }

@@ -8,6 +8,8 @@ extern "C" {
 char *by_name(const char *name);
 char *by_file(const char *path, const char *name, const unsigned char *content, size_t length);
 char *by_content(const unsigned char *content, size_t length);
+/* All that it has of a type but for words to be shown. */
+char *of_type(const char *type);
 
 #ifdef __cplusplus
 }
