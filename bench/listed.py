@@ -1,4 +1,5 @@
 """Shared-mime-info's own list of files and their types, and how many answers are right by it, for bench/lists and bench/clients."""
+import glob
 import os
 import shutil
 import subprocess
@@ -22,11 +23,13 @@ def rows_of(folder):
         yield Row(os.path.normpath(os.path.join(at, path)), kind, {way: mark == "x" for way, mark in zip(WAYS, marks)})
 
 
-def make_database(folder, share):
-    """The database of the release in a data directory, and its aliases."""
+def make_database(folder, share, packages=()):
+    """The database of the release, and of folders of further XML files, in a data directory, and its aliases."""
     os.makedirs(f"{share}/mime/packages")
     source = os.path.join(folder, "data/freedesktop.org.xml.in")
     shutil.copy(source, f"{share}/mime/packages/freedesktop.org.xml")
+    for path in (path for folder in packages for path in sorted(glob.glob(f"{folder}/*.xml"))):
+        shutil.copy(path, f"{share}/mime/packages")
     subprocess.run(["update-mime-database", "-n", f"{share}/mime"], env={**os.environ, "XDG_DATA_DIRS": share}, check=True)
     with open(f"{share}/mime/aliases", encoding="utf-8") as file:
         return dict(line.split() for line in file)
