@@ -13,6 +13,7 @@ ghost use Rattle.mime_base.specs.Format.Pairs.{PairsAt};
 ghost use Rattle.mime_base.specs.Format.Parents.{ParentsAt};
 ghost use Rattle.mime_base.specs.Format.Stored.{glob_rules, literal_rules};
 ghost use Rattle.mime_base.specs.Format.SuffixTree.{tree_size};
+ghost use Rattle.mime_base.specs.Kept.{FitsRank};
 ghost use Rattle.mime_base.specs.Meter.{raised};
 ghost use Rattle.mime_base.specs.Format.Packed.{matchlet_count, value_length};
 ghost use Rattle.mime_base.specs.Magic.{PlainSection, are_allowed_sections};
@@ -22,6 +23,7 @@ ghost use Rattle.mime_view.specs.Magic.{Answers, IsMagicFault, magic_price, plai
 ghost use Rattle.mime_base.specs.Magic.Extent.{sections_extent};
 ghost use Rattle.mime_view.specs.Lists.{IsPairsFault};
 ghost use Rattle.mime_view.specs.NameHits.{GivesHits, GivesTexts, IsHitsFault, SpellsRules};
+ghost use Rattle.mime_view.specs.RuleHits.{AreRuleHits, types_alone};
 ghost use Rattle.mime_view.specs.Pairs.{IsSecondName, IsUnaliased, looked_up};
 ghost use Rattle.mime_view.specs.Parents.{IsGiven, StopsParents, TakesParents, is_marked, unmarked_parents};
 ghost use Rattle.mime_view.specs.Spending.{Gives, Looks, Spends, per_record, spending_of};
@@ -34,11 +36,12 @@ use crate::fault::CacheFault;
 use crate::hits::Case;
 use crate::magic::{MagicQuery, sniff};
 use crate::marks::Marks;
-use crate::name::{RuleLists, glob_hits};
+use crate::name::{RuleLists, glob_hits, rule_hits};
 use crate::name_hits::{NameHits, Which};
 use crate::pairs::look_up_pair;
 use crate::parents::{Parents, parents_of};
 use crate::query::Query;
+use crate::rule_hits::RuleHits;
 use crate::rules::{Listed, ListingSource, list_rules};
 use crate::spending::Spending;
 use mime_base::{Counted, Host, LARGEST_CACHE, Meter};
@@ -172,6 +175,57 @@ impl<'a> Cache<'a> {
             budget: *budget,
         };
         let hits = glob_hits(alloc, &query, which, lists, &mut spending);
+        *meter = spending.meter;
+        *budget = spending.budget;
+        hits
+    }
+
+    /// All glob rules that match a name, by falling rank, with how many of these are kept ("Recommended checking
+    /// order"). Those of one rank are in merged order.
+    ///
+    /// They have the types that [`Cache::glob_hits`] gives of all candidates, for the same records, with its limit
+    /// and its errors. Each rule takes memory.
+    pub fn rule_hits(
+        &self,
+        alloc: Global,
+        name: &[u8],
+        meter: &mut Meter,
+        budget: &mut Budget,
+    ) -> Result<RuleHits<'a>, CacheFault>
+        // A name has no more bytes.
+        requires short { length name.now ≤ 4096 }
+        // Where these rules stand, it gives the type, the weight and the flag of each that matches, and how many are kept.
+        ensures rules { (rules : List GlobRule) → SpellsRules self.now rules → All FitsRank rules →
+            IfOk result (AreRuleHits name.now rules) }
+        // It takes no more records than the candidates need.
+        ensures gives { (rules : List GlobRule) → SpellsRules self.now rules →
+            GivesHits Which.Candidates name.now rules budget.old budget.new (types_alone result) }
+        // Whatever the bytes are, each type is a text of the cache, and was paid for by a record.
+        ensures texts { GivesTexts self.now (spending_of meter.old budget.old) (spending_of meter.new budget.new)
+            (types_alone result) }
+        // Why nothing is said of the name.
+        ensures fault { IfErr result
+            (IsHitsFault self.now (field self.now 0 3) (field self.now 0 4) (field self.now 0 5) budget.new) }
+        // A record costs as in the glob list, and the text of a type; the halving comes besides, for both cases.
+        ensures cost { let halving = 29 * (2 * length name.now + 2) + 1 in
+            Spends (per_record (256 * (length name.now + 3))) halving (256 * halving)
+            (spending_of meter.old budget.old) (spending_of meter.new budget.new) }
+    {
+        let lists = RuleLists {
+            literals: self.header[3],
+            tree: self.header[4],
+            globs: self.header[5],
+        };
+        let query = Query {
+            counted: &self.counted,
+            key: name,
+            case: Case::Both,
+        };
+        let mut spending = Spending {
+            meter: *meter,
+            budget: *budget,
+        };
+        let hits = rule_hits(alloc, &query, lists, &mut spending);
         *meter = spending.meter;
         *budget = spending.budget;
         hits

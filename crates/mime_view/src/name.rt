@@ -4,7 +4,7 @@
 //! the folded name for the others. Where folding leaves the name alone, one search serves both.
 
 ghost use Rattle.std.specs.Prelude.{◌≡◌, false, ◌+◌, ◌*◌, ◌<◌, List, [], ◌++◌, length};
-ghost use Rattle.std.specs.Prelude.{All, IfErr, OnOk};
+ghost use Rattle.std.specs.Prelude.{All, IfErr, IfOk, OnOk};
 ghost use Rattle.mime_base.specs.Cache.Bytes.{Stands};
 ghost use Rattle.mime_base.specs.Format.Rules.{LiteralsAt};
 ghost use Rattle.mime_base.specs.Format.SuffixTree.{SuffixTreeAt};
@@ -15,6 +15,7 @@ ghost use Rattle.mime_view.specs.Gathered.{HoldsRules};
 ghost use Rattle.mime_view.specs.Hits.{hit_visits, offered_once, offered_twice};
 ghost use Rattle.mime_view.specs.Hits.{literal_hits, literal_visits, tree_hits, tree_visits};
 ghost use Rattle.mime_view.specs.NameHits.{FindsHits, GivesTexts, IsHitsFault, IsRuleListsFault, RulesAt, has_capitals};
+ghost use Rattle.mime_view.specs.RuleHits.{AreRuleHits, types_alone};
 ghost use Rattle.mime_view.specs.Spending.{Spends, per_record};
 ghost use Rattle.mime_view.specs.Steps.{FindsRules, IsEntriesFault, Searches};
 ghost use Rattle.mime_view.specs.SuffixTree.{IsTreeFault};
@@ -26,6 +27,7 @@ use crate::hits::{Case, Hits};
 use crate::literals::literal_hits;
 use crate::name_hits::{NameHits, Which};
 use crate::query::{Progress, Query};
+use crate::rule_hits::RuleHits;
 use crate::spending::Spending;
 use crate::suffixes::tree_hits;
 use mime_base::fold;
@@ -72,6 +74,40 @@ pub fn glob_hits<'a>(
     progress
         .hits
         .read(alloc, query.counted, &mut spending.meter)
+}
+
+/// All rules that match a name, by falling rank.
+pub fn rule_hits<'a>(
+    alloc: Global,
+    query: &Query<'_, 'a>,
+    lists: RuleLists,
+    spending: &mut Spending,
+) -> Result<RuleHits<'a>, CacheFault>
+    // Of the rules that stand in the lists, it gives those that match, with their weights and flags.
+    ensures rules { (rules : List GlobRule) → RulesAt query.now.counted.now lists rules → All FitsRank rules →
+        IfOk result (AreRuleHits query.now.key.now rules) }
+    // Their types are those that are given of all candidates.
+    ensures found { (rules : List GlobRule) → RulesAt query.now.counted.now lists rules →
+        FindsHits Which.Candidates query.now.key.now rules spending.old spending.new (types_alone result) }
+    // Whatever the bytes are, it gives texts of the cache.
+    ensures gives { GivesTexts query.now.counted.now spending.old spending.new (types_alone result) }
+    // Why it gives none.
+    ensures fault { IfErr result
+        (IsHitsFault query.now.counted.now lists.literals lists.tree lists.globs spending.new.budget) }
+    // A record costs as in the glob list, and the text of a type; the halving comes besides, for both cases.
+    ensures cost { let more = 29 * (2 * length query.now.key.now + 2) + 1 in
+        Spends (per_record (256 * (length query.now.key.now + 3))) more (256 * more) spending.old spending.new }
+{
+    let mut progress = Progress {
+        hits: Hits::new(alloc, Which::Candidates),
+        spending: *spending,
+    };
+    let gathered = gather_hits(alloc, query, lists, &mut progress);
+    *spending = progress.spending;
+    gathered?;
+    progress
+        .hits
+        .read_rules(alloc, query.counted, &mut spending.meter)
 }
 
 /// Offers the rules that match a name.
