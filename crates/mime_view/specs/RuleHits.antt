@@ -1,6 +1,8 @@
 -- The rules that match a name as they are given: each with its type, its weight and its flag.
 use Rattle.std.specs.Prelude.{◌≡◌, ℕ, ◌/◌, ◌%◌, ◌==◌, Bool, List, length, map, Result, Ok, Err}
+use Rattle.mime_base.specs.Cache.Texts.{text_at}
 use Rattle.mime_base.specs.Kept.{candidate_rules, kept_rules}
+use Rattle.mime_base.specs.declared.cache.byte_fault.ByteFault.{ByteFault}
 use Rattle.mime_base.specs.declared.database.rule.GlobRule.{GlobRule}
 use Rattle.mime_view.specs.declared.fault.CacheFault.{CacheFault}
 use Rattle.mime_view.specs.declared.name_hits.NameHits.{NameHits}
@@ -28,19 +30,25 @@ pub record AreRuleHits (name : List ℕ) (rules : List GlobRule) (hits : RuleHit
   -- Those that are kept come first.
   pub count : hits.kept ≡ length (kept_rules rules name)
 
--- the types alone
-abbrev pub name_hits : RuleHits → NameHits
-name_hits hits = record { kinds = map (λ hit. hit.kind.now) hits.rules.items; kept = hits.kept }
-
--- a call's result with the types alone
-abbrev pub types_alone : Result RuleHits CacheFault → Result NameHits CacheFault
-types_alone (Ok hits) = Ok (name_hits hits)
-types_alone (Err e) = Err e
-
 -- the weight and the flag that a rank has
-abbrev pub rank_parts : ℕ → ℕ × Bool
-rank_parts rank = (rank / 131072 % 256, rank % 2 == 1)
+abbrev pub parts_of_rank : ℕ → ℕ × Bool
+parts_of_rank rank = (rank / 131072 % 256, rank % 2 == 1)
 
--- the weight and the flag of a hit
-abbrev pub hit_parts : RuleHit → ℕ × Bool
-hit_parts hit = (hit.weight, hit.cased)
+-- what is read of a hit: the text at an offset, a weight and a flag
+abbrev pub Reading : Type 0
+Reading = Result (List ℕ) ByteFault × (ℕ × Bool)
+
+-- of hits, each a rank and an offset, these are the rules: the type that stands there, and what the rank has
+abbrev pub AreRulesAt : List ℕ → List (ℕ × ℕ) → List RuleHit → Type 0
+AreRulesAt c offers rules =
+    map {B = Reading} (λ offer. (text_at c offer.1, parts_of_rank offer.0)) offers
+    ≡ map {B = Reading} (λ rule. (Ok rule.kind.now, (rule.weight, rule.cased))) rules
+
+-- the types alone
+abbrev pub types_alone : RuleHits → NameHits
+types_alone hits = record { kinds = map (λ hit. hit.kind.now) hits.rules.items; kept = hits.kept }
+
+-- what a call gives, with the types alone
+abbrev pub gives_types : Result RuleHits CacheFault → Result NameHits CacheFault
+gives_types (Ok hits) = Ok (types_alone hits)
+gives_types (Err e) = Err e

@@ -13,7 +13,6 @@ ghost use Rattle.mime_base.specs.Format.Pairs.{PairsAt};
 ghost use Rattle.mime_base.specs.Format.Parents.{ParentsAt};
 ghost use Rattle.mime_base.specs.Format.Stored.{glob_rules, literal_rules};
 ghost use Rattle.mime_base.specs.Format.SuffixTree.{tree_size};
-ghost use Rattle.mime_base.specs.Kept.{FitsRank};
 ghost use Rattle.mime_base.specs.Meter.{raised};
 ghost use Rattle.mime_base.specs.Format.Packed.{matchlet_count, value_length};
 ghost use Rattle.mime_base.specs.Magic.{PlainSection, are_allowed_sections};
@@ -22,8 +21,8 @@ ghost use Rattle.mime_base.specs.declared.database.rule.GlobRule.{GlobRule};
 ghost use Rattle.mime_view.specs.Magic.{Answers, IsMagicFault, magic_price, plain_found};
 ghost use Rattle.mime_base.specs.Magic.Extent.{sections_extent};
 ghost use Rattle.mime_view.specs.Lists.{IsPairsFault};
-ghost use Rattle.mime_view.specs.NameHits.{GivesHits, GivesTexts, IsHitsFault, SpellsRules};
-ghost use Rattle.mime_view.specs.RuleHits.{AreRuleHits, types_alone};
+ghost use Rattle.mime_view.specs.NameHits.{AreHits, GivesHits, GivesTexts, IsHitsFault, SpellsRules, lists_of};
+ghost use Rattle.mime_view.specs.RuleHits.{AreRuleHits, gives_types};
 ghost use Rattle.mime_view.specs.Pairs.{IsSecondName, IsUnaliased, looked_up};
 ghost use Rattle.mime_view.specs.Parents.{IsGiven, StopsParents, TakesParents, is_marked, unmarked_parents};
 ghost use Rattle.mime_view.specs.Spending.{Gives, Looks, Spends, per_record, spending_of};
@@ -149,7 +148,7 @@ impl<'a> Cache<'a> {
         requires short { length name.now ≤ 4096 }
         // Where these rules stand, it gives the types of those that are asked for, and takes no more records than they need.
         ensures gives { (rules : List GlobRule) → SpellsRules self.now rules →
-            GivesHits which name.now rules budget.old budget.new result }
+            GivesHits (AreHits which) name.now rules budget.old budget.new result }
         // Whatever the bytes are, each type is a text of the cache, and was paid for by a record.
         ensures texts { GivesTexts self.now (spending_of meter.old budget.old) (spending_of meter.new budget.new) result }
         // Why nothing is said of the name.
@@ -160,11 +159,6 @@ impl<'a> Cache<'a> {
             Spends (per_record (256 * (length name.now + 3))) halving (256 * halving)
             (spending_of meter.old budget.old) (spending_of meter.new budget.new) }
     {
-        let lists = RuleLists {
-            literals: self.header[3],
-            tree: self.header[4],
-            globs: self.header[5],
-        };
         let query = Query {
             counted: &self.counted,
             key: name,
@@ -174,17 +168,16 @@ impl<'a> Cache<'a> {
             meter: *meter,
             budget: *budget,
         };
-        let hits = glob_hits(alloc, &query, which, lists, &mut spending);
+        let hits = glob_hits(alloc, &query, which, self.rule_lists(), &mut spending);
         *meter = spending.meter;
         *budget = spending.budget;
         hits
     }
 
-    /// All glob rules that match a name, by falling rank, with how many of these are kept ("Recommended checking
-    /// order"). Those of one rank are in merged order.
+    /// All glob rules that match a name, by falling rank, each with its type as the cache has it, its weight and its flag,
+    /// and how many of these are kept ("Recommended checking order").
     ///
-    /// They have the types that [`Cache::glob_hits`] gives of all candidates, for the same records, with its limit
-    /// and its errors. Each rule takes memory.
+    /// They are the candidates of [`Cache::glob_hits`], with its limit, its records and its errors, and take memory each.
     pub fn rule_hits(
         &self,
         alloc: Global,
@@ -194,15 +187,12 @@ impl<'a> Cache<'a> {
     ) -> Result<RuleHits<'a>, CacheFault>
         // A name has no more bytes.
         requires short { length name.now ≤ 4096 }
-        // Where these rules stand, it gives the type, the weight and the flag of each that matches, and how many are kept.
-        ensures rules { (rules : List GlobRule) → SpellsRules self.now rules → All FitsRank rules →
-            IfOk result (AreRuleHits name.now rules) }
-        // It takes no more records than the candidates need.
+        // Where these rules stand, it gives those that match, and takes no more records than they need.
         ensures gives { (rules : List GlobRule) → SpellsRules self.now rules →
-            GivesHits Which.Candidates name.now rules budget.old budget.new (types_alone result) }
+            GivesHits AreRuleHits name.now rules budget.old budget.new result }
         // Whatever the bytes are, each type is a text of the cache, and was paid for by a record.
         ensures texts { GivesTexts self.now (spending_of meter.old budget.old) (spending_of meter.new budget.new)
-            (types_alone result) }
+            (gives_types result) }
         // Why nothing is said of the name.
         ensures fault { IfErr result
             (IsHitsFault self.now (field self.now 0 3) (field self.now 0 4) (field self.now 0 5) budget.new) }
@@ -211,11 +201,6 @@ impl<'a> Cache<'a> {
             Spends (per_record (256 * (length name.now + 3))) halving (256 * halving)
             (spending_of meter.old budget.old) (spending_of meter.new budget.new) }
     {
-        let lists = RuleLists {
-            literals: self.header[3],
-            tree: self.header[4],
-            globs: self.header[5],
-        };
         let query = Query {
             counted: &self.counted,
             key: name,
@@ -225,10 +210,22 @@ impl<'a> Cache<'a> {
             meter: *meter,
             budget: *budget,
         };
-        let hits = rule_hits(alloc, &query, lists, &mut spending);
+        let hits = rule_hits(alloc, &query, self.rule_lists(), &mut spending);
         *meter = spending.meter;
         *budget = spending.budget;
         hits
+    }
+
+    /// Where the three lists of rules stand.
+    fn rule_lists(&self) -> RuleLists
+        // The header names them.
+        ensures { result ≡ lists_of self.now }
+    {
+        RuleLists {
+            literals: self.header[3],
+            tree: self.header[4],
+            globs: self.header[5],
+        }
     }
 
     /// The type that an alias stands for, or the name itself where it is no alias ("Directory layout").

@@ -8,7 +8,7 @@ ghost use Rattle.mime_base.specs.declared.database.rule.GlobRule.{GlobRule};
 ghost use Rattle.mime_view.specs.Gathered.{AreGiven, Offers, in_order, plain_hits, wants_rank};
 ghost use Rattle.mime_view.specs.Hits.{CandidatesAreNear, takes_rule, IsVisit, KeptAreNear, extra_visits, visits};
 ghost use Rattle.mime_view.specs.Lists.{IsTextFault};
-ghost use Rattle.mime_view.specs.RuleHits.{hit_parts, name_hits, rank_parts};
+ghost use Rattle.mime_view.specs.RuleHits.{AreRulesAt, types_alone};
 ghost use Rattle.mime_view.specs.Spending.{Looks, Spends, per_record};
 ghost use Rattle.mime_view.specs.Texts.{AreTexts};
 
@@ -142,6 +142,8 @@ impl Hits {
         // What is gathered of the rules before becomes what is gathered of them and this one.
         ensures offered { (c : List ℕ) → (rule : GlobRule) → rank ≡ rank_of_rule rule → text_at c kind ≡ Ok rule.kind →
             OnOk result (Offers c (rule ∷ []) self.old self.new) }
+        // What is asked for stays.
+        ensures asked { self.new.which ≡ self.old.which }
         // At most one hit is added.
         ensures one_more { length self.new.offers ≤ length self.old.offers + 1 }
         // Only memory can be short.
@@ -189,14 +191,13 @@ impl Hits {
     ) -> Result<RuleHits<'a>, CacheFault>
         // All were asked for.
         requires all { self.which ≡ Which.Candidates }
-        // The types are those at the hits' offsets, by falling rank, and it is said how many are kept.
-        ensures answer { IfOk result (λ found. AreGiven counted.now self (name_hits found)) }
-        // The weights and flags are those of the hits' ranks.
-        ensures parts { IfOk result (λ found. map hit_parts found.rules.items
-            ≡ map (λ hit. rank_parts hit.0) (in_order Which.Candidates self.offers)) }
+        // Their types stand at the hits' offsets, and it is said how many are kept.
+        ensures answer { IfOk result (λ found. AreGiven counted.now self (types_alone found)) }
+        // Weights and flags are those of the ranks.
+        ensures rules { IfOk result (λ found. AreRulesAt counted.now (in_order self.which self.offers) found.rules.items) }
         // Where texts stand there, only memory can be short.
         ensures need { (texts : List (List ℕ)) →
-            AreTexts counted.now (map (λ hit. hit.1) (in_order Which.Candidates self.offers)) texts →
+            AreTexts counted.now (map (λ hit. hit.1) (in_order self.which self.offers)) texts →
             IfErr result (λ e. e ≡ CacheFault.OutOfMemory) }
         // Else a text is at fault.
         ensures fault { IfErr result (λ e. IsTextFault counted.now e ⊎ (e ≡ CacheFault.OutOfMemory)) }
@@ -267,11 +268,10 @@ fn read_every_rule<'a>(
     counted: &Counted<'a>,
     meter: &mut Meter,
 ) -> Result<RuleHits<'a>, CacheFault>
-    // The types are those at the hits' offsets, by falling rank, and as many are kept as have the greatest.
-    ensures answer { IfOk result (λ found. AreGiven counted.now (plain_hits (Gathered.Every hits)) (name_hits found)) }
-    // The weights and flags are those of the hits' ranks.
-    ensures parts { IfOk result (λ found. map hit_parts found.rules.items
-        ≡ map (λ hit. rank_parts hit.0) (falling (λ hit. hit.0) hits.items)) }
+    // Their types stand at the hits' offsets, and as many are kept as have the greatest rank.
+    ensures answer { IfOk result (λ found. AreGiven counted.now (plain_hits (Gathered.Every hits)) (types_alone found)) }
+    // Weights and flags are those of the ranks.
+    ensures rules { IfOk result (λ found. AreRulesAt counted.now (falling (λ hit. hit.0) hits.items) found.rules.items) }
     // Where texts stand there, only memory can be short.
     ensures need { (texts : List (List ℕ)) → AreTexts counted.now (map (λ hit. hit.1) (falling (λ hit. hit.0) hits.items)) texts →
         IfErr result (λ e. e ≡ CacheFault.OutOfMemory) }

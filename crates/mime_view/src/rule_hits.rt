@@ -1,8 +1,8 @@
-//! The rules that match a name, each with its type, its weight and its flag. This project's own.
+//! The rules that match a name, each with its type, its weight and its flag ("Recommended checking order").
 
 ghost use Rattle.std.specs.Prelude.{◌≡◌, ◌⊎◌, ℕ, ◌*◌, List, length, map, IfErr, IfOk};
 ghost use Rattle.mime_view.specs.Lists.{IsTextFault};
-ghost use Rattle.mime_view.specs.RuleHits.{hit_parts, rank_parts};
+ghost use Rattle.mime_view.specs.RuleHits.{AreRulesAt, parts_of_rank};
 ghost use Rattle.mime_view.specs.Spending.{Looks};
 ghost use Rattle.mime_view.specs.Texts.{AreTexts};
 
@@ -37,10 +37,8 @@ pub fn read_rules<'a>(
     counted: &Counted<'a>,
     meter: &mut Meter,
 ) -> Result<Vec<RuleHit<'a>>, CacheFault>
-    // Their types are the texts that stand at the offsets.
-    ensures types { IfOk result (λ rules. AreTexts counted.now (map (λ hit. hit.1) hits.now) (map (λ rule. rule.kind.now) rules.items)) }
-    // Their weights and flags are those of the ranks.
-    ensures parts { IfOk result (λ rules. map hit_parts rules.items ≡ map (λ hit. rank_parts hit.0) hits.now) }
+    // Their types stand at the offsets; their weights and flags are those of the ranks.
+    ensures answer { IfOk result (λ rules. AreRulesAt counted.now hits.now rules.items) }
     // Where texts stand there, only memory can be short.
     ensures need { (texts : List (List ℕ)) → AreTexts counted.now (map (λ hit. hit.1) hits.now) texts →
         IfErr result (λ e. e ≡ CacheFault.OutOfMemory) }
@@ -65,8 +63,9 @@ pub fn read_rules<'a>(
 /// The weight and the flag that a rank has.
 fn parts_of_rank(rank: u32) -> (u8, bool)
     // They are those of the rank.
-    ensures { result ≡ rank_parts rank }
+    ensures { result ≡ parts_of_rank rank }
 {
+    // Below the weight there is room for a length of 16 bits and the flag.
     let weight = (rank / 131_072 % 256) as u8;
     (weight, rank % 2 == 1)
 }
