@@ -1,4 +1,4 @@
-use Rattle.std.proofs.Common.{◌≡◌, ℕ, ◌*◌, length, ap, sym, subst, ◌∙◌}
+use Rattle.std.proofs.Common.{◌≡◌, ℕ, ◌*◌, length, ap, subst, ◌∙◌}
 use Rattle.mime_view.specs.Spending.{Looks}
 use Rattle.mime_view.proofs.HitsLemmas.GivenRules.{types-read}
 use Rattle.mime_view.proofs.HitsLemmas.SortedOffers.{length-falling, offered_rank}
