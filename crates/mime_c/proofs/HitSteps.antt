@@ -1,7 +1,8 @@
 -- The rules of a name that a cache's own budget gives, and how C gets them.
 use Rattle.std.proofs.Common.{◌≡◌, ◌⊎◌, ℕ, ◌+◌, ◌*◌, ◌-◌, ◌/◌, ◌<◌, ◌≤◌, List, ◌++◌, length, map, take, drop, get_or, Result, Ok, Err}
-use Rattle.std.proofs.Common.{refl, ap, ◌∙◌, inl, arith}
+use Rattle.std.proofs.Common.{Bool, true, false, ltb, refl, ap, ◌∙◌, inl, arith}
 use Rattle.std.specs.Prelude.{All, IfErr}
+use Rattle.std.proofs.lemmas.Bool.{ltb-false, ltb-true}
 use Rattle.std.proofs.lemmas.List.{get_or-append_right, get_or-drop, get_or-map, get_or-take, get_or_append_left}
 use Rattle.std.proofs.lemmas.List.{length-append, length-drop, length-map, length-take, length-take-le}
 use Rattle.mime_base.specs.Cache.Bytes.{field}
@@ -9,7 +10,7 @@ use Rattle.mime_base.specs.Database.{PlainDatabase}
 use Rattle.mime_base.specs.Format.Packed.{Packed}
 use Rattle.mime_base.specs.Kept.{FitsRank}
 use Rattle.mime_base.specs.declared.database.rule.GlobRule.{GlobRule}
-use Rattle.mime_c.specs.Hits.{GivenHit, IsHits, given, given_hits}
+use Rattle.mime_c.specs.Hits.{GivenHit, IsHits, given, given_hits, one_if}
 use Rattle.mime_view.specs.NameHits.{GivesHits, GivesTexts, IsHitsFault, SpellsRules}
 use Rattle.mime_view.specs.RuleHits.{AreRuleHits, gives_types}
 use Rattle.mime_view.specs.declared.fault.CacheFault.{CacheFault}
@@ -19,14 +20,21 @@ use Rattle.mime_view.specs.declared.spending.Spending.{Spending}
 
 -- items, of which the first are written in one way and the others in another
 module _ {X Y : Type 0} (first other : X → Y) (n : ℕ) (items : List X) where
+  -- all of them
   abbrev written : List Y
   written = map first (take n items) ++ map other (drop n items)
 
   -- as many as there are
   length-written : length written ≡ length items
   length-written =
-      omega (arith, length-append (map first (take n items)) (map other (drop n items)), length-map (take n items) first,
-      length-map (drop n items) other, length-take n items, length-drop n items)
+      omega (
+        arith,
+        length-append (map first (take n items)) (map other (drop n items)),
+        length-map (take n items) first,
+        length-map (drop n items) other,
+        length-take n items,
+        length-drop n items,
+      )
 
   -- one of the first
   written-first : (i : ℕ) (d : Y) (e : X) → i < length items → i < n → get_or written i d ≡ first (get_or items i e)
@@ -50,15 +58,15 @@ module _ {X Y : Type 0} (first other : X → Y) (n : ℕ) (items : List X) where
 pub length-given_hits : (found : RuleHits) → length (given_hits found) ≡ length found.rules.items
 length-given_hits found = length-written (given 1) (given 0) found.kept found.rules.items
 
--- what C gets of a rule that is kept
-pub given-kept : (found : RuleHits) (i : ℕ) (d : GivenHit) (e : RuleHit) → i < length found.rules.items → i < found.kept →
-    get_or (given_hits found) i d ≡ given 1 (get_or found.rules.items i e)
-given-kept found i d e here less = written-first (given 1) (given 0) found.kept found.rules.items i d e here less
-
--- and of one that isn't
-pub given-other : (found : RuleHits) (i : ℕ) (d : GivenHit) (e : RuleHit) → i < length found.rules.items → found.kept ≤ i →
-    get_or (given_hits found) i d ≡ given 0 (get_or found.rules.items i e)
-given-other found i d e here above = written-other (given 1) (given 0) found.kept found.rules.items i d e here above
+-- what C gets of a rule at its place
+pub given-at : (found : RuleHits) (i : ℕ) (d : GivenHit) (e : RuleHit) → i < length found.rules.items →
+    get_or (given_hits found) i d ≡ given (one_if (ltb i found.kept)) (get_or found.rules.items i e)
+given-at found i d e here = by_test (ltb i found.kept) refl
+  where
+    by_test : (is_kept : Bool) → ltb i found.kept ≡ is_kept →
+        get_or (given_hits found) i d ≡ given (one_if is_kept) (get_or found.rules.items i e)
+    by_test true is = written-first (given 1) (given 0) found.kept found.rules.items i d e here (ltb-true i found.kept is)
+    by_test false is = written-other (given 1) (given 0) found.kept found.rules.items i d e here (ltb-false i found.kept is)
 
 -- what the reader gives of a name is what is promised
 pub is_hits : (c name : List ℕ) (old new : Spending) (result : Result RuleHits CacheFault) → old.budget.records ≡ length c / 4 →

@@ -1,6 +1,6 @@
 //! The rules that match a name.
 
-ghost use Rattle.std.specs.Prelude.{◌≡◌, ◌≤◌, length};
+ghost use Rattle.std.specs.Prelude.{◌≡◌, ◌-◌, ◌≤◌, length};
 ghost use Rattle.mime_c.specs.Hits.{IsAskedHits, IsHits, given, given_hits, hits_bytes, hits_nodes, plain_given, one_if};
 ghost use Rattle.mime_c.specs.Parents.{AreWritten};
 ghost use Rattle.mime_c.specs.Reader.{IsOfCache};

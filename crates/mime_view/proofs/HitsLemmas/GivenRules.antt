@@ -95,8 +95,9 @@ rules-read c (hit ∷ hits) (rule ∷ rules) (one ∷ read) fit are these =
     ap₂ (λ (x : PlainHit) (xs : List PlainHit). x ∷ xs) (one-read c hit rule one fit.0 are.0 are.1 here)
     (rules-read c hits rules read fit.1 are.2 rest)
 
--- what holds of all rules holds of them in any order
+-- what holds of all rules holds of them by falling rank
 module _ (P : GlobRule → Type 0) where
+  -- one more at its place
   all-insert : (rule : GlobRule) (rules : List GlobRule) → P rule → AllByRecursion P rules → AllByRecursion P (insert_falling rank_of_rule rule rules)
   all-insert rule [] here all = (here, tt)
   all-insert rule (first ∷ rest) here all =
@@ -104,6 +105,7 @@ module _ (P : GlobRule → Type 0) where
       AllByRecursion P (cond t (first ∷ insert_falling rank_of_rule rule rest) (rule ∷ first ∷ rest)))
       [ true ↦ (all.0, all-insert rule rest here all.1) | false ↦ (here, all) ]
 
+  -- all by falling rank
   all-falling : (rules : List GlobRule) → AllByRecursion P rules → AllByRecursion P (falling rank_of_rule rules)
   all-falling [] all = tt
   all-falling (rule ∷ rules) all = all-insert rule (falling rank_of_rule rules) all.0 (all-falling rules all.1)
