@@ -1,14 +1,11 @@
 -- The rules of a name that a cache's own budget gives, and how C gets them.
-use Rattle.std.proofs.Common.{◌≡◌, ◌⊎◌, ℕ, ◌+◌, ◌*◌, ◌-◌, ◌/◌, ◌<◌, ◌≤◌, List, ◌++◌, length, map, take, drop, get_or, Result, Ok, Err}
+use Rattle.std.proofs.Common.{◌≡◌, ℕ, ◌+◌, ◌-◌, ◌/◌, ◌<◌, ◌≤◌, List, ◌++◌, length, map, take, drop, get_or, Result, Ok, Err}
 use Rattle.std.proofs.Common.{Bool, true, false, ltb, refl, ap, ◌∙◌, inl, arith}
-use Rattle.std.specs.Prelude.{All, IfErr}
+use Rattle.std.specs.Prelude.{IfErr}
 use Rattle.std.proofs.lemmas.Bool.{ltb-false, ltb-true}
 use Rattle.std.proofs.lemmas.List.{get_or-append_right, get_or-drop, get_or-map, get_or-take, get_or_append_left}
 use Rattle.std.proofs.lemmas.List.{length-append, length-drop, length-map, length-take, length-take-le}
 use Rattle.mime_base.specs.Cache.Bytes.{field}
-use Rattle.mime_base.specs.Database.{PlainDatabase}
-use Rattle.mime_base.specs.Format.Packed.{Packed}
-use Rattle.mime_base.specs.Kept.{FitsRank}
 use Rattle.mime_base.specs.declared.database.rule.GlobRule.{GlobRule}
 use Rattle.mime_c.specs.Hits.{GivenHit, IsHits, given, given_hits, one_if}
 use Rattle.mime_view.specs.NameHits.{GivesHits, GivesTexts, IsHitsFault, SpellsRules}
