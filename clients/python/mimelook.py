@@ -77,6 +77,15 @@ class Answer(NamedTuple):
     wanted: int
 
 
+class Hit(NamedTuple):
+    """A rule that matches a name: its type as the cache has it, its weight, and whether it is kept: no other is preferred to it."""
+
+    type: str
+    weight: int
+    case_sensitive: bool
+    kept: bool
+
+
 class Sniffed(NamedTuple):
     """The type of a content alone, and the priority of the section of magic that holds; 0 where none does."""
 
@@ -139,6 +148,10 @@ class Cache:
         found = self.look_up(name, None, order)
         return self.type_of(name, _front(path, found.wanted), order) if found.wanted else found.type
 
+    def hits(self, name: Name) -> list[Hit]:
+        """The rules that match a name, the best first; aliases are not resolved."""
+        return [Hit(hit.type.text(), hit.weight, bool(hit.case_sensitive), bool(hit.kept)) for hit in self._array(_Hit, "hits", name)]
+
     def sniff(self, content: bytes) -> Sniffed:
         """The type of a content alone."""
         found = _Sniffed(_Text.empty())
@@ -153,12 +166,7 @@ class Cache:
 
     def parents(self, kind: Name) -> list[str]:
         """The types that a type is a subclass of, as the cache lists them."""
-        count, found = c_size_t(), (_Text * 0)()
-        while True:
-            self._ask(_library.mimelook_parents, *_bytes(kind), found, len(found), byref(count))
-            if count.value <= len(found):
-                return [text.text() for text in found[: count.value]]
-            found = (_Text * count.value)(*[_Text.empty()] * count.value)
+        return [text.text() for text in self._array(_Text, "parents", kind)]
 
     def unalias(self, kind: Name) -> str:
         """The type that a type is an alias of, else itself."""
@@ -171,6 +179,15 @@ class Cache:
         icon, generic, lengths = create_string_buffer(_ICON_ROOM), create_string_buffer(_ICON_ROOM), _IconLengths()
         self._ask(_library.mimelook_icons, *_bytes(kind), icon, _ICON_ROOM, generic, _ICON_ROOM, byref(lengths))
         return Icons(_text(icon.raw[: lengths.icon]), _text(generic.raw[: lengths.generic]))
+
+    def _array(self, item: Any, what: str, asked: Name) -> Any:
+        """What a function writes into an array, which is asked for twice where there is anything."""
+        count, found = c_size_t(), (item * 0)()
+        while True:
+            self._ask(getattr(_library, f"mimelook_{what}"), *_bytes(asked), found, len(found), byref(count))
+            if count.value <= len(found):
+                return found[: count.value]
+            found = (item * count.value)(*[item.empty()] * count.value)
 
     def _ask(self, function: Callable[..., _Report], *words: Any) -> None:
         _check(function(*_bytes(self._data), *words))
@@ -210,6 +227,20 @@ class _Text(Structure):
         return _text(string_at(self.at, self.length))
 
 
+class _Hit(Structure):
+    _fields_ = [
+        ("type", _Text),
+        ("weight", c_uint32),
+        ("case_sensitive", c_uint16),
+        ("kept", c_uint16),
+        ("spare", c_uint64 * 2),
+    ]
+
+    @classmethod
+    def empty(cls) -> _Hit:
+        return cls(_Text.empty())
+
+
 class _Answer(Structure):
     _fields_ = [("type", _Text), ("wanted", c_uint64), ("spare", c_uint64 * 3)]
 
@@ -243,6 +274,7 @@ _BYTES = (c_char_p, c_size_t)
 _CALLS = {
     "check": (),
     "look_up": (*_BYTES, *_BYTES, c_uint32, POINTER(_Answer)),
+    "hits": (*_BYTES, POINTER(_Hit), c_size_t, POINTER(c_size_t)),
     "sniff": (*_BYTES, POINTER(_Sniffed)),
     "is_a": (*_BYTES, *_BYTES, POINTER(c_bool)),
     "parents": (*_BYTES, POINTER(_Text), c_size_t, POINTER(c_size_t)),

@@ -8,7 +8,7 @@ import threading
 import unittest
 
 sys.dont_write_bytecode = True
-from mimelook import Answer, Cache, Fault, Icons, Order, Sniffed, Status, is_type_name, version
+from mimelook import Answer, Cache, Fault, Hit, Icons, Order, Sniffed, Status, is_type_name, version
 
 HERE = os.path.dirname(os.path.abspath(__file__))
 EXAMPLES = os.path.join(HERE, "../../examples")
@@ -79,6 +79,21 @@ class Answers(unittest.TestCase):
             with self.assertRaises(OSError) as raised:
                 self.cache.type_of_file(pipe)
             self.assertEqual(raised.exception.errno, errno.EINVAL)
+
+    def test_hits(self):
+        rows = {
+            "README.html": [Hit("text/html", 50, False, True), Hit("text/x-readme", 50, False, False)],
+            "a.ogg": [Hit("audio/ogg", 50, False, True), Hit("video/ogg", 50, False, True)],
+            "a.tar.gz": [Hit("application/x-compressed-tar", 50, False, True), Hit("application/gzip", 50, False, False)],
+            "a.C": [Hit("text/x-c++src", 50, True, True), Hit("text/x-csrc", 50, False, False)],
+            b"a.jpg~": [Hit("application/x-trash", 10, False, True)],
+            "x": [],
+        }
+        for name, hits in rows.items():
+            self.assertEqual(self.cache.hits(name), hits, name)
+        with self.assertRaises(Fault) as raised:
+            self.cache.hits("a" * 4097)
+        self.assertEqual(raised.exception.status, Status.NAME_TOO_LONG)
 
     def test_sniff(self):
         self.assertEqual(self.cache.sniff(b"PK\3\4"), Sniffed("application/zip", 40, True))

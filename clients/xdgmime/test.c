@@ -106,6 +106,11 @@ static void several_by_name(void) {
     CHECK(xdg_mime_get_mime_types_from_file_name("a.py", types, 3) == 1 && is(types[0], "text/x-python3"));
     CHECK(xdg_mime_get_mime_types_from_file_name("x", types, 3) == 0);
     CHECK(xdg_mime_get_mime_types_from_file_name("a.py", types, 0) == 0);
+    CHECK(xdg_mime_get_mime_types_from_file_name("a.ogg", types, 3) == 2 && is(types[0], "audio/ogg") && is(types[1], "video/ogg"));
+    CHECK(xdg_mime_get_mime_types_from_file_name("a.ogg", types, 1) == 1 && is(types[0], "audio/ogg"));
+    CHECK(xdg_mime_get_mime_types_from_file_name("README.html", types, 3) == 2 && is(types[1], "text/x-readme"));
+    /* two globs of one type */
+    CHECK(xdg_mime_get_mime_types_from_file_name("a.jpg", types, 3) == 1 && is(types[0], "image/jpeg"));
 }
 
 static void by_content(void) {
@@ -253,6 +258,9 @@ static bool is_right_or_unknown(const char *files) {
     free(parents);
     const char *icon = xdg_mime_get_icon("application/x-core");
     is_right &= icon == NULL || is(icon, "application-x-core-dump");
+    const char *types[2];
+    int listed = xdg_mime_get_mime_types_from_file_name("a.ogg", types, 2);
+    is_right &= listed == 0 || (listed == 2 && is(types[0], "audio/ogg") && is(types[1], "video/ogg"));
     xdg_mime_remove_callback(xdg_mime_register_reload_callback(count_call, NULL, NULL));
     xdg_mime_mime_type_subclass("audio/ogg", "application/ogg");
     xdg_mime_get_mime_parents("audio/ogg");

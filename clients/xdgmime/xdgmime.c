@@ -108,13 +108,40 @@ const char *xdg_mime_get_mime_type_from_file_name(const char *name) {
     return type_of(data, looked_up(data, name, NULL, 0).type);
 }
 
-int xdg_mime_get_mime_types_from_file_name(const char *name, const char *types[], int room) {
-    const char *type = xdg_mime_get_mime_type_from_file_name(name);
-    if (room < 1 || type == xdg_mime_type_unknown) {
-        return 0;
+/* The globs that match a name, best first, in an array that the caller frees; none where memory is refused. */
+static mimelook_hit *hits_of(struct database data, const char *name, size_t *count) {
+    *count = 0;
+    mimelook_hits(data.cache, data.length, bytes_of(name), strlen(name), NULL, 0, count);
+    mimelook_hit *hits = calloc(*count + 1, sizeof *hits);
+    size_t room = hits != NULL ? *count : 0;
+    *count = 0;
+    mimelook_hits(data.cache, data.length, bytes_of(name), strlen(name), hits, room, count);
+    *count = *count < room ? *count : room;
+    return hits;
+}
+
+/* Whether a type is among the first. */
+static bool is_listed(const char *const types[], int count, const char *type) {
+    bool is = false;
+    for (int i = 0; i < count; i++) {
+        is |= strcmp(types[i], type) == 0;
     }
-    types[0] = type;
-    return 1;
+    return is;
+}
+
+int xdg_mime_get_mime_types_from_file_name(const char *name, const char *types[], int room) {
+    struct database data = xdg_mime_database();
+    size_t count;
+    mimelook_hit *hits = hits_of(data, name, &count);
+    int listed = 0;
+    for (size_t i = 0; i < count && listed < room; i++) {
+        mimelook_text resolved = hits[i].type;
+        mimelook_unalias(data.cache, data.length, hits[i].type.at, hits[i].type.length, &resolved);
+        types[listed] = type_of(data, resolved);
+        listed += !is_listed(types, listed, types[listed]);
+    }
+    free(hits);
+    return listed;
 }
 
 int xdg_mime_is_valid_mime_type(const char *type) {

@@ -83,6 +83,31 @@ static mimelook_report parents(bool *is_left) {
     return report;
 }
 
+static uint8_t many[2048];
+static size_t many_length;
+
+/* Makes a cache of 25 rules that match one name. */
+static void make_many(void) {
+    char globs2[25 * 11 + 1] = "";
+    for (int i = 0; i < 25; i++) {
+        char *line = memcpy(globs2 + 11 * i, "10:t/a:*.q\n", 11);
+        line[0] = (char)(line[0] + i / 10);
+        line[1] = (char)(line[1] + i % 10);
+        line[5] = (char)(line[5] + i);
+    }
+    mimelook_text none = {NULL, 0};
+    mimelook_directory directory = {{bytes_of(globs2), sizeof globs2 - 1}, none, none, none, none, none};
+    CHECK(mimelook_merge(&directory, 1, many, sizeof many, &many_length).status == MIMELOOK_ANSWERED);
+}
+
+static mimelook_report hits(bool *is_left) {
+    mimelook_hit hit = {{before, 6}, 77, 7, 7, {7, 7}};
+    size_t count = 77;
+    mimelook_report report = mimelook_hits(many, many_length, bytes_of("A.Q"), 3, &hit, 1, &count);
+    *is_left = hit.type.at == before && hit.type.length == 6 && hit.weight == 77 && hit.kept == 7 && count == 77;
+    return report;
+}
+
 /* The status of a merging, as a report. */
 static mimelook_report merge(bool *is_left) {
     static const char globs2[] = "50:t/m:mk\n60:t/z:*.z\n70:t/y:[ab]*.y\n", aliases[] = "t/h t/g\n", icons[] = "t/g:lens\n";
@@ -137,6 +162,8 @@ int main(void) {
     refuse_in_turn("icons", icons);
     refuse_in_turn("parents", parents);
     refuse_in_turn("merge", merge);
+    make_many();
+    refuse_in_turn("hits", hits);
     take_none();
     return told();
 }

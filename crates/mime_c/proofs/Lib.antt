@@ -1,3 +1,4 @@
 pub mod Slices
 pub mod ParentSteps
 pub mod Writing
+pub mod HitSteps

@@ -11,5 +11,6 @@ pub mod Unalias
 pub mod Extent
 pub mod ListedIcons
 pub mod Parents
+pub mod Hits
 pub mod Sniff
 pub mod Merge

@@ -30,12 +30,16 @@ pub record IsParents (c kind : List ℕ) (result : Result (Option Parents) Cache
   -- A fault is one of the list, of the entry or of a text, or memory was refused.
   pub fault : IfErr result (λ e. (left : ℕ) × IsParentsFault c (field c 0 2) [] kind (length c / 4) left e)
 
--- Texts are written into an array from its front on, as far as there is room.
-pub record AreWritten (texts : List (List ℕ)) (before after : List Text) : Type 0 where
-  -- The array has the texts in their order.
-  pub written : map (λ (text : Text). text.bytes.now) (take (length texts) after) ≡ take (length before) texts
+-- Items are written into an array from its front on, as far as there is room.
+pub record AreWritten {X Y : Type 0} (view : X → Y) (items : List Y) (before after : List X) : Type 0 where
+  -- The array has the items in their order.
+  pub written : map view (take (length items) after) ≡ take (length before) items
   -- The rest of it is as it was.
-  pub rest : drop (length texts) after ≡ drop (length texts) before
+  pub rest : drop (length items) after ≡ drop (length items) before
+
+-- the bytes of a text
+abbrev pub bytes_of : Text → List ℕ
+bytes_of text = text.bytes.now
 
 -- an array of texts, and how many there are to be written
 pub record Slots : Type 0 where
@@ -46,4 +50,4 @@ pub record Slots : Type 0 where
 abbrev pub IsAskedParents : List ℕ → List ℕ → Slots → Slots → Report → Type 0
 IsAskedParents c kind before after told =
     IsReaderCall c (IsParents c kind) (30 + length c / 4) (256 * (27 + length c / 4))
-    (λ found. AreWritten (types_of found) before.texts after.texts × (after.count ≡ length (types_of found))) (after ≡ before) told
+    (λ found. AreWritten bytes_of (types_of found) before.texts after.texts × (after.count ≡ length (types_of found))) (after ≡ before) told

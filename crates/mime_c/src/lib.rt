@@ -15,6 +15,7 @@
 
 mod check;
 mod extent;
+mod hits;
 mod icons;
 mod is_a;
 mod listed_icons;
@@ -31,6 +32,7 @@ mod unalias;
 
 pub use check::mimelook_check;
 pub use extent::mimelook_extent;
+pub use hits::{Hit, mimelook_hits};
 pub use icons::{IconLengths, mimelook_icons};
 pub use is_a::mimelook_is_a;
 pub use listed_icons::mimelook_listed_icons;

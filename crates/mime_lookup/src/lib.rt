@@ -44,6 +44,7 @@ mod subclass;
 pub use answer::{Answer, NameAnswer};
 pub use cached::{Icons, SniffedContent, icon_of, is_a, look_up, look_up_name, sniff_alone};
 pub use content::{Content, ReadFault, Untold};
+pub use limits::LONGEST_NAME;
 pub use lists::look_up_plain;
 pub use order::Order;
 pub use script::{Script, Step};

@@ -19,4 +19,5 @@ pub mod NearRules
 pub mod KeptNear
 pub mod NameOffers
 pub mod GivenTypes
+pub mod GivenRules
 pub mod SameKeys

@@ -13,4 +13,5 @@ pub mod Globs
 pub mod Literals
 pub mod SuffixTree
 pub mod NameHits
+pub mod RuleHits
 pub mod Listing

@@ -1,7 +1,7 @@
 -- What the three lists of rules give for a name, and why nothing is said of it.
 use Rattle.std.specs.Prelude.{◌≡◌, ◌⊎◌, ℕ, ◌+◌, ◌*◌, ◌≤◌, ◌&&◌, Bool, List, length, map, nat_le, Result, Ok, IfOk, IfErr, All}
 use Rattle.std.specs.List.{list_any}
-use Rattle.mime_base.specs.Cache.Bytes.{Stands}
+use Rattle.mime_base.specs.Cache.Bytes.{Stands, field}
 use Rattle.mime_base.specs.Cache.Texts.{text_at}
 use Rattle.mime_base.specs.Format.Header.{HeaderAt, Offsets}
 use Rattle.mime_base.specs.Format.Rules.{GlobsAt, LiteralsAt}
@@ -33,6 +33,10 @@ pub record RulesAt (c : List ℕ) (lists : RuleLists) (rules : List GlobRule) : 
   pub tree : SuffixTreeAt (Stands c) lists.tree rules
   -- The others stand in the glob list.
   pub globs : GlobsAt (Stands c) lists.globs rules
+
+-- where the header of a cache says that the three lists stand
+abbrev pub lists_of : List ℕ → RuleLists
+lists_of c = record { literals = field c 0 3; tree = field c 0 4; globs = field c 0 5 }
 
 -- The rules stand in the three lists that the header of a cache names.
 pub record SpellsRules (c : List ℕ) (rules : List GlobRule) : Type 0 where
@@ -74,10 +78,10 @@ pub record AreHits (which : Which) (name : List ℕ) (rules : List GlobRule) (hi
   pub count : hits.kept ≡ length (kept_rules rules name)
 
 -- What a cache gives for a name where these rules stand.
-pub record GivesHits (which : Which) (name : List ℕ) (rules : List GlobRule) (old new : Budget) (result : Result NameHits CacheFault)
-    : Type 0 where
-  -- The types of the rules, if their ranks have room for them.
-  pub answer : All FitsRank rules → IfOk result (AreHits which name rules)
+pub record GivesHits {X : Type 0} (Answer : List ℕ → List GlobRule → X → Type 0) (name : List ℕ) (rules : List GlobRule)
+    (old new : Budget) (result : Result X CacheFault) : Type 0 where
+  -- The answer for the rules, if their ranks have room for them.
+  pub answer : All FitsRank rules → IfOk result (Answer name rules)
   -- With records for all entries, or for those near the name, only memory can be short.
   pub need : All FitsRank rules → (list_records rules ≤ old.records) ⊎ (near_records name rules ≤ old.records)
       → IfErr result (λ e. e ≡ OutOfMemory)
@@ -86,11 +90,11 @@ pub record GivesHits (which : Which) (name : List ℕ) (rules : List GlobRule) (
   -- Nor more than for those near the name.
   pub nearly : old.records ≤ new.records + near_records name rules
 
--- What is given for a name where these rules stand.
-pub record FindsHits (which : Which) (name : List ℕ) (rules : List GlobRule) (old new : Spending) (result : Result NameHits CacheFault)
-    : Type 0 where
-  -- The types of the rules, if their ranks have room for them.
-  pub answer : All FitsRank rules → IfOk result (AreHits which name rules)
+-- What is found for a name where these rules stand.
+pub record FindsHits {X : Type 0} (Answer : List ℕ → List GlobRule → X → Type 0) (name : List ℕ) (rules : List GlobRule)
+    (old new : Spending) (result : Result X CacheFault) : Type 0 where
+  -- The answer for the rules, if their ranks have room for them.
+  pub answer : All FitsRank rules → IfOk result (Answer name rules)
   -- Where that many records are left, it stops only if it is out of memory.
   pub need : All FitsRank rules → hit_visits name rules ≤ old.budget.records → IfErr result (λ e. e ≡ OutOfMemory)
   -- It takes no more of them.

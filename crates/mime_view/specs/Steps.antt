@@ -31,6 +31,8 @@ pub record Searches {X : Type 0} (Fault : CacheFault → Type 0) (each more : �
     : Type 0 where
   -- Why it stops.
   pub fault : IfErr result (IsSearchStop Fault new)
+  -- What is asked for stays.
+  pub asked : OnOk result (new.hits.which ≡ old.hits.which)
   -- Each hit that it adds was paid for by a record.
   pub few : OnOk result (length new.hits.offers + new.spending.budget.records ≤ length old.hits.offers + old.spending.budget.records)
   -- A record costs a node and at most `each` bytes; `more` nodes come besides, each with at most 256 bytes.

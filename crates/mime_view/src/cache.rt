@@ -21,7 +21,8 @@ ghost use Rattle.mime_base.specs.declared.database.rule.GlobRule.{GlobRule};
 ghost use Rattle.mime_view.specs.Magic.{Answers, IsMagicFault, magic_price, plain_found};
 ghost use Rattle.mime_base.specs.Magic.Extent.{sections_extent};
 ghost use Rattle.mime_view.specs.Lists.{IsPairsFault};
-ghost use Rattle.mime_view.specs.NameHits.{GivesHits, GivesTexts, IsHitsFault, SpellsRules};
+ghost use Rattle.mime_view.specs.NameHits.{AreHits, GivesHits, GivesTexts, IsHitsFault, SpellsRules, lists_of};
+ghost use Rattle.mime_view.specs.RuleHits.{AreRuleHits, gives_types};
 ghost use Rattle.mime_view.specs.Pairs.{IsSecondName, IsUnaliased, looked_up};
 ghost use Rattle.mime_view.specs.Parents.{IsGiven, StopsParents, TakesParents, is_marked, unmarked_parents};
 ghost use Rattle.mime_view.specs.Spending.{Gives, Looks, Spends, per_record, spending_of};
@@ -34,11 +35,12 @@ use crate::fault::CacheFault;
 use crate::hits::Case;
 use crate::magic::{MagicQuery, sniff};
 use crate::marks::Marks;
-use crate::name::{RuleLists, glob_hits};
+use crate::name::{RuleLists, glob_hits, rule_hits};
 use crate::name_hits::{NameHits, Which};
 use crate::pairs::look_up_pair;
 use crate::parents::{Parents, parents_of};
 use crate::query::Query;
+use crate::rule_hits::RuleHits;
 use crate::rules::{Listed, ListingSource, list_rules};
 use crate::spending::Spending;
 use mime_base::{Counted, Host, LARGEST_CACHE, Meter};
@@ -146,7 +148,7 @@ impl<'a> Cache<'a> {
         requires short { length name.now ≤ 4096 }
         // Where these rules stand, it gives the types of those that are asked for, and takes no more records than they need.
         ensures gives { (rules : List GlobRule) → SpellsRules self.now rules →
-            GivesHits which name.now rules budget.old budget.new result }
+            GivesHits (AreHits which) name.now rules budget.old budget.new result }
         // Whatever the bytes are, each type is a text of the cache, and was paid for by a record.
         ensures texts { GivesTexts self.now (spending_of meter.old budget.old) (spending_of meter.new budget.new) result }
         // Why nothing is said of the name.
@@ -157,11 +159,6 @@ impl<'a> Cache<'a> {
             Spends (per_record (256 * (length name.now + 3))) halving (256 * halving)
             (spending_of meter.old budget.old) (spending_of meter.new budget.new) }
     {
-        let lists = RuleLists {
-            literals: self.header[3],
-            tree: self.header[4],
-            globs: self.header[5],
-        };
         let query = Query {
             counted: &self.counted,
             key: name,
@@ -171,10 +168,64 @@ impl<'a> Cache<'a> {
             meter: *meter,
             budget: *budget,
         };
-        let hits = glob_hits(alloc, &query, which, lists, &mut spending);
+        let hits = glob_hits(alloc, &query, which, self.rule_lists(), &mut spending);
         *meter = spending.meter;
         *budget = spending.budget;
         hits
+    }
+
+    /// All glob rules that match a name, by falling rank, each with its type as the cache has it, its weight and its flag,
+    /// and how many of these are kept ("Recommended checking order").
+    ///
+    /// They are the candidates of [`Cache::glob_hits`], with its limit, its records and its errors, and take memory each.
+    pub fn rule_hits(
+        &self,
+        alloc: Global,
+        name: &[u8],
+        meter: &mut Meter,
+        budget: &mut Budget,
+    ) -> Result<RuleHits<'a>, CacheFault>
+        // A name has no more bytes.
+        requires short { length name.now ≤ 4096 }
+        // Where these rules stand, it gives those that match, and takes no more records than they need.
+        ensures gives { (rules : List GlobRule) → SpellsRules self.now rules →
+            GivesHits AreRuleHits name.now rules budget.old budget.new result }
+        // Whatever the bytes are, each type is a text of the cache, and was paid for by a record.
+        ensures texts { GivesTexts self.now (spending_of meter.old budget.old) (spending_of meter.new budget.new)
+            (gives_types result) }
+        // Why nothing is said of the name.
+        ensures fault { IfErr result
+            (IsHitsFault self.now (field self.now 0 3) (field self.now 0 4) (field self.now 0 5) budget.new) }
+        // A record costs as in the glob list, and the text of a type; the halving comes besides, for both cases.
+        ensures cost { let halving = 29 * (2 * length name.now + 2) + 1 in
+            Spends (per_record (256 * (length name.now + 3))) halving (256 * halving)
+            (spending_of meter.old budget.old) (spending_of meter.new budget.new) }
+    {
+        let query = Query {
+            counted: &self.counted,
+            key: name,
+            case: Case::Both,
+        };
+        let mut spending = Spending {
+            meter: *meter,
+            budget: *budget,
+        };
+        let hits = rule_hits(alloc, &query, self.rule_lists(), &mut spending);
+        *meter = spending.meter;
+        *budget = spending.budget;
+        hits
+    }
+
+    /// Where the three lists of rules stand.
+    fn rule_lists(&self) -> RuleLists
+        // The header names them.
+        ensures { result ≡ lists_of self.now }
+    {
+        RuleLists {
+            literals: self.header[3],
+            tree: self.header[4],
+            globs: self.header[5],
+        }
     }
 
     /// The type that an alias stands for, or the name itself where it is no alias ("Directory layout").

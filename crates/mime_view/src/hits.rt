@@ -8,6 +8,7 @@ ghost use Rattle.mime_base.specs.declared.database.rule.GlobRule.{GlobRule};
 ghost use Rattle.mime_view.specs.Gathered.{AreGiven, Offers, in_order, plain_hits, wants_rank};
 ghost use Rattle.mime_view.specs.Hits.{CandidatesAreNear, takes_rule, IsVisit, KeptAreNear, extra_visits, visits};
 ghost use Rattle.mime_view.specs.Lists.{IsTextFault};
+ghost use Rattle.mime_view.specs.RuleHits.{AreRulesAt, types_alone};
 ghost use Rattle.mime_view.specs.Spending.{Looks, Spends, per_record};
 ghost use Rattle.mime_view.specs.Texts.{AreTexts};
 
@@ -15,6 +16,7 @@ use crate::best_hits::{BestHits, FEW};
 use crate::fault::CacheFault;
 use crate::kinds::read_kinds;
 use crate::name_hits::{NameHits, Which};
+use crate::rule_hits::{RuleHits, read_rules};
 use crate::spending::Spending;
 use mime_base::{Counted, Meter};
 use smallvec::SmallVec;
@@ -140,6 +142,8 @@ impl Hits {
         // What is gathered of the rules before becomes what is gathered of them and this one.
         ensures offered { (c : List ℕ) → (rule : GlobRule) → rank ≡ rank_of_rule rule → text_at c kind ≡ Ok rule.kind →
             OnOk result (Offers c (rule ∷ []) self.old self.new) }
+        // What is asked for stays.
+        ensures asked { self.new.which ≡ self.old.which }
         // At most one hit is added.
         ensures one_more { length self.new.offers ≤ length self.old.offers + 1 }
         // Only memory can be short.
@@ -175,6 +179,34 @@ impl Hits {
         match self.gathered {
             Gathered::Best(hits) => read_best(alloc, &hits, counted, meter),
             Gathered::Every(hits) => read_every(alloc, hits, counted, meter),
+        }
+    }
+
+    /// Reads the rules of the hits, all of which are held.
+    pub fn read_rules<'a>(
+        self,
+        alloc: Global,
+        counted: &Counted<'a>,
+        meter: &mut Meter,
+    ) -> Result<RuleHits<'a>, CacheFault>
+        // All were asked for.
+        requires all { self.which ≡ Which.Candidates }
+        // Their types stand at the hits' offsets, and it is said how many are kept.
+        ensures answer { IfOk result (λ found. AreGiven counted.now self (types_alone found)) }
+        // Weights and flags are those of the ranks.
+        ensures rules { IfOk result (λ found. AreRulesAt counted.now (in_order self.which self.offers) found.rules.items) }
+        // Where texts stand there, only memory can be short.
+        ensures need { (texts : List (List ℕ)) →
+            AreTexts counted.now (map (λ hit. hit.1) (in_order self.which self.offers)) texts →
+            IfErr result (λ e. e ≡ CacheFault.OutOfMemory) }
+        // Else a text is at fault.
+        ensures fault { IfErr result (λ e. IsTextFault counted.now e ⊎ (e ≡ CacheFault.OutOfMemory)) }
+        // It costs their texts.
+        ensures looks { Looks 0 (256 * length self.offers) meter.old meter.new }
+    {
+        match self.gathered {
+            Gathered::Best(_) => unreachable!(),
+            Gathered::Every(hits) => read_every_rule(alloc, hits, counted, meter),
         }
     }
 }
@@ -227,6 +259,32 @@ fn read_every<'a>(
     let places = places_of(alloc, &sorted)?;
     let kinds = read_kinds(alloc, counted, &places, meter)?;
     Ok(NameHits { kinds, kept })
+}
+
+/// Reads the rules of all hits, by falling rank.
+fn read_every_rule<'a>(
+    alloc: Global,
+    hits: SmallVec<(u32, u32), FEW>,
+    counted: &Counted<'a>,
+    meter: &mut Meter,
+) -> Result<RuleHits<'a>, CacheFault>
+    // Their types stand at the hits' offsets, and as many are kept as have the greatest rank.
+    ensures answer { IfOk result (λ found. AreGiven counted.now (plain_hits (Gathered.Every hits)) (types_alone found)) }
+    // Weights and flags are those of the ranks.
+    ensures rules { IfOk result (λ found. AreRulesAt counted.now (falling (λ hit. hit.0) hits.items) found.rules.items) }
+    // Where texts stand there, only memory can be short.
+    ensures need { (texts : List (List ℕ)) → AreTexts counted.now (map (λ hit. hit.1) (falling (λ hit. hit.0) hits.items)) texts →
+        IfErr result (λ e. e ≡ CacheFault.OutOfMemory) }
+    // Else a text is at fault.
+    ensures fault { IfErr result (λ e. IsTextFault counted.now e ⊎ (e ≡ CacheFault.OutOfMemory)) }
+    // It costs their texts.
+    ensures looks { Looks 0 (256 * length hits.items) meter.old meter.new }
+{
+    let mut sorted = hits;
+    sort_by_rank(alloc, &mut sorted)?;
+    let kept = count_best(&sorted);
+    let rules = read_rules(alloc, &sorted, counted, meter)?;
+    Ok(RuleHits { rules, kept })
 }
 
 /// Puts the hits of the greatest rank first; those of one rank stay in their order. Up to 20 take no memory.

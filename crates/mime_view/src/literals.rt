@@ -153,6 +153,8 @@ fn offer_entry(
     ensures answer { (c : List ℕ) (rule : GlobRule) → IsLiteral rule → length rule.pattern ≡ size →
         flags ≡ weight_and_flags rule → text_at c kind ≡ Ok rule.kind →
         OnOk result (Offers c (filter (λ rule. takes_rule case rule.cased) (rule ∷ [])) hits.old hits.new) }
+    // What is asked for stays.
+    ensures asked { hits.new.which ≡ hits.old.which }
     // At most one hit is added.
     ensures one_more { length hits.new.offers ≤ length hits.old.offers + 1 }
     // Only memory can be short.

@@ -3,8 +3,8 @@
 //! The literal list and the suffix tree are searched twice: by the name for case-sensitive rules, and by
 //! the folded name for the others. Where folding leaves the name alone, one search serves both.
 
-ghost use Rattle.std.specs.Prelude.{◌≡◌, false, ◌+◌, ◌*◌, ◌<◌, List, [], ◌++◌, length};
-ghost use Rattle.std.specs.Prelude.{All, IfErr, OnOk};
+ghost use Rattle.std.specs.Prelude.{◌≡◌, false, ◌+◌, ◌*◌, ◌<◌, ◌≤◌, List, [], ◌++◌, length};
+ghost use Rattle.std.specs.Prelude.{All, IfErr, IfOk, OnOk};
 ghost use Rattle.mime_base.specs.Cache.Bytes.{Stands};
 ghost use Rattle.mime_base.specs.Format.Rules.{LiteralsAt};
 ghost use Rattle.mime_base.specs.Format.SuffixTree.{SuffixTreeAt};
@@ -14,7 +14,9 @@ ghost use Rattle.mime_base.specs.declared.database.rule.GlobRule.{GlobRule};
 ghost use Rattle.mime_view.specs.Gathered.{HoldsRules};
 ghost use Rattle.mime_view.specs.Hits.{hit_visits, offered_once, offered_twice};
 ghost use Rattle.mime_view.specs.Hits.{literal_hits, literal_visits, tree_hits, tree_visits};
-ghost use Rattle.mime_view.specs.NameHits.{FindsHits, GivesTexts, IsHitsFault, IsRuleListsFault, RulesAt, has_capitals};
+ghost use Rattle.mime_view.specs.NameHits.{AreHits, FindsHits, GivesTexts, IsHitsFault, IsRuleListsFault, RulesAt};
+ghost use Rattle.mime_view.specs.NameHits.{has_capitals};
+ghost use Rattle.mime_view.specs.RuleHits.{AreRuleHits, gives_types};
 ghost use Rattle.mime_view.specs.Spending.{Spends, per_record};
 ghost use Rattle.mime_view.specs.Steps.{FindsRules, IsEntriesFault, Searches};
 ghost use Rattle.mime_view.specs.SuffixTree.{IsTreeFault};
@@ -26,6 +28,7 @@ use crate::hits::{Case, Hits};
 use crate::literals::literal_hits;
 use crate::name_hits::{NameHits, Which};
 use crate::query::{Progress, Query};
+use crate::rule_hits::RuleHits;
 use crate::spending::Spending;
 use crate::suffixes::tree_hits;
 use mime_base::fold;
@@ -52,7 +55,7 @@ pub fn glob_hits<'a>(
 ) -> Result<NameHits<'a>, CacheFault>
     // Of the rules that stand in the lists, it gives the types of those that are asked for.
     ensures found { (rules : List GlobRule) → RulesAt query.now.counted.now lists rules →
-        FindsHits which query.now.key.now rules spending.old spending.new result }
+        FindsHits (AreHits which) query.now.key.now rules spending.old spending.new result }
     // Whatever the bytes are, it gives texts of the cache.
     ensures gives { GivesTexts query.now.counted.now spending.old spending.new result }
     // Why it gives none.
@@ -62,6 +65,55 @@ pub fn glob_hits<'a>(
     ensures cost { let more = 29 * (2 * length query.now.key.now + 2) + 1 in
         Spends (per_record (256 * (length query.now.key.now + 3))) more (256 * more) spending.old spending.new }
 {
+    let hits = hits_of(alloc, query, which, lists, spending)?;
+    hits.read(alloc, query.counted, &mut spending.meter)
+}
+
+/// All rules that match a name, by falling rank.
+pub fn rule_hits<'a>(
+    alloc: Global,
+    query: &Query<'_, 'a>,
+    lists: RuleLists,
+    spending: &mut Spending,
+) -> Result<RuleHits<'a>, CacheFault>
+    // Of the rules that stand in the lists, it gives those that match, and how many are kept.
+    ensures found { (rules : List GlobRule) → RulesAt query.now.counted.now lists rules →
+        FindsHits AreRuleHits query.now.key.now rules spending.old spending.new result }
+    // Whatever the bytes are, their types are texts of the cache.
+    ensures gives { GivesTexts query.now.counted.now spending.old spending.new (gives_types result) }
+    // Why it gives none.
+    ensures fault { IfErr result
+        (IsHitsFault query.now.counted.now lists.literals lists.tree lists.globs spending.new.budget) }
+    // A record costs as in the glob list, and the text of a type; the halving comes besides, for both cases.
+    ensures cost { let more = 29 * (2 * length query.now.key.now + 2) + 1 in
+        Spends (per_record (256 * (length query.now.key.now + 3))) more (256 * more) spending.old spending.new }
+{
+    let hits = hits_of(alloc, query, Which::Candidates, lists, spending)?;
+    hits.read_rules(alloc, query.counted, &mut spending.meter)
+}
+
+/// The hits of the rules of a name that are asked for.
+fn hits_of(
+    alloc: Global,
+    query: &Query<'_, '_>,
+    which: Which,
+    lists: RuleLists,
+    spending: &mut Spending,
+) -> Result<Hits, CacheFault>
+    // Of the rules that stand in the lists, it holds those that are asked for.
+    ensures found { (rules : List GlobRule) → RulesAt query.now.counted.now lists rules →
+        FindsHits (HoldsRules query.now.counted.now which) query.now.key.now rules spending.old spending.new result }
+    // Whatever the bytes are, those that are asked for are held.
+    ensures asked { IfOk result (λ hits. hits.which ≡ which) }
+    // Each was paid for by a record.
+    ensures paid { IfOk result (λ hits. length hits.offers + spending.new.budget.records ≤ spending.old.budget.records) }
+    // Why there are none.
+    ensures fault { IfErr result
+        (IsHitsFault query.now.counted.now lists.literals lists.tree lists.globs spending.new.budget) }
+    // A record costs as in the glob list; the halving comes besides, for both cases.
+    ensures cost { let more = 29 * (2 * length query.now.key.now + 2) + 1 in
+        Spends (per_record (256 * (length query.now.key.now + 2))) more (256 * more) spending.old spending.new }
+{
     let mut progress = Progress {
         hits: Hits::new(alloc, which),
         spending: *spending,
@@ -69,9 +121,7 @@ pub fn glob_hits<'a>(
     let gathered = gather_hits(alloc, query, lists, &mut progress);
     *spending = progress.spending;
     gathered?;
-    progress
-        .hits
-        .read(alloc, query.counted, &mut spending.meter)
+    Ok(progress.hits)
 }
 
 /// Offers the rules that match a name.

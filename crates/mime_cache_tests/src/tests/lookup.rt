@@ -86,6 +86,7 @@ fn is_outcome(rt: &impl Abort, name: &str, way: &str, found: Outcome<'_>, wanted
 }
 
 /// A name in these directories, a content, and the type and how much was read of it.
+#[derive(Drop)]
 struct Row {
     name: &'static str,
     dirs: &'static [Texts<'static>],

@@ -1,6 +1,6 @@
 -- How many records a walk over the lists takes: what the rules near the name allow, and never more than the lists hold.
 use Rattle.std.proofs.Common.{◌≡◌, ℕ, ◌+◌, ◌*◌, ◌≤◌, Bool, true, false, not, ◌&&◌, ◌||◌, List, length}
-use Rattle.std.proofs.Common.{reverse, bytes_eq, refl, sym, ap, arith, ◌==◌, true≢false}
+use Rattle.std.proofs.Common.{reverse, bytes_eq, refl, sym, ap, arith, ◌==◌, true≢false, ⊎_elim, Result}
 use Rattle.std.specs.List.{filter}
 use Rattle.std.proofs.lemmas.Bool.{or_right}
 use Rattle.std.proofs.lemmas.List.{length-map}
@@ -15,6 +15,9 @@ use Rattle.mime_base.specs.declared.database.rule.GlobRule.{GlobRule}
 use Rattle.mime_base.specs.declared.kept.class.Class.{Class}
 use Rattle.mime_base.specs.declared.kept.class.Class.TheVariants.{Full, Literal, Suffix}
 use Rattle.mime_view.specs.Hits.{ending_rules, hit_visits, near}
+use Rattle.mime_view.specs.NameHits.{FindsHits, GivesHits}
+use Rattle.mime_view.specs.declared.fault.CacheFault.{CacheFault}
+use Rattle.mime_view.specs.declared.spending.Spending.{Spending}
 use Rattle.mime_view.proofs.HitsLemmas.FilterCounts.{length-filter_or, length-filter_weaker}
 use Rattle.mime_view.proofs.HitsLemmas.FilterSteps.{filter-filter}
 use Rattle.mime_view.proofs.SuffixTreeLemmas.PathFronts.{Lengthens-fronts, is_among, length-by_keys}
@@ -106,3 +109,14 @@ module _ (rules : List GlobRule) (name : List ℕ) where
   -- each record is visited twice at most
   pub visits_within : hit_visits name rules ≤ 2 * length (literal_rules rules) + 2 * tree_size rules + length (glob_rules rules)
   visits_within = omega arith
+
+  -- so what is found for so many visits is given for the records of the lists, or for those near the name
+  pub gives_hits : {X : Type 0} (Answer : List ℕ → List GlobRule → X → Type 0) (old new : Spending) (result : Result X CacheFault) →
+      FindsHits Answer name rules old new result → GivesHits Answer name rules old.budget new.budget result
+  gives_hits Answer old new result found = record {
+    answer = found.answer;
+    need = λ fits enough. found.need fits
+        (⊎_elim (λ of_lists. omega (arith, visits_within, of_lists)) (λ of_near. omega (arith, visits_near, of_near)) enough);
+    within = omega (arith, found.most, visits_within);
+    nearly = omega (arith, found.most, visits_near);
+  }

@@ -1,5 +1,5 @@
 -- What steps of a search do one after another.
-use Rattle.std.proofs.Common.{◌≡◌, ℕ, ◌+◌, ◌*◌, ◌≤◌, List, [], ◌++◌, arith}
+use Rattle.std.proofs.Common.{◌≡◌, ℕ, ◌+◌, ◌*◌, ◌≤◌, List, [], ◌++◌, refl, ◌∙◌, arith}
 use Rattle.std.specs.Prelude.{Result, Ok, Err, IsErrAnd}
 use Rattle.std.proofs.lemmas.Result.{err_from_is_err_and, on_ok_weaker}
 use Rattle.mime_base.specs.declared.database.rule.GlobRule.{GlobRule}
@@ -23,6 +23,7 @@ finds_none {c} at = record {
 pub searches_none : {Fault : CacheFault → Type 0} {each : ℕ} (at : Progress) → Searches {X = Unit {0}} Fault each 0 at at (Ok tt)
 searches_none {each = each} at = record {
   fault = tt;
+  asked = refl;
   few = omega arith;
   cost = spends_none (per_record each) at.spending;
 }
@@ -43,6 +44,7 @@ pub searches_then : {X Y : Type 0} {Fault : CacheFault → Type 0} {each m n k :
     → Searches Fault each k old new r
 searches_then {each = each} {m = m} {n = n} {k = k} {old = old} {mid = mid} {new = new} {r = r} first second l = record {
   fault = second.fault;
+  asked = on_ok_weaker r (λ stays. stays ∙ first.asked) second.asked;
   few = on_ok_weaker r (λ fewer. omega (arith, fewer, first.few)) second.few;
   cost = spends_within (per_record each) (m + n) (256 * m + 256 * n) k (256 * k) old.spending new.spending l (omega (arith, l))
       (spends_then (per_record each) m (256 * m) n (256 * n) old.spending mid.spending new.spending first.cost second.cost);
@@ -53,6 +55,7 @@ pub searches_ok : {X Y : Type 0} {Fault : CacheFault → Type 0} {each m : ℕ} 
     → Searches Fault each m old new (Ok x) → Searches Fault each m old new (Ok y)
 searches_ok step = record {
   fault = tt;
+  asked = step.asked;
   few = step.few;
   cost = step.cost;
 }
@@ -85,6 +88,7 @@ searches_err r is step =
     let p = err_from_is_err_and r is in
     rw (p.1, p.2) record {
       fault = step.fault;
+      asked = tt;
       few = tt;
       cost = step.cost;
     }

@@ -126,3 +126,47 @@ fn by_falling_rank(rt: HostRuntime) -> Result<(), Fail> {
     }
     Ok(())
 }
+
+/// Rules of several weights, of which one is case-sensitive.
+const WEIGHTS: Texts<'static> = Texts {
+    globs2: b"70:t/star:m*\n255:t/light:*z\n60:t/name:m.gz\n0:t/one:*.gz\n0:t/two:*.GZ:cs\n",
+    ..EMPTY
+};
+
+/// Each rule that matches has its weight and its flag: a literal name, then endings by weight, length and case, then `m*`.
+#[test]
+fn weights_and_cases(rt: HostRuntime) -> Result<(), Fail> {
+    let alloc = rt.alloc();
+    let bytes = write_cache(alloc, &merged(alloc, &[WEIGHTS])?, usize::MAX)?;
+    let rows: [(&[u8], &[(&[u8], u8, bool)], usize); 3] = [
+        (
+            b"M.GZ",
+            &[
+                (b"t/name", 60, false),
+                (b"t/light", 255, false),
+                (b"t/two", 0, true),
+                (b"t/one", 0, false),
+                (b"t/star", 70, false),
+            ],
+            1,
+        ),
+        (b"m", &[(b"t/star", 70, false)], 1),
+        (b"x", &[], 0),
+    ];
+    for (name, expected, kept) in rows {
+        let mut meter = Meter::new();
+        let cache = Cache::open(Counted::new(&bytes), &mut meter)?;
+        let mut budget = Budget::of(&cache);
+        let found = cache.rule_hits(alloc, name, &mut meter, &mut budget)?;
+        alike(
+            &rt,
+            "counts",
+            (found.rules.len(), found.kept),
+            (expected.len(), kept),
+        );
+        for (rule, row) in found.rules.iter().zip(expected) {
+            alike(&rt, "rule", (rule.kind, rule.weight, rule.cased), *row);
+        }
+    }
+    Ok(())
+}

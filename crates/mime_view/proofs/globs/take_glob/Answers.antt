@@ -74,6 +74,7 @@ returns-in_err-offer-clause-searches c =
     let short = text_short c.args.query.now.counted.now c.from.result c.in_ok-pattern.pattern.now c.in_ok-pattern.ensures.text in
     record {
       fault = search rules;
+      asked = search rules;
       few = search rules;
       cost =
           entry_spends (length c.args.query.now.key.now) (length c.in_ok-pattern.pattern.now) c.text_at.new.meter.bytes c.args.progress.now.spending
@@ -86,6 +87,7 @@ returns-else-glob_matches-clause-searches c =
     let short = text_short c.args.query.now.counted.now c.from.result c.in_ok-pattern.pattern.now c.in_ok-pattern.ensures.text in
     record {
       fault = search rules;
+      asked = search rules;
       few = search rules;
       cost =
           entry_spends (length c.args.query.now.key.now) (length c.in_ok-pattern.pattern.now) c.text_at.new.meter.bytes c.args.progress.now.spending
@@ -98,6 +100,7 @@ returns-in_ok-offer-clause-searches c =
     let short = text_short c.args.query.now.counted.now c.from.result c.in_ok-pattern.pattern.now c.in_ok-pattern.ensures.text in
     record {
       fault = search rules;
+      asked = search rules;
       few = search rules;
       cost =
           entry_spends (length c.args.query.now.key.now) (length c.in_ok-pattern.pattern.now) c.text_at.new.meter.bytes c.args.progress.now.spending

@@ -1,27 +1,18 @@
-use Rattle.std.proofs.Common.{◌≡◌, ℕ, List, Ok, get_or, ap, arith, subst, ⊎_elim}
+use Rattle.std.proofs.Common.{◌≡◌, ℕ, List, Ok, subst}
 use Rattle.std.specs.List.{All}
 use Rattle.std.specs.Prelude.{IfOk}
 use Rattle.mime_base.specs.Cache.Texts.{text_at}
+use Rattle.mime_view.specs.NameHits.{AreHits}
+use Rattle.mime_view.specs.Spending.{spending_of}
+use Rattle.mime_view.proofs.CostLemmas.VisitCounts.{gives_hits}
 use Rattle.mime_view.proofs.ListLemmas.NameLists.{rules_named}
-use Rattle.mime_view.proofs.CostLemmas.VisitCounts.{visits_near, visits_within}
 use Rattle.mime_view.proofs.cache.Cache.glob_hits.Goals as goal
 
 pub returns-clause-gives : goal.returns-clause-gives
 returns-clause-gives c = λ rules spells.
-    let number = c.self.invariant.0 in
-    let stand = rules_named c.args.self.now c.self.inside.counted _ rules c.self.view_is
-    (ap (λ (ns : List ℕ). get_or ns 3 0) number) (ap (λ (ns : List ℕ). get_or ns 4 0) number)
-    (ap (λ (ns : List ℕ). get_or ns 5 0) number) spells in
-    let found = c.glob_hits-hits.ensures.found rules stand in
-    let within = visits_within rules c.args.name.now in
-    let nearly = visits_near rules c.args.name.now in
-    record {
-      answer = found.answer;
-      need = λ fits enough. found.need fits
-          (⊎_elim (λ of_lists. omega (arith, within, of_lists)) (λ of_near. omega (arith, nearly, of_near)) enough);
-      within = omega (arith, found.most, within);
-      nearly = omega (arith, found.most, nearly);
-    }
+    gives_hits rules c.args.name.now (AreHits c.args.which) (spending_of c.args.meter.now c.args.budget.now) c.glob_hits-hits.new.spending
+    c.glob_hits-hits.result
+    (c.glob_hits-hits.ensures.found rules (rules_named c.args.self.now c.self.inside.counted c.rule_lists.result rules c.self.view_is c.rule_lists.ensures spells))
 
 pub returns-clause-texts : goal.returns-clause-texts
 returns-clause-texts c = record {
