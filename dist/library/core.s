@@ -578,6 +578,36 @@
 
 	.text
 	.p2align	4
+	.type	"core::slice::edits::mirror::<34'(,)::<3'&[](*,i64,),3'&[](*,i64,)>>",@function
+"core::slice::edits::mirror::<34'(,)::<3'&[](*,i64,),3'&[](*,i64,)>>":
+	movq	%rdx, %rax
+	shlq	$5, %rax
+	addq	%rsi, %rax
+	addq	$-32, %rax
+	.p2align	4
+1:
+	movups	(%rdi), %xmm0
+	movups	16(%rdi), %xmm1
+	movaps	%xmm1, -24(%rsp)
+	movaps	%xmm0, -40(%rsp)
+	movups	(%rax), %xmm0
+	movups	16(%rax), %xmm1
+	movups	%xmm0, (%rdi)
+	movups	%xmm1, 16(%rdi)
+	movaps	-40(%rsp), %xmm0
+	movaps	-24(%rsp), %xmm1
+	movups	%xmm1, 16(%rax)
+	movups	%xmm0, (%rax)
+	addq	$32, %rdi
+	addq	$-32, %rax
+	decq	%rdx
+	jne	1b
+	retq
+2:
+	.size	"core::slice::edits::mirror::<34'(,)::<3'&[](*,i64,),3'&[](*,i64,)>>", 2b-"core::slice::edits::mirror::<34'(,)::<3'&[](*,i64,),3'&[](*,i64,)>>"
+
+	.text
+	.p2align	4
 	.type	"core::slice::edits::mirror::<35'mime_base::database::rule::GlobRule>",@function
 "core::slice::edits::mirror::<35'mime_base::database::rule::GlobRule>":
 	imulq	$88, %rdx, %rax

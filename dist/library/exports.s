@@ -1029,6 +1029,635 @@ mimelook_extent:
 	.p2align	4, 0x0
 1:
 	.byte	3,2,1,0,7,6,5,4,11,10,9,8,15,14,13,12
+2:
+	.quad	1,1
+	.text
+	.globl	mimelook_hits
+	.p2align	4
+	.type	mimelook_hits,@function
+mimelook_hits:
+	pushq	%rbp
+	pushq	%r15
+	pushq	%r14
+	pushq	%r13
+	pushq	%r12
+	pushq	%rbx
+	subq	$424, %rsp
+	movq	%rdi, %rax
+	xorl	%r10d, %r10d
+	testq	%rsi, %rsi
+	sete	%bl
+	xorl	%edi, %edi
+	testq	%rcx, %rcx
+	sete	%r11b
+	testq	%r9, %r9
+	sete	%bpl
+	xorps	%xmm0, %xmm0
+	movaps	%xmm0, 192(%rsp)
+	movq	$0, 208(%rsp)
+	cmpq	$4097, %r8
+	jb	3f
+	movl	$1, (%rax)
+	movups	%xmm0, 4(%rax)
+	movups	%xmm0, 20(%rax)
+	movups	%xmm0, 36(%rax)
+	movups	%xmm0, 48(%rax)
+	jmp	51f
+3:
+	cmpq	$40, %rdx
+	jae	4f
+	xorl	%ecx, %ecx
+	xorl	%edx, %edx
+	jmp	7f
+4:
+	movb	%bl, %r10b
+	shll	$12, %r10d
+	addq	%r10, %rsi
+	movl	(%rsi), %r10d
+	cmpl	$33554688, %r10d
+	bswapl	%r10d
+	jne	5f
+	cmpq	$268435456, %rdx
+	jbe	9f
+	movl	$2, %edx
+	jmp	6f
+5:
+	movl	%r10d, %ecx
+	andl	$-65536, %ecx
+	movzwl	%r10w, %edx
+	shlq	$32, %rdx
+	addq	%rcx, %rdx
+	incq	%rdx
+6:
+	movl	$1, %ecx
+7:
+	movl	%edx, %esi
+	movl	%edx, %edi
+	shrq	$32, %rdx
+	movd	%edi, %xmm0
+	psrld	$16, %xmm0
+	pinsrw	$1, %edx, %xmm0
+	movd	%ecx, %xmm1
+	xorl	%r14d, %r14d
+	movzbl	%sil, %edx
+	pxor	%xmm2, %xmm2
+	movl	$5, %ecx
+	leaq	53f(%rip), %rsi
+	movslq	(%rsi,%rdx,4), %rdi
+	addq	%rsi, %rdi
+	jmpq	*%rdi
+8:
+	movl	$6, %ecx
+	xorl	%edx, %edx
+	movdqa	%xmm0, %xmm2
+	jmp	49f
+9:
+	movq	%r9, 64(%rsp)
+	movq	%rax, (%rsp)
+	movb	%r11b, %dil
+	shll	$12, %edi
+	addq	%rdi, %rcx
+	movdqu	20(%rsi), %xmm0
+	movdqa	1b(%rip), %xmm1
+	pshufb	%xmm1, %xmm0
+	movl	36(%rsi), %eax
+	bswapl	%eax
+	movdqu	4(%rsi), %xmm2
+	pshufb	%xmm1, %xmm2
+	movq	%rsi, 336(%rsp)
+	movq	%rdx, 344(%rsp)
+	movl	%r10d, 352(%rsp)
+	movdqu	%xmm2, 356(%rsp)
+	movdqu	%xmm0, 372(%rsp)
+	movl	%eax, 388(%rsp)
+	movq	%rdx, %rax
+	shrq	$2, %rax
+	movq	$2, 416(%rsp)
+	leaq	336(%rsp), %rsi
+	movq	%rsi, 392(%rsp)
+	movq	%rcx, 400(%rsp)
+	movq	%r8, 408(%rsp)
+	movq	$1, 96(%rsp)
+	movq	$0, 104(%rsp)
+	pextrq	$1, %xmm2, 256(%rsp)
+	movq	%rax, 112(%rsp)
+	movq	%rdx, 120(%rsp)
+	movd	%xmm0, 264(%rsp)
+	pxor	%xmm0, %xmm0
+	movdqa	%xmm0, 272(%rsp)
+	movdqa	%xmm0, 288(%rsp)
+	movdqa	%xmm0, 304(%rsp)
+	movdqa	%xmm0, 320(%rsp)
+	leaq	272(%rsp), %rdi
+	leaq	392(%rsp), %rsi
+	leaq	256(%rsp), %rcx
+	leaq	96(%rsp), %r8
+	movl	$1, %edx
+	callq	"mime_view::name::hits_of"
+	movzbl	280(%rsp), %eax
+	movq	288(%rsp), %r14
+	cmpb	$0, 272(%rsp)
+	je	10f
+	movd	282(%rsp), %xmm0
+	movdqa	96(%rsp), %xmm1
+	movzbl	%al, %edx
+	movl	$5, %ecx
+	leaq	53f(%rip), %rax
+	movslq	(%rax,%rdx,4), %rsi
+	addq	%rax, %rsi
+	movq	(%rsp), %rax
+	pxor	%xmm2, %xmm2
+	jmpq	*%rsi
+10:
+	testb	%al, %al
+	je	22f
+	movzbl	%r14b, %eax
+	pxor	%xmm0, %xmm0
+	movdqa	%xmm0, 224(%rsp)
+	movq	$0, 240(%rsp)
+	movdqu	296(%rsp), %xmm0
+	movdqu	312(%rsp), %xmm1
+	movdqu	%xmm0, 144(%rsp)
+	movdqu	%xmm1, 160(%rsp)
+	movq	328(%rsp), %rcx
+	movq	%rcx, 176(%rsp)
+	movq	%rax, 136(%rsp)
+	leaq	224(%rsp), %rdi
+	leaq	136(%rsp), %rsi
+	callq	"mime_view::hits::sort_by_rank"
+	cmpb	$0, 224(%rsp)
+	je	11f
+	movq	240(%rsp), %r14
+	movd	234(%rsp), %xmm0
+	movzbl	232(%rsp), %ebx
+	cmpb	$1, 136(%rsp)
+	movq	(%rsp), %rax
+	jne	41f
+	cmpq	$0, 160(%rsp)
+	je	41f
+	movq	144(%rsp), %rdi
+	movdqa	%xmm0, 64(%rsp)
+	callq	rattle_dealloc@PLT
+	movdqa	64(%rsp), %xmm0
+	movq	(%rsp), %rax
+	movdqa	96(%rsp), %xmm1
+	movzbl	%bl, %edx
+	pxor	%xmm2, %xmm2
+	movl	$5, %ecx
+	leaq	53f(%rip), %rsi
+	movslq	(%rsi,%rdx,4), %rdi
+	addq	%rsi, %rdi
+	jmpq	*%rdi
+11:
+	leaq	144(%rsp), %rbx
+	movzbl	136(%rsp), %edx
+	testb	%dl, %dl
+	cmovneq	144(%rsp), %rbx
+	leaq	176(%rsp), %rax
+	leaq	152(%rsp), %rcx
+	cmoveq	%rax, %rcx
+	movq	(%rcx), %r15
+	testq	%r15, %r15
+	je	12f
+	movl	(%rbx), %ecx
+	cmpq	$4, %r15
+	movq	(%rsp), %rax
+	jae	15f
+	xorl	%r12d, %r12d
+	xorl	%edx, %edx
+	jmp	23f
+12:
+	leaq	8(%rsp), %rbx
+	movl	%ebx, %r15d
+	shrl	$16, %r15d
+	movq	%rbx, %r9
+	shrq	$32, %r9
+	movq	%rbx, %rdi
+	shrq	$48, %rdi
+	movb	$1, %r13b
+	xorl	%r12d, %r12d
+	xorl	%r8d, %r8d
+	movq	(%rsp), %rax
+	movq	64(%rsp), %rcx
+	movq	480(%rsp), %r14
+	cmpb	$1, %dl
+	jne	14f
+13:
+	cmpq	$0, 160(%rsp)
+	je	14f
+	movq	%rdi, 80(%rsp)
+	movq	144(%rsp), %rdi
+	movb	%r13b, 16(%rsp)
+	movq	%r8, 88(%rsp)
+	movq	%r9, %r13
+	callq	rattle_dealloc@PLT
+	movq	%r13, %r9
+	movq	80(%rsp), %rdi
+	movq	88(%rsp), %r8
+	movzbl	16(%rsp), %r13d
+	movq	64(%rsp), %rcx
+	movq	(%rsp), %rax
+14:
+	movq	488(%rsp), %rdx
+	movzwl	%bx, %esi
+	shll	$16, %r15d
+	orq	%rsi, %r15
+	movzwl	%r9w, %esi
+	shlq	$32, %rsi
+	orq	%r15, %rsi
+	movzwl	%di, %edi
+	shlq	$48, %rdi
+	orq	%rsi, %rdi
+	cmpq	%r8, %r14
+	cmovaeq	%r8, %r14
+	testq	%r14, %r14
+	je	20f
+	xorl	%esi, %esi
+	movb	%bpl, %sil
+	shll	$12, %esi
+	cmpq	$1, %r14
+	jne	17f
+	movq	%rsi, %r15
+	xorl	%esi, %esi
+	jmp	19f
+15:
+	movq	%r15, %rdx
+	andq	$-4, %rdx
+	movd	%ecx, %xmm0
+	pshufd	$0, %xmm0, %xmm1
+	pxor	%xmm0, %xmm0
+	xorl	%esi, %esi
+	pxor	%xmm2, %xmm2
+16:
+	movd	(%rbx,%rsi,8), %xmm3
+	pinsrd	$1, 8(%rbx,%rsi,8), %xmm3
+	movd	16(%rbx,%rsi,8), %xmm4
+	pinsrd	$1, 24(%rbx,%rsi,8), %xmm4
+	pcmpeqd	%xmm1, %xmm3
+	pmovzxdq	%xmm3, %xmm3
+	movdqa	2b(%rip), %xmm5
+	pand	%xmm5, %xmm3
+	paddq	%xmm3, %xmm2
+	pcmpeqd	%xmm1, %xmm4
+	pmovzxdq	%xmm4, %xmm3
+	pand	%xmm5, %xmm3
+	paddq	%xmm3, %xmm0
+	addq	$4, %rsi
+	cmpq	%rsi, %rdx
+	jne	16b
+	paddq	%xmm2, %xmm0
+	pshufd	$238, %xmm0, %xmm1
+	paddq	%xmm0, %xmm1
+	movq	%xmm1, %r12
+	jmp	24f
+17:
+	movl	%r13d, %edx
+	movq	%r8, %r13
+	movq	%r14, %r8
+	andq	$-2, %r8
+	leaq	41(%rdi), %r9
+	movq	%rsi, %r15
+	leaq	(%rsi,%rcx), %r10
+	addq	$64, %r10
+	xorl	%esi, %esi
+18:
+	xorl	%r11d, %r11d
+	cmpq	%r12, %rsi
+	setb	%r11b
+	movzbl	-25(%r9), %ebx
+	movzbl	-24(%r9), %ebp
+	movdqu	-41(%r9), %xmm0
+	movdqu	%xmm0, -64(%r10)
+	movl	%ebx, -48(%r10)
+	movw	%bp, -44(%r10)
+	movw	%r11w, -42(%r10)
+	pxor	%xmm0, %xmm0
+	movdqu	%xmm0, -40(%r10)
+	leaq	1(%rsi), %r11
+	xorl	%ebx, %ebx
+	cmpq	%r12, %r11
+	setb	%bl
+	movzbl	-1(%r9), %r11d
+	movzbl	(%r9), %ebp
+	movdqu	-17(%r9), %xmm1
+	movdqu	%xmm1, -24(%r10)
+	movl	%r11d, -8(%r10)
+	movw	%bp, -4(%r10)
+	movw	%bx, -2(%r10)
+	movdqu	%xmm0, (%r10)
+	addq	$2, %rsi
+	addq	$48, %r9
+	addq	$80, %r10
+	cmpq	%r8, %rsi
+	jne	18b
+	testb	$1, %r14b
+	movq	%r13, %r8
+	movl	%edx, %r13d
+	movq	488(%rsp), %rdx
+	je	20f
+19:
+	addq	%r15, %rcx
+	movq	%r8, %rbx
+	leaq	(%rsi,%rsi,2), %r8
+	xorl	%r9d, %r9d
+	cmpq	%r12, %rsi
+	setb	%r9b
+	movzbl	16(%rdi,%r8,8), %r10d
+	movzbl	17(%rdi,%r8,8), %r11d
+	leaq	(%rsi,%rsi,4), %rsi
+	movdqu	(%rdi,%r8,8), %xmm0
+	movq	%rbx, %r8
+	movdqu	%xmm0, (%rcx,%rsi,8)
+	movl	%r10d, 16(%rcx,%rsi,8)
+	movw	%r11w, 20(%rcx,%rsi,8)
+	movw	%r9w, 22(%rcx,%rsi,8)
+	pxor	%xmm0, %xmm0
+	movdqu	%xmm0, 24(%rcx,%rsi,8)
+20:
+	movdqa	96(%rsp), %xmm1
+	movq	%r8, (%rdx)
+	pxor	%xmm2, %xmm2
+	movdqa	%xmm2, 192(%rsp)
+	movq	$0, 208(%rsp)
+	testb	%r13b, %r13b
+	jne	21f
+	movdqa	%xmm1, 64(%rsp)
+	callq	rattle_dealloc@PLT
+	pxor	%xmm2, %xmm2
+	movdqa	64(%rsp), %xmm1
+	movq	(%rsp), %rax
+21:
+	xorl	%ecx, %ecx
+	xorl	%edx, %edx
+	jmp	50f
+22:
+	ud2
+23:
+	xorl	%esi, %esi
+	cmpl	%ecx, (%rbx,%rdx,8)
+	sete	%sil
+	addq	%rsi, %r12
+	incq	%rdx
+24:
+	cmpq	%rdx, %r15
+	jne	23b
+	movw	$0, 52(%rsp)
+	movl	$0, 48(%rsp)
+	movabsq	$384307168202282325, %rcx
+	cmpq	%rcx, %r15
+	ja	32f
+	leaq	(,%r15,8), %rax
+	leaq	(%rax,%rax,2), %rdi
+	movl	$8, %esi
+	callq	rattle_alloc@PLT
+	testb	$1, %al
+	je	38f
+	movq	%rdx, %r9
+	movq	%rdx, 24(%rsp)
+	movq	$0, 32(%rsp)
+	movq	%r15, 40(%rsp)
+	xorl	%r8d, %r8d
+	xorl	%r10d, %r10d
+	movq	(%rsp), %rax
+	movq	64(%rsp), %rcx
+	movq	%r15, 184(%rsp)
+25:
+	movl	4(%rbx,%r10,8), %r14d
+	movq	344(%rsp), %r13
+	subq	%r14, %r13
+	jbe	33f
+	movq	336(%rsp), %rsi
+	addq	%r14, %rsi
+	cmpq	$32, %r13
+	jae	27f
+26:
+	movq	%r10, 248(%rsp)
+	movq	%r9, 80(%rsp)
+	movq	%r8, 88(%rsp)
+	cmpq	$256, %r13
+	movl	$256, %r15d
+	cmovbq	%r13, %r15
+	xorl	%edi, %edi
+	movq	%rsi, 16(%rsp)
+	movq	%r15, %rdx
+	callq	"memchr::bytes::memchr"
+	cmpb	$1, %al
+	jne	35f
+	movq	%rdx, %rax
+	incq	%rax
+	addq	104(%rsp), %rax
+	movq	$-1, %r11
+	cmovaeq	%rax, %r11
+	movq	(%rsp), %rax
+	movq	64(%rsp), %rcx
+	movq	88(%rsp), %r8
+	movq	184(%rsp), %r15
+	movq	80(%rsp), %r9
+	movq	248(%rsp), %r10
+	movq	16(%rsp), %rsi
+	jmp	29f
+27:
+	movdqu	(%rsi), %xmm1
+	pxor	%xmm0, %xmm0
+	pcmpeqb	%xmm0, %xmm1
+	pmovmskb	%xmm1, %edi
+	movl	$64, %r11d
+	movl	$64, %edx
+	rep		bsfq	%rdi, %rdx
+	cmpq	$16, %rdx
+	jb	28f
+	movdqu	16(%rsi), %xmm1
+	pcmpeqb	%xmm0, %xmm1
+	pmovmskb	%xmm1, %edx
+	rep		bsfq	%rdx, %r11
+	cmpq	$15, %r11
+	ja	26b
+	orq	$16, %r11
+	movq	%r11, %rdx
+28:
+	leaq	1(%rdx), %rdi
+	addq	104(%rsp), %rdi
+	movq	$-1, %r11
+	cmovaeq	%rdi, %r11
+29:
+	movq	%r11, 104(%rsp)
+	movl	(%rbx,%r10,8), %r14d
+	movzwl	52(%rsp), %edi
+	movw	%di, 60(%rsp)
+	movl	48(%rsp), %edi
+	movl	%edi, 56(%rsp)
+	cmpq	%r8, 40(%rsp)
+	je	31f
+30:
+	movl	%r14d, %r11d
+	shrl	$17, %r11d
+	andb	$1, %r14b
+	leaq	(%r8,%r8,2), %rdi
+	movq	%rsi, (%r9,%rdi,8)
+	movq	%rdx, 8(%r9,%rdi,8)
+	movb	%r11b, 16(%r9,%rdi,8)
+	movb	%r14b, 17(%r9,%rdi,8)
+	movl	56(%rsp), %edx
+	movl	%edx, 18(%r9,%rdi,8)
+	movzwl	60(%rsp), %edx
+	movw	%dx, 22(%r9,%rdi,8)
+	incq	%r8
+	movq	%r8, 32(%rsp)
+	incq	%r10
+	cmpq	%r10, %r15
+	jne	25b
+	jmp	34f
+31:
+	movq	%rsi, 16(%rsp)
+	movq	%r10, %r13
+	movq	%rdx, %r15
+	leaq	24(%rsp), %rdi
+	callq	"std_alloc::vec::Vec::grow_amortized::<#a3c068ff6e7a6e86>"
+	testb	%al, %al
+	je	37f
+	movq	24(%rsp), %r9
+	movq	32(%rsp), %r8
+	movq	(%rsp), %rax
+	movq	64(%rsp), %rcx
+	movq	%r15, %rdx
+	movq	184(%rsp), %r15
+	movq	%r13, %r10
+	movq	16(%rsp), %rsi
+	jmp	30b
+32:
+	xorl	%r14d, %r14d
+	jmp	39f
+33:
+	movb	$3, %bl
+	jmp	36f
+34:
+	movzwl	24(%rsp), %ebx
+	movzwl	26(%rsp), %r15d
+	movzwl	28(%rsp), %r9d
+	movzwl	30(%rsp), %edi
+	movzbl	136(%rsp), %edx
+	cmpq	$0, 40(%rsp)
+	sete	%r13b
+	movq	480(%rsp), %r14
+	cmpb	$1, %dl
+	je	13b
+	jmp	14b
+35:
+	addq	104(%rsp), %r15
+	movq	$-1, %rax
+	cmovaeq	%r15, %rax
+	movq	%rax, 104(%rsp)
+	cmpq	$256, %r13
+	movb	$4, %bl
+	sbbb	$0, %bl
+	movq	(%rsp), %rax
+	movq	80(%rsp), %r9
+36:
+	cmpq	$0, 40(%rsp)
+	je	40f
+	movq	%r9, %rdi
+	callq	rattle_dealloc@PLT
+	movq	(%rsp), %rax
+	jmp	40f
+37:
+	cmpq	$0, 40(%rsp)
+	je	38f
+	movq	24(%rsp), %rdi
+	callq	rattle_dealloc@PLT
+38:
+	xorl	%r14d, %r14d
+	movq	(%rsp), %rax
+39:
+	movb	$7, %bl
+40:
+	cmpb	$1, 136(%rsp)
+	pxor	%xmm0, %xmm0
+	jne	41f
+	cmpq	$0, 160(%rsp)
+	je	41f
+	movq	144(%rsp), %rdi
+	callq	rattle_dealloc@PLT
+	movq	(%rsp), %rax
+	pxor	%xmm0, %xmm0
+	movaps	96(%rsp), %xmm1
+	movzbl	%bl, %edx
+	pxor	%xmm2, %xmm2
+	movl	$5, %ecx
+	leaq	53f(%rip), %rsi
+	movslq	(%rsi,%rdx,4), %rdi
+	addq	%rsi, %rdi
+	jmpq	*%rdi
+41:
+	movaps	96(%rsp), %xmm1
+	movzbl	%bl, %edx
+	pxor	%xmm2, %xmm2
+	movl	$5, %ecx
+	leaq	53f(%rip), %rsi
+	movslq	(%rsi,%rdx,4), %rdi
+	addq	%rsi, %rdi
+	jmpq	*%rdi
+42:
+	movl	$7, %ecx
+	jmp	48f
+43:
+	movl	$9, %ecx
+	movq	%r14, %rdx
+	jmp	49f
+44:
+	movl	$8, %ecx
+	movq	%r14, %rdx
+	jmp	49f
+45:
+	movl	$2, %ecx
+	jmp	48f
+46:
+	movl	$10, %ecx
+	jmp	48f
+47:
+	movl	$11, %ecx
+48:
+	xorl	%edx, %edx
+49:
+	pxor	%xmm0, %xmm0
+	movdqa	%xmm0, 192(%rsp)
+	movq	$0, 208(%rsp)
+50:
+	movl	%ecx, (%rax)
+	movd	%xmm2, 4(%rax)
+	movq	%rdx, 8(%rax)
+	movq	$0, 16(%rax)
+	movdqu	%xmm1, 24(%rax)
+	movaps	192(%rsp), %xmm0
+	movups	%xmm0, 40(%rax)
+	movq	208(%rsp), %rcx
+	movq	%rcx, 56(%rax)
+51:
+	addq	$424, %rsp
+	popq	%rbx
+	popq	%r12
+	popq	%r13
+	popq	%r14
+	popq	%r15
+	popq	%rbp
+	retq
+52:
+	.size	mimelook_hits, 52b-mimelook_hits
+	.section	.rodata,"a",@progbits
+	.p2align	2, 0x0
+53:
+	.long	49b-53b
+	.long	8b-53b
+	.long	42b-53b
+	.long	44b-53b
+	.long	43b-53b
+	.long	46b-53b
+	.long	47b-53b
+	.long	45b-53b
+
+	.section	.rodata.cst16,"aM",@progbits,16
+	.p2align	4, 0x0
+1:
+	.byte	3,2,1,0,7,6,5,4,11,10,9,8,15,14,13,12
 	.text
 	.globl	mimelook_icons
 	.p2align	4

@@ -108,6 +108,15 @@ typedef struct mimelook_answer {
 
 #define MIMELOOK_NO_ANSWER { MIMELOOK_NO_TEXT, 0, { 0, 0, 0 } }
 
+/* A glob that matches a name. */
+typedef struct mimelook_hit {
+    mimelook_text type;      /* as the cache has it */
+    uint32_t weight;         /* 0 to 255 */
+    uint16_t case_sensitive; /* 1 where the glob is case-sensitive, else 0 */
+    uint16_t kept;           /* 1 where no other that matches is preferred to it, else 0 */
+    uint64_t spare[2];       /* 0 */
+} mimelook_hit;
+
 /* The lengths of the names of two icons. */
 typedef struct mimelook_icon_lengths {
     size_t icon;
@@ -165,6 +174,12 @@ MIMELOOK_LAYOUT(sizeof(mimelook_answer) == 48);
 MIMELOOK_LAYOUT(offsetof(mimelook_answer, type) == 0);
 MIMELOOK_LAYOUT(offsetof(mimelook_answer, wanted) == 16);
 MIMELOOK_LAYOUT(offsetof(mimelook_answer, spare) == 24);
+MIMELOOK_LAYOUT(sizeof(mimelook_hit) == 40);
+MIMELOOK_LAYOUT(offsetof(mimelook_hit, type) == 0);
+MIMELOOK_LAYOUT(offsetof(mimelook_hit, weight) == 16);
+MIMELOOK_LAYOUT(offsetof(mimelook_hit, case_sensitive) == 20);
+MIMELOOK_LAYOUT(offsetof(mimelook_hit, kept) == 22);
+MIMELOOK_LAYOUT(offsetof(mimelook_hit, spare) == 24);
 MIMELOOK_LAYOUT(sizeof(mimelook_icon_lengths) == 16);
 MIMELOOK_LAYOUT(offsetof(mimelook_icon_lengths, icon) == 0);
 MIMELOOK_LAYOUT(offsetof(mimelook_icon_lengths, generic) == 8);
@@ -202,6 +217,14 @@ mimelook_report mimelook_check(const uint8_t *cache, size_t cache_length);
  * `wanted` is 0. A front of the content of `wanted` bytes gives the type of the whole. `order` is one of enum mimelook_order. */
 mimelook_report mimelook_look_up(const uint8_t *cache, size_t cache_length, const uint8_t *name, size_t name_length,
     const uint8_t *content, size_t content_length, uint32_t order, mimelook_answer *answer);
+
+/* The globs that match a name (of the file alone, with no folder), the best first, at the front of an array of so much room,
+ * and how many there are. Where count is above room, the first of them are written. They are ordered by what is preferred: a
+ * literal name, then an ending, then any other pattern; among these a greater weight, then a longer pattern, then a
+ * case-sensitive one; and those that are alike as the cache has them. Of these the first are kept: no other is preferred to
+ * them, and MIMELOOK_GLOBS_FIRST goes by them alone. Their types are not resolved: mimelook_unalias takes the alias step. */
+mimelook_report mimelook_hits(const uint8_t *cache, size_t cache_length, const uint8_t *name, size_t name_length,
+    mimelook_hit *hits, size_t room, size_t *count);
 
 /* Whether a type is another or a subclass of it, aliases resolved. */
 mimelook_report mimelook_is_a(const uint8_t *cache, size_t cache_length, const uint8_t *type, size_t type_length,

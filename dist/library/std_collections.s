@@ -516,6 +516,442 @@
 
 	.text
 	.p2align	4
+	.type	"std_collections::btree::node::Node::destroy::<#6f699a0b3f3d5921>",@function
+"std_collections::btree::node::Node::destroy::<#6f699a0b3f3d5921>":
+	pushq	%r15
+	pushq	%r14
+	pushq	%rbx
+	subq	$112, %rsp
+	movq	%rdi, %rbx
+	movzwl	(%rdi), %r14d
+	movzwl	2(%rdi), %ecx
+	xorl	%edx, %edx
+	testw	%cx, %cx
+	setne	%dl
+	leaq	1(%r14), %rsi
+	shll	$4, %edx
+	leaq	368(%rdi), %rax
+	addq	$8, %rdi
+	xorl	%r8d, %r8d
+	testw	%cx, %cx
+	cmovneq	%rsi, %r8
+	movq	%rdi, 32(%rsp)
+	movq	%r14, 40(%rsp)
+	movq	$15, 48(%rsp)
+	movq	%rax, 56(%rsp)
+	movq	%r14, 64(%rsp)
+	movq	$15, 72(%rsp)
+	movq	%rax, 80(%rsp)
+	movq	%r8, 88(%rsp)
+	movq	%rdx, 96(%rsp)
+	movq	%rbx, 104(%rsp)
+	je	15f
+	testq	%r14, %r14
+	jne	7f
+	movq	(%rax), %rbx
+	cmpq	$257, %r14
+	jb	14f
+1:
+	leaq	56(%rax), %rsi
+	xorl	%ecx, %ecx
+	.p2align	4
+2:
+	xorl	%edx, %edx
+	.p2align	4
+3:
+	movups	-48(%rsi,%rdx,8), %xmm0
+	movups	-32(%rsi,%rdx,8), %xmm1
+	movups	-16(%rsi,%rdx,8), %xmm2
+	movups	(%rsi,%rdx,8), %xmm3
+	movups	%xmm0, -56(%rsi,%rdx,8)
+	movups	%xmm1, -40(%rsi,%rdx,8)
+	movups	%xmm2, -24(%rsi,%rdx,8)
+	movups	%xmm3, -8(%rsi,%rdx,8)
+	addq	$8, %rdx
+	cmpq	$256, %rdx
+	jne	3b
+	addq	$256, %rcx
+	movq	%r14, %rdx
+	subq	%rcx, %rdx
+	addq	$2048, %rsi
+	cmpq	$256, %rdx
+	ja	2b
+	cmpq	%rcx, %r14
+	je	5f
+4:
+	leaq	(%rax,%rcx,8), %rdi
+	leaq	(%rax,%rcx,8), %rsi
+	addq	$8, %rsi
+	shlq	$3, %rdx
+	callq	memmove@PLT
+5:
+	movq	%rbx, %rdi
+	callq	"std_collections::btree::node::Node::destroy::<#6f699a0b3f3d5921>"
+	movq	104(%rsp), %rdi
+	jmp	34f
+	.p2align	4
+6:
+	cmpq	$0, 40(%rsp)
+	je	13f
+7:
+	movq	80(%rsp), %rax
+	movq	88(%rsp), %r14
+	movq	(%rax), %rbx
+	decq	%r14
+	cmpq	$257, %r14
+	jb	12f
+	leaq	56(%rax), %rsi
+	xorl	%ecx, %ecx
+	.p2align	4
+8:
+	xorl	%edx, %edx
+	.p2align	4
+9:
+	movups	-48(%rsi,%rdx,8), %xmm0
+	movups	-32(%rsi,%rdx,8), %xmm1
+	movups	-16(%rsi,%rdx,8), %xmm2
+	movups	(%rsi,%rdx,8), %xmm3
+	movups	%xmm0, -56(%rsi,%rdx,8)
+	movups	%xmm1, -40(%rsi,%rdx,8)
+	movups	%xmm2, -24(%rsi,%rdx,8)
+	movups	%xmm3, -8(%rsi,%rdx,8)
+	addq	$8, %rdx
+	cmpq	$256, %rdx
+	jne	9b
+	addq	$256, %rcx
+	movq	%r14, %rdx
+	subq	%rcx, %rdx
+	addq	$2048, %rsi
+	cmpq	$256, %rdx
+	ja	8b
+	movq	96(%rsp), %r15
+	cmpq	%rcx, %r14
+	je	11f
+10:
+	leaq	(%rax,%rcx,8), %rdi
+	leaq	(%rax,%rcx,8), %rsi
+	addq	$8, %rsi
+	shlq	$3, %rdx
+	callq	memmove@PLT
+11:
+	movq	%r14, 88(%rsp)
+	movq	%r15, 96(%rsp)
+	movq	%rbx, %rdi
+	callq	"std_collections::btree::node::Node::destroy::<#6f699a0b3f3d5921>"
+	xorps	%xmm0, %xmm0
+	movaps	%xmm0, (%rsp)
+	movq	$0, 16(%rsp)
+	movq	%rsp, %rdi
+	leaq	32(%rsp), %rsi
+	xorl	%edx, %edx
+	callq	"std_alloc::vec::Vec::remove::<#c1573421a60ec32d>"
+	decq	64(%rsp)
+	cmpq	$0, 16(%rsp)
+	je	6b
+	movq	(%rsp), %rdi
+	callq	rattle_dealloc@PLT
+	jmp	6b
+	.p2align	4
+12:
+	xorl	%ecx, %ecx
+	movq	%r14, %rdx
+	movq	96(%rsp), %r15
+	cmpq	%rcx, %r14
+	jne	10b
+	jmp	11b
+13:
+	movq	80(%rsp), %rax
+	movq	88(%rsp), %r14
+	decq	%r14
+	movq	(%rax), %rbx
+	cmpq	$257, %r14
+	jae	1b
+14:
+	xorl	%ecx, %ecx
+	movq	%r14, %rdx
+	cmpq	%rcx, %r14
+	jne	4b
+	jmp	5b
+15:
+	cmpw	$15, %r14w
+	jbe	16f
+	movl	%r14d, %edx
+	shrl	%edx
+	movq	%r14, %rax
+	subq	%rdx, %rax
+	leaq	(%rax,%rax,2), %rax
+	leaq	(%rdi,%rax,8), %rsi
+	callq	"core::slice::edits::mirror::<#2262cf5b90b10fda>"
+	jmp	30f
+16:
+	cmpw	$2, %r14w
+	jb	29f
+	leaq	-2(%r14), %rcx
+	movq	%rcx, %rax
+	shrq	%rax
+	movq	%r14, %rdx
+	decq	%rdx
+	je	17f
+	leaq	(%rdx,%rdx,2), %rdx
+	movq	16(%rdi), %rsi
+	movq	%rsi, 16(%rsp)
+	movups	(%rdi), %xmm0
+	movaps	%xmm0, (%rsp)
+	movq	16(%rdi,%rdx,8), %rsi
+	movups	(%rdi,%rdx,8), %xmm0
+	movups	%xmm0, (%rdi)
+	movq	%rsi, 16(%rdi)
+	movq	16(%rsp), %rsi
+	movq	%rsi, 16(%rdi,%rdx,8)
+	movaps	(%rsp), %xmm0
+	movups	%xmm0, (%rdi,%rdx,8)
+17:
+	testq	%rax, %rax
+	je	29f
+	cmpq	$1, %rcx
+	jbe	18f
+	leaq	(%rcx,%rcx,2), %rcx
+	movq	48(%rbx), %rdx
+	movq	%rdx, 16(%rsp)
+	movups	32(%rbx), %xmm0
+	movaps	%xmm0, (%rsp)
+	movq	16(%rdi,%rcx,8), %rdx
+	movups	(%rdi,%rcx,8), %xmm0
+	movups	%xmm0, 32(%rbx)
+	movq	%rdx, 48(%rbx)
+	movq	16(%rsp), %rdx
+	movq	%rdx, 16(%rdi,%rcx,8)
+	movaps	(%rsp), %xmm0
+	movups	%xmm0, (%rdi,%rcx,8)
+	jmp	19f
+18:
+	testq	%rcx, %rcx
+	jne	19f
+	leaq	(%rcx,%rcx,2), %rcx
+	movq	16(%rdi,%rcx,8), %rdx
+	movq	%rdx, 16(%rsp)
+	movups	(%rdi,%rcx,8), %xmm0
+	movaps	%xmm0, (%rsp)
+	movq	48(%rbx), %rdx
+	movups	32(%rbx), %xmm0
+	movups	%xmm0, (%rdi,%rcx,8)
+	movq	%rdx, 16(%rdi,%rcx,8)
+	movq	16(%rsp), %rcx
+	movq	%rcx, 48(%rbx)
+	movaps	(%rsp), %xmm0
+	movups	%xmm0, 32(%rbx)
+19:
+	cmpq	$1, %rax
+	je	29f
+	leaq	-3(%r14), %rcx
+	cmpq	$2, %rcx
+	jbe	20f
+	leaq	(%rcx,%rcx,2), %rcx
+	movq	72(%rbx), %rdx
+	movq	%rdx, 16(%rsp)
+	movups	56(%rbx), %xmm0
+	movaps	%xmm0, (%rsp)
+	movq	16(%rdi,%rcx,8), %rdx
+	movups	(%rdi,%rcx,8), %xmm0
+	movups	%xmm0, 56(%rbx)
+	movq	%rdx, 72(%rbx)
+	movq	16(%rsp), %rdx
+	movq	%rdx, 16(%rdi,%rcx,8)
+	movaps	(%rsp), %xmm0
+	movups	%xmm0, (%rdi,%rcx,8)
+	jmp	21f
+20:
+	cmpl	$2, %ecx
+	je	21f
+	leaq	(%rcx,%rcx,2), %rcx
+	movq	16(%rdi,%rcx,8), %rdx
+	movq	%rdx, 16(%rsp)
+	movups	(%rdi,%rcx,8), %xmm0
+	movaps	%xmm0, (%rsp)
+	movq	72(%rbx), %rdx
+	movups	56(%rbx), %xmm0
+	movups	%xmm0, (%rdi,%rcx,8)
+	movq	%rdx, 16(%rdi,%rcx,8)
+	movq	16(%rsp), %rcx
+	movq	%rcx, 72(%rbx)
+	movaps	(%rsp), %xmm0
+	movups	%xmm0, 56(%rbx)
+21:
+	cmpq	$2, %rax
+	je	29f
+	leaq	-4(%r14), %rcx
+	cmpq	$3, %rcx
+	jbe	22f
+	leaq	(%rcx,%rcx,2), %rcx
+	movq	96(%rbx), %rdx
+	movq	%rdx, 16(%rsp)
+	movups	80(%rbx), %xmm0
+	movaps	%xmm0, (%rsp)
+	movq	16(%rdi,%rcx,8), %rdx
+	movups	(%rdi,%rcx,8), %xmm0
+	movups	%xmm0, 80(%rbx)
+	movq	%rdx, 96(%rbx)
+	movq	16(%rsp), %rdx
+	movq	%rdx, 16(%rdi,%rcx,8)
+	movaps	(%rsp), %xmm0
+	movups	%xmm0, (%rdi,%rcx,8)
+	jmp	23f
+22:
+	cmpl	$3, %ecx
+	je	23f
+	leaq	(%rcx,%rcx,2), %rcx
+	movq	16(%rdi,%rcx,8), %rdx
+	movq	%rdx, 16(%rsp)
+	movups	(%rdi,%rcx,8), %xmm0
+	movaps	%xmm0, (%rsp)
+	movq	96(%rbx), %rdx
+	movups	80(%rbx), %xmm0
+	movups	%xmm0, (%rdi,%rcx,8)
+	movq	%rdx, 16(%rdi,%rcx,8)
+	movq	16(%rsp), %rcx
+	movq	%rcx, 96(%rbx)
+	movaps	(%rsp), %xmm0
+	movups	%xmm0, 80(%rbx)
+23:
+	cmpq	$3, %rax
+	je	29f
+	leaq	-5(%r14), %rcx
+	cmpq	$4, %rcx
+	jbe	24f
+	leaq	(%rcx,%rcx,2), %rcx
+	movq	120(%rbx), %rdx
+	movq	%rdx, 16(%rsp)
+	movups	104(%rbx), %xmm0
+	movaps	%xmm0, (%rsp)
+	movq	16(%rdi,%rcx,8), %rdx
+	movups	(%rdi,%rcx,8), %xmm0
+	movups	%xmm0, 104(%rbx)
+	movq	%rdx, 120(%rbx)
+	movq	16(%rsp), %rdx
+	movq	%rdx, 16(%rdi,%rcx,8)
+	movaps	(%rsp), %xmm0
+	movups	%xmm0, (%rdi,%rcx,8)
+	jmp	25f
+24:
+	cmpl	$4, %ecx
+	je	25f
+	leaq	(%rcx,%rcx,2), %rcx
+	movq	16(%rdi,%rcx,8), %rdx
+	movq	%rdx, 16(%rsp)
+	movups	(%rdi,%rcx,8), %xmm0
+	movaps	%xmm0, (%rsp)
+	movq	120(%rbx), %rdx
+	movups	104(%rbx), %xmm0
+	movups	%xmm0, (%rdi,%rcx,8)
+	movq	%rdx, 16(%rdi,%rcx,8)
+	movq	16(%rsp), %rcx
+	movq	%rcx, 120(%rbx)
+	movaps	(%rsp), %xmm0
+	movups	%xmm0, 104(%rbx)
+25:
+	cmpq	$4, %rax
+	je	29f
+	leaq	-6(%r14), %rcx
+	cmpq	$5, %rcx
+	jbe	26f
+	leaq	(%rcx,%rcx,2), %rcx
+	movq	144(%rbx), %rdx
+	movq	%rdx, 16(%rsp)
+	movups	128(%rbx), %xmm0
+	movaps	%xmm0, (%rsp)
+	movq	16(%rdi,%rcx,8), %rdx
+	movups	(%rdi,%rcx,8), %xmm0
+	movups	%xmm0, 128(%rbx)
+	movq	%rdx, 144(%rbx)
+	movq	16(%rsp), %rdx
+	movq	%rdx, 16(%rdi,%rcx,8)
+	movaps	(%rsp), %xmm0
+	movups	%xmm0, (%rdi,%rcx,8)
+	jmp	27f
+26:
+	cmpl	$5, %ecx
+	je	27f
+	leaq	(%rcx,%rcx,2), %rcx
+	movq	16(%rdi,%rcx,8), %rdx
+	movq	%rdx, 16(%rsp)
+	movups	(%rdi,%rcx,8), %xmm0
+	movaps	%xmm0, (%rsp)
+	movq	144(%rbx), %rdx
+	movups	128(%rbx), %xmm0
+	movups	%xmm0, (%rdi,%rcx,8)
+	movq	%rdx, 16(%rdi,%rcx,8)
+	movq	16(%rsp), %rcx
+	movq	%rcx, 144(%rbx)
+	movaps	(%rsp), %xmm0
+	movups	%xmm0, 128(%rbx)
+27:
+	cmpq	$5, %rax
+	je	29f
+	leaq	-7(%r14), %rax
+	cmpq	$6, %rax
+	jbe	28f
+	leaq	(%rax,%rax,2), %rax
+	movq	168(%rbx), %rcx
+	movq	%rcx, 16(%rsp)
+	movups	152(%rbx), %xmm0
+	movaps	%xmm0, (%rsp)
+	movq	16(%rdi,%rax,8), %rcx
+	movups	(%rdi,%rax,8), %xmm0
+	movups	%xmm0, 152(%rbx)
+	movq	%rcx, 168(%rbx)
+	movq	16(%rsp), %rcx
+	movq	%rcx, 16(%rdi,%rax,8)
+	movaps	(%rsp), %xmm0
+	movups	%xmm0, (%rdi,%rax,8)
+	jmp	29f
+28:
+	cmpl	$6, %eax
+	je	29f
+	leaq	(%rax,%rax,2), %rax
+	movq	16(%rdi,%rax,8), %rcx
+	movq	%rcx, 16(%rsp)
+	movups	(%rdi,%rax,8), %xmm0
+	movaps	%xmm0, (%rsp)
+	movq	168(%rbx), %rcx
+	movups	152(%rbx), %xmm0
+	movups	%xmm0, (%rdi,%rax,8)
+	movq	%rcx, 16(%rdi,%rax,8)
+	movq	16(%rsp), %rax
+	movq	%rax, 168(%rbx)
+	movaps	(%rsp), %xmm0
+	movups	%xmm0, 152(%rbx)
+29:
+	testq	%r14, %r14
+	je	33f
+30:
+	leaq	(%r14,%r14,2), %rax
+	leaq	(%rbx,%rax,8), %r15
+	jmp	32f
+	.p2align	4
+31:
+	decq	%r14
+	addq	$-24, %r15
+	testq	%r14, %r14
+	je	33f
+32:
+	cmpq	$0, (%r15)
+	je	31b
+	movq	-16(%r15), %rdi
+	callq	rattle_dealloc@PLT
+	jmp	31b
+33:
+	movq	%rbx, %rdi
+34:
+	addq	$112, %rsp
+	popq	%rbx
+	popq	%r14
+	popq	%r15
+	jmp	rattle_dealloc@PLT
+35:
+	.size	"std_collections::btree::node::Node::destroy::<#6f699a0b3f3d5921>", 35b-"std_collections::btree::node::Node::destroy::<#6f699a0b3f3d5921>"
+
+	.text
+	.p2align	4
 	.type	"std_collections::btree::node::Node::destroy::<#75908c3a02a00b6b>",@function
 "std_collections::btree::node::Node::destroy::<#75908c3a02a00b6b>":
 	pushq	%r15
@@ -1420,6 +1856,413 @@
 	jmp	rattle_dealloc@PLT
 35:
 	.size	"std_collections::btree::node::Node::destroy::<#d91dcfcc98d06f83>", 35b-"std_collections::btree::node::Node::destroy::<#d91dcfcc98d06f83>"
+
+	.text
+	.p2align	4
+	.type	"std_collections::btree::node::Node::destroy::<#e72b02972323b5e3>",@function
+"std_collections::btree::node::Node::destroy::<#e72b02972323b5e3>":
+	pushq	%r15
+	pushq	%r14
+	pushq	%rbx
+	subq	$112, %rsp
+	movzwl	(%rdi), %esi
+	movzwl	2(%rdi), %edx
+	xorl	%r8d, %r8d
+	testw	%dx, %dx
+	setne	%r8b
+	leaq	1(%rsi), %r9
+	shll	$4, %r8d
+	leaq	488(%rdi), %rcx
+	leaq	8(%rdi), %rax
+	xorl	%r10d, %r10d
+	testw	%dx, %dx
+	cmovneq	%r9, %r10
+	movq	%rax, 32(%rsp)
+	movq	%rsi, 40(%rsp)
+	movq	$15, 48(%rsp)
+	movq	%rcx, 56(%rsp)
+	movq	%rsi, 64(%rsp)
+	movq	$15, 72(%rsp)
+	movq	%rcx, 80(%rsp)
+	movq	%r10, 88(%rsp)
+	movq	%r8, 96(%rsp)
+	movq	%rdi, 104(%rsp)
+	je	14f
+	testq	%rsi, %rsi
+	jne	7f
+	movq	(%rcx), %rbx
+	cmpq	$257, %rsi
+	jb	13f
+1:
+	leaq	56(%rcx), %rdi
+	xorl	%eax, %eax
+	.p2align	4
+2:
+	xorl	%edx, %edx
+	.p2align	4
+3:
+	movups	-48(%rdi,%rdx,8), %xmm0
+	movups	-32(%rdi,%rdx,8), %xmm1
+	movups	-16(%rdi,%rdx,8), %xmm2
+	movups	(%rdi,%rdx,8), %xmm3
+	movups	%xmm0, -56(%rdi,%rdx,8)
+	movups	%xmm1, -40(%rdi,%rdx,8)
+	movups	%xmm2, -24(%rdi,%rdx,8)
+	movups	%xmm3, -8(%rdi,%rdx,8)
+	addq	$8, %rdx
+	cmpq	$256, %rdx
+	jne	3b
+	addq	$256, %rax
+	movq	%rsi, %rdx
+	subq	%rax, %rdx
+	addq	$2048, %rdi
+	cmpq	$256, %rdx
+	ja	2b
+	cmpq	%rax, %rsi
+	je	5f
+4:
+	leaq	(%rcx,%rax,8), %rdi
+	leaq	(%rcx,%rax,8), %rsi
+	addq	$8, %rsi
+	shlq	$3, %rdx
+	callq	memmove@PLT
+5:
+	movq	%rbx, %rdi
+	callq	"std_collections::btree::node::Node::destroy::<#e72b02972323b5e3>"
+	movq	104(%rsp), %rdi
+	jmp	28f
+	.p2align	4
+6:
+	movq	%r14, 88(%rsp)
+	movq	%r15, 96(%rsp)
+	movq	%rbx, %rdi
+	callq	"std_collections::btree::node::Node::destroy::<#e72b02972323b5e3>"
+	movq	%rsp, %rdi
+	leaq	32(%rsp), %rsi
+	xorl	%edx, %edx
+	callq	"std_alloc::vec::Vec::remove::<#cb26c3583adab773>"
+	decq	64(%rsp)
+	cmpq	$0, 40(%rsp)
+	je	12f
+7:
+	movq	80(%rsp), %rax
+	movq	88(%rsp), %r14
+	movq	(%rax), %rbx
+	decq	%r14
+	cmpq	$257, %r14
+	jb	10f
+	leaq	56(%rax), %rsi
+	xorl	%ecx, %ecx
+	.p2align	4
+8:
+	xorl	%edx, %edx
+	.p2align	4
+9:
+	movups	-48(%rsi,%rdx,8), %xmm0
+	movups	-32(%rsi,%rdx,8), %xmm1
+	movups	-16(%rsi,%rdx,8), %xmm2
+	movups	(%rsi,%rdx,8), %xmm3
+	movups	%xmm0, -56(%rsi,%rdx,8)
+	movups	%xmm1, -40(%rsi,%rdx,8)
+	movups	%xmm2, -24(%rsi,%rdx,8)
+	movups	%xmm3, -8(%rsi,%rdx,8)
+	addq	$8, %rdx
+	cmpq	$256, %rdx
+	jne	9b
+	addq	$256, %rcx
+	movq	%r14, %rdx
+	subq	%rcx, %rdx
+	addq	$2048, %rsi
+	cmpq	$256, %rdx
+	ja	8b
+	movq	96(%rsp), %r15
+	cmpq	%rcx, %r14
+	je	6b
+	jmp	11f
+	.p2align	4
+10:
+	xorl	%ecx, %ecx
+	movq	%r14, %rdx
+	movq	96(%rsp), %r15
+	cmpq	%rcx, %r14
+	je	6b
+11:
+	leaq	(%rax,%rcx,8), %rdi
+	leaq	(%rax,%rcx,8), %rsi
+	addq	$8, %rsi
+	shlq	$3, %rdx
+	callq	memmove@PLT
+	jmp	6b
+12:
+	movq	80(%rsp), %rcx
+	movq	88(%rsp), %rsi
+	decq	%rsi
+	movq	(%rcx), %rbx
+	cmpq	$257, %rsi
+	jae	1b
+13:
+	xorl	%eax, %eax
+	movq	%rsi, %rdx
+	cmpq	%rax, %rsi
+	jne	4b
+	jmp	5b
+14:
+	cmpw	$15, %si
+	jbe	15f
+	movl	%esi, %edx
+	shrl	%edx
+	subq	%rdx, %rsi
+	shlq	$5, %rsi
+	addq	%rax, %rsi
+	movq	%rdi, %rbx
+	movq	%rax, %rdi
+	callq	"core::slice::edits::mirror::<34'(,)::<3'&[](*,i64,),3'&[](*,i64,)>>"
+	movq	%rbx, %rdi
+	jmp	28f
+15:
+	cmpw	$2, %si
+	jb	28f
+	leaq	-2(%rsi), %rdx
+	movq	%rdx, %rcx
+	shrq	%rcx
+	movq	%rsi, %r8
+	decq	%r8
+	je	16f
+	shlq	$5, %r8
+	movups	(%rax), %xmm0
+	movups	16(%rax), %xmm1
+	movaps	%xmm1, 16(%rsp)
+	movaps	%xmm0, (%rsp)
+	movups	(%rax,%r8), %xmm0
+	movups	16(%rax,%r8), %xmm1
+	movups	%xmm0, (%rax)
+	movups	%xmm1, 16(%rax)
+	movaps	(%rsp), %xmm0
+	movaps	16(%rsp), %xmm1
+	movups	%xmm1, 16(%rax,%r8)
+	movups	%xmm0, (%rax,%r8)
+16:
+	testq	%rcx, %rcx
+	je	28f
+	cmpq	$1, %rdx
+	jbe	17f
+	shlq	$5, %rdx
+	movups	40(%rdi), %xmm0
+	movups	56(%rdi), %xmm1
+	movaps	%xmm1, 16(%rsp)
+	movaps	%xmm0, (%rsp)
+	movups	(%rax,%rdx), %xmm0
+	movups	16(%rax,%rdx), %xmm1
+	movups	%xmm0, 40(%rdi)
+	movups	%xmm1, 56(%rdi)
+	movaps	(%rsp), %xmm0
+	movaps	16(%rsp), %xmm1
+	movups	%xmm1, 16(%rax,%rdx)
+	movups	%xmm0, (%rax,%rdx)
+	jmp	18f
+17:
+	testq	%rdx, %rdx
+	jne	18f
+	movups	(%rax), %xmm0
+	movups	16(%rax), %xmm1
+	movaps	%xmm1, 16(%rsp)
+	movaps	%xmm0, (%rsp)
+	movups	40(%rdi), %xmm0
+	movups	56(%rdi), %xmm1
+	movups	%xmm0, (%rax)
+	movups	%xmm1, 16(%rax)
+	movaps	(%rsp), %xmm0
+	movaps	16(%rsp), %xmm1
+	movups	%xmm1, 56(%rdi)
+	movups	%xmm0, 40(%rdi)
+18:
+	cmpq	$1, %rcx
+	je	28f
+	leaq	-3(%rsi), %rdx
+	cmpq	$2, %rdx
+	jbe	19f
+	shlq	$5, %rdx
+	movups	72(%rdi), %xmm0
+	movups	88(%rdi), %xmm1
+	movaps	%xmm1, 16(%rsp)
+	movaps	%xmm0, (%rsp)
+	movups	(%rax,%rdx), %xmm0
+	movups	16(%rax,%rdx), %xmm1
+	movups	%xmm0, 72(%rdi)
+	movups	%xmm1, 88(%rdi)
+	movaps	(%rsp), %xmm0
+	movaps	16(%rsp), %xmm1
+	movups	%xmm1, 16(%rax,%rdx)
+	movups	%xmm0, (%rax,%rdx)
+	jmp	20f
+19:
+	cmpl	$2, %edx
+	je	20f
+	shlq	$5, %rdx
+	movups	(%rax,%rdx), %xmm0
+	movups	16(%rax,%rdx), %xmm1
+	movaps	%xmm1, 16(%rsp)
+	movaps	%xmm0, (%rsp)
+	movups	72(%rdi), %xmm0
+	movups	88(%rdi), %xmm1
+	movups	%xmm0, (%rax,%rdx)
+	movups	%xmm1, 16(%rax,%rdx)
+	movaps	(%rsp), %xmm0
+	movaps	16(%rsp), %xmm1
+	movups	%xmm1, 88(%rdi)
+	movups	%xmm0, 72(%rdi)
+20:
+	cmpq	$2, %rcx
+	je	28f
+	leaq	-4(%rsi), %rdx
+	cmpq	$3, %rdx
+	jbe	21f
+	shlq	$5, %rdx
+	movups	104(%rdi), %xmm0
+	movups	120(%rdi), %xmm1
+	movaps	%xmm1, 16(%rsp)
+	movaps	%xmm0, (%rsp)
+	movups	(%rax,%rdx), %xmm0
+	movups	16(%rax,%rdx), %xmm1
+	movups	%xmm0, 104(%rdi)
+	movups	%xmm1, 120(%rdi)
+	movaps	(%rsp), %xmm0
+	movaps	16(%rsp), %xmm1
+	movups	%xmm1, 16(%rax,%rdx)
+	movups	%xmm0, (%rax,%rdx)
+	jmp	22f
+21:
+	cmpl	$3, %edx
+	je	22f
+	shlq	$5, %rdx
+	movups	(%rax,%rdx), %xmm0
+	movups	16(%rax,%rdx), %xmm1
+	movaps	%xmm1, 16(%rsp)
+	movaps	%xmm0, (%rsp)
+	movups	104(%rdi), %xmm0
+	movups	120(%rdi), %xmm1
+	movups	%xmm0, (%rax,%rdx)
+	movups	%xmm1, 16(%rax,%rdx)
+	movaps	(%rsp), %xmm0
+	movaps	16(%rsp), %xmm1
+	movups	%xmm1, 120(%rdi)
+	movups	%xmm0, 104(%rdi)
+22:
+	cmpq	$3, %rcx
+	je	28f
+	leaq	-5(%rsi), %rdx
+	cmpq	$4, %rdx
+	jbe	23f
+	shlq	$5, %rdx
+	movups	136(%rdi), %xmm0
+	movups	152(%rdi), %xmm1
+	movaps	%xmm1, 16(%rsp)
+	movaps	%xmm0, (%rsp)
+	movups	(%rax,%rdx), %xmm0
+	movups	16(%rax,%rdx), %xmm1
+	movups	%xmm0, 136(%rdi)
+	movups	%xmm1, 152(%rdi)
+	movaps	(%rsp), %xmm0
+	movaps	16(%rsp), %xmm1
+	movups	%xmm1, 16(%rax,%rdx)
+	movups	%xmm0, (%rax,%rdx)
+	jmp	24f
+23:
+	cmpl	$4, %edx
+	je	24f
+	shlq	$5, %rdx
+	movups	(%rax,%rdx), %xmm0
+	movups	16(%rax,%rdx), %xmm1
+	movaps	%xmm1, 16(%rsp)
+	movaps	%xmm0, (%rsp)
+	movups	136(%rdi), %xmm0
+	movups	152(%rdi), %xmm1
+	movups	%xmm0, (%rax,%rdx)
+	movups	%xmm1, 16(%rax,%rdx)
+	movaps	(%rsp), %xmm0
+	movaps	16(%rsp), %xmm1
+	movups	%xmm1, 152(%rdi)
+	movups	%xmm0, 136(%rdi)
+24:
+	cmpq	$4, %rcx
+	je	28f
+	leaq	-6(%rsi), %rdx
+	cmpq	$5, %rdx
+	jbe	25f
+	shlq	$5, %rdx
+	movups	168(%rdi), %xmm0
+	movups	184(%rdi), %xmm1
+	movaps	%xmm1, 16(%rsp)
+	movaps	%xmm0, (%rsp)
+	movups	(%rax,%rdx), %xmm0
+	movups	16(%rax,%rdx), %xmm1
+	movups	%xmm0, 168(%rdi)
+	movups	%xmm1, 184(%rdi)
+	movaps	(%rsp), %xmm0
+	movaps	16(%rsp), %xmm1
+	movups	%xmm1, 16(%rax,%rdx)
+	movups	%xmm0, (%rax,%rdx)
+	jmp	26f
+25:
+	cmpl	$5, %edx
+	je	26f
+	shlq	$5, %rdx
+	movups	(%rax,%rdx), %xmm0
+	movups	16(%rax,%rdx), %xmm1
+	movaps	%xmm1, 16(%rsp)
+	movaps	%xmm0, (%rsp)
+	movups	168(%rdi), %xmm0
+	movups	184(%rdi), %xmm1
+	movups	%xmm0, (%rax,%rdx)
+	movups	%xmm1, 16(%rax,%rdx)
+	movaps	(%rsp), %xmm0
+	movaps	16(%rsp), %xmm1
+	movups	%xmm1, 184(%rdi)
+	movups	%xmm0, 168(%rdi)
+26:
+	cmpq	$5, %rcx
+	je	28f
+	addq	$-7, %rsi
+	cmpq	$6, %rsi
+	jbe	27f
+	shlq	$5, %rsi
+	movups	200(%rdi), %xmm0
+	movups	216(%rdi), %xmm1
+	movaps	%xmm1, 16(%rsp)
+	movaps	%xmm0, (%rsp)
+	movups	(%rax,%rsi), %xmm0
+	movups	16(%rax,%rsi), %xmm1
+	movups	%xmm0, 200(%rdi)
+	movups	%xmm1, 216(%rdi)
+	movaps	(%rsp), %xmm0
+	movaps	16(%rsp), %xmm1
+	movups	%xmm1, 16(%rax,%rsi)
+	movups	%xmm0, (%rax,%rsi)
+	jmp	28f
+27:
+	cmpl	$6, %esi
+	je	28f
+	shlq	$5, %rsi
+	movups	(%rax,%rsi), %xmm0
+	movups	16(%rax,%rsi), %xmm1
+	movaps	%xmm1, 16(%rsp)
+	movaps	%xmm0, (%rsp)
+	movups	200(%rdi), %xmm0
+	movups	216(%rdi), %xmm1
+	movups	%xmm0, (%rax,%rsi)
+	movups	%xmm1, 16(%rax,%rsi)
+	movaps	(%rsp), %xmm0
+	movaps	16(%rsp), %xmm1
+	movups	%xmm1, 216(%rdi)
+	movups	%xmm0, 200(%rdi)
+28:
+	addq	$112, %rsp
+	popq	%rbx
+	popq	%r14
+	popq	%r15
+	jmp	rattle_dealloc@PLT
+29:
+	.size	"std_collections::btree::node::Node::destroy::<#e72b02972323b5e3>", 29b-"std_collections::btree::node::Node::destroy::<#e72b02972323b5e3>"
 
 	.text
 	.p2align	4

@@ -1708,12 +1708,12 @@
 	.quad	0,0,2,2,5,0,0,0,0
 	.size	".Lswitch.table.clap::builder::command::building::build_levels", 72
 
-	.type	".Lswitch.table.clap::builder::command::building::build_levels.2095",@object
+	.type	".Lswitch.table.clap::builder::command::building::build_levels.2083",@object
 	.section	.rodata,"a",@progbits
 	.p2align	3, 0x0
-".Lswitch.table.clap::builder::command::building::build_levels.2095":
+".Lswitch.table.clap::builder::command::building::build_levels.2083":
 	.quad	0,0,0,0,255,0,0,0,0
-	.size	".Lswitch.table.clap::builder::command::building::build_levels.2095", 72
+	.size	".Lswitch.table.clap::builder::command::building::build_levels.2083", 72
 
 	.type	".Lswitch.table.clap::parser::parse::Parser::check_value",@object
 	.section	.rodata.cst32,"aM",@progbits,32
@@ -1722,15 +1722,15 @@
 	.quad	38,29,38,38
 	.size	".Lswitch.table.clap::parser::parse::Parser::check_value", 32
 
-	.type	".Lswitch.table.clap::parser::parse::Parser::check_value.2096",@object
+	.type	".Lswitch.table.clap::parser::parse::Parser::check_value.2084",@object
 	.section	.data.rel.ro,"aw",@progbits
 	.p2align	3, 0x0
-".Lswitch.table.clap::parser::parse::Parser::check_value.2096":
+".Lswitch.table.clap::parser::parse::Parser::check_value.2084":
 	.quad	.Lc1b67e27bb9f
 	.quad	.Laa68302af712
 	.quad	.L6e2fce03fc0a
 	.quad	.L2cc55e3b3d11
-	.size	".Lswitch.table.clap::parser::parse::Parser::check_value.2096", 32
+	.size	".Lswitch.table.clap::parser::parse::Parser::check_value.2084", 32
 
 	.type	".Lswitch.table.mime_tool::line::print_subjects::<#2d382ade8d012bfb>",@object
 	.section	.rodata,"a",@progbits
@@ -1743,20 +1743,20 @@
 	.quad	17
 	.size	".Lswitch.table.mime_tool::line::print_subjects::<#2d382ade8d012bfb>", 48
 
-	.type	".Lswitch.table.mime_tool::line::print_subjects::<#2d382ade8d012bfb>.2098",@object
+	.type	".Lswitch.table.mime_tool::line::print_subjects::<#2d382ade8d012bfb>.2086",@object
 	.section	.data.rel.ro,"aw",@progbits
 	.p2align	3, 0x0
-".Lswitch.table.mime_tool::line::print_subjects::<#2d382ade8d012bfb>.2098":
+".Lswitch.table.mime_tool::line::print_subjects::<#2d382ade8d012bfb>.2086":
 	.quad	.L1fba8e2a4222
 	.quad	.L1f2087385df6
 	.zero	8
 	.quad	.L2e403fc0c1a9
 	.zero	8
 	.quad	.Lbf28a0ac4edc
-	.size	".Lswitch.table.mime_tool::line::print_subjects::<#2d382ade8d012bfb>.2098", 48
+	.size	".Lswitch.table.mime_tool::line::print_subjects::<#2d382ade8d012bfb>.2086", 48
 
-	.type	".Lswitch.table.mime_tool::system::SystemFilesFiles::whole::<#a1ba6ce099ef6b20>.2097",@object
+	.type	".Lswitch.table.mime_tool::system::SystemFilesFiles::whole::<#a1ba6ce099ef6b20>.2085",@object
 	.section	.rodata,"a",@progbits
-".Lswitch.table.mime_tool::system::SystemFilesFiles::whole::<#a1ba6ce099ef6b20>.2097":
+".Lswitch.table.mime_tool::system::SystemFilesFiles::whole::<#a1ba6ce099ef6b20>.2085":
 	.ascii	"\001\001\001\001\001\001\001\001\001\001\001\001\001\001\001\000\001\001\001\001\001\001\001\001\001\001\001\001\001\001\001\001\001\001\001\001\001\001\002\001\001\001"
-	.size	".Lswitch.table.mime_tool::system::SystemFilesFiles::whole::<#a1ba6ce099ef6b20>.2097", 42
+	.size	".Lswitch.table.mime_tool::system::SystemFilesFiles::whole::<#a1ba6ce099ef6b20>.2085", 42

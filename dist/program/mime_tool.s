@@ -14444,7 +14444,7 @@
 	shll	$3, %ecx
 	leaq	".Lswitch.table.mime_tool::line::print_subjects::<#2d382ade8d012bfb>"(%rip), %rax
 	movq	(%rcx,%rax), %rax
-	leaq	".Lswitch.table.mime_tool::line::print_subjects::<#2d382ade8d012bfb>.2098"(%rip), %rdx
+	leaq	".Lswitch.table.mime_tool::line::print_subjects::<#2d382ade8d012bfb>.2086"(%rip), %rdx
 	movq	(%rcx,%rdx), %r8
 	movq	%r13, %rbx
 	jmp	73f
@@ -22727,7 +22727,7 @@
 	cmpb	$41, %al
 	jae	7f
 	movzbl	416(%rsp,%rax), %eax
-	leaq	".Lswitch.table.mime_tool::system::SystemFilesFiles::whole::<#a1ba6ce099ef6b20>.2097"(%rip), %rcx
+	leaq	".Lswitch.table.mime_tool::system::SystemFilesFiles::whole::<#a1ba6ce099ef6b20>.2085"(%rip), %rcx
 	movzbl	(%rax,%rcx), %eax
 	movb	$1, %cl
 	jmp	10f
@@ -22974,7 +22974,7 @@
 	jae	32f
 	andl	$63, %eax
 	movzbl	192(%rsp,%rax), %eax
-	leaq	".Lswitch.table.mime_tool::system::SystemFilesFiles::whole::<#a1ba6ce099ef6b20>.2097"(%rip), %rcx
+	leaq	".Lswitch.table.mime_tool::system::SystemFilesFiles::whole::<#a1ba6ce099ef6b20>.2085"(%rip), %rcx
 	movzbl	(%rax,%rcx), %ebp
 	jmp	33f
 32:

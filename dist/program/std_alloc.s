@@ -9207,70 +9207,6 @@
 
 	.section	.text.unlikely,"ax",@progbits
 	.p2align	4
-	.type	"std_alloc::vec::Vec::grow_amortized::<#44f6028dfbc7e122>",@function
-"std_alloc::vec::Vec::grow_amortized::<#44f6028dfbc7e122>":
-	movq	%rsi, %rax
-	movq	8(%rdi), %rsi
-	addq	%rsi, %rax
-	jae	1f
-	xorl	%eax, %eax
-	retq
-1:
-	pushq	%r14
-	pushq	%rbx
-	pushq	%rax
-	movq	16(%rdi), %rcx
-	cmpq	$5, %rax
-	movl	$4, %ebx
-	cmovaeq	%rax, %rbx
-	movq	%rcx, %rdx
-	shrq	$62, %rdx
-	leaq	(%rcx,%rcx), %rax
-	cmpq	%rax, %rbx
-	cmovaq	%rbx, %rax
-	testq	%rdx, %rdx
-	cmoveq	%rax, %rbx
-	movq	%rbx, %rdx
-	shrq	$57, %rdx
-	jne	4f
-	testq	%rcx, %rcx
-	je	3f
-	movq	%rdi, %r14
-	movq	(%rdi), %rdi
-	shlq	$6, %rsi
-	movq	%rbx, %rdx
-	shlq	$6, %rdx
-	movl	$4, %ecx
-	callq	rattle_realloc@PLT
-	testb	$1, %al
-	je	4f
-2:
-	movq	%rdx, (%r14)
-	movq	%rbx, 16(%r14)
-	movb	$1, %al
-	addq	$8, %rsp
-	popq	%rbx
-	popq	%r14
-	retq
-3:
-	movq	%rdi, %r14
-	shlq	$6, %rax
-	movl	$4, %esi
-	movq	%rax, %rdi
-	callq	rattle_alloc@PLT
-	testb	$1, %al
-	jne	2b
-4:
-	xorl	%eax, %eax
-	addq	$8, %rsp
-	popq	%rbx
-	popq	%r14
-	retq
-5:
-	.size	"std_alloc::vec::Vec::grow_amortized::<#44f6028dfbc7e122>", 5b-"std_alloc::vec::Vec::grow_amortized::<#44f6028dfbc7e122>"
-
-	.section	.text.unlikely,"ax",@progbits
-	.p2align	4
 	.type	"std_alloc::vec::Vec::grow_amortized::<#4a1b0eae23e6b5cb>",@function
 "std_alloc::vec::Vec::grow_amortized::<#4a1b0eae23e6b5cb>":
 	movq	%rsi, %rax
@@ -9395,6 +9331,70 @@
 	retq
 5:
 	.size	"std_alloc::vec::Vec::grow_amortized::<#52d1c8244e310953>", 5b-"std_alloc::vec::Vec::grow_amortized::<#52d1c8244e310953>"
+
+	.section	.text.unlikely,"ax",@progbits
+	.p2align	4
+	.type	"std_alloc::vec::Vec::grow_amortized::<#621ce3d0792088ae>",@function
+"std_alloc::vec::Vec::grow_amortized::<#621ce3d0792088ae>":
+	movq	%rsi, %rax
+	movq	8(%rdi), %rsi
+	addq	%rsi, %rax
+	jae	1f
+	xorl	%eax, %eax
+	retq
+1:
+	pushq	%r14
+	pushq	%rbx
+	pushq	%rax
+	movq	16(%rdi), %rcx
+	cmpq	$5, %rax
+	movl	$4, %ebx
+	cmovaeq	%rax, %rbx
+	movq	%rcx, %rdx
+	shrq	$62, %rdx
+	leaq	(%rcx,%rcx), %rax
+	cmpq	%rax, %rbx
+	cmovaq	%rbx, %rax
+	testq	%rdx, %rdx
+	cmoveq	%rax, %rbx
+	movq	%rbx, %rdx
+	shrq	$57, %rdx
+	jne	4f
+	testq	%rcx, %rcx
+	je	3f
+	movq	%rdi, %r14
+	movq	(%rdi), %rdi
+	shlq	$6, %rsi
+	movq	%rbx, %rdx
+	shlq	$6, %rdx
+	movl	$4, %ecx
+	callq	rattle_realloc@PLT
+	testb	$1, %al
+	je	4f
+2:
+	movq	%rdx, (%r14)
+	movq	%rbx, 16(%r14)
+	movb	$1, %al
+	addq	$8, %rsp
+	popq	%rbx
+	popq	%r14
+	retq
+3:
+	movq	%rdi, %r14
+	shlq	$6, %rax
+	movl	$4, %esi
+	movq	%rax, %rdi
+	callq	rattle_alloc@PLT
+	testb	$1, %al
+	jne	2b
+4:
+	xorl	%eax, %eax
+	addq	$8, %rsp
+	popq	%rbx
+	popq	%r14
+	retq
+5:
+	.size	"std_alloc::vec::Vec::grow_amortized::<#621ce3d0792088ae>", 5b-"std_alloc::vec::Vec::grow_amortized::<#621ce3d0792088ae>"
 
 	.section	.text.unlikely,"ax",@progbits
 	.p2align	4
