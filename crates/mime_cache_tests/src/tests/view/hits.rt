@@ -8,7 +8,7 @@ use crate::tests::sample::SAMPLE;
 use crate::tests::texts::{EMPTY, Texts, merged};
 use mime_base::{Counted, Meter};
 use mime_store::write_cache;
-use mime_view::{Budget, Cache, CacheFault, NameHits, Which};
+use mime_view::{Budget, Cache, CacheFault, NameHits, RuleHits, Which};
 use std::alloc::Global;
 use std::test::Fail;
 
@@ -127,6 +127,17 @@ fn by_falling_rank(rt: HostRuntime) -> Result<(), Fail> {
     Ok(())
 }
 
+/// The rules that match a name by these bytes.
+fn rule_hits<'a>(alloc: Global, bytes: &'a [u8], name: &[u8]) -> Result<RuleHits<'a>, CacheFault> {
+    if name.len() > 4096 {
+        return Err(CacheFault::TooLarge);
+    }
+    let mut meter = Meter::new();
+    let cache = Cache::open(Counted::new(bytes), &mut meter)?;
+    let mut budget = Budget::of(&cache);
+    cache.rule_hits(alloc, name, &mut meter, &mut budget)
+}
+
 /// Rules of several weights, of which one is case-sensitive.
 const WEIGHTS: Texts<'static> = Texts {
     globs2: b"70:t/star:m*\n255:t/light:*z\n60:t/name:m.gz\n0:t/one:*.gz\n0:t/two:*.GZ:cs\n",
@@ -154,16 +165,9 @@ fn weights_and_cases(rt: HostRuntime) -> Result<(), Fail> {
         (b"x", &[], 0),
     ];
     for (name, expected, kept) in rows {
-        let mut meter = Meter::new();
-        let cache = Cache::open(Counted::new(&bytes), &mut meter)?;
-        let mut budget = Budget::of(&cache);
-        let found = cache.rule_hits(alloc, name, &mut meter, &mut budget)?;
-        alike(
-            &rt,
-            "counts",
-            (found.rules.len(), found.kept),
-            (expected.len(), kept),
-        );
+        let found = rule_hits(alloc, &bytes, name)?;
+        let counts = (found.rules.len(), found.kept);
+        alike(&rt, "counts", counts, (expected.len(), kept));
         for (rule, row) in found.rules.iter().zip(expected) {
             alike(&rt, "rule", (rule.kind, rule.weight, rule.cased), *row);
         }
