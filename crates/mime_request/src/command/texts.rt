@@ -59,7 +59,7 @@ pub(crate) const PLAIN: HelpTexts<'static> = HelpTexts {
     usage: "\
 mimelook plain [-d DIRS] [--name-only | --content-only]
                       [--magic-first | --all-globs] [--inode] [-0] [-b]
-                      [--escape] {FILE... | --stdin NAME}",
+                      [--escape] {FILE... | --files0-from LIST | --stdin NAME}",
     after_help: "\
 Messages go to standard error. The files are DIR/mime/globs2, magic, aliases,
 subclasses, icons and generic-icons; a missing one counts as empty. Without -d
@@ -148,7 +148,7 @@ pub(crate) const TYPE: HelpTexts<'static> = HelpTexts {
     usage: "\
 mimelook type [-c CACHE | -d DIRS] [--name-only | --content-only]
                      [--magic-first | --all-globs] [--inode] [--cost] [-0] [-b]
-                     [--escape] {FILE... | --stdin NAME}",
+                     [--escape] {FILE... | --files0-from LIST | --stdin NAME}",
     after_help: "\
 Messages go to standard error. With -d the cache is made of DIRS, as build makes
 it; without -c and -d, of the user's data directories (see mimelook --help).
@@ -185,6 +185,10 @@ pub(crate) const FILES: &str = "\
 The files to tell the types of; put -- before one that begins
 with -";
 
+pub(crate) const FILES_LIST: &str = "\
+Take the FILEs from the file LIST, or from standard
+input where LIST is -: each ends with a zero byte";
+
 pub(crate) const INPUT: &str = "\
 Look up standard input, by the name NAME, in place of
 FILEs; no more of it is read than is needed";
@@ -209,6 +213,7 @@ before names";
 pub(crate) const ALL_GLOBS: &str = "\
 Let content choose among all patterns that match, not
 among the preferred ones alone; not with --magic-first";
+
 pub(crate) const INODE: &str = "\
 Print inode/directory, chardevice, blockdevice, fifo or
 socket for what is no regular file, and inode/symlink
