@@ -92,10 +92,10 @@ abbrev pub subjects_by : Option Text → Option Text → Option (List Text) → 
 subjects_by None None None = Err (kind.MissingRequiredArgument ∷ [])
 subjects_by None None (Some files) = Ok (of_files files)
 subjects_by (Some name) None None = Ok (of_input name)
-subjects_by None (Some list) None = Ok (of_list list)
-subjects_by (Some name) (Some list) files = Err (kind.ArgumentConflict ∷ [])
+subjects_by None (Some path) None = Ok (of_list path)
+subjects_by (Some name) (Some path) files = Err (kind.ArgumentConflict ∷ [])
 subjects_by (Some name) None (Some files) = Err (kind.ArgumentConflict ∷ [])
-subjects_by None (Some list) (Some files) = Err (kind.ArgumentConflict ∷ [])
+subjects_by None (Some path) (Some files) = Err (kind.ArgumentConflict ∷ [])
 
 -- what clap found to be looked up
 abbrev pub subjects_in : List Row → Result PlainSubjects Kinds
@@ -206,7 +206,7 @@ plain_source (source.Directories dirs) = made_of (plain_directories dirs)
 abbrev pub plain_subjects : Subjects → PlainSubjects
 plain_subjects (subjects.Files files) = of_files (texts files.items)
 plain_subjects (subjects.Input name) = of_input name.now
-plain_subjects (subjects.List list) = of_list list.now
+plain_subjects (subjects.List path) = of_list path.now
 
 -- the plain value of a request
 abbrev pub plain_request : Request → PlainRequest

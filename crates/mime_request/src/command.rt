@@ -13,9 +13,9 @@ mod texts;
 use clap::{Arg, ArgAction, Command};
 use std::alloc::{AllocError, Global};
 use texts::{
-    ALL_GLOBS, BRIEF, BUILD, CONTENT_ONLY, COST, DIRS, DROP_TWINS, ESCAPE, FILES, FILES_LIST,
-    HelpTexts, ICON, INODE, INPUT, IS_A, LIST, MAGIC_FIRST, MIMELOOK, NAME_ONLY, NULL, OUTPUT,
-    PLAIN, TYPE,
+    ALL_GLOBS, BRIEF, BUILD, CACHE, CONTENT_ONLY, COST, DIRS, DROP_TWINS, ESCAPE, FILES,
+    FILES_LIST, HelpTexts, ICON, INODE, INPUT, IS_A, LIST, MAGIC_FIRST, MIMELOOK, NAME_ONLY, NULL,
+    OUTPUT, PLAIN, TYPE,
 };
 
 const PROGRAM: &str = "mimelook";
@@ -55,7 +55,7 @@ fn cache<'a>(alloc: Global) -> Arg<'a>
         .short('c')
         .long("cache")
         .value_name("CACHE")
-        .help("The cache to read, such as /usr/share/mime/mime.cache")
+        .help(CACHE)
 }
 
 // A flag with a long name alone.
