@@ -2,8 +2,9 @@
 use Rattle.std.specs.Prelude.{◌≡◌, ◌≢◌, ◌++◌, ℕ, false, List, Option, Some, None, Result, Ok, Err, Vec, string_bytes}
 use Rattle.std.specs.declared.alloc.Global.{Global}
 use Rattle.mime_lookup.specs.Content.{Health}
-use Rattle.mime_tool.specs.Files.{IsFolder, IsReaderOf, IsShut, IsUnopened, Replaced, Stored, Untouched, Writing, fails, succeeds}
+use Rattle.mime_tool.specs.Files.{IsFolder, IsReaderOf, IsShut, Replaced, Stored, Untouched, Writing, fails, succeeds}
 use Rattle.mime_tool.specs.Finish.{IsCut, Sinks, Writes, WritesFront}
+use Rattle.mime_tool.specs.Listed.{IsUnlisted}
 use Rattle.mime_tool.specs.Run.{Run, cannot_read, cannot_write, stopped, stops}
 use Rattle.mime_tool.specs.Stop.{message}
 use Rattle.mime_tool.specs.declared.desk.Opened.{Opened}
@@ -72,7 +73,7 @@ pub record ReplacesFile (path ending bs : List ℕ) (before after : State) (resu
 abbrev pub OpensList : {R : Type 0} → (R → Option (List ℕ)) → (R → Health) → Stored → List ℕ → Sinks → Sinks → Result R Stop → Type 0
 OpensList remaining health list path old new (Ok reader) = (new ≡ old) × IsReaderOf remaining health list reader
 OpensList remaining health list path old new (Err (stop.Refused text)) =
-    (new ≡ old) × IsUnopened list × (string_bytes text ≡ cannot_read path)
+    (new ≡ old) × IsUnlisted list × (string_bytes text ≡ cannot_read path)
 OpensList remaining health list path old new (Err stop.CannotWrite) = ⊥
 OpensList remaining health list path old new (Err stop.OutOfMemory) = new ≡ old
 

@@ -65,10 +65,6 @@ IsShut unreadable = ⊥
 IsShut (bytes bs) = ⊥
 IsShut unknown = Unit {0}
 
--- nothing that can be opened and read is stored
-abbrev pub IsUnopened : Stored → Type 0
-IsUnopened stored = IsFolder stored ⊎ IsShut stored
-
 -- a reader of what is stored is given; or it is a folder, it can't be opened, or memory ran out
 abbrev pub IsOpening : {R : Type 0} → (R → Option (List ℕ)) → (R → Health) → Stored → Result R FileFault → Type 0
 IsOpening remaining health stored (Ok reader) = IsReaderOf remaining health stored reader

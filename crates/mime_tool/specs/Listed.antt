@@ -14,6 +14,11 @@ abbrev pub names_given : Stored → List (List ℕ)
 names_given (bytes bs) = listed bs
 names_given _ = []
 
+-- a list can't be read to its end
+abbrev pub IsUnlisted : Stored → Type 0
+IsUnlisted (bytes bs) = ⊥
+IsUnlisted _ = Unit {0}
+
 -- the message on the name of this number, which is empty
 abbrev pub empty_name : List ℕ → ℕ → List ℕ
 empty_name list number = refusal list (codes "name " ++ (decimal number ++ codes " is empty"))

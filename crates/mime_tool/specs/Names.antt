@@ -6,7 +6,7 @@ use Rattle.std.specs.declared.alloc.Global.{Global}
 use Rattle.mime_lookup.specs.Content.{Health}
 use Rattle.mime_tool.specs.Files.{Stored, bytes, unknown, unreadable}
 use Rattle.mime_tool.specs.Finish.{Sinks, Writes}
-use Rattle.mime_tool.specs.Listed.{listed}
+use Rattle.mime_tool.specs.Listed.{IsUnlisted, listed}
 use Rattle.mime_tool.specs.Process.{given_by}
 use Rattle.mime_tool.specs.Run.{cannot_read, silent}
 use Rattle.mime_tool.specs.declared.names.Names.{Names}
@@ -55,17 +55,11 @@ IsAtEnd unknown = Unit {0}
 IsAtEnd (bytes bs) = bs ≡ []
 IsAtEnd _ = ⊥
 
--- the list can't be read
-abbrev pub IsBroken : Stored → Type 0
-IsBroken unknown = Unit {0}
-IsBroken unreadable = Unit {0}
-IsBroken _ = ⊥
-
 -- more is read of what was left, or that is at its end; or it can't be read, and the message names the list
 abbrev pub ReadsMore : List ℕ → Stored → Stored → Result Bool Stop → Type 0
 ReadsMore list before after (Ok true) = Takes before [] after
 ReadsMore list before after (Ok false) = Takes before [] after × IsAtEnd before
-ReadsMore list before after (Err (stop.Refused text)) = IsBroken before × (string_bytes text ≡ cannot_read list)
+ReadsMore list before after (Err (stop.Refused text)) = IsUnlisted before × (string_bytes text ≡ cannot_read list)
 ReadsMore list before after (Err stop.CannotWrite) = ⊥
 ReadsMore list before after (Err stop.OutOfMemory) = Unit {0}
 
@@ -74,6 +68,6 @@ abbrev pub GivesName : List ℕ → Stored → Stored → Sinks → Sinks → Re
 GivesName list before after old new (Ok (Some name)) = Writes old new silent × Gives before name.items after
 GivesName list before after old new (Ok None) = Writes old new silent × IsAtEnd before
 GivesName list before after old new (Err (stop.Refused text)) =
-    Writes old new silent × IsBroken before × (string_bytes text ≡ cannot_read list)
+    Writes old new silent × IsUnlisted before × (string_bytes text ≡ cannot_read list)
 GivesName list before after old new (Err stop.CannotWrite) = old.out ≡ None
 GivesName list before after old new (Err stop.OutOfMemory) = Writes old new silent

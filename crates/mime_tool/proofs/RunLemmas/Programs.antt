@@ -39,7 +39,7 @@ answers_asked v (refused kinds) q a b r means p = absurd means
 -- an error that the words mean is shown
 pub error_shown : (v : PlainProcess) (writes : List ℕ → List ℕ → Writing) (stored after : List ℕ → Stored) (m : Meaning) (e : Error) (a b : Sinks)
     (r : Result ℕ Stop) → Means m (Err e)
-    → Ends (λ _. IsShown (kind_of e)) [] a b r → Ends (IsAnswer v writes stored after m) (names_of m) a b r
+    → Ends (λ _. IsShown (kind_of e)) [] a b r → Ends (IsAnswer v writes stored after m) (names_of v stored m) a b r
 error_shown v writes stored after (asks x) e a b (Ok status) means p = absurd (p.1.0 means)
 error_shown v writes stored after (asks x) e a b (Err stop.OutOfMemory) means (inl p) = inl p
 error_shown v writes stored after (asks x) e a b (Err stop.OutOfMemory) means (inr p) = absurd (p.1.is_run.0 means)

@@ -1,0 +1,4 @@
+-- Lemmas on the names of a list, and on how they are read.
+pub mod FirstNames
+pub mod Takings
+pub mod Readings
