@@ -21,7 +21,7 @@ struct Row {
 const ENTRIES: &[(&str, Entry<'static>)] = &[
     ("/s/mime/globs2", Entry::Bytes(b"50:t/a:*.a\n50:t/b:*.b\n")),
     ("text", Entry::Bytes(b"hello\n")),
-    ("-", Entry::Bytes(b"x.a\0")),
+    ("-", Entry::Bytes(b"x.a")),
     ("dir", Entry::Folder),
     ("list", Entry::Bytes(b"d/x.a\0text\0y.b\0")),
     ("unended", Entry::Bytes(b"x.a\0y.b")),
