@@ -38,6 +38,11 @@ abbrev pub ending : Bool → List ℕ
 ending true = 0 ∷ []
 ending false = []
 
+-- a piece of bytes is what goes before the first zero byte, or all of them
+abbrev pub CutsPiece : List ℕ → List ℕ → Bool → Type 0
+CutsPiece bs piece ended =
+    (has_no_zero piece ≡ true) × ((rest : List ℕ) × (bs ≡ piece ++ (ending ended ++ rest)) × (ended ≡ false → rest ≡ []))
+
 -- a name grows by a piece of what was left of a list, and this is left; where that ends it, the zero byte is taken too
 abbrev pub TakesPiece : Stored → Stored → List ℕ → List ℕ → Bool → Type 0
 TakesPiece before after old new ended =

@@ -3,11 +3,11 @@
 //! A list is read block by block, as it comes, and what is kept of it is a block and the name that is being read: it may
 //! be longer than memory, and its writer may still be at work.
 
-ghost use Rattle.std.specs.Prelude.{◌≡◌, ◌≤◌, IfErr, IfOk, IsErr, IsOk, OnOk, [], false, length, true};
+ghost use Rattle.std.specs.Prelude.{◌≡◌, ◌≤◌, IfOk, IsErr, IsOk, Ok, [], drop, false, length};
 ghost use Rattle.std.specs.Io.KnownBytes.{ReadConsumes};
 ghost use Rattle.mime_lookup.specs.Content.{broken, sound};
 ghost use Rattle.mime_tool.specs.Desk.{Works};
-ghost use Rattle.mime_tool.specs.Names.{GivesName, ReadsMore, TakesPiece, left_in, unread_in};
+ghost use Rattle.mime_tool.specs.Names.{CutsPiece, GivesName, ReadsMore, TakesPiece, left_in, unread_in};
 ghost use Rattle.mime_tool.specs.Process.{given_by};
 
 use crate::desk::Desk;
@@ -49,21 +49,13 @@ impl<R: Content + Drop> Names<R> {
     fn add_to(&mut self, name: &mut Vec<u8>) -> Result<bool, AllocError>
         ensures piece { IfOk result (TakesPiece (left_in R.remaining R.health self.old) (left_in R.remaining R.health self.new)
             name.old.items name.new.items) }
-        ensures drained { OnOk result (result ≡ Ok false → unread_in self.new ≡ []) }
+        ensures drained { result ≡ Ok false → unread_in self.new ≡ [] }
     {
-        let unread = self.block.get(self.given..).unwrap_or(b"");
-        match memchr(0, unread) {
-            Some(end) => {
-                name.extend_from_slice(&unread[..end])?;
-                self.given += end + 1;
-                Ok(true)
-            }
-            None => {
-                name.extend_from_slice(unread)?;
-                self.given = self.block.len();
-                Ok(false)
-            }
-        }
+        let (piece, is_ended) = first_piece(unread(self.block.as_slice(), self.given));
+        let taken = piece.len() + usize::from(is_ended);
+        name.extend_from_slice(piece)?;
+        self.given += taken;
+        Ok(is_ended)
     }
 
     // Reads the next block, and says whether there was one.
@@ -82,6 +74,26 @@ impl<R: Content + Drop> Names<R> {
     }
 }
 
+// What of a block was not given yet.
+fn unread(block: &[u8], given: usize) -> &[u8]
+    ensures { result.now ≡ drop given block.entry.now }
+{
+    match block.get(given..) {
+        Some(unread) => unread,
+        None => &[],
+    }
+}
+
+// The bytes before the first zero byte, and whether there is one.
+fn first_piece(bytes: &[u8]) -> (&[u8], bool)
+    ensures { CutsPiece bytes.entry.now result.0.now result.1 }
+{
+    match memchr(0, bytes) {
+        Some(end) => (&bytes[..end], true),
+        None => (bytes, false),
+    }
+}
+
 // One read, tried again while it is interrupted. Gives how many bytes came.
 fn read_block<R: Content>(reader: &mut R, block: &mut [u8]) -> Result<usize, ReadFault>
     ensures within { IfOk result (λ count. count ≤ length block.new) }
@@ -91,8 +103,9 @@ fn read_block<R: Content>(reader: &mut R, block: &mut [u8]) -> Result<usize, Rea
 {
     for _ in 0..RETRIES {
         match reader.read_piece(block) {
+            Ok(count) => return Ok(count),
+            Err(ReadFault::Failed) => return Err(ReadFault::Failed),
             Err(ReadFault::Interrupted) => {}
-            read => return read,
         }
     }
     reader.read_piece(block)

@@ -15,6 +15,11 @@ use Rattle.mime_tool.proofs.AnswerLemmas.ListedNames.{EndsListed}
 use Rattle.mime_tool.proofs.RunLemmas.Ends.{writes_same}
 use Rattle.mime_tool.proofs.RunLemmas.ListedRuns.{listed_unknown}
 
+-- a sound reader of bytes gives them
+given_sound : (bs : List ℕ) → given_by (Some bs) sound ≡ bytes bs
+given_sound [] = refl
+given_sound (b ∷ bs) = refl
+
 module _ (IsOne : List ℕ → Run → Type 0) (list : List ℕ) where
   -- the message of a list that can't be read is all that is left of its run
   unlisted_run : (before : Stored) (n : ℕ) (text : List ℕ) → IsUnlisted before → text ≡ cannot_read list
@@ -60,9 +65,10 @@ module _ (IsOne : List ℕ → Run → Type 0) (list : List ℕ) where
   pub ends_opened : {R : Type 0} (remaining : R → Option (List ℕ)) (health : R → Health) (reader : R) (stored : Stored) (n : ℕ) (a b : Sinks)
       (r : Result ℕ Stop) → IsReaderOf remaining health stored reader
       → EndsListed IsOne list (given_by (remaining reader) (health reader)) n a b r → EndsListed IsOne list stored n a b r
-  ends_opened remaining health reader (bytes bs) n a b r opened p = rw (opened.0, opened.1) at p
+  ends_opened remaining health reader (bytes bs) n a b r opened p =
+      subst (λ (given : Stored). EndsListed IsOne list given n a b r) (given_sound bs) (rw (opened.0, opened.1) at p)
   ends_opened remaining health reader unreadable n a b r opened p = rw (opened.0, opened.1) at p
-  ends_opened remaining health reader unknown n a b r opened p = ends_unknown _ n a b r p
+  ends_opened remaining health reader unknown n a b r opened p = ends_unknown (given_by (remaining reader) (health reader)) n a b r p
   ends_opened remaining health reader nothing n a b r opened p = absurd opened
   ends_opened remaining health reader dangling n a b r opened p = absurd opened
   ends_opened remaining health reader folder n a b r opened p = absurd opened

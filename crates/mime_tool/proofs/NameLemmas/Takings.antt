@@ -79,8 +79,7 @@ gives_ended closed b name free p = absurd p
 pub gives_last : (a b : Stored) (x : ℕ) (name : List ℕ) → has_no_zero (x ∷ name) ≡ true → Takes a (x ∷ name) b → IsAtEnd b → Gives a (x ∷ name) b
 gives_last unknown b x name free p ended = tt
 gives_last (bytes bs) b x name free p ended =
-    let none : p.0 ≡ [] = subst IsAtEnd p.2 ended in
-    (
+    let none : p.0 ≡ [] = subst IsAtEnd p.2 ended in (
       p.0,
       rw none (ap listed (p.1 ∙ ap (λ (rest : List ℕ). (x ∷ name) ++ rest) none ∙ append-nil (x ∷ name)) ∙ listed-alone x name free),
       p.2,
