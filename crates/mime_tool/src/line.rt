@@ -1,17 +1,14 @@
 //! The line of a FILE, or why it has none. This project's own.
 
-ghost use Rattle.std.specs.Prelude.{◌≡◌, IfOk, [], ◌∷◌, string_bytes};
+ghost use Rattle.std.specs.Prelude.{◌≡◌, IfOk, [], string_bytes};
 ghost use Rattle.clap.specs.Walk.{texts};
-ghost use Rattle.mime_request.specs.Request.{plain_subjects};
 ghost use Rattle.mime_tool.specs.Desk.{Does, Ends, Works};
 ghost use Rattle.mime_tool.specs.Line.{IsAskedKind, IsTypeLine, base_name, inode_name};
-ghost use Rattle.mime_tool.specs.LineSteps.{ComesTo, LooksUp, LooksUpHere, plain_lookup, run_of, tail_of};
+ghost use Rattle.mime_tool.specs.LineSteps.{ComesTo, LooksUpHere, plain_lookup, run_of, tail_of};
 ghost use Rattle.mime_tool.specs.Output.{answer_end, answer_of, separator, written};
-ghost use Rattle.mime_tool.specs.Process.{given_by};
 ghost use Rattle.mime_tool.specs.Run.{IsEach, printed, refusal, unanswered};
-ghost use Rattle.mime_tool.specs.Subjects.{contents_in, names_in};
 ghost use Rattle.mime_tool.specs.Types.{cost_text};
-ghost use Rattle.mime_tool.specs.Words.{named_subjects, names_of};
+ghost use Rattle.mime_tool.specs.Words.{names_of};
 
 mod escape;
 mod lookup;
@@ -25,8 +22,7 @@ use escape::escaped;
 use lookup::free;
 pub(crate) use lookup::{Cost, Data, Lookup, asked_order, find};
 use mime_base::OutOfMemory;
-use mime_lookup::Content;
-use mime_request::{Output, Subjects};
+use mime_request::Output;
 use std::alloc::{AllocError, Global};
 
 /// What a FILE comes to.

@@ -13,7 +13,7 @@ use Rattle.mime_tool.specs.Stop.{message}
 use Rattle.mime_tool.specs.declared.stop.Stop.{Stop}
 use Rattle.mime_tool.specs.declared.stop.Stop.TheVariants as stop
 use Rattle.mime_tool.proofs.RunLemmas.Ends.{writes_same}
-use Rattle.mime_tool.proofs.RunLemmas.Fronts.{IsFront, ends_first, ends_followed, raised}
+use Rattle.mime_tool.proofs.RunLemmas.Fronts.{IsFront, ends_after_nothing, ends_first, ends_followed, raised}
 use Rattle.mime_tool.proofs.RunLemmas.ListedRuns.{listed_unknown, numbered_more, numbered_one, numbered_stopped}
 
 module _ (IsOne : List ℕ → Run → Type 0) (list : List ℕ) where
@@ -44,7 +44,7 @@ module _ (IsOne : List ℕ → Run → Type 0) (list : List ℕ) where
   }
 
   -- a name is answered, and then the rest
-  pub listed_more : (before after : Stored) (n : ℕ) (name : List ℕ) (a b c : Sinks) (status : ℕ) (r : Result ℕ Stop) → Gives before name after
+  listed_more : (before after : Stored) (n : ℕ) (name : List ℕ) (a b c : Sinks) (status : ℕ) (r : Result ℕ Stop) → Gives before name after
       → Ends (λ _. IsNumbered IsOne list n name) [] a b (Ok status) → EndsListed after (n + 1) b c r
       → EndsListed before n a c (raised status r)
   listed_more (bytes bs) after n name a b c status r gives p q =
@@ -62,7 +62,7 @@ module _ (IsOne : List ℕ → Run → Type 0) (list : List ℕ) where
   listed_more unreadable after n name a b c status r gives p q = absurd gives
 
   -- a name isn't answered
-  pub listed_stopped : (before after : Stored) (n : ℕ) (name : List ℕ) (a b : Sinks) (e : Stop) → Gives before name after
+  listed_stopped : (before after : Stored) (n : ℕ) (name : List ℕ) (a b : Sinks) (e : Stop) → Gives before name after
       → Ends (λ _. IsNumbered IsOne list n name) [] a b (Err e) → EndsListed before n a b (Err e)
   listed_stopped (bytes bs) after n name a b e gives p =
       subst (λ (names : List (List ℕ)). Ends (AreListed IsOne list (bytes bs) n) names a b (Err e)) (sym gives.1)
@@ -86,3 +86,18 @@ module _ (IsOne : List ℕ → Run → Type 0) (list : List ℕ) where
   listed_ended (special kind) n a b ended w = absurd ended
   listed_ended closed n a b ended w = absurd ended
   listed_ended unreadable n a b ended w = absurd ended
+
+  -- a name is read and answered, and then the rest
+  pub named_more : (before after : Stored) (n : ℕ) (name : List ℕ) (a b c d : Sinks) (status : ℕ) (r : Result ℕ Stop)
+      → Writes a b silent × Gives before name after → Ends (λ _. IsNumbered IsOne list n name) [] b c (Ok status)
+      → EndsListed after (n + 1) c d r → EndsListed before n a d (raised status r)
+  named_more before after n name a b c d status r named p q =
+      ends_after_nothing (AreListed IsOne list before n) (names_given before) a b d (raised status r) named.0
+      (listed_more before after n name b c d status r named.1 p q)
+
+  -- a name is read and not answered
+  pub named_stopped : (before after : Stored) (n : ℕ) (name : List ℕ) (a b c : Sinks) (e : Stop) → Writes a b silent × Gives before name after
+      → Ends (λ _. IsNumbered IsOne list n name) [] b c (Err e) → EndsListed before n a c (Err e)
+  named_stopped before after n name a b c e named p =
+      ends_after_nothing (AreListed IsOne list before n) (names_given before) a b c (Err e) named.0
+      (listed_stopped before after n name b c e named.1 p)

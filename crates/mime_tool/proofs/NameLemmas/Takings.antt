@@ -76,20 +76,23 @@ gives_ended (special kind) b name free p = absurd p
 gives_ended closed b name free p = absurd p
 
 -- so is a last one that isn't ended
-pub gives_last : (a b : Stored) (x : ℕ) (name : List ℕ) → has_no_zero (x ∷ name) ≡ true → Takes a (x ∷ name) b → IsAtEnd b → Gives a (x ∷ name) b
-gives_last unknown b x name free p ended = tt
-gives_last (bytes bs) b x name free p ended =
-    let none : p.0 ≡ [] = subst IsAtEnd p.2 ended in (
-      p.0,
-      rw none (ap listed (p.1 ∙ ap (λ (rest : List ℕ). (x ∷ name) ++ rest) none ∙ append-nil (x ∷ name)) ∙ listed-alone x name free),
-      p.2,
+pub gives_last : (a b c : Stored) (x : ℕ) (name : List ℕ) → has_no_zero (x ∷ name) ≡ true → Takes a (x ∷ name) b → IsAtEnd b → Takes b [] c
+    → Gives a (x ∷ name) c
+gives_last unknown b c x name free p ended q = tt
+gives_last (bytes bs) b c x name free p ended q =
+    let none : p.0 ≡ [] = subst IsAtEnd p.2 ended in
+    let left = subst (λ (s : Stored). Takes s [] c) p.2 q in
+    let rest : left.0 ≡ [] = sym left.1 ∙ none in (
+      left.0,
+      rw rest (ap listed (p.1 ∙ ap (λ (rest : List ℕ). (x ∷ name) ++ rest) none ∙ append-nil (x ∷ name)) ∙ listed-alone x name free),
+      left.2,
     )
-gives_last unreadable b x name free p ended = cc
-gives_last nothing b x name free p ended = absurd p
-gives_last dangling b x name free p ended = absurd p
-gives_last folder b x name free p ended = absurd p
-gives_last (special kind) b x name free p ended = absurd p
-gives_last closed b x name free p ended = absurd p
+gives_last unreadable b c x name free p ended q = cc
+gives_last nothing b c x name free p ended q = absurd p
+gives_last dangling b c x name free p ended q = absurd p
+gives_last folder b c x name free p ended q = absurd p
+gives_last (special kind) b c x name free p ended q = absurd p
+gives_last closed b c x name free p ended q = absurd p
 
 -- a list is at its end where nothing was taken and what is left is
 pub at_end_before : (a b : Stored) → Takes a [] b → IsAtEnd b → IsAtEnd a

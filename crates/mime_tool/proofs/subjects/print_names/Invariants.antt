@@ -3,7 +3,6 @@ use Rattle.mime_tool.specs.Finish.{Sinks}
 use Rattle.mime_tool.specs.Line.{IsTypeLine}
 use Rattle.mime_tool.specs.LineSteps.{plain_lookup}
 use Rattle.mime_tool.specs.Names.{left_in}
-use Rattle.mime_tool.specs.Process.{given_by}
 use Rattle.mime_tool.specs.declared.stop.Stop.{Stop}
 use Rattle.mime_tool.proofs.AnswerLemmas.ListedNames.{EndsListed}
 use Rattle.mime_tool.proofs.RunLemmas.Fronts.{raised}
@@ -18,6 +17,6 @@ invariant-loop-number g l =
       same_setting : (g.D.Desk.state l.desk).setting ≡ (g.D.Desk.state l.initial.desk).setting;
       rest : (r : Result ℕ Stop) (after : Sinks)
           → EndsListed IsOne l.list (left_in g.R.Read.remaining g.R.Content.health l.names) l.number (g.D.Desk.state l.desk).sinks after r
-          → EndsListed IsOne l.list (given_by (g.R.Read.remaining l.initial.reader) (g.R.Content.health l.initial.reader)) 1
+          → EndsListed IsOne l.list (left_in g.R.Read.remaining g.R.Content.health l.initial.names) 1
           (g.D.Desk.state l.initial.desk).sinks after (raised l.status r);
     }
