@@ -4,17 +4,19 @@ _mimelook() {
     case $before in
         --data-dirs | -d) mapfile -t COMPREPLY < <(compgen -d -- "$word"); return ;;
         --cache | --output | -c | -o) mapfile -t COMPREPLY < <(compgen -f -- "$word"); return ;;
+        --stdin) return ;;
     esac
     case ${COMP_WORDS[1]} in
-        build) options='-d --data-dirs -o --output -h --help' ;;
-        plain) options='-d --data-dirs --name-only --content-only --magic-first -0 --null -b --brief --escape -h --help' ;;
-        list) options='-c --cache -d --data-dirs -h --help' ;;
-        isa) options='-c --cache -d --data-dirs -h --help' ;;
-        icon) options='-c --cache -d --data-dirs -h --help' ;;
-        type) options='-c --cache -d --data-dirs --name-only --content-only --magic-first --cost -0 --null -b --brief --escape -h --help' ;;
-        *) options='build plain list isa icon type -h --help -V --version' ;;
+        build) options='-d --data-dirs --drop-twins -o --output -h --help -V --version' ;;
+        plain) options='-d --data-dirs --name-only --content-only --magic-first --all-globs --inode -0 --null -b --brief --escape --stdin -h --help -V --version' ;;
+        list) options='-c --cache -d --data-dirs -h --help -V --version' ;;
+        isa) options='-c --cache -d --data-dirs -h --help -V --version' ;;
+        icon) options='-c --cache -d --data-dirs -h --help -V --version' ;;
+        type) options='-c --cache -d --data-dirs --name-only --content-only --magic-first --all-globs --inode --cost -0 --null -b --brief --escape --stdin -h --help -V --version' ;;
+        help) options='build plain list isa icon type' ;;
+        *) options='build plain list isa icon type help -h --help -V --version' ;;
     esac
-    if [[ $word == -* || $COMP_CWORD -eq 1 ]]; then
+    if [[ $word == -* || $COMP_CWORD -eq 1 || ${COMP_WORDS[1]} == help ]]; then
         mapfile -t COMPREPLY < <(compgen -W "$options" -- "$word")
     else
         mapfile -t COMPREPLY < <(compgen -f -- "$word")

@@ -14,6 +14,10 @@
  * Where the content can't be had, the first answer stands. Open regular files only, and without blocking: a pipe may never
  * be written to.
  *
+ * A content alone can make a file application/x-desktop, as the specification's checking order says. A program that starts
+ * launchers looks the name up alone, with NULL for the content, and starts only what mimelook_is_a says is
+ * application/x-desktop by that.
+ *
  * A text of a hostile cache may be any bytes but zero, of any length up to 255, none too: escape it before it is shown. Such
  * a cache may also want 4 GiB of a content: give a front of as much as you care to read, whose type is then the front's.
  *
