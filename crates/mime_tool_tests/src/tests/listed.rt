@@ -18,8 +18,10 @@ struct Row {
     err: &'static str,
 }
 
+const GLOBS: (&str, Entry<'static>) = ("/s/mime/globs2", Entry::Bytes(b"50:t/a:*.a\n50:t/b:*.b\n"));
+
 const ENTRIES: &[(&str, Entry<'static>)] = &[
-    ("/s/mime/globs2", Entry::Bytes(b"50:t/a:*.a\n50:t/b:*.b\n")),
+    GLOBS,
     ("text", Entry::Bytes(b"hello\n")),
     ("-", Entry::Bytes(b"x.a")),
     ("dir", Entry::Folder),
@@ -268,7 +270,7 @@ fn answers_names_of_any_length(rt: HostRuntime) -> Result<(), Fail> {
     let mut line = Vec::new(rt.alloc());
     line.resize(9_000, b'a')?;
     line.extend_from_slice(b"/x.a: t/a\ntext: application/octet-stream\n")?;
-    let files = [ENTRIES[0], ("long", Entry::Bytes(list.as_slice()))];
+    let files = [GLOBS, ("long", Entry::Bytes(list.as_slice()))];
     let wanted = Said {
         status: 0,
         out: str::from_utf8(line.as_slice())?,
