@@ -1,7 +1,7 @@
 //! The names that a list gives, each ended by a zero byte. This project's own.
 //!
-//! A list is read block by block, as it comes, and what is kept of it is a block and the name that is being read: it may
-//! be longer than memory, and its writer may still be at work.
+//! A list is read block by block, as it comes, and what is kept of it is a block and the name that is
+//! being read: it may be longer than memory, and its writer may still be at work.
 
 ghost use Rattle.std.specs.Prelude.{◌≡◌, ◌≤◌, IfOk, IsErr, IsOk, Ok, [], drop, false, length};
 ghost use Rattle.std.specs.Io.KnownBytes.{ReadConsumes};
@@ -131,5 +131,6 @@ pub(crate) fn next_name<D: Desk, R: Content + Drop>(
             return Ok(if name.is_empty() { None } else { Some(name) });
         }
     }
+    // The name grew in each turn, and there is no memory for so long a one.
     Err(Stop::OutOfMemory)
 }

@@ -109,6 +109,7 @@ fn print_names<D: Desk, R: Content + Drop>(
         };
         status = status.max(print_name(desk, lookup, list, number, name.as_slice())?);
     }
+    // There is no number for one more name.
     Err(Stop::OutOfMemory)
 }
 
