@@ -8,10 +8,10 @@ use Rattle.mime_tool.specs.Desk.{Ends}
 use Rattle.mime_lookup.specs.Content.{Health, broken, sound, untold}
 use Rattle.mime_tool.specs.Files.{Stored}
 use Rattle.mime_tool.specs.Finish.{Sinks}
-use Rattle.mime_tool.specs.Line.{IsAskedKind, IsLineOf, IsTypeLine, PlainLookup}
+use Rattle.mime_tool.specs.Line.{IsAskedKind, IsLineOf, IsTypeLine, PlainLookup, asked_order, with_inode}
 use Rattle.mime_tool.specs.LineSteps.{ComesTo, GivesLine, LooksUp, lookup_in, plain_lookup, run_of}
 use Rattle.mime_tool.specs.Output.{written}
-use Rattle.mime_tool.specs.Plain.{AreTypeLines}
+use Rattle.mime_tool.specs.Plain.{AreTypeLines, lookup_over}
 use Rattle.mime_tool.specs.Process.{given_by}
 use Rattle.mime_tool.specs.Run.{IsEach, Run, silent}
 use Rattle.mime_tool.specs.Subjects.{list_at}
@@ -30,7 +30,9 @@ pub no_lines : (subjects : PlainSubjects) (stored : List ℕ → Stored) (input 
     → (run : Run) × AreTypeLines subjects stored input options database [] run
 no_lines (of_files files) stored input options database = (silent, refl)
 no_lines (of_input name) stored input options database = (silent, refl)
-no_lines (of_list path) stored input options database = none_listed _ path (list_at path stored input) 1
+no_lines (of_list path) stored input options database =
+    let lookup = with_inode options.inode (lookup_over options.name_only options.output (asked_order options) database) in
+    none_listed (IsTypeLine lookup stored) path (list_at path stored input) 1
 
 -- it came to nothing: its data are refused, or memory ran out
 pub comes_undone : (lookup : PlainLookup) (stored : List ℕ → Stored) (file : List ℕ) (a b : Sinks) (s : Stop)
