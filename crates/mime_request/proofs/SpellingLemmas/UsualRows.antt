@@ -9,7 +9,7 @@ use Rattle.mime_request.specs.CommandLine.{files_rule, input_rule, list_rule}
 use Rattle.mime_request.specs.Request.{PlainSubjects, of_files, of_input, of_list}
 use Rattle.mime_request.specs.Spelling.{Flag, Named, by_cache, by_directories, by_nothing, flag_name, has}
 use Rattle.mime_request.proofs.WalkLemmas.FlagWords.{source_rows}
-use Rattle.mime_request.proofs.WalkLemmas.Flags.{IsNoFlag, file_is_no_flag, flag_row, has_row-append, has_row-no_flag}
+use Rattle.mime_request.proofs.WalkLemmas.Flags.{IsNoFlag, flag_row, has_row-append, has_row-no_flag}
 use Rattle.mime_request.proofs.WalkLemmas.Flags.{or_false, row_on, row_on-flags}
 use Rattle.mime_request.proofs.WalkLemmas.Rows.{defaulted, finished-at, given_row, or_none, or_or, row_at, row_at-four}
 

@@ -1,5 +1,5 @@
 -- From what a file comes to, to its line.
-use Rattle.std.proofs.Common.{◌≡◌, ◌∙◌, ℕ, Bool, Bor, true, false, List, [], ◌∷◌, ap, inl, None, Ok, Option, Err, Result, Some, refl, subst, sym}
+use Rattle.std.proofs.Common.{◌≡◌, ◌∙◌, ℕ, Bool, true, false, List, [], ◌∷◌, ap, inl, None, Ok, Option, Err, Result, Some, refl, subst, sym}
 use Rattle.mime_base.specs.Database.{PlainDatabase}
 use Rattle.mime_request.specs.Request.{PlainSubjects, of_files, of_input, of_list}
 use Rattle.mime_request.specs.declared.request.Options.{Options}

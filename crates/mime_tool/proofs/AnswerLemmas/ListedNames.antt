@@ -1,18 +1,12 @@
 -- How the names of a list, as they are read, come to its end.
-use Rattle.std.proofs.Common.{◌≡◌, ◌∙◌, ℕ, ◌+◌, true, false, List, [], ◌∷◌, ap, inl, None, Ok, Option, Err, Result, Some, refl, subst, sym, Vec}
-use Rattle.std.specs.declared.alloc.Global.{Global}
-use Rattle.mime_lookup.specs.Content.{Health}
+use Rattle.std.proofs.Common.{ℕ, ◌+◌, true, List, [], ◌∷◌, Ok, Err, Result, refl, subst, sym}
 use Rattle.mime_tool.specs.Desk.{Ends}
-use Rattle.mime_tool.specs.Files.{IsReaderOf, Stored, bytes, closed, dangling, folder, nothing, special, unknown, unreadable}
+use Rattle.mime_tool.specs.Files.{Stored, bytes, closed, dangling, folder, nothing, special, unknown, unreadable}
 use Rattle.mime_tool.specs.Finish.{Sinks, Writes}
-use Rattle.mime_tool.specs.Listed.{AreListed, IsNumbered, IsUnlisted, listed, names_given}
-use Rattle.mime_tool.specs.Names.{Gives, GivesName, IsAtEnd}
-use Rattle.mime_tool.specs.Process.{given_by}
-use Rattle.mime_tool.specs.Run.{Run, cannot_read, joined, silent, stopped}
-use Rattle.mime_tool.specs.Stop.{message}
+use Rattle.mime_tool.specs.Listed.{AreListed, IsNumbered, listed, names_given}
+use Rattle.mime_tool.specs.Names.{Gives, IsAtEnd}
+use Rattle.mime_tool.specs.Run.{Run, silent}
 use Rattle.mime_tool.specs.declared.stop.Stop.{Stop}
-use Rattle.mime_tool.specs.declared.stop.Stop.TheVariants as stop
-use Rattle.mime_tool.proofs.RunLemmas.Ends.{writes_same}
 use Rattle.mime_tool.proofs.RunLemmas.Fronts.{IsFront, ends_after_nothing, ends_first, ends_followed, raised}
 use Rattle.mime_tool.proofs.RunLemmas.ListedRuns.{listed_unknown, numbered_more, numbered_one, numbered_stopped}
 

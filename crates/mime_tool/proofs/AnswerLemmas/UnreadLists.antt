@@ -1,9 +1,9 @@
 -- Lists that can't be read, and readers of lists.
-use Rattle.std.proofs.Common.{◌≡◌, ◌∙◌, ℕ, ◌+◌, true, false, List, [], ◌∷◌, ap, inl, inr, Ok, Option, Err, Result, Some, None, refl, subst, sym}
-use Rattle.mime_lookup.specs.Content.{Health, broken, sound}
-use Rattle.mime_tool.specs.Desk.{Ends, OpensList}
+use Rattle.std.proofs.Common.{◌≡◌, ℕ, false, List, [], ◌∷◌, ap, inl, inr, Ok, Option, Err, Result, Some, refl, subst}
+use Rattle.mime_lookup.specs.Content.{Health, sound}
+use Rattle.mime_tool.specs.Desk.{OpensList}
 use Rattle.mime_tool.specs.Files.{IsReaderOf, Stored, bytes, closed, dangling, folder, nothing, special, unknown, unreadable}
-use Rattle.mime_tool.specs.Finish.{Sinks, Writes}
+use Rattle.mime_tool.specs.Finish.{Sinks}
 use Rattle.mime_tool.specs.Listed.{AreListed, IsUnlisted, names_given}
 use Rattle.mime_tool.specs.Names.{GivesName}
 use Rattle.mime_tool.specs.Process.{given_by}

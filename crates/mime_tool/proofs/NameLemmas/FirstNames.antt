@@ -1,6 +1,6 @@
 -- The first name in the bytes of a list.
 use Rattle.std.proofs.Common.{◌≡◌, ◌∙◌, ◌==◌, ◌&&◌, ℕ, Bool, true, false, List, [], ◌∷◌, ◌++◌, not, ap, refl, cond}
-use Rattle.std.specs.List.{list_all, onto_first}
+use Rattle.std.specs.List.{onto_first}
 use Rattle.mime_tool.specs.Listed.{listed}
 use Rattle.mime_tool.specs.Names.{has_no_zero}
 

@@ -1,10 +1,8 @@
 -- What a read leaves of a list.
-use Rattle.std.proofs.Common.{◌≡◌, ◌∙◌, ℕ, Bool, true, false, List, [], ◌∷◌, ◌++◌, Option, Some, None, IsErr, IsOk, Result, Ok, Err, ap, refl, subst, sym}
+use Rattle.std.proofs.Common.{◌≡◌, ◌∙◌, ℕ, List, [], ◌∷◌, ◌++◌, Option, Some, None, refl, subst, sym}
 use Rattle.std.specs.Io.KnownBytes.{Consumes}
 use Rattle.std.specs.Io.KnownBytes as known
-use Rattle.std.specs.Option.{option_map}
 use Rattle.mime_lookup.specs.Content.{Health, broken, sound, untold}
-use Rattle.mime_tool.specs.Files.{Stored, bytes, unknown, unreadable}
 use Rattle.mime_tool.specs.Listed.{IsUnlisted}
 use Rattle.mime_tool.specs.Names.{IsAtEnd, Takes}
 use Rattle.mime_tool.specs.Process.{given_by}

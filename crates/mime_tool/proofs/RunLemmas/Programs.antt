@@ -12,7 +12,7 @@ use Rattle.mime_tool.specs.Desk.{Ends, State, Works}
 use Rattle.mime_tool.specs.Files.{Stored, Writing}
 use Rattle.mime_tool.specs.Finish.{Sinks}
 use Rattle.mime_tool.specs.Process.{PlainProcess}
-use Rattle.mime_tool.specs.Program.{Answers, IsAnswer, IsAskedRun, IsShown, Leaves, is_help, names_of, shown}
+use Rattle.mime_tool.specs.Program.{Answers, IsAnswer, IsShown, Leaves, is_help, names_of, shown}
 use Rattle.mime_tool.specs.Run.{Run, stopped}
 use Rattle.mime_tool.specs.Stop.{message}
 use Rattle.mime_tool.specs.declared.stop.Stop.{Stop}

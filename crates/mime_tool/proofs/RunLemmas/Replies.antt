@@ -12,7 +12,7 @@ use Rattle.mime_tool.specs.Finish.{Finishes, Sinks}
 use Rattle.mime_tool.specs.Heard.{IsRefusedRun, IsReply, LeavesHeard, Replies, heard_names}
 use Rattle.mime_tool.specs.Process.{PlainProcess}
 use Rattle.mime_tool.specs.Program.{Answers, IsAskedRun, asked_files, asked_names}
-use Rattle.mime_tool.specs.Run.{Run, mistaken}
+use Rattle.mime_tool.specs.Run.{mistaken}
 use Rattle.mime_tool.specs.Words.{Heard, heard_in, means, misplaced, no_text, named_subjects, not_text, placed, with_names}
 use Rattle.mime_tool.specs.declared.stop.Stop.{Stop}
 use Rattle.mime_tool.specs.declared.stop.Stop.TheVariants as stop

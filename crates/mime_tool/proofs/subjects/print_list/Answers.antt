@@ -1,10 +1,9 @@
-use Rattle.std.proofs.Common.{◌≡◌, ◌∙◌, ap, Bool, if◌then◌else◌, subst, sym}
+use Rattle.std.proofs.Common.{◌∙◌, subst, sym}
 use Rattle.std.proofs.lemmas.Result.{err_from_is_err_and}
-use Rattle.mime_tool.specs.Files.{Stored, as_list}
+use Rattle.mime_tool.specs.Files.{as_list}
 use Rattle.mime_tool.specs.Finish.{Sinks}
 use Rattle.mime_tool.specs.Line.{IsTypeLine}
 use Rattle.mime_tool.specs.LineSteps.{plain_lookup}
-use Rattle.mime_tool.specs.Process.{given_by}
 use Rattle.mime_tool.proofs.AnswerLemmas.ListedNames.{EndsListed}
 use Rattle.mime_tool.proofs.AnswerLemmas.UnreadLists.{ends_opened, listed_unopened}
 use Rattle.mime_tool.proofs.subjects.print_list.Goals as goal

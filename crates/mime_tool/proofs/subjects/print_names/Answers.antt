@@ -1,4 +1,4 @@
-use Rattle.std.proofs.Common.{◌∙◌, ◌+◌, ℕ, ap, Err, inl, Ok, Result, subst, sym}
+use Rattle.std.proofs.Common.{◌∙◌, ℕ, Err, inl, Ok, Result, subst}
 use Rattle.std.proofs.Math.Nat.{max-zero}
 use Rattle.std.proofs.lemmas.Result.{err_from_is_err_and}
 use Rattle.mime_tool.specs.Files.{Stored}

@@ -1,5 +1,4 @@
-use Rattle.std.proofs.Common.{◌∙◌, ap, ◌+◌, length}
-use Rattle.mime_tool.specs.Names.{CutsPiece}
+use Rattle.std.proofs.Common.{ap, ◌+◌, length}
 use Rattle.mime_tool.proofs.NameLemmas.Pieces.{piece_taken}
 use Rattle.mime_tool.proofs.names.Names.add_to.Goals as goal
 
