@@ -36,6 +36,10 @@ files_rule = record (new_rule (codes "file")) {
   value_names = 1;
 }
 
+-- `--files0-from LIST`
+abbrev pub list_rule : Rule
+list_rule = record (new_rule (codes "files0-from")) { long = Some (codes "files0-from"); value_names = 1 }
+
 -- `--stdin NAME`
 abbrev pub input_rule : Rule
 input_rule = record (new_rule (codes "stdin")) { long = Some (codes "stdin"); value_names = 1 }
@@ -72,11 +76,12 @@ abbrev pub with_output : App → App
 with_output app = with_rule (with_rule (with_rule app (short_flag_rule (codes "null") 48)) (short_flag_rule (codes "brief") 98))
     (flag_rule (codes "escape"))
 
--- with `[--stdin NAME] [FILE...]`
+-- with `[--files0-from LIST] [--stdin NAME] [FILE...]`
 abbrev pub with_subjects : App → App
-with_subjects app = with_rule (with_rule app input_rule) files_rule
+with_subjects app = with_rule (with_rule (with_rule app list_rule) input_rule) files_rule
 
--- `plain [-d DIRS] [--name-only] [--content-only] [--magic-first] [--all-globs] [--inode] [-0] [-b] [--escape] [--stdin NAME] [FILE...]`
+-- `plain [-d DIRS] [--name-only] [--content-only] [--magic-first] [--all-globs] [--inode] [-0] [-b] [--escape]
+-- [--files0-from LIST] [--stdin NAME] [FILE...]`
 abbrev pub plain_app : App
 plain_app = with_subjects (with_output (with_looks (with_rule (new_app (codes "plain")) directories_rule)))
 
@@ -97,7 +102,7 @@ abbrev pub icon_app : App
 icon_app = with_rule (app_of_source (codes "icon")) kind_rule
 
 -- `type [-c CACHE | -d DIRS] [--name-only] [--content-only] [--magic-first] [--all-globs] [--inode] [--cost] [-0] [-b] [--escape]
--- [--stdin NAME] [FILE...]`
+-- [--files0-from LIST] [--stdin NAME] [FILE...]`
 abbrev pub type_app : App
 type_app = with_subjects (with_output (with_rule (with_looks (app_of_source (codes "type"))) (flag_rule (codes "cost"))))
 

@@ -33,10 +33,11 @@ pub data PlainSource : Type 0 where
   cache_of : Text → PlainSource
   made_of : PlainDirectories → PlainSource
 
--- what is looked up: these files, or standard input under this name
+-- what is looked up: these files, standard input under this name, or the files that this file lists
 pub data PlainSubjects : Type 0 where
   of_files : List Text → PlainSubjects
   of_input : Text → PlainSubjects
+  of_list : Text → PlainSubjects
 
 -- what can be asked for
 pub data PlainRequest : Type 0 where
@@ -86,16 +87,19 @@ source_in rows = source_by (first_of (codes "cache") rows) (first_of (codes "dir
 abbrev pub options_in : List Row → Option Options
 options_in rows = agreed (given_options rows)
 
--- what NAME and FILEs name to be looked up; or the kinds of error where both are given, or neither
-abbrev pub subjects_by : Option Text → Option (List Text) → Result PlainSubjects Kinds
-subjects_by None None = Err (kind.MissingRequiredArgument ∷ [])
-subjects_by None (Some files) = Ok (of_files files)
-subjects_by (Some name) None = Ok (of_input name)
-subjects_by (Some name) (Some files) = Err (kind.ArgumentConflict ∷ [])
+-- what NAME, LIST and FILEs name to be looked up; or the kinds of error where two are given, or none
+abbrev pub subjects_by : Option Text → Option Text → Option (List Text) → Result PlainSubjects Kinds
+subjects_by None None None = Err (kind.MissingRequiredArgument ∷ [])
+subjects_by None None (Some files) = Ok (of_files files)
+subjects_by (Some name) None None = Ok (of_input name)
+subjects_by None (Some path) None = Ok (of_list path)
+subjects_by (Some name) (Some path) files = Err (kind.ArgumentConflict ∷ [])
+subjects_by (Some name) None (Some files) = Err (kind.ArgumentConflict ∷ [])
+subjects_by None (Some path) (Some files) = Err (kind.ArgumentConflict ∷ [])
 
 -- what clap found to be looked up
 abbrev pub subjects_in : List Row → Result PlainSubjects Kinds
-subjects_in rows = subjects_by (first_of (codes "stdin") rows) (all_of (codes "file") rows)
+subjects_in rows = subjects_by (first_of (codes "stdin") rows) (first_of (codes "files0-from") rows) (all_of (codes "file") rows)
 
 -- what is asked for by arguments that were right, or else the kinds of error
 abbrev pub right : {A : Type 0} → Result A Kinds → (A → Meaning) → Meaning
@@ -202,6 +206,7 @@ plain_source (source.Directories dirs) = made_of (plain_directories dirs)
 abbrev pub plain_subjects : Subjects → PlainSubjects
 plain_subjects (subjects.Files files) = of_files (texts files.items)
 plain_subjects (subjects.Input name) = of_input name.now
+plain_subjects (subjects.List path) = of_list path.now
 
 -- the plain value of a request
 abbrev pub plain_request : Request → PlainRequest

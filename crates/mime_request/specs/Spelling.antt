@@ -1,11 +1,11 @@
 -- The usual spellings of a command line.
-use Rattle.std.specs.Prelude.{◌≡◌, ◌<◌, ◌^◌, ◌==◌, ◌&&◌, Bool, true, false, not, List, [], ◌∷◌, ◌++◌, Option, Some, None, codes, length}
+use Rattle.std.specs.Prelude.{◌≡◌, ◌<◌, ◌^◌, ◌==◌, ◌&&◌, ◌||◌, Bool, true, false, not, List, [], ◌∷◌, ◌++◌, Option, Some, None, codes, length}
 use Rattle.std.specs.Prelude.{map}
 use Rattle.std.specs.List.{list_all, list_any}
 use Rattle.std.specs.Str.{bytes_eq}
 use Rattle.clap.specs.Walk.{Text}
 use Rattle.mime_request.specs.Flags.{agree}
-use Rattle.mime_request.specs.Request.{PlainSource, PlainSubjects, cache_of, commands, made_of, named, of_files, of_input, parts, user}
+use Rattle.mime_request.specs.Request.{PlainSource, PlainSubjects, cache_of, commands, made_of, named, of_files, of_input, of_list, parts, user}
 use Rattle.mime_request.specs.declared.request.Options.{Options}
 
 -- whether the word begins with a hyphen (45), as an option does
@@ -13,16 +13,22 @@ abbrev pub is_option : Text → Bool
 is_option [] = false
 is_option (x ∷ xs) = x == 45
 
--- at least one FILE, and none is an option; or a NAME that is none
+-- whether the word is a hyphen alone, or no option
+abbrev pub is_file_or_stream : Text → Bool
+is_file_or_stream word = bytes_eq word (codes "-") || not (is_option word)
+
+-- at least one FILE, and none is an option; or a NAME that is none; or a LIST that is none, or a hyphen alone
 abbrev pub are_plain : PlainSubjects → Bool
 are_plain (of_files []) = false
 are_plain (of_files (file ∷ files)) = list_all (λ word. not (is_option word)) (file ∷ files)
 are_plain (of_input name) = not (is_option name)
+are_plain (of_list list) = is_file_or_stream list
 
--- `FILE...`, or `--stdin NAME`
+-- `FILE...`, `--stdin NAME` or `--files0-from LIST`
 abbrev pub subject_words : PlainSubjects → List Text
 subject_words (of_files files) = files
 subject_words (of_input name) = codes "--stdin" ∷ name ∷ []
+subject_words (of_list list) = codes "--files0-from" ∷ list ∷ []
 
 -- whether it is one path of DIRS: not empty, and with no colon (58)
 abbrev pub is_path : Text → Bool
@@ -131,7 +137,7 @@ abbrev pub are_distinct : List Flag → Bool
 are_distinct [] = true
 are_distinct (flag ∷ flags) = not (list_any (λ other. bytes_eq (flag_name flag) (flag_name other)) flags) && are_distinct flags
 
--- `plain [FLAG...] [-d DIRS] [FLAG...] {FILE... | --stdin NAME}`
+-- `plain [FLAG...] [-d DIRS] [FLAG...] {FILE... | --files0-from LIST | --stdin NAME}`
 abbrev pub plain_words : Option Text → List Flag → List Flag → PlainSubjects → List Text
 plain_words dirs before after subjects =
     codes "plain" ∷ (map flag_word before ++ (source_words (named_by dirs) ++ (map flag_word after ++ subject_words subjects)))
@@ -148,12 +154,12 @@ is_a_words by kind base = codes "isa" ∷ (source_words by ++ kind ∷ base ∷ 
 abbrev pub icon_words : Named → Text → List Text
 icon_words by kind = codes "icon" ∷ (source_words by ++ kind ∷ [])
 
--- `type [FLAG...] [-c CACHE | -d DIRS] [FLAG...] {FILE... | --stdin NAME}`
+-- `type [FLAG...] [-c CACHE | -d DIRS] [FLAG...] {FILE... | --files0-from LIST | --stdin NAME}`
 abbrev pub type_words : Named → List Flag → List Flag → PlainSubjects → List Text
 type_words by before after subjects =
     codes "type" ∷ (map flag_word before ++ (source_words by ++ (map flag_word after ++ subject_words subjects)))
 
--- neither DIRS or CACHE nor a FILE or NAME could be taken for an option, no flag is given twice, and the flags can be given together
+-- neither DIRS or CACHE nor a FILE, NAME or LIST could be taken for an option, no flag is given twice, and the flags can be given together
 pub record AreUsual (source : Text) (flags : List Flag) (subjects : PlainSubjects) : Type 0 where
   pub plain_source : is_option source ≡ false
   pub plain : are_plain subjects ≡ true
@@ -197,4 +203,7 @@ conflicting_words =
     ∷ (codes "type" ∷ codes "--content-only" ∷ codes "--all-globs" ∷ codes "a" ∷ [])
     ∷ (codes "type" ∷ codes "--stdin" ∷ codes "a" ∷ codes "a" ∷ [])
     ∷ (codes "plain" ∷ codes "--stdin" ∷ [] ∷ codes "a" ∷ [])
-    ∷ (codes "plain" ∷ codes "--stdin" ∷ [] ∷ codes "--stdin" ∷ [] ∷ []) ∷ []
+    ∷ (codes "plain" ∷ codes "--stdin" ∷ [] ∷ codes "--stdin" ∷ [] ∷ [])
+    ∷ (codes "type" ∷ codes "--files0-from" ∷ codes "-" ∷ codes "a" ∷ [])
+    ∷ (codes "plain" ∷ codes "--files0-from" ∷ [] ∷ codes "--stdin" ∷ [] ∷ [])
+    ∷ (codes "plain" ∷ codes "--files0-from" ∷ [] ∷ codes "--files0-from" ∷ [] ∷ []) ∷ []

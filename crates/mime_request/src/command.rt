@@ -4,7 +4,7 @@ ghost use Rattle.std.specs.Prelude.{◌≡◌, IfOk, false};
 ghost use Rattle.clap.specs.Words.{app_of, rule_of};
 ghost use Rattle.clap.specs.declared.builder.command.Command.TheViews.{out-Command};
 ghost use Rattle.mime_request.specs.CommandLine.{app_of_source, base_rule, build_app, cache_rule, directories_rule, files_rule};
-ghost use Rattle.mime_request.specs.CommandLine.{flag_rule, icon_app, input_rule, is_a_app, kind_rule, list_app, mimelook, mimelook_alone};
+ghost use Rattle.mime_request.specs.CommandLine.{flag_rule, icon_app, input_rule, is_a_app, kind_rule, list_app, list_rule, mimelook, mimelook_alone};
 ghost use Rattle.mime_request.specs.CommandLine.{mimelook_of_directories, output_rule, plain_app, short_flag_rule, type_app};
 ghost use Rattle.mime_request.specs.CommandLine.{with_looks, with_output, with_subjects};
 
@@ -13,8 +13,9 @@ mod texts;
 use clap::{Arg, ArgAction, Command};
 use std::alloc::{AllocError, Global};
 use texts::{
-    ALL_GLOBS, BRIEF, BUILD, CONTENT_ONLY, COST, DIRS, DROP_TWINS, ESCAPE, FILES, HelpTexts, ICON,
-    INODE, INPUT, IS_A, LIST, MAGIC_FIRST, MIMELOOK, NAME_ONLY, NULL, OUTPUT, PLAIN, TYPE,
+    ALL_GLOBS, BRIEF, BUILD, CACHE, CONTENT_ONLY, COST, DIRS, DROP_TWINS, ESCAPE, FILES,
+    FILES_LIST, HelpTexts, ICON, INODE, INPUT, IS_A, LIST, MAGIC_FIRST, MIMELOOK, NAME_ONLY, NULL,
+    OUTPUT, PLAIN, TYPE,
 };
 
 const PROGRAM: &str = "mimelook";
@@ -54,7 +55,7 @@ fn cache<'a>(alloc: Global) -> Arg<'a>
         .short('c')
         .long("cache")
         .value_name("CACHE")
-        .help("The cache to read, such as /usr/share/mime/mime.cache")
+        .help(CACHE)
 }
 
 // A flag with a long name alone.
@@ -100,14 +101,25 @@ fn with_output<'a>(alloc: Global, command: Command<'a>) -> Result<Command<'a>, A
     Ok(command)
 }
 
-// With what is looked up: standard input by its name, or FILEs.
+// With what is looked up: the FILEs of a LIST, standard input by its name, or FILEs.
 fn with_subjects<'a>(alloc: Global, command: Command<'a>) -> Result<Command<'a>, AllocError>
     ensures app { IfOk result (λ c. app_of c ≡ with_subjects (app_of command.entry)) }
     ensures local { IfOk result (λ c. (out-Command c).has_globals ≡ (out-Command command.entry).has_globals) }
 {
+    let command = command.arg(files_list(alloc))?;
     let command = command.arg(input(alloc))?;
     let command = command.arg(files(alloc))?;
     Ok(command)
+}
+
+fn files_list<'a>(alloc: Global) -> Arg<'a>
+    ensures rule { rule_of result ≡ list_rule }
+    ensures local { result.global ≡ false }
+{
+    Arg::new(alloc, "files0-from")
+        .long("files0-from")
+        .value_name("LIST")
+        .help(FILES_LIST)
 }
 
 fn input<'a>(alloc: Global) -> Arg<'a>

@@ -77,6 +77,8 @@ pub enum Subjects<'a> {
     Files(Vec<&'a str>),
     /// Standard input, under this name.
     Input(&'a str),
+    /// The files that this file lists, or standard input where it is `-`.
+    List(&'a str),
 }
 
 /// What the words of a command line ask for.
@@ -97,7 +99,7 @@ pub enum Request<'a> {
         directories: Directories<'a>,
         /// The options. No cost is told.
         options: Options,
-        /// The files, or standard input.
+        /// What is looked up.
         subjects: Subjects<'a>,
     },
     /// The glob rules of a cache.
@@ -127,7 +129,7 @@ pub enum Request<'a> {
         source: Source<'a>,
         /// The options.
         options: Options,
-        /// The files, or standard input.
+        /// What is looked up.
         subjects: Subjects<'a>,
     },
 }

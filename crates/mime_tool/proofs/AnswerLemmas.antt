@@ -3,6 +3,8 @@ pub mod CachedLines
 pub mod CachedStops
 pub mod Kinds
 pub mod Lines
+pub mod ListedNames
+pub mod UnreadLists
 pub mod AnswersFrom
 pub mod AnswersOver
 pub mod ContentReaders

@@ -4,3 +4,4 @@ pub mod CacheLemmas
 pub mod RunLemmas
 pub mod DirectoryLemmas
 pub mod DeskLemmas
+pub mod NameLemmas

@@ -2,6 +2,8 @@
 pub mod Commands
 pub mod Endings
 pub mod Ends
+pub mod Fronts
+pub mod ListedRuns
 pub mod Loads
 pub mod Programs
 pub mod Replies

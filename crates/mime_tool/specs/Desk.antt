@@ -4,6 +4,7 @@ use Rattle.std.specs.declared.alloc.Global.{Global}
 use Rattle.mime_lookup.specs.Content.{Health}
 use Rattle.mime_tool.specs.Files.{IsFolder, IsReaderOf, IsShut, Replaced, Stored, Untouched, Writing, fails, succeeds}
 use Rattle.mime_tool.specs.Finish.{IsCut, Sinks, Writes, WritesFront}
+use Rattle.mime_tool.specs.Listed.{IsUnlisted}
 use Rattle.mime_tool.specs.Run.{Run, cannot_read, cannot_write, stopped, stops}
 use Rattle.mime_tool.specs.Stop.{message}
 use Rattle.mime_tool.specs.declared.desk.Opened.{Opened}
@@ -67,6 +68,14 @@ pub record ReplacesFile (path ending bs : List ℕ) (before after : State) (resu
   pub same_setting : after.setting ≡ before.setting
   pub same_sinks : after.sinks ≡ before.sinks
   pub files : ReplacesOrStops (path ++ ending) path bs (before.setting.writes path ending) before.stored after.stored result
+
+-- a list is opened; or it is refused, and that names its path; or memory ran out
+abbrev pub OpensList : {R : Type 0} → (R → Option (List ℕ)) → (R → Health) → Stored → List ℕ → Sinks → Sinks → Result R Stop → Type 0
+OpensList remaining health list path old new (Ok reader) = (new ≡ old) × IsReaderOf remaining health list reader
+OpensList remaining health list path old new (Err (stop.Refused text)) =
+    (new ≡ old) × IsUnlisted list × (string_bytes text ≡ cannot_read path)
+OpensList remaining health list path old new (Err stop.CannotWrite) = ⊥
+OpensList remaining health list path old new (Err stop.OutOfMemory) = new ≡ old
 
 -- a file is opened; or it is a folder, it can't be opened, or memory ran out
 abbrev pub OpensFile : {R : Type 0} → (R → Option (List ℕ)) → (R → Health) → Stored → Sinks → Sinks → Result (Opened R) Stop → Type 0

@@ -7,7 +7,7 @@ use Rattle.mime_lookup.specs.Content.{Health, broken, sound}
 use Rattle.mime_tool.specs.declared.files.FileFault.{FileFault}
 use Rattle.mime_tool.specs.declared.files.FileFault.TheVariants.{Failed, Folder, OutOfMemory}
 use Rattle.mime_tool.specs.declared.files.Inode.{Inode}
-use Rattle.mime_tool.specs.declared.files.Inode.TheVariants.{Directory, Symlink}
+use Rattle.mime_tool.specs.declared.files.Inode.TheVariants.{Directory, Fifo, Symlink}
 
 -- what is stored at a path: nothing, a link that leads nowhere, a folder, a device, a pipe or a socket of this kind, something
 -- else that can't be opened, a file whose reads all fail, or a file of these bytes; or that isn't known
@@ -71,6 +71,11 @@ IsOpening remaining health stored (Ok reader) = IsReaderOf remaining health stor
 IsOpening remaining health stored (Err Folder) = IsFolder stored
 IsOpening remaining health stored (Err Failed) = IsShut stored
 IsOpening remaining health stored (Err OutOfMemory) = Unit {0}
+
+-- what is stored, as a list of names: what a pipe gives isn't known
+abbrev pub as_list : Stored → Stored
+as_list (special Fifo) = unknown
+as_list stored = stored
 
 -- the kind of what is no regular file: a link is what it leads to, and itself where it leads nowhere
 abbrev pub inode_of : Stored → Option Inode

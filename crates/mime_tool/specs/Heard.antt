@@ -18,9 +18,9 @@ IsReply process writes old new (means m) = IsAnswer process writes old new m
 IsReply process writes old new (no_text number) = λ _ run. run ≡ mistaken (not_text number)
 
 -- the names that words have looked up
-abbrev pub heard_names : Heard → List (List ℕ)
-heard_names (means m) = names_of m
-heard_names (no_text number) = []
+abbrev pub heard_names : PlainProcess → (List ℕ → Stored) → Heard → List (List ℕ)
+heard_names process stored (means m) = names_of process stored m
+heard_names process stored (no_text number) = []
 
 -- what words leave stored
 abbrev pub LeavesHeard : PlainProcess → Heard → (List ℕ → Stored) → (List ℕ → Stored) → Type 0
@@ -35,5 +35,5 @@ IsRefusedRun (raw ∷ raws) k run = (k ≢ kind.OutOfMemory) × (run ≡ mistake
 -- the setting stays, the run that words ask for is done, up to the message of a stop, and this is left stored
 pub record Replies (process : PlainProcess) (h : Heard) (before after : State) (result : Result ℕ Stop) : Type 0 where
   pub same_setting : after.setting ≡ before.setting
-  pub sinks : Ends (IsReply process before.setting.writes before.stored after.stored h) (heard_names h) before.sinks after.sinks result
+  pub sinks : Ends (IsReply process before.setting.writes before.stored after.stored h) (heard_names process before.stored h) before.sinks after.sinks result
   pub leaves : LeavesHeard process h before.stored after.stored

@@ -11,7 +11,9 @@ pub mod IsA
 pub mod Line
 pub mod LineSteps
 pub mod List
+pub mod Listed
 pub mod Loading
+pub mod Names
 pub mod Output
 pub mod Plain
 pub mod Process

@@ -12,8 +12,8 @@ use Rattle.mime_tool.specs.Files.{Stored}
 use Rattle.mime_tool.specs.Line.{IsTypeLine, PlainLookup, asked_order, name_for, with_inode}
 use Rattle.mime_tool.specs.Output.{type_line, written}
 use Rattle.mime_tool.specs.Process.{PlainProcess}
-use Rattle.mime_tool.specs.Run.{IsEach, Run, cannot_read, printed, unanswered}
-use Rattle.mime_tool.specs.Subjects.{contents_in}
+use Rattle.mime_tool.specs.Run.{Run, cannot_read, printed, unanswered}
+use Rattle.mime_tool.specs.Subjects.{AreRuns}
 
 -- the line of a file, with a type that the checking order gives to its name and this content
 abbrev pub IsTyped : Output → PlainDatabase → Order → Option (List ℕ) → List ℕ → Run → Type 0
@@ -43,13 +43,13 @@ lookup_over name_only output order database = record {
   IsGuessed = IsGuessed output;
 }
 
--- the lines of names over this data with these options, where this is the content of each
-abbrev pub AreTypeLines : (List ℕ → Stored) → Options → PlainDatabase → List (List ℕ) → Run → Type 0
-AreTypeLines contents options database =
-    IsEach (IsTypeLine (with_inode options.inode
-    (lookup_over options.name_only options.output (asked_order options) database)) contents)
+-- the lines of what is looked up over this data with these options, where this is stored and standard input gives this
+abbrev pub AreTypeLines : PlainSubjects → (List ℕ → Stored) → Stored → Options → PlainDatabase → List (List ℕ) → Run → Type 0
+AreTypeLines subjects stored input options database =
+    AreRuns subjects stored input (IsTypeLine (with_inode options.inode
+    (lookup_over options.name_only options.output (asked_order options) database)))
 
 -- the run of `plain` over these directories with these options, for what is looked up
 abbrev pub IsPlain : (List ℕ → Stored) → PlainProcess → PlainDirectories → Options → PlainSubjects → List (List ℕ) → Run → Type 0
 IsPlain stored process dirs options subjects =
-    IsCommand stored process.environment dirs (AreTypeLines (contents_in subjects stored process.input) options)
+    IsCommand stored process.environment dirs (AreTypeLines subjects stored process.input options)

@@ -1,5 +1,5 @@
 -- What a run is given besides its words, files and sinks.
-use Rattle.std.specs.Prelude.{ℕ, List, [], Option, Some, None}
+use Rattle.std.specs.Prelude.{ℕ, List, [], Option, Some}
 use Rattle.mime_lookup.specs.Content.{Health, broken, sound}
 use Rattle.mime_tool.specs.Environment.{PlainEnvironment, known_environment}
 use Rattle.mime_tool.specs.Files.{Stored, bytes, unknown, unreadable}

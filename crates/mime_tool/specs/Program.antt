@@ -1,5 +1,5 @@
 -- What the words of a command line lead to.
-use Rattle.std.specs.Prelude.{◌≡◌, ◌≢◌, ℕ, Bool, true, false, List, [], Option, Result}
+use Rattle.std.specs.Prelude.{◌≡◌, ◌≢◌, ℕ, Bool, true, false, List, [], Result}
 use Rattle.clap.specs.Kinds.{IsAmong}
 use Rattle.clap.specs.declared.error.kind.ErrorKind.{ErrorKind}
 use Rattle.clap.specs.declared.error.kind.ErrorKind.TheVariants as kind
@@ -44,11 +44,11 @@ IsAskedRun process writes old new (is_a source kind base) = IsIsA old process.en
 IsAskedRun process writes old new (icon source kind) = IsIcon old process.environment source kind
 IsAskedRun process writes old new (type_of source options subjects) = IsType old process source options subjects
 
--- the names that a request looks up
-abbrev pub asked_names : PlainRequest → List (List ℕ)
-asked_names (plain _ _ subjects) = names_in subjects
-asked_names (type_of _ _ subjects) = names_in subjects
-asked_names _ = []
+-- the names that a request looks up in this process, where this is stored
+abbrev pub asked_names : PlainProcess → (List ℕ → Stored) → PlainRequest → List (List ℕ)
+asked_names process stored (plain _ _ subjects) = names_in subjects stored process.input
+asked_names process stored (type_of _ _ subjects) = names_in subjects stored process.input
+asked_names process stored _ = []
 
 -- the words of a request that are FILEs
 abbrev pub asked_files : PlainRequest → List (List ℕ)
@@ -63,9 +63,9 @@ IsAnswer process writes old new (asks a) = IsAskedRun process writes old new a
 IsAnswer process writes old new (refused kinds) = λ _ run. (k : ErrorKind) × IsAmong k kinds × IsShown k run
 
 -- the names that the words have looked up
-abbrev pub names_of : Meaning → List (List ℕ)
-names_of (asks a) = asked_names a
-names_of (refused kinds) = []
+abbrev pub names_of : PlainProcess → (List ℕ → Stored) → Meaning → List (List ℕ)
+names_of process stored (asks a) = asked_names process stored a
+names_of process stored (refused kinds) = []
 
 -- what a request leaves stored: all that was, but for what `build` replaces
 abbrev pub LeavesAsked : PlainProcess → PlainRequest → (List ℕ → Stored) → (List ℕ → Stored) → Type 0
@@ -81,5 +81,5 @@ Leaves process (refused kinds) old new = new ≡ old
 -- left stored
 pub record Answers (process : PlainProcess) (m : Meaning) (before after : State) (result : Result ℕ Stop) : Type 0 where
   pub same_setting : after.setting ≡ before.setting
-  pub sinks : Ends (IsAnswer process before.setting.writes before.stored after.stored m) (names_of m) before.sinks after.sinks result
+  pub sinks : Ends (IsAnswer process before.setting.writes before.stored after.stored m) (names_of process before.stored m) before.sinks after.sinks result
   pub leaves : Leaves process m before.stored after.stored

@@ -19,9 +19,9 @@ use Rattle.mime_tool.specs.Files.{Stored}
 use Rattle.mime_tool.specs.Line.{IsTypeLine, PlainLookup, asked_order, name_for, with_inode}
 use Rattle.mime_tool.specs.Output.{type_line, written}
 use Rattle.mime_tool.specs.Process.{PlainProcess}
-use Rattle.mime_tool.specs.Run.{IsEach, Run, cannot_read, printed, unanswered}
+use Rattle.mime_tool.specs.Run.{Run, cannot_read, printed, unanswered}
 use Rattle.mime_tool.specs.Sources.{IsSourceCommand}
-use Rattle.mime_tool.specs.Subjects.{contents_in}
+use Rattle.mime_tool.specs.Subjects.{AreRuns}
 
 -- what `--cost` tells of an answer: the records that were visited, the bytes that were compared, and those that were read
 abbrev pub cost_text : Meter → ℕ → List ℕ
@@ -80,13 +80,13 @@ lookup_by path name_only cost output order cache = record {
       (λ run. IsLine cache cost output order file (λ _ _ _. ⊤) run ⊎ CannotBeRead cache output order file run);
 }
 
--- the lines of names by a cache at this path with these options, where this is the content of each
-abbrev pub AreLinesBy : (List ℕ → Stored) → Options → List ℕ → List ℕ → List (List ℕ) → Run → Type 0
-AreLinesBy contents options path cache =
-    IsEach (IsTypeLine (with_inode options.inode
-    (lookup_by path options.name_only options.cost options.output (asked_order options) cache)) contents)
+-- the lines of what is looked up by a cache at this path with these options, where this is stored and standard input gives this
+abbrev pub AreLinesBy : PlainSubjects → (List ℕ → Stored) → Stored → Options → List ℕ → List ℕ → List (List ℕ) → Run → Type 0
+AreLinesBy subjects stored input options path cache =
+    AreRuns subjects stored input (IsTypeLine (with_inode options.inode
+    (lookup_by path options.name_only options.cost options.output (asked_order options) cache)))
 
 -- the run of `type` over what is asked with these options, for what is looked up
 abbrev pub IsType : (List ℕ → Stored) → PlainProcess → PlainSource → Options → PlainSubjects → List (List ℕ) → Run → Type 0
 IsType stored process source options subjects =
-    IsSourceCommand stored process.environment source (AreLinesBy (contents_in subjects stored process.input) options)
+    IsSourceCommand stored process.environment source (AreLinesBy subjects stored process.input options)

@@ -2,7 +2,7 @@
 use Rattle.std.specs.Prelude.{ℕ, List, [], ◌∷◌, ◌++◌, Option, Some, None, codes, decimal, if◌then◌else◌, map}
 use Rattle.std.specs.List.{list_any}
 use Rattle.std.specs.Str.{bytes_eq}
-use Rattle.mime_request.specs.Request.{Meaning, PlainRequest, PlainSubjects, asks, meaning_of, of_files, of_input, plain, refused, type_of}
+use Rattle.mime_request.specs.Request.{Meaning, PlainRequest, PlainSubjects, asks, meaning_of, of_files, of_input, of_list, plain, refused, type_of}
 use Rattle.mime_tool.specs.Program.{asked_files}
 use Rattle.mime_tool.specs.declared.words.RawWord.{RawWord}
 
@@ -24,6 +24,7 @@ names_of raws files = map (name_of raws) files
 abbrev pub named_subjects : List RawWord → PlainSubjects → PlainSubjects
 named_subjects raws (of_files files) = of_files (names_of raws files)
 named_subjects raws (of_input name) = of_input name
+named_subjects raws (of_list path) = of_list path
 
 -- a request, with the names of its FILEs
 abbrev pub with_names : List RawWord → PlainRequest → PlainRequest

@@ -2,9 +2,9 @@
 
 ghost use Rattle.std.specs.Prelude.{◌≡◌, IfOk, Ok, OnOk, Some, is_some, true};
 ghost use Rattle.std.specs.List.{flat_map};
-ghost use Rattle.mime_tool.specs.Desk.{Does, OpensFile, ReadsWhole, ReplacesFile, State, Works};
-ghost use Rattle.mime_tool.specs.Files.{IsBytesOf, IsOfKind, IsTextOf, IsThere};
-ghost use Rattle.mime_tool.specs.Run.{printed, refusal, said};
+ghost use Rattle.mime_tool.specs.Desk.{Does, OpensFile, OpensList, ReadsWhole, ReplacesFile, State, Works};
+ghost use Rattle.mime_tool.specs.Files.{IsBytesOf, IsOfKind, IsTextOf, IsThere, as_list};
+ghost use Rattle.mime_tool.specs.Run.{printed, refusal, said, silent};
 
 use crate::files::{FileFault, Files, Inode};
 use crate::sink::{Sink, put_all};
@@ -63,6 +63,11 @@ pub(crate) trait Desk {
         ensures { Works (OpensFile Self.Reader.remaining Self.Reader.health
             ((state self.old).stored path.now)) (state self.old) (state self.new) result };
 
+    /// Opens a list of names, which may be a pipe.
+    fn open_list(&mut self, path: &str) -> Result<Self::Reader, Stop>
+        ensures { Works (OpensList Self.Reader.remaining Self.Reader.health
+            (as_list ((state self.old).stored path.now)) path.now) (state self.old) (state self.new) result };
+
     /// Makes these bytes the file of `path`, whole, by way of a file of the path with this ending.
     fn replace(&mut self, path: &str, ending: &str, bytes: &[u8]) -> Result<(), Stop>
         ensures { ReplacesFile path.now ending.now bytes.now (state self.old) (state self.new) result };
@@ -71,6 +76,10 @@ pub(crate) trait Desk {
     fn print(&mut self, pieces: &[&[u8]]) -> Result<(), Stop>
         ensures { Works (Does (printed (flat_map (λ piece. piece.now) pieces.now)))
             (state self.old) (state self.new) result };
+
+    /// Hands on what was printed.
+    fn hand_on(&mut self) -> Result<(), Stop>
+        ensures { Works (Does silent) (state self.old) (state self.new) result };
 
     /// Says it on standard error, after what was printed. A fault there is passed over, unless memory ran
     /// out.
@@ -140,6 +149,14 @@ impl<F: Files, O: Sink, E: Sink> Desk for Streams<'_, '_, '_, F, O, E> {
         }
     }
 
+    fn open_list(&mut self, path: &str) -> Result<F::Reader, Stop> {
+        match self.files.open_list(self.alloc, path) {
+            Ok(reader) => Ok(reader),
+            Err(FileFault::Folder | FileFault::Failed) => Err(unreadable(self.alloc, path)),
+            Err(FileFault::OutOfMemory) => Err(Stop::OutOfMemory),
+        }
+    }
+
     fn replace(&mut self, path: &str, ending: &str, bytes: &[u8]) -> Result<(), Stop> {
         match self.files.replace(self.alloc, path, ending, bytes) {
             Ok(()) => Ok(()),
@@ -150,6 +167,11 @@ impl<F: Files, O: Sink, E: Sink> Desk for Streams<'_, '_, '_, F, O, E> {
 
     fn print(&mut self, pieces: &[&[u8]]) -> Result<(), Stop> {
         put_all(self.out, pieces)?;
+        Ok(())
+    }
+
+    fn hand_on(&mut self) -> Result<(), Stop> {
+        self.out.flush()?;
         Ok(())
     }
 

@@ -1,7 +1,7 @@
 //! Where files come from. This project's own.
 
 ghost use Rattle.std.specs.Prelude.{◌≡◌, ◌++◌, ℕ, List, IfOk};
-ghost use Rattle.mime_tool.specs.Files.{IsOfKind, IsOpening, IsThere, Replaces, Stored, Tells, Writing, unforeseen, unknown};
+ghost use Rattle.mime_tool.specs.Files.{IsOfKind, IsOpening, IsThere, Replaces, Stored, Tells, Writing, as_list, unforeseen, unknown};
 ghost use Rattle.mime_tool.specs.declared.files.FileFault.TheVariants.{OutOfMemory};
 
 use mime_base::OutOfMemory;
@@ -102,6 +102,22 @@ pub trait Files {
         ensures stays { tells self.new ≡ tells self.old }
         // What is known of replacing files stays.
         ensures writes { writes self.new ≡ writes self.old };
+
+    /// Opens a list of names, of which nothing is read yet. It may be a pipe, where these files open one.
+    ///
+    /// Errors: as those of [`open`](Files::open).
+    fn open_list(&mut self, alloc: Global, path: &str) -> Result<Self::Reader, FileFault>
+        // The reader gives just what is stored, where it is no pipe; a fault says that it is a folder or that it can't be opened, or
+        // memory ran out.
+        ensures opened { IsOpening Self.Reader.remaining Self.Reader.health
+            (as_list (tells self.old path.now)) result }
+        // What is stored stays.
+        ensures stays { tells self.new ≡ tells self.old }
+        // What is known of replacing files stays.
+        ensures writes { writes self.new ≡ writes self.old }
+    {
+        self.open(alloc, path.as_bytes())
+    }
 
     /// Makes these bytes the file of `path`, whole: they are written to the path with this ending, and
     /// that file is then renamed.

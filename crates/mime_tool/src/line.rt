@@ -1,17 +1,14 @@
 //! The line of a FILE, or why it has none. This project's own.
 
-ghost use Rattle.std.specs.Prelude.{◌≡◌, IfOk, [], ◌∷◌, string_bytes};
+ghost use Rattle.std.specs.Prelude.{◌≡◌, IfOk, [], string_bytes};
 ghost use Rattle.clap.specs.Walk.{texts};
-ghost use Rattle.mime_request.specs.Request.{plain_subjects};
 ghost use Rattle.mime_tool.specs.Desk.{Does, Ends, Works};
 ghost use Rattle.mime_tool.specs.Line.{IsAskedKind, IsTypeLine, base_name, inode_name};
-ghost use Rattle.mime_tool.specs.LineSteps.{ComesTo, LooksUp, LooksUpHere, plain_lookup, run_of, tail_of};
+ghost use Rattle.mime_tool.specs.LineSteps.{ComesTo, LooksUpHere, plain_lookup, run_of, tail_of};
 ghost use Rattle.mime_tool.specs.Output.{answer_end, answer_of, separator, written};
-ghost use Rattle.mime_tool.specs.Process.{given_by};
 ghost use Rattle.mime_tool.specs.Run.{IsEach, printed, refusal, unanswered};
-ghost use Rattle.mime_tool.specs.Subjects.{contents_in, names_in};
 ghost use Rattle.mime_tool.specs.Types.{cost_text};
-ghost use Rattle.mime_tool.specs.Words.{named_subjects, names_of};
+ghost use Rattle.mime_tool.specs.Words.{names_of};
 
 mod escape;
 mod lookup;
@@ -22,11 +19,10 @@ use crate::status::{ANSWERED, NOT_ANSWERED};
 use crate::stop::Stop;
 use crate::words::{RawWord, name_of};
 use escape::escaped;
-use lookup::{find, free};
-pub(crate) use lookup::{Cost, Data, Lookup, asked_order};
+use lookup::free;
+pub(crate) use lookup::{Cost, Data, Lookup, asked_order, find};
 use mime_base::OutOfMemory;
-use mime_lookup::Content;
-use mime_request::{Output, Subjects};
+use mime_request::Output;
 use std::alloc::{AllocError, Global};
 
 /// What a FILE comes to.
@@ -39,56 +35,8 @@ pub(crate) enum Outcome<'a> {
     CannotRead,
 }
 
-/// Prints the lines of what is looked up: of FILEs in order, each by the name of its text, or of standard
-/// input. Gives the status.
-pub(crate) fn print_subjects<D: Desk, I: Content + Drop>(
-    desk: &mut D,
-    lookup: Lookup<'_>,
-    subjects: &Subjects<'_>,
-    raws: &[RawWord<'_>],
-    input: I,
-) -> Result<u8, Stop>
-    // Each line is that of its name and its content: what is stored, or standard input.
-    ensures { Works (Ends (IsEach (IsTypeLine (plain_lookup lookup.entry)
-        (contents_in (named_subjects raws.now (plain_subjects subjects.now)) (D.state desk.old).stored
-        (given_by (I.remaining input) (I.health input)))))
-        (names_in (named_subjects raws.now (plain_subjects subjects.now)))) (D.state desk.old) (D.state desk.new) result }
-{
-    match subjects {
-        Subjects::Files(files) => print_lines(desk, lookup, files.as_slice(), raws),
-        Subjects::Input(name) => print_input(desk, lookup, name.as_bytes(), input),
-    }
-}
-
-// Prints the line of standard input under this name.
-fn print_input<D: Desk, I: Content + Drop>(
-    desk: &mut D,
-    lookup: Lookup<'_>,
-    name: &[u8],
-    input: I,
-) -> Result<u8, Stop>
-    ensures { Works (Ends (IsEach (IsTypeLine (plain_lookup lookup.entry)
-        (λ _. given_by (I.remaining input) (I.health input)))) (name.now ∷ [])) (D.state desk.old) (D.state desk.new) result }
-{
-    let outcome = input_outcome(desk.alloc(), lookup, name, input)?;
-    print_outcome(desk, lookup.output, name, outcome)
-}
-
-// What standard input comes to. It isn't read where its name alone is asked for.
-fn input_outcome<'a, I: Content + Drop>(
-    alloc: Global,
-    lookup: Lookup<'a>,
-    name: &[u8],
-    input: I,
-) -> Result<Outcome<'a>, Stop>
-    ensures { LooksUp (plain_lookup lookup.entry) (given_by (I.remaining input) (I.health input)) name.now result }
-{
-    let content = if lookup.name_only { None } else { Some(input) };
-    find(alloc, lookup, name, content)
-}
-
-// Prints the lines of the files in order.
-fn print_lines<D: Desk>(
+/// Prints the lines of the files in order, each by the name of its text.
+pub(crate) fn print_lines<D: Desk>(
     desk: &mut D,
     lookup: Lookup<'_>,
     files: &[&str],
@@ -104,8 +52,8 @@ fn print_lines<D: Desk>(
     Ok(status)
 }
 
-// Prints the line of one file, or says why there is none.
-fn print_line<D: Desk>(desk: &mut D, lookup: Lookup<'_>, file: &[u8]) -> Result<u8, Stop>
+/// Prints the line of one file, or says why there is none.
+pub(crate) fn print_line<D: Desk>(desk: &mut D, lookup: Lookup<'_>, file: &[u8]) -> Result<u8, Stop>
     ensures { Works (Ends (λ _. IsTypeLine (plain_lookup lookup.entry) (D.state desk.old).stored file.now) [])
         (D.state desk.old) (D.state desk.new) result }
 {
@@ -169,8 +117,8 @@ fn file_outcome<'a, D: Desk>(
     find(desk.alloc(), lookup, file, content)
 }
 
-// Prints what a file came to, with its name as it is to be written.
-fn print_outcome<D: Desk>(
+/// Prints what a file came to, with its name as it is to be written.
+pub(crate) fn print_outcome<D: Desk>(
     desk: &mut D,
     output: Output,
     file: &[u8],
@@ -297,8 +245,8 @@ fn answer_end<'a>(output: Output) -> &'a [u8]
     if output.null { b"\0" } else { b"\n" }
 }
 
-// Says why a file has no line.
-fn refuse<D: Desk>(desk: &mut D, file: &[u8], why: &str) -> Result<u8, Stop>
+/// Says why a file has no line.
+pub(crate) fn refuse<D: Desk>(desk: &mut D, file: &[u8], why: &str) -> Result<u8, Stop>
     ensures { Works (Ends (λ _ run. run ≡ unanswered (refusal file.now why.now)) [])
         (D.state desk.old) (D.state desk.new) result }
 {

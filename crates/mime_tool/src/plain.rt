@@ -3,15 +3,16 @@
 ghost use Rattle.mime_request.specs.Request.{plain_directories, plain_subjects};
 ghost use Rattle.mime_tool.specs.Desk.{Ends, Works};
 ghost use Rattle.mime_tool.specs.Plain.{IsPlain};
-ghost use Rattle.mime_tool.specs.Process.{known_process};
+ghost use Rattle.mime_tool.specs.Process.{given_by, known_process};
 ghost use Rattle.mime_tool.specs.Subjects.{names_in};
 ghost use Rattle.mime_tool.specs.Words.{named_subjects};
 
 use crate::desk::Desk;
 use crate::directories::load;
-use crate::line::{Data, Lookup, asked_order, print_subjects};
+use crate::line::{Data, Lookup, asked_order};
 use crate::process::Process;
 use crate::stop::Stop;
+use crate::subjects::print_subjects;
 use crate::words::RawWord;
 use mime_lookup::Content;
 use mime_request::{Directories, Options, Subjects};
@@ -29,7 +30,8 @@ pub(crate) fn print_types<D: Desk, I: Content + Drop>(
 ) -> Result<u8, Stop>
     ensures { Works (Ends (IsPlain (D.state desk.old).stored (known_process I.remaining I.health process.entry)
         (plain_directories directories.now) options (named_subjects raws.now (plain_subjects subjects.now)))
-        (names_in (named_subjects raws.now (plain_subjects subjects.now)))) (D.state desk.old) (D.state desk.new) result }
+        (names_in (named_subjects raws.now (plain_subjects subjects.now)) (D.state desk.old).stored
+        (given_by (I.remaining process.entry.input) (I.health process.entry.input)))) (D.state desk.old) (D.state desk.new) result }
 {
     let Process { environment, input } = process;
     let database = load(desk, environment, directories)?;

@@ -7,6 +7,6 @@ use crate::environment::Environment;
 pub struct Process<'a, I: Drop> {
     /// The variables that name data directories, or `None` where some variable of them is not text.
     pub environment: Option<Environment<'a>>,
-    /// Standard input, which `--stdin` looks up.
+    /// Standard input, which `--stdin` looks up, and which is the list of `--files0-from -`.
     pub input: I,
 }

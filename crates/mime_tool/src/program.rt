@@ -42,7 +42,7 @@ use std::convert::AsStr;
 /// words are refused the first of them is; the status then is 2.
 ///
 /// Data directories that are not named are the user's, by the environment of `process`; its standard input
-/// is read for `--stdin` alone, and no further than the lookup wants.
+/// is read for `--stdin`, no further than the lookup wants, and for `--files0-from -`.
 ///
 /// The status is 0 where every file was answered, a cache was stored, what was asked of a cache was
 /// printed, or help was shown; 1 where some file can't be opened or read or has a name that is too
@@ -64,7 +64,7 @@ pub fn run<F: Files, I: Content + Drop, O: Sink, E: Sink, S: AsStr>(
     ensures answers { is_some (O.holds out.old) ≡ true
         → Finishes (IsReply (known_process I.remaining I.health process.entry) (F.writes files.old) (F.tells files.old) (F.tells files.new)
         (heard raws.now (map S.text words.now)))
-        (heard_names (heard raws.now (map S.text words.now)))
+        (heard_names (known_process I.remaining I.health process.entry) (F.tells files.old) (heard raws.now (map S.text words.now)))
         (E.capacity err.old) (record { out = O.holds out.old; err = E.holds err.old })
         (record { out = O.holds out.new; err = E.holds err.new }) result }
 
@@ -72,7 +72,7 @@ pub fn run<F: Files, I: Content + Drop, O: Sink, E: Sink, S: AsStr>(
     ensures asked { is_some (O.holds out.old) ≡ true
         → (q : PlainRequest) → heard raws.now (map S.text words.now) ≡ means (asks q)
         → Finishes (IsAskedRun (known_process I.remaining I.health process.entry) (F.writes files.old) (F.tells files.old) (F.tells files.new) q)
-        (asked_names q)
+        (asked_names (known_process I.remaining I.health process.entry) (F.tells files.old) q)
         (E.capacity err.old) (record { out = O.holds out.old; err = E.holds err.old })
         (record { out = O.holds out.new; err = E.holds err.new }) result }
 
@@ -98,7 +98,7 @@ fn finish<F: Files, I: Content + Drop, O: Sink, E: Sink, S: AsStr>(
     ensures answers { is_some (O.holds out.old) ≡ true
         → Finishes (IsReply (known_process I.remaining I.health process.entry) (F.writes files.old) (F.tells files.old) (F.tells files.new)
         (heard raws.now (map S.text words.now)))
-        (heard_names (heard raws.now (map S.text words.now)))
+        (heard_names (known_process I.remaining I.health process.entry) (F.tells files.old) (heard raws.now (map S.text words.now)))
         (E.capacity err.old) (record { out = O.holds out.old; err = E.holds err.old })
         (record { out = O.holds out.new; err = E.holds err.new }) result }
     ensures leaves { LeavesHeard (known_process I.remaining I.health process.entry) (heard raws.now (map S.text words.now)) (F.tells files.old) (F.tells files.new) }
@@ -124,7 +124,7 @@ fn perform<F: Files, I: Content + Drop, O: Sink, E: Sink, S: AsStr>(
     ensures ended { Ends
         (IsReply (known_process I.remaining I.health process.entry) (F.writes files.old) (F.tells files.old) (F.tells files.new)
         (heard raws.now (map S.text words.now)))
-        (heard_names (heard raws.now (map S.text words.now)))
+        (heard_names (known_process I.remaining I.health process.entry) (F.tells files.old) (heard raws.now (map S.text words.now)))
         (record { out = O.holds out.old; err = E.holds err.old })
         (record { out = O.holds out.new; err = E.holds err.new }) result }
     ensures capacity { E.capacity err.new ≡ E.capacity err.old }
@@ -197,7 +197,7 @@ fn file_words<'m, 'a>(subjects: &'m Subjects<'a>) -> &'m [&'a str]
 {
     match subjects {
         Subjects::Files(files) => files.as_slice(),
-        Subjects::Input(_) => &[],
+        Subjects::Input(_) | Subjects::List(_) => &[],
     }
 }
 

@@ -29,8 +29,8 @@ const BLOCK: usize = 65_536;
 ///
 /// Only regular files are opened, and links to them. A folder is [`FileFault::Folder`]; a pipe, a socket
 /// and a device, `/dev/null` too, are [`FileFault::Failed`]: to open one may wait for a writer without
-/// end, or do something. A path that is no UTF-8 is [`FileFault::Failed`] too, since this runtime opens
-/// only text.
+/// end, or do something. Only a list of names may be a pipe. A path that is no UTF-8 is
+/// [`FileFault::Failed`] too, since this runtime opens only text.
 ///
 /// A regular file alone is replaced, and keeps its mode; where a link leads to it, by way of a file beside
 /// it, and the link stays. Where nothing is, a file is made.
@@ -100,6 +100,13 @@ impl<R: rt::Files> Files for SystemFiles<'_, R> {
         }
     }
 
+    fn open_list(&mut self, _alloc: Global, path: &str) -> Result<Untold<R::File>, FileFault> {
+        match open_list(self.0, path) {
+            Ok(file) => Ok(Untold(file)),
+            Err(error) => Err(file_fault(&error)),
+        }
+    }
+
     fn replace(
         &mut self,
         alloc: Global,
@@ -122,6 +129,22 @@ fn open_file<R: rt::Files>(rt: &R, path: &str) -> io::Result<(R::File, u64)> {
     let metadata = file.metadata()?;
     require_regular(&metadata)?;
     Ok((file, metadata.len()))
+}
+
+// The same of a regular file or a pipe, which is waited for.
+fn open_list<R: rt::Files>(rt: &R, path: &str) -> io::Result<R::File> {
+    require_list(&fs::metadata(rt, path)?)?;
+    let file = File::open(rt, path)?;
+    require_list(&file.metadata()?)?;
+    Ok(file)
+}
+
+fn require_list(metadata: &Metadata) -> io::Result<()> {
+    if metadata.file_type().is_fifo() {
+        Ok(())
+    } else {
+        require_regular(metadata)
+    }
 }
 
 fn require_regular(metadata: &Metadata) -> io::Result<()> {

@@ -7,6 +7,7 @@ mod files;
 mod from_texts;
 mod inodes;
 mod input;
+mod listed;
 mod ran;
 mod rows;
 mod sources;

@@ -6,10 +6,10 @@ use Rattle.clap.specs.Kinds.{Kinds}
 use Rattle.clap.specs.Walk.{Row, Rule, Text}
 use Rattle.mime_request.specs.Flags.{agree, agreed, given_options, is_given}
 use Rattle.mime_request.specs.Request.{PlainDirectories, PlainSource, PlainSubjects, apart, asks, directories_by, directories_in, of_files}
-use Rattle.mime_request.specs.Request.{of_input, plain, plain_meaning, right, source_in, subjects_in, type_meaning, type_of}
+use Rattle.mime_request.specs.Request.{of_input, of_list, plain, plain_meaning, right, source_in, subjects_in, type_meaning, type_of}
 use Rattle.mime_request.specs.Spelling.{Flag, Named, by_cache, by_directories, by_nothing, has, named_by, options_by, source_of}
 use Rattle.mime_request.specs.declared.request.Options.{Options}
-use Rattle.mime_request.proofs.WalkLemmas.Flags.{cache_is_no_flag, dirs_is_no_flag, file_is_no_flag, row_on, stdin_is_no_flag}
+use Rattle.mime_request.proofs.WalkLemmas.Flags.{cache_is_no_flag, dirs_is_no_flag, file_is_no_flag, list_is_no_flag, row_on, stdin_is_no_flag}
 use Rattle.mime_request.proofs.WalkLemmas.FlagWords.{source_rows}
 use Rattle.mime_request.proofs.WalkLemmas.Rows.{defaulted, row_at}
 use Rattle.mime_request.proofs.CommandLemmas.Shapes.{plain_shape, type_shape}
@@ -37,10 +37,11 @@ alike : (n c m g i k z b e n' c' m' g' i' k' z' b' e' : Bool) → n ≡ n' → c
 alike n c m g i k z b e _ _ _ _ _ _ _ _ _ p q r s t u v w x = rw (p, q, r, s, t, u, v, w, x) refl
 
 -- a row of another name is not that of what is looked up
-no_subject : (name : Text) → bytes_eq (codes "file") name ≡ false → bytes_eq (codes "stdin") name ≡ false → (subjects : PlainSubjects)
-    → row_at name (subject_row subjects ∷ []) ≡ None
-no_subject name f i (of_files files) = rw f refl
-no_subject name f i (of_input input) = rw i refl
+no_subject : (name : Text) → bytes_eq (codes "file") name ≡ false → bytes_eq (codes "stdin") name ≡ false
+    → bytes_eq (codes "files0-from") name ≡ false → (subjects : PlainSubjects) → row_at name (subject_row subjects ∷ []) ≡ None
+no_subject name f i l (of_files files) = rw f refl
+no_subject name f i l (of_input input) = rw i refl
+no_subject name f i l (of_list list) = rw l refl
 
 -- nor is it the source's
 no_value : (name : Text) → bytes_eq (codes "cache") name ≡ false → bytes_eq (codes "dirs") name ≡ false → (by : Named) (row : Option Row)
@@ -49,9 +50,11 @@ no_value name c d by row = rw (no_source name c d by) refl
 
 -- what is found is what is looked up
 found_subjects : (subjects : PlainSubjects) (rows : List Row) → row_at (codes "stdin") rows ≡ row_at (codes "stdin") (subject_row subjects ∷ [])
+    → row_at (codes "files0-from") rows ≡ row_at (codes "files0-from") (subject_row subjects ∷ [])
     → row_at (codes "file") rows ≡ row_at (codes "file") (subject_row subjects ∷ []) → subjects_in rows ≡ Ok subjects
-found_subjects (of_files files) rows i f = rw (i, f) refl
-found_subjects (of_input name) rows i f = rw (i, f) refl
+found_subjects (of_files files) rows i l f = rw (i, l, f) refl
+found_subjects (of_input name) rows i l f = rw (i, l, f) refl
+found_subjects (of_list list) rows i l f = rw (i, l, f) refl
 
 module _ (by : Named) (before after : List Flag) (subjects : PlainSubjects) where
   module _ (rules : List Rule) where
@@ -62,9 +65,9 @@ module _ (by : Named) (before after : List Flag) (subjects : PlainSubjects) wher
     source_is : defaulted rules (codes "cache") ≡ None → defaulted rules (codes "dirs") ≡ None → source_in end ≡ Some (source_of by)
     source_is c d = by_parts by
         (value_at_end by before after subjects rules (codes "cache") cache_is_no_flag c
-        ∙ ap (option_or (row_at (codes "cache") (source_rows by))) (no_subject (codes "cache") refl refl subjects))
+        ∙ ap (option_or (row_at (codes "cache") (source_rows by))) (no_subject (codes "cache") refl refl refl subjects))
         (value_at_end by before after subjects rules (codes "dirs") dirs_is_no_flag d
-        ∙ ap (option_or (row_at (codes "dirs") (source_rows by))) (no_subject (codes "dirs") refl refl subjects))
+        ∙ ap (option_or (row_at (codes "dirs") (source_rows by))) (no_subject (codes "dirs") refl refl refl subjects))
       where
         by_parts : (by : Named) → row_at (codes "cache") end ≡ option_or (row_at (codes "cache") (source_rows by)) None
             → row_at (codes "dirs") end ≡ option_or (row_at (codes "dirs") (source_rows by)) None → source_in end ≡ Some (source_of by)
@@ -73,17 +76,19 @@ module _ (by : Named) (before after : List Flag) (subjects : PlainSubjects) wher
         by_parts by_nothing c d = rw (c, d) refl
 
     -- so is what is looked up
-    subjects_are : defaulted rules (codes "stdin") ≡ None → defaulted rules (codes "file") ≡ None → subjects_in end ≡ Ok subjects
-    subjects_are i f = found_subjects subjects end
+    subjects_are : defaulted rules (codes "stdin") ≡ None → defaulted rules (codes "files0-from") ≡ None
+        → defaulted rules (codes "file") ≡ None → subjects_in end ≡ Ok subjects
+    subjects_are i l f = found_subjects subjects end
         (value_at_end by before after subjects rules (codes "stdin") stdin_is_no_flag i ∙ no_value (codes "stdin") refl refl by _)
+        (value_at_end by before after subjects rules (codes "files0-from") list_is_no_flag l ∙ no_value (codes "files0-from") refl refl by _)
         (value_at_end by before after subjects rules (codes "file") file_is_no_flag f ∙ no_value (codes "file") refl refl by _)
 
     -- a flag at the end
     flag_is : (name : Text) → bytes_eq (codes "cache") name ≡ false → bytes_eq (codes "dirs") name ≡ false
-        → bytes_eq (codes "file") name ≡ false → bytes_eq (codes "stdin") name ≡ false → row_on (defaulted rules name) ≡ false
-        → is_given name end ≡ has name (before ++ after)
-    flag_is name c d f i off =
-        flag_at_end by before after subjects rules name (no_source name c d by) (no_subject name f i subjects) off
+        → bytes_eq (codes "file") name ≡ false → bytes_eq (codes "stdin") name ≡ false → bytes_eq (codes "files0-from") name ≡ false
+        → row_on (defaulted rules name) ≡ false → is_given name end ≡ has name (before ++ after)
+    flag_is name c d f i l off =
+        flag_at_end by before after subjects rules name (no_source name c d by) (no_subject name f i l subjects) off
 
     -- and all of them
     flags_are : row_on (defaulted rules (codes "inode")) ≡ false → row_on (defaulted rules (codes "cost")) ≡ false
@@ -93,11 +98,11 @@ module _ (by : Named) (before after : List Flag) (subjects : PlainSubjects) wher
         → row_on (defaulted rules (codes "null")) ≡ false → row_on (defaulted rules (codes "brief")) ≡ false
         → row_on (defaulted rules (codes "escape")) ≡ false → given_options end ≡ options_by (before ++ after)
     flags_are i k n c m g z b e = alike _ _ _ _ _ _ _ _ _ _ _ _ _ _ _ _ _ _
-        (flag_is (codes "name-only") refl refl refl refl n) (flag_is (codes "content-only") refl refl refl refl c)
-        (flag_is (codes "magic-first") refl refl refl refl m) (flag_is (codes "all-globs") refl refl refl refl g)
-        (flag_is (codes "inode") refl refl refl refl i) (flag_is (codes "cost") refl refl refl refl k)
-        (flag_is (codes "null") refl refl refl refl z) (flag_is (codes "brief") refl refl refl refl b)
-        (flag_is (codes "escape") refl refl refl refl e)
+        (flag_is (codes "name-only") refl refl refl refl refl n) (flag_is (codes "content-only") refl refl refl refl refl c)
+        (flag_is (codes "magic-first") refl refl refl refl refl m) (flag_is (codes "all-globs") refl refl refl refl refl g)
+        (flag_is (codes "inode") refl refl refl refl refl i) (flag_is (codes "cost") refl refl refl refl refl k)
+        (flag_is (codes "null") refl refl refl refl refl z) (flag_is (codes "brief") refl refl refl refl refl b)
+        (flag_is (codes "escape") refl refl refl refl refl e)
 
     -- what `type` asks for
     type_asks : (so : Option PlainSource) (o : Options) (about : Result PlainSubjects Kinds) (from : PlainSource) (options : Options)
@@ -116,7 +121,7 @@ module _ (by : Named) (before after : List Flag) (subjects : PlainSubjects) wher
       → type_meaning (rows_at_end by before after subjects type_shape.rules)
       ≡ asks (type_of (source_of by) (options_by (before ++ after)) subjects)
   type_means together = type_asks type_shape.rules _ _ _ _ _ (source_is type_shape.rules refl refl)
-      (flags_are type_shape.rules refl refl refl refl refl refl refl refl refl) together (subjects_are type_shape.rules refl refl)
+      (flags_are type_shape.rules refl refl refl refl refl refl refl refl refl) together (subjects_are type_shape.rules refl refl refl)
 
 -- the directories at the end
 pub plain_means : (dirs : Option Text) (before after : List Flag) (subjects : PlainSubjects)
@@ -126,9 +131,9 @@ pub plain_means : (dirs : Option Text) (before after : List Flag) (subjects : Pl
 plain_means dirs before after subjects together =
     plain_asks (named_by dirs) before after subjects plain_shape.rules _ _ _ _ _
     (dirs_are dirs (value_at_end (named_by dirs) before after subjects plain_shape.rules (codes "dirs") dirs_is_no_flag refl
-    ∙ ap (option_or (row_at (codes "dirs") (source_rows (named_by dirs)))) (no_subject (codes "dirs") refl refl subjects)))
+    ∙ ap (option_or (row_at (codes "dirs") (source_rows (named_by dirs)))) (no_subject (codes "dirs") refl refl refl subjects)))
     (flags_are (named_by dirs) before after subjects plain_shape.rules refl refl refl refl refl refl refl refl refl) together
-    (subjects_are (named_by dirs) before after subjects plain_shape.rules refl refl)
+    (subjects_are (named_by dirs) before after subjects plain_shape.rules refl refl refl)
   where
     dirs_are : (dirs : Option Text) → row_at (codes "dirs") (rows_at_end (named_by dirs) before after subjects plain_shape.rules)
         ≡ option_or (row_at (codes "dirs") (source_rows (named_by dirs))) None

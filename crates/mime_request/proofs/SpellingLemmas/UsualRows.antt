@@ -5,11 +5,11 @@ use Rattle.std.specs.Option.{option_or}
 use Rattle.std.specs.Str.{bytes_eq}
 use Rattle.clap.specs.Simple.{filled}
 use Rattle.clap.specs.Walk.{Row, Rule, Text, has_row, reading_by, with_default}
-use Rattle.mime_request.specs.CommandLine.{files_rule, input_rule}
-use Rattle.mime_request.specs.Request.{PlainSubjects, of_files, of_input}
+use Rattle.mime_request.specs.CommandLine.{files_rule, input_rule, list_rule}
+use Rattle.mime_request.specs.Request.{PlainSubjects, of_files, of_input, of_list}
 use Rattle.mime_request.specs.Spelling.{Flag, Named, by_cache, by_directories, by_nothing, flag_name, has}
 use Rattle.mime_request.proofs.WalkLemmas.FlagWords.{source_rows}
-use Rattle.mime_request.proofs.WalkLemmas.Flags.{IsNoFlag, file_is_no_flag, flag_row, has_row-append, has_row-no_flag}
+use Rattle.mime_request.proofs.WalkLemmas.Flags.{IsNoFlag, flag_row, has_row-append, has_row-no_flag}
 use Rattle.mime_request.proofs.WalkLemmas.Flags.{or_false, row_on, row_on-flags}
 use Rattle.mime_request.proofs.WalkLemmas.Rows.{defaulted, finished-at, given_row, or_none, or_or, row_at, row_at-four}
 
@@ -17,6 +17,7 @@ use Rattle.mime_request.proofs.WalkLemmas.Rows.{defaulted, finished-at, given_ro
 abbrev pub subject_row : PlainSubjects → Row
 subject_row (of_files files) = given_row (codes "file") (reading_by (filled files_rule)) files
 subject_row (of_input name) = given_row (codes "stdin") (reading_by (filled input_rule)) (name ∷ [])
+subject_row (of_list list) = given_row (codes "files0-from") (reading_by (filled list_rule)) (list ∷ [])
 
 -- the rows before it
 abbrev pub rows_before : Named → List Flag → List Flag → List Row

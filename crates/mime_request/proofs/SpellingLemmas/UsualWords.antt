@@ -5,16 +5,16 @@ use Rattle.std.specs.List.{list_all}
 use Rattle.std.specs.Str.{bytes_eq}
 use Rattle.clap.specs.Simple.{Shape}
 use Rattle.clap.specs.Walk.{Row, Text, nothing_held, walk_from}
-use Rattle.mime_request.specs.Request.{PlainSubjects, asks, directories_by, meaning_of, of_files, of_input, plain, subcommand_meaning, type_of}
+use Rattle.mime_request.specs.Request.{PlainSubjects, asks, directories_by, meaning_of, of_files, of_input, of_list, plain, subcommand_meaning, type_of}
 use Rattle.mime_request.specs.Spelling.{AreUsual, Flag, Named, flag_name, flag_word, has, is_option, named_by, options_by, plain_words}
 use Rattle.mime_request.specs.Spelling.{are_plain, source_of, source_word, source_words, subject_words, type_words}
 use Rattle.mime_request.proofs.WalkLemmas.CommandWords.{meaning_of-met}
 use Rattle.mime_request.proofs.WalkLemmas.FileWords.{over_files}
 use Rattle.mime_request.proofs.WalkLemmas.FlagWords.{LeadsFrom, TakesSource, new_after, over_flags, over_source, plain_dirs, plain_user, type_source}
 use Rattle.mime_request.proofs.WalkLemmas.Flags.{are_new, distinct_parts, none_of_none}
-use Rattle.mime_request.proofs.WalkLemmas.PlainWords.{neither, none_of, plain_word}
+use Rattle.mime_request.proofs.WalkLemmas.PlainWords.{list_word, neither, none_of, plain_word}
 use Rattle.mime_request.proofs.WalkLemmas.Rows.{neither_of}
-use Rattle.mime_request.proofs.WalkLemmas.SettledWords.{first_file, nothing_pending, option_stdin, takes}
+use Rattle.mime_request.proofs.WalkLemmas.SettledWords.{first_file, nothing_pending, option_list, option_stdin, takes}
 use Rattle.mime_request.proofs.CommandLemmas.Shapes.{TakesFiles, cache_met, plain_met, plain_shape, plain_takes, type_over, type_shape, type_takes}
 use Rattle.mime_request.proofs.SpellingLemmas.UsualEnds.{ends_well, in_subjects, rows_end}
 use Rattle.mime_request.proofs.SpellingLemmas.UsualMeanings.{plain_means, type_means}
@@ -48,6 +48,12 @@ over_subjects _ plain_takes settled (of_input name) h = λ rows pending settles.
 over_subjects _ type_takes settled (of_input name) h = λ rows pending settles.
     goes _ _ _ _ _ (option_stdin rows settled pending _ type_takes settles)
     (goes _ _ _ _ _ (value_taken _ _ _ settled name refl refl (plain_word name (none_of (is_option name) h))) (ends _))
+over_subjects _ plain_takes settled (of_list list) h = λ rows pending settles.
+    goes _ _ _ _ _ (option_list rows settled pending _ plain_takes settles)
+    (goes _ _ _ _ _ (value_taken _ _ _ settled list refl refl (list_word list h)) (ends _))
+over_subjects _ type_takes settled (of_list list) h = λ rows pending settles.
+    goes _ _ _ _ _ (option_list rows settled pending _ type_takes settles)
+    (goes _ _ _ _ _ (value_taken _ _ _ settled list refl refl (list_word list h)) (ends _))
 
 -- over all the words after the command
 usual_walk : (s : Shape) (t : TakesFiles s) (by : Named) → TakesSource s t by → (before after : List Flag) (subjects : PlainSubjects)
@@ -62,7 +68,7 @@ usual_walk s t by taken before after subjects first last usual =
     (over_subjects s t (rows_before by before after) subjects usual.plain)))
     [] None (nothing_pending s [])
 
--- what `type [FLAG...] [-c CACHE | -d DIRS] [FLAG...] {FILE... | --stdin NAME}` means
+-- what `type [FLAG...] [-c CACHE | -d DIRS] [FLAG...] {FILE... | --files0-from LIST | --stdin NAME}` means
 pub meaning_of-usual_type : (by : Named) (before after : List Flag) (subjects : PlainSubjects)
     → AreUsual (source_word by) (before ++ after) subjects
     → meaning_of (type_words by before after subjects) ≡ asks (type_of (source_of by) (options_by (before ++ after)) subjects)
@@ -78,7 +84,7 @@ source_of_plain : (dirs : Option Text) → TakesSource plain_shape plain_takes (
 source_of_plain None = plain_user
 source_of_plain (Some dirs) = plain_dirs dirs
 
--- what `plain [FLAG...] [-d DIRS] [FLAG...] {FILE... | --stdin NAME}` means
+-- what `plain [FLAG...] [-d DIRS] [FLAG...] {FILE... | --files0-from LIST | --stdin NAME}` means
 pub meaning_of-usual_plain : (dirs : Option Text) (before after : List Flag) (subjects : PlainSubjects)
     → AreUsual (source_word (named_by dirs)) (before ++ after) subjects → has (codes "cost") (before ++ after) ≡ false
     → meaning_of (plain_words dirs before after subjects) ≡ asks (plain (directories_by dirs) (options_by (before ++ after)) subjects)

@@ -67,6 +67,13 @@ stdin_is_no_flag = record {
   differs = by_cases (λ t. bytes_eq (codes "stdin") t ≡ false) refl refl refl refl refl refl refl refl refl;
 }
 
+-- none is called `files0-from`
+pub list_is_no_flag : IsNoFlag (codes "files0-from")
+list_is_no_flag = record {
+  flag_differs = by_cases (λ t. bytes_eq t (codes "files0-from") ≡ false) refl refl refl refl refl refl refl refl refl;
+  differs = by_cases (λ t. bytes_eq (codes "files0-from") t ≡ false) refl refl refl refl refl refl refl refl refl;
+}
+
 -- the rows of flags have just their names
 pub has_row-flags : (name : Text) (flags : List Flag) → has_row name (map flag_row flags) ≡ has name flags
 has_row-flags name [] = refl

@@ -86,6 +86,13 @@ module _ (rows settled : List Row) (pending : Option (Text × List Text)) where
   option_stdin _ plain_takes h = record { no_fault = rw (h.no_fault) refl; moves = rw (h.rows_are) refl }
   option_stdin _ type_takes h = record { no_fault = rw (h.no_fault) refl; moves = rw (h.rows_are) refl }
 
+  -- `--files0-from` waits for LIST
+  pub option_list : (s : Shape) → TakesFiles s → Settles s rows pending settled
+      → Steps s [] (between rows pending idle) (codes "--files0-from") (before_value (codes "files0-from") settled)
+  unfolding clap_on_literals
+  option_list _ plain_takes h = record { no_fault = rw (h.no_fault) refl; moves = rw (h.rows_are) refl }
+  option_list _ type_takes h = record { no_fault = rw (h.no_fault) refl; moves = rw (h.rows_are) refl }
+
   -- the first FILE
   pub first_file : (s : Shape) → TakesFiles s → (file : Text) → Settles s rows pending settled → IsPlainWord file
       → Steps s [] (between rows pending idle) file (in_files settled (file ∷ []))

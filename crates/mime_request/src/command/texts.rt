@@ -59,20 +59,22 @@ pub(crate) const PLAIN: HelpTexts<'static> = HelpTexts {
     usage: "\
 mimelook plain [-d DIRS] [--name-only | --content-only]
                       [--magic-first | --all-globs] [--inode] [-0] [-b]
-                      [--escape] {FILE... | --stdin NAME}",
+                      [--escape] {FILE... | --files0-from LIST | --stdin NAME}",
     after_help: "\
 Messages go to standard error. The files are DIR/mime/globs2, magic, aliases,
 subclasses, icons and generic-icons; a missing one counts as empty. Without -d
 the directories are the user's (see mimelook --help).
 A FILE that is a pipe can't be opened, nor one whose name is not UTF-8, which
-has a type by --name-only; a pipe has one by --inode.
+has a type by --name-only; a pipe has one by --inode. LIST may be a pipe; its
+names are looked up as they come.
 
 Exit status:
   0  every FILE was answered; or help or the version was printed
-  1  some FILE can't be opened or read, or its name is too long (above 4096
-     bytes); the others were answered
+  1  some FILE can't be opened or read, its name is too long (above 4096 bytes),
+     or a name of LIST is empty; the others were answered
   2  the command line is wrong, or a word but a FILE is not UTF-8
-  3  the data can't be read or is refused, or the output can't be written
+  3  the data or LIST can't be read, the data is refused, or the output can't
+     be written
   4  out of memory
 
 Example:
@@ -148,20 +150,21 @@ pub(crate) const TYPE: HelpTexts<'static> = HelpTexts {
     usage: "\
 mimelook type [-c CACHE | -d DIRS] [--name-only | --content-only]
                      [--magic-first | --all-globs] [--inode] [--cost] [-0] [-b]
-                     [--escape] {FILE... | --stdin NAME}",
+                     [--escape] {FILE... | --files0-from LIST | --stdin NAME}",
     after_help: "\
 Messages go to standard error. With -d the cache is made of DIRS, as build makes
 it; without -c and -d, of the user's data directories (see mimelook --help).
 A FILE that is a pipe can't be opened, nor one whose name is not UTF-8, which
 has a type by --name-only; a pipe has one by --inode. A CACHE that is a pipe
-can't be read.
+can't be read. LIST may be one; its names are looked up as they come.
 
 Exit status:
   0  every FILE was answered; or help or the version was printed
-  1  some FILE can't be opened or read, or its name is too long (above 4096
-     bytes); the others were answered
+  1  some FILE can't be opened or read, its name is too long (above 4096 bytes),
+     or a name of LIST is empty; the others were answered
   2  the command line is wrong, or a word but a FILE is not UTF-8
-  3  the data can't be read or is refused, or the output can't be written
+  3  the data or LIST can't be read, the data is refused, or the output can't
+     be written
   4  out of memory
 
 Example:
@@ -169,10 +172,14 @@ Example:
   notes.txt: text/plain",
 };
 
+pub(crate) const CACHE: &str = "\
+The cache to read, such as
+/usr/share/mime/mime.cache";
+
 pub(crate) const DIRS: &str = "\
 Data directories, most preferred first, with colons
-between them, such as /usr/local/share:/usr/share; an
-empty part is skipped";
+between them, such as /usr/local/share:/usr/share;
+an empty part is skipped";
 
 pub(crate) const OUTPUT: &str = "\
 The cache to write; it is written as FILE.new and then
@@ -186,15 +193,19 @@ pub(crate) const FILES: &str = "\
 The files to tell the types of; put -- before one that begins
 with -";
 
+pub(crate) const FILES_LIST: &str = "\
+Take the FILEs from the file LIST, or from standard
+input where LIST is -: each ends with a zero byte";
+
 pub(crate) const INPUT: &str = "\
-Look up standard input, by the name NAME, in place of
-FILEs; no more of it is read than is needed";
+Look up standard input, by the name NAME, in place
+of FILEs; no more of it is read than is needed";
 
 pub(crate) const COST: &str = "\
-Print behind each TYPE what the answer cost: nodes=N,
-records of the cache that were visited; bytes=B, bytes
-that were read or compared; read=R, bytes of FILE that
-were read";
+Print behind each TYPE what the answer cost:
+nodes=N, records of the cache that were visited;
+bytes=B, bytes that were read or compared; read=R,
+bytes of FILE that were read";
 
 pub(crate) const NAME_ONLY: &str = "\
 Go by the names alone: no FILE is opened";
@@ -208,8 +219,9 @@ Let content of high priority (80 or more) decide
 before names";
 
 pub(crate) const ALL_GLOBS: &str = "\
-Let content choose among all patterns that match, not
-among the preferred ones alone; not with --magic-first";
+Let content choose among all patterns that match,
+not among the preferred ones alone; not with
+--magic-first";
 
 pub(crate) const INODE: &str = "\
 Print inode/directory, chardevice, blockdevice, fifo

@@ -45,26 +45,29 @@ pub(super) fn given<'a>(
     Ok(value)
 }
 
-// The FILEs, or standard input by its NAME.
+// The FILEs, standard input by its NAME, or the LIST of FILEs.
 pub(super) fn subjects_of<'a>(
     alloc: Global,
     matches: &ArgMatches<'a>,
 ) -> Result<Subjects<'a>, Error>
-    // They are all FILEs that were found, in their order, or the NAME.
+    // They are all FILEs that were found, in their order, or the NAME, or the LIST.
     ensures found { IfOk result (λ s. subjects_in (rows_of (found_of matches.now)) ≡ Ok (plain_subjects s)) }
 
-    // An error says that both are given or neither, or that memory ran out.
+    // An error says that two of these are given or none, or that memory ran out.
     ensures wrong { IfErr result (HasKind (wrong (subjects_in (rows_of (found_of matches.now))))) }
 {
-    match (value_of(matches, "stdin"), values_of(matches, "file")) {
-        (None, Some(files)) => Ok(Subjects::Files(files.to_vec(alloc)?)),
-        (Some(name), None) => Ok(Subjects::Input(name)),
-        (None, None) => {
-            let message = "give a FILE or --stdin NAME";
+    let input = value_of(matches, "stdin");
+    let list = value_of(matches, "files0-from");
+    match (input, list, values_of(matches, "file")) {
+        (None, None, Some(files)) => Ok(Subjects::Files(files.to_vec(alloc)?)),
+        (Some(name), None, None) => Ok(Subjects::Input(name)),
+        (None, Some(list), None) => Ok(Subjects::List(list)),
+        (None, None, None) => {
+            let message = "give a FILE, --files0-from LIST or --stdin NAME";
             Err(refusal(alloc, ErrorKind::MissingRequiredArgument, message))
         }
-        (Some(_), Some(_)) => {
-            let message = "give FILEs or --stdin NAME, not both";
+        (Some(_), Some(_), _) | (Some(_), None, Some(_)) | (None, Some(_), Some(_)) => {
+            let message = "give one of FILEs, --files0-from LIST and --stdin NAME";
             Err(refusal(alloc, ErrorKind::ArgumentConflict, message))
         }
     }

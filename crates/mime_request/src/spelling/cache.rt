@@ -30,8 +30,8 @@ pub fn usual_spelling_of_icon()
 {}
 
 /// `type [-c CACHE | -d DIRS] FILE...`, with flags before the source or after it, asks for these
-/// files, from this cache, with just these flags; and with `--stdin NAME` in place of FILEs for standard
-/// input under this name.
+/// files, from this cache, with just these flags; with `--stdin NAME` in place of FILEs for standard
+/// input under this name; and with `--files0-from LIST` for the files of this list.
 pub fn usual_spelling_of_type()
     // For any flags, and any words that don't begin with a hyphen.
     ensures { (by : Named) (before after : List Flag) (subjects : PlainSubjects)

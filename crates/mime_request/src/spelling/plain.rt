@@ -6,8 +6,8 @@ ghost use Rattle.mime_request.specs.Request.{PlainSubjects, asks, directories_by
 ghost use Rattle.mime_request.specs.Spelling.{AreUsual, Flag, has, named_by, options_by, plain_words, source_word};
 
 /// `plain [-d DIRS] FILE...`, with flags before DIRS or after it, asks for these files, from the
-/// directories of DIRS in their order or from the user's, with just these flags; and with `--stdin NAME` in
-/// place of FILEs for standard input under this name.
+/// directories of DIRS in their order or from the user's, with just these flags; with `--stdin NAME` in
+/// place of FILEs for standard input under this name; and with `--files0-from LIST` for the files of this list.
 pub fn usual_spelling_of_plain()
     // For any flags but `--cost`, and any words that don't begin with a hyphen.
     ensures { (dirs : Option Text) (before after : List Flag) (subjects : PlainSubjects)

@@ -1,18 +1,20 @@
 -- From what a file comes to, to its line.
-use Rattle.std.proofs.Common.{◌≡◌, ◌∙◌, ℕ, Bool, Bor, true, false, List, [], ◌∷◌, ap, inl, None, Ok, Option, Err, Result, Some, refl, subst, sym}
+use Rattle.std.proofs.Common.{◌≡◌, ◌∙◌, ℕ, Bool, true, false, List, [], ◌∷◌, ap, inl, None, Ok, Option, Err, Result, Some, refl, subst, sym}
 use Rattle.mime_base.specs.Database.{PlainDatabase}
+use Rattle.mime_request.specs.Request.{PlainSubjects, of_files, of_input, of_list}
 use Rattle.mime_request.specs.declared.request.Options.{Options}
 use Rattle.mime_request.specs.declared.request.Output.{Output}
 use Rattle.mime_tool.specs.Desk.{Ends}
 use Rattle.mime_lookup.specs.Content.{Health, broken, sound, untold}
 use Rattle.mime_tool.specs.Files.{Stored}
 use Rattle.mime_tool.specs.Finish.{Sinks}
-use Rattle.mime_tool.specs.Line.{IsAskedKind, IsLineOf, IsTypeLine, PlainLookup}
+use Rattle.mime_tool.specs.Line.{IsAskedKind, IsLineOf, IsTypeLine, PlainLookup, asked_order, with_inode}
 use Rattle.mime_tool.specs.LineSteps.{ComesTo, GivesLine, LooksUp, lookup_in, plain_lookup, run_of}
 use Rattle.mime_tool.specs.Output.{written}
-use Rattle.mime_tool.specs.Plain.{AreTypeLines}
+use Rattle.mime_tool.specs.Plain.{AreTypeLines, lookup_over}
 use Rattle.mime_tool.specs.Process.{given_by}
 use Rattle.mime_tool.specs.Run.{IsEach, Run, silent}
+use Rattle.mime_tool.specs.Subjects.{list_at}
 use Rattle.mime_tool.specs.declared.line.Outcome.{Outcome}
 use Rattle.mime_tool.specs.declared.line.lookup.Data.{Data}
 use Rattle.mime_tool.specs.declared.line.lookup.Data.TheVariants as data_of
@@ -20,12 +22,17 @@ use Rattle.mime_tool.specs.declared.line.lookup.Lookup.{Lookup}
 use Rattle.mime_tool.specs.declared.stop.Stop.{Stop}
 use Rattle.mime_tool.specs.declared.stop.Stop.TheVariants as stop
 use Rattle.mime_tool.proofs.RunLemmas.Ends.{ends_one, writes_same}
+use Rattle.mime_tool.proofs.RunLemmas.ListedRuns.{none_listed}
 use Rattle.mime_tool.proofs.RunLemmas.Programs.{ends_weaker}
 
--- no file has no line
-pub no_lines : (stored : List ℕ → Stored) (options : Options) (database : PlainDatabase)
-    → (run : Run) × AreTypeLines stored options database [] run
-no_lines stored options database = (silent, refl)
+-- where nothing is looked up there is a run
+pub no_lines : (subjects : PlainSubjects) (stored : List ℕ → Stored) (input : Stored) (options : Options) (database : PlainDatabase)
+    → (run : Run) × AreTypeLines subjects stored input options database [] run
+no_lines (of_files files) stored input options database = (silent, refl)
+no_lines (of_input name) stored input options database = (silent, refl)
+no_lines (of_list path) stored input options database =
+    let lookup = with_inode options.inode (lookup_over options.name_only options.output (asked_order options) database) in
+    none_listed (IsTypeLine lookup stored) path (list_at path stored input) 1
 
 -- it came to nothing: its data are refused, or memory ran out
 pub comes_undone : (lookup : PlainLookup) (stored : List ℕ → Stored) (file : List ℕ) (a b : Sinks) (s : Stop)

@@ -12,7 +12,7 @@ use Rattle.mime_tool.specs.Desk.{Ends, State, Works}
 use Rattle.mime_tool.specs.Files.{Stored, Writing}
 use Rattle.mime_tool.specs.Finish.{Sinks}
 use Rattle.mime_tool.specs.Process.{PlainProcess}
-use Rattle.mime_tool.specs.Program.{Answers, IsAnswer, IsAskedRun, IsShown, Leaves, is_help, names_of, shown}
+use Rattle.mime_tool.specs.Program.{Answers, IsAnswer, IsShown, Leaves, is_help, names_of, shown}
 use Rattle.mime_tool.specs.Run.{Run, stopped}
 use Rattle.mime_tool.specs.Stop.{message}
 use Rattle.mime_tool.specs.declared.stop.Stop.{Stop}
@@ -39,7 +39,7 @@ answers_asked v (refused kinds) q a b r means p = absurd means
 -- an error that the words mean is shown
 pub error_shown : (v : PlainProcess) (writes : List ℕ → List ℕ → Writing) (stored after : List ℕ → Stored) (m : Meaning) (e : Error) (a b : Sinks)
     (r : Result ℕ Stop) → Means m (Err e)
-    → Ends (λ _. IsShown (kind_of e)) [] a b r → Ends (IsAnswer v writes stored after m) (names_of m) a b r
+    → Ends (λ _. IsShown (kind_of e)) [] a b r → Ends (IsAnswer v writes stored after m) (names_of v stored m) a b r
 error_shown v writes stored after (asks x) e a b (Ok status) means p = absurd (p.1.0 means)
 error_shown v writes stored after (asks x) e a b (Err stop.OutOfMemory) means (inl p) = inl p
 error_shown v writes stored after (asks x) e a b (Err stop.OutOfMemory) means (inr p) = absurd (p.1.is_run.0 means)

@@ -3,7 +3,7 @@ use Rattle.std.proofs.Common.{◌≡◌, ◌∙◌, ℕ, List, [], ◌∷◌, Op
 use Rattle.std.proofs.lemmas.List.{map-id}
 use Rattle.clap.specs.Values.{kind_of}
 use Rattle.clap.specs.declared.error.Error.{Error}
-use Rattle.mime_request.specs.Request.{PlainRequest, PlainSubjects, Meaning, Means, asks, build, icon, is_a, list, of_files, of_input, plain}
+use Rattle.mime_request.specs.Request.{PlainRequest, PlainSubjects, Meaning, Means, asks, build, icon, is_a, list, of_files, of_input, of_list, plain}
 use Rattle.mime_request.specs.Request.{plain_request, refused, type_of}
 use Rattle.mime_request.specs.declared.request.Request.{Request}
 use Rattle.mime_tool.specs.Desk.{Ends, State, Works}
@@ -12,7 +12,7 @@ use Rattle.mime_tool.specs.Finish.{Finishes, Sinks}
 use Rattle.mime_tool.specs.Heard.{IsRefusedRun, IsReply, LeavesHeard, Replies, heard_names}
 use Rattle.mime_tool.specs.Process.{PlainProcess}
 use Rattle.mime_tool.specs.Program.{Answers, IsAskedRun, asked_files, asked_names}
-use Rattle.mime_tool.specs.Run.{Run, mistaken}
+use Rattle.mime_tool.specs.Run.{mistaken}
 use Rattle.mime_tool.specs.Words.{Heard, heard_in, means, misplaced, no_text, named_subjects, not_text, placed, with_names}
 use Rattle.mime_tool.specs.declared.stop.Stop.{Stop}
 use Rattle.mime_tool.specs.declared.stop.Stop.TheVariants as stop
@@ -23,6 +23,7 @@ use Rattle.mime_tool.proofs.RunLemmas.Programs.{ends_weaker, error_shown, leaves
 no_names : (subjects : PlainSubjects) → named_subjects [] subjects ≡ subjects
 no_names (of_files files) = ap of_files (map-id files)
 no_names (of_input name) = refl
+no_names (of_list path) = refl
 
 -- so a request stays
 with_no_names : (q : PlainRequest) → with_names [] q ≡ q
@@ -62,7 +63,7 @@ replies_asked v raws (refused kinds) q a b r meant p = absurd meant
 -- an error of the words is said, or which of them is no text
 refused_said : (v : PlainProcess) (writes : List ℕ → List ℕ → Writing) (stored after : List ℕ → Stored) (raws : List RawWord) (m : Meaning)
     (e : Error) (a b : Sinks) (r : Result ℕ Stop) → Means m (Err e) → Ends (λ _. IsRefusedRun raws (kind_of e)) [] a b r
-    → Ends (IsReply v writes stored after (heard_in raws m)) (heard_names (heard_in raws m)) a b r
+    → Ends (IsReply v writes stored after (heard_in raws m)) (heard_names v stored (heard_in raws m)) a b r
 refused_said v writes stored after [] m e a b r meant p = error_shown v writes stored after m e a b r meant p
 refused_said v writes stored after (raw ∷ raws) (asks x) e a b (Ok status) meant p = absurd (p.1.0 meant)
 refused_said v writes stored after (raw ∷ raws) (asks x) e a b (Err stop.OutOfMemory) meant (inl p) = inl p
@@ -98,7 +99,7 @@ replies_refused v raws m e a b r meant p = record {
 -- the run of words that ask for this
 pub asked_finishes : (v : PlainProcess) (writes : List ℕ → List ℕ → Writing) (stored after : List ℕ → Stored) (h : Heard)
     (capacity : Option ℕ) (a b : Sinks) (status : ℕ) (q : PlainRequest) → h ≡ means (asks q)
-    → Finishes (IsReply v writes stored after h) (heard_names h) capacity a b status
-    → Finishes (IsAskedRun v writes stored after q) (asked_names q) capacity a b status
+    → Finishes (IsReply v writes stored after h) (heard_names v stored h) capacity a b status
+    → Finishes (IsAskedRun v writes stored after q) (asked_names v stored q) capacity a b status
 asked_finishes v writes stored after h capacity a b status q is p =
-    subst (λ (x : Heard). Finishes (IsReply v writes stored after x) (heard_names x) capacity a b status) is p
+    subst (λ (x : Heard). Finishes (IsReply v writes stored after x) (heard_names v stored x) capacity a b status) is p

@@ -64,7 +64,7 @@ pub(crate) fn asked_order(options: Options) -> Order
 }
 
 /// What a file comes to by its name and its content, which is read as far as it is needed.
-pub(super) fn find<'a, R: Content + Drop>(
+pub(crate) fn find<'a, R: Content + Drop>(
     alloc: Global,
     lookup: Lookup<'a>,
     file: &[u8],

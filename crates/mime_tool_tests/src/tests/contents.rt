@@ -135,7 +135,10 @@ static IN_ORDER: [Row; 6] = [
         name: "content among all globs",
         words: &["plain", "-d", "/s", "--all-globs", "x.a", "y.a", "z.a"],
         entries: &[
-            ("/s/mime/globs2", Entry::Bytes(b"50:t/a:*.a\n40:image/x-sig:*.a\n")),
+            (
+                "/s/mime/globs2",
+                Entry::Bytes(b"50:t/a:*.a\n40:image/x-sig:*.a\n"),
+            ),
             ("/s/mime/magic", Entry::Bytes(LOW)),
             ("x.a", Entry::Bytes(SIGNED)),
             ("y.a", Entry::Bytes(HELLO)),

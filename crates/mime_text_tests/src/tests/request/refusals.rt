@@ -208,7 +208,7 @@ error: unexpected argument '--names' found
 
 Usage: mimelook plain [-d DIRS] [--name-only | --content-only]
                       [--magic-first | --all-globs] [--inode] [-0] [-b]
-                      [--escape] {FILE... | --stdin NAME}
+                      [--escape] {FILE... | --files0-from LIST | --stdin NAME}
 
 For more information, try '--help'.
 ";

@@ -8,7 +8,7 @@ use Rattle.mime_tool.specs.Plain.{AreTypeLines}
 use Rattle.mime_tool.proofs.RunLemmas.Commands.{command_over, command_unloaded}
 use Rattle.mime_tool.proofs.AnswerLemmas.Lines.{no_lines}
 use Rattle.mime_tool.specs.Process.{given_by}
-use Rattle.mime_tool.specs.Subjects.{contents_in, names_in}
+use Rattle.mime_tool.specs.Subjects.{names_in}
 use Rattle.mime_tool.specs.Words.{named_subjects}
 use Rattle.mime_tool.proofs.plain.print_types.Goals as goal
 
@@ -19,13 +19,13 @@ returns-in_err-database g c =
     let stored = (g.D.Desk.state c.args.desk.now).stored in
     let input = c.args.process.input in
     let subjects = named_subjects c.args.raws.now (plain_subjects c.args.subjects.now) in
-    let contents = contents_in subjects stored (given_by (g.I.Read.remaining input) (g.I.Content.health input)) in
+    let given = given_by (g.I.Read.remaining input) (g.I.Content.health input) in
     rw (e.1, e.2) (record {
       same_files = load.same_files;
       same_setting = load.same_setting;
       sinks = command_unloaded Database plain_database stored (known_environment c.args.process.environment)
-          (plain_directories c.args.directories.now) (AreTypeLines contents c.args.options) (names_in subjects) _ _ _
-          (no_lines contents c.args.options) load.sinks;
+          (plain_directories c.args.directories.now) (AreTypeLines subjects stored given c.args.options) (names_in subjects stored given) _ _ _
+          (no_lines subjects stored given c.args.options) load.sinks;
     })
 
 pub returns : goal.returns
@@ -36,12 +36,12 @@ returns g c =
     let stored = (g.D.Desk.state c.args.desk.now).stored in
     let input = c.args.process.input in
     let subjects = named_subjects c.args.raws.now (plain_subjects c.args.subjects.now) in
-    let contents = contents_in subjects stored (given_by (g.I.Read.remaining input) (g.I.Content.health input)) in
+    let given = given_by (g.I.Read.remaining input) (g.I.Content.health input) in
     record {
       same_files = lines.same_files ∙ load.same_files;
       same_setting = lines.same_setting ∙ load.same_setting;
       sinks = command_over Database plain_database stored (known_environment c.args.process.environment)
-          (plain_directories c.args.directories.now) (AreTypeLines contents c.args.options) (names_in subjects)
-          c.in_ok-database.database _ _ _ _ (no_lines contents c.args.options (plain_database c.in_ok-database.database)) load.sinks
+          (plain_directories c.args.directories.now) (AreTypeLines subjects stored given c.args.options) (names_in subjects stored given)
+          c.in_ok-database.database _ _ _ _ (no_lines subjects stored given c.args.options (plain_database c.in_ok-database.database)) load.sinks
           here.sinks;
     }

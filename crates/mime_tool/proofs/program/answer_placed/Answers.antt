@@ -1,4 +1,4 @@
-use Rattle.std.proofs.Common.{◌∙◌, sym}
+use Rattle.std.proofs.Common.{sym}
 use Rattle.mime_request.specs.Request.{plain_request}
 use Rattle.mime_tool.proofs.RunLemmas.Replies.{replies_named, replies_no_text}
 use Rattle.mime_tool.proofs.program.answer_placed.Goals as goal

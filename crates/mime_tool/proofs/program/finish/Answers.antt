@@ -18,8 +18,8 @@ returns-in-Ok-clause-answers g c = λ known.
     let b : Sinks = record { out = g.O.Sink.holds c.perform-ended.new.out; err = g.E.Sink.holds c.perform-ended.new.err } in
     let ended = c.perform-ended.result in
     let flushed = c.in-Ok.ensures.flushed
-    (ends_known (IsReply v writes stored after m) (heard_names m) a b ended c.perform-ended.ensures.ended known) in
-    finishes_done (IsReply v writes stored after m) (heard_names m) (g.E.Sink.capacity c.args.err.now) a b (g.O.Sink.holds c.flush_after.new.out)
+    (ends_known (IsReply v writes stored after m) (heard_names v stored m) a b ended c.perform-ended.ensures.ended known) in
+    finishes_done (IsReply v writes stored after m) (heard_names v stored m) (g.E.Sink.capacity c.args.err.now) a b (g.O.Sink.holds c.flush_after.new.out)
     (g.O.Sink.flushed c.flush_after.new.out) ended c.in-Ok.status c.perform-ended.ensures.ended c.in-Ok.ensures.kept flushed
 
 pub returns-in-Ok-clause-flushed : goal.returns-in-Ok-clause-flushed
@@ -33,7 +33,7 @@ returns-in-Ok-clause-flushed g c = λ known.
     let b : Sinks = record { out = g.O.Sink.holds c.perform-ended.new.out; err = g.E.Sink.holds c.perform-ended.new.err } in
     let ended = c.perform-ended.result in
     let flushed = c.in-Ok.ensures.flushed
-    (ends_known (IsReply v writes stored after m) (heard_names m) a b ended c.perform-ended.ensures.ended known) in
+    (ends_known (IsReply v writes stored after m) (heard_names v stored m) a b ended c.perform-ended.ensures.ended known) in
     handed_on (g.O.Sink.flushed c.flush_after.new.out) ended c.in-Ok.status c.in-Ok.status flushed
 
 pub returns-in-Err-clause-answers : goal.returns-in-Err-clause-answers
@@ -48,11 +48,11 @@ returns-in-Err-clause-answers g c = λ known.
     let o = g.O.Sink.holds c.flush_after.new.out in
     let ended = c.perform-ended.result in
     let flushed = c.in-Err.ensures.flushed
-    (ends_known (IsReply v writes stored after m) (heard_names m) a b ended c.perform-ended.ensures.ended known) in
+    (ends_known (IsReply v writes stored after m) (heard_names v stored m) a b ended c.perform-ended.ensures.ended known) in
     let e = g.E.Sink.holds c.tell.new.err in
     let told = subst (λ (capacity : Option ℕ). TellsStop c.in-Err.stop capacity b.err e c.tell.result)
     c.perform-ended.ensures.capacity c.tell.ensures in
-    finishes_told (IsReply v writes stored after m) (heard_names m) (g.E.Sink.capacity c.args.err.now) a b o e
+    finishes_told (IsReply v writes stored after m) (heard_names v stored m) (g.E.Sink.capacity c.args.err.now) a b o e
     (g.O.Sink.flushed c.flush_after.new.out) ended c.in-Err.stop c.tell.result c.perform-ended.ensures.ended known
     c.in-Err.ensures.kept flushed told
 
@@ -67,7 +67,7 @@ returns-in-Err-clause-flushed g c = λ known.
     let b : Sinks = record { out = g.O.Sink.holds c.perform-ended.new.out; err = g.E.Sink.holds c.perform-ended.new.err } in
     let ended = c.perform-ended.result in
     let flushed = c.in-Err.ensures.flushed
-    (ends_known (IsReply v writes stored after m) (heard_names m) a b ended c.perform-ended.ensures.ended known) in
+    (ends_known (IsReply v writes stored after m) (heard_names v stored m) a b ended c.perform-ended.ensures.ended known) in
     handed_on_told (g.O.Sink.flushed c.flush_after.new.out) ended c.in-Err.stop _ b.err
     (g.E.Sink.holds c.tell.new.err) c.tell.result flushed
     c.tell.ensures

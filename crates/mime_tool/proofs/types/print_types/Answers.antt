@@ -5,7 +5,7 @@ use Rattle.mime_tool.specs.Environment.{known_environment}
 use Rattle.mime_tool.specs.Types.{AreLinesBy}
 use Rattle.mime_tool.proofs.RunLemmas.SourceCommands.{source_read, source_unread}
 use Rattle.mime_tool.specs.Process.{given_by}
-use Rattle.mime_tool.specs.Subjects.{contents_in, names_in}
+use Rattle.mime_tool.specs.Subjects.{names_in}
 use Rattle.mime_tool.specs.Words.{named_subjects}
 use Rattle.mime_tool.proofs.types.print_types.Goals as goal
 
@@ -16,12 +16,12 @@ returns-in_err-cache g c =
     let stored = (g.D.Desk.state c.args.desk.now).stored in
     let input = c.args.process.input in
     let subjects = named_subjects c.args.raws.now (plain_subjects c.args.subjects.now) in
-    let contents = contents_in subjects stored (given_by (g.I.Read.remaining input) (g.I.Content.health input)) in
+    let given = given_by (g.I.Read.remaining input) (g.I.Content.health input) in
     rw (e.1, e.2) (record {
       same_files = read.same_files;
       same_setting = read.same_setting;
       sinks = source_unread stored (known_environment c.args.process.environment) (plain_source c.args.source.now)
-          (AreLinesBy contents c.args.options) (names_in subjects) _ _ _ read.sinks;
+          (AreLinesBy subjects stored given c.args.options) (names_in subjects stored given) _ _ _ read.sinks;
     })
 
 pub returns : goal.returns
@@ -31,10 +31,10 @@ returns g c =
     let stored = (g.D.Desk.state c.args.desk.now).stored in
     let input = c.args.process.input in
     let subjects = named_subjects c.args.raws.now (plain_subjects c.args.subjects.now) in
-    let contents = contents_in subjects stored (given_by (g.I.Read.remaining input) (g.I.Content.health input)) in
+    let given = given_by (g.I.Read.remaining input) (g.I.Content.health input) in
     record {
       same_files = lines.same_files ∙ read.same_files;
       same_setting = lines.same_setting ∙ read.same_setting;
       sinks = source_read stored (known_environment c.args.process.environment) (plain_source c.args.source.now)
-          (AreLinesBy contents c.args.options) (names_in subjects) c.in_ok-cache.cache _ _ _ _ read.sinks lines.sinks;
+          (AreLinesBy subjects stored given c.args.options) (names_in subjects stored given) c.in_ok-cache.cache _ _ _ _ read.sinks lines.sinks;
     }

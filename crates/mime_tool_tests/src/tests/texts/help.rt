@@ -50,8 +50,8 @@ Usage: mimelook build [-d DIRS] [--drop-twins] -o FILE
 
 Options:
   -d, --data-dirs <DIRS>  Data directories, most preferred first, with colons
-                          between them, such as /usr/local/share:/usr/share; an
-                          empty part is skipped
+                          between them, such as /usr/local/share:/usr/share;
+                          an empty part is skipped
       --drop-twins        Leave out each rule without cs where one with cs has
                           the same weight, type and pattern
   -o, --output <FILE>     The cache to write; it is written as FILE.new and then
@@ -82,49 +82,54 @@ Prints FILE: TYPE for each FILE, with no cache between
 
 Usage: mimelook plain [-d DIRS] [--name-only | --content-only]
                       [--magic-first | --all-globs] [--inode] [-0] [-b]
-                      [--escape] {FILE... | --stdin NAME}
+                      [--escape] {FILE... | --files0-from LIST | --stdin NAME}
 
 Arguments:
   [FILE]...  The files to tell the types of; put -- before one that begins
              with -
 
 Options:
-  -d, --data-dirs <DIRS>  Data directories, most preferred first, with colons
-                          between them, such as /usr/local/share:/usr/share; an
-                          empty part is skipped
-      --name-only         Go by the names alone: no FILE is opened
-      --content-only      Go by the contents alone: no name is looked at; not
-                          with --magic-first or --all-globs
-      --magic-first       Let content of high priority (80 or more) decide
-                          before names
-      --all-globs         Let content choose among all patterns that match, not
-                          among the preferred ones alone; not with --magic-first
-      --inode             Print inode/directory, chardevice, blockdevice, fifo
-                          or socket for what is no regular file, and
-                          inode/symlink for a link that leads nowhere; none of
-                          them is opened
-  -0, --null              Print a zero byte after FILE and one after TYPE, in
-                          place of a colon and a newline
-  -b, --brief             Print TYPE alone
-      --escape            In FILE and TYPE, write the bytes below 32, 127 and \\
-                          as \\ and three octal digits
-      --stdin <NAME>      Look up standard input, by the name NAME, in place of
-                          FILEs; no more of it is read than is needed
-  -h, --help              Print help
-  -V, --version           Print version
+  -d, --data-dirs <DIRS>    Data directories, most preferred first, with colons
+                            between them, such as /usr/local/share:/usr/share;
+                            an empty part is skipped
+      --name-only           Go by the names alone: no FILE is opened
+      --content-only        Go by the contents alone: no name is looked at; not
+                            with --magic-first or --all-globs
+      --magic-first         Let content of high priority (80 or more) decide
+                            before names
+      --all-globs           Let content choose among all patterns that match,
+                            not among the preferred ones alone; not with
+                            --magic-first
+      --inode               Print inode/directory, chardevice, blockdevice, fifo
+                            or socket for what is no regular file, and
+                            inode/symlink for a link that leads nowhere; none of
+                            them is opened
+  -0, --null                Print a zero byte after FILE and one after TYPE, in
+                            place of a colon and a newline
+  -b, --brief               Print TYPE alone
+      --escape              In FILE and TYPE, write the bytes below 32, 127 and \\
+                            as \\ and three octal digits
+      --files0-from <LIST>  Take the FILEs from the file LIST, or from standard
+                            input where LIST is -: each ends with a zero byte
+      --stdin <NAME>        Look up standard input, by the name NAME, in place
+                            of FILEs; no more of it is read than is needed
+  -h, --help                Print help
+  -V, --version             Print version
 
 Messages go to standard error. The files are DIR/mime/globs2, magic, aliases,
 subclasses, icons and generic-icons; a missing one counts as empty. Without -d
 the directories are the user's (see mimelook --help).
 A FILE that is a pipe can't be opened, nor one whose name is not UTF-8, which
-has a type by --name-only; a pipe has one by --inode.
+has a type by --name-only; a pipe has one by --inode. LIST may be a pipe; its
+names are looked up as they come.
 
 Exit status:
   0  every FILE was answered; or help or the version was printed
-  1  some FILE can't be opened or read, or its name is too long (above 4096
-     bytes); the others were answered
+  1  some FILE can't be opened or read, its name is too long (above 4096 bytes),
+     or a name of LIST is empty; the others were answered
   2  the command line is wrong, or a word but a FILE is not UTF-8
-  3  the data can't be read or is refused, or the output can't be written
+  3  the data or LIST can't be read, the data is refused, or the output can't
+     be written
   4  out of memory
 
 Example:

@@ -32,7 +32,7 @@ For more information, try '--help'.
 ";
 
 const NO_FILE: &str = "\
-error: give a FILE or --stdin NAME
+error: give a FILE, --files0-from LIST or --stdin NAME
 
 Usage: mimelook <COMMAND>
 
@@ -50,7 +50,7 @@ error: the argument '--data-dirs <DIRS>' cannot be used multiple times
 
 Usage: mimelook plain [-d DIRS] [--name-only | --content-only]
                       [--magic-first | --all-globs] [--inode] [-0] [-b]
-                      [--escape] {FILE... | --stdin NAME}
+                      [--escape] {FILE... | --files0-from LIST | --stdin NAME}
 
 For more information, try '--help'.
 ";
@@ -62,20 +62,20 @@ error: unexpected argument '--cost' found
 
 Usage: mimelook plain [-d DIRS] [--name-only | --content-only]
                       [--magic-first | --all-globs] [--inode] [-0] [-b]
-                      [--escape] {FILE... | --stdin NAME}
+                      [--escape] {FILE... | --files0-from LIST | --stdin NAME}
 
 For more information, try '--help'.
 ";
 
 const FILE_AND_INPUT: &str = "\
-error: give FILEs or --stdin NAME, not both
+error: give one of FILEs, --files0-from LIST and --stdin NAME
 
 Usage: mimelook <COMMAND>
 
 For more information, try '--help'.
 ";
 
-static MISTAKES: [Row<'static>; 11] = [
+static MISTAKES: [Row<'static>; 14] = [
     Row {
         name: "no command",
         words: &[],
@@ -121,6 +121,24 @@ static MISTAKES: [Row<'static>; 11] = [
     Row {
         name: "a FILE after an empty NAME",
         words: &["type", "--stdin", "", "a"],
+        err: FILE_AND_INPUT,
+        ..SAID
+    },
+    Row {
+        name: "a FILE beside a LIST",
+        words: &["type", "--files0-from", "l", "a"],
+        err: FILE_AND_INPUT,
+        ..SAID
+    },
+    Row {
+        name: "a FILE that is a hyphen beside a LIST",
+        words: &["plain", "--files0-from=-", "-"],
+        err: FILE_AND_INPUT,
+        ..SAID
+    },
+    Row {
+        name: "a LIST and standard input",
+        words: &["plain", "--stdin", "a", "--files0-from", "-"],
         err: FILE_AND_INPUT,
         ..SAID
     },

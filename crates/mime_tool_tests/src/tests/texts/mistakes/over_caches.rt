@@ -62,7 +62,7 @@ For more information, try '--help'.
 ";
 
 const TYPE_ALONE: &str = "\
-error: give a FILE or --stdin NAME
+error: give a FILE, --files0-from LIST or --stdin NAME
 
 Usage: mimelook <COMMAND>
 
@@ -70,7 +70,7 @@ For more information, try '--help'.
 ";
 
 const NO_FILE_OF_TYPE: &str = "\
-error: give a FILE or --stdin NAME
+error: give a FILE, --files0-from LIST or --stdin NAME
 
 Usage: mimelook <COMMAND>
 
@@ -82,7 +82,7 @@ error: the argument '--cost' cannot be used multiple times
 
 Usage: mimelook type [-c CACHE | -d DIRS] [--name-only | --content-only]
                      [--magic-first | --all-globs] [--inode] [--cost] [-0] [-b]
-                     [--escape] {FILE... | --stdin NAME}
+                     [--escape] {FILE... | --files0-from LIST | --stdin NAME}
 
 For more information, try '--help'.
 ";

@@ -3,7 +3,7 @@ use Rattle.std.proofs.lemmas.Result.{err_from_is_err_and}
 use Rattle.mime_tool.specs.LineSteps.{plain_lookup}
 use Rattle.mime_tool.specs.Process.{given_by}
 use Rattle.mime_tool.proofs.AnswerLemmas.Lines.{no_kind, one_undone, one_written}
-use Rattle.mime_tool.proofs.line.print_input.Goals as goal
+use Rattle.mime_tool.proofs.subjects.print_input.Goals as goal
 
 pub returns-in_err-outcome : goal.returns-in_err-outcome
 returns-in_err-outcome g c =
