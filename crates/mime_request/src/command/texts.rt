@@ -237,5 +237,5 @@ pub(crate) const BRIEF: &str = "\
 Print TYPE alone";
 
 pub(crate) const ESCAPE: &str = "\
-In FILE and TYPE, write the bytes below 32, 127 and \\
-as \\ and three octal digits";
+In FILE and TYPE, write the bytes below 32, 127 and
+\\ as \\ and three octal digits";

@@ -139,8 +139,8 @@ Options:
   -0, --null                Print a zero byte after FILE and one after TYPE, in
                             place of a colon and a newline
   -b, --brief               Print TYPE alone
-      --escape              In FILE and TYPE, write the bytes below 32, 127 and \\
-                            as \\ and three octal digits
+      --escape              In FILE and TYPE, write the bytes below 32, 127 and
+                            \\ as \\ and three octal digits
       --files0-from <LIST>  Take the FILEs from the file LIST, or from standard
                             input where LIST is -: each ends with a zero byte
       --stdin <NAME>        Look up standard input, by the name NAME, in place
