@@ -8699,7 +8699,7 @@
 	shll	$3, %r9d
 	leaq	".Lswitch.table.clap::builder::command::building::build_levels"(%rip), %r10
 	movq	(%r9,%r10), %r10
-	leaq	".Lswitch.table.clap::builder::command::building::build_levels.2083"(%rip), %r11
+	leaq	".Lswitch.table.clap::builder::command::building::build_levels.2090"(%rip), %r11
 	movq	(%r9,%r11), %r9
 	movq	$1, -83(%rdi,%rsi)
 	movq	%r10, -75(%rdi,%rsi)
@@ -33650,7 +33650,7 @@
 	movq	$-1, 280(%rsp)
 	leaq	240(%rsp), %rdi
 	leaq	208(%rsp), %rsi
-	callq	"core::fmt::formatter::Formatter::write_piece::<#499173829830abb3>"
+	callq	"core::fmt::formatter::Formatter::write_piece::<#0584b03bf03810b7>"
 	testb	%al, %al
 	movq	64(%rsp), %r14
 	jne	215f
@@ -34020,7 +34020,7 @@
 	shll	$3, %eax
 	leaq	".Lswitch.table.clap::parser::parse::Parser::check_value"(%rip), %rcx
 	movq	(%rax,%rcx), %rdx
-	leaq	".Lswitch.table.clap::parser::parse::Parser::check_value.2084"(%rip), %rcx
+	leaq	".Lswitch.table.clap::parser::parse::Parser::check_value.2091"(%rip), %rcx
 	movq	(%rax,%rcx), %rsi
 	cmpq	$0, 288(%rsp)
 	jne	240f
@@ -34095,7 +34095,7 @@
 198:
 	leaq	240(%rsp), %rdi
 	leaq	200(%rsp), %rsi
-	callq	"core::fmt::formatter::Formatter::write_piece::<#499173829830abb3>"
+	callq	"core::fmt::formatter::Formatter::write_piece::<#0584b03bf03810b7>"
 	testb	%al, %al
 	jne	215f
 	movzbl	24(%rsp), %eax
@@ -34254,7 +34254,7 @@
 214:
 	leaq	240(%rsp), %rdi
 	leaq	192(%rsp), %rsi
-	callq	"core::fmt::formatter::Formatter::write_piece::<#499173829830abb3>"
+	callq	"core::fmt::formatter::Formatter::write_piece::<#0584b03bf03810b7>"
 	testb	%al, %al
 	je	219f
 215:

@@ -12,6 +12,12 @@
 	.ascii	"all-globs"
 	.size	.L010e1dde2212, 9
 
+	.type	.L01d6a3bc2498,@object
+	.section	.rodata.cst4,"aM",@progbits,4
+.L01d6a3bc2498:
+	.ascii	"LIST"
+	.size	.L01d6a3bc2498, 4
+
 	.type	.L0204640a40f4,@object
 	.section	.rodata,"a",@progbits
 .L0204640a40f4:
@@ -313,12 +319,6 @@
 	.zero	2,45
 	.size	.L32d1a5938230, 2
 
-	.type	.L32e1dc0904fe,@object
-	.section	.rodata,"a",@progbits
-.L32e1dc0904fe:
-	.ascii	"give FILEs or --stdin NAME, not both"
-	.size	.L32e1dc0904fe, 36
-
 	.type	.L32e35d8552b3,@object
 	.section	.rodata,"a",@progbits
 .L32e35d8552b3:
@@ -421,6 +421,12 @@
 	.ascii	"no\n"
 	.size	.L3d0ec50b8ed2, 3
 
+	.type	.L3e85f977af39,@object
+	.section	.rodata,"a",@progbits
+.L3e85f977af39:
+	.ascii	"Take the FILEs from the file LIST, or from standard\ninput where LIST is -: each ends with a zero byte"
+	.size	.L3e85f977af39, 101
+
 	.type	.L3ef631d2bde6,@object
 	.section	.rodata,"a",@progbits
 .L3ef631d2bde6:
@@ -457,11 +463,11 @@
 	.ascii	"\n\nFor more information, try '--help'.\n"
 	.size	.L454bde90644f, 38
 
-	.type	.L463d4e2a585a,@object
+	.type	.L454e4f5a64d7,@object
 	.section	.rodata,"a",@progbits
-.L463d4e2a585a:
-	.ascii	"Messages go to standard error. The files are DIR/mime/globs2, magic, aliases,\nsubclasses, icons and generic-icons; a missing one counts as empty. Without -d\nthe directories are the user's (see mimelook --help).\nA FILE that is a pipe can't be opened, nor one whose name is not UTF-8, which\nhas a type by --name-only; a pipe has one by --inode.\n\nExit status:\n  0  every FILE was answered; or help or the version was printed\n  1  some FILE can't be opened or read, or its name is too long (above 4096\n     bytes); the others were answered\n  2  the command line is wrong, or a word but a FILE is not UTF-8\n  3  the data can't be read or is refused, or the output can't be written\n  4  out of memory\n\nExample:\n  $ mimelook plain -d /usr/local/share:/usr/share notes.txt\n  notes.txt: text/plain"
-	.size	.L463d4e2a585a, 788
+.L454e4f5a64d7:
+	.ascii	"Messages go to standard error. With -d the cache is made of DIRS, as build makes\nit; without -c and -d, of the user's data directories (see mimelook --help).\nA FILE that is a pipe can't be opened, nor one whose name is not UTF-8, which\nhas a type by --name-only; a pipe has one by --inode. A CACHE that is a pipe\ncan't be read. LIST may be one; its names are looked up as they come.\n\nExit status:\n  0  every FILE was answered; or help or the version was printed\n  1  some FILE can't be opened or read, its name is too long (above 4096 bytes),\n     or a name of LIST is empty; the others were answered\n  2  the command line is wrong, or a word but a FILE is not UTF-8\n  3  the data or LIST can't be read, the data is refused, or the output can't\n     be written\n  4  out of memory\n\nExample:\n  $ mimelook type notes.txt\n  notes.txt: text/plain"
+	.size	.L454e4f5a64d7, 841
 
 	.type	.L46d14cdbc0b0,@object
 	.section	.rodata,"a",@progbits
@@ -480,12 +486,6 @@
 .L496971ad93b5:
 	.ascii	" was provided"
 	.size	.L496971ad93b5, 13
-
-	.type	.L49b4ca98a117,@object
-	.section	.rodata,"a",@progbits
-.L49b4ca98a117:
-	.ascii	"give a FILE or --stdin NAME"
-	.size	.L49b4ca98a117, 27
 
 	.type	.L49b706c40dc1,@object
 	.section	.rodata,"a",@progbits
@@ -558,17 +558,17 @@
 	.ascii	"' found"
 	.size	.L543dcfd44baf, 7
 
+	.type	.L555bd5c6dcac,@object
+	.section	.rodata,"a",@progbits
+.L555bd5c6dcac:
+	.ascii	"give one of FILEs, --files0-from LIST and --stdin NAME"
+	.size	.L555bd5c6dcac, 54
+
 	.type	.L558c2c36d03f,@object
 	.section	.rodata.cst4,"aM",@progbits,4
 .L558c2c36d03f:
 	.ascii	"dirs"
 	.size	.L558c2c36d03f, 4
-
-	.type	.L55c3742fb696,@object
-	.section	.rodata,"a",@progbits
-.L55c3742fb696:
-	.ascii	"mimelook plain [-d DIRS] [--name-only | --content-only]\n                      [--magic-first | --all-globs] [--inode] [-0] [-b]\n                      [--escape] {FILE... | --stdin NAME}"
-	.size	.L55c3742fb696, 185
 
 	.type	.L579358eabf37,@object
 	.section	.rodata,"a",@progbits
@@ -695,6 +695,12 @@
 	.ascii	"number too large to fit in target type"
 	.size	.L6e2fce03fc0a, 38
 
+	.type	.L6f732a247f6f,@object
+	.section	.rodata,"a",@progbits
+.L6f732a247f6f:
+	.ascii	"Look up standard input, by the name NAME, in place\nof FILEs; no more of it is read than is needed"
+	.size	.L6f732a247f6f, 97
+
 	.type	.L6ff22be34a97,@object
 	.section	.rodata,"a",@progbits
 .L6ff22be34a97:
@@ -755,12 +761,6 @@
 	.ascii	"too deep"
 	.size	.L75f850512cff, 8
 
-	.type	.L76551a7a2e9f,@object
-	.section	.rodata,"a",@progbits
-.L76551a7a2e9f:
-	.ascii	"Look up standard input, by the name NAME, in place of\nFILEs; no more of it is read than is needed"
-	.size	.L76551a7a2e9f, 97
-
 	.type	.L78410b8842b3,@object
 	.section	.rodata,"a",@progbits
 .L78410b8842b3:
@@ -775,6 +775,18 @@
 	.ascii	"\000\003\000\000\000\000\000\000000001002003004005006007008009010011012013014015016017018019020021022023024025026027028029030031032033034035036037038039040041042043044045046047048049050051052053054055056057058059060061062063064065066067068069070071072073074075076077078079080081082083084085086087088089090091092093094095096097098099100101102103104105106107108109110111112113114115116117118119120121122123124125126127128129130131132133134135136137138139140141142143144145146147148149150151152153154155156157158159160161162163164165166167168169170171172173174175176177178179180181182183184185186187188189190191192193194195196197198199200201202203204205206207208209210211212213214215216217218219220221222223224225226227228229230231232233234235236237238239240241242243244245246247248249250251252253254255"
 	.size	.L78868f2a1a13, 784
 
+	.type	.L797f014df943,@object
+	.section	.rodata,"a",@progbits
+.L797f014df943:
+	.ascii	"Data directories, most preferred first, with colons\nbetween them, such as /usr/local/share:/usr/share;\nan empty part is skipped"
+	.size	.L797f014df943, 127
+
+	.type	.L79d79dcad8f3,@object
+	.section	.rodata,"a",@progbits
+.L79d79dcad8f3:
+	.ascii	"name "
+	.size	.L79d79dcad8f3, 5
+
 	.type	.L79e8aea61817,@object
 	.section	.rodata,"a",@progbits
 .L79e8aea61817:
@@ -786,12 +798,6 @@
 .L7ae2a5bad0f0:
 	.ascii	"too large"
 	.size	.L7ae2a5bad0f0, 9
-
-	.type	.L7c59a1027fc7,@object
-	.section	.rodata,"a",@progbits
-.L7c59a1027fc7:
-	.ascii	"Let content choose among all patterns that match, not\namong the preferred ones alone; not with --magic-first"
-	.size	.L7c59a1027fc7, 108
 
 	.type	.L7de201737f33,@object
 	.section	.rodata,"a",@progbits
@@ -822,6 +828,12 @@
 .L807e89e39460:
 	.ascii	", "
 	.size	.L807e89e39460, 2
+
+	.type	.L81e54fa2e54f,@object
+	.section	.rodata,"a",@progbits
+.L81e54fa2e54f:
+	.ascii	"The cache to read, such as\n/usr/share/mime/mime.cache"
+	.size	.L81e54fa2e54f, 53
 
 	.type	.L83a8e6e0358f,@object
 	.section	.rodata,"a",@progbits
@@ -863,12 +875,6 @@
 .L8861b7b71362:
 	.ascii	"cost"
 	.size	.L8861b7b71362, 4
-
-	.type	.L8951d447a1f3,@object
-	.section	.rodata,"a",@progbits
-.L8951d447a1f3:
-	.ascii	"The cache to read, such as /usr/share/mime/mime.cache"
-	.size	.L8951d447a1f3, 53
 
 	.type	.L8a62443031f8,@object
 	.section	.rodata.cst4,"aM",@progbits,4
@@ -923,6 +929,12 @@
 .L920aa9c63673:
 	.ascii	"icon"
 	.size	.L920aa9c63673, 4
+
+	.type	.L92a1455e1d13,@object
+	.section	.rodata,"a",@progbits
+.L92a1455e1d13:
+	.ascii	"files0-from"
+	.size	.L92a1455e1d13, 11
 
 	.type	.L93928807f5f1,@object
 	.section	.rodata.cst16,"aM",@progbits,16
@@ -1044,6 +1056,12 @@
 	.ascii	", -"
 	.size	.La61b5a71a1b3, 3
 
+	.type	.La6e8590c0799,@object
+	.section	.rodata,"a",@progbits
+.La6e8590c0799:
+	.ascii	" is empty"
+	.size	.La6e8590c0799, 9
+
 	.type	.La72ca670bb94,@object
 	.section	.rodata,"a",@progbits
 .La72ca670bb94:
@@ -1061,12 +1079,6 @@
 .La7e343717825:
 	.ascii	"es"
 	.size	.La7e343717825, 2
-
-	.type	.La883b7dbfd0a,@object
-	.section	.rodata,"a",@progbits
-.La883b7dbfd0a:
-	.ascii	"Messages go to standard error. With -d the cache is made of DIRS, as build makes\nit; without -c and -d, of the user's data directories (see mimelook --help).\nA FILE that is a pipe can't be opened, nor one whose name is not UTF-8, which\nhas a type by --name-only; a pipe has one by --inode. A CACHE that is a pipe\ncan't be read.\n\nExit status:\n  0  every FILE was answered; or help or the version was printed\n  1  some FILE can't be opened or read, or its name is too long (above 4096\n     bytes); the others were answered\n  2  the command line is wrong, or a word but a FILE is not UTF-8\n  3  the data can't be read or is refused, or the output can't be written\n  4  out of memory\n\nExample:\n  $ mimelook type notes.txt\n  notes.txt: text/plain"
-	.size	.La883b7dbfd0a, 741
 
 	.type	.Laa12b8a65fd3,@object
 	.section	.rodata,"a",@progbits
@@ -1086,6 +1098,12 @@
 	.ascii	"text/plain"
 	.size	.Laafe98300121, 10
 
+	.type	.Lab5c34a0a1e7,@object
+	.section	.rodata,"a",@progbits
+.Lab5c34a0a1e7:
+	.ascii	"give a FILE, --files0-from LIST or --stdin NAME"
+	.size	.Lab5c34a0a1e7, 47
+
 	.type	.Lac7356f345ce,@object
 	.section	.rodata,"a",@progbits
 .Lac7356f345ce:
@@ -1097,6 +1115,12 @@
 .Lacc9607a0d71:
 	.ascii	"Go by the names alone: no FILE is opened"
 	.size	.Lacc9607a0d71, 40
+
+	.type	.Ladfe6cd27f2c,@object
+	.section	.rodata,"a",@progbits
+.Ladfe6cd27f2c:
+	.ascii	"Messages go to standard error. The files are DIR/mime/globs2, magic, aliases,\nsubclasses, icons and generic-icons; a missing one counts as empty. Without -d\nthe directories are the user's (see mimelook --help).\nA FILE that is a pipe can't be opened, nor one whose name is not UTF-8, which\nhas a type by --name-only; a pipe has one by --inode. LIST may be a pipe; its\nnames are looked up as they come.\n\nExit status:\n  0  every FILE was answered; or help or the version was printed\n  1  some FILE can't be opened or read, its name is too long (above 4096 bytes),\n     or a name of LIST is empty; the others were answered\n  2  the command line is wrong, or a word but a FILE is not UTF-8\n  3  the data or LIST can't be read, the data is refused, or the output can't\n     be written\n  4  out of memory\n\nExample:\n  $ mimelook plain -d /usr/local/share:/usr/share notes.txt\n  notes.txt: text/plain"
+	.size	.Ladfe6cd27f2c, 891
 
 	.type	.Lafc90defa187,@object
 	.section	.rodata,"a",@progbits
@@ -1152,12 +1176,6 @@
 	.byte	10
 	.size	.Lb9d66d2d8f9c, 1
 
-	.type	.Lbac1d79f1c50,@object
-	.section	.rodata,"a",@progbits
-.Lbac1d79f1c50:
-	.ascii	"Print behind each TYPE what the answer cost: nodes=N,\nrecords of the cache that were visited; bytes=B, bytes\nthat were read or compared; read=R, bytes of FILE that\nwere read"
-	.size	.Lbac1d79f1c50, 173
-
 	.type	.Lbca628426a44,@object
 	.section	.rodata,"a",@progbits
 .Lbca628426a44:
@@ -1170,6 +1188,12 @@
 	.ascii	"/mime/"
 	.size	.Lbd551c3abc3e, 6
 
+	.type	.Lbd5f4b5772e7,@object
+	.section	.rodata,"a",@progbits
+.Lbd5f4b5772e7:
+	.ascii	"Let content choose among all patterns that match,\nnot among the preferred ones alone; not with\n--magic-first"
+	.size	.Lbd5f4b5772e7, 108
+
 	.type	.Lbd8f0e955afa,@object
 	.section	.rodata,"a",@progbits
 .Lbd8f0e955afa:
@@ -1181,12 +1205,6 @@
 .Lbdf5ca500ffb:
 	.byte	91
 	.size	.Lbdf5ca500ffb, 1
-
-	.type	.Lbe3499bcd3e4,@object
-	.section	.rodata,"a",@progbits
-.Lbe3499bcd3e4:
-	.ascii	"mimelook type [-c CACHE | -d DIRS] [--name-only | --content-only]\n                     [--magic-first | --all-globs] [--inode] [--cost] [-0] [-b]\n                     [--escape] {FILE... | --stdin NAME}"
-	.size	.Lbe3499bcd3e4, 202
 
 	.type	.Lbf28a0ac4edc,@object
 	.section	.rodata,"a",@progbits
@@ -1334,6 +1352,12 @@
 	.ascii	": line "
 	.size	.Lcbd2e040a5e1, 7
 
+	.type	.Lcc00331ed980,@object
+	.section	.rodata,"a",@progbits
+.Lcc00331ed980:
+	.ascii	"Print behind each TYPE what the answer cost:\nnodes=N, records of the cache that were visited;\nbytes=B, bytes that were read or compared; read=R,\nbytes of FILE that were read"
+	.size	.Lcc00331ed980, 173
+
 	.type	.Lccd068a4cc1e,@object
 	.section	.rodata,"a",@progbits
 .Lccd068a4cc1e:
@@ -1370,6 +1394,12 @@
 	.ascii	"mimelook"
 	.size	.Ld27fc74a6e00, 8
 
+	.type	.Ld40b30192e9d,@object
+	.section	.rodata,"a",@progbits
+.Ld40b30192e9d:
+	.ascii	"mimelook type [-c CACHE | -d DIRS] [--name-only | --content-only]\n                     [--magic-first | --all-globs] [--inode] [--cost] [-0] [-b]\n                     [--escape] {FILE... | --files0-from LIST | --stdin NAME}"
+	.size	.Ld40b30192e9d, 223
+
 	.type	.Ld42309c85a1b,@object
 	.section	.rodata,"a",@progbits
 .Ld42309c85a1b:
@@ -1381,12 +1411,6 @@
 .Ld4ff8cedf1ce:
 	.ascii	"brief"
 	.size	.Ld4ff8cedf1ce, 5
-
-	.type	.Ld53bf20d4a47,@object
-	.section	.rodata,"a",@progbits
-.Ld53bf20d4a47:
-	.ascii	"Data directories, most preferred first, with colons\nbetween them, such as /usr/local/share:/usr/share; an\nempty part is skipped"
-	.size	.Ld53bf20d4a47, 127
 
 	.type	.Ld5ea52cbc0d4,@object
 	.section	.rodata.cst8,"aM",@progbits,8
@@ -1430,12 +1454,6 @@
 .Ld9a5e6fa4e6b:
 	.ascii	"|--"
 	.size	.Ld9a5e6fa4e6b, 3
-
-	.type	.Lda9e26e33836,@object
-	.section	.rodata,"a",@progbits
-.Lda9e26e33836:
-	.ascii	"In FILE and TYPE, write the bytes below 32, 127 and \\\nas \\ and three octal digits"
-	.size	.Lda9e26e33836, 81
 
 	.type	.Ldd8fd1fef8b0,@object
 	.section	.rodata,"a",@progbits
@@ -1569,6 +1587,12 @@
 	.ascii	"give --cost without -0 and -b"
 	.size	.Lec2ba9672c9d, 29
 
+	.type	.Lee247ddd7fed,@object
+	.section	.rodata,"a",@progbits
+.Lee247ddd7fed:
+	.ascii	"mimelook plain [-d DIRS] [--name-only | --content-only]\n                      [--magic-first | --all-globs] [--inode] [-0] [-b]\n                      [--escape] {FILE... | --files0-from LIST | --stdin NAME}"
+	.size	.Lee247ddd7fed, 206
+
 	.type	.Lef1df2877dd3,@object
 	.section	.rodata.cst4,"aM",@progbits,4
 .Lef1df2877dd3:
@@ -1659,6 +1683,12 @@
 	.byte	125
 	.size	.Lf989c82a9506, 1
 
+	.type	.Lfbf471e2654e,@object
+	.section	.rodata,"a",@progbits
+.Lfbf471e2654e:
+	.ascii	"In FILE and TYPE, write the bytes below 32, 127 and\n\\ as \\ and three octal digits"
+	.size	.Lfbf471e2654e, 81
+
 	.type	.Lfc5be5b2afb6,@object
 	.section	.rodata,"a",@progbits
 .Lfc5be5b2afb6:
@@ -1708,12 +1738,12 @@
 	.quad	0,0,2,2,5,0,0,0,0
 	.size	".Lswitch.table.clap::builder::command::building::build_levels", 72
 
-	.type	".Lswitch.table.clap::builder::command::building::build_levels.2083",@object
+	.type	".Lswitch.table.clap::builder::command::building::build_levels.2090",@object
 	.section	.rodata,"a",@progbits
 	.p2align	3, 0x0
-".Lswitch.table.clap::builder::command::building::build_levels.2083":
+".Lswitch.table.clap::builder::command::building::build_levels.2090":
 	.quad	0,0,0,0,255,0,0,0,0
-	.size	".Lswitch.table.clap::builder::command::building::build_levels.2083", 72
+	.size	".Lswitch.table.clap::builder::command::building::build_levels.2090", 72
 
 	.type	".Lswitch.table.clap::parser::parse::Parser::check_value",@object
 	.section	.rodata.cst32,"aM",@progbits,32
@@ -1722,41 +1752,41 @@
 	.quad	38,29,38,38
 	.size	".Lswitch.table.clap::parser::parse::Parser::check_value", 32
 
-	.type	".Lswitch.table.clap::parser::parse::Parser::check_value.2084",@object
+	.type	".Lswitch.table.clap::parser::parse::Parser::check_value.2091",@object
 	.section	.data.rel.ro,"aw",@progbits
 	.p2align	3, 0x0
-".Lswitch.table.clap::parser::parse::Parser::check_value.2084":
+".Lswitch.table.clap::parser::parse::Parser::check_value.2091":
 	.quad	.Lc1b67e27bb9f
 	.quad	.Laa68302af712
 	.quad	.L6e2fce03fc0a
 	.quad	.L2cc55e3b3d11
-	.size	".Lswitch.table.clap::parser::parse::Parser::check_value.2084", 32
+	.size	".Lswitch.table.clap::parser::parse::Parser::check_value.2091", 32
 
-	.type	".Lswitch.table.mime_tool::line::print_subjects::<#2d382ade8d012bfb>",@object
+	.type	".Lswitch.table.mime_tool::line::print_line::<#2e1b2a3647f851f7>",@object
 	.section	.rodata,"a",@progbits
 	.p2align	3, 0x0
-".Lswitch.table.mime_tool::line::print_subjects::<#2d382ade8d012bfb>":
+".Lswitch.table.mime_tool::line::print_line::<#2e1b2a3647f851f7>":
 	.quad	10,16
 	.zero	8
 	.quad	15
 	.zero	8
 	.quad	17
-	.size	".Lswitch.table.mime_tool::line::print_subjects::<#2d382ade8d012bfb>", 48
+	.size	".Lswitch.table.mime_tool::line::print_line::<#2e1b2a3647f851f7>", 48
 
-	.type	".Lswitch.table.mime_tool::line::print_subjects::<#2d382ade8d012bfb>.2086",@object
+	.type	".Lswitch.table.mime_tool::line::print_line::<#2e1b2a3647f851f7>.2093",@object
 	.section	.data.rel.ro,"aw",@progbits
 	.p2align	3, 0x0
-".Lswitch.table.mime_tool::line::print_subjects::<#2d382ade8d012bfb>.2086":
+".Lswitch.table.mime_tool::line::print_line::<#2e1b2a3647f851f7>.2093":
 	.quad	.L1fba8e2a4222
 	.quad	.L1f2087385df6
 	.zero	8
 	.quad	.L2e403fc0c1a9
 	.zero	8
 	.quad	.Lbf28a0ac4edc
-	.size	".Lswitch.table.mime_tool::line::print_subjects::<#2d382ade8d012bfb>.2086", 48
+	.size	".Lswitch.table.mime_tool::line::print_line::<#2e1b2a3647f851f7>.2093", 48
 
-	.type	".Lswitch.table.mime_tool::system::SystemFilesFiles::whole::<#a1ba6ce099ef6b20>.2085",@object
+	.type	".Lswitch.table.mime_tool::system::SystemFilesFiles::whole::<#a1ba6ce099ef6b20>.2092",@object
 	.section	.rodata,"a",@progbits
-".Lswitch.table.mime_tool::system::SystemFilesFiles::whole::<#a1ba6ce099ef6b20>.2085":
+".Lswitch.table.mime_tool::system::SystemFilesFiles::whole::<#a1ba6ce099ef6b20>.2092":
 	.ascii	"\001\001\001\001\001\001\001\001\001\001\001\001\001\001\001\000\001\001\001\001\001\001\001\001\001\001\001\001\001\001\001\001\001\001\001\001\001\001\002\001\001\001"
-	.size	".Lswitch.table.mime_tool::system::SystemFilesFiles::whole::<#a1ba6ce099ef6b20>.2085", 42
+	.size	".Lswitch.table.mime_tool::system::SystemFilesFiles::whole::<#a1ba6ce099ef6b20>.2092", 42

@@ -7526,6 +7526,130 @@
 57:
 	.size	"mime_lookup::candidates::candidate_kinds", 57b-"mime_lookup::candidates::candidate_kinds"
 
+	.section	.rodata.cst16,"aM",@progbits,16
+	.p2align	4, 0x0
+1:
+	.byte	0,1,2,3,4,5,6,7,8,9,10,11,12,13,14,15
+2:
+	.byte	16,17,18,19,20,21,22,23,24,25,26,27,28,29,30,31
+	.text
+	.p2align	4
+	.type	"mime_lookup::content::UntoldContent::read_piece::<#f1288b38c1c1b0eb>",@function
+"mime_lookup::content::UntoldContent::read_piece::<#f1288b38c1c1b0eb>":
+	pushq	%r14
+	pushq	%rbx
+	subq	$88, %rsp
+	movq	%rdx, %r14
+	movq	%rdi, %rbx
+	xorl	%edi, %edi
+	callq	read@PLT
+	testq	%rax, %rax
+	js	3f
+	cmpq	%r14, %rax
+	cmovbq	%rax, %r14
+	xorl	%eax, %eax
+	xorl	%ecx, %ecx
+	jmp	5f
+3:
+	callq	rattle_errno@PLT
+	movq	%rsp, %rdi
+	movl	%eax, %esi
+	callq	"std_io::io::error::Error::from_raw_os_error"
+	movq	(%rsp), %rax
+	shrq	$8, %rax
+	movaps	1b(%rip), %xmm0
+	movaps	%xmm0, (%rsp)
+	movaps	2b(%rip), %xmm0
+	movaps	%xmm0, 16(%rsp)
+	movabsq	$2820983053732684064, %rcx
+	movq	%rcx, 32(%rsp)
+	movb	$40, 40(%rsp)
+	cmpb	$41, %al
+	jae	4f
+	andl	$63, %eax
+	cmpb	$35, (%rsp,%rax)
+	setne	%cl
+	movb	$1, %al
+	xorl	%r14d, %r14d
+	jmp	5f
+4:
+	movb	$1, %al
+	xorl	%r14d, %r14d
+	movb	$1, %cl
+5:
+	movb	%al, (%rbx)
+	movb	%cl, 1(%rbx)
+	movq	%r14, 8(%rbx)
+	addq	$88, %rsp
+	popq	%rbx
+	popq	%r14
+	retq
+6:
+	.size	"mime_lookup::content::UntoldContent::read_piece::<#f1288b38c1c1b0eb>", 6b-"mime_lookup::content::UntoldContent::read_piece::<#f1288b38c1c1b0eb>"
+
+	.section	.rodata.cst16,"aM",@progbits,16
+	.p2align	4, 0x0
+1:
+	.byte	0,1,2,3,4,5,6,7,8,9,10,11,12,13,14,15
+2:
+	.byte	16,17,18,19,20,21,22,23,24,25,26,27,28,29,30,31
+	.text
+	.p2align	4
+	.type	"mime_lookup::content::UntoldContent::read_piece::<13'std::fs::File,17'std::fs::FileRead{}>",@function
+"mime_lookup::content::UntoldContent::read_piece::<13'std::fs::File,17'std::fs::FileRead{}>":
+	pushq	%r14
+	pushq	%rbx
+	subq	$88, %rsp
+	movq	%rcx, %r14
+	movq	%rdi, %rbx
+	movl	%esi, %edi
+	movq	%rdx, %rsi
+	movq	%rcx, %rdx
+	callq	read@PLT
+	testq	%rax, %rax
+	js	3f
+	cmpq	%r14, %rax
+	cmovbq	%rax, %r14
+	xorl	%eax, %eax
+	xorl	%ecx, %ecx
+	jmp	5f
+3:
+	callq	rattle_errno@PLT
+	movq	%rsp, %rdi
+	movl	%eax, %esi
+	callq	"std_io::io::error::Error::from_raw_os_error"
+	movq	(%rsp), %rax
+	shrq	$8, %rax
+	movaps	1b(%rip), %xmm0
+	movaps	%xmm0, (%rsp)
+	movaps	2b(%rip), %xmm0
+	movaps	%xmm0, 16(%rsp)
+	movabsq	$2820983053732684064, %rcx
+	movq	%rcx, 32(%rsp)
+	movb	$40, 40(%rsp)
+	cmpb	$41, %al
+	jae	4f
+	andl	$63, %eax
+	cmpb	$35, (%rsp,%rax)
+	setne	%cl
+	movb	$1, %al
+	xorl	%r14d, %r14d
+	jmp	5f
+4:
+	movb	$1, %al
+	xorl	%r14d, %r14d
+	movb	$1, %cl
+5:
+	movb	%al, (%rbx)
+	movb	%cl, 1(%rbx)
+	movq	%r14, 8(%rbx)
+	addq	$88, %rsp
+	popq	%rbx
+	popq	%r14
+	retq
+6:
+	.size	"mime_lookup::content::UntoldContent::read_piece::<13'std::fs::File,17'std::fs::FileRead{}>", 6b-"mime_lookup::content::UntoldContent::read_piece::<13'std::fs::File,17'std::fs::FileRead{}>"
+
 	.text
 	.p2align	4
 	.type	"mime_lookup::kept::kept_kinds",@function
@@ -10530,12 +10654,6 @@
 38:
 	.size	"mime_lookup::places::places_of", 38b-"mime_lookup::places::places_of"
 
-	.section	.rodata.cst16,"aM",@progbits,16
-	.p2align	4, 0x0
-1:
-	.byte	0,1,2,3,4,5,6,7,8,9,10,11,12,13,14,15
-2:
-	.byte	16,17,18,19,20,21,22,23,24,25,26,27,28,29,30,31
 	.text
 	.p2align	4
 	.type	"mime_lookup::reading::read_front::<#a8511e052651c5eb>",@function
@@ -10548,231 +10666,217 @@
 	pushq	%rbx
 	subq	$3072, %rsp
 	movq	$0, (%rsp)
-	subq	$1192, %rsp
-	movq	%rdx, 72(%rsp)
-	movq	%rsi, %r12
-	movq	%rdi, %r14
+	subq	$1112, %rsp
+	movq	%rdx, 80(%rsp)
+	movq	%rsi, %r13
+	movq	%rdi, %rbx
 	xorps	%xmm0, %xmm0
-	movups	%xmm0, 32(%rsp)
-	leaq	15(%rsp), %rax
+	movups	%xmm0, 24(%rsp)
+	leaq	7(%rsp), %rax
+	movq	%rax, 8(%rsp)
 	movq	%rax, 16(%rsp)
-	movq	%rax, 24(%rsp)
-	leaq	168(%rsp), %rdi
+	leaq	88(%rsp), %rdi
 	movl	$4096, %edx
 	xorl	%esi, %esi
 	callq	memset@PLT
-	testq	%r12, %r12
-	je	23f
-	movq	%r14, 48(%rsp)
+	testq	%r13, %r13
+	je	21f
+	movq	%rbx, 40(%rsp)
 	movl	$1000, %r14d
-	xorl	%ebp, %ebp
+	xorl	%r12d, %r12d
 	xorl	%r15d, %r15d
-	xorl	%ebx, %ebx
+	xorl	%ebp, %ebp
 	xorl	%ecx, %ecx
-	xorl	%r13d, %r13d
-	movq	%r12, 56(%rsp)
-	jmp	5f
-	.p2align	4
-3:
-	leaq	168(%rsp), %rsi
-	movq	%r12, %rdx
-	movq	%r8, %rbx
-	callq	memmove@PLT
-	movq	%rbx, %r8
-4:
-	addq	%r12, %r13
-	movq	%r13, 32(%rsp)
-	movq	%r8, 40(%rsp)
-	movl	%r13d, %ebx
-	shrl	$16, %ebx
-	movq	%r13, %r15
-	shrq	$32, %r15
-	movq	%r13, %rbp
-	shrq	$48, %rbp
-	movl	%r13d, %ecx
-	movq	56(%rsp), %r12
-	cmpq	%r12, %r13
-	jae	27f
-5:
-	movq	%rcx, 64(%rsp)
-	movq	%r12, %rax
-	subq	%r13, %rax
-	cmpq	$4096, %rax
-	movl	$4096, %r12d
-	cmovbq	%rax, %r12
-6:
-	leaq	168(%rsp), %rsi
-	xorl	%edi, %edi
-	movq	%r12, %rdx
-	callq	read@PLT
-	testq	%rax, %rax
-	jns	7f
-	callq	rattle_errno@PLT
-	leaq	80(%rsp), %rdi
-	movl	%eax, %esi
-	callq	"std_io::io::error::Error::from_raw_os_error"
-	movq	80(%rsp), %rax
-	shrq	$8, %rax
-	movaps	1b(%rip), %xmm0
-	movaps	%xmm0, 80(%rsp)
-	movaps	2b(%rip), %xmm0
-	movaps	%xmm0, 96(%rsp)
-	movabsq	$2820983053732684064, %rcx
-	movq	%rcx, 112(%rsp)
-	movb	$40, 120(%rsp)
-	cmpb	$41, %al
-	jae	20f
-	andl	$63, %eax
-	cmpb	$35, 80(%rsp,%rax)
-	jne	20f
-	testl	%r14d, %r14d
-	je	20f
-	decl	%r14d
-	jmp	6b
-	.p2align	4
-7:
-	cmpq	%r12, %rax
-	cmovbq	%rax, %r12
-	testq	%r12, %r12
-	je	26f
-	movq	72(%rsp), %rax
-	addq	%r12, (%rax)
-	movq	40(%rsp), %r8
-	movq	%r8, %rax
-	subq	%r13, %rax
-	cmpq	%rax, %r12
-	leaq	168(%rsp), %rbx
-	ja	19f
-8:
-	movq	16(%rsp), %rax
-	leaq	(%rax,%r13), %rdi
-	movq	%rdi, %rax
-	subq	%rbx, %rax
-	cmpq	%r12, %rax
-	jae	3b
-	cmpq	$4, %r12
-	jb	9f
+	xorl	%ebx, %ebx
+	movq	%r13, 64(%rsp)
+1:
+	movq	%rcx, 72(%rsp)
 	movq	%r13, %rax
 	subq	%rbx, %rax
-	addq	16(%rsp), %rax
+	cmpq	$4096, %rax
+	movl	$4096, %r13d
+	cmovbq	%rax, %r13
+	xorps	%xmm0, %xmm0
+	movaps	%xmm0, 48(%rsp)
+	.p2align	4
+2:
+	leaq	48(%rsp), %rdi
+	leaq	88(%rsp), %rsi
+	movq	%r13, %rdx
+	callq	"mime_lookup::content::UntoldContent::read_piece::<#f1288b38c1c1b0eb>"
+	cmpb	$0, 48(%rsp)
+	je	3f
+	cmpb	$1, 49(%rsp)
+	je	18f
+	testl	%r14d, %r14d
+	je	18f
+	decl	%r14d
+	jmp	2b
+	.p2align	4
+3:
+	movq	56(%rsp), %r13
+	testq	%r13, %r13
+	je	24f
+	movq	80(%rsp), %rax
+	addq	%r13, (%rax)
+	movq	32(%rsp), %r8
+	movq	%r8, %rax
+	subq	%rbx, %rax
+	cmpq	%rax, %r13
+	ja	17f
+4:
+	movq	8(%rsp), %rax
+	leaq	(%rax,%rbx), %rdi
+	movq	%rdi, %rax
+	leaq	88(%rsp), %rcx
+	subq	%rcx, %rax
+	cmpq	%r13, %rax
+	jae	10f
+	cmpq	$4, %r13
+	jb	5f
+	movq	%rbx, %rax
+	subq	%rcx, %rax
+	addq	8(%rsp), %rax
 	cmpq	$32, %rax
-	jae	14f
-9:
+	jae	12f
+5:
 	xorl	%eax, %eax
-10:
-	movq	%r12, %rdx
+6:
+	movq	%r13, %rdx
 	movq	%rax, %rcx
 	andq	$3, %rdx
-	je	12f
+	je	8f
 	movq	%rax, %rcx
 	.p2align	4
-11:
-	movzbl	168(%rsp,%rcx), %esi
+7:
+	movzbl	88(%rsp,%rcx), %esi
 	movb	%sil, (%rdi,%rcx)
 	incq	%rcx
 	decq	%rdx
-	jne	11b
-12:
-	subq	%r12, %rax
+	jne	7b
+8:
+	subq	%r13, %rax
 	cmpq	$-4, %rax
-	ja	4b
-	movq	16(%rsp), %rax
-	addq	%r13, %rax
+	ja	11f
+	movq	8(%rsp), %rax
+	addq	%rbx, %rax
 	addq	$3, %rax
 	.p2align	4
-13:
-	movzbl	168(%rsp,%rcx), %edx
+9:
+	movzbl	88(%rsp,%rcx), %edx
 	movb	%dl, -3(%rax,%rcx)
-	movzbl	169(%rsp,%rcx), %edx
+	movzbl	89(%rsp,%rcx), %edx
 	movb	%dl, -2(%rax,%rcx)
-	movzbl	170(%rsp,%rcx), %edx
+	movzbl	90(%rsp,%rcx), %edx
 	movb	%dl, -1(%rax,%rcx)
-	movzbl	171(%rsp,%rcx), %edx
+	movzbl	91(%rsp,%rcx), %edx
 	movb	%dl, (%rax,%rcx)
 	addq	$4, %rcx
-	cmpq	%rcx, %r12
-	jne	13b
-	jmp	4b
-14:
-	cmpq	$32, %r12
-	jae	15f
+	cmpq	%rcx, %r13
+	jne	9b
+	jmp	11f
+	.p2align	4
+10:
+	leaq	88(%rsp), %rsi
+	movq	%r13, %rdx
+	movq	%r8, %r15
+	callq	memmove@PLT
+	movq	%r15, %r8
+11:
+	addq	%r13, %rbx
+	movq	%rbx, 24(%rsp)
+	movq	%r8, 32(%rsp)
+	movl	%ebx, %ebp
+	shrl	$16, %ebp
+	movq	%rbx, %r15
+	shrq	$32, %r15
+	movq	%rbx, %r12
+	shrq	$48, %r12
+	movl	%ebx, %ecx
+	movq	64(%rsp), %r13
+	cmpq	%r13, %rbx
+	jb	1b
+	jmp	25f
+12:
+	cmpq	$32, %r13
+	jae	13f
 	xorl	%eax, %eax
-	jmp	17f
-15:
-	movl	%r12d, %eax
-	andl	$8160, %eax
-	movq	16(%rsp), %rcx
-	addq	%r13, %rcx
+	jmp	15f
+13:
+	movq	%r13, %rax
+	andq	$-32, %rax
+	movq	8(%rsp), %rcx
+	addq	%rbx, %rcx
 	addq	$16, %rcx
 	xorl	%edx, %edx
 	.p2align	4
-16:
-	movups	168(%rsp,%rdx), %xmm0
-	movups	184(%rsp,%rdx), %xmm1
+14:
+	movups	88(%rsp,%rdx), %xmm0
+	movups	104(%rsp,%rdx), %xmm1
 	movups	%xmm0, -16(%rcx,%rdx)
 	movups	%xmm1, (%rcx,%rdx)
 	addq	$32, %rdx
 	cmpq	%rdx, %rax
-	jne	16b
-	cmpq	%rax, %r12
-	je	4b
-	testb	$28, %r12b
-	je	10b
-17:
+	jne	14b
+	cmpq	%rax, %r13
+	je	11b
+	testb	$28, %r13b
+	je	6b
+15:
 	movq	%rax, %rcx
-	movl	%r12d, %eax
-	andl	$8188, %eax
+	movq	%r13, %rax
+	andq	$-4, %rax
 	.p2align	4
-18:
-	movl	168(%rsp,%rcx), %edx
+16:
+	movl	88(%rsp,%rcx), %edx
 	movl	%edx, (%rdi,%rcx)
 	addq	$4, %rcx
 	cmpq	%rcx, %rax
-	jne	18b
-	cmpq	%rax, %r12
-	je	4b
-	jmp	10b
-19:
-	leaq	24(%rsp), %rdi
-	movq	%r12, %rsi
+	jne	16b
+	cmpq	%rax, %r13
+	je	11b
+	jmp	6b
+17:
+	leaq	16(%rsp), %rdi
+	movq	%r13, %rsi
 	callq	"std_alloc::vec::Vec::grow_amortized::<#06f9579a8fe94b13>"
 	testb	%al, %al
-	je	28f
-	movq	24(%rsp), %rax
-	movq	%rax, 16(%rsp)
-	movq	32(%rsp), %r13
-	movq	40(%rsp), %r8
-	jmp	8b
-20:
-	cmpq	$0, 40(%rsp)
-	je	21f
-	movq	24(%rsp), %rdi
+	je	26f
+	movq	16(%rsp), %rax
+	movq	%rax, 8(%rsp)
+	movq	24(%rsp), %rbx
+	movq	32(%rsp), %r8
+	jmp	4b
+18:
+	cmpq	$0, 32(%rsp)
+	je	19f
+	movq	8(%rsp), %rdi
 	callq	rattle_dealloc@PLT
-21:
-	movq	48(%rsp), %rax
+19:
+	movq	40(%rsp), %rax
 	movq	$1, (%rax)
 	movq	$2, 8(%rax)
-22:
+20:
 	xorps	%xmm0, %xmm0
 	movups	%xmm0, 16(%rax)
-	jmp	25f
-23:
-	leaq	15(%rsp), %rax
-	movq	40(%rsp), %r8
-	xorl	%ebp, %ebp
+	jmp	23f
+21:
+	leaq	7(%rsp), %rax
+	movq	32(%rsp), %r8
+	xorl	%r12d, %r12d
 	xorl	%r15d, %r15d
-	xorl	%ebx, %ebx
+	xorl	%ebp, %ebp
 	xorl	%ecx, %ecx
-24:
-	movq	$0, (%r14)
-	movq	%rax, 8(%r14)
-	movw	%cx, 16(%r14)
-	movw	%bx, 18(%r14)
-	movw	%r15w, 20(%r14)
-	movw	%bp, 22(%r14)
-	movq	%r8, 24(%r14)
-25:
-	addq	$4264, %rsp
+22:
+	movq	$0, (%rbx)
+	movq	%rax, 8(%rbx)
+	movw	%cx, 16(%rbx)
+	movw	%bp, 18(%rbx)
+	movw	%r15w, 20(%rbx)
+	movw	%r12w, 22(%rbx)
+	movq	%r8, 24(%rbx)
+23:
+	addq	$4184, %rsp
 	popq	%rbx
 	popq	%r12
 	popq	%r13
@@ -10780,42 +10884,36 @@
 	popq	%r15
 	popq	%rbp
 	retq
-26:
-	movq	24(%rsp), %rax
-	movq	40(%rsp), %rcx
-	movq	48(%rsp), %rdx
+24:
+	movq	16(%rsp), %rax
+	movq	32(%rsp), %rcx
+	movq	40(%rsp), %rdx
 	movq	$0, (%rdx)
 	movq	%rax, 8(%rdx)
-	movq	64(%rsp), %rax
+	movq	72(%rsp), %rax
 	movw	%ax, 16(%rdx)
-	movw	%bx, 18(%rdx)
+	movw	%bp, 18(%rdx)
 	movw	%r15w, 20(%rdx)
-	movw	%bp, 22(%rdx)
+	movw	%r12w, 22(%rdx)
 	movq	%rcx, 24(%rdx)
-	jmp	25b
-27:
-	movq	24(%rsp), %rax
-	movq	48(%rsp), %r14
-	jmp	24b
-28:
-	cmpq	$0, 40(%rsp)
-	je	29f
-	movq	24(%rsp), %rdi
+	jmp	23b
+25:
+	movq	16(%rsp), %rax
+	movq	40(%rsp), %rbx
+	jmp	22b
+26:
+	cmpq	$0, 32(%rsp)
+	je	27f
+	movq	16(%rsp), %rdi
 	callq	rattle_dealloc@PLT
-29:
-	movq	48(%rsp), %rax
+27:
+	movq	40(%rsp), %rax
 	movq	$1, (%rax)
 	movq	$3, 8(%rax)
-	jmp	22b
-30:
-	.size	"mime_lookup::reading::read_front::<#a8511e052651c5eb>", 30b-"mime_lookup::reading::read_front::<#a8511e052651c5eb>"
+	jmp	20b
+28:
+	.size	"mime_lookup::reading::read_front::<#a8511e052651c5eb>", 28b-"mime_lookup::reading::read_front::<#a8511e052651c5eb>"
 
-	.section	.rodata.cst16,"aM",@progbits,16
-	.p2align	4, 0x0
-1:
-	.byte	0,1,2,3,4,5,6,7,8,9,10,11,12,13,14,15
-2:
-	.byte	16,17,18,19,20,21,22,23,24,25,26,27,28,29,30,31
 	.text
 	.p2align	4
 	.type	"mime_lookup::reading::read_front::<#cd1cc0ba758309f9>",@function
@@ -10828,233 +10926,220 @@
 	pushq	%rbx
 	subq	$3072, %rsp
 	movq	$0, (%rsp)
-	subq	$1192, %rsp
-	movq	%rcx, 72(%rsp)
-	movq	%rdx, %r13
-	movq	%rsi, 48(%rsp)
+	subq	$1128, %rsp
+	movq	%rcx, 96(%rsp)
+	movq	%rdx, %rbp
+	movq	%rsi, 72(%rsp)
 	movq	%rdi, %r14
 	xorps	%xmm0, %xmm0
 	movups	%xmm0, 24(%rsp)
 	leaq	7(%rsp), %rax
 	movq	%rax, 8(%rsp)
 	movq	%rax, 16(%rsp)
-	leaq	168(%rsp), %rdi
+	leaq	104(%rsp), %rdi
 	movl	$4096, %edx
 	xorl	%esi, %esi
 	callq	memset@PLT
-	testq	%r13, %r13
-	je	23f
+	testq	%rbp, %rbp
+	je	21f
 	movq	%r14, 40(%rsp)
-	movl	$1000, %r14d
+	movl	$1000, %r13d
 	xorl	%ebx, %ebx
-	xorl	%ebp, %ebp
+	xorl	%r15d, %r15d
 	xorl	%r12d, %r12d
 	xorl	%ecx, %ecx
-	xorl	%r15d, %r15d
-	movq	%r13, 56(%rsp)
-	jmp	5f
+	xorl	%r14d, %r14d
+	movq	%rbp, 80(%rsp)
+1:
+	movq	%rcx, 88(%rsp)
+	movq	%rbp, %rax
+	subq	%r14, %rax
+	cmpq	$4096, %rax
+	movl	$4096, %ebp
+	cmovbq	%rax, %rbp
+	xorps	%xmm0, %xmm0
+	movaps	%xmm0, 48(%rsp)
+	.p2align	4
+2:
+	movq	72(%rsp), %rax
+	movl	(%rax), %esi
+	leaq	48(%rsp), %rdi
+	leaq	104(%rsp), %rdx
+	movq	%rbp, %rcx
+	callq	"mime_lookup::content::UntoldContent::read_piece::<13'std::fs::File,17'std::fs::FileRead{}>"
+	cmpb	$0, 48(%rsp)
+	je	3f
+	cmpb	$1, 49(%rsp)
+	je	18f
+	testl	%r13d, %r13d
+	je	18f
+	decl	%r13d
+	jmp	2b
 	.p2align	4
 3:
-	leaq	168(%rsp), %rsi
-	movq	%r13, %rdx
-	movq	%r8, %rbx
-	callq	memmove@PLT
-	movq	%rbx, %r8
-4:
-	addq	%r13, %r15
-	movq	%r15, 24(%rsp)
-	movq	%r8, 32(%rsp)
-	movl	%r15d, %r12d
-	shrl	$16, %r12d
-	movq	%r15, %rbp
-	shrq	$32, %rbp
-	movq	%r15, %rbx
-	shrq	$48, %rbx
-	movl	%r15d, %ecx
-	movq	56(%rsp), %r13
-	cmpq	%r13, %r15
-	jae	27f
-5:
-	movq	%rcx, 64(%rsp)
-	movq	%r13, %rax
-	subq	%r15, %rax
-	cmpq	$4096, %rax
-	movl	$4096, %r13d
-	cmovbq	%rax, %r13
-6:
-	movq	48(%rsp), %rax
-	movl	(%rax), %edi
-	leaq	168(%rsp), %rsi
-	movq	%r13, %rdx
-	callq	read@PLT
-	testq	%rax, %rax
-	jns	7f
-	callq	rattle_errno@PLT
-	leaq	80(%rsp), %rdi
-	movl	%eax, %esi
-	callq	"std_io::io::error::Error::from_raw_os_error"
-	movq	80(%rsp), %rax
-	shrq	$8, %rax
-	movaps	1b(%rip), %xmm0
-	movaps	%xmm0, 80(%rsp)
-	movaps	2b(%rip), %xmm0
-	movaps	%xmm0, 96(%rsp)
-	movabsq	$2820983053732684064, %rcx
-	movq	%rcx, 112(%rsp)
-	movb	$40, 120(%rsp)
-	cmpb	$41, %al
-	jae	20f
-	andl	$63, %eax
-	cmpb	$35, 80(%rsp,%rax)
-	jne	20f
-	testl	%r14d, %r14d
-	je	20f
-	decl	%r14d
-	jmp	6b
-	.p2align	4
-7:
-	cmpq	%r13, %rax
-	cmovbq	%rax, %r13
-	testq	%r13, %r13
-	je	26f
-	movq	72(%rsp), %rax
-	addq	%r13, (%rax)
+	movq	56(%rsp), %rbp
+	testq	%rbp, %rbp
+	je	24f
+	movq	96(%rsp), %rax
+	addq	%rbp, (%rax)
 	movq	32(%rsp), %r8
 	movq	%r8, %rax
-	subq	%r15, %rax
-	cmpq	%rax, %r13
-	leaq	168(%rsp), %rbx
-	ja	19f
-8:
+	subq	%r14, %rax
+	cmpq	%rax, %rbp
+	ja	17f
+4:
 	movq	8(%rsp), %rax
-	leaq	(%rax,%r15), %rdi
+	leaq	(%rax,%r14), %rdi
 	movq	%rdi, %rax
-	subq	%rbx, %rax
-	cmpq	%r13, %rax
-	jae	3b
-	cmpq	$4, %r13
-	jb	9f
-	movq	%r15, %rax
-	subq	%rbx, %rax
+	leaq	104(%rsp), %rcx
+	subq	%rcx, %rax
+	cmpq	%rbp, %rax
+	jae	10f
+	cmpq	$4, %rbp
+	jb	5f
+	movq	%r14, %rax
+	subq	%rcx, %rax
 	addq	8(%rsp), %rax
 	cmpq	$32, %rax
-	jae	14f
-9:
+	jae	12f
+5:
 	xorl	%eax, %eax
-10:
-	movq	%r13, %rdx
+6:
+	movq	%rbp, %rdx
 	movq	%rax, %rcx
 	andq	$3, %rdx
-	je	12f
+	je	8f
 	movq	%rax, %rcx
 	.p2align	4
-11:
-	movzbl	168(%rsp,%rcx), %esi
+7:
+	movzbl	104(%rsp,%rcx), %esi
 	movb	%sil, (%rdi,%rcx)
 	incq	%rcx
 	decq	%rdx
-	jne	11b
-12:
-	subq	%r13, %rax
+	jne	7b
+8:
+	subq	%rbp, %rax
 	cmpq	$-4, %rax
-	ja	4b
+	ja	11f
 	movq	8(%rsp), %rax
-	addq	%r15, %rax
+	addq	%r14, %rax
 	addq	$3, %rax
 	.p2align	4
-13:
-	movzbl	168(%rsp,%rcx), %edx
+9:
+	movzbl	104(%rsp,%rcx), %edx
 	movb	%dl, -3(%rax,%rcx)
-	movzbl	169(%rsp,%rcx), %edx
+	movzbl	105(%rsp,%rcx), %edx
 	movb	%dl, -2(%rax,%rcx)
-	movzbl	170(%rsp,%rcx), %edx
+	movzbl	106(%rsp,%rcx), %edx
 	movb	%dl, -1(%rax,%rcx)
-	movzbl	171(%rsp,%rcx), %edx
+	movzbl	107(%rsp,%rcx), %edx
 	movb	%dl, (%rax,%rcx)
 	addq	$4, %rcx
-	cmpq	%rcx, %r13
-	jne	13b
-	jmp	4b
-14:
-	cmpq	$32, %r13
-	jae	15f
+	cmpq	%rcx, %rbp
+	jne	9b
+	jmp	11f
+	.p2align	4
+10:
+	leaq	104(%rsp), %rsi
+	movq	%rbp, %rdx
+	movq	%r8, %rbx
+	callq	memmove@PLT
+	movq	%rbx, %r8
+11:
+	addq	%rbp, %r14
+	movq	%r14, 24(%rsp)
+	movq	%r8, 32(%rsp)
+	movl	%r14d, %r12d
+	shrl	$16, %r12d
+	movq	%r14, %r15
+	shrq	$32, %r15
+	movq	%r14, %rbx
+	shrq	$48, %rbx
+	movl	%r14d, %ecx
+	movq	80(%rsp), %rbp
+	cmpq	%rbp, %r14
+	jb	1b
+	jmp	25f
+12:
+	cmpq	$32, %rbp
+	jae	13f
 	xorl	%eax, %eax
-	jmp	17f
-15:
-	movl	%r13d, %eax
-	andl	$8160, %eax
+	jmp	15f
+13:
+	movq	%rbp, %rax
+	andq	$-32, %rax
 	movq	8(%rsp), %rcx
-	addq	%r15, %rcx
+	addq	%r14, %rcx
 	addq	$16, %rcx
 	xorl	%edx, %edx
 	.p2align	4
-16:
-	movups	168(%rsp,%rdx), %xmm0
-	movups	184(%rsp,%rdx), %xmm1
+14:
+	movups	104(%rsp,%rdx), %xmm0
+	movups	120(%rsp,%rdx), %xmm1
 	movups	%xmm0, -16(%rcx,%rdx)
 	movups	%xmm1, (%rcx,%rdx)
 	addq	$32, %rdx
 	cmpq	%rdx, %rax
-	jne	16b
-	cmpq	%rax, %r13
-	je	4b
-	testb	$28, %r13b
-	je	10b
-17:
+	jne	14b
+	cmpq	%rax, %rbp
+	je	11b
+	testb	$28, %bpl
+	je	6b
+15:
 	movq	%rax, %rcx
-	movl	%r13d, %eax
-	andl	$8188, %eax
+	movq	%rbp, %rax
+	andq	$-4, %rax
 	.p2align	4
-18:
-	movl	168(%rsp,%rcx), %edx
+16:
+	movl	104(%rsp,%rcx), %edx
 	movl	%edx, (%rdi,%rcx)
 	addq	$4, %rcx
 	cmpq	%rcx, %rax
-	jne	18b
-	cmpq	%rax, %r13
-	je	4b
-	jmp	10b
-19:
+	jne	16b
+	cmpq	%rax, %rbp
+	je	11b
+	jmp	6b
+17:
 	leaq	16(%rsp), %rdi
-	movq	%r13, %rsi
+	movq	%rbp, %rsi
 	callq	"std_alloc::vec::Vec::grow_amortized::<#06f9579a8fe94b13>"
 	testb	%al, %al
-	je	28f
+	je	26f
 	movq	16(%rsp), %rax
 	movq	%rax, 8(%rsp)
-	movq	24(%rsp), %r15
+	movq	24(%rsp), %r14
 	movq	32(%rsp), %r8
-	jmp	8b
-20:
+	jmp	4b
+18:
 	cmpq	$0, 32(%rsp)
-	je	21f
-	movq	16(%rsp), %rdi
+	je	19f
+	movq	8(%rsp), %rdi
 	callq	rattle_dealloc@PLT
-21:
+19:
 	movq	40(%rsp), %rax
 	movq	$1, (%rax)
 	movq	$2, 8(%rax)
-22:
+20:
 	xorps	%xmm0, %xmm0
 	movups	%xmm0, 16(%rax)
-	jmp	25f
-23:
+	jmp	23f
+21:
 	leaq	7(%rsp), %rax
 	movq	32(%rsp), %r8
 	xorl	%ebx, %ebx
-	xorl	%ebp, %ebp
+	xorl	%r15d, %r15d
 	xorl	%r12d, %r12d
 	xorl	%ecx, %ecx
-24:
+22:
 	movq	$0, (%r14)
 	movq	%rax, 8(%r14)
 	movw	%cx, 16(%r14)
 	movw	%r12w, 18(%r14)
-	movw	%bp, 20(%r14)
+	movw	%r15w, 20(%r14)
 	movw	%bx, 22(%r14)
 	movq	%r8, 24(%r14)
-25:
-	addq	$4264, %rsp
+23:
+	addq	$4200, %rsp
 	popq	%rbx
 	popq	%r12
 	popq	%r13
@@ -11062,35 +11147,35 @@
 	popq	%r15
 	popq	%rbp
 	retq
-26:
+24:
 	movq	16(%rsp), %rax
 	movq	32(%rsp), %rcx
 	movq	40(%rsp), %rdx
 	movq	$0, (%rdx)
 	movq	%rax, 8(%rdx)
-	movq	64(%rsp), %rax
+	movq	88(%rsp), %rax
 	movw	%ax, 16(%rdx)
 	movw	%r12w, 18(%rdx)
-	movw	%bp, 20(%rdx)
+	movw	%r15w, 20(%rdx)
 	movw	%bx, 22(%rdx)
 	movq	%rcx, 24(%rdx)
-	jmp	25b
-27:
+	jmp	23b
+25:
 	movq	16(%rsp), %rax
 	movq	40(%rsp), %r14
-	jmp	24b
-28:
+	jmp	22b
+26:
 	cmpq	$0, 32(%rsp)
-	je	29f
+	je	27f
 	movq	16(%rsp), %rdi
 	callq	rattle_dealloc@PLT
-29:
+27:
 	movq	40(%rsp), %rax
 	movq	$1, (%rax)
 	movq	$3, 8(%rax)
-	jmp	22b
-30:
-	.size	"mime_lookup::reading::read_front::<#cd1cc0ba758309f9>", 30b-"mime_lookup::reading::read_front::<#cd1cc0ba758309f9>"
+	jmp	20b
+28:
+	.size	"mime_lookup::reading::read_front::<#cd1cc0ba758309f9>", 28b-"mime_lookup::reading::read_front::<#cd1cc0ba758309f9>"
 
 	.text
 	.p2align	4

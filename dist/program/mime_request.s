@@ -342,7 +342,7 @@
 	movq	%rax, 624(%rsp)
 	movq	$5, 632(%rsp)
 	movq	$1, 640(%rsp)
-	leaq	.L8951d447a1f3(%rip), %rcx
+	leaq	.L81e54fa2e54f(%rip), %rcx
 	movq	%rcx, 648(%rsp)
 	movq	$53, 656(%rsp)
 	xorps	%xmm0, %xmm0
@@ -423,7 +423,7 @@
 	movq	%rax, 16(%rsp)
 	movq	$4, 24(%rsp)
 	movq	$1, 32(%rsp)
-	leaq	.Ld53bf20d4a47(%rip), %rax
+	leaq	.L797f014df943(%rip), %rax
 	movq	%rax, 40(%rsp)
 	movq	$127, 48(%rsp)
 	xorps	%xmm0, %xmm0
@@ -1978,7 +1978,7 @@
 	movq	%r15, 2112(%rsp)
 	movq	$4, 2120(%rsp)
 	movq	$1, 2128(%rsp)
-	leaq	.Ld53bf20d4a47(%rip), %r12
+	leaq	.L797f014df943(%rip), %r12
 	movq	%r12, 2136(%rsp)
 	movq	$127, 2144(%rsp)
 	xorps	%xmm0, %xmm0
@@ -2348,12 +2348,12 @@
 	leaq	.L337bb3f0084d(%rip), %rax
 	movq	%rax, 3712(%rsp)
 	movq	$54, 3720(%rsp)
-	leaq	.L55c3742fb696(%rip), %rax
+	leaq	.Lee247ddd7fed(%rip), %rax
 	movq	%rax, 3728(%rsp)
-	movq	$185, 3736(%rsp)
-	leaq	.L463d4e2a585a(%rip), %rax
+	movq	$206, 3736(%rsp)
+	leaq	.Ladfe6cd27f2c(%rip), %rax
 	movq	%rax, 3744(%rsp)
-	movq	$788, 3752(%rsp)
+	movq	$891, 3752(%rsp)
 	leaq	2112(%rsp), %rsi
 	leaq	3712(%rsp), %rdx
 	leaq	5680(%rsp), %rdi
@@ -3204,12 +3204,12 @@
 	leaq	.L0b4a2d47cb3a(%rip), %rax
 	movq	%rax, 16(%rsp)
 	movq	$43, 24(%rsp)
-	leaq	.Lbe3499bcd3e4(%rip), %rax
+	leaq	.Ld40b30192e9d(%rip), %rax
 	movq	%rax, 32(%rsp)
-	movq	$202, 40(%rsp)
-	leaq	.La883b7dbfd0a(%rip), %rax
+	movq	$223, 40(%rsp)
+	leaq	.L454e4f5a64d7(%rip), %rax
 	movq	%rax, 48(%rsp)
-	movq	$741, 56(%rsp)
+	movq	$841, 56(%rsp)
 	leaq	.Lf104d05df27b(%rip), %rsi
 	leaq	16(%rsp), %rcx
 	movl	$4, %edx
@@ -3238,7 +3238,7 @@
 	movq	%rax, 64(%rsp)
 	movq	$4, 72(%rsp)
 	movq	$1, 80(%rsp)
-	leaq	.Lbac1d79f1c50(%rip), %rcx
+	leaq	.Lcc00331ed980(%rip), %rcx
 	movq	%rcx, 88(%rsp)
 	movq	$173, 96(%rsp)
 	xorps	%xmm0, %xmm0
@@ -4370,7 +4370,7 @@
 	movq	%rax, 624(%rsp)
 	movq	$9, 632(%rsp)
 	movq	$1, 640(%rsp)
-	leaq	.L7c59a1027fc7(%rip), %rcx
+	leaq	.Lbd5f4b5772e7(%rip), %rcx
 	movq	%rcx, 648(%rsp)
 	movq	$108, 656(%rsp)
 	xorps	%xmm0, %xmm0
@@ -4707,7 +4707,7 @@
 	movq	%rax, 624(%rsp)
 	movq	$6, 632(%rsp)
 	movq	$1, 640(%rsp)
-	leaq	.Lda9e26e33836(%rip), %rcx
+	leaq	.Lfbf471e2654e(%rip), %rcx
 	movq	%rcx, 648(%rsp)
 	movq	$81, 656(%rsp)
 	xorps	%xmm0, %xmm0
@@ -4787,180 +4787,251 @@
 	pushq	%rbx
 	subq	$3072, %rsp
 	movq	$0, (%rsp)
-	subq	$184, %rsp
+	subq	$1480, %rsp
 	movq	%rsi, %r12
 	movq	%rdi, %rbx
-	leaq	1904(%rsp), %r14
+	leaq	3200(%rsp), %r14
 	movl	$680, %edx
 	movq	%r14, %rdi
 	xorl	%esi, %esi
 	callq	memset@PLT
-	leaq	1224(%rsp), %rdi
+	leaq	2520(%rsp), %rdi
 	movl	$680, %edx
 	xorl	%esi, %esi
 	callq	memset@PLT
-	leaq	8(%rsp), %rdi
+	leaq	624(%rsp), %rdi
 	movl	$608, %edx
 	xorl	%esi, %esi
 	callq	memset@PLT
-	leaq	2584(%rsp), %r15
+	leaq	1840(%rsp), %rdi
+	movl	$680, %edx
+	xorl	%esi, %esi
+	callq	memset@PLT
+	leaq	16(%rsp), %rdi
+	movl	$608, %edx
+	xorl	%esi, %esi
+	callq	memset@PLT
+	leaq	3880(%rsp), %r15
 	movl	$672, %edx
 	movq	%r15, %rdi
 	movq	%r12, %rsi
 	callq	memcpy@PLT
-	leaq	.L10dd95ff2c9c(%rip), %rax
-	movq	%rax, 616(%rsp)
-	movq	$5, 624(%rsp)
-	movq	$1, 632(%rsp)
-	leaq	.L76551a7a2e9f(%rip), %rcx
-	movq	%rcx, 640(%rsp)
-	movq	$97, 648(%rsp)
+	leaq	.L92a1455e1d13(%rip), %rax
+	movq	%rax, 1232(%rsp)
+	movq	$11, 1240(%rsp)
+	movq	$1, 1248(%rsp)
+	leaq	.L3e85f977af39(%rip), %rcx
+	movq	%rcx, 1256(%rsp)
+	movq	$101, 1264(%rsp)
 	xorps	%xmm0, %xmm0
-	movups	%xmm0, 656(%rsp)
-	movups	%xmm0, 672(%rsp)
-	movq	$1, 688(%rsp)
-	movq	%rax, 696(%rsp)
-	movq	$5, 704(%rsp)
-	movq	%rsp, %r12
-	movq	%r12, 712(%rsp)
-	movups	%xmm0, 720(%rsp)
-	movq	%r12, 736(%rsp)
-	movups	%xmm0, 744(%rsp)
-	movq	%r12, 760(%rsp)
-	movups	%xmm0, 768(%rsp)
-	movq	%r12, 784(%rsp)
-	movups	%xmm0, 792(%rsp)
-	movq	%r12, 808(%rsp)
-	movups	%xmm0, 816(%rsp)
-	movq	%r12, 832(%rsp)
-	movups	%xmm0, 840(%rsp)
-	movq	%r12, 856(%rsp)
-	movups	%xmm0, 864(%rsp)
-	movq	%r12, 880(%rsp)
-	movups	%xmm0, 888(%rsp)
-	movq	%r12, 904(%rsp)
-	movups	%xmm0, 912(%rsp)
-	movq	%r12, 928(%rsp)
-	movups	%xmm0, 936(%rsp)
-	movq	$1, 952(%rsp)
-	movq	%r12, 960(%rsp)
-	movq	$0, 968(%rsp)
-	movq	$1, 976(%rsp)
-	movq	%r12, 984(%rsp)
-	movq	$0, 992(%rsp)
-	movq	%r12, 1000(%rsp)
-	movups	%xmm0, 1008(%rsp)
-	movq	$0, 1024(%rsp)
-	leaq	.Le8771719ab66(%rip), %rax
-	movq	%rax, 1032(%rsp)
-	movq	$4, 1040(%rsp)
-	movups	%xmm0, 1048(%rsp)
-	movups	%xmm0, 1064(%rsp)
-	movups	%xmm0, 1080(%rsp)
-	movups	%xmm0, 1096(%rsp)
-	movups	%xmm0, 1112(%rsp)
-	movups	%xmm0, 1128(%rsp)
-	movups	%xmm0, 1144(%rsp)
-	movups	%xmm0, 1160(%rsp)
-	movups	%xmm0, 1176(%rsp)
-	movups	%xmm0, 1192(%rsp)
-	movups	%xmm0, 1208(%rsp)
-	leaq	616(%rsp), %rdx
+	movups	%xmm0, 1272(%rsp)
+	movups	%xmm0, 1288(%rsp)
+	movq	$1, 1304(%rsp)
+	movq	%rax, 1312(%rsp)
+	movq	$11, 1320(%rsp)
+	leaq	8(%rsp), %r12
+	movq	%r12, 1328(%rsp)
+	movups	%xmm0, 1336(%rsp)
+	movq	%r12, 1352(%rsp)
+	movups	%xmm0, 1360(%rsp)
+	movq	%r12, 1376(%rsp)
+	movups	%xmm0, 1384(%rsp)
+	movq	%r12, 1400(%rsp)
+	movups	%xmm0, 1408(%rsp)
+	movq	%r12, 1424(%rsp)
+	movups	%xmm0, 1432(%rsp)
+	movq	%r12, 1448(%rsp)
+	movups	%xmm0, 1456(%rsp)
+	movq	%r12, 1472(%rsp)
+	movups	%xmm0, 1480(%rsp)
+	movq	%r12, 1496(%rsp)
+	movups	%xmm0, 1504(%rsp)
+	movq	%r12, 1520(%rsp)
+	movups	%xmm0, 1528(%rsp)
+	movq	%r12, 1544(%rsp)
+	movups	%xmm0, 1552(%rsp)
+	movq	$1, 1568(%rsp)
+	movq	%r12, 1576(%rsp)
+	movq	$0, 1584(%rsp)
+	movq	$1, 1592(%rsp)
+	movq	%r12, 1600(%rsp)
+	movq	$0, 1608(%rsp)
+	movq	%r12, 1616(%rsp)
+	movups	%xmm0, 1624(%rsp)
+	movq	$0, 1640(%rsp)
+	leaq	.L01d6a3bc2498(%rip), %rax
+	movq	%rax, 1648(%rsp)
+	movq	$4, 1656(%rsp)
+	movups	%xmm0, 1664(%rsp)
+	movups	%xmm0, 1680(%rsp)
+	movups	%xmm0, 1696(%rsp)
+	movups	%xmm0, 1712(%rsp)
+	movups	%xmm0, 1728(%rsp)
+	movups	%xmm0, 1744(%rsp)
+	movups	%xmm0, 1760(%rsp)
+	movups	%xmm0, 1776(%rsp)
+	movups	%xmm0, 1792(%rsp)
+	movups	%xmm0, 1808(%rsp)
+	movups	%xmm0, 1824(%rsp)
+	leaq	1232(%rsp), %rdx
 	movq	%r14, %rdi
 	movq	%r15, %rsi
 	callq	"clap::builder::command::Command::arg"
-	cmpb	$0, 1904(%rsp)
-	je	1f
+	cmpb	$0, 3200(%rsp)
+	jne	1f
+	leaq	3208(%rsp), %rsi
+	leaq	.L10dd95ff2c9c(%rip), %rax
+	movq	%rax, 624(%rsp)
+	movq	$5, 632(%rsp)
+	movq	$1, 640(%rsp)
+	leaq	.L6f732a247f6f(%rip), %rcx
+	movq	%rcx, 648(%rsp)
+	movq	$97, 656(%rsp)
+	xorps	%xmm0, %xmm0
+	movups	%xmm0, 664(%rsp)
+	movups	%xmm0, 680(%rsp)
+	movq	$1, 696(%rsp)
+	movq	%rax, 704(%rsp)
+	movq	$5, 712(%rsp)
+	movq	%r12, 720(%rsp)
+	movups	%xmm0, 728(%rsp)
+	movq	%r12, 744(%rsp)
+	movups	%xmm0, 752(%rsp)
+	movq	%r12, 768(%rsp)
+	movups	%xmm0, 776(%rsp)
+	movq	%r12, 792(%rsp)
+	movups	%xmm0, 800(%rsp)
+	movq	%r12, 816(%rsp)
+	movups	%xmm0, 824(%rsp)
+	movq	%r12, 840(%rsp)
+	movups	%xmm0, 848(%rsp)
+	movq	%r12, 864(%rsp)
+	movups	%xmm0, 872(%rsp)
+	movq	%r12, 888(%rsp)
+	movups	%xmm0, 896(%rsp)
+	movq	%r12, 912(%rsp)
+	movups	%xmm0, 920(%rsp)
+	movq	%r12, 936(%rsp)
+	movups	%xmm0, 944(%rsp)
+	movq	$1, 960(%rsp)
+	movq	%r12, 968(%rsp)
+	movq	$0, 976(%rsp)
+	movq	$1, 984(%rsp)
+	movq	%r12, 992(%rsp)
+	movq	$0, 1000(%rsp)
+	movq	%r12, 1008(%rsp)
+	movups	%xmm0, 1016(%rsp)
+	movq	$0, 1032(%rsp)
+	leaq	.Le8771719ab66(%rip), %rax
+	movq	%rax, 1040(%rsp)
+	movq	$4, 1048(%rsp)
+	movups	%xmm0, 1056(%rsp)
+	movups	%xmm0, 1072(%rsp)
+	movups	%xmm0, 1088(%rsp)
+	movups	%xmm0, 1104(%rsp)
+	movups	%xmm0, 1120(%rsp)
+	movups	%xmm0, 1136(%rsp)
+	movups	%xmm0, 1152(%rsp)
+	movups	%xmm0, 1168(%rsp)
+	movups	%xmm0, 1184(%rsp)
+	movups	%xmm0, 1200(%rsp)
+	movups	%xmm0, 1216(%rsp)
+	leaq	2520(%rsp), %rdi
+	leaq	624(%rsp), %rdx
+	callq	"clap::builder::command::Command::arg"
+	cmpb	$0, 2520(%rsp)
+	je	4f
+1:
 	movb	$1, (%rbx)
 	addq	$8, %rbx
 	movl	$672, %edx
 	movq	%rbx, %rdi
-	jmp	2f
-1:
-	leaq	1912(%rsp), %rsi
-	leaq	.Lfcdf8571ef04(%rip), %rax
-	movq	%rax, 8(%rsp)
-	movq	$4, 16(%rsp)
-	movq	$1, 24(%rsp)
-	leaq	.L579358eabf37(%rip), %rax
-	movq	%rax, 32(%rsp)
-	movq	$68, 40(%rsp)
-	xorps	%xmm0, %xmm0
-	movups	%xmm0, 48(%rsp)
-	movups	%xmm0, 64(%rsp)
-	movups	%xmm0, 80(%rsp)
-	movq	$0, 96(%rsp)
-	movq	%r12, 104(%rsp)
-	movups	%xmm0, 112(%rsp)
-	movq	%r12, 128(%rsp)
-	movups	%xmm0, 136(%rsp)
-	movq	%r12, 152(%rsp)
-	movups	%xmm0, 160(%rsp)
-	movq	%r12, 176(%rsp)
-	movups	%xmm0, 184(%rsp)
-	movq	%r12, 200(%rsp)
-	movups	%xmm0, 208(%rsp)
-	movq	%r12, 224(%rsp)
-	movups	%xmm0, 232(%rsp)
-	movq	%r12, 248(%rsp)
-	movups	%xmm0, 256(%rsp)
-	movq	%r12, 272(%rsp)
-	movups	%xmm0, 280(%rsp)
-	movq	%r12, 296(%rsp)
-	movups	%xmm0, 304(%rsp)
-	movq	%r12, 320(%rsp)
-	movups	%xmm0, 328(%rsp)
-	movq	$1, 344(%rsp)
-	movq	%r12, 352(%rsp)
-	movq	$0, 360(%rsp)
-	movq	$1, 368(%rsp)
-	movq	%r12, 376(%rsp)
-	movq	$0, 384(%rsp)
-	movq	%r12, 392(%rsp)
-	movups	%xmm0, 400(%rsp)
-	movq	$0, 416(%rsp)
-	leaq	.Le2d0fcf04739(%rip), %rax
-	movq	%rax, 424(%rsp)
-	movq	$4, 432(%rsp)
-	movq	$1, 440(%rsp)
-	movq	$1, 448(%rsp)
-	movq	$-1, 456(%rsp)
-	movups	%xmm0, 464(%rsp)
-	movups	%xmm0, 480(%rsp)
-	movups	%xmm0, 496(%rsp)
-	movups	%xmm0, 512(%rsp)
-	movups	%xmm0, 528(%rsp)
-	movups	%xmm0, 544(%rsp)
-	movups	%xmm0, 560(%rsp)
-	movups	%xmm0, 576(%rsp)
-	movups	%xmm0, 592(%rsp)
-	movq	$0, 608(%rsp)
-	leaq	1224(%rsp), %rdi
-	leaq	8(%rsp), %rdx
-	callq	"clap::builder::command::Command::arg"
-	leaq	8(%rbx), %rdi
-	cmpb	$0, 1224(%rsp)
-	je	4f
-	movb	$1, (%rbx)
-	movl	$672, %edx
 2:
 	xorl	%esi, %esi
 	callq	memset@PLT
 3:
-	addq	$3256, %rsp
+	addq	$4552, %rsp
 	popq	%rbx
 	popq	%r12
 	popq	%r14
 	popq	%r15
 	retq
 4:
-	leaq	1232(%rsp), %rsi
+	leaq	2528(%rsp), %rsi
+	leaq	.Lfcdf8571ef04(%rip), %rax
+	movq	%rax, 16(%rsp)
+	movq	$4, 24(%rsp)
+	movq	$1, 32(%rsp)
+	leaq	.L579358eabf37(%rip), %rax
+	movq	%rax, 40(%rsp)
+	movq	$68, 48(%rsp)
+	xorps	%xmm0, %xmm0
+	movups	%xmm0, 56(%rsp)
+	movups	%xmm0, 72(%rsp)
+	movups	%xmm0, 88(%rsp)
+	movq	$0, 104(%rsp)
+	movq	%r12, 112(%rsp)
+	movups	%xmm0, 120(%rsp)
+	movq	%r12, 136(%rsp)
+	movups	%xmm0, 144(%rsp)
+	movq	%r12, 160(%rsp)
+	movups	%xmm0, 168(%rsp)
+	movq	%r12, 184(%rsp)
+	movups	%xmm0, 192(%rsp)
+	movq	%r12, 208(%rsp)
+	movups	%xmm0, 216(%rsp)
+	movq	%r12, 232(%rsp)
+	movups	%xmm0, 240(%rsp)
+	movq	%r12, 256(%rsp)
+	movups	%xmm0, 264(%rsp)
+	movq	%r12, 280(%rsp)
+	movups	%xmm0, 288(%rsp)
+	movq	%r12, 304(%rsp)
+	movups	%xmm0, 312(%rsp)
+	movq	%r12, 328(%rsp)
+	movups	%xmm0, 336(%rsp)
+	movq	$1, 352(%rsp)
+	movq	%r12, 360(%rsp)
+	movq	$0, 368(%rsp)
+	movq	$1, 376(%rsp)
+	movq	%r12, 384(%rsp)
+	movq	$0, 392(%rsp)
+	movq	%r12, 400(%rsp)
+	movups	%xmm0, 408(%rsp)
+	movq	$0, 424(%rsp)
+	leaq	.Le2d0fcf04739(%rip), %rax
+	movq	%rax, 432(%rsp)
+	movq	$4, 440(%rsp)
+	movq	$1, 448(%rsp)
+	movq	$1, 456(%rsp)
+	movq	$-1, 464(%rsp)
+	movups	%xmm0, 472(%rsp)
+	movups	%xmm0, 488(%rsp)
+	movups	%xmm0, 504(%rsp)
+	movups	%xmm0, 520(%rsp)
+	movups	%xmm0, 536(%rsp)
+	movups	%xmm0, 552(%rsp)
+	movups	%xmm0, 568(%rsp)
+	movups	%xmm0, 584(%rsp)
+	movups	%xmm0, 600(%rsp)
+	movq	$0, 616(%rsp)
+	leaq	1840(%rsp), %rdi
+	leaq	16(%rsp), %rdx
+	callq	"clap::builder::command::Command::arg"
+	leaq	8(%rbx), %rdi
+	cmpb	$0, 1840(%rsp)
+	je	5f
+	movb	$1, (%rbx)
+	movl	$672, %edx
+	jmp	2b
+5:
+	leaq	1848(%rsp), %rsi
 	movb	$0, (%rbx)
 	movl	$672, %edx
 	callq	memcpy@PLT
 	jmp	3b
-5:
-	.size	"mime_request::command::with_subjects", 5b-"mime_request::command::with_subjects"
+6:
+	.size	"mime_request::command::with_subjects", 6b-"mime_request::command::with_subjects"
 
 	.text
 	.p2align	4
@@ -6406,7 +6477,7 @@
 	movdqa	%xmm0, 32(%rsp)
 	movq	$0, 48(%rsp)
 	testq	%rdx, %rdx
-	je	8f
+	je	12f
 	movq	%rdx, %rax
 	leaq	56(%rsi), %rcx
 	jmp	2f
@@ -6429,103 +6500,144 @@
 	jne	1b
 	cmpq	$0, (%rcx)
 	je	3f
-	movq	-8(%rcx), %rcx
-	movq	(%rcx), %rdx
-	movq	8(%rcx), %rdi
-	xorl	%ecx, %ecx
+	movq	-8(%rcx), %rdx
+	movq	(%rdx), %rcx
+	movq	8(%rdx), %rdi
+	xorl	%r8d, %r8d
 	jmp	4f
 3:
-	movb	$1, %cl
-	xorl	%edx, %edx
+	movb	$1, %r8b
+	xorl	%ecx, %ecx
 	xorl	%edi, %edi
 4:
-	addq	$56, %rsi
+	leaq	56(%rsi), %rdx
+	movq	%rax, %r9
 	jmp	6f
 	.p2align	4
 5:
+	decq	%r9
+	addq	$104, %rdx
+	testq	%r9, %r9
+	je	7f
+6:
+	cmpq	$11, -48(%rdx)
+	jne	5b
+	movq	-56(%rdx), %r10
+	movabsq	$7362594238001604966, %r11
+	cmpq	%r11, (%r10)
+	jne	5b
+	movabsq	$7885647255719408485, %r11
+	cmpq	%r11, 3(%r10)
+	jne	5b
+	cmpq	$0, (%rdx)
+	je	7f
+	movq	-8(%rdx), %r9
+	movq	(%r9), %rdx
+	movq	8(%r9), %r14
+	xorl	%r9d, %r9d
+	jmp	8f
+7:
+	movb	$1, %r9b
+	xorl	%edx, %edx
+	xorl	%r14d, %r14d
+8:
+	addq	$56, %rsi
+	jmp	10f
+	.p2align	4
+9:
 	decq	%rax
 	addq	$104, %rsi
 	testq	%rax, %rax
-	je	7f
-6:
+	je	11f
+10:
 	cmpq	$4, -48(%rsi)
-	jne	5b
-	movq	-56(%rsi), %r8
-	movl	(%r8), %r8d
-	movq	%r8, %r9
-	shlq	$32, %r9
-	orq	%r8, %r9
-	movabsq	$7308332183824656742, %r8
-	cmpq	%r8, %r9
-	jne	5b
-	testb	%cl, %cl
-	je	10f
+	jne	9b
+	movq	-56(%rsi), %r10
+	movl	(%r10), %r10d
+	movq	%r10, %r11
+	shlq	$32, %r11
+	orq	%r10, %r11
+	movabsq	$7308332183824656742, %r10
+	cmpq	%r10, %r11
+	jne	9b
+	testb	%r9b, %r8b
+	je	14f
 	movq	(%rsi), %r14
 	testq	%r14, %r14
-	je	12f
+	je	17f
 	movabsq	$576460752303423486, %r12
 	leaq	2(%r12), %rax
 	cmpq	%rax, %r14
-	jae	11f
+	jae	16f
 	movq	-8(%rsi), %r15
 	movq	%r14, %rdi
 	shlq	$4, %rdi
 	movl	$8, %esi
 	callq	rattle_alloc@PLT
 	testb	$1, %al
-	je	11f
+	je	16f
 	cmpq	$1, %r14
-	jne	13f
+	jne	18f
 	xorl	%eax, %eax
-	jmp	15f
-7:
-	testb	%cl, %cl
-	je	9f
-8:
-	leaq	.L49b4ca98a117(%rip), %rdx
+	jmp	20f
+11:
+	testb	%r8b, %r8b
+	je	13f
+	testb	%r9b, %r9b
+	je	15f
+12:
+	leaq	.Lab5c34a0a1e7(%rip), %rdx
 	leaq	64(%rsp), %rdi
-	movl	$27, %ecx
+	movl	$47, %ecx
 	movl	$9, %esi
 	callq	"mime_request::request::found::refusal"
 	movzbl	64(%rsp), %eax
 	movzbl	72(%rsp), %edx
-	movdqa	80(%rsp), %xmm0
-	movl	$1, %ecx
-	movq	96(%rsp), %rsi
-	jmp	18f
-9:
-	movq	%rdi, %xmm0
+	movq	80(%rsp), %r14
+	movl	$1, %esi
+	movdqu	88(%rsp), %xmm0
+	jmp	22f
+13:
+	testb	%r9b, %r9b
+	je	14f
+	pxor	%xmm0, %xmm0
 	movb	$1, %al
-	xorl	%ecx, %ecx
-	jmp	17f
-10:
-	leaq	.L32e1dc0904fe(%rip), %rdx
+	xorl	%esi, %esi
+	movq	%rdi, %r14
+	movq	%rcx, %rdx
+	jmp	22f
+14:
+	leaq	.L555bd5c6dcac(%rip), %rdx
 	leaq	16(%rsp), %rdi
-	movl	$36, %ecx
+	movl	$54, %ecx
 	movl	$8, %esi
 	callq	"mime_request::request::found::refusal"
 	movzbl	16(%rsp), %eax
 	movzbl	24(%rsp), %edx
-	movdqa	32(%rsp), %xmm0
-	movl	$1, %ecx
-	movq	48(%rsp), %rsi
-	jmp	18f
-11:
+	movq	32(%rsp), %r14
+	movl	$1, %esi
+	movdqu	40(%rsp), %xmm0
+	jmp	22f
+15:
+	pxor	%xmm0, %xmm0
+	movb	$2, %al
+	xorl	%esi, %esi
+	jmp	22f
+16:
 	movq	$1, (%rbx)
 	movb	$16, 8(%rbx)
 	pxor	%xmm0, %xmm0
 	movdqu	%xmm0, 16(%rbx)
-	movdqu	%xmm0, 32(%rbx)
-	jmp	19f
-12:
+	jmp	23f
+17:
 	leaq	8(%rsp), %rdx
-	jmp	16f
-13:
+	jmp	21f
+18:
 	andq	%r14, %r12
 	movl	$24, %ecx
 	xorl	%eax, %eax
 	.p2align	4
-14:
+19:
 	movups	-24(%r15,%rcx), %xmm0
 	movups	%xmm0, -24(%rdx,%rcx)
 	movdqu	-8(%r15,%rcx), %xmm0
@@ -6533,32 +6645,29 @@
 	addq	$2, %rax
 	addq	$32, %rcx
 	cmpq	%rax, %r12
-	jne	14b
+	jne	19b
 	testb	$1, %r14b
-	je	16f
-15:
+	je	21f
+20:
 	shlq	$4, %rax
 	movdqu	(%r15,%rax), %xmm0
 	movdqu	%xmm0, (%rdx,%rax)
-16:
+21:
 	movq	%r14, %xmm0
-	pshufd	$68, %xmm0, %xmm0
-	xorl	%ecx, %ecx
-	xorl	%eax, %eax
-17:
 	xorl	%esi, %esi
-18:
-	movq	%rcx, (%rbx)
+	xorl	%eax, %eax
+22:
+	movq	%rsi, (%rbx)
 	movb	%al, 8(%rbx)
 	movq	%rdx, 16(%rbx)
-	movdqu	%xmm0, 24(%rbx)
-	movq	%rsi, 40(%rbx)
-19:
+	movq	%r14, 24(%rbx)
+23:
+	movdqu	%xmm0, 32(%rbx)
 	addq	$104, %rsp
 	popq	%rbx
 	popq	%r12
 	popq	%r14
 	popq	%r15
 	retq
-20:
-	.size	"mime_request::request::found::subjects_of", 20b-"mime_request::request::found::subjects_of"
+24:
+	.size	"mime_request::request::found::subjects_of", 24b-"mime_request::request::found::subjects_of"

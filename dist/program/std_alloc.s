@@ -632,7 +632,7 @@
 	leaq	16(%rsp), %rdi
 	movq	%rdx, %r13
 	movq	%rdx, %rsi
-	callq	"std_alloc::vec::Vec::grow_amortized::<#06f9579a8fe94b13>"
+	callq	"std_alloc::vec::Vec::grow_amortized::<#1d775b5957dec42c>"
 	testb	%al, %al
 	je	9b
 	movq	16(%rsp), %rax
@@ -1737,7 +1737,7 @@
 	leaq	8(%rsp), %rdi
 	movq	%rdx, %rbp
 	movq	%rdx, %rsi
-	callq	"std_alloc::vec::Vec::grow_amortized::<#06f9579a8fe94b13>"
+	callq	"std_alloc::vec::Vec::grow_amortized::<#1d775b5957dec42c>"
 	testb	%al, %al
 	je	48f
 	movq	8(%rsp), %rbx
@@ -1750,7 +1750,7 @@
 	leaq	8(%rsp), %rdi
 	movq	%r13, %rsi
 	movq	%r12, %rdx
-	callq	"core::fmt::formatter::Formatter::write_indented::<#d910c43882378494>"
+	callq	"core::fmt::formatter::Formatter::write_indented::<#0a7ff941e43d6b30>"
 	leaq	36(%rsp), %r11
 	testb	%al, %al
 	jne	48f
@@ -1791,7 +1791,7 @@
 41:
 	leaq	8(%rsp), %rdi
 	movq	%r12, %rsi
-	callq	"std_alloc::vec::Vec::grow_amortized::<#06f9579a8fe94b13>"
+	callq	"std_alloc::vec::Vec::grow_amortized::<#1d775b5957dec42c>"
 	leaq	36(%rsp), %r11
 	testb	%al, %al
 	je	48f
@@ -1803,7 +1803,7 @@
 	leaq	8(%rsp), %rdi
 	movq	%r15, %rsi
 	movq	%r14, %rdx
-	callq	"core::fmt::formatter::Formatter::write_indented::<#d910c43882378494>"
+	callq	"core::fmt::formatter::Formatter::write_indented::<#0a7ff941e43d6b30>"
 	movaps	80(%rsp), %xmm0
 	movups	%xmm0, (%rbx)
 	movq	96(%rsp), %rcx
@@ -1847,7 +1847,7 @@
 47:
 	leaq	8(%rsp), %rdi
 	movq	%r14, %rsi
-	callq	"std_alloc::vec::Vec::grow_amortized::<#06f9579a8fe94b13>"
+	callq	"std_alloc::vec::Vec::grow_amortized::<#1d775b5957dec42c>"
 	testb	%al, %al
 	je	48f
 	movq	16(%rsp), %rax
@@ -2009,7 +2009,7 @@
 	leaq	16(%rsp), %rdi
 	movq	%rdx, %r12
 	movq	%rdx, %rsi
-	callq	"std_alloc::vec::Vec::grow_amortized::<#06f9579a8fe94b13>"
+	callq	"std_alloc::vec::Vec::grow_amortized::<#1d775b5957dec42c>"
 	testb	%al, %al
 	je	16f
 	movq	16(%rsp), %rax
@@ -2027,6 +2027,327 @@
 	jmp	9b
 17:
 	.size	"std_alloc::string::String::format::<#cba637970f1a6228>", 17b-"std_alloc::string::String::format::<#cba637970f1a6228>"
+
+	.text
+	.p2align	4
+	.type	"std_alloc::string::String::format::<#f2176ccb71fc584c>",@function
+"std_alloc::string::String::format::<#f2176ccb71fc584c>":
+	pushq	%rbp
+	pushq	%r15
+	pushq	%r14
+	pushq	%r13
+	pushq	%r12
+	pushq	%rbx
+	subq	$152, %rsp
+	movq	%rsi, %rax
+	movq	%rdi, %rbx
+	movq	(%rsi), %rsi
+	movq	8(%rax), %rdx
+	movq	16(%rax), %r12
+	movq	24(%rax), %r15
+	movq	32(%rax), %r14
+	xorps	%xmm0, %xmm0
+	movups	%xmm0, 127(%rsp)
+	movaps	%xmm0, 112(%rsp)
+	movups	%xmm0, 24(%rsp)
+	movl	$0, 73(%rsp)
+	movl	$0, 76(%rsp)
+	leaq	15(%rsp), %rax
+	movq	%rax, 16(%rsp)
+	movl	$32, 40(%rsp)
+	movq	$0, 44(%rsp)
+	movl	$0, 52(%rsp)
+	movq	$-1, 56(%rsp)
+	movq	$0, 64(%rsp)
+	movb	$0, 72(%rsp)
+	movl	40(%rsp), %ecx
+	movl	%ecx, 80(%rsp)
+	movq	44(%rsp), %rcx
+	movq	%rcx, 84(%rsp)
+	movl	52(%rsp), %ecx
+	movl	%ecx, 92(%rsp)
+	movq	$-1, 96(%rsp)
+	movl	$32, 40(%rsp)
+	movq	$0, 44(%rsp)
+	movl	$0, 52(%rsp)
+	movq	24(%rsp), %rcx
+	movq	32(%rsp), %r13
+	movq	%r13, %rdi
+	subq	%rcx, %rdi
+	cmpq	%rdi, %rdx
+	ja	26f
+1:
+	leaq	(%rcx,%rdx), %rbp
+	leaq	(%rax,%rcx), %rdi
+	movq	%rdi, %r8
+	subq	%rsi, %r8
+	cmpq	%rdx, %r8
+	jae	7f
+	cmpq	$4, %rdx
+	jb	2f
+	cmpq	$32, %r8
+	jae	21f
+2:
+	xorl	%r8d, %r8d
+3:
+	movq	%rdx, %r10
+	movq	%r8, %r9
+	andq	$3, %r10
+	je	5f
+	movq	%r8, %r9
+	.p2align	4
+4:
+	movzbl	(%rsi,%r9), %r11d
+	movb	%r11b, (%rdi,%r9)
+	incq	%r9
+	decq	%r10
+	jne	4b
+5:
+	subq	%rdx, %r8
+	cmpq	$-4, %r8
+	ja	8f
+	addq	%rcx, %rax
+	addq	$3, %rax
+	.p2align	4
+6:
+	movzbl	(%rsi,%r9), %ecx
+	movb	%cl, -3(%rax,%r9)
+	movzbl	1(%rsi,%r9), %ecx
+	movb	%cl, -2(%rax,%r9)
+	movzbl	2(%rsi,%r9), %ecx
+	movb	%cl, -1(%rax,%r9)
+	movzbl	3(%rsi,%r9), %ecx
+	movb	%cl, (%rax,%r9)
+	addq	$4, %r9
+	cmpq	%r9, %rdx
+	jne	6b
+	jmp	8f
+7:
+	callq	memmove@PLT
+8:
+	movq	%rbp, 24(%rsp)
+	movq	%r13, 32(%rsp)
+	leaq	16(%rsp), %rdi
+	movq	%r12, %rsi
+	callq	"core::fmt::formatter::Formatter::write_piece::<#0584b03bf03810b7>"
+	testb	%al, %al
+	je	10f
+9:
+	movb	$1, %bpl
+	cmpq	$0, 32(%rsp)
+	je	20f
+	movq	16(%rsp), %rdi
+	callq	rattle_dealloc@PLT
+	jmp	20f
+10:
+	leaq	40(%rsp), %r12
+	movl	$32, 40(%rsp)
+	movl	$0, 12(%r12)
+	movq	$0, 4(%r12)
+	movq	$-1, 56(%rsp)
+	cmpq	$0, 64(%rsp)
+	jne	28f
+	movq	24(%rsp), %rax
+	movq	32(%rsp), %r13
+	movq	%r13, %rcx
+	subq	%rax, %rcx
+	cmpq	%rcx, %r14
+	ja	33f
+11:
+	leaq	(%rax,%r14), %rbp
+	movq	16(%rsp), %rcx
+	leaq	(%rcx,%rax), %rdi
+	movq	%rdi, %rdx
+	subq	%r15, %rdx
+	cmpq	%r14, %rdx
+	jae	17f
+	cmpq	$4, %r14
+	jb	12f
+	cmpq	$32, %rdx
+	jae	27f
+12:
+	xorl	%edx, %edx
+13:
+	movq	%r14, %r8
+	movq	%rdx, %rsi
+	andq	$3, %r8
+	je	15f
+	movq	%rdx, %rsi
+	.p2align	4
+14:
+	movzbl	(%r15,%rsi), %r9d
+	movb	%r9b, (%rdi,%rsi)
+	incq	%rsi
+	decq	%r8
+	jne	14b
+15:
+	subq	%r14, %rdx
+	cmpq	$-4, %rdx
+	ja	18f
+	addq	%rcx, %rax
+	addq	$3, %rax
+	.p2align	4
+16:
+	movzbl	(%r15,%rsi), %ecx
+	movb	%cl, -3(%rax,%rsi)
+	movzbl	1(%r15,%rsi), %ecx
+	movb	%cl, -2(%rax,%rsi)
+	movzbl	2(%r15,%rsi), %ecx
+	movb	%cl, -1(%rax,%rsi)
+	movzbl	3(%r15,%rsi), %ecx
+	movb	%cl, (%rax,%rsi)
+	addq	$4, %rsi
+	cmpq	%rsi, %r14
+	jne	16b
+	jmp	18f
+17:
+	movq	%r15, %rsi
+	movq	%r14, %rdx
+	callq	memmove@PLT
+18:
+	movq	%rbp, 24(%rsp)
+	movq	%r13, 32(%rsp)
+	movq	96(%rsp), %rax
+	movq	%rax, 16(%r12)
+	movaps	80(%rsp), %xmm0
+	movups	%xmm0, (%r12)
+19:
+	movq	32(%rsp), %rax
+	movq	%rax, 135(%rsp)
+	movq	16(%rsp), %rax
+	movq	%rax, 119(%rsp)
+	movq	24(%rsp), %rax
+	movq	%rax, 127(%rsp)
+	xorl	%ebp, %ebp
+20:
+	movb	%bpl, (%rbx)
+	movq	119(%rsp), %rax
+	movq	%rax, 8(%rbx)
+	movq	127(%rsp), %rax
+	movq	%rax, 16(%rbx)
+	movq	135(%rsp), %rax
+	movq	%rax, 24(%rbx)
+	addq	$152, %rsp
+	popq	%rbx
+	popq	%r12
+	popq	%r13
+	popq	%r14
+	popq	%r15
+	popq	%rbp
+	retq
+21:
+	cmpq	$32, %rdx
+	jae	22f
+	xorl	%r8d, %r8d
+	jmp	24f
+22:
+	movq	%rdx, %r8
+	andq	$-32, %r8
+	leaq	(%rcx,%rax), %r9
+	addq	$16, %r9
+	xorl	%r10d, %r10d
+	.p2align	4
+23:
+	movups	(%rsi,%r10), %xmm0
+	movups	16(%rsi,%r10), %xmm1
+	movups	%xmm0, -16(%r9,%r10)
+	movups	%xmm1, (%r9,%r10)
+	addq	$32, %r10
+	cmpq	%r10, %r8
+	jne	23b
+	cmpq	%r8, %rdx
+	je	8b
+	testb	$28, %dl
+	je	3b
+24:
+	movq	%r8, %r9
+	movq	%rdx, %r8
+	andq	$-4, %r8
+	.p2align	4
+25:
+	movl	(%rsi,%r9), %r10d
+	movl	%r10d, (%rdi,%r9)
+	addq	$4, %r9
+	cmpq	%r9, %r8
+	jne	25b
+	cmpq	%r8, %rdx
+	je	8b
+	jmp	3b
+26:
+	movq	%rsi, 144(%rsp)
+	leaq	16(%rsp), %rdi
+	movq	%rdx, %rbp
+	movq	%rdx, %rsi
+	callq	"std_alloc::vec::Vec::grow_amortized::<#1d775b5957dec42c>"
+	testb	%al, %al
+	je	9b
+	movq	16(%rsp), %rax
+	movq	24(%rsp), %rcx
+	movq	32(%rsp), %r13
+	movq	144(%rsp), %rsi
+	movq	%rbp, %rdx
+	jmp	1b
+27:
+	cmpq	$32, %r14
+	jae	29f
+	xorl	%edx, %edx
+	jmp	31f
+28:
+	leaq	16(%rsp), %rdi
+	movq	%r15, %rsi
+	movq	%r14, %rdx
+	callq	"core::fmt::formatter::Formatter::write_indented::<#0a7ff941e43d6b30>"
+	movaps	80(%rsp), %xmm0
+	movups	%xmm0, (%r12)
+	movq	96(%rsp), %rcx
+	movq	%rcx, 16(%r12)
+	testb	%al, %al
+	jne	9b
+	jmp	19b
+29:
+	movq	%r14, %rdx
+	andq	$-32, %rdx
+	leaq	(%rax,%rcx), %rsi
+	addq	$16, %rsi
+	xorl	%r8d, %r8d
+	.p2align	4
+30:
+	movups	(%r15,%r8), %xmm0
+	movups	16(%r15,%r8), %xmm1
+	movups	%xmm0, -16(%rsi,%r8)
+	movups	%xmm1, (%rsi,%r8)
+	addq	$32, %r8
+	cmpq	%r8, %rdx
+	jne	30b
+	cmpq	%rdx, %r14
+	je	18b
+	testb	$28, %r14b
+	je	13b
+31:
+	movq	%rdx, %rsi
+	movq	%r14, %rdx
+	andq	$-4, %rdx
+	.p2align	4
+32:
+	movl	(%r15,%rsi), %r8d
+	movl	%r8d, (%rdi,%rsi)
+	addq	$4, %rsi
+	cmpq	%rsi, %rdx
+	jne	32b
+	cmpq	%rdx, %r14
+	je	18b
+	jmp	13b
+33:
+	leaq	16(%rsp), %rdi
+	movq	%r14, %rsi
+	callq	"std_alloc::vec::Vec::grow_amortized::<#1d775b5957dec42c>"
+	testb	%al, %al
+	je	9b
+	movq	24(%rsp), %rax
+	movq	32(%rsp), %r13
+	jmp	11b
+34:
+	.size	"std_alloc::string::String::format::<#f2176ccb71fc584c>", 34b-"std_alloc::string::String::format::<#f2176ccb71fc584c>"
 
 	.text
 	.p2align	4
@@ -3587,7 +3908,7 @@
 	movq	$-1, 40(%rsp)
 	movq	%rsp, %rdi
 	movq	%rax, %rsi
-	callq	"core::fmt::formatter::Formatter::write_piece::<#499173829830abb3>"
+	callq	"core::fmt::formatter::Formatter::write_piece::<#0584b03bf03810b7>"
 	testb	%al, %al
 	jne	28f
 	leaq	28(%rsp), %rax
@@ -3800,7 +4121,7 @@
 27:
 	movq	%rsp, %rdi
 	movq	120(%rsp), %rsi
-	callq	"core::fmt::formatter::Formatter::write_piece::<#499173829830abb3>"
+	callq	"core::fmt::formatter::Formatter::write_piece::<#0584b03bf03810b7>"
 	testb	%al, %al
 	je	32f
 28:
