@@ -28,7 +28,7 @@ static USERS: [Asked; 3] = [
     Asked {
         name: "plain of the user's directories",
         words: &["plain", "--name-only", "x"],
-        request: r#"Plain { directories: User, options: Options { name_only: true, content_only: false, magic_first: false, all_globs: false, cost: false, output: Output { null: false, brief: false, escape: false } }, files: ["x"] }"#,
+        request: r#"Plain { directories: User, options: Options { name_only: true, content_only: false, magic_first: false, all_globs: false, inode: false, cost: false, output: Output { null: false, brief: false, escape: false } }, subjects: Files(["x"]) }"#,
     },
 ];
 
@@ -141,76 +141,91 @@ static ICONS: [Asked; 5] = [
     },
 ];
 
-static TYPES: [Asked; 20] = [
+static TYPES: [Asked; 23] = [
     Asked {
         name: "zero bytes and TYPE alone",
         words: &["type", "-0b", "-c", "c", "x"],
-        request: r#"Type { source: Cache("c"), options: Options { name_only: false, content_only: false, magic_first: false, all_globs: false, cost: false, output: Output { null: true, brief: true, escape: false } }, files: ["x"] }"#,
+        request: r#"Type { source: Cache("c"), options: Options { name_only: false, content_only: false, magic_first: false, all_globs: false, inode: false, cost: false, output: Output { null: true, brief: true, escape: false } }, subjects: Files(["x"]) }"#,
     },
     Asked {
         name: "the same in long",
         words: &["type", "-c", "c", "--brief", "--null", "x"],
-        request: r#"Type { source: Cache("c"), options: Options { name_only: false, content_only: false, magic_first: false, all_globs: false, cost: false, output: Output { null: true, brief: true, escape: false } }, files: ["x"] }"#,
+        request: r#"Type { source: Cache("c"), options: Options { name_only: false, content_only: false, magic_first: false, all_globs: false, inode: false, cost: false, output: Output { null: true, brief: true, escape: false } }, subjects: Files(["x"]) }"#,
     },
     Asked {
         name: "escapes and cost",
         words: &["type", "--escape", "-c", "c", "--cost", "x"],
-        request: r#"Type { source: Cache("c"), options: Options { name_only: false, content_only: false, magic_first: false, all_globs: false, cost: true, output: Output { null: false, brief: false, escape: true } }, files: ["x"] }"#,
+        request: r#"Type { source: Cache("c"), options: Options { name_only: false, content_only: false, magic_first: false, all_globs: false, inode: false, cost: true, output: Output { null: false, brief: false, escape: true } }, subjects: Files(["x"]) }"#,
     },
     Asked {
         name: "escapes and TYPE alone",
         words: &["plain", "-d", "", "-b", "--escape", "x"],
-        request: r#"Plain { directories: Named([]), options: Options { name_only: false, content_only: false, magic_first: false, all_globs: false, cost: false, output: Output { null: false, brief: true, escape: true } }, files: ["x"] }"#,
+        request: r#"Plain { directories: Named([]), options: Options { name_only: false, content_only: false, magic_first: false, all_globs: false, inode: false, cost: false, output: Output { null: false, brief: true, escape: true } }, subjects: Files(["x"]) }"#,
     },
     Asked {
         name: "no source",
         words: &["type", "x"],
-        request: r#"Type { source: Directories(User), options: Options { name_only: false, content_only: false, magic_first: false, all_globs: false, cost: false, output: Output { null: false, brief: false, escape: false } }, files: ["x"] }"#,
+        request: r#"Type { source: Directories(User), options: Options { name_only: false, content_only: false, magic_first: false, all_globs: false, inode: false, cost: false, output: Output { null: false, brief: false, escape: false } }, subjects: Files(["x"]) }"#,
     },
     Asked {
         name: "DIRS",
         words: &["type", "-d", "a", "--cost", "x"],
-        request: r#"Type { source: Directories(Named(["a"])), options: Options { name_only: false, content_only: false, magic_first: false, all_globs: false, cost: true, output: Output { null: false, brief: false, escape: false } }, files: ["x"] }"#,
+        request: r#"Type { source: Directories(Named(["a"])), options: Options { name_only: false, content_only: false, magic_first: false, all_globs: false, inode: false, cost: true, output: Output { null: false, brief: false, escape: false } }, subjects: Files(["x"]) }"#,
     },
     Asked {
         name: "CACHE in long",
         words: &["type", "--cache", "c", "x"],
-        request: r#"Type { source: Cache("c"), options: Options { name_only: false, content_only: false, magic_first: false, all_globs: false, cost: false, output: Output { null: false, brief: false, escape: false } }, files: ["x"] }"#,
+        request: r#"Type { source: Cache("c"), options: Options { name_only: false, content_only: false, magic_first: false, all_globs: false, inode: false, cost: false, output: Output { null: false, brief: false, escape: false } }, subjects: Files(["x"]) }"#,
     },
     Asked {
         name: "no flag",
         words: &["type", "-c", "c", "x", "y"],
-        request: r#"Type { source: Cache("c"), options: Options { name_only: false, content_only: false, magic_first: false, all_globs: false, cost: false, output: Output { null: false, brief: false, escape: false } }, files: ["x", "y"] }"#,
+        request: r#"Type { source: Cache("c"), options: Options { name_only: false, content_only: false, magic_first: false, all_globs: false, inode: false, cost: false, output: Output { null: false, brief: false, escape: false } }, subjects: Files(["x", "y"]) }"#,
     },
     Asked {
         name: "names alone",
         words: &["type", "-c", "c", "--name-only", "x"],
-        request: r#"Type { source: Cache("c"), options: Options { name_only: true, content_only: false, magic_first: false, all_globs: false, cost: false, output: Output { null: false, brief: false, escape: false } }, files: ["x"] }"#,
+        request: r#"Type { source: Cache("c"), options: Options { name_only: true, content_only: false, magic_first: false, all_globs: false, inode: false, cost: false, output: Output { null: false, brief: false, escape: false } }, subjects: Files(["x"]) }"#,
     },
     Asked {
         name: "contents alone",
         words: &["type", "--content-only", "-c", "c", "--cost", "x"],
-        request: r#"Type { source: Cache("c"), options: Options { name_only: false, content_only: true, magic_first: false, all_globs: false, cost: true, output: Output { null: false, brief: false, escape: false } }, files: ["x"] }"#,
+        request: r#"Type { source: Cache("c"), options: Options { name_only: false, content_only: true, magic_first: false, all_globs: false, inode: false, cost: true, output: Output { null: false, brief: false, escape: false } }, subjects: Files(["x"]) }"#,
     },
     Asked {
         name: "contents alone by text files",
         words: &["plain", "-d", "a", "x", "--content-only"],
-        request: r#"Plain { directories: Named(["a"]), options: Options { name_only: false, content_only: true, magic_first: false, all_globs: false, cost: false, output: Output { null: false, brief: false, escape: false } }, files: ["x"] }"#,
+        request: r#"Plain { directories: Named(["a"]), options: Options { name_only: false, content_only: true, magic_first: false, all_globs: false, inode: false, cost: false, output: Output { null: false, brief: false, escape: false } }, subjects: Files(["x"]) }"#,
     },
     Asked {
         name: "cost",
         words: &["type", "-c", "c", "--cost", "x"],
-        request: r#"Type { source: Cache("c"), options: Options { name_only: false, content_only: false, magic_first: false, all_globs: false, cost: true, output: Output { null: false, brief: false, escape: false } }, files: ["x"] }"#,
+        request: r#"Type { source: Cache("c"), options: Options { name_only: false, content_only: false, magic_first: false, all_globs: false, inode: false, cost: true, output: Output { null: false, brief: false, escape: false } }, subjects: Files(["x"]) }"#,
     },
     Asked {
         name: "magic first",
         words: &["type", "-c", "c", "--magic-first", "x"],
-        request: r#"Type { source: Cache("c"), options: Options { name_only: false, content_only: false, magic_first: true, all_globs: false, cost: false, output: Output { null: false, brief: false, escape: false } }, files: ["x"] }"#,
+        request: r#"Type { source: Cache("c"), options: Options { name_only: false, content_only: false, magic_first: true, all_globs: false, inode: false, cost: false, output: Output { null: false, brief: false, escape: false } }, subjects: Files(["x"]) }"#,
     },
     Asked {
         name: "all globs",
         words: &["type", "-c", "c", "--all-globs", "x"],
-        request: r#"Type { source: Cache("c"), options: Options { name_only: false, content_only: false, magic_first: false, all_globs: true, cost: false, output: Output { null: false, brief: false, escape: false } }, files: ["x"] }"#,
+        request: r#"Type { source: Cache("c"), options: Options { name_only: false, content_only: false, magic_first: false, all_globs: true, inode: false, cost: false, output: Output { null: false, brief: false, escape: false } }, subjects: Files(["x"]) }"#,
+    },
+    Asked {
+        name: "inode",
+        words: &["type", "-c", "c", "--inode", "x"],
+        request: r#"Type { source: Cache("c"), options: Options { name_only: false, content_only: false, magic_first: false, all_globs: false, inode: true, cost: false, output: Output { null: false, brief: false, escape: false } }, subjects: Files(["x"]) }"#,
+    },
+    Asked {
+        name: "standard input",
+        words: &["type", "-c", "c", "--stdin", "x"],
+        request: r#"Type { source: Cache("c"), options: Options { name_only: false, content_only: false, magic_first: false, all_globs: false, inode: false, cost: false, output: Output { null: false, brief: false, escape: false } }, subjects: Input("x") }"#,
+    },
+    Asked {
+        name: "files of a list",
+        words: &["type", "-c", "c", "--files0-from", "x"],
+        request: r#"Type { source: Cache("c"), options: Options { name_only: false, content_only: false, magic_first: false, all_globs: false, inode: false, cost: false, output: Output { null: false, brief: false, escape: false } }, subjects: List("x") }"#,
     },
     Asked {
         name: "all flags",
@@ -223,7 +238,7 @@ static TYPES: [Asked; 20] = [
             "--magic-first",
             "x",
         ],
-        request: r#"Type { source: Cache("c"), options: Options { name_only: true, content_only: false, magic_first: true, all_globs: false, cost: true, output: Output { null: false, brief: false, escape: false } }, files: ["x"] }"#,
+        request: r#"Type { source: Cache("c"), options: Options { name_only: true, content_only: false, magic_first: true, all_globs: false, inode: false, cost: true, output: Output { null: false, brief: false, escape: false } }, subjects: Files(["x"]) }"#,
     },
     Asked {
         name: "flags the other way round",
@@ -236,27 +251,27 @@ static TYPES: [Asked; 20] = [
             "c",
             "x",
         ],
-        request: r#"Type { source: Cache("c"), options: Options { name_only: true, content_only: false, magic_first: true, all_globs: false, cost: true, output: Output { null: false, brief: false, escape: false } }, files: ["x"] }"#,
+        request: r#"Type { source: Cache("c"), options: Options { name_only: true, content_only: false, magic_first: true, all_globs: false, inode: false, cost: true, output: Output { null: false, brief: false, escape: false } }, subjects: Files(["x"]) }"#,
     },
     Asked {
         name: "options last",
         words: &["type", "x", "y", "--cost", "-cc/d"],
-        request: r#"Type { source: Cache("c/d"), options: Options { name_only: false, content_only: false, magic_first: false, all_globs: false, cost: true, output: Output { null: false, brief: false, escape: false } }, files: ["x", "y"] }"#,
+        request: r#"Type { source: Cache("c/d"), options: Options { name_only: false, content_only: false, magic_first: false, all_globs: false, inode: false, cost: true, output: Output { null: false, brief: false, escape: false } }, subjects: Files(["x", "y"]) }"#,
     },
     Asked {
         name: "hyphens",
         words: &["type", "-c", "c", "--", "-x", "--"],
-        request: r#"Type { source: Cache("c"), options: Options { name_only: false, content_only: false, magic_first: false, all_globs: false, cost: false, output: Output { null: false, brief: false, escape: false } }, files: ["-x", "--"] }"#,
+        request: r#"Type { source: Cache("c"), options: Options { name_only: false, content_only: false, magic_first: false, all_globs: false, inode: false, cost: false, output: Output { null: false, brief: false, escape: false } }, subjects: Files(["-x", "--"]) }"#,
     },
     Asked {
         name: "command's name",
         words: &["type", "-c", "type", "type"],
-        request: r#"Type { source: Cache("type"), options: Options { name_only: false, content_only: false, magic_first: false, all_globs: false, cost: false, output: Output { null: false, brief: false, escape: false } }, files: ["type"] }"#,
+        request: r#"Type { source: Cache("type"), options: Options { name_only: false, content_only: false, magic_first: false, all_globs: false, inode: false, cost: false, output: Output { null: false, brief: false, escape: false } }, subjects: Files(["type"]) }"#,
     },
     Asked {
         name: "empty FILE",
         words: &["type", "-c", "c", ""],
-        request: r#"Type { source: Cache("c"), options: Options { name_only: false, content_only: false, magic_first: false, all_globs: false, cost: false, output: Output { null: false, brief: false, escape: false } }, files: [""] }"#,
+        request: r#"Type { source: Cache("c"), options: Options { name_only: false, content_only: false, magic_first: false, all_globs: false, inode: false, cost: false, output: Output { null: false, brief: false, escape: false } }, subjects: Files([""]) }"#,
     },
 ];
 

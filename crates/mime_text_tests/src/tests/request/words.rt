@@ -1,7 +1,7 @@
 //! What words ask for: a cache that is built, or the types of files.
 
 use clap::Error;
-use mime_request::{Directories, Request, request_of};
+use mime_request::{Directories, Request, Subjects, request_of};
 use std::process::Abort;
 
 #[derive(Clone, Copy)]
@@ -270,19 +270,27 @@ static ASKED: [Asked; 15] = [
     },
 ];
 
+/// Whether just these files are looked up.
+fn are_files(subjects: &Subjects<'_>, files: &[&str]) -> bool {
+    match subjects {
+        Subjects::Files(found) => found.as_slice() == files,
+        Subjects::Input(_) | Subjects::List(_) => false,
+    }
+}
+
 /// Whether a request is the one of a row.
 fn is_asked(row: &Asked, request: &Request<'_>) -> bool {
     match request {
         Request::Plain {
             directories,
             options,
-            files,
+            subjects,
         } => {
             are_named(directories, row.directories)
                 && options.name_only == row.name_only
                 && options.magic_first == row.magic_first
                 && !options.cost
-                && files.as_slice() == row.files
+                && are_files(subjects, row.files)
         }
         _ => false,
     }
