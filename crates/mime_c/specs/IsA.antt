@@ -18,7 +18,7 @@ use Rattle.mime_lookup.specs.declared.stopped.Stopped.{Stopped}
 use Rattle.mime_view.specs.declared.fault.CacheFault.TheVariants.{Spent}
 
 -- all that is promised of whether one type is another
-pub record IsIsA (c kind base : List ℕ) (result : Result (Bool × Meter) Stopped) : Type 0 where
+pub record IsSubclassSearch (c kind base : List ℕ) (result : Result (Bool × Meter) Stopped) : Type 0 where
   pub answer : (b : PlainDatabase) → SpellsPairs c b → IfOk result
       (λ found. IsTrue found.0 ↔ IsA (pairs_of b) (resolved b.aliases kind) (resolved b.aliases base))
   pub stops : StopsAsking (λ stopped. stopped.cause) c (IsLookUpFault c) (λ b. SpellsPairs c b × Packed c b) result
@@ -27,15 +27,15 @@ pub record IsIsA (c kind base : List ℕ) (result : Result (Bool × Meter) Stopp
   pub bounds : MatchResult result (λ found. KeepsBounds 0 c 0 found.1) (λ stopped. KeepsBounds 0 c 0 stopped.meter)
 
 -- an answer goes out; where the search stopped, what was there stays
-abbrev pub IsIsAReport : Result (Bool × Meter) Stopped → Bool → Bool → Report → Type 0
-IsIsAReport (Ok found) before after told = (after ≡ found.0) × (told ≡ status_report status_answered 0 found.1)
-IsIsAReport (Err stopped) before after told = (after ≡ before) × IsStopReport stopped.cause stopped.read stopped.meter told
+abbrev pub IsSubclassReport : Result (Bool × Meter) Stopped → Bool → Bool → Report → Type 0
+IsSubclassReport (Ok found) before after told = (after ≡ found.0) × (told ≡ status_report status_answered 0 found.1)
+IsSubclassReport (Err stopped) before after told = (after ≡ before) × IsStopReport stopped.cause stopped.read stopped.meter told
 
 -- what C gets of two type names
 pub record IsSearched (c kind base : List ℕ) (before after : Bool) (told : Report) : Type 0 where
   pub outcome : Result (Bool × Meter) Stopped
-  pub promised : IsIsA c kind base outcome
-  pub told_so : IsIsAReport outcome before after told
+  pub promised : IsSubclassSearch c kind base outcome
+  pub told_so : IsSubclassReport outcome before after told
 
 -- what C gets: of two type names an answer or why there is none; else that one of them is none; or memory was refused
 pub data IsAsked (c kind base : List ℕ) (before after : Bool) (told : Report) : Type 0 where

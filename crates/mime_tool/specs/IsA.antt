@@ -36,6 +36,6 @@ abbrev pub IsAnswerOver : List ℕ → List ℕ → List ℕ → List ℕ → Li
 IsAnswerOver path kind base cache files run = IsAnsweredOr path (RefusesPairs cache) (IsAnswerOf cache kind base) run
 
 -- the run of `isa`: the words are looked at before the cache is read
-abbrev pub IsIsA : (List ℕ → Stored) → Option PlainEnvironment → PlainSource → List ℕ → List ℕ → List (List ℕ) → Run → Type 0
-IsIsA stored environment source kind base files =
+abbrev pub IsSubclassRun : (List ℕ → Stored) → Option PlainEnvironment → PlainSource → List ℕ → List ℕ → List (List ℕ) → Run → Type 0
+IsSubclassRun stored environment source kind base files =
     IsRunOfTypes (kind ∷ base ∷ []) (IsSourceCommand stored environment source (λ path. IsAnswerOver path kind base) files)

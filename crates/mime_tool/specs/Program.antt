@@ -8,7 +8,7 @@ use Rattle.mime_tool.specs.Build.{IsBuild, LeavesBuilt}
 use Rattle.mime_tool.specs.Desk.{Ends, State}
 use Rattle.mime_tool.specs.Files.{Stored, Writing}
 use Rattle.mime_tool.specs.Icon.{IsIcon}
-use Rattle.mime_tool.specs.IsA.{IsIsA}
+use Rattle.mime_tool.specs.IsA.{IsSubclassRun}
 use Rattle.mime_tool.specs.List.{IsList}
 use Rattle.mime_tool.specs.Plain.{IsPlain}
 use Rattle.mime_tool.specs.Process.{PlainProcess}
@@ -40,7 +40,7 @@ abbrev pub IsAskedRun : PlainProcess → (List ℕ → List ℕ → Writing) →
 IsAskedRun process writes old new (build dirs drop_twins file) = IsBuild process.environment dirs drop_twins file writes old new
 IsAskedRun process writes old new (plain dirs options subjects) = IsPlain old process dirs options subjects
 IsAskedRun process writes old new (list source) = IsList old process.environment source
-IsAskedRun process writes old new (is_a source kind base) = IsIsA old process.environment source kind base
+IsAskedRun process writes old new (is_a source kind base) = IsSubclassRun old process.environment source kind base
 IsAskedRun process writes old new (icon source kind) = IsIcon old process.environment source kind
 IsAskedRun process writes old new (type_of source options subjects) = IsType old process source options subjects
 

@@ -5,7 +5,7 @@ ghost use Rattle.mime_request.specs.Request.{plain_source};
 ghost use Rattle.mime_tool.specs.Cache.{GivesOrRefuses};
 ghost use Rattle.mime_tool.specs.Desk.{Does, Ends, Works};
 ghost use Rattle.mime_tool.specs.Environment.{known_environment};
-ghost use Rattle.mime_tool.specs.IsA.{IsAnswerOver, IsIsA, IsSaid, RefusesPairs, answer_run};
+ghost use Rattle.mime_tool.specs.IsA.{IsAnswerOver, IsSaid, IsSubclassRun, RefusesPairs, answer_run};
 ghost use Rattle.mime_tool.specs.Run.{printed};
 ghost use Rattle.mime_tool.specs.Sources.{IsSourceCommand};
 
@@ -31,7 +31,7 @@ pub(crate) fn is_a<D: Desk>(
     kind: &str,
     base: &str,
 ) -> Result<u8, Stop>
-    ensures { Works (Ends (IsIsA (D.state desk.old).stored (known_environment environment.entry) (plain_source source.now)
+    ensures { Works (Ends (IsSubclassRun (D.state desk.old).stored (known_environment environment.entry) (plain_source source.now)
         kind.now base.now) []) (D.state desk.old) (D.state desk.new) result }
 {
     let Some(kind_name) = type_name(desk.alloc(), kind)? else {

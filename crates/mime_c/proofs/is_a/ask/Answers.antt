@@ -1,5 +1,5 @@
 use Rattle.std.proofs.Common.{ℕ, List, Err, refl, subst}
-use Rattle.mime_c.specs.IsA.{IsIsA}
+use Rattle.mime_c.specs.IsA.{IsSubclassSearch}
 use Rattle.mime_c.proofs.is_a.ask.Goals as goal
 
 pub returns-in-Err : goal.returns-in-Err
@@ -7,7 +7,7 @@ returns-in-Err c =
     let is = c.in-Err.ensures in
     record {
       outcome = Err c.in-Err.stopped;
-      promised = subst (λ (cache : List ℕ). IsIsA cache c.args.kind.now c.args.base.now (Err c.in-Err.stopped)) c.new.ensures
+      promised = subst (λ (cache : List ℕ). IsSubclassSearch cache c.args.kind.now c.args.base.now (Err c.in-Err.stopped)) c.new.ensures
           (record {
             answer = is.answer;
             stops = is.stops;
