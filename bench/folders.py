@@ -8,6 +8,7 @@ PIECES = ["*", "?", "a*", "[a-b]", "[!a]", "[^.]", "[]]", "[b-a]", "[", "]", "\\
 WEIGHTS = ["50"] * 4 + ["0", "49", "60", "255"]
 FLAGS = [""] * 4 + [":", ":cs", ":cs,zz", ":zz:cs"]
 MALFORMED = ["50:t/a", "256:t/a:*", "50:t a:*", "50:t/a:", "t/a", "t/a  t/b", "t/a t/"]
+ICONS = ["a", "b", "c-d"]
 PRIORITIES = [0, 40, 50, 50, 79, 80, 80, 90, 4_294_967_295]
 BYTES = b"aab\0\1"
 
@@ -95,6 +96,17 @@ def make_directory(dice, folder):
     for name, text in files.items():
         if dice.random() < 0.9:
             write(f"{folder}/mime/{name}", text)
+
+
+def icons_of(dice):
+    for kind in dice.sample(TYPES, dice.randint(0, 4)):
+        yield f"{kind}:{dice.choice(ICONS)}"
+
+
+def make_icons(dice, folder):
+    """The icons of some types, which make_directory leaves out."""
+    for name in ("icons", "generic-icons"):
+        write(f"{folder}/mime/{name}", lines_of(dice, icons_of(dice)))
 
 
 # files
