@@ -1,25 +1,11 @@
 /* Prints a line for each question, the answer of whatever reader it is linked with: peers name NAME.., peers file PATH..,
  * peers content PATH.. or peers type TYPE... */
 #include "peers.h"
+#include "read_all.h"
 #include <stdbool.h>
 #include <stdio.h>
 #include <stdlib.h>
 #include <string.h>
-
-static unsigned char *read_all(const char *path, size_t *length) {
-    FILE *file = fopen(path, "rb");
-    if (file == NULL || fseek(file, 0, SEEK_END) != 0) {
-        exit(1);
-    }
-    *length = (size_t)ftell(file);
-    rewind(file);
-    unsigned char *bytes = malloc(*length + 1);
-    if (bytes == NULL || fread(bytes, 1, *length, file) != *length) {
-        exit(1);
-    }
-    fclose(file);
-    return bytes;
-}
 
 static char *by_path(bool is_named, const char *path) {
     const char *slash = strrchr(path, '/');
