@@ -1,5 +1,7 @@
 -- What a step of a search for a name's hits does.
 use Rattle.std.specs.Prelude.{◌≡◌, ◌⊎◌, ℕ, ◌+◌, ◌*◌, ◌≤◌, List, length, Result, All, IfErr, OnOk}
+use Rattle.mime_base.specs.Cache.Bytes.{Stands}
+use Rattle.mime_base.specs.Format.Records.{Standing}
 use Rattle.mime_base.specs.Kept.{FitsRank}
 use Rattle.mime_base.specs.declared.database.rule.GlobRule.{GlobRule}
 use Rattle.mime_view.specs.Gathered.{Offers}
@@ -34,6 +36,12 @@ abbrev pub FindsStanding : Query → (List GlobRule → Type 0) → (List GlobRu
 FindsStanding query Stand offered visited old new result =
     (rules : List GlobRule) → Stand rules
     → FindsRules query.counted.now (All FitsRank rules) (offered rules) (visited rules) old new result
+
+-- the same of rules that stand at an offset
+abbrev pub FindsAt : Query → (Standing → ℕ → List GlobRule → Type 0) → ℕ → (List GlobRule → List GlobRule) → (List GlobRule → ℕ)
+    → Progress → Progress → Result (Unit {0}) CacheFault → Type 0
+FindsAt query At at offered visited old new result =
+    FindsStanding query (At (Stands query.counted.now) at) offered visited old new result
 
 -- What a step does on any bytes.
 pub record Searches {X : Type 0} (Fault : CacheFault → Type 0) (each more : ℕ) (old new : Progress) (result : Result X CacheFault)

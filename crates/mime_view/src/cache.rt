@@ -353,8 +353,8 @@ impl<'a> Cache<'a> {
         // Where magic stands, it gives the type and the priority of the first section that holds, if one does, and takes no more
         // than a record for each section and line, and the bytes of their values.
         ensures answers { (offsets : Offsets) (sections : List PlainSection) → HeaderAt (Stands self.now) offsets →
-            are_allowed_sections sections ≡ true → MagicAt (Stands self.now) offsets.magic sections → AnswersMagic content.now
-            host ⊤ sections (spending_of meter.old budget.old) (spending_of meter.new budget.new) result }
+            are_allowed_sections sections ≡ true → MagicAt (Stands self.now) offsets.magic sections →
+            AnswersMagic content.now host ⊤ sections (spending_of meter.old budget.old) (spending_of meter.new budget.new) result }
         // On any bytes the type is a text of the cache.
         ensures text { IfOk result (NamesText self.now) }
         // A fault is one of the list, of a section or a line, or the budget is spent.

@@ -8,7 +8,6 @@
 
 ghost use Rattle.std.specs.Prelude.{◌≡◌, ℕ, ◌+◌, ◌*◌, ◌<◌, ◌≤◌, List, [], ◌∷◌, length, filter};
 ghost use Rattle.std.specs.Prelude.{Ok, OnOk, IfOk, IfErr, All, bytes_eq};
-ghost use Rattle.mime_base.specs.Cache.Bytes.{Stands};
 ghost use Rattle.mime_base.specs.Cache.Texts.{text_at};
 ghost use Rattle.mime_base.specs.Format.Rules.{LiteralsAt};
 ghost use Rattle.mime_base.specs.Format.Stored.{stored_text, weight_and_flags};
@@ -17,7 +16,7 @@ ghost use Rattle.mime_view.specs.Gathered.{Offers};
 ghost use Rattle.mime_view.specs.Hits.{takes_rule, literal_hits, literal_visits, visits};
 ghost use Rattle.mime_view.specs.Lists.{IsTextFault};
 ghost use Rattle.mime_view.specs.Literals.{AreRun, IsLiteral, ReadsRule, ReadsRules, run_visits, taken};
-ghost use Rattle.mime_view.specs.Steps.{FindsRules, FindsStanding, IsEntriesFault, Searches};
+ghost use Rattle.mime_view.specs.Steps.{FindsAt, FindsRules, IsEntriesFault, Searches};
 
 use crate::fault::CacheFault;
 use crate::flags::weight_and_case;
@@ -40,7 +39,7 @@ pub fn literal_hits(
     progress: &mut Progress,
 ) -> Result<(), CacheFault>
     // Of the rules that stand in the list, it offers those of the key that the case takes.
-    ensures finds { FindsStanding query.now (LiteralsAt (Stands query.now.counted.now) at) (literal_hits query.now.case query.now.key.now)
+    ensures finds { FindsAt query.now LiteralsAt at (literal_hits query.now.case query.now.key.now)
         (λ rules. visits query.now.case * literal_visits query.now.key.now rules) progress.old progress.new result }
     // An entry costs its text; the halving comes besides.
     ensures searches { Searches (IsEntriesFault query.now.counted.now at) 256 28 progress.old progress.new result }

@@ -5,7 +5,6 @@
 
 ghost use Rattle.std.specs.Prelude.{◌≡◌, false, ◌+◌, ◌*◌, ◌<◌, ◌≤◌, List, [], length};
 ghost use Rattle.std.specs.Prelude.{All, IfErr, IfOk, OnOk};
-ghost use Rattle.mime_base.specs.Cache.Bytes.{Stands};
 ghost use Rattle.mime_base.specs.Format.Rules.{LiteralsAt};
 ghost use Rattle.mime_base.specs.Format.SuffixTree.{SuffixTreeAt};
 ghost use Rattle.mime_base.specs.Kept.{FitsRank};
@@ -17,7 +16,7 @@ ghost use Rattle.mime_view.specs.Hits.{tree_twice, tree_visits_twice};
 ghost use Rattle.mime_view.specs.NameHits.{AreHits, FindsInLists, GivesTexts, IsNameFault, RulesAt, SearchesLists, has_capitals};
 ghost use Rattle.mime_view.specs.RuleHits.{AreRuleHits, gives_types};
 ghost use Rattle.mime_view.specs.Spending.{SpendsOnName};
-ghost use Rattle.mime_view.specs.Steps.{FindsRules, FindsStanding, IsEntriesFault, Searches};
+ghost use Rattle.mime_view.specs.Steps.{FindsAt, FindsRules, FindsStanding, IsEntriesFault, Searches};
 ghost use Rattle.mime_view.specs.SuffixTree.{IsTreeFault};
 
 use crate::fault::CacheFault;
@@ -206,7 +205,7 @@ fn search_twice(
     // The other text is the folded name.
     requires folded { folded.now ≡ compared false query.now.key.now }
     // Of the rules that stand in the list, it offers those of either text.
-    ensures finds { FindsStanding query.now (LiteralsAt (Stands query.now.counted.now) at) (literals_twice query.now.key.now)
+    ensures finds { FindsAt query.now LiteralsAt at (literals_twice query.now.key.now)
         (literal_visits_twice query.now.key.now) progress.old progress.new result }
     // It costs two searches.
     ensures searches { Searches (IsEntriesFault query.now.counted.now at) 256 56 progress.old progress.new result }
@@ -235,7 +234,7 @@ fn walk_twice(
     // The other text is the folded name.
     requires folded { folded.now ≡ compared false query.now.key.now }
     // Of the rules that stand in the tree, it offers those with an ending of either text.
-    ensures finds { FindsStanding query.now (SuffixTreeAt (Stands query.now.counted.now) at) (tree_twice query.now.key.now)
+    ensures finds { FindsAt query.now SuffixTreeAt at (tree_twice query.now.key.now)
         (tree_visits_twice query.now.key.now) progress.old progress.new result }
     // It costs two walks.
     ensures searches { Searches (IsTreeFault query.now.counted.now at) 256 (58 * length query.now.key.now + 2)

@@ -12,7 +12,7 @@
 
 ghost use Rattle.std.specs.Prelude.{◌≡◌, ◌==◌, true, false, get_or, ◌+◌, ◌-◌, ◌*◌, ◌≤◌, ◌<◌, List, [], ◌∷◌, length};
 ghost use Rattle.std.specs.Prelude.{IfOk, IfErr};
-ghost use Rattle.mime_base.specs.Cache.Bytes.{field, Stands};
+ghost use Rattle.mime_base.specs.Cache.Bytes.{field};
 ghost use Rattle.mime_base.specs.Format.SuffixTree.{SuffixTreeAt};
 ghost use Rattle.mime_base.specs.Format.Tree.{Tree};
 ghost use Rattle.mime_base.specs.Meter.{raised};
@@ -20,7 +20,7 @@ ghost use Rattle.mime_base.specs.declared.database.rule.GlobRule.{GlobRule};
 ghost use Rattle.mime_view.specs.Hits.{tree_hits, tree_visits, visits};
 ghost use Rattle.mime_view.specs.Magic.{IsBlockFault, LiesBlock};
 ghost use Rattle.mime_view.specs.Spending.{Looks};
-ghost use Rattle.mime_view.specs.Steps.{FindsRules, FindsStanding, Searches};
+ghost use Rattle.mime_view.specs.Steps.{FindsAt, FindsRules, Searches};
 ghost use Rattle.mime_view.specs.SuffixTree.{FindsLeaves, IsBlockBelow, IsCharacterPlace, IsChildFault, IsSuffixRule, IsTreeFault};
 ghost use Rattle.mime_view.specs.SuffixTree.{ReadsBlock, ReadsLeaf, admitted, below_character};
 
@@ -50,7 +50,7 @@ struct Siblings {
 #[inline(always)]
 pub fn tree_hits(query: &Query<'_, '_>, at: u32, progress: &mut Progress) -> Result<(), CacheFault>
     // Of the rules that stand in the tree, it offers those with an ending of the name that the case takes.
-    ensures finds { FindsStanding query.now (SuffixTreeAt (Stands query.now.counted.now) at) (tree_hits query.now.case query.now.key.now)
+    ensures finds { FindsAt query.now SuffixTreeAt at (tree_hits query.now.case query.now.key.now)
         (λ rules. visits query.now.case * tree_visits query.now.key.now rules) progress.old progress.new result }
     // A leaf costs its visit; the halving among siblings comes besides, once for each byte of the name.
     ensures searches { Searches (IsTreeFault query.now.counted.now at) 256 (29 * length query.now.key.now + 1)
