@@ -1,5 +1,5 @@
 -- Why the rules of a cache are not listed.
-use Rattle.std.specs.Prelude.{◌≡◌, ◌⊎◌, ℕ, zero, suc, ◌+◌, ◌*◌, ◌<◌, List, length}
+use Rattle.std.specs.Prelude.{◌≡◌, ◌⊎◌, ℕ, zero, suc, ◌+◌, ◌*◌, ◌<◌, List}
 use Rattle.mime_base.specs.Cache.Bytes.{field}
 use Rattle.mime_view.specs.Lists.{IsHeadFault, IsListFault, IsNoText}
 use Rattle.mime_view.specs.Magic.{IsBlockFault}
