@@ -71,7 +71,7 @@ pub record IsRow (c : List ℕ) (at : ℕ) (old new : Spending) (row : Row) : Ty
   -- It took a record of the budget.
   pub taken : new.budget.records + 1 ≡ old.budget.records
 
--- where these rules stand, a step adds them to a listing, by so many records
+-- what a step adds to a listing where these rules stand, by so many records: their rows, in their order
 abbrev pub AddsRules : {X : Type 0} → List GlobRule → ℕ → List PlainListed → List PlainListed → Spending → Spending
     → Result X CacheFault → Type 0
 AddsRules rules records before after old new result = Gives (λ _. after ≡ before ++ map listed_rule rules) records old new result

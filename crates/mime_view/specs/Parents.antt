@@ -157,7 +157,7 @@ pub record StopsParents (c : List ℕ) (at : ℕ) (kind : List ℕ) (old new : S
   -- The marks are as they were.
   pub unmarked : after ≡ before
 
--- on any bytes parents are taken, or they are not given
+-- on any bytes the parents of a type are taken, or they are not given and the marks stay
 abbrev pub TakesOrStops : List ℕ → ℕ → List ℕ → Spending → Spending → List ℕ → List ℕ → Result (Option Parents) CacheFault → Type 0
 TakesOrStops c at kind old new before after result =
     MatchResult result (TakesParents c at kind old new before after) (StopsParents c at kind old new before after)

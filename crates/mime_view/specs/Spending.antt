@@ -51,7 +51,7 @@ Pays price nodes bytes meter_old meter_new budget_old budget_new =
 abbrev pub halving : List ℕ → ℕ
 halving name = 29 * (2 * length name + 2) + 1
 
--- a search for a name's hits pays for each record the bytes of the name and of `texts` texts; the halving comes besides
+-- what a search for a name's hits costs: for each record a text for each byte of the name, and `texts` more; the halving comes besides
 abbrev pub SpendsOnName : List ℕ → ℕ → Spending → Spending → Type 0
 SpendsOnName name texts old new = Spends (per_record (256 * (length name + texts))) (halving name) (256 * halving name) old new
 
