@@ -1,5 +1,7 @@
 -- Lemmas on the rules that are listed.
 pub mod ListedTexts
 pub mod SiblingFaults
+pub mod Adding
 pub mod ListedTree
+pub mod ListedEntries
 pub mod RuleLists

@@ -9,6 +9,7 @@ pub mod TreePaths
 pub mod TreeBegins
 pub mod SiblingRows
 pub mod SiblingNodes
+pub mod SiblingSteps
 pub mod TreeLeaves
 pub mod TreeOrder
 pub mod EndedRules

@@ -65,6 +65,22 @@ tree_hits case name rules = filter (λ rule. takes_rule case rule.cased) (ending
 abbrev pub tree_visits : List ℕ → List GlobRule → ℕ
 tree_visits name rules = min (length (ending_rules name rules) + length name) (tree_size rules)
 
+-- the case-sensitive literal rules of a name, and the others of the folded name
+abbrev pub literals_twice : List ℕ → List GlobRule → List GlobRule
+literals_twice name rules = literal_hits Exact name rules ++ literal_hits Folded (compared false name) rules
+
+-- how many entries both searches visit
+abbrev pub literal_visits_twice : List ℕ → List GlobRule → ℕ
+literal_visits_twice name rules = literal_visits name rules + literal_visits (compared false name) rules
+
+-- the case-sensitive rules of the tree along a name, and the others along the folded name
+abbrev pub tree_twice : List ℕ → List GlobRule → List GlobRule
+tree_twice name rules = tree_hits Exact name rules ++ tree_hits Folded (compared false name) rules
+
+-- how many records of the tree both walks visit at most
+abbrev pub tree_visits_twice : List ℕ → List GlobRule → ℕ
+tree_visits_twice name rules = tree_visits name rules + tree_visits (compared false name) rules
+
 -- the rules of the glob list that match the name
 abbrev pub glob_list_hits : List ℕ → List GlobRule → List GlobRule
 glob_list_hits name rules = filter (λ rule. rule_matches rule.pattern rule.cased name) (glob_rules rules)
@@ -82,8 +98,7 @@ offered_twice name rules =
 -- how many records are taken for a name at most
 abbrev pub hit_visits : List ℕ → List GlobRule → ℕ
 hit_visits name rules =
-    literal_visits name rules + literal_visits (compared false name) rules + (tree_visits name rules
-    + tree_visits (compared false name) rules + length (glob_rules rules))
+    literal_visits_twice name rules + (tree_visits_twice name rules + length (glob_rules rules))
 
 -- how many rules are general patterns, or match the name once both texts are folded
 abbrev pub near : List ℕ → List GlobRule → ℕ

@@ -6,8 +6,9 @@ use Rattle.mime_base.specs.Cache.Bytes.{field}
 use Rattle.mime_base.specs.Cache.Texts.{text_at}
 use Rattle.mime_base.specs.Format.Sorted.{IsSortedByText}
 use Rattle.mime_base.specs.Format.Stored.{glob_rules, literal_rules, reversed_ending, stored_text, tree_rules}
+use Rattle.mime_base.specs.Format.SuffixTree.{tree_size}
 use Rattle.mime_base.specs.declared.database.rule.GlobRule.{GlobRule}
-use Rattle.mime_view.specs.Spending.{Spends, per_record}
+use Rattle.mime_view.specs.Spending.{Gives, Spends, per_record}
 use Rattle.mime_view.specs.declared.fault.CacheFault.{CacheFault}
 use Rattle.mime_view.specs.declared.rules.listing.Listed.{Listed}
 use Rattle.mime_view.specs.declared.rules.row.Row.{Row}
@@ -69,6 +70,15 @@ pub record IsRow (c : List ℕ) (at : ℕ) (old new : Spending) (row : Row) : Ty
   pub third : row.third ≡ field c at 2
   -- It took a record of the budget.
   pub taken : new.budget.records + 1 ≡ old.budget.records
+
+-- what a step adds to a listing where these rules stand, by so many records: their rows, in their order
+abbrev pub AddsRules : {X : Type 0} → List GlobRule → ℕ → List PlainListed → List PlainListed → Spending → Spending
+    → Result X CacheFault → Type 0
+AddsRules rules records before after old new result = Gives (λ _. after ≡ before ++ map listed_rule rules) records old new result
+
+-- how many records the rules of a cache take that lists them: one for each entry of a list, and one for each node of the tree
+abbrev pub listing_records : List GlobRule → ℕ
+listing_records rules = length (literal_rules rules) + tree_size rules + length (glob_rules rules)
 
 -- What a step adds to a listing on any bytes, and what it costs.
 pub record Adds {X : Type 0} (c : List ℕ) (Fault : ℕ → CacheFault → Type 0) (nodes : ℕ) (before after : List PlainListed)

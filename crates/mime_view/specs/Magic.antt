@@ -1,5 +1,5 @@
 -- The magic list as it is read, what sniffing answers of it, what it takes, and why it gives no answer.
-use Rattle.std.specs.Prelude.{◌≡◌, ◌⊎◌, ℕ, zero, suc, ◌+◌, ◌*◌, ◌<◌, ◌≤◌, Bool, true, false, if◌then◌else◌, List, [], ◌∷◌}
+use Rattle.std.specs.Prelude.{◌≡◌, ◌⊎◌, ℕ, zero, suc, ◌+◌, ◌-◌, ◌*◌, ◌<◌, ◌≤◌, Bool, true, false, if◌then◌else◌, List, [], ◌∷◌}
 use Rattle.std.specs.Prelude.{length, Result, Ok, IfErr, IfOk, IsOk, Option, None, Some, IfSome}
 use Rattle.std.specs.Borrow.{Bor}
 use Rattle.mime_base.specs.Cache.Bytes.{both_lie, field, lies, optional_mask, value_at}
@@ -8,7 +8,8 @@ use Rattle.mime_base.specs.Format.Magic.{line_count, width}
 use Rattle.mime_base.specs.Format.Packed.{forest_value_length, matchlet_count, value_length}
 use Rattle.mime_base.specs.Magic.{Forest, PlainLine, PlainSection, are_allowed, are_allowed_sections, bare, line}
 use Rattle.mime_base.specs.Magic.Holds.{bytes_of_mask, equals_from, first_magic, some_holds}
-use Rattle.mime_view.specs.Lists.{IsNoText}
+use Rattle.mime_base.specs.declared.magic.host.Host.{Host}
+use Rattle.mime_view.specs.Lists.{IsHeadFault, IsNoText}
 use Rattle.mime_view.specs.Spending.{Price, Spends}
 use Rattle.mime_view.specs.declared.budget.Budget.{Budget}
 use Rattle.mime_view.specs.declared.fault.CacheFault.{CacheFault}
@@ -90,12 +91,35 @@ abbrev pub plain_found : Option (Bor (List ℕ) × ℕ) → Option (List ℕ × 
 plain_found None = None
 plain_found (Some found) = Some (found.0.now, found.1)
 
--- of sections: the type and the priority of the first that holds
+-- of sections, and of a content with the order of bytes of words: the type and the priority of the first that holds
+abbrev pub AnswersMagic : List ℕ → Host → Type 0 → List PlainSection → Spending → Spending
+    → Result (Option (Bor (List ℕ) × ℕ)) CacheFault → Type 0
+AnswersMagic content host allowed sections old new result =
+    Answers (λ found. plain_found found ≡ first_magic sections content host) allowed
+    (length sections + matchlet_count sections) (value_length sections) old new result
+
+-- the same of a query, where the sections are allowed
 abbrev pub AnswersSections : MagicQuery → List PlainSection → Spending → Spending
     → Result (Option (Bor (List ℕ) × ℕ)) CacheFault → Type 0
 AnswersSections query sections old new result =
-    Answers (λ found. plain_found found ≡ first_magic sections query.content.now query.host) (are_allowed_sections sections ≡ true)
-    (length sections + matchlet_count sections) (value_length sections) old new result
+    AnswersMagic query.content.now query.host (are_allowed_sections sections ≡ true) sections old new result
+
+-- of the sections that stand in the magic list at `at`
+abbrev pub AnswersMagicAt : MagicQuery → ℕ → Spending → Spending → Result (Option (Bor (List ℕ) × ℕ)) CacheFault → Type 0
+AnswersMagicAt query at old new result =
+    (sections : List PlainSection) → ReadsMagic query.counted.now at sections → AnswersSections query sections old new result
+
+-- of so many lines that stand on a level, the first at `first`, with their children
+abbrev pub AnswersLinesAt : MagicQuery → ℕ → ℕ → ℕ → Spending → Spending → Result Bool CacheFault → Type 0
+AnswersLinesAt query first count level old new result =
+    (lines : Forest) → width lines ≡ count → ReadsLines query.counted.now first lines
+    → AnswersLines query (64 - level) lines old new result
+
+-- of the line that stands at `at` on a level, with its children
+abbrev pub AnswersLineAt : MagicQuery → ℕ → ℕ → Spending → Spending → Result Bool CacheFault → Type 0
+AnswersLineAt query at level old new result =
+    (own : PlainLine) (children : Forest) → ReadsLines query.counted.now at (line own children bare)
+    → AnswersLines query (64 - level) (line own children bare) old new result
 
 -- What a step does on any bytes.
 pub record Ends {X : Type 0} (Fault : Budget → CacheFault → Type 0) (price : Price) (nodes : ℕ) (old new : Spending)
@@ -179,7 +203,7 @@ IsSectionFault c at after e =
 -- the magic list at `at`, or one of its sections, gives no answer
 abbrev pub IsMagicFault : List ℕ → ℕ → Budget → CacheFault → Type 0
 IsMagicFault c at after e =
-    ((length c < at + 12) × (e ≡ OutOfRange at)) ⊎ IsBlockFault c (field c at 2) 16 (field c at 0) e
+    IsHeadFault c at 12 e ⊎ IsBlockFault c (field c at 2) 16 (field c at 0) e
     ⊎ (i : ℕ) × (i < field c at 0) × IsSectionFault c (field c at 2 + 16 * i) after e
 
 -- The line at r is one of a section of the magic list at `at`, or below one.

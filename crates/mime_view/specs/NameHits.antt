@@ -12,6 +12,8 @@ use Rattle.mime_base.specs.declared.database.rule.GlobRule.{GlobRule}
 use Rattle.mime_view.specs.Gathered.{asked_rules}
 use Rattle.mime_view.specs.Hits.{hit_visits, near}
 use Rattle.mime_view.specs.Lists.{IsListFault, IsTextFault}
+use Rattle.mime_view.specs.Spending.{halving}
+use Rattle.mime_view.specs.Steps.{Searches}
 use Rattle.mime_view.specs.SuffixTree.{IsTreeFault}
 use Rattle.mime_view.specs.declared.budget.Budget.{Budget}
 use Rattle.mime_view.specs.declared.fault.CacheFault.{CacheFault}
@@ -19,6 +21,8 @@ use Rattle.mime_view.specs.declared.fault.CacheFault.TheVariants.{OutOfMemory, S
 use Rattle.mime_view.specs.declared.name.RuleLists.{RuleLists}
 use Rattle.mime_view.specs.declared.name_hits.NameHits.{NameHits}
 use Rattle.mime_view.specs.declared.name_hits.Which.{Which}
+use Rattle.mime_view.specs.declared.query.Progress.{Progress}
+use Rattle.mime_view.specs.declared.query.Query.{Query}
 use Rattle.mime_view.specs.declared.spending.Spending.{Spending}
 
 -- whether one of A to Z is among the bytes
@@ -56,11 +60,20 @@ abbrev pub IsRuleListsFault : List ℕ → RuleLists → CacheFault → Type 0
 IsRuleListsFault c lists e =
     IsListFault c lists.literals 12 e ⊎ IsTreeFault c lists.tree e ⊎ IsListFault c lists.globs 12 e ⊎ IsTextFault c e
 
+-- a search of the three lists on any bytes: a record costs as in the glob list; the halving comes besides, for both cases
+abbrev pub SearchesLists : Query → RuleLists → Progress → Progress → Result (Unit {0}) CacheFault → Type 0
+SearchesLists query lists old new result =
+    Searches (IsRuleListsFault query.counted.now lists) (256 * (length query.key.now + 2)) (halving query.key.now) old new result
+
 -- why nothing is said of the types of a name: the literal list, the tree, the glob list, a text, what is left, or memory
 abbrev pub IsHitsFault : List ℕ → ℕ → ℕ → ℕ → Budget → CacheFault → Type 0
 IsHitsFault c literals tree globs after e =
     IsListFault c literals 12 e ⊎ IsTreeFault c tree e ⊎ IsListFault c globs 12 e ⊎ IsTextFault c e
     ⊎ ((e ≡ Spent) × (after.records ≡ 0)) ⊎ (e ≡ OutOfMemory)
+
+-- the same by where the three lists stand
+abbrev pub IsNameFault : List ℕ → RuleLists → Budget → CacheFault → Type 0
+IsNameFault c lists after e = IsHitsFault c lists.literals lists.tree lists.globs after e
 
 -- the records that are taken for a name at most: for each entry of a list, two where one search serves both cases
 abbrev pub list_records : List GlobRule → ℕ
@@ -99,6 +112,12 @@ pub record FindsHits {X : Type 0} (Answer : List ℕ → List GlobRule → X →
   pub need : All FitsRank rules → hit_visits name rules ≤ old.budget.records → IfErr result (λ e. e ≡ OutOfMemory)
   -- It takes no more of them.
   pub most : old.budget.records ≤ new.budget.records + hit_visits name rules
+
+-- what is found for a name of the rules that stand in the three lists
+abbrev pub FindsInLists : {X : Type 0} → (List ℕ → List GlobRule → X → Type 0) → Query → RuleLists → Spending → Spending
+    → Result X CacheFault → Type 0
+FindsInLists Answer query lists old new result =
+    (rules : List GlobRule) → RulesAt query.counted.now lists rules → FindsHits Answer query.key.now rules old new result
 
 -- What is given for a name, whatever the bytes are.
 pub record GivesTexts (c : List ℕ) (old new : Spending) (result : Result NameHits CacheFault) : Type 0 where

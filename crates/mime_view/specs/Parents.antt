@@ -1,6 +1,6 @@
 -- The parent list as it is read, marks on its entries, and what is given for a type.
 use Rattle.std.specs.Prelude.{◌≡◌, ◌⊎◌, ℕ, ◌+◌, ◌*◌, ◌<◌, ◌≤◌, Bool, true, false, ◌&&◌, nat_lt, if◌then◌else◌, bytes_eq}
-use Rattle.std.specs.Prelude.{List, [], get_or, length, Option, None, Some, IfSome, MatchOption, Result, Ok, Err}
+use Rattle.std.specs.Prelude.{List, [], get_or, length, Option, None, Some, IfSome, MatchOption, Result, Ok, Err, MatchResult}
 use Rattle.std.specs.List.{list_any}
 use Rattle.std.specs.Ordering.{is_eq, nat_cmp}
 use Rattle.std.specs.BTreeSet.{insert_key}
@@ -10,6 +10,7 @@ use Rattle.mime_base.specs.Database.Subclass.{parents}
 use Rattle.mime_base.specs.declared.cache.byte_fault.ByteFault.{ByteFault}
 use Rattle.mime_view.specs.Faults.{cache_fault}
 use Rattle.mime_view.specs.Lists.{IsKeysFault, IsListFault, IsNamedFault, KeysAt, ReadsKeys, place_of}
+use Rattle.mime_view.specs.Spending.{Gives}
 use Rattle.mime_view.specs.declared.fault.CacheFault.{CacheFault}
 use Rattle.mime_view.specs.declared.fault.CacheFault.TheVariants.{OutOfMemory, Spent}
 use Rattle.mime_view.specs.declared.parents.Parents.{Parents}
@@ -69,6 +70,13 @@ IsGiven pairs kinds marked kind None = (place_of kinds kind ≡ None) × (parent
 IsGiven pairs kinds marked kind (Some found) =
     (place_of kinds kind ≡ Some found.entry) × (0 < length (parents pairs kind))
     × (found.types ≡ unmarked_parents pairs marked kind)
+
+-- where the list at `at` has these types, the parents of one are given, none where its entry is marked, and each takes a record
+abbrev pub GivesParents : List ℕ → ℕ → List (List ℕ × List ℕ) → List (List ℕ) → List ℕ → List ℕ → Spending → Spending
+    → Result (Option Parents) CacheFault → Type 0
+GivesParents c at pairs kinds marks kind old new result =
+    let marked = is_marked c at marks kind in
+    Gives (IsGiven pairs kinds marked kind) (length (unmarked_parents pairs marked kind)) old new result
 
 -- what is given on any bytes: an entry of the type, with no types where it is marked, else with the texts that stand there
 pub record IsRead (c : List ℕ) (at : ℕ) (marks kind : List ℕ) (found : Parents) : Type 0 where
@@ -148,3 +156,8 @@ pub record StopsParents (c : List ℕ) (at : ℕ) (kind : List ℕ) (old new : S
   pub fault : IsParentsFault c at before kind old.budget.records new.budget.records e
   -- The marks are as they were.
   pub unmarked : after ≡ before
+
+-- on any bytes the parents of a type are taken, or they are not given and the marks stay
+abbrev pub TakesOrStops : List ℕ → ℕ → List ℕ → Spending → Spending → List ℕ → List ℕ → Result (Option Parents) CacheFault → Type 0
+TakesOrStops c at kind old new before after result =
+    MatchResult result (TakesParents c at kind old new before after) (StopsParents c at kind old new before after)

@@ -1,5 +1,5 @@
 -- What a step costs: what it takes of the budget, and what it adds to the meter.
-use Rattle.std.specs.Prelude.{◌≡◌, ℕ, ◌+◌, ◌*◌, ◌≤◌, Result, IfErr, IfOk}
+use Rattle.std.specs.Prelude.{◌≡◌, ℕ, ◌+◌, ◌*◌, ◌≤◌, List, length, Result, IfErr, IfOk}
 use Rattle.mime_base.specs.Meter.{raised}
 use Rattle.mime_base.specs.declared.meter.Meter.{Meter}
 use Rattle.mime_view.specs.declared.budget.Budget.{Budget}
@@ -41,6 +41,19 @@ pub record Spends (price : Price) (nodes bytes : ℕ) (old new : Spending) : Typ
       ≤ old.meter.bytes + price.bytes * old.budget.records + price.value_byte * old.budget.value_bytes + bytes
   -- Each record that is taken adds a node, until the sum stops.
   pub fair : raised old.meter.nodes old.budget.records ≤ new.meter.nodes + new.budget.records
+
+-- the same of a meter and a budget apart, each before and after
+abbrev pub Pays : Price → ℕ → ℕ → Meter → Meter → Budget → Budget → Type 0
+Pays price nodes bytes meter_old meter_new budget_old budget_new =
+    Spends price nodes bytes (spending_of meter_old budget_old) (spending_of meter_new budget_new)
+
+-- how many nodes the halving adds for a name at most, in the literal list and in the tree, for both cases
+abbrev pub halving : List ℕ → ℕ
+halving name = 29 * (2 * length name + 2) + 1
+
+-- what a search for a name's hits costs: for each record a text for each byte of the name, and `texts` more; the halving comes besides
+abbrev pub SpendsOnName : List ℕ → ℕ → Spending → Spending → Type 0
+SpendsOnName name texts old new = Spends (per_record (256 * (length name + texts))) (halving name) (256 * halving name) old new
 
 -- A step that takes nothing of the budget: it adds at most so many nodes and bytes.
 pub record Looks (nodes bytes : ℕ) (old new : Meter) : Type 0 where

@@ -1,5 +1,8 @@
 -- What a step of a search for a name's hits does.
-use Rattle.std.specs.Prelude.{◌≡◌, ◌⊎◌, ℕ, ◌+◌, ◌*◌, ◌≤◌, List, length, Result, IfErr, OnOk}
+use Rattle.std.specs.Prelude.{◌≡◌, ◌⊎◌, ℕ, ◌+◌, ◌*◌, ◌≤◌, List, length, Result, All, IfErr, OnOk}
+use Rattle.mime_base.specs.Cache.Bytes.{Stands}
+use Rattle.mime_base.specs.Format.Records.{Standing}
+use Rattle.mime_base.specs.Kept.{FitsRank}
 use Rattle.mime_base.specs.declared.database.rule.GlobRule.{GlobRule}
 use Rattle.mime_view.specs.Gathered.{Offers}
 use Rattle.mime_view.specs.Lists.{IsListFault, IsTextFault}
@@ -7,6 +10,7 @@ use Rattle.mime_view.specs.Spending.{Spends, per_record}
 use Rattle.mime_view.specs.declared.fault.CacheFault.{CacheFault}
 use Rattle.mime_view.specs.declared.fault.CacheFault.TheVariants.{OutOfMemory, Spent}
 use Rattle.mime_view.specs.declared.query.Progress.{Progress}
+use Rattle.mime_view.specs.declared.query.Query.{Query}
 
 -- why a step stops: a fault of what it reads, no records left, or no memory
 abbrev pub IsSearchStop : (CacheFault → Type 0) → Progress → CacheFault → Type 0
@@ -25,6 +29,19 @@ pub record FindsRules {X : Type 0} (c : List ℕ) (fits : Type 0) (rules : List 
   pub need : visits ≤ old.spending.budget.records → IfErr result (λ e. e ≡ OutOfMemory)
   -- It takes no more of them.
   pub most : old.spending.budget.records ≤ new.spending.budget.records + visits
+
+-- of rules that stand somewhere, a search offers these, if their ranks have room for them, by so many visits
+abbrev pub FindsStanding : Query → (List GlobRule → Type 0) → (List GlobRule → List GlobRule) → (List GlobRule → ℕ)
+    → Progress → Progress → Result (Unit {0}) CacheFault → Type 0
+FindsStanding query Stand offered visited old new result =
+    (rules : List GlobRule) → Stand rules
+    → FindsRules query.counted.now (All FitsRank rules) (offered rules) (visited rules) old new result
+
+-- the same of rules that stand at an offset
+abbrev pub FindsAt : Query → (Standing → ℕ → List GlobRule → Type 0) → ℕ → (List GlobRule → List GlobRule) → (List GlobRule → ℕ)
+    → Progress → Progress → Result (Unit {0}) CacheFault → Type 0
+FindsAt query At at offered visited old new result =
+    FindsStanding query (At (Stands query.counted.now) at) offered visited old new result
 
 -- What a step does on any bytes.
 pub record Searches {X : Type 0} (Fault : CacheFault → Type 0) (each more : ℕ) (old new : Progress) (result : Result X CacheFault)

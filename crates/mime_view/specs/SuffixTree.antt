@@ -1,17 +1,21 @@
 -- The reverse suffix tree as it is read along a name, and why a walk gives no answer.
-use Rattle.std.specs.Prelude.{◌≡◌, ◌⊎◌, ℕ, ◌+◌, ◌*◌, ◌<◌, ◌≤◌, ◌==◌, if◌then◌else◌, List, length, filter, Ok, Option, None, Some, IfSome}
+use Rattle.std.specs.Prelude.{◌≡◌, ◌⊎◌, ℕ, ◌+◌, ◌*◌, ◌<◌, ◌≤◌, ◌==◌, if◌then◌else◌, List, [], length, filter, All}
+use Rattle.std.specs.Prelude.{Result, Ok, Option, None, Some, IfSome}
 use Rattle.mime_base.specs.Cache.Bytes.{field}
 use Rattle.mime_base.specs.Cache.Texts.{text_at}
 use Rattle.mime_base.specs.Format.Stored.{weight_and_flags}
-use Rattle.mime_base.specs.Format.Tree.{InOrder, Tree, bare, leaf, node, sibling_count}
+use Rattle.mime_base.specs.Format.Tree.{InOrder, Tree, bare, leaf, leaves_at, node, sibling_count}
 use Rattle.mime_base.specs.Kept.{class_of}
 use Rattle.mime_base.specs.declared.database.rule.GlobRule.{GlobRule}
 use Rattle.mime_base.specs.declared.kept.class.Class.TheVariants.{Suffix}
-use Rattle.mime_view.specs.Hits.{takes_rule}
+use Rattle.mime_view.specs.Hits.{takes_rule, visits}
+use Rattle.mime_view.specs.Lists.{IsHeadFault}
 use Rattle.mime_view.specs.Magic.{IsBlockFault, LiesBlock}
+use Rattle.mime_view.specs.Steps.{FindsRules}
 use Rattle.mime_view.specs.declared.fault.CacheFault.{CacheFault}
-use Rattle.mime_view.specs.declared.fault.CacheFault.TheVariants.{OutOfRange}
 use Rattle.mime_view.specs.declared.hits.Case.{Case}
+use Rattle.mime_view.specs.declared.query.Progress.{Progress}
+use Rattle.mime_view.specs.declared.query.Query.{Query}
 use Rattle.mime_view.specs.declared.suffixes.Siblings.{Siblings}
 
 -- The record at `at` is that of a leaf of this rule.
@@ -86,6 +90,12 @@ pub record IsSuffixRule (long : ℕ) (rule : GlobRule) : Type 0 where
   -- Its weight has 8 bits.
   pub light : rule.weight < 256
 
+-- of siblings a scan offers the leaves that the case takes, as rules with patterns of `long` bytes
+abbrev pub FindsLeaves : {X : Type 0} → Query → ℕ → Tree → Progress → Progress → Result X CacheFault → Type 0
+FindsLeaves query long tree old new result =
+    FindsRules query.counted.now (All (IsSuffixRule long) (leaves_at [] tree)) (admitted query.case (leaves_at [] tree))
+    (visits query.case * scan_visits tree) old new result
+
 -- the block that a record names does not lie in the cache
 abbrev pub IsChildFault : List ℕ → CacheFault → Type 0
 IsChildFault c e = (r : ℕ) × IsBlockFault c (field c r 2) 12 (field c r 1) e
@@ -93,4 +103,4 @@ IsChildFault c e = (r : ℕ) × IsBlockFault c (field c r 2) 12 (field c r 1) e
 -- the tree at `at` gives no answer: its head, its roots, or the siblings below a character
 abbrev pub IsTreeFault : List ℕ → ℕ → CacheFault → Type 0
 IsTreeFault c at e =
-    ((length c < at + 8) × (e ≡ OutOfRange at)) ⊎ IsBlockFault c (field c at 1) 12 (field c at 0) e ⊎ IsChildFault c e
+    IsHeadFault c at 8 e ⊎ IsBlockFault c (field c at 1) 12 (field c at 0) e ⊎ IsChildFault c e

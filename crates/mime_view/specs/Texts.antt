@@ -1,6 +1,8 @@
 -- The texts that a call gives out, and where they stand.
-use Rattle.std.specs.Prelude.{◌≡◌, ℕ, List, [], ◌∷◌, map, Ok}
+use Rattle.std.specs.Prelude.{◌≡◌, ℕ, List, [], ◌∷◌, map, Result, Ok, IfErr}
 use Rattle.mime_base.specs.Cache.Texts.{text_at}
+use Rattle.mime_view.specs.declared.fault.CacheFault.{CacheFault}
+use Rattle.mime_view.specs.declared.fault.CacheFault.TheVariants.{OutOfMemory}
 use Rattle.mime_view.specs.declared.texts.Held.{Held}
 use Rattle.mime_view.specs.declared.texts.Held.TheVariants.{Many, One}
 
@@ -15,3 +17,7 @@ AreTexts c [] [] = Unit {0}
 AreTexts c [] (text ∷ texts) = ⊥
 AreTexts c (place ∷ places) [] = ⊥
 AreTexts c (place ∷ places) (text ∷ texts) = (text_at c place ≡ Ok text) × AreTexts c places texts
+
+-- where texts stand at these offsets, only memory can be short
+abbrev pub NeedsMemory : {X : Type 0} → List ℕ → List ℕ → Result X CacheFault → Type 0
+NeedsMemory c places result = (texts : List (List ℕ)) → AreTexts c places texts → IfErr result (λ e. e ≡ OutOfMemory)

@@ -1,33 +1,27 @@
 //! A cache whose header was read ("The mime.cache files").
 
-ghost use Rattle.std.specs.Prelude.{◌≡◌, ◌⊎◌, true, false, ℕ, ◌+◌, ◌*◌, ◌<◌, ◌≤◌, List};
-ghost use Rattle.std.specs.Prelude.{All, Ok, length, map, option_map, ⊤};
-ghost use Rattle.std.specs.Prelude.{IfErr, IfOk, IfSome, IsOkAnd, MatchResult, OnOk};
+ghost use Rattle.std.specs.Prelude.{◌≡◌, true, false, ℕ, ◌+◌, ◌*◌, ◌≤◌, List, All, length, map, ⊤};
+ghost use Rattle.std.specs.Prelude.{IfErr, IfOk, IsOkAnd, MatchResult, OnOk};
 ghost use Rattle.mime_base.specs.Cache.Bytes.{Stands, field};
-ghost use Rattle.mime_base.specs.Cache.Texts.{text_at};
 ghost use Rattle.mime_base.specs.Database.Limits.{KeepsLimits};
 ghost use Rattle.mime_base.specs.Database.Subclass.{resolved};
 ghost use Rattle.mime_base.specs.Format.Header.{HeaderAt, Offsets};
 ghost use Rattle.mime_base.specs.Format.Magic.{MagicAt};
 ghost use Rattle.mime_base.specs.Format.Pairs.{PairsAt};
 ghost use Rattle.mime_base.specs.Format.Parents.{ParentsAt};
-ghost use Rattle.mime_base.specs.Format.Stored.{glob_rules, literal_rules};
-ghost use Rattle.mime_base.specs.Format.SuffixTree.{tree_size};
 ghost use Rattle.mime_base.specs.Meter.{raised};
-ghost use Rattle.mime_base.specs.Format.Packed.{matchlet_count, value_length};
 ghost use Rattle.mime_base.specs.Magic.{PlainSection, are_allowed_sections};
-ghost use Rattle.mime_base.specs.Magic.Holds.{first_magic};
 ghost use Rattle.mime_base.specs.declared.database.rule.GlobRule.{GlobRule};
-ghost use Rattle.mime_view.specs.Magic.{Answers, IsMagicFault, magic_price, plain_found};
+ghost use Rattle.mime_view.specs.Magic.{AnswersMagic, IsMagicFault, NamesText, magic_price};
 ghost use Rattle.mime_base.specs.Magic.Extent.{sections_extent};
-ghost use Rattle.mime_view.specs.Lists.{IsPairsFault};
-ghost use Rattle.mime_view.specs.NameHits.{AreHits, GivesHits, GivesTexts, IsHitsFault, SpellsRules, lists_of};
+ghost use Rattle.mime_view.specs.Lists.{IsHeadFault};
+ghost use Rattle.mime_view.specs.NameHits.{AreHits, GivesHits, GivesTexts, IsNameFault, SpellsRules, lists_of};
 ghost use Rattle.mime_view.specs.RuleHits.{AreRuleHits, gives_types};
-ghost use Rattle.mime_view.specs.Pairs.{IsSecondName, IsUnaliased, looked_up};
-ghost use Rattle.mime_view.specs.Parents.{IsGiven, StopsParents, TakesParents, is_marked, unmarked_parents};
-ghost use Rattle.mime_view.specs.Spending.{Gives, Looks, Spends, per_record, spending_of};
+ghost use Rattle.mime_view.specs.Pairs.{GivesSecondName, GivesUnaliased, LooksUp};
+ghost use Rattle.mime_view.specs.Parents.{GivesParents, TakesOrStops};
+ghost use Rattle.mime_view.specs.Spending.{Gives, Looks, Pays, SpendsOnName, per_record, spending_of};
 ghost use Rattle.mime_view.specs.Opening.{IsOpenFault, Opens};
-ghost use Rattle.mime_view.specs.Listing.{IsListed, IsListing, plain_listed};
+ghost use Rattle.mime_view.specs.Listing.{IsListed, IsListing, listing_records, plain_listed};
 ghost use Rattle.mime_view.specs.Listing.Faults.{IsListingFault};
 
 use crate::budget::Budget;
@@ -152,12 +146,9 @@ impl<'a> Cache<'a> {
         // Whatever the bytes are, each type is a text of the cache, and was paid for by a record.
         ensures texts { GivesTexts self.now (spending_of meter.old budget.old) (spending_of meter.new budget.new) result }
         // Why nothing is said of the name.
-        ensures fault { IfErr result
-            (IsHitsFault self.now (field self.now 0 3) (field self.now 0 4) (field self.now 0 5) budget.new) }
+        ensures fault { IfErr result (IsNameFault self.now (lists_of self.now) budget.new) }
         // A record costs as in the glob list, and the text of a type; the halving comes besides, for both cases.
-        ensures cost { let halving = 29 * (2 * length name.now + 2) + 1 in
-            Spends (per_record (256 * (length name.now + 3))) halving (256 * halving)
-            (spending_of meter.old budget.old) (spending_of meter.new budget.new) }
+        ensures cost { SpendsOnName name.now 3 (spending_of meter.old budget.old) (spending_of meter.new budget.new) }
     {
         let query = Query {
             counted: &self.counted,
@@ -194,12 +185,9 @@ impl<'a> Cache<'a> {
         ensures texts { GivesTexts self.now (spending_of meter.old budget.old) (spending_of meter.new budget.new)
             (gives_types result) }
         // Why nothing is said of the name.
-        ensures fault { IfErr result
-            (IsHitsFault self.now (field self.now 0 3) (field self.now 0 4) (field self.now 0 5) budget.new) }
+        ensures fault { IfErr result (IsNameFault self.now (lists_of self.now) budget.new) }
         // A record costs as in the glob list, and the text of a type; the halving comes besides, for both cases.
-        ensures cost { let halving = 29 * (2 * length name.now + 2) + 1 in
-            Spends (per_record (256 * (length name.now + 3))) halving (256 * halving)
-            (spending_of meter.old budget.old) (spending_of meter.new budget.new) }
+        ensures cost { SpendsOnName name.now 3 (spending_of meter.old budget.old) (spending_of meter.new budget.new) }
     {
         let query = Query {
             counted: &self.counted,
@@ -241,8 +229,7 @@ impl<'a> Cache<'a> {
         ensures answer { (offsets : Offsets) (pairs : List (List ℕ × List ℕ)) → HeaderAt (Stands self.now) offsets →
             PairsAt (Stands self.now) offsets.aliases pairs → IsOkAnd result (λ name. name.now ≡ resolved pairs kind.now) }
         // On any bytes it gives the name or a text of the cache, or the list or a text that it names does not stand.
-        ensures given { MatchResult result (λ name. IsUnaliased self.now (field self.now 0 1) kind.now name.now)
-            (IsPairsFault self.now (field self.now 0 1)) }
+        ensures given { GivesUnaliased self.now (field self.now 0 1) kind.now result }
         // It takes nothing of the budget.
         ensures budget { budget.new ≡ budget.old }
         // It visits at most 29 records, and compares at most a text for each.
@@ -267,11 +254,9 @@ impl<'a> Cache<'a> {
     ) -> Result<Option<&'a [u8]>, CacheFault>
         // Where the icon list stands, it gives the name that the list has for the type, if it has one.
         ensures answer { (offsets : Offsets) (icons : List (List ℕ × List ℕ)) → HeaderAt (Stands self.now) offsets →
-            PairsAt (Stands self.now) offsets.icons icons →
-            IsOkAnd result (λ name. option_map (λ text. text.now) name ≡ looked_up icons kind.now) }
+            PairsAt (Stands self.now) offsets.icons icons → LooksUp kind.now icons result }
         // On any bytes what it gives is a text of the cache, or the list or a text that it names does not stand.
-        ensures given { MatchResult result (IsSecondName self.now (field self.now 0 8))
-            (IsPairsFault self.now (field self.now 0 8)) }
+        ensures given { GivesSecondName self.now (field self.now 0 8) result }
         // It takes nothing of the budget.
         ensures budget { budget.new ≡ budget.old }
         // It visits at most 29 records, and compares at most a text for each.
@@ -294,11 +279,9 @@ impl<'a> Cache<'a> {
     ) -> Result<Option<&'a [u8]>, CacheFault>
         // Where the list of generic icons stands, it gives the name that the list has for the type, if it has one.
         ensures answer { (offsets : Offsets) (icons : List (List ℕ × List ℕ)) → HeaderAt (Stands self.now) offsets →
-            PairsAt (Stands self.now) offsets.generic_icons icons →
-            IsOkAnd result (λ name. option_map (λ text. text.now) name ≡ looked_up icons kind.now) }
+            PairsAt (Stands self.now) offsets.generic_icons icons → LooksUp kind.now icons result }
         // On any bytes what it gives is a text of the cache, or the list or a text that it names does not stand.
-        ensures given { MatchResult result (IsSecondName self.now (field self.now 0 9))
-            (IsPairsFault self.now (field self.now 0 9)) }
+        ensures given { GivesSecondName self.now (field self.now 0 9) result }
         // It takes nothing of the budget.
         ensures budget { budget.new ≡ budget.old }
         // It visits at most 29 records, and compares at most a text for each.
@@ -329,18 +312,13 @@ impl<'a> Cache<'a> {
     ) -> Result<Option<Parents<'a>>, CacheFault>
         // Where the parent list stands, it gives the type's entry with its parents, none if it is marked; each takes a record.
         ensures answer { (offsets : Offsets) (pairs : List (List ℕ × List ℕ)) → HeaderAt (Stands self.now) offsets →
-            (stand : ParentsAt (Stands self.now) offsets.parents pairs) →
-            let marked = is_marked self.now (field self.now 0 2) marks.old kind.now in
-            Gives (IsGiven pairs stand.kinds marked kind.now) (length (unmarked_parents pairs marked kind.now))
-            (spending_of meter.old budget.old) (spending_of meter.new budget.new) result }
+            (stand : ParentsAt (Stands self.now) offsets.parents pairs) → GivesParents self.now (field self.now 0 2) pairs
+            stand.kinds marks.old kind.now (spending_of meter.old budget.old) (spending_of meter.new budget.new) result }
         // On any bytes an entry that is found is the type's, and is marked then, or nothing is given and the marks stay.
-        ensures taken { MatchResult result (TakesParents self.now (field self.now 0 2) kind.now
-            (spending_of meter.old budget.old) (spending_of meter.new budget.new) marks.old marks.new)
-            (StopsParents self.now (field self.now 0 2) kind.now
-            (spending_of meter.old budget.old) (spending_of meter.new budget.new) marks.old marks.new) }
+        ensures taken { TakesOrStops self.now (field self.now 0 2) kind.now
+            (spending_of meter.old budget.old) (spending_of meter.new budget.new) marks.old marks.new result }
         // A record that is taken costs one node and one text; at most 29 nodes and 27 texts come besides.
-        ensures cost { Spends (per_record 256) 29 (256 * 27)
-            (spending_of meter.old budget.old) (spending_of meter.new budget.new) }
+        ensures cost { Pays (per_record 256) 29 (256 * 27) meter.old meter.new budget.old budget.new }
     {
         let at = u64::from(self.header[2]);
         let mut spending = Spending {
@@ -376,16 +354,13 @@ impl<'a> Cache<'a> {
         // than a record for each section and line, and the bytes of their values.
         ensures answers { (offsets : Offsets) (sections : List PlainSection) → HeaderAt (Stands self.now) offsets →
             are_allowed_sections sections ≡ true → MagicAt (Stands self.now) offsets.magic sections →
-            Answers (λ found. plain_found found ≡ first_magic sections content.now host) ⊤
-            (length sections + matchlet_count sections) (value_length sections)
-            (spending_of meter.old budget.old) (spending_of meter.new budget.new) result }
+            AnswersMagic content.now host ⊤ sections (spending_of meter.old budget.old) (spending_of meter.new budget.new) result }
         // On any bytes the type is a text of the cache.
-        ensures text { IfOk result (λ found. IfSome found (λ pair. (at : ℕ) × (text_at self.now at ≡ Ok pair.0.now))) }
+        ensures text { IfOk result (NamesText self.now) }
         // A fault is one of the list, of a section or a line, or the budget is spent.
         ensures fault { IfErr result (IsMagicFault self.now (field self.now 0 6) budget.new) }
         // A record costs one node and one text, a value byte one comparison for each place of the content; one node comes besides.
-        ensures cost { Spends (magic_price (length content.now)) 1 0
-            (spending_of meter.old budget.old) (spending_of meter.new budget.new) }
+        ensures cost { Pays (magic_price (length content.now)) 1 0 meter.old meter.new budget.old budget.new }
     {
         let query = MagicQuery {
             counted: &self.counted,
@@ -413,8 +388,7 @@ impl<'a> Cache<'a> {
         // On any bytes it gives the number that stands there.
         ensures stated { IfOk result (λ extent. extent ≡ field self.now (field self.now 0 6) 1) }
         // The only fault is that the head of the list does not lie in the cache.
-        ensures fault { IfErr result (λ e. (length self.now < field self.now 0 6 + 12)
-            × (e ≡ CacheFault.OutOfRange (field self.now 0 6))) }
+        ensures fault { IfErr result (IsHeadFault self.now (field self.now 0 6) 12) }
         // It takes nothing of the budget.
         ensures budget { budget.new ≡ budget.old }
         // It visits one record, and compares nothing.
@@ -446,16 +420,14 @@ impl<'a> Cache<'a> {
     ) -> Result<Vec<Listed<'a>>, CacheFault>
         // Where these rules stand, it lists each once, by its stored text, and takes no more than a record for each entry and node.
         ensures gives { (rules : List GlobRule) → SpellsRules self.now rules → All KeepsLimits rules →
-            Gives (λ listed. IsListing rules (map plain_listed listed.items))
-            (length (literal_rules rules) + tree_size rules + length (glob_rules rules))
+            Gives (λ listed. IsListing rules (map plain_listed listed.items)) (listing_records rules)
             (spending_of meter.old budget.old) (spending_of meter.new budget.new) result }
         // On any bytes each type is a text of the cache, and each pattern is short.
         ensures text { IfOk result (λ listed. All (IsListed self.now) (map plain_listed listed.items)) }
         // A fault is one of the lists, of the tree or of a text, or the budget is spent, or memory is short.
         ensures fault { IfErr result (IsListingFault self.now budget.new.records) }
         // A record costs one node and two texts; four nodes come besides.
-        ensures cost { Spends (per_record 512) 4 0
-            (spending_of meter.old budget.old) (spending_of meter.new budget.new) }
+        ensures cost { Pays (per_record 512) 4 0 meter.old meter.new budget.old budget.new }
     {
         let literals = u64::from(self.header[3]);
         let tree = u64::from(self.header[4]);

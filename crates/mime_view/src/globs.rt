@@ -1,8 +1,7 @@
 //! The glob list: the rules that stand in neither the literal list nor the suffix tree ("The mime.cache
 //! files").
 
-ghost use Rattle.std.specs.Prelude.{◌≡◌, ◌==◌, ◌+◌, ◌*◌, ◌/◌, ◌%◌, ◌<◌, ◌≤◌, List, [], ◌∷◌, length, All};
-ghost use Rattle.mime_base.specs.Cache.Bytes.{Stands};
+ghost use Rattle.std.specs.Prelude.{◌≡◌, ◌==◌, ◌+◌, ◌*◌, ◌/◌, ◌%◌, ◌<◌, ◌≤◌, [], ◌∷◌, length};
 ghost use Rattle.mime_base.specs.Format.Rules.{GlobsAt};
 ghost use Rattle.mime_base.specs.Format.Stored.{glob_rules};
 ghost use Rattle.mime_base.specs.Kept.{FitsRank, class_of, hits as matching, rank};
@@ -10,7 +9,7 @@ ghost use Rattle.mime_base.specs.declared.database.rule.GlobRule.{GlobRule};
 ghost use Rattle.mime_view.specs.Globs.{ReadsGlob};
 ghost use Rattle.mime_view.specs.Hits.{glob_list_hits};
 ghost use Rattle.mime_view.specs.Lists.{IsTextFault};
-ghost use Rattle.mime_view.specs.Steps.{FindsRules, IsEntriesFault, Searches};
+ghost use Rattle.mime_view.specs.Steps.{FindsAt, FindsRules, IsEntriesFault, Searches};
 
 use crate::fault::CacheFault;
 use crate::flags::weight_and_case;
@@ -27,9 +26,8 @@ pub fn glob_list_hits(
     progress: &mut Progress,
 ) -> Result<(), CacheFault>
     // Of the rules that stand in the list, it offers those that match.
-    ensures finds { (rules : List GlobRule) → GlobsAt (Stands query.now.counted.now) at rules →
-        FindsRules query.now.counted.now (All FitsRank rules) (glob_list_hits query.now.key.now rules)
-        (length (glob_rules rules)) progress.old progress.new result }
+    ensures finds { FindsAt query.now GlobsAt at (glob_list_hits query.now.key.now)
+        (λ rules. length (glob_rules rules)) progress.old progress.new result }
     // An entry costs its text and the tests of that against the name; the count of the list comes besides.
     ensures searches { Searches (IsEntriesFault query.now.counted.now at) (256 * (length query.now.key.now + 2)) 1
         progress.old progress.new result }

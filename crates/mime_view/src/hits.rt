@@ -10,7 +10,7 @@ ghost use Rattle.mime_view.specs.Hits.{CandidatesAreNear, takes_rule, IsVisit, K
 ghost use Rattle.mime_view.specs.Lists.{IsTextFault};
 ghost use Rattle.mime_view.specs.RuleHits.{AreRulesAt, types_alone};
 ghost use Rattle.mime_view.specs.Spending.{Looks, Spends, per_record};
-ghost use Rattle.mime_view.specs.Texts.{AreTexts};
+ghost use Rattle.mime_view.specs.Texts.{NeedsMemory};
 
 use crate::best_hits::{BestHits, FEW};
 use crate::fault::CacheFault;
@@ -168,9 +168,7 @@ impl Hits {
         // They are those at the hits' offsets, in the order that is asked for, and it is said how many are kept.
         ensures answer { IfOk result (AreGiven counted.now self) }
         // Where texts stand there, only memory can be short.
-        ensures need { (texts : List (List ℕ)) →
-            AreTexts counted.now (map (λ hit. hit.1) (in_order self.which self.offers)) texts →
-            IfErr result (λ e. e ≡ CacheFault.OutOfMemory) }
+        ensures need { NeedsMemory counted.now (map (λ hit. hit.1) (in_order self.which self.offers)) result }
         // Else a text is at fault.
         ensures fault { IfErr result (λ e. IsTextFault counted.now e ⊎ (e ≡ CacheFault.OutOfMemory)) }
         // It costs their texts.
@@ -196,9 +194,7 @@ impl Hits {
         // Weights and flags are those of the ranks.
         ensures rules { IfOk result (λ found. AreRulesAt counted.now (in_order self.which self.offers) found.rules.items) }
         // Where texts stand there, only memory can be short.
-        ensures need { (texts : List (List ℕ)) →
-            AreTexts counted.now (map (λ hit. hit.1) (in_order self.which self.offers)) texts →
-            IfErr result (λ e. e ≡ CacheFault.OutOfMemory) }
+        ensures need { NeedsMemory counted.now (map (λ hit. hit.1) (in_order self.which self.offers)) result }
         // Else a text is at fault.
         ensures fault { IfErr result (λ e. IsTextFault counted.now e ⊎ (e ≡ CacheFault.OutOfMemory)) }
         // It costs their texts.
@@ -221,8 +217,7 @@ fn read_best<'a>(
     // They are those at the hits' offsets, and all are kept.
     ensures answer { IfOk result (AreGiven counted.now (plain_hits (Gathered.Best hits.now))) }
     // Where texts stand there, only memory can be short.
-    ensures need { (texts : List (List ℕ)) → AreTexts counted.now (map (λ hit. hit.1) hits.now) texts →
-        IfErr result (λ e. e ≡ CacheFault.OutOfMemory) }
+    ensures need { NeedsMemory counted.now (map (λ hit. hit.1) hits.now) result }
     // Else a text is at fault.
     ensures fault { IfErr result (λ e. IsTextFault counted.now e ⊎ (e ≡ CacheFault.OutOfMemory)) }
     // It costs their texts.
@@ -246,8 +241,7 @@ fn read_every<'a>(
     // They are those at the hits' offsets, by falling rank, and as many are kept as have the greatest.
     ensures answer { IfOk result (AreGiven counted.now (plain_hits (Gathered.Every hits))) }
     // Where texts stand there, only memory can be short.
-    ensures need { (texts : List (List ℕ)) → AreTexts counted.now (map (λ hit. hit.1) (falling (λ hit. hit.0) hits.items)) texts →
-        IfErr result (λ e. e ≡ CacheFault.OutOfMemory) }
+    ensures need { NeedsMemory counted.now (map (λ hit. hit.1) (falling (λ hit. hit.0) hits.items)) result }
     // Else a text is at fault.
     ensures fault { IfErr result (λ e. IsTextFault counted.now e ⊎ (e ≡ CacheFault.OutOfMemory)) }
     // It costs their texts.
@@ -273,8 +267,7 @@ fn read_every_rule<'a>(
     // Weights and flags are those of the ranks.
     ensures rules { IfOk result (λ found. AreRulesAt counted.now (falling (λ hit. hit.0) hits.items) found.rules.items) }
     // Where texts stand there, only memory can be short.
-    ensures need { (texts : List (List ℕ)) → AreTexts counted.now (map (λ hit. hit.1) (falling (λ hit. hit.0) hits.items)) texts →
-        IfErr result (λ e. e ≡ CacheFault.OutOfMemory) }
+    ensures need { NeedsMemory counted.now (map (λ hit. hit.1) (falling (λ hit. hit.0) hits.items)) result }
     // Else a text is at fault.
     ensures fault { IfErr result (λ e. IsTextFault counted.now e ⊎ (e ≡ CacheFault.OutOfMemory)) }
     // It costs their texts.

@@ -1,9 +1,9 @@
 //! The types of the hits that were held.
 
-ghost use Rattle.std.specs.Prelude.{◌≡◌, ◌⊎◌, ℕ, ◌*◌, List, length, IfErr, IfOk};
+ghost use Rattle.std.specs.Prelude.{◌≡◌, ◌⊎◌, ◌*◌, length, IfErr, IfOk};
 ghost use Rattle.mime_view.specs.Lists.{IsTextFault};
 ghost use Rattle.mime_view.specs.Spending.{Looks};
-ghost use Rattle.mime_view.specs.Texts.{AreTexts};
+ghost use Rattle.mime_view.specs.Texts.{AreTexts, NeedsMemory};
 
 use crate::fault::CacheFault;
 use crate::texts::Texts;
@@ -20,8 +20,7 @@ pub fn read_kinds<'a>(
     // They are the texts that stand there.
     ensures answer { IfOk result (AreTexts counted.now places.now) }
     // Where texts stand there, only memory can be short.
-    ensures need { (texts : List (List ℕ)) → AreTexts counted.now places.now texts →
-        IfErr result (λ e. e ≡ CacheFault.OutOfMemory) }
+    ensures need { NeedsMemory counted.now places.now result }
     // Else a text is at fault.
     ensures fault { IfErr result (λ e. IsTextFault counted.now e ⊎ (e ≡ CacheFault.OutOfMemory)) }
     // It costs their texts.

@@ -8,17 +8,15 @@
 
 ghost use Rattle.std.specs.Prelude.{◌≡◌, ℕ, ◌+◌, ◌*◌, ◌<◌, ◌≤◌, List, [], ◌∷◌, length, filter};
 ghost use Rattle.std.specs.Prelude.{Ok, OnOk, IfOk, IfErr, All, bytes_eq};
-ghost use Rattle.mime_base.specs.Cache.Bytes.{Stands};
 ghost use Rattle.mime_base.specs.Cache.Texts.{text_at};
 ghost use Rattle.mime_base.specs.Format.Rules.{LiteralsAt};
 ghost use Rattle.mime_base.specs.Format.Stored.{stored_text, weight_and_flags};
-ghost use Rattle.mime_base.specs.Kept.{FitsRank};
 ghost use Rattle.mime_base.specs.declared.database.rule.GlobRule.{GlobRule};
 ghost use Rattle.mime_view.specs.Gathered.{Offers};
 ghost use Rattle.mime_view.specs.Hits.{takes_rule, literal_hits, literal_visits, visits};
 ghost use Rattle.mime_view.specs.Lists.{IsTextFault};
 ghost use Rattle.mime_view.specs.Literals.{AreRun, IsLiteral, ReadsRule, ReadsRules, run_visits, taken};
-ghost use Rattle.mime_view.specs.Steps.{FindsRules, IsEntriesFault, Searches};
+ghost use Rattle.mime_view.specs.Steps.{FindsAt, FindsRules, IsEntriesFault, Searches};
 
 use crate::fault::CacheFault;
 use crate::flags::weight_and_case;
@@ -41,9 +39,8 @@ pub fn literal_hits(
     progress: &mut Progress,
 ) -> Result<(), CacheFault>
     // Of the rules that stand in the list, it offers those of the key that the case takes.
-    ensures finds { (rules : List GlobRule) → LiteralsAt (Stands query.now.counted.now) at rules →
-        FindsRules query.now.counted.now (All FitsRank rules) (literal_hits query.now.case query.now.key.now rules)
-        (visits query.now.case * literal_visits query.now.key.now rules) progress.old progress.new result }
+    ensures finds { FindsAt query.now LiteralsAt at (literal_hits query.now.case query.now.key.now)
+        (λ rules. visits query.now.case * literal_visits query.now.key.now rules) progress.old progress.new result }
     // An entry costs its text; the halving comes besides.
     ensures searches { Searches (IsEntriesFault query.now.counted.now at) 256 28 progress.old progress.new result }
 {

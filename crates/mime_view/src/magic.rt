@@ -12,13 +12,11 @@
 //! one piece of code that passes over them, with the meter and the budget in registers; a line that may equal its value is
 //! looked at by a call of its own, with a copy of both.
 
-ghost use Rattle.std.specs.Prelude.{◌≡◌, ℕ, ◌+◌, ◌-◌, ◌*◌, ◌^◌, ◌<◌, ◌≤◌, List, [], ◌∷◌, length, true, false, Ok, IfErr, IfOk, OnOk};
-ghost use Rattle.mime_base.specs.Format.Magic.{width};
-ghost use Rattle.mime_base.specs.Magic.{Forest, PlainLine, PlainSection, bare, line};
-ghost use Rattle.mime_view.specs.Magic.{AnswersLine, AnswersLines, AnswersSections, Ends, NamesChildren, NamesText};
+ghost use Rattle.std.specs.Prelude.{◌≡◌, ℕ, ◌+◌, ◌*◌, ◌^◌, ◌<◌, ◌≤◌, List, [], ◌∷◌, length, true, false, Ok, IfErr, IfOk, OnOk};
+ghost use Rattle.mime_base.specs.Magic.{PlainLine, PlainSection};
+ghost use Rattle.mime_view.specs.Magic.{AnswersLine, AnswersLineAt, AnswersLinesAt, AnswersMagicAt, AnswersSections, Ends};
 ghost use Rattle.mime_view.specs.Magic.{IsBlockFault, IsLineFault, IsLinesFault, IsMagicFault, IsSectionFault, IsSeenFault};
-ghost use Rattle.mime_view.specs.Magic.{LiesBlock, ReadsLine, ReadsLines, ReadsMagic, ReadsSection};
-ghost use Rattle.mime_view.specs.Magic.{line_price, magic_price};
+ghost use Rattle.mime_view.specs.Magic.{LiesBlock, NamesChildren, NamesText, ReadsLine, ReadsSection, line_price, magic_price};
 ghost use Rattle.mime_view.specs.Spending.{Spends};
 
 use crate::fault::CacheFault;
@@ -48,8 +46,7 @@ pub fn sniff<'a>(
     spending: &mut Spending,
 ) -> Result<Option<(&'a [u8], u32)>, CacheFault>
     // Where a list stands, it answers of its sections.
-    ensures sections { (sections : List PlainSection) → ReadsMagic query.now.counted.now at sections →
-        AnswersSections query.now sections spending.old spending.new result }
+    ensures sections { AnswersMagicAt query.now at spending.old spending.new result }
     // A type that is given is a text of the cache.
     ensures text { IfOk result (NamesText query.now.counted.now) }
     // On any bytes: why there is no answer, and what the call costs.
@@ -69,8 +66,7 @@ fn sniff_sections<'a>(
     spending: &mut Spending,
 ) -> Result<Option<(&'a [u8], u32)>, CacheFault>
     // Where a list stands, it answers of its sections.
-    ensures sections { (sections : List PlainSection) → ReadsMagic query.now.counted.now at sections →
-        AnswersSections query.now sections spending.old spending.new result }
+    ensures sections { AnswersMagicAt query.now at spending.old spending.new result }
     // A type that is given is a text of the cache.
     ensures text { IfOk result (NamesText query.now.counted.now) }
     // On any bytes: why there is no answer, and what the call costs.
@@ -158,8 +154,7 @@ fn some_line_holds(
     requires level { level ≤ 63 }
     requires block { LiesBlock query.now.counted.now first 32 count }
     // Lines that stand answer whether one holds.
-    ensures lines { (lines : Forest) → width lines ≡ count → ReadsLines query.now.counted.now first lines →
-        AnswersLines query.now (64 - level) lines spending.old spending.new result }
+    ensures lines { AnswersLinesAt query.now first count level spending.old spending.new result }
     // On any bytes: why there is no answer, and what the step costs.
     ensures ends { Ends (IsLinesFault query.now.counted.now first count level) (line_price query.now) 0 spending.old spending.new result }
 {
@@ -185,8 +180,7 @@ fn line_holds(
     requires level { level ≤ 63 }
     requires inside { at + 32 ≤ length query.now.counted.now }
     // A line that stands with its children answers as a forest of it alone does.
-    ensures line { (own : PlainLine) (children : Forest) → ReadsLines query.now.counted.now at (line own children bare) →
-        AnswersLines query.now (64 - level) (line own children bare) spending.old spending.new result }
+    ensures line { AnswersLineAt query.now at level spending.old spending.new result }
     // On any bytes: why there is no answer, and what the step costs.
     ensures ends { Ends (IsLineFault query.now.counted.now at level) (line_price query.now) 0 spending.old spending.new result }
 {
@@ -250,8 +244,7 @@ fn holds_apart(
     requires level { level ≤ 63 }
     requires inside { at + 32 ≤ length query.now.counted.now }
     // A line that stands with its children answers as a forest of it alone does.
-    ensures line { (own : PlainLine) (children : Forest) → ReadsLines query.now.counted.now at (line own children bare) →
-        AnswersLines query.now (64 - level) (line own children bare) spending.old spending.new result }
+    ensures line { AnswersLineAt query.now at level spending.old spending.new result }
     // On any bytes: why there is no answer, and what the step costs.
     ensures ends { Ends (IsLineFault query.now.counted.now at level) (line_price query.now) 0 spending.old spending.new result }
 {
@@ -273,8 +266,7 @@ fn whole_line_holds(
     requires level { level ≤ 63 }
     requires inside { at + 32 ≤ length query.now.counted.now }
     // A line that stands with its children answers as a forest of it alone does.
-    ensures line { (own : PlainLine) (children : Forest) → ReadsLines query.now.counted.now at (line own children bare) →
-        AnswersLines query.now (64 - level) (line own children bare) spending.old spending.new result }
+    ensures line { AnswersLineAt query.now at level spending.old spending.new result }
     // On any bytes: why there is no answer, and what the step costs.
     ensures ends { Ends (IsLineFault query.now.counted.now at level) (line_price query.now) 0 spending.old spending.new result }
 {
@@ -362,8 +354,7 @@ fn some_child_holds(
     requires level { level ≤ 63 }
     requires block { LiesBlock query.counted.now first 32 count }
     // Children that stand answer whether one holds.
-    ensures lines { (lines : Forest) → width lines ≡ count → ReadsLines query.entry.counted.now first lines →
-        AnswersLines query.entry (64 - level) lines spending.old spending.new result }
+    ensures lines { AnswersLinesAt query.entry first count level spending.old spending.new result }
     // On any bytes: why there is no answer, and what the step costs.
     ensures ends { Ends (IsLinesFault query.entry.counted.now first count level) (line_price query.entry) 0 spending.old spending.new result }
 {

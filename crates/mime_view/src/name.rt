@@ -3,24 +3,21 @@
 //! The literal list and the suffix tree are searched twice: by the name for case-sensitive rules, and by
 //! the folded name for the others. Where folding leaves the name alone, one search serves both.
 
-ghost use Rattle.std.specs.Prelude.{◌≡◌, false, ◌+◌, ◌*◌, ◌<◌, ◌≤◌, List, [], ◌++◌, length};
+ghost use Rattle.std.specs.Prelude.{◌≡◌, false, ◌+◌, ◌*◌, ◌<◌, ◌≤◌, List, [], length};
 ghost use Rattle.std.specs.Prelude.{All, IfErr, IfOk, OnOk};
-ghost use Rattle.mime_base.specs.Cache.Bytes.{Stands};
 ghost use Rattle.mime_base.specs.Format.Rules.{LiteralsAt};
 ghost use Rattle.mime_base.specs.Format.SuffixTree.{SuffixTreeAt};
 ghost use Rattle.mime_base.specs.Kept.{FitsRank};
 ghost use Rattle.mime_base.specs.Matching.Folding.{compared};
 ghost use Rattle.mime_base.specs.declared.database.rule.GlobRule.{GlobRule};
 ghost use Rattle.mime_view.specs.Gathered.{HoldsRules};
-ghost use Rattle.mime_view.specs.Hits.{hit_visits, offered_once, offered_twice};
-ghost use Rattle.mime_view.specs.Hits.{literal_hits, literal_visits, tree_hits, tree_visits};
-ghost use Rattle.mime_view.specs.NameHits.{AreHits, FindsHits, GivesTexts, IsHitsFault, IsRuleListsFault, RulesAt};
-ghost use Rattle.mime_view.specs.NameHits.{has_capitals};
+ghost use Rattle.mime_view.specs.Hits.{hit_visits, literal_visits_twice, literals_twice, offered_once, offered_twice};
+ghost use Rattle.mime_view.specs.Hits.{tree_twice, tree_visits_twice};
+ghost use Rattle.mime_view.specs.NameHits.{AreHits, FindsInLists, GivesTexts, IsNameFault, RulesAt, SearchesLists, has_capitals};
 ghost use Rattle.mime_view.specs.RuleHits.{AreRuleHits, gives_types};
-ghost use Rattle.mime_view.specs.Spending.{Spends, per_record};
-ghost use Rattle.mime_view.specs.Steps.{FindsRules, IsEntriesFault, Searches};
+ghost use Rattle.mime_view.specs.Spending.{SpendsOnName};
+ghost use Rattle.mime_view.specs.Steps.{FindsAt, FindsRules, FindsStanding, IsEntriesFault, Searches};
 ghost use Rattle.mime_view.specs.SuffixTree.{IsTreeFault};
-ghost use Rattle.mime_view.specs.declared.hits.Case.TheVariants.{Exact, Folded};
 
 use crate::fault::CacheFault;
 use crate::globs::glob_list_hits;
@@ -54,16 +51,13 @@ pub fn glob_hits<'a>(
     spending: &mut Spending,
 ) -> Result<NameHits<'a>, CacheFault>
     // Of the rules that stand in the lists, it gives the types of those that are asked for.
-    ensures found { (rules : List GlobRule) → RulesAt query.now.counted.now lists rules →
-        FindsHits (AreHits which) query.now.key.now rules spending.old spending.new result }
+    ensures found { FindsInLists (AreHits which) query.now lists spending.old spending.new result }
     // Whatever the bytes are, it gives texts of the cache.
     ensures gives { GivesTexts query.now.counted.now spending.old spending.new result }
     // Why it gives none.
-    ensures fault { IfErr result
-        (IsHitsFault query.now.counted.now lists.literals lists.tree lists.globs spending.new.budget) }
+    ensures fault { IfErr result (IsNameFault query.now.counted.now lists spending.new.budget) }
     // A record costs as in the glob list, and the text of a type; the halving comes besides, for both cases.
-    ensures cost { let more = 29 * (2 * length query.now.key.now + 2) + 1 in
-        Spends (per_record (256 * (length query.now.key.now + 3))) more (256 * more) spending.old spending.new }
+    ensures cost { SpendsOnName query.now.key.now 3 spending.old spending.new }
 {
     let hits = hits_of(alloc, query, which, lists, spending)?;
     hits.read(alloc, query.counted, &mut spending.meter)
@@ -77,16 +71,13 @@ pub fn rule_hits<'a>(
     spending: &mut Spending,
 ) -> Result<RuleHits<'a>, CacheFault>
     // Of the rules that stand in the lists, it gives those that match, and how many are kept.
-    ensures found { (rules : List GlobRule) → RulesAt query.now.counted.now lists rules →
-        FindsHits AreRuleHits query.now.key.now rules spending.old spending.new result }
+    ensures found { FindsInLists AreRuleHits query.now lists spending.old spending.new result }
     // Whatever the bytes are, their types are texts of the cache.
     ensures gives { GivesTexts query.now.counted.now spending.old spending.new (gives_types result) }
     // Why it gives none.
-    ensures fault { IfErr result
-        (IsHitsFault query.now.counted.now lists.literals lists.tree lists.globs spending.new.budget) }
+    ensures fault { IfErr result (IsNameFault query.now.counted.now lists spending.new.budget) }
     // A record costs as in the glob list, and the text of a type; the halving comes besides, for both cases.
-    ensures cost { let more = 29 * (2 * length query.now.key.now + 2) + 1 in
-        Spends (per_record (256 * (length query.now.key.now + 3))) more (256 * more) spending.old spending.new }
+    ensures cost { SpendsOnName query.now.key.now 3 spending.old spending.new }
 {
     let hits = hits_of(alloc, query, Which::Candidates, lists, spending)?;
     hits.read_rules(alloc, query.counted, &mut spending.meter)
@@ -101,18 +92,15 @@ fn hits_of(
     spending: &mut Spending,
 ) -> Result<Hits, CacheFault>
     // Of the rules that stand in the lists, it holds those that are asked for.
-    ensures found { (rules : List GlobRule) → RulesAt query.now.counted.now lists rules →
-        FindsHits (HoldsRules query.now.counted.now which) query.now.key.now rules spending.old spending.new result }
+    ensures found { FindsInLists (HoldsRules query.now.counted.now which) query.now lists spending.old spending.new result }
     // Whatever the bytes are, those that are asked for are held.
     ensures asked { IfOk result (λ hits. hits.which ≡ which) }
     // Each was paid for by a record.
     ensures paid { IfOk result (λ hits. length hits.offers + spending.new.budget.records ≤ spending.old.budget.records) }
     // Why there are none.
-    ensures fault { IfErr result
-        (IsHitsFault query.now.counted.now lists.literals lists.tree lists.globs spending.new.budget) }
+    ensures fault { IfErr result (IsNameFault query.now.counted.now lists spending.new.budget) }
     // A record costs as in the glob list; the halving comes besides, for both cases.
-    ensures cost { let more = 29 * (2 * length query.now.key.now + 2) + 1 in
-        Spends (per_record (256 * (length query.now.key.now + 2))) more (256 * more) spending.old spending.new }
+    ensures cost { SpendsOnName query.now.key.now 2 spending.old spending.new }
 {
     let mut progress = Progress {
         hits: Hits::new(alloc, which),
@@ -140,8 +128,7 @@ fn gather_hits(
     ensures finds { (rules : List GlobRule) → RulesAt query.now.counted.now lists rules →
         FindsRules query.now.counted.now ⊥ [] (hit_visits query.now.key.now rules) progress.old progress.new result }
     // A record costs as in the glob list; the halving comes besides, for both cases.
-    ensures searches { Searches (IsRuleListsFault query.now.counted.now lists) (256 * (length query.now.key.now + 2))
-        (29 * (2 * length query.now.key.now + 2) + 1) progress.old progress.new result }
+    ensures searches { SearchesLists query.now lists progress.old progress.new result }
 {
     let name = query.key;
     if !has_capitals(name) {
@@ -173,12 +160,10 @@ fn offer_once(
     // The name is its own folded name.
     requires alone { compared false query.now.key.now ≡ query.now.key.now }
     // Of the rules that stand in the lists, it offers those that match, each once.
-    ensures finds { (rules : List GlobRule) → RulesAt query.now.counted.now lists rules →
-        FindsRules query.now.counted.now (All FitsRank rules) (offered_once query.now.key.now rules)
-        (hit_visits query.now.key.now rules) progress.old progress.new result }
+    ensures finds { FindsStanding query.now (RulesAt query.now.counted.now lists) (offered_once query.now.key.now)
+        (hit_visits query.now.key.now) progress.old progress.new result }
     // A record costs as in the glob list; the halving comes besides.
-    ensures searches { Searches (IsRuleListsFault query.now.counted.now lists) (256 * (length query.now.key.now + 2))
-        (29 * (2 * length query.now.key.now + 2) + 1) progress.old progress.new result }
+    ensures searches { SearchesLists query.now lists progress.old progress.new result }
 {
     let both = Query {
         counted: query.counted,
@@ -200,12 +185,10 @@ fn offer_twice(
     // The other text is the folded name.
     requires folded { folded.now ≡ compared false query.now.key.now }
     // Of the rules that stand in the lists, it offers those that match.
-    ensures finds { (rules : List GlobRule) → RulesAt query.now.counted.now lists rules →
-        FindsRules query.now.counted.now (All FitsRank rules) (offered_twice query.now.key.now rules)
-        (hit_visits query.now.key.now rules) progress.old progress.new result }
+    ensures finds { FindsStanding query.now (RulesAt query.now.counted.now lists) (offered_twice query.now.key.now)
+        (hit_visits query.now.key.now) progress.old progress.new result }
     // A record costs as in the glob list; the halving comes besides, for both cases.
-    ensures searches { Searches (IsRuleListsFault query.now.counted.now lists) (256 * (length query.now.key.now + 2))
-        (29 * (2 * length query.now.key.now + 2) + 1) progress.old progress.new result }
+    ensures searches { SearchesLists query.now lists progress.old progress.new result }
 {
     search_twice(query, folded, lists.literals, progress)?;
     walk_twice(query, folded, lists.tree, progress)?;
@@ -222,11 +205,8 @@ fn search_twice(
     // The other text is the folded name.
     requires folded { folded.now ≡ compared false query.now.key.now }
     // Of the rules that stand in the list, it offers those of either text.
-    ensures finds { (rules : List GlobRule) → LiteralsAt (Stands query.now.counted.now) at rules →
-        FindsRules query.now.counted.now (All FitsRank rules) (literal_hits Exact query.now.key.now rules
-        ++ literal_hits Folded (compared false query.now.key.now) rules)
-        (literal_visits query.now.key.now rules + literal_visits (compared false query.now.key.now) rules)
-        progress.old progress.new result }
+    ensures finds { FindsAt query.now LiteralsAt at (literals_twice query.now.key.now)
+        (literal_visits_twice query.now.key.now) progress.old progress.new result }
     // It costs two searches.
     ensures searches { Searches (IsEntriesFault query.now.counted.now at) 256 56 progress.old progress.new result }
 {
@@ -254,11 +234,8 @@ fn walk_twice(
     // The other text is the folded name.
     requires folded { folded.now ≡ compared false query.now.key.now }
     // Of the rules that stand in the tree, it offers those with an ending of either text.
-    ensures finds { (rules : List GlobRule) → SuffixTreeAt (Stands query.now.counted.now) at rules →
-        FindsRules query.now.counted.now (All FitsRank rules) (tree_hits Exact query.now.key.now rules
-        ++ tree_hits Folded (compared false query.now.key.now) rules)
-        (tree_visits query.now.key.now rules + tree_visits (compared false query.now.key.now) rules)
-        progress.old progress.new result }
+    ensures finds { FindsAt query.now SuffixTreeAt at (tree_twice query.now.key.now)
+        (tree_visits_twice query.now.key.now) progress.old progress.new result }
     // It costs two walks.
     ensures searches { Searches (IsTreeFault query.now.counted.now at) 256 (58 * length query.now.key.now + 2)
         progress.old progress.new result }

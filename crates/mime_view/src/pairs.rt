@@ -1,8 +1,7 @@
 //! Sorted lists of two names an entry: aliases, icons and generic icons.
 
-ghost use Rattle.std.specs.Prelude.{◌≡◌, ℕ, ◌*◌, ◌^◌, ◌≤◌, ◌<◌, List, length, option_map, IsOkAnd, MatchResult};
-ghost use Rattle.mime_view.specs.Lists.{IsPairsFault};
-ghost use Rattle.mime_view.specs.Pairs.{IsSecondName, ReadsPairs, looked_up};
+ghost use Rattle.std.specs.Prelude.{ℕ, ◌*◌, ◌^◌, ◌≤◌, ◌<◌, List, length};
+ghost use Rattle.mime_view.specs.Pairs.{GivesSecondName, LooksUp, ReadsPairs};
 ghost use Rattle.mime_view.specs.Spending.{Looks};
 
 use crate::entry::find_entry;
@@ -22,9 +21,9 @@ pub fn look_up_pair<'a>(
     requires limit { length counted.now ≤ 2 ^ 28 }
     // In a sorted list that stands it finds the second name of the first pair that begins with the key.
     ensures answer { (pairs : List (List ℕ × List ℕ)) → ReadsPairs counted.now at pairs →
-        IsOkAnd result (λ name. option_map (λ text. text.now) name ≡ looked_up pairs key.now) }
+        LooksUp key.now pairs result }
     // On any bytes what it gives is a text of the cache, or the list or a text that it names does not stand.
-    ensures given { MatchResult result (IsSecondName counted.now at) (IsPairsFault counted.now at) }
+    ensures given { GivesSecondName counted.now at result }
     // It finds an entry and reads a text.
     ensures cost { Looks 29 (256 * 29) meter.old meter.new }
 {

@@ -2,9 +2,8 @@
 
 ghost use Rattle.std.specs.Prelude.{ℕ, ◌+◌, ◌*◌, ◌^◌, ◌≤◌, ◌<◌, List, length, MatchResult};
 ghost use Rattle.mime_base.specs.Cache.Bytes.{field};
-ghost use Rattle.mime_view.specs.Parents.{IsGiven, ReadsParents, StopsParents, TakesParents, is_marked, unmarked_parents};
-ghost use Rattle.mime_view.specs.Parents.{IsTextUntaken, IsTextsFault, TakesText, TakesTexts};
-ghost use Rattle.mime_view.specs.Spending.{Gives, Spends, per_record};
+ghost use Rattle.mime_view.specs.Parents.{GivesParents, IsTextUntaken, IsTextsFault, ReadsParents, TakesOrStops, TakesText, TakesTexts};
+ghost use Rattle.mime_view.specs.Spending.{Spends, per_record};
 
 use crate::entry::find_entry;
 use crate::fault::CacheFault;
@@ -39,13 +38,9 @@ pub fn parents_of<'a>(
     requires limit { length counted.now ≤ 2 ^ 28 }
     // Where the list stands, the type's parents are given, none where its entry is marked; each takes a record.
     ensures answer { (pairs : List (List ℕ × List ℕ)) (kinds : List (List ℕ)) → ReadsParents counted.now at pairs kinds →
-        let marked = is_marked counted.now at marks.old kind.now in
-        Gives (IsGiven pairs kinds marked kind.now) (length (unmarked_parents pairs marked kind.now))
-        spending.old spending.new result }
+        GivesParents counted.now at pairs kinds marks.old kind.now spending.old spending.new result }
     // On any bytes an entry that is found is the type's, and is marked then, or nothing is given and the marks stay.
-    ensures taken { MatchResult result
-        (TakesParents counted.now at kind.now spending.old spending.new marks.old marks.new)
-        (StopsParents counted.now at kind.now spending.old spending.new marks.old marks.new) }
+    ensures taken { TakesOrStops counted.now at kind.now spending.old spending.new marks.old marks.new result }
     // It finds an entry, and reads a text for each record.
     ensures cost { Spends (per_record 256) 29 (256 * 27) spending.old spending.new }
 {

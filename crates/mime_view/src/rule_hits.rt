@@ -1,10 +1,10 @@
 //! The rules that match a name, each with its type, its weight and its flag ("Recommended checking order").
 
-ghost use Rattle.std.specs.Prelude.{◌≡◌, ◌⊎◌, ℕ, ◌*◌, List, length, map, IfErr, IfOk};
+ghost use Rattle.std.specs.Prelude.{◌≡◌, ◌⊎◌, ◌*◌, length, map, IfErr, IfOk};
 ghost use Rattle.mime_view.specs.Lists.{IsTextFault};
 ghost use Rattle.mime_view.specs.RuleHits.{AreRulesAt, parts_of_rank};
 ghost use Rattle.mime_view.specs.Spending.{Looks};
-ghost use Rattle.mime_view.specs.Texts.{AreTexts};
+ghost use Rattle.mime_view.specs.Texts.{NeedsMemory};
 
 use crate::fault::CacheFault;
 use mime_base::{Counted, Meter};
@@ -40,8 +40,7 @@ pub fn read_rules<'a>(
     // Their types stand at the offsets; their weights and flags are those of the ranks.
     ensures answer { IfOk result (λ rules. AreRulesAt counted.now hits.now rules.items) }
     // Where texts stand there, only memory can be short.
-    ensures need { (texts : List (List ℕ)) → AreTexts counted.now (map (λ hit. hit.1) hits.now) texts →
-        IfErr result (λ e. e ≡ CacheFault.OutOfMemory) }
+    ensures need { NeedsMemory counted.now (map (λ hit. hit.1) hits.now) result }
     // Else a text is at fault.
     ensures fault { IfErr result (λ e. IsTextFault counted.now e ⊎ (e ≡ CacheFault.OutOfMemory)) }
     // It costs their texts.

@@ -11,19 +11,18 @@
 //! leaves.
 
 ghost use Rattle.std.specs.Prelude.{◌≡◌, ◌==◌, true, false, get_or, ◌+◌, ◌-◌, ◌*◌, ◌≤◌, ◌<◌, List, [], ◌∷◌, length};
-ghost use Rattle.std.specs.Prelude.{All, IfOk, IfErr};
-ghost use Rattle.mime_base.specs.Cache.Bytes.{field, Stands};
+ghost use Rattle.std.specs.Prelude.{IfOk, IfErr};
+ghost use Rattle.mime_base.specs.Cache.Bytes.{field};
 ghost use Rattle.mime_base.specs.Format.SuffixTree.{SuffixTreeAt};
-ghost use Rattle.mime_base.specs.Format.Tree.{Tree, leaves_at};
-ghost use Rattle.mime_base.specs.Kept.{FitsRank};
+ghost use Rattle.mime_base.specs.Format.Tree.{Tree};
 ghost use Rattle.mime_base.specs.Meter.{raised};
 ghost use Rattle.mime_base.specs.declared.database.rule.GlobRule.{GlobRule};
 ghost use Rattle.mime_view.specs.Hits.{tree_hits, tree_visits, visits};
 ghost use Rattle.mime_view.specs.Magic.{IsBlockFault, LiesBlock};
 ghost use Rattle.mime_view.specs.Spending.{Looks};
-ghost use Rattle.mime_view.specs.Steps.{FindsRules, Searches};
-ghost use Rattle.mime_view.specs.SuffixTree.{IsCharacterPlace, IsChildFault, IsSuffixRule, IsTreeFault, IsBlockBelow};
-ghost use Rattle.mime_view.specs.SuffixTree.{ReadsBlock, ReadsLeaf, admitted, below_character, scan_visits};
+ghost use Rattle.mime_view.specs.Steps.{FindsAt, FindsRules, Searches};
+ghost use Rattle.mime_view.specs.SuffixTree.{FindsLeaves, IsBlockBelow, IsCharacterPlace, IsChildFault, IsSuffixRule, IsTreeFault};
+ghost use Rattle.mime_view.specs.SuffixTree.{ReadsBlock, ReadsLeaf, admitted, below_character};
 
 use crate::fault::CacheFault;
 use crate::flags::weight_and_case;
@@ -51,9 +50,8 @@ struct Siblings {
 #[inline(always)]
 pub fn tree_hits(query: &Query<'_, '_>, at: u32, progress: &mut Progress) -> Result<(), CacheFault>
     // Of the rules that stand in the tree, it offers those with an ending of the name that the case takes.
-    ensures finds { (rules : List GlobRule) → SuffixTreeAt (Stands query.now.counted.now) at rules →
-        FindsRules query.now.counted.now (All FitsRank rules) (tree_hits query.now.case query.now.key.now rules)
-        (visits query.now.case * tree_visits query.now.key.now rules) progress.old progress.new result }
+    ensures finds { FindsAt query.now SuffixTreeAt at (tree_hits query.now.case query.now.key.now)
+        (λ rules. visits query.now.case * tree_visits query.now.key.now rules) progress.old progress.new result }
     // A leaf costs its visit; the halving among siblings comes besides, once for each byte of the name.
     ensures searches { Searches (IsTreeFault query.now.counted.now at) 256 (29 * length query.now.key.now + 1)
         progress.old progress.new result }
@@ -122,9 +120,7 @@ fn descend(
     ensures below { IfOk result (IsBlockBelow query.now.counted.now block byte) }
     // Of the leaves there it offers those that the case takes.
     ensures finds { (tree : Tree) → ReadsBlock query.now.counted.now block tree →
-        FindsRules query.now.counted.now (All (IsSuffixRule pattern_length) (leaves_at [] (below_character byte tree)))
-        (admitted query.now.case (leaves_at [] (below_character byte tree)))
-        (visits query.now.case * scan_visits (below_character byte tree)) progress.old progress.new result }
+        FindsLeaves query.now pattern_length (below_character byte tree) progress.old progress.new result }
     // The halving comes besides.
     ensures searches { Searches (IsChildFault query.now.counted.now) 256 29 progress.old progress.new result }
 {
@@ -214,9 +210,7 @@ fn leaf_hits(
     requires lies { LiesBlock query.now.counted.now block.first 12 block.count }
     // It offers those that the case takes.
     ensures finds { (tree : Tree) → ReadsBlock query.now.counted.now block tree →
-        FindsRules query.now.counted.now (All (IsSuffixRule pattern_length) (leaves_at [] tree))
-        (admitted query.now.case (leaves_at [] tree)) (visits query.now.case * scan_visits tree)
-        progress.old progress.new result }
+        FindsLeaves query.now pattern_length tree progress.old progress.new result }
     // It costs the visits, and reads nothing that could be at fault.
     ensures searches { Searches (λ e. ⊥) 256 0 progress.old progress.new result }
 {

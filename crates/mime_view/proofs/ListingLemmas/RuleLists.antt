@@ -1,66 +1,27 @@
 -- The lists of a cache that spells some rules are read as they are listed.
-use Rattle.std.proofs.Common.{◌≡◌, ℕ, ◌+◌, ◌*◌, ◌<◌, ◌≤◌, List, [], ◌∷◌, ◌++◌, length, get_or, map, sym, ap, subst, ◌∙◌, arith}
+use Rattle.std.proofs.Common.{◌≡◌, ℕ, ◌+◌, ◌*◌, ◌≤◌, List, [], ◌++◌, length, get_or, map, sym, ap, subst, ◌∙◌, arith}
 use Rattle.std.specs.List.{All}
 use Rattle.std.proofs.lemmas.List.{map-append}
-use Rattle.std.proofs.lemmas.List.Elements.{All-filter, All-head, All-tail}
+use Rattle.std.proofs.lemmas.List.Elements.{All-filter}
 use Rattle.std.proofs.lemmas.List.Sorted.{All-permutation, length_permutation}
-use Rattle.mime_base.specs.Cache.Bytes.{Stands, field, fields}
-use Rattle.mime_base.specs.Cache.Texts.{text_at}
+use Rattle.mime_base.specs.Cache.Bytes.{Stands, field}
 use Rattle.mime_base.specs.Database.Limits.{KeepsLimits}
 use Rattle.mime_base.specs.Format.Header.{HeaderAt, Offsets}
-use Rattle.mime_base.specs.Format.Records.{CardsAt, ListAt, RecordsAt}
-use Rattle.mime_base.specs.Format.Rules.{GlobsAt, IsRule, LiteralsAt}
+use Rattle.mime_base.specs.Format.Rules.{GlobsAt, LiteralsAt}
 use Rattle.mime_base.specs.Format.Sorted.{IsSortedByText}
-use Rattle.mime_base.specs.Format.Stored.{glob_rules, is_in_globs, is_in_literals, literal_rules, reversed_ending, stored_text}
-use Rattle.mime_base.specs.Format.Stored.{tree_rules, weight_and_flags}
+use Rattle.mime_base.specs.Format.Stored.{glob_rules, is_in_globs, is_in_literals, literal_rules, reversed_ending, stored_text, tree_rules}
 use Rattle.mime_base.specs.Format.SuffixTree.{SuffixTreeAt, tree_size}
 use Rattle.mime_base.specs.Format.Tree.{Tree, node_count}
 use Rattle.mime_base.specs.declared.database.rule.GlobRule.{GlobRule}
 use Rattle.mime_view.specs.Listing.{IsListing, PlainListed, listed_rule}
 use Rattle.mime_view.specs.Listing.Faults.{IsListingFault, IsListsFault}
-use Rattle.mime_view.specs.Listing.Reads.{ReadsEntries, ReadsEntry, ReadsListedRules, ReadsSuffixTree, rules_in}
+use Rattle.mime_view.specs.Listing.Reads.{ReadsListedRules, ReadsSuffixTree, rules_in}
 use Rattle.mime_view.specs.declared.fault.CacheFault.{CacheFault}
 use Rattle.mime_view.proofs.ListLemmas.Headers.{header_read}
-use Rattle.mime_view.proofs.ListLemmas.Records.{count_read, list_inside, numbers_read, record_inside, text_read}
+use Rattle.mime_view.proofs.ListLemmas.Records.{numbers_read, record_inside}
+use Rattle.mime_view.proofs.ListingLemmas.ListedEntries.{rules_read}
 use Rattle.mime_view.proofs.ListingLemmas.ListedTree.{ended_leaves, listed_by_ending}
 use Rattle.mime_view.proofs.SuffixTreeLemmas.TreesRead.{siblings_inside, tree_read}
-
--- a rule that stands is read as an entry
-entry_read : (c : List ℕ) (at : ℕ) (rule : GlobRule) (numbers : List ℕ) → rule.weight < 256 → CardsAt (Stands c) at numbers
-    → IsRule (Stands c) rule numbers → ReadsEntry c at rule
-entry_read c at rule numbers weight here (text, kind, are, stored, named) =
-    let read = numbers_read c at (text ∷ kind ∷ weight_and_flags rule ∷ []) (rw are at here) in
-    let number : (i : ℕ) → get_or (fields c at 3) i 0 ≡ get_or (text ∷ kind ∷ weight_and_flags rule ∷ []) i 0 =
-    λ i. ap (λ (ns : List ℕ). get_or ns i 0) read in
-    let at_text : field c at 0 ≡ text = number 0 in
-    let at_kind : field c at 1 ≡ kind = number 1 in
-    record {
-      text = ap (text_at c) at_text ∙ text_read c text (stored_text rule) stored;
-      kind = ap (text_at c) at_kind ∙ text_read c kind rule.kind named;
-      flags = number 2;
-      weight = weight;
-    }
-
--- and so are rules that stand side by side
-entries_read : (c : List ℕ) (at : ℕ) (rules : List GlobRule) → All KeepsLimits rules
-    → RecordsAt (Stands c) 12 (IsRule (Stands c)) at rules → ReadsEntries c at rules
-entries_read c at [] fit stand = tt
-entries_read c at (rule ∷ rules) fit (numbers, here, is, rest) =
-    let fits = All-head KeepsLimits rule rules fit in
-    (entry_read c at rule numbers fits.0 here is, entries_read c (at + 12) rules (All-tail KeepsLimits rule rules fit) rest)
-
--- the numbers of a rule take 12 bytes
-entry_size : (c : List ℕ) (rule : GlobRule) (numbers : List ℕ) → IsRule (Stands c) rule numbers → 4 * length numbers ≡ 12
-entry_size c rule numbers (text, kind, are, stored, named) = ap (λ (ns : List ℕ). 4 * length ns) are
-
--- a list of rules that stands is read
-rules_read : (c : List ℕ) (at : ℕ) (rules : List GlobRule) → All KeepsLimits rules → ListAt (Stands c) 12 (IsRule (Stands c)) at rules
-    → ReadsListedRules c at rules
-rules_read c at rules fit stand = record {
-  count = count_read c 12 (IsRule (Stands c)) at rules stand;
-  inside = list_inside c 12 (IsRule (Stands c)) at rules (entry_size c) stand;
-  entries = entries_read c (at + 4) rules fit stand.records;
-}
 
 -- a suffix tree that stands is read
 suffix_tree_read : (c : List ℕ) (at : ℕ) (rules : List GlobRule) → All KeepsLimits rules → (stand : SuffixTreeAt (Stands c) at rules)

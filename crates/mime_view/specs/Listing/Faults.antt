@@ -1,10 +1,10 @@
 -- Why the rules of a cache are not listed.
-use Rattle.std.specs.Prelude.{◌≡◌, ◌⊎◌, ℕ, zero, suc, ◌+◌, ◌*◌, ◌<◌, List, length}
+use Rattle.std.specs.Prelude.{◌≡◌, ◌⊎◌, ℕ, zero, suc, ◌+◌, ◌*◌, ◌<◌, List}
 use Rattle.mime_base.specs.Cache.Bytes.{field}
-use Rattle.mime_view.specs.Lists.{IsListFault, IsNoText}
+use Rattle.mime_view.specs.Lists.{IsHeadFault, IsListFault, IsNoText}
 use Rattle.mime_view.specs.Magic.{IsBlockFault}
 use Rattle.mime_view.specs.declared.fault.CacheFault.{CacheFault}
-use Rattle.mime_view.specs.declared.fault.CacheFault.TheVariants.{OutOfMemory, OutOfRange, Spent, TooDeep}
+use Rattle.mime_view.specs.declared.fault.CacheFault.TheVariants.{OutOfMemory, Spent, TooDeep}
 
 -- no record is left
 abbrev pub IsSpent : ℕ → CacheFault → Type 0
@@ -52,7 +52,7 @@ pub record IsSiblingsFault (c : List ℕ) (first count above left : ℕ) (e : Ca
 -- why the tree at `at` is not listed: its head, its roots, or what is below them
 abbrev pub IsListedTreeFault : List ℕ → ℕ → ℕ → CacheFault → Type 0
 IsListedTreeFault c at left e =
-    ((length c < at + 8) × (e ≡ OutOfRange at)) ⊎ IsBlockFault c (field c at 1) 12 (field c at 0) e
+    IsHeadFault c at 8 e ⊎ IsBlockFault c (field c at 1) 12 (field c at 0) e
     ⊎ IsSiblingsFault c (field c at 1) (field c at 0) 0 left e
 
 -- why the rules of a literal list, a tree and a glob list at these offsets are not listed: one of the three

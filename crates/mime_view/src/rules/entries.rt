@@ -1,11 +1,10 @@
 //! The rules of the literal list and of the glob list ("The mime.cache files").
 
-ghost use Rattle.std.specs.Prelude.{◌≡◌, ◌+◌, ◌*◌, ◌^◌, ◌<◌, ◌≤◌, List, [], ◌∷◌, ◌++◌, length, map};
+ghost use Rattle.std.specs.Prelude.{◌+◌, ◌*◌, ◌^◌, ◌<◌, ◌≤◌, List, [], ◌∷◌, length};
 ghost use Rattle.mime_base.specs.declared.database.rule.GlobRule.{GlobRule};
-ghost use Rattle.mime_view.specs.Listing.{Adds, listed_rule};
+ghost use Rattle.mime_view.specs.Listing.{Adds, AddsRules};
 ghost use Rattle.mime_view.specs.Listing.Faults.{IsRuleFault, IsRulesFault};
 ghost use Rattle.mime_view.specs.Listing.Reads.{ReadsEntry, ReadsListedRules};
-ghost use Rattle.mime_view.specs.Spending.{Gives};
 
 use crate::fault::CacheFault;
 use crate::list::count_at;
@@ -25,7 +24,7 @@ pub fn add_entries<'a>(
     requires at { at < 2 ^ 32 }
     // It adds the rules of a list that stands, which take a record each.
     ensures answer { (rules : List GlobRule) → ReadsListedRules source.now.counted.now at rules →
-        Gives (λ _. listing.new ≡ listing.old ++ map listed_rule rules) (length rules) spending.old spending.new result }
+        AddsRules rules (length rules) listing.old listing.new spending.old spending.new result }
     // On any bytes it adds such rules, and looks at the list's count besides.
     ensures adds { Adds source.now.counted.now (IsRulesFault source.now.counted.now at) 1
         listing.old listing.new spending.old spending.new result }
@@ -49,7 +48,7 @@ fn add_entry<'a>(
     requires inside { at + 12 ≤ length source.now.counted.now }
     // It adds the rule of an entry that stands, which takes a record.
     ensures answer { (rule : GlobRule) → ReadsEntry source.now.counted.now at rule →
-        Gives (λ _. listing.new ≡ listing.old ++ listed_rule rule ∷ []) 1 spending.old spending.new result }
+        AddsRules (rule ∷ []) 1 listing.old listing.new spending.old spending.new result }
     // On any bytes it takes at most a record.
     ensures most { spending.old.budget.records ≤ spending.new.budget.records + 1 }
     // On any bytes it adds such a rule.

@@ -3,16 +3,16 @@
 //! The tree is walked depth first, with the ending that leads to the siblings in hand. Bytes may form
 //! cycles: the walk ends by the depth, and the budget bounds its work.
 
-ghost use Rattle.std.specs.Prelude.{◌≡◌, ◌⊎◌, ℕ, ◌+◌, ◌*◌, ◌^◌, ◌<◌, ◌≤◌, [], ◌∷◌, ◌++◌, All, length, map, OnOk, IfErr, MatchResult};
+ghost use Rattle.std.specs.Prelude.{◌≡◌, ◌⊎◌, ℕ, ◌+◌, ◌*◌, ◌^◌, ◌<◌, ◌≤◌, [], ◌∷◌, ◌++◌, All, length, OnOk, IfErr, MatchResult};
 ghost use Rattle.mime_base.specs.Cache.Bytes.{field};
 ghost use Rattle.mime_base.specs.Format.Tree.{Tree, node_count, sibling_count};
 ghost use Rattle.mime_base.specs.declared.database.rule.GlobRule.{GlobRule};
-ghost use Rattle.mime_view.specs.Listing.{Adds, IsListed, listed_rule};
+ghost use Rattle.mime_view.specs.Listing.{Adds, AddsRules, IsListed, listed_rule};
 ghost use Rattle.mime_view.specs.Listing.Faults.{IsSiblingsFault, IsListedTreeFault};
 ghost use Rattle.mime_view.specs.Listing.Reads.{ReadsListedLeaf, ReadsSuffixTree, ReadsListedTree, rules_in};
 ghost use Rattle.mime_view.specs.Lists.{IsNoText};
 ghost use Rattle.mime_view.specs.Magic.{LiesBlock};
-ghost use Rattle.mime_view.specs.Spending.{Gives, Looks};
+ghost use Rattle.mime_view.specs.Spending.{Looks};
 
 use crate::fault::CacheFault;
 use crate::magic::check_block;
@@ -37,8 +37,7 @@ pub fn add_tree<'a>(
     requires at { at < 2 ^ 32 }
     // It adds the rules of a tree that stands, of which each node takes a record.
     ensures answer { (tree : Tree) → ReadsSuffixTree source.now.counted.now at tree →
-        Gives (λ _. listing.new ≡ listing.old ++ map listed_rule (rules_in tree)) (node_count tree)
-        spending.old spending.new result }
+        AddsRules (rules_in tree) (node_count tree) listing.old listing.new spending.old spending.new result }
     // On any bytes it adds such rules, and looks at the tree's head besides.
     ensures adds { Adds source.now.counted.now (IsListedTreeFault source.now.counted.now at) 1
         listing.old listing.new spending.old spending.new result }
@@ -68,8 +67,7 @@ fn add_siblings<'a>(
     requires depth { length ending.old ≤ 254 }
     // It adds the rules of siblings that stand, of which each node takes a record.
     ensures answer { (tree : Tree) → sibling_count tree ≡ count → ReadsListedTree source.now.counted.now first ending.old tree →
-        Gives (λ _. listing.new ≡ listing.old ++ map listed_rule (rules_in tree)) (node_count tree)
-        spending.old spending.new result }
+        AddsRules (rules_in tree) (node_count tree) listing.old listing.new spending.old spending.new result }
     // The ending is then as it was.
     ensures ending_stays { OnOk result (ending.new ≡ ending.old) }
     // On any bytes it adds such rules.
@@ -98,8 +96,7 @@ fn add_sibling<'a>(
     requires depth { length ending.old ≤ 254 }
     // It adds the rules of a sibling that stands, of which each node takes a record.
     ensures answer { (tree : Tree) → sibling_count tree ≡ 1 → ReadsListedTree source.now.counted.now at ending.old tree →
-        Gives (λ _. listing.new ≡ listing.old ++ map listed_rule (rules_in tree)) (node_count tree)
-        spending.old spending.new result }
+        AddsRules (rules_in tree) (node_count tree) listing.old listing.new spending.old spending.new result }
     // The ending is then as it was.
     ensures ending_stays { OnOk result (ending.new ≡ ending.old) }
     // On any bytes it adds such rules.

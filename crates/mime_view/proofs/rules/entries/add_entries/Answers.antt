@@ -1,4 +1,4 @@
-use Rattle.std.proofs.Common.{◌≡◌, ◌+◌, length, arith, inr, rules, ◌∙◌}
+use Rattle.std.proofs.Common.{◌≡◌, ◌+◌, length, arith, inr, ◌∙◌}
 use Rattle.std.proofs.lemmas.Result.{err_from_is_err_and}
 use Rattle.mime_view.specs.Spending.{per_record}
 use Rattle.mime_view.proofs.CostLemmas.Costs.{spends_then}
@@ -13,7 +13,7 @@ returns-in_err-add_entry-clause-answer c = λ rules reads.
     let p = err_from_is_err_and c.from_residual-in_err-add_entry.result c.from_residual-in_err-add_entry.ensures.1 in
     let left = c.loop-i.invariant.most in
     rw (p.1, p.2) (record {
-      answer = search rules;
+      answer = tt;
       need = λ enough. (c.in_err-add_entry.ensures.answer n.rule n.reads).need (omega (arith, left, c.loop-i-test.true));
       most = omega (arith, left, c.add_entry.ensures.most, c.loop-i-test.true);
     })
@@ -39,7 +39,7 @@ loop-i-preserved c =
       most = omega (arith, c.loop-i.invariant.most, entry.most);
       adds = record {
         texts = λ all. entry.adds.texts (c.loop-i.invariant.adds.texts all);
-        fault = search rules;
+        fault = tt;
         cost = spends_then (per_record 512) 1 0 0 0 _ _ _ c.loop-i.invariant.adds.cost entry.adds.cost;
       };
     }

@@ -1,28 +1,28 @@
 use Rattle.std.proofs.Common.{◌≡◌, ℕ, List, length, ◌++◌, map, arith, inl, inr, refl, rules, sym, ap, ◌∙◌, ⊎_elim}
-use Rattle.std.proofs.lemmas.Result.{err_from_is_err_and}
 use Rattle.mime_base.specs.Cache.Bytes.{field}
 use Rattle.mime_base.specs.declared.database.rule.GlobRule.{GlobRule}
 use Rattle.mime_view.specs.Listing.{listed_rule}
 use Rattle.mime_view.specs.Spending.{per_record}
 use Rattle.mime_view.proofs.CostLemmas.Costs.{spends_then}
-use Rattle.mime_view.proofs.ListingLemmas.SiblingFaults.{among, below, here}
-use Rattle.mime_view.proofs.SuffixTreeLemmas.SiblingNodes.{below_read, leaf_read, node_gives, node_read, some_node, stops_there}
-use Rattle.mime_view.proofs.SuffixTreeLemmas.SiblingRows.{next, none_left}
+use Rattle.mime_view.proofs.ListingLemmas.Adding.{adds_here, adds_stop, adds_then}
+use Rattle.mime_view.proofs.ListingLemmas.SiblingFaults.{among, below}
+use Rattle.mime_view.proofs.SuffixTreeLemmas.SiblingNodes.{below_read, leaf_read, node_read, some_node}
+use Rattle.mime_view.proofs.SuffixTreeLemmas.SiblingRows.{next}
+use Rattle.mime_view.proofs.SuffixTreeLemmas.SiblingSteps.{all_given, next_stops, node_gives, node_stops, stops_there}
 use Rattle.mime_view.proofs.rules.tree.+siblings.Goals as goal
 
 pub add_sibling-returns-in_err-row-clause-answer : goal.add_sibling-returns-in_err-row-clause-answer
 add_sibling-returns-in_err-row-clause-answer t c = λ tree alone reads.
-    let p = err_from_is_err_and c.from_residual.result c.from_residual.ensures.1 in
     let none = c.in_err-row.ensures.row in
-    rw (p.1, p.2) (stops_there tree _ _ _ alone (omega (arith, none.1)) (λ enough. absurd (omega (arith, some_node tree alone, none.1))))
+    stops_there tree _ _ c.from_residual.result c.from_residual.ensures.1 alone (omega (arith, none.1))
+    (λ enough. absurd (omega (arith, some_node tree alone, none.1, enough)))
 
 pub add_sibling-returns-in_err-add_leaf-clause-answer : goal.add_sibling-returns-in_err-add_leaf-clause-answer
 add_sibling-returns-in_err-add_leaf-clause-answer t c = λ tree alone reads.
     let row = c.in_ok-row.ensures.row in
     let leaf = leaf_read c.args.source.now.counted.now c.args.at c.args.ending.now tree alone reads (sym row.first ∙ c.if-row-eq0.true) in
-    let p = err_from_is_err_and c.from_residual-in_err-add_leaf.result c.from_residual-in_err-add_leaf.ensures.1 in
-    rw (p.1, p.2) (stops_there tree _ _ _ alone (omega (arith, row.taken))
-    (λ enough. c.in_err-add_leaf.ensures.answer c.args.at leaf.rule row.second leaf.reads))
+    stops_there tree _ _ c.from_residual-in_err-add_leaf.result c.from_residual-in_err-add_leaf.ensures.1 alone (omega (arith, row.taken))
+    (λ enough. c.in_err-add_leaf.ensures.answer c.args.at leaf.rule row.second leaf.reads)
 
 pub add_sibling-returns-then-row-eq0-clause-answer : goal.add_sibling-returns-then-row-eq0-clause-answer
 add_sibling-returns-then-row-eq0-clause-answer t c = λ tree alone reads.
@@ -54,147 +54,90 @@ add_sibling-returns-in_err-check_block-clause-answer t c = λ tree alone reads.
 pub add_sibling-returns-in_err-grow-clause-answer : goal.add_sibling-returns-in_err-grow-clause-answer
 add_sibling-returns-in_err-grow-clause-answer t c = λ tree alone reads.
     let row = c.in_ok-row.ensures.row in
-    let p = err_from_is_err_and c.from_residual-in_err-grow.result c.from_residual-in_err-grow.ensures.1 in
-    rw (p.1, p.2) (stops_there tree _ _ _ alone (omega (arith, row.taken)) (λ enough. c.in_err-grow.ensures.fault))
+    stops_there tree _ _ c.from_residual-in_err-grow.result c.from_residual-in_err-grow.ensures.1 alone (omega (arith, row.taken))
+    (λ enough. c.in_err-grow.ensures.fault)
 
 pub add_sibling-returns-in_err-add_siblings-clause-answer : goal.add_sibling-returns-in_err-add_siblings-clause-answer
 add_sibling-returns-in_err-add_siblings-clause-answer t c = λ tree alone reads.
     let row = c.in_ok-row.ensures.row in
-    let n = below_read c.args.source.now.counted.now c.args.at c.args.ending.now tree c.in_ok-row.row.first c.from-count.result
-    c.from-first.result c.grow.new.self alone reads (omega arith) row.first (c.from-count.ensures ∙ row.second)
-    (c.from-first.ensures ∙ row.third) c.in_ok-grow.ensures.grown in
-    let p = err_from_is_err_and c.from_residual-in_err-add_siblings.result c.from_residual-in_err-add_siblings.ensures.1 in
-    rw (p.1, p.2) (node_gives c.args.listing.now c.add_siblings.new.listing n row.taken (c.in_err-add_siblings.ensures.answer n.below n.wide n.reads))
+    let n = below_read c.args.ending.now tree row alone reads (omega arith) c.from-count.ensures c.from-first.ensures c.in_ok-grow.ensures.grown in
+    node_stops c.from_residual-in_err-add_siblings.result c.from_residual-in_err-add_siblings.ensures.1 n row.taken
+    (c.in_err-add_siblings.ensures.answer n.below n.wide n.reads)
 
 pub add_sibling-returns-clause-answer : goal.add_sibling-returns-clause-answer
 add_sibling-returns-clause-answer t c = λ tree alone reads.
     let row = c.in_ok-row.ensures.row in
-    let n = below_read c.args.source.now.counted.now c.args.at c.args.ending.now tree c.in_ok-row.row.first c.from-count.result
-    c.from-first.result c.grow.new.self alone reads (omega arith) row.first (c.from-count.ensures ∙ row.second)
-    (c.from-first.ensures ∙ row.third) c.in_ok-grow.ensures.grown in
+    let n = below_read c.args.ending.now tree row alone reads (omega arith) c.from-count.ensures c.from-first.ensures c.in_ok-grow.ensures.grown in
     node_gives c.args.listing.now c.add_siblings.new.listing n row.taken (c.in_ok-add_siblings.ensures.answer n.below n.wide n.reads)
 
 pub add_siblings-returns-in_err-add_sibling-clause-answer : goal.add_siblings-returns-in_err-add_sibling-clause-answer
 add_siblings-returns-in_err-add_sibling-clause-answer t c = λ tree sibling_count reads.
     let n = next c.args.source.now.counted.now c.args.first c.args.count c.args.ending.now tree _ _ c.loop-i.i _ _ c.loop-i-test.true
     (c.loop-i.invariant.left tree sibling_count reads) in
-    let given = c.in_err-add_sibling.ensures.answer n.one n.alone (rw c.loop-i.invariant.ending n.reads) in
-    let p = err_from_is_err_and c.from_residual.result c.from_residual.ensures.1 in
-    rw (p.1, p.2) (record {
-      answer = search rules;
-      need = λ enough. given.need (omega (arith, n.records));
-      most = omega (arith, n.records, given.most);
-    })
+    next_stops c.from_residual.result c.from_residual.ensures.1 n
+    (c.in_err-add_sibling.ensures.answer n.one n.alone (rw c.loop-i.invariant.ending n.reads))
 
 pub add_siblings-loop-i-preserved : goal.add_siblings-loop-i-preserved
-add_siblings-loop-i-preserved t c =
-    let adds = c.in_ok-add_sibling.ensures.adds in
-    record {
-      left = λ tree sibling_count reads.
-          let n = next c.args.source.now.counted.now c.args.first c.args.count c.args.ending.now tree _ _ c.loop-i.i _ _
-          c.loop-i-test.true (c.loop-i.invariant.left tree sibling_count reads) in
-          let given = c.in_ok-add_sibling.ensures.answer n.one n.alone (rw c.loop-i.invariant.ending n.reads) in
-          n.later _ _ given.answer given.most;
-      ending = c.in_ok-add_sibling.ensures.ending_stays ∙ c.loop-i.invariant.ending;
-      adds = record {
-        texts = λ all. adds.texts (c.loop-i.invariant.adds.texts all);
-        fault = search rules;
-        cost = spends_then (per_record 512) 0 0 0 0 _ _ _ c.loop-i.invariant.adds.cost adds.cost;
-      };
-    }
+add_siblings-loop-i-preserved t c = record {
+  left = λ tree sibling_count reads.
+      let n = next c.args.source.now.counted.now c.args.first c.args.count c.args.ending.now tree _ _ c.loop-i.i _ _
+      c.loop-i-test.true (c.loop-i.invariant.left tree sibling_count reads) in
+      let given = c.in_ok-add_sibling.ensures.answer n.one n.alone (rw c.loop-i.invariant.ending n.reads) in
+      n.later _ _ given.answer given.most;
+  ending = c.in_ok-add_sibling.ensures.ending_stays ∙ c.loop-i.invariant.ending;
+  adds = adds_then c.loop-i.invariant.adds c.in_ok-add_sibling.ensures.adds;
+}
 
 pub add_siblings-returns-clause-answer : goal.add_siblings-returns-clause-answer
 add_siblings-returns-clause-answer t c = λ tree sibling_count reads.
-    let left = c.loop-i.invariant.left tree sibling_count reads in
-    record {
-      answer = none_left c.args.source.now.counted.now c.args.first c.args.count c.args.ending.now tree _ _ c.loop-i.i _ _
-          c.loop-i-test.false left;
-      need = search rules;
-      most = omega (arith, left.records);
-    }
+    all_given c.loop-i-test.false (c.loop-i.invariant.left tree sibling_count reads)
 
 pub add_sibling-returns-in_err-row-clause-adds : goal.add_sibling-returns-in_err-row-clause-adds
 add_sibling-returns-in_err-row-clause-adds t c =
     let none = c.in_err-row.ensures.row in
-    let p = err_from_is_err_and c.from_residual.result c.from_residual.ensures.1 in
-    rw (p.1, p.2) (record {
-      texts = λ all. all;
-      fault = here c.args.source.now.counted.now c.args.at (length c.args.ending.now) _ _ (inr (inr (inr (inl (search rules)))));
-      cost = search rules;
-    })
+    adds_here c.from_residual.result c.from_residual.ensures.1 (λ all. all) (inr (inr (inr (inl (search rules))))) (search rules)
 
 pub add_sibling-returns-in_err-add_leaf-clause-adds : goal.add_sibling-returns-in_err-add_leaf-clause-adds
 add_sibling-returns-in_err-add_leaf-clause-adds t c =
     let row = c.in_ok-row.ensures.row in
-    let p = err_from_is_err_and c.from_residual-in_err-add_leaf.result c.from_residual-in_err-add_leaf.ensures.1 in
-    rw (p.1, p.2) (record {
-      texts = c.in_err-add_leaf.ensures.texts;
-      fault = here c.args.source.now.counted.now c.args.at (length c.args.ending.now) _ _
-          (⊎_elim (λ kind. inr (inr (inl (sym row.first ∙ c.if-row-eq0.true, rw row.second at kind)))) (λ memory. inr (inr (inr (inr memory))))
-          c.in_err-add_leaf.ensures.fault);
-      cost = search rules;
-    })
+    adds_here c.from_residual-in_err-add_leaf.result c.from_residual-in_err-add_leaf.ensures.1 c.in_err-add_leaf.ensures.texts
+    (⊎_elim (λ kind. inr (inr (inl (sym row.first ∙ c.if-row-eq0.true, rw row.second at kind)))) (λ memory. inr (inr (inr (inr memory))))
+    c.in_err-add_leaf.ensures.fault) (search rules)
 
 pub add_sibling-returns-then-length-eq-DEEPEST-clause-adds : goal.add_sibling-returns-then-length-eq-DEEPEST-clause-adds
 add_sibling-returns-then-length-eq-DEEPEST-clause-adds t c =
-    record {
-      texts = λ all. all;
-      fault = here c.args.source.now.counted.now c.args.at (length c.args.ending.now) c.take_row.new.spending.budget.records _
-          (inr (inl (
-            record { some = omega (arith, c.in_ok-row.ensures.row.first); byte = omega (arith, c.in_ok-row.ensures.row.first) },
-            omega arith,
-            refl,
-          )));
-      cost = search rules;
-    }
+    let first = c.in_ok-row.ensures.row.first in
+    adds_here _ refl (λ all. all)
+    (inr (inl (record { some = omega (arith, first); byte = omega (arith, first) }, omega arith, refl))) (search rules)
 
 pub add_sibling-returns-in_err-check_block-clause-adds : goal.add_sibling-returns-in_err-check_block-clause-adds
 add_sibling-returns-in_err-check_block-clause-adds t c =
     let row = c.in_ok-row.ensures.row in
     let count : c.from-count.result ≡ field c.args.source.now.counted.now c.args.at 1 = c.from-count.ensures ∙ row.second in
     let first : c.from-first.result ≡ field c.args.source.now.counted.now c.args.at 2 = c.from-first.ensures ∙ row.third in
-    let p = err_from_is_err_and c.from_residual-in_err-check_block.result c.from_residual-in_err-check_block.ensures.1 in
-    rw (p.1, p.2) (record {
-      texts = λ all. all;
-      fault = here c.args.source.now.counted.now c.args.at (length c.args.ending.now) _ _
-          (inl (
-            record { some = omega (arith, row.first); byte = omega (arith, row.first) },
-            rw (first, count) at c.in_err-check_block.ensures.fault,
-          ));
-      cost = search rules;
-    })
+    let block = rw (first, count) at c.in_err-check_block.ensures.fault in
+    adds_here c.from_residual-in_err-check_block.result c.from_residual-in_err-check_block.ensures.1 (λ all. all)
+    (inl (record { some = omega (arith, row.first); byte = omega (arith, row.first) }, block)) (search rules)
 
 pub add_sibling-returns-in_err-grow-clause-adds : goal.add_sibling-returns-in_err-grow-clause-adds
 add_sibling-returns-in_err-grow-clause-adds t c =
-    let p = err_from_is_err_and c.from_residual-in_err-grow.result c.from_residual-in_err-grow.ensures.1 in
-    rw (p.1, p.2) (record {
-      texts = λ all. all;
-      fault = here c.args.source.now.counted.now c.args.at (length c.args.ending.now) _ _ (inr (inr (inr (inr c.in_err-grow.ensures.fault))));
-      cost = search rules;
-    })
+    adds_here c.from_residual-in_err-grow.result c.from_residual-in_err-grow.ensures.1 (λ all. all)
+    (inr (inr (inr (inr c.in_err-grow.ensures.fault)))) (search rules)
 
 pub add_sibling-returns-in_err-add_siblings-clause-adds : goal.add_sibling-returns-in_err-add_siblings-clause-adds
 add_sibling-returns-in_err-add_siblings-clause-adds t c =
     let adds = c.in_err-add_siblings.ensures.adds in
-    let p = err_from_is_err_and c.from_residual-in_err-add_siblings.result c.from_residual-in_err-add_siblings.ensures.1 in
-    rw (p.1, p.2) (record {
-      texts = adds.texts;
-      fault = below c.args.source.now.counted.now c.args.at (length c.args.ending.now) c.from-first.result c.from-count.result
-          (length c.grow.new.self) c.add_siblings.new.spending.budget.records _ (c.from-first.ensures ∙ c.in_ok-row.ensures.row.third)
-          (c.from-count.ensures ∙ c.in_ok-row.ensures.row.second)
-          (ap (λ (e : List ℕ). length e) c.in_ok-grow.ensures.grown)
-          (record { some = omega (arith, c.in_ok-row.ensures.row.first); byte = omega (arith, c.in_ok-row.ensures.row.first) }) adds.fault;
-      cost = search rules;
-    })
+    let row = c.in_ok-row.ensures.row in
+    adds_stop _ c.from_residual-in_err-add_siblings.result c.from_residual-in_err-add_siblings.ensures.1 adds.texts
+    (below c.args.source.now.counted.now c.args.at (length c.args.ending.now) c.from-first.result c.from-count.result (length c.grow.new.self)
+    c.add_siblings.new.spending.budget.records _ (c.from-first.ensures ∙ row.third) (c.from-count.ensures ∙ row.second)
+    (ap (λ (e : List ℕ). length e) c.in_ok-grow.ensures.grown)
+    (record { some = omega (arith, row.first); byte = omega (arith, row.first) }) adds.fault) (search rules)
 
 pub add_siblings-returns-in_err-add_sibling-clause-adds : goal.add_siblings-returns-in_err-add_sibling-clause-adds
 add_siblings-returns-in_err-add_sibling-clause-adds t c =
     let adds = c.in_err-add_sibling.ensures.adds in
-    let p = err_from_is_err_and c.from_residual.result c.from_residual.ensures.1 in
-    rw (p.1, p.2) (record {
-      texts = λ all. adds.texts (c.loop-i.invariant.adds.texts all);
-      fault = among c.args.source.now.counted.now c.args.first c.args.count c.loop-i.i (length c.args.ending.now)
-          (length c.loop-i.ending) c.add_sibling.new.spending.budget.records _ c.loop-i-test.true
-          (ap (λ (e : List ℕ). length e) c.loop-i.invariant.ending) adds.fault;
-      cost = spends_then (per_record 512) 0 0 0 0 _ _ _ c.loop-i.invariant.adds.cost adds.cost;
-    })
+    adds_stop _ c.from_residual.result c.from_residual.ensures.1 (λ all. adds.texts (c.loop-i.invariant.adds.texts all))
+    (among c.args.source.now.counted.now c.args.first c.args.count c.loop-i.i (length c.args.ending.now) (length c.loop-i.ending)
+    c.add_sibling.new.spending.budget.records _ c.loop-i-test.true (ap (λ (e : List ℕ). length e) c.loop-i.invariant.ending) adds.fault)
+    (spends_then (per_record 512) 0 0 0 0 _ _ _ c.loop-i.invariant.adds.cost adds.cost)
