@@ -10,8 +10,8 @@ use Rattle.mime_lookup.specs.Choice.{ChoosesAmong}
 use Rattle.mime_lookup.proofs.OrderLemmas.Answering.{by_globs, by_globs_and_content, first_text}
 use Rattle.mime_lookup.proofs.OrderLemmas.Answering.{read_front, read_none, suffice}
 use Rattle.mime_lookup.proofs.ContentLemmas.Reads.{asks_nothing, asks_stopped, reads_nothing, reads_stopped}
-use Rattle.mime_lookup.proofs.lists.kind_of.Answers.AllGlobs as all
-use Rattle.mime_lookup.proofs.lists.kind_of.Answers.MagicFirst as magic
+use Rattle.mime_lookup.proofs.lists.kind_of.Answers.AllGlobs as all_globs
+use Rattle.mime_lookup.proofs.lists.kind_of.Answers.MagicFirst as magic_first
 use Rattle.mime_lookup.proofs.lists.kind_of.Goals as goal
 
 pub returns-then-are_one_type-clause-chosen : goal.returns-then-are_one_type-clause-chosen
@@ -84,55 +84,55 @@ returns-in_ok-kind-in-GlobsFirst-clause-read g c =
     c.in_ok-kept-in-GlobsFirst.ensures.kept _ _ conflict c.in_ok-sniffed-in-GlobsFirst.ensures.read
 
 pub returns-then-are_one_type-2-clause-chosen : goal.returns-then-are_one_type-2-clause-chosen
-returns-then-are_one_type-2-clause-chosen = all.returns-then-are_one_type-2-clause-chosen
+returns-then-are_one_type-2-clause-chosen = all_globs.returns-then-are_one_type-2-clause-chosen
 
 pub returns-then-are_one_type-2-clause-read : goal.returns-then-are_one_type-2-clause-read
-returns-then-are_one_type-2-clause-read = all.returns-then-are_one_type-2-clause-read
+returns-then-are_one_type-2-clause-read = all_globs.returns-then-are_one_type-2-clause-read
 
 pub returns-then-are_one_type-2-clause-reader : goal.returns-then-are_one_type-2-clause-reader
-returns-then-are_one_type-2-clause-reader = all.returns-then-are_one_type-2-clause-reader
+returns-then-are_one_type-2-clause-reader = all_globs.returns-then-are_one_type-2-clause-reader
 
 pub returns-then-are_one_type-2-clause-asks : goal.returns-then-are_one_type-2-clause-asks
-returns-then-are_one_type-2-clause-asks = all.returns-then-are_one_type-2-clause-asks
+returns-then-are_one_type-2-clause-asks = all_globs.returns-then-are_one_type-2-clause-asks
 
 pub returns-in_err-sniffed-in-AllGlobs-clause-reader : goal.returns-in_err-sniffed-in-AllGlobs-clause-reader
-returns-in_err-sniffed-in-AllGlobs-clause-reader = all.returns-in_err-sniffed-in-AllGlobs-clause-reader
+returns-in_err-sniffed-in-AllGlobs-clause-reader = all_globs.returns-in_err-sniffed-in-AllGlobs-clause-reader
 
 pub returns-in_err-sniffed-in-AllGlobs-clause-asks : goal.returns-in_err-sniffed-in-AllGlobs-clause-asks
-returns-in_err-sniffed-in-AllGlobs-clause-asks = all.returns-in_err-sniffed-in-AllGlobs-clause-asks
+returns-in_err-sniffed-in-AllGlobs-clause-asks = all_globs.returns-in_err-sniffed-in-AllGlobs-clause-asks
 
 pub returns-in_ok-kind-in-AllGlobs-clause-chosen : goal.returns-in_ok-kind-in-AllGlobs-clause-chosen
-returns-in_ok-kind-in-AllGlobs-clause-chosen = all.returns-in_ok-kind-in-AllGlobs-clause-chosen
+returns-in_ok-kind-in-AllGlobs-clause-chosen = all_globs.returns-in_ok-kind-in-AllGlobs-clause-chosen
 
 pub returns-in_ok-kind-in-AllGlobs-clause-read : goal.returns-in_ok-kind-in-AllGlobs-clause-read
-returns-in_ok-kind-in-AllGlobs-clause-read = all.returns-in_ok-kind-in-AllGlobs-clause-read
+returns-in_ok-kind-in-AllGlobs-clause-read = all_globs.returns-in_ok-kind-in-AllGlobs-clause-read
 
 pub returns-in_err-sniffed-in-MagicFirst-clause-reader : goal.returns-in_err-sniffed-in-MagicFirst-clause-reader
-returns-in_err-sniffed-in-MagicFirst-clause-reader = magic.returns-in_err-sniffed-in-MagicFirst-clause-reader
+returns-in_err-sniffed-in-MagicFirst-clause-reader = magic_first.returns-in_err-sniffed-in-MagicFirst-clause-reader
 
 pub returns-in_err-sniffed-in-MagicFirst-clause-asks : goal.returns-in_err-sniffed-in-MagicFirst-clause-asks
-returns-in_err-sniffed-in-MagicFirst-clause-asks = magic.returns-in_err-sniffed-in-MagicFirst-clause-asks
+returns-in_err-sniffed-in-MagicFirst-clause-asks = magic_first.returns-in_err-sniffed-in-MagicFirst-clause-asks
 
 pub returns-then-sniffed-clause-chosen : goal.returns-then-sniffed-clause-chosen
-returns-then-sniffed-clause-chosen = magic.returns-then-sniffed-clause-chosen
+returns-then-sniffed-clause-chosen = magic_first.returns-then-sniffed-clause-chosen
 
 pub returns-then-sniffed-clause-read : goal.returns-then-sniffed-clause-read
-returns-then-sniffed-clause-read = magic.returns-then-sniffed-clause-read
+returns-then-sniffed-clause-read = magic_first.returns-then-sniffed-clause-read
 
 pub returns-in_ok-kind-in-MagicFirst-clause-chosen : goal.returns-in_ok-kind-in-MagicFirst-clause-chosen
-returns-in_ok-kind-in-MagicFirst-clause-chosen = magic.returns-in_ok-kind-in-MagicFirst-clause-chosen
+returns-in_ok-kind-in-MagicFirst-clause-chosen = magic_first.returns-in_ok-kind-in-MagicFirst-clause-chosen
 
 pub returns-in_ok-kind-in-MagicFirst-clause-read : goal.returns-in_ok-kind-in-MagicFirst-clause-read
-returns-in_ok-kind-in-MagicFirst-clause-read = magic.returns-in_ok-kind-in-MagicFirst-clause-read
+returns-in_ok-kind-in-MagicFirst-clause-read = magic_first.returns-in_ok-kind-in-MagicFirst-clause-read
 
 pub returns-in_err-sniffed-in-ContentOnly-clause-reader : goal.returns-in_err-sniffed-in-ContentOnly-clause-reader
-returns-in_err-sniffed-in-ContentOnly-clause-reader = magic.returns-in_err-sniffed-in-ContentOnly-clause-reader
+returns-in_err-sniffed-in-ContentOnly-clause-reader = magic_first.returns-in_err-sniffed-in-ContentOnly-clause-reader
 
 pub returns-in_err-sniffed-in-ContentOnly-clause-asks : goal.returns-in_err-sniffed-in-ContentOnly-clause-asks
-returns-in_err-sniffed-in-ContentOnly-clause-asks = magic.returns-in_err-sniffed-in-ContentOnly-clause-asks
+returns-in_err-sniffed-in-ContentOnly-clause-asks = magic_first.returns-in_err-sniffed-in-ContentOnly-clause-asks
 
 pub returns-in_ok-sniffed-in-ContentOnly-clause-chosen : goal.returns-in_ok-sniffed-in-ContentOnly-clause-chosen
-returns-in_ok-sniffed-in-ContentOnly-clause-chosen = magic.returns-in_ok-sniffed-in-ContentOnly-clause-chosen
+returns-in_ok-sniffed-in-ContentOnly-clause-chosen = magic_first.returns-in_ok-sniffed-in-ContentOnly-clause-chosen
 
 pub returns-in_ok-sniffed-in-ContentOnly-clause-read : goal.returns-in_ok-sniffed-in-ContentOnly-clause-read
-returns-in_ok-sniffed-in-ContentOnly-clause-read = magic.returns-in_ok-sniffed-in-ContentOnly-clause-read
+returns-in_ok-sniffed-in-ContentOnly-clause-read = magic_first.returns-in_ok-sniffed-in-ContentOnly-clause-read

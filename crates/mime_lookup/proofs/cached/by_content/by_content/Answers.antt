@@ -11,8 +11,8 @@ use Rattle.mime_lookup.proofs.OrderLemmas.GlobsFirst.{with_content}
 use Rattle.mime_lookup.proofs.CostLemmas.Near.{none_kept}
 use Rattle.mime_lookup.proofs.StopLemmas.StepStops.{passed_on, stops_then}
 use Rattle.mime_view.specs.declared.spending.Spending.{Spending}
-use Rattle.mime_lookup.proofs.cached.by_content.by_content.Answers.Unasked as unasked
-use Rattle.mime_lookup.proofs.cached.by_content.by_content.Answers.Every as every
+use Rattle.mime_lookup.proofs.cached.by_content.by_content.Answers.Unasked as of_unasked
+use Rattle.mime_lookup.proofs.cached.by_content.by_content.Answers.Every as of_every
 use Rattle.mime_lookup.proofs.cached.by_content.by_content.Goals as goal
 
 pub returns-in_err-finding-clause-stops : goal.returns-in_err-finding-clause-stops
@@ -70,64 +70,64 @@ returns-in_ok-kind-in-Kept-clause-cost c =
     (rw c.as_slice.ensures at c.in_ok-kind-in-Kept.ensures.cost) (omega arith) (omega arith))
 
 pub returns-in_err-kind-in-Unasked-clause-stops : goal.returns-in_err-kind-in-Unasked-clause-stops
-returns-in_err-kind-in-Unasked-clause-stops = unasked.returns-in_err-kind-in-Unasked-clause-stops
+returns-in_err-kind-in-Unasked-clause-stops = of_unasked.returns-in_err-kind-in-Unasked-clause-stops
 
 pub returns-in_err-kind-in-Unasked-clause-cost : goal.returns-in_err-kind-in-Unasked-clause-cost
-returns-in_err-kind-in-Unasked-clause-cost = unasked.returns-in_err-kind-in-Unasked-clause-cost
+returns-in_err-kind-in-Unasked-clause-cost = of_unasked.returns-in_err-kind-in-Unasked-clause-cost
 
 pub returns-then-is_high-clause-chosen : goal.returns-then-is_high-clause-chosen
-returns-then-is_high-clause-chosen = unasked.returns-then-is_high-clause-chosen
+returns-then-is_high-clause-chosen = of_unasked.returns-then-is_high-clause-chosen
 
 pub returns-then-is_high-clause-near : goal.returns-then-is_high-clause-near
-returns-then-is_high-clause-near = unasked.returns-then-is_high-clause-near
+returns-then-is_high-clause-near = of_unasked.returns-then-is_high-clause-near
 
 pub returns-then-is_high-clause-cost : goal.returns-then-is_high-clause-cost
-returns-then-is_high-clause-cost = unasked.returns-then-is_high-clause-cost
+returns-then-is_high-clause-cost = of_unasked.returns-then-is_high-clause-cost
 
 pub returns-in_err-kind-in-Unasked-2-clause-stops : goal.returns-in_err-kind-in-Unasked-2-clause-stops
-returns-in_err-kind-in-Unasked-2-clause-stops = unasked.returns-in_err-kind-in-Unasked-2-clause-stops
+returns-in_err-kind-in-Unasked-2-clause-stops = of_unasked.returns-in_err-kind-in-Unasked-2-clause-stops
 
 pub returns-in_err-kind-in-Unasked-2-clause-cost : goal.returns-in_err-kind-in-Unasked-2-clause-cost
-returns-in_err-kind-in-Unasked-2-clause-cost = unasked.returns-in_err-kind-in-Unasked-2-clause-cost
+returns-in_err-kind-in-Unasked-2-clause-cost = of_unasked.returns-in_err-kind-in-Unasked-2-clause-cost
 
 pub returns-in_ok-kind-in-Unasked-2-clause-chosen : goal.returns-in_ok-kind-in-Unasked-2-clause-chosen
-returns-in_ok-kind-in-Unasked-2-clause-chosen = unasked.returns-in_ok-kind-in-Unasked-2-clause-chosen
+returns-in_ok-kind-in-Unasked-2-clause-chosen = of_unasked.returns-in_ok-kind-in-Unasked-2-clause-chosen
 
 pub returns-in_ok-kind-in-Unasked-2-clause-near : goal.returns-in_ok-kind-in-Unasked-2-clause-near
-returns-in_ok-kind-in-Unasked-2-clause-near = unasked.returns-in_ok-kind-in-Unasked-2-clause-near
+returns-in_ok-kind-in-Unasked-2-clause-near = of_unasked.returns-in_ok-kind-in-Unasked-2-clause-near
 
 pub returns-in_ok-kind-in-Unasked-2-clause-cost : goal.returns-in_ok-kind-in-Unasked-2-clause-cost
-returns-in_ok-kind-in-Unasked-2-clause-cost = unasked.returns-in_ok-kind-in-Unasked-2-clause-cost
+returns-in_ok-kind-in-Unasked-2-clause-cost = of_unasked.returns-in_ok-kind-in-Unasked-2-clause-cost
 
 pub returns-in_err-kind-in-Ignored-clause-stops : goal.returns-in_err-kind-in-Ignored-clause-stops
-returns-in_err-kind-in-Ignored-clause-stops = unasked.returns-in_err-kind-in-Ignored-clause-stops
+returns-in_err-kind-in-Ignored-clause-stops = of_unasked.returns-in_err-kind-in-Ignored-clause-stops
 
 pub returns-in_err-kind-in-Ignored-clause-cost : goal.returns-in_err-kind-in-Ignored-clause-cost
-returns-in_err-kind-in-Ignored-clause-cost = unasked.returns-in_err-kind-in-Ignored-clause-cost
+returns-in_err-kind-in-Ignored-clause-cost = of_unasked.returns-in_err-kind-in-Ignored-clause-cost
 
 pub returns-in_ok-kind-in-Ignored-clause-chosen : goal.returns-in_ok-kind-in-Ignored-clause-chosen
-returns-in_ok-kind-in-Ignored-clause-chosen = unasked.returns-in_ok-kind-in-Ignored-clause-chosen
+returns-in_ok-kind-in-Ignored-clause-chosen = of_unasked.returns-in_ok-kind-in-Ignored-clause-chosen
 
 pub returns-in_ok-kind-in-Ignored-clause-near : goal.returns-in_ok-kind-in-Ignored-clause-near
-returns-in_ok-kind-in-Ignored-clause-near = unasked.returns-in_ok-kind-in-Ignored-clause-near
+returns-in_ok-kind-in-Ignored-clause-near = of_unasked.returns-in_ok-kind-in-Ignored-clause-near
 
 pub returns-in_ok-kind-in-Ignored-clause-cost : goal.returns-in_ok-kind-in-Ignored-clause-cost
-returns-in_ok-kind-in-Ignored-clause-cost = unasked.returns-in_ok-kind-in-Ignored-clause-cost
+returns-in_ok-kind-in-Ignored-clause-cost = of_unasked.returns-in_ok-kind-in-Ignored-clause-cost
 
 pub choose-requires-in-Every-clause-texts : goal.choose-requires-in-Every-clause-texts
-choose-requires-in-Every-clause-texts = every.choose-requires-in-Every-clause-texts
+choose-requires-in-Every-clause-texts = of_every.choose-requires-in-Every-clause-texts
 
 pub returns-in_err-kind-in-Every-clause-stops : goal.returns-in_err-kind-in-Every-clause-stops
-returns-in_err-kind-in-Every-clause-stops = every.returns-in_err-kind-in-Every-clause-stops
+returns-in_err-kind-in-Every-clause-stops = of_every.returns-in_err-kind-in-Every-clause-stops
 
 pub returns-in_err-kind-in-Every-clause-cost : goal.returns-in_err-kind-in-Every-clause-cost
-returns-in_err-kind-in-Every-clause-cost = every.returns-in_err-kind-in-Every-clause-cost
+returns-in_err-kind-in-Every-clause-cost = of_every.returns-in_err-kind-in-Every-clause-cost
 
 pub returns-in_ok-kind-in-Every-clause-chosen : goal.returns-in_ok-kind-in-Every-clause-chosen
-returns-in_ok-kind-in-Every-clause-chosen = every.returns-in_ok-kind-in-Every-clause-chosen
+returns-in_ok-kind-in-Every-clause-chosen = of_every.returns-in_ok-kind-in-Every-clause-chosen
 
 pub returns-in_ok-kind-in-Every-clause-near : goal.returns-in_ok-kind-in-Every-clause-near
-returns-in_ok-kind-in-Every-clause-near = every.returns-in_ok-kind-in-Every-clause-near
+returns-in_ok-kind-in-Every-clause-near = of_every.returns-in_ok-kind-in-Every-clause-near
 
 pub returns-in_ok-kind-in-Every-clause-cost : goal.returns-in_ok-kind-in-Every-clause-cost
-returns-in_ok-kind-in-Every-clause-cost = every.returns-in_ok-kind-in-Every-clause-cost
+returns-in_ok-kind-in-Every-clause-cost = of_every.returns-in_ok-kind-in-Every-clause-cost
