@@ -13,6 +13,7 @@ use Rattle.mime_lookup.proofs.LookUpLemmas.SpelledParts.{ranks-fit}
 use Rattle.mime_lookup.proofs.ContentLemmas.Reads.{asks_nothing, asks_stopped, reads_nothing, reads_stopped}
 use Rattle.mime_lookup.proofs.lists.kind_of.Goals as goal
 
+-- all rules that match have one type: the order gives this type
 pub returns-then-are_one_type-2-clause-chosen : goal.returns-then-are_one_type-2-clause-chosen
 returns-then-are_one_type-2-clause-chosen g c =
     let all = c.in_ok-all-in-AllGlobs.all.items in
@@ -23,6 +24,7 @@ returns-then-are_one_type-2-clause-chosen g c =
     c.in_ok-all-in-AllGlobs.ensures.candidates _ _ (ranks-fit b.rules c.database_keeps_limits.ensures.rules) one
     (ap (λ (text : Bor (List ℕ)). text.now) c.index-then-are_one_type-2.ensures ∙ first_text all c.index-then-are_one_type-2.result.now one)
 
+-- all rules that match have one type: as many bytes are read as the order says
 pub returns-then-are_one_type-2-clause-read : goal.returns-then-are_one_type-2-clause-read
 returns-then-are_one_type-2-clause-read g c =
     let one : are_one_type (kinds_of c.in_ok-all-in-AllGlobs.all.items) ≡ true =
@@ -31,11 +33,13 @@ returns-then-are_one_type-2-clause-read g c =
     (every_suffice (plain_database c.args.database.now) c.args.question.now.name.now c.args.question.now.host c.args.question.now.order c.in-AllGlobs.is
     (kinds_of c.in_ok-all-in-AllGlobs.all.items) c.in_ok-all-in-AllGlobs.ensures.candidates true one)
 
+-- all rules that match have one type: what the reader did
 pub returns-then-are_one_type-2-clause-reader : goal.returns-then-are_one_type-2-clause-reader
 returns-then-are_one_type-2-clause-reader g c =
     reads_nothing g.R.Read.remaining g.R.Content.tally g.R.Content.health (read_limit (plain_database c.args.database.now))
     c.args.content.now c.args.read.now _ c.requires.none
 
+-- all rules that match have one type: when the reader is asked
 pub returns-then-are_one_type-2-clause-asks : goal.returns-then-are_one_type-2-clause-asks
 returns-then-are_one_type-2-clause-asks g c =
     let one : are_one_type (kinds_of c.in_ok-all-in-AllGlobs.all.items) ≡ true =
@@ -44,6 +48,7 @@ returns-then-are_one_type-2-clause-asks g c =
     (every_suffice (plain_database c.args.database.now) c.args.question.now.name.now c.args.question.now.host c.args.question.now.order c.in-AllGlobs.is
     (kinds_of c.in_ok-all-in-AllGlobs.all.items) c.in_ok-all-in-AllGlobs.ensures.candidates true one)
 
+-- the content can't be sniffed: what the reader did
 pub returns-in_err-sniffed-in-AllGlobs-clause-reader : goal.returns-in_err-sniffed-in-AllGlobs-clause-reader
 returns-in_err-sniffed-in-AllGlobs-clause-reader g c =
     reads_stopped g.R.Read.remaining g.R.Content.tally g.R.Content.health (read_limit (plain_database c.args.database.now))
@@ -51,6 +56,7 @@ returns-in_err-sniffed-in-AllGlobs-clause-reader g c =
     c.in_err-sniffed-in-AllGlobs.field-0.0 c.from_residual-in_err-sniffed-in-AllGlobs.result
     c.from_residual-in_err-sniffed-in-AllGlobs.ensures.1 c.in_err-sniffed-in-AllGlobs.ensures.reader
 
+-- the content can't be sniffed: when the reader is asked
 pub returns-in_err-sniffed-in-AllGlobs-clause-asks : goal.returns-in_err-sniffed-in-AllGlobs-clause-asks
 returns-in_err-sniffed-in-AllGlobs-clause-asks g c =
     let conflict : are_one_type (kinds_of c.in_ok-all-in-AllGlobs.all.items) ≡ false =
@@ -61,6 +67,7 @@ returns-in_err-sniffed-in-AllGlobs-clause-asks g c =
     (kinds_of c.in_ok-all-in-AllGlobs.all.items) c.in_ok-all-in-AllGlobs.ensures.candidates false conflict)
     c.from_residual-in_err-sniffed-in-AllGlobs.ensures.1 c.in_err-sniffed-in-AllGlobs.ensures.asks
 
+-- a type is chosen among all rules that match: the order gives this type
 pub returns-in_ok-kind-in-AllGlobs-clause-chosen : goal.returns-in_ok-kind-in-AllGlobs-clause-chosen
 returns-in_ok-kind-in-AllGlobs-clause-chosen g c =
     let b = plain_database c.args.database.now in
@@ -77,6 +84,7 @@ returns-in_ok-kind-in-AllGlobs-clause-chosen g c =
     (IfSome_then _ c.in_ok-sniffed-in-AllGlobs.ensures.sniffed
     (λ known (is : IsSniffed (plain_database c.args.database.now) known c.args.question.now.host c.in_ok-sniffed-in-AllGlobs.sniffed). is.kind)) chosen
 
+-- a type is chosen among all rules that match: as many bytes are read as the order says
 pub returns-in_ok-kind-in-AllGlobs-clause-read : goal.returns-in_ok-kind-in-AllGlobs-clause-read
 returns-in_ok-kind-in-AllGlobs-clause-read g c =
     let conflict : are_one_type (kinds_of c.in_ok-all-in-AllGlobs.all.items) ≡ false =

@@ -10,6 +10,7 @@ use Rattle.mime_lookup.proofs.OrderLemmas.Answering.{read_content, read_first, s
 use Rattle.mime_lookup.proofs.ContentLemmas.Reads.{asks_stopped, reads_stopped}
 use Rattle.mime_lookup.proofs.lists.kind_of.Goals as goal
 
+-- the content can't be sniffed: what the reader did
 pub returns-in_err-sniffed-in-MagicFirst-clause-reader :
     goal.returns-in_err-sniffed-in-MagicFirst-clause-reader
 returns-in_err-sniffed-in-MagicFirst-clause-reader g c =
@@ -18,6 +19,7 @@ returns-in_err-sniffed-in-MagicFirst-clause-reader g c =
     c.in_err-sniffed-in-MagicFirst.field-0.0 c.from_residual-in_err-sniffed-in-MagicFirst.result
     c.from_residual-in_err-sniffed-in-MagicFirst.ensures.1 c.in_err-sniffed-in-MagicFirst.ensures.reader
 
+-- the content can't be sniffed: when the reader is asked
 pub returns-in_err-sniffed-in-MagicFirst-clause-asks :
     goal.returns-in_err-sniffed-in-MagicFirst-clause-asks
 returns-in_err-sniffed-in-MagicFirst-clause-asks g c =
@@ -26,6 +28,7 @@ returns-in_err-sniffed-in-MagicFirst-clause-asks g c =
     (suffice_not (plain_database c.args.database.now) c.args.question.now.name.now c.args.question.now.host c.args.question.now.order c.in-MagicFirst.is [] true)
     c.from_residual-in_err-sniffed-in-MagicFirst.ensures.1 c.in_err-sniffed-in-MagicFirst.ensures.asks
 
+-- magic is of high priority: the order gives this type
 pub returns-then-sniffed-clause-chosen : goal.returns-then-sniffed-clause-chosen
 returns-then-sniffed-clause-chosen g c =
     by_magic (plain_database c.args.database.now) c.args.question.now.name.now c.args.question.now.host c.args.question.now.order c.in-MagicFirst.is
@@ -33,11 +36,13 @@ returns-then-sniffed-clause-chosen g c =
     (IfSome_then _ c.in_ok-sniffed-in-MagicFirst.ensures.sniffed
     (λ known (is : IsSniffed (plain_database c.args.database.now) known c.args.question.now.host c.in_ok-sniffed-in-MagicFirst.sniffed). is.high))
 
+-- magic is of high priority: as many bytes are read as the order says
 pub returns-then-sniffed-clause-read : goal.returns-then-sniffed-clause-read
 returns-then-sniffed-clause-read g c =
     read_first (plain_database c.args.database.now) c.args.question.now.name.now c.args.question.now.host c.args.question.now.order c.in-MagicFirst.is [] true _ _
     c.in_ok-sniffed-in-MagicFirst.ensures.read
 
+-- magic is not of high priority: the order gives this type
 pub returns-in_ok-kind-in-MagicFirst-clause-chosen :
     goal.returns-in_ok-kind-in-MagicFirst-clause-chosen
 returns-in_ok-kind-in-MagicFirst-clause-chosen g c =
@@ -54,12 +59,14 @@ returns-in_ok-kind-in-MagicFirst-clause-chosen g c =
     (IfSome_then _ c.in_ok-sniffed-in-MagicFirst.ensures.sniffed
     (λ known (is : IsSniffed (plain_database c.args.database.now) known c.args.question.now.host c.in_ok-sniffed-in-MagicFirst.sniffed). is.kind)) chosen
 
+-- magic is not of high priority: as many bytes are read as the order says
 pub returns-in_ok-kind-in-MagicFirst-clause-read :
     goal.returns-in_ok-kind-in-MagicFirst-clause-read
 returns-in_ok-kind-in-MagicFirst-clause-read g c =
     read_first (plain_database c.args.database.now) c.args.question.now.name.now c.args.question.now.host c.args.question.now.order c.in-MagicFirst.is [] true _ _
     c.in_ok-sniffed-in-MagicFirst.ensures.read
 
+-- the content can't be sniffed: what the reader did
 pub returns-in_err-sniffed-in-ContentOnly-clause-reader :
     goal.returns-in_err-sniffed-in-ContentOnly-clause-reader
 returns-in_err-sniffed-in-ContentOnly-clause-reader g c =
@@ -68,6 +75,7 @@ returns-in_err-sniffed-in-ContentOnly-clause-reader g c =
     c.in_err-sniffed-in-ContentOnly.field-0.0 c.from_residual-in_err-sniffed-in-ContentOnly.result
     c.from_residual-in_err-sniffed-in-ContentOnly.ensures.1 c.in_err-sniffed-in-ContentOnly.ensures.reader
 
+-- the content can't be sniffed: when the reader is asked
 pub returns-in_err-sniffed-in-ContentOnly-clause-asks :
     goal.returns-in_err-sniffed-in-ContentOnly-clause-asks
 returns-in_err-sniffed-in-ContentOnly-clause-asks g c =
@@ -76,6 +84,7 @@ returns-in_err-sniffed-in-ContentOnly-clause-asks g c =
     (suffice_never (plain_database c.args.database.now) c.args.question.now.name.now c.args.question.now.host c.args.question.now.order c.in-ContentOnly.is)
     c.from_residual-in_err-sniffed-in-ContentOnly.ensures.1 c.in_err-sniffed-in-ContentOnly.ensures.asks
 
+-- the content alone is asked: the order gives this type
 pub returns-in_ok-sniffed-in-ContentOnly-clause-chosen :
     goal.returns-in_ok-sniffed-in-ContentOnly-clause-chosen
 returns-in_ok-sniffed-in-ContentOnly-clause-chosen g c =
@@ -84,6 +93,7 @@ returns-in_ok-sniffed-in-ContentOnly-clause-chosen g c =
     (IfSome_then _ c.in_ok-sniffed-in-ContentOnly.ensures.sniffed
     (λ known (is : IsSniffed (plain_database c.args.database.now) known c.args.question.now.host c.in_ok-sniffed-in-ContentOnly.sniffed). is.kind))
 
+-- the content alone is asked: as many bytes are read as the order says
 pub returns-in_ok-sniffed-in-ContentOnly-clause-read :
     goal.returns-in_ok-sniffed-in-ContentOnly-clause-read
 returns-in_ok-sniffed-in-ContentOnly-clause-read g c =

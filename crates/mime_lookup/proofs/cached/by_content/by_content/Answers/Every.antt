@@ -13,12 +13,14 @@ use Rattle.mime_lookup.proofs.StopLemmas.StepStops.{passed_on, stops_then}
 use Rattle.mime_view.specs.declared.spending.Spending.{Spending}
 use Rattle.mime_lookup.proofs.cached.by_content.by_content.Goals as goal
 
+-- the types that are asked: they are texts of the cache
 pub choose-requires-in-Every-clause-texts : goal.choose-requires-in-Every-clause-texts
 choose-requires-in-Every-clause-texts c =
     let asked = rw c.as_slice-in-Every.ensures at c.asked_of-kinds.ensures in
     rw asked (asked_all (IsCacheText c.args.cache.now) (is_by_magic (plain_finding c.in_ok-finding.finding)) c.in-Every.kinds c.in-Every.asked
     (rw c.in-Every.is at c.requires.texts).0)
 
+-- the choice stops: the reason
 pub returns-in_err-kind-in-Every-clause-stops : goal.returns-in_err-kind-in-Every-clause-stops
 returns-in_err-kind-in-Every-clause-stops c =
     let asked = rw c.as_slice-in-Every.ensures at c.asked_of-kinds.ensures in
@@ -32,6 +34,7 @@ returns-in_err-kind-in-Every-clause-stops c =
       omega (arith, enough.2.records, c.in_ok-finding.ensures.takes b content),
     )) (λ b enough read. read)))
 
+-- the choice stops: its cost
 pub returns-in_err-kind-in-Every-clause-cost : goal.returns-in_err-kind-in-Every-clause-cost
 returns-in_err-kind-in-Every-clause-cost c =
     let asked = rw c.as_slice-in-Every.ensures at c.asked_of-kinds.ensures in
@@ -39,6 +42,7 @@ returns-in_err-kind-in-Every-clause-cost c =
     rw c.in-Every.is (costs_sniffed (length c.args.question.now.name.now) _ c.in_ok-finding.ensures.cost
     (rw asked at c.in_err-kind-in-Every.ensures.cost) (omega arith) (omega (arith, few)))
 
+-- a type is chosen: the order gives this type
 pub returns-in_ok-kind-in-Every-clause-chosen : goal.returns-in_ok-kind-in-Every-clause-chosen
 returns-in_ok-kind-in-Every-clause-chosen c =
     let asked = rw c.as_slice-in-Every.ensures at c.asked_of-kinds.ensures in
@@ -53,6 +57,7 @@ returns-in_ok-kind-in-Every-clause-chosen c =
     (suffices_asked c.args.cache.now name (bytes_of c.args.front) b c.args.question.now.host (plain_finding c.in_ok-finding.finding)
     c.in-Every.kinds c.in-Every.asked found leaves enough))))
 
+-- a type is chosen: the records where the globs decide
 pub returns-in_ok-kind-in-Every-clause-near : goal.returns-in_ok-kind-in-Every-clause-near
 returns-in_ok-kind-in-Every-clause-near c =
     let asked = rw c.as_slice-in-Every.ensures at c.asked_of-kinds.ensures in
@@ -64,6 +69,7 @@ returns-in_ok-kind-in-Every-clause-near c =
     c.args.question.now.host (plain_finding c.in_ok-finding.finding) c.in-Every.kinds c.in-Every.asked found leaves decide) in
     omega (arith, unspent.looks.most_nodes, ap (λ (spending : Spending). spending.meter.nodes) (c.in_ok-finding.ensures.nothing none)))
 
+-- a type is chosen: its cost
 pub returns-in_ok-kind-in-Every-clause-cost : goal.returns-in_ok-kind-in-Every-clause-cost
 returns-in_ok-kind-in-Every-clause-cost c =
     let asked = rw c.as_slice-in-Every.ensures at c.asked_of-kinds.ensures in

@@ -14,6 +14,7 @@ use Rattle.mime_lookup.proofs.CostLemmas.UsedUp.{choice_spent}
 use Rattle.mime_view.specs.declared.spending.Spending.{Spending}
 use Rattle.mime_lookup.proofs.cached.by_content.by_content.Goals as goal
 
+-- the alias step after magic stops: the reason
 pub returns-in_err-kind-in-Unasked-clause-stops : goal.returns-in_err-kind-in-Unasked-clause-stops
 returns-in_err-kind-in-Unasked-clause-stops c =
     let step = c.in_err-kind-in-Unasked in
@@ -25,11 +26,13 @@ returns-in_err-kind-in-Unasked-clause-stops c =
     let globs = suffices_globs c.args.cache.now c.args.question.now.name.now (bytes_of c.args.front ≡ None) b MagicFirst enough.0 in
     absurd (step.ensures.answer b globs.offsets globs.header globs.aliases))))
 
+-- the alias step after magic stops: its cost
 pub returns-in_err-kind-in-Unasked-clause-cost : goal.returns-in_err-kind-in-Unasked-clause-cost
 returns-in_err-kind-in-Unasked-clause-cost c =
     costs_sniffed (length c.args.question.now.name.now) _ c.in_ok-finding.ensures.cost (costs_looks 256 0 c.unalias.ensures.cost) (omega arith)
     (omega arith)
 
+-- magic is of high priority: the order gives this type
 pub returns-then-is_high-clause-chosen : goal.returns-then-is_high-clause-chosen
 returns-then-is_high-clause-chosen c =
     rw c.in-Unasked.is (λ b enough leaves.
@@ -38,6 +41,7 @@ returns-then-is_high-clause-chosen c =
     (c.in_ok-finding.ensures.found b (suffices_content c.args.cache.now c.args.question.now.name.now (bytes_of c.args.front ≡ None) b Unasked leaves enough))
     (c.in_ok-kind-in-Unasked.ensures.answer b globs.offsets globs.header globs.aliases) (sym c.is_high.ensures ∙ c.if-is_high.true))
 
+-- magic is of high priority: the records where the globs decide
 pub returns-then-is_high-clause-near : goal.returns-then-is_high-clause-near
 returns-then-is_high-clause-near c =
     rw c.in-Unasked.is (λ b globs leaves decide.
@@ -45,11 +49,13 @@ returns-then-is_high-clause-near c =
     absurd (not_high b (bytes_of c.args.front) c.args.question.now.host (plain_finding c.in_ok-finding.finding)
     (c.in_ok-finding.ensures.found b (inr none)) none (sym c.is_high.ensures ∙ c.if-is_high.true)))
 
+-- magic is of high priority: its cost
 pub returns-then-is_high-clause-cost : goal.returns-then-is_high-clause-cost
 returns-then-is_high-clause-cost c =
     costs_sniffed (length c.args.question.now.name.now) _ c.in_ok-finding.ensures.cost (costs_looks 256 0 c.unalias.ensures.cost) (omega arith)
     (omega arith)
 
+-- the globs stop: the reason
 pub returns-in_err-kind-in-Unasked-2-clause-stops : goal.returns-in_err-kind-in-Unasked-2-clause-stops
 returns-in_err-kind-in-Unasked-2-clause-stops c =
     let globs_stop = c.in_err-kind-in-Unasked-2 in
@@ -64,11 +70,13 @@ returns-in_err-kind-in-Unasked-2-clause-stops c =
     ))
     (λ b enough read. read)))
 
+-- the globs stop: its cost
 pub returns-in_err-kind-in-Unasked-2-clause-cost : goal.returns-in_err-kind-in-Unasked-2-clause-cost
 returns-in_err-kind-in-Unasked-2-clause-cost c =
     rw c.in-Unasked.is (costs_sniffed (length c.args.question.now.name.now) _ c.in_ok-finding.ensures.cost
     c.in_err-kind-in-Unasked-2.ensures.cost (omega arith) (omega arith))
 
+-- the globs give the type: the order gives this type
 pub returns-in_ok-kind-in-Unasked-2-clause-chosen : goal.returns-in_ok-kind-in-Unasked-2-clause-chosen
 returns-in_ok-kind-in-Unasked-2-clause-chosen c =
     rw c.in-Unasked.is (λ b enough leaves.
@@ -78,6 +86,7 @@ returns-in_ok-kind-in-Unasked-2-clause-chosen c =
     (sym c.is_high.ensures ∙ c.if-is_high.false)
     (c.in_ok-kind-in-Unasked-2.ensures.chosen b (suffices_last c.args.cache.now c.args.question.now.name.now (bytes_of c.args.front ≡ None) b enough)))
 
+-- the globs give the type: the records where the globs decide
 pub returns-in_ok-kind-in-Unasked-2-clause-near : goal.returns-in_ok-kind-in-Unasked-2-clause-near
 returns-in_ok-kind-in-Unasked-2-clause-near c =
     rw c.in-Unasked.is (λ b globs leaves decide.
@@ -88,11 +97,13 @@ returns-in_ok-kind-in-Unasked-2-clause-near c =
       ap (λ (spending : Spending). spending.meter.nodes) (c.in_ok-finding.ensures.nothing without.0),
     ))
 
+-- the globs give the type: its cost
 pub returns-in_ok-kind-in-Unasked-2-clause-cost : goal.returns-in_ok-kind-in-Unasked-2-clause-cost
 returns-in_ok-kind-in-Unasked-2-clause-cost c =
     rw c.in-Unasked.is (costs_sniffed (length c.args.question.now.name.now) _ c.in_ok-finding.ensures.cost
     c.in_ok-kind-in-Unasked-2.ensures.cost (omega arith) (omega arith))
 
+-- the alias step of what was found stops: the reason
 pub returns-in_err-kind-in-Ignored-clause-stops : goal.returns-in_err-kind-in-Ignored-clause-stops
 returns-in_err-kind-in-Ignored-clause-stops c =
     let step = c.in_err-kind-in-Ignored in
@@ -104,11 +115,13 @@ returns-in_err-kind-in-Ignored-clause-stops c =
     let globs = suffices_globs c.args.cache.now c.args.question.now.name.now (bytes_of c.args.front ≡ None) b ContentOnly enough.0 in
     absurd (step.ensures.answer b globs.offsets globs.header globs.aliases))))
 
+-- the alias step of what was found stops: its cost
 pub returns-in_err-kind-in-Ignored-clause-cost : goal.returns-in_err-kind-in-Ignored-clause-cost
 returns-in_err-kind-in-Ignored-clause-cost c =
     costs_sniffed (length c.args.question.now.name.now) _ c.in_ok-finding.ensures.cost (costs_looks 256 0 c.unalias-in-Ignored.ensures.cost)
     (omega arith) (omega arith)
 
+-- what was found is the answer: the order gives this type
 pub returns-in_ok-kind-in-Ignored-clause-chosen : goal.returns-in_ok-kind-in-Ignored-clause-chosen
 returns-in_ok-kind-in-Ignored-clause-chosen c =
     rw c.in-Ignored.is (λ b enough leaves.
@@ -117,6 +130,7 @@ returns-in_ok-kind-in-Ignored-clause-chosen c =
     (c.in_ok-finding.ensures.found b (suffices_content c.args.cache.now c.args.question.now.name.now (bytes_of c.args.front ≡ None) b Ignored leaves enough))
     (c.in_ok-kind-in-Ignored.ensures.answer b globs.offsets globs.header globs.aliases))
 
+-- what was found is the answer: the records where the globs decide
 pub returns-in_ok-kind-in-Ignored-clause-near : goal.returns-in_ok-kind-in-Ignored-clause-near
 returns-in_ok-kind-in-Ignored-clause-near c =
     rw c.in-Ignored.is (λ b globs leaves decide.
@@ -127,6 +141,7 @@ returns-in_ok-kind-in-Ignored-clause-near c =
       ap (λ (spending : Spending). spending.meter.nodes) (c.in_ok-finding.ensures.nothing none),
     ))
 
+-- what was found is the answer: its cost
 pub returns-in_ok-kind-in-Ignored-clause-cost : goal.returns-in_ok-kind-in-Ignored-clause-cost
 returns-in_ok-kind-in-Ignored-clause-cost c =
     costs_sniffed (length c.args.question.now.name.now) _ c.in_ok-finding.ensures.cost (costs_looks 256 0 c.unalias-in-Ignored.ensures.cost)
