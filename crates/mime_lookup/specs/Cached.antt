@@ -1,8 +1,12 @@
 -- What the steps of a lookup over a cache give and why they stop, as plain values.
-use Rattle.std.specs.Prelude.{◌≡◌, ◌≢◌, ◌⊎◌, ℕ, ◌≤◌, true, false, if◌then◌else◌, List, ◌∷◌, [], length, get_or, All, Contains, Ok, codes}
+use Rattle.std.specs.Prelude.{◌≡◌, ◌≢◌, ◌⊎◌, ℕ, ◌≤◌, true, false, if◌then◌else◌, List, ◌∷◌, [], length, get_or, All, Contains, codes}
+use Rattle.std.specs.Prelude.{Result, Ok, IfOk}
+use Rattle.std.specs.Borrow.{Bor}
 use Rattle.mime_base.specs.Cache.Texts.{text_at}
-use Rattle.mime_lookup.specs.Finding.{PlainFinding, by_magic, fixed}
+use Rattle.mime_base.specs.Database.{PlainDatabase, pairs_of}
 use Rattle.mime_lookup.specs.CheckingOrder.{are_one_type}
+use Rattle.mime_lookup.specs.Choice.{ChoosesAmong}
+use Rattle.mime_lookup.specs.Finding.{PlainFinding, by_magic, fixed, resolved_finding}
 use Rattle.mime_lookup.specs.declared.cached.name_types.NameTypes.{NameTypes}
 use Rattle.mime_lookup.specs.declared.cached.name_types.NameTypes.TheVariants as types
 use Rattle.mime_lookup.specs.declared.cached.sniff.Finding.{Finding}
@@ -33,6 +37,11 @@ plain_finding (finding.Fixed kind) = fixed kind.now
 abbrev pub IsFinding : List ℕ → Finding → Type 0
 IsFinding c (finding.Magic kind priority) = IsCacheText c kind.now
 IsFinding c (finding.Fixed kind) = Contains fixed_kinds kind.now
+
+-- an answer is the type that is chosen among these for what was found
+abbrev pub ChoosesFound : PlainDatabase → List (List ℕ) → Finding → Result (Bor (List ℕ)) CacheFault → Type 0
+ChoosesFound b kinds finding result =
+    IfOk result (λ kind. ChoosesAmong (pairs_of b) kinds (resolved_finding b.aliases (plain_finding finding)) kind.now)
 
 -- how many of some kept types are asked for what was sniffed: one where all are one type
 abbrev pub asked_count : List (List ℕ) → ℕ

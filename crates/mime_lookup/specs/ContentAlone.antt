@@ -1,5 +1,6 @@
 -- What a content is sniffed as by itself over a cache of any bytes, with the priority of the section that holds.
 use Rattle.std.specs.Prelude.{◌≡◌, ℕ, ◌≤◌, max, List, length, Option, Some, option_map, Result, IfErr, IfOk, MatchResult}
+use Rattle.std.specs.Borrow.{Bor}
 use Rattle.mime_base.specs.Database.{PlainDatabase}
 use Rattle.mime_base.specs.Format.Packed.{Packed}
 use Rattle.mime_base.specs.Magic.Holds.{first_magic}
@@ -15,6 +16,7 @@ use Rattle.mime_lookup.specs.StepFaults.{IsLookUpFault}
 use Rattle.mime_lookup.specs.declared.cached.content_alone.SniffedContent.{SniffedContent}
 use Rattle.mime_lookup.specs.declared.stopped.Cause.TheVariants as cause
 use Rattle.mime_lookup.specs.declared.stopped.Stopped.{Stopped}
+use Rattle.mime_view.specs.declared.fault.CacheFault.{CacheFault}
 use Rattle.mime_view.specs.declared.fault.CacheFault.TheVariants.{Spent}
 
 -- the priority of the first section that holds for a content, if one does
@@ -25,6 +27,11 @@ first_priority b content host = option_map (λ section. section.1) (first_magic 
 abbrev pub IsSniffedAs : PlainDatabase → List ℕ → Host → List ℕ → Option ℕ → Type 0
 IsSniffedAs b content host kind priority =
     (kind ≡ sniffed b (Some content) host) × (priority ≡ first_priority b content host)
+
+-- where magic and the aliases stand, a step gives what a content is sniffed as, with the priority
+abbrev pub SniffsAs : List ℕ → List ℕ → Host → Result (Bor (List ℕ) × Option ℕ) CacheFault → Type 0
+SniffsAs c content host result = (b : PlainDatabase) → SpellsMagic c b →
+    IfOk result (λ found. IsSniffedAs b content host found.0.now found.1)
 
 -- What is looked at of a content, and what that costs.
 pub record LooksWithin (c content : List ℕ) (read : ℕ) (meter : Meter) : Type 0 where

@@ -1,5 +1,8 @@
 -- What a step of a lookup over a cache costs, whatever the cache's bytes are.
-use Rattle.std.specs.Prelude.{◌≡◌, ℕ, ◌+◌, ◌*◌, ◌≤◌}
+use Rattle.std.specs.Prelude.{◌≡◌, ℕ, ◌+◌, ◌*◌, ◌<◌, ◌≤◌, All, List, length}
+use Rattle.std.specs.Borrow.{Bor}
+use Rattle.mime_base.specs.declared.meter.Meter.{Meter}
+use Rattle.mime_lookup.specs.Ancestry.{kinds_of}
 use Rattle.mime_view.specs.Spending.{Looks, Price, Spends}
 use Rattle.mime_view.specs.declared.spending.Spending.{Spending}
 
@@ -28,6 +31,24 @@ pub record LooksAt (nodes : ℕ) (old new : Spending) : Type 0 where
   -- The meter rises by no more.
   pub looks : Looks nodes (256 * nodes) old.meter new.meter
 
+-- A step that visits no record, and compares at most so many bytes.
+pub record Compares (most : ℕ) (old new : Meter) : Type 0 where
+  -- No record is visited.
+  pub nodes : new.nodes ≡ old.nodes
+  -- The bytes never fall.
+  pub rises : old.bytes ≤ new.bytes
+  -- No more are compared.
+  pub bytes : new.bytes ≤ old.bytes + most
+
+-- A step that visits no record, and compares types with one another.
+pub record ComparesTypes (types : List (Bor (List ℕ))) (old new : Meter) : Type 0 where
+  -- No record is visited.
+  pub nodes : new.nodes ≡ old.nodes
+  -- The bytes never fall.
+  pub rises : old.bytes ≤ new.bytes
+  -- Where each type has fewer than 256 bytes, at most 256 are compared for each.
+  pub bytes : All (λ kind. length kind < 256) (kinds_of types) → new.bytes ≤ old.bytes + 256 * length types
+
 -- the bytes of a record, for a name of so many bytes
 abbrev pub record_cost : ℕ → ℕ
 record_cost name = 256 * (name + 64)
@@ -35,3 +56,7 @@ record_cost name = 256 * (name + 64)
 -- the nodes that a search for the types of a name adds besides its records
 abbrev pub glob_cost : ℕ → ℕ
 glob_cost name = 29 * (2 * name + 2) + 1
+
+-- a step costs a search for the types of a name, and so many nodes besides
+abbrev pub CostsSearch : ℕ → ℕ → ℕ → Spending → Spending → Type 0
+CostsSearch name value more old new = Costs (record_cost name) value (glob_cost name + more) old new

@@ -1,8 +1,9 @@
 -- The icons of a type ("The mime.cache files"). Those that stand in for a missing one are this project's own.
-use Rattle.std.specs.Prelude.{ℕ, ◌==◌, if◌then◌else◌, List, [], ◌∷◌, ◌++◌, map, Option, None, Some, codes}
+use Rattle.std.specs.Prelude.{◌≡◌, ℕ, ◌==◌, if◌then◌else◌, List, [], ◌∷◌, ◌++◌, map, Option, None, Some, Result, IfOk, codes}
 use Rattle.mime_base.specs.Cache.Bytes.{field}
 use Rattle.mime_base.specs.Database.{PlainDatabase}
 use Rattle.mime_base.specs.Database.Subclass.{resolved}
+use Rattle.mime_lookup.specs.Spelling.{SpellsIcons}
 use Rattle.mime_lookup.specs.declared.cached.icons.Icons.{Icons}
 use Rattle.mime_view.specs.Lists.{LiesList}
 use Rattle.mime_view.specs.Pairs.{looked_up}
@@ -54,3 +55,8 @@ pub record HasIconLists (c : List ℕ) : Type 0 where
 -- the plain value of what is answered
 abbrev pub plain_icons_of : Icons → PlainIcons
 plain_icons_of icons = record { icon = icons.icon.items; generic = icons.generic.items }
+
+-- where the aliases and both lists of icons stand, an answer is the icons of the type
+abbrev pub AnswersIcons : {X E : Type 0} → (X → PlainIcons) → List ℕ → List ℕ → Result X E → Type 0
+AnswersIcons plain c kind result =
+    (b : PlainDatabase) → SpellsIcons c b → IfOk result (λ icons. plain icons ≡ icons_of b kind)

@@ -23,6 +23,7 @@ pub mod Steps
 pub mod Halves
 pub mod Fronts
 pub mod LookUps
+pub mod Question
 pub mod Wanted
 pub mod NameAlone
 pub mod ContentAlone

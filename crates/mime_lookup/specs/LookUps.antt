@@ -40,6 +40,10 @@ abbrev pub meter_in : Result Answer Stopped → Meter
 meter_in (Ok answer) = answer.meter
 meter_in (Err stopped) = stopped.meter
 
+-- a name of more than 4,096 bytes is too long: nothing was read or looked at
+abbrev pub name_too_long : {X : Type 0} → Result X Stopped
+name_too_long = Err (record { cause = cause.NameTooLong; read = 0; meter = record { nodes = 0; bytes = 0 } })
+
 -- What a lookup by a database answers for a content that is known.
 pub record IsPlainAnswer (b : PlainDatabase) (name : List ℕ) (content : Option (List ℕ)) (host : Host) (order : Order)
     (answer : Answer) : Type 0 where
@@ -68,11 +72,7 @@ pub record AnswersLookUp {R : Type 0} (remaining : R → Option (List ℕ)) (c n
 pub record StopsLookUp {R : Type 0} (c name : List ℕ) (order : Order) (before after : Option R) (result : Result Answer Stopped) :
     Type 0 where
   -- A name of more than 4,096 bytes is too long, before anything else.
-  pub too_long : 4096 < length name → (after ≡ before) × (result ≡ Err (record {
-    cause = cause.NameTooLong;
-    read = 0;
-    meter = record { nodes = 0; bytes = 0 };
-  }))
+  pub too_long : 4096 < length name → (after ≡ before) × (result ≡ name_too_long)
   -- Bytes that don't open as a cache are refused for that.
   pub refused : length name ≤ 4096 → (e : CacheFault) → IsOpenFault c e → IsErrAnd result (λ stopped. stopped.cause ≡ cause.Cache e)
   -- Where there is an answer they do open.

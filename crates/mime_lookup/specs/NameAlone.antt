@@ -1,5 +1,5 @@
 -- What a lookup of a name alone over a cache promises: the type without a content, and how much of one is wanted.
-use Rattle.std.specs.Prelude.{◌≡◌, ◌≢◌, ◌+◌, ◌<◌, ◌≤◌, ℕ, if◌then◌else◌, List, length, None, Result, Err}
+use Rattle.std.specs.Prelude.{◌≡◌, ◌≢◌, ◌+◌, ◌<◌, ◌≤◌, ℕ, if◌then◌else◌, List, length, None, Result}
 use Rattle.std.specs.Prelude.{IfErr, IfOk, IsErrAnd, MatchResult, OnOk, ⊤}
 use Rattle.mime_base.specs.Database.{PlainDatabase}
 use Rattle.mime_base.specs.Format.Packed.{Packed}
@@ -8,6 +8,7 @@ use Rattle.mime_lookup.specs.Asking.{IsCaused}
 use Rattle.mime_lookup.specs.Bounds.{KeepsBounds, near_max}
 use Rattle.mime_lookup.specs.Cached.{IsKind}
 use Rattle.mime_lookup.specs.CheckingOrder.{Chooses, GlobsDecide, globs_suffice}
+use Rattle.mime_lookup.specs.LookUps.{name_too_long}
 use Rattle.mime_lookup.specs.Spelling.{SpellsGlobs}
 use Rattle.mime_lookup.specs.Spent.{UsesUp}
 use Rattle.mime_lookup.specs.StepFaults.{IsLookUpFault}
@@ -40,8 +41,7 @@ pub record IsNameLookUp (c name : List ℕ) (order : Order) (result : Result Nam
   -- It answers the type, and how much of a content is wanted.
   pub answers : IfOk result (λ answer. AnswersName c name order answer.kind.now answer.wanted)
   -- A name of more than 4,096 bytes is too long, before anything else.
-  pub too_long : 4096 < length name →
-      result ≡ Err (record { cause = cause.NameTooLong; read = 0; meter = record { nodes = 0; bytes = 0 } })
+  pub too_long : 4096 < length name → result ≡ name_too_long
   -- Bytes that don't open as a cache are refused for that.
   pub refused : length name ≤ 4096 → (e : CacheFault) → IsOpenFault c e → IsErrAnd result (λ stopped. stopped.cause ≡ cause.Cache e)
   -- Where there is an answer they do open.

@@ -1,8 +1,17 @@
 -- What a lookup does with its reader.
-use Rattle.std.specs.Prelude.{◌≡◌, ◌≢◌, ℕ, ◌≤◌, Bool, true, false, List, Option, Result, IfErr, OnOk, ⊤}
-use Rattle.mime_lookup.specs.Content.{Advances, GivesUp, Retries, Health, OfReader, Tally, broken, sound}
+use Rattle.std.specs.Prelude.{◌≡◌, ◌≢◌, ◌⊎◌, ℕ, ◌-◌, ◌≤◌, Bool, true, false, List, Option, Result, IfErr, MatchResult, OnOk, ⊤}
+use Rattle.mime_lookup.specs.Content.{Advances, GivesUp, Interrupts, Retries, Health, OfReader, Tally, broken, sound}
 use Rattle.mime_lookup.specs.declared.stopped.Cause.{Cause}
-use Rattle.mime_lookup.specs.declared.stopped.Cause.TheVariants.{Read}
+use Rattle.mime_lookup.specs.declared.stopped.Cause.TheVariants.{OutOfMemory, Read}
+
+-- a read failed, or an allocation was refused
+abbrev pub IsReadOrMemory : Cause → Type 0
+IsReadOrMemory cause = (cause ≡ Read) ⊎ (cause ≡ OutOfMemory)
+
+-- a read that is tried again while it is interrupted: the retries that it used were just the interruptions, or it gives up
+abbrev pub TriesAgain : {X : Type 0} → Option Tally → Option Tally → ℕ → ℕ → Result X Cause → Type 0
+TriesAgain before after retries left result = MatchResult result
+    (λ _. Interrupts before after (retries - left)) (λ cause. (cause ≡ Read) × GivesUp before after retries)
 
 -- a lookup took so many bytes from its reader, within a limit, and answers or stops for what the reader tells
 pub record Reads {R X : Type 0} (remaining : R → Option (List ℕ)) (tally : R → Option Tally) (health : R → Health)

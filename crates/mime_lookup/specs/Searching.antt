@@ -1,10 +1,13 @@
 -- A search for a subclass over a cache: what it answers, and what it takes.
-use Rattle.std.specs.Prelude.{◌≡◌, ◌↔◌, ℕ, ◌+◌, ◌≤◌, Bool, false, IsTrue, List, Result, IfErr, IfOk, OnOk}
+use Rattle.std.specs.Prelude.{◌≡◌, ℕ, ◌+◌, ◌≤◌, Bool, List, length, Result, IfErr, OnOk}
 use Rattle.mime_base.specs.Cache.Bytes.{field}
-use Rattle.mime_base.specs.Database.Subclass.{Pairs, IsA}
-use Rattle.mime_lookup.specs.Ancestry.{NoneLeadsTo, unmarked}
+use Rattle.mime_base.specs.Database.{PlainDatabase, pairs_of}
+use Rattle.mime_base.specs.Database.Subclass.{Pairs}
+use Rattle.mime_lookup.specs.Ancestry.{AnswersSearch, unmarked}
+use Rattle.mime_lookup.specs.Spelling.{SpellsPairs}
 use Rattle.mime_view.specs.Parents.{is_marked}
 use Rattle.mime_view.specs.Spending.{Price}
+use Rattle.mime_view.specs.declared.budget.Budget.{Budget}
 use Rattle.mime_view.specs.declared.fault.CacheFault.{CacheFault}
 use Rattle.mime_view.specs.declared.fault.CacheFault.TheVariants.{OutOfMemory}
 use Rattle.mime_view.specs.declared.spending.Spending.{Spending}
@@ -21,14 +24,6 @@ expansion_price = record { nodes = 30; bytes = 7680; value_byte = 0 }
 abbrev pub marked_by : List ℕ → List ℕ → List ℕ → Bool
 marked_by c marks = is_marked c (field c 0 2) marks
 
--- What a search for a base answers over pairs that stand, with these types marked before and after.
-pub record AnswersSearch (pairs : Pairs) (kind base : List ℕ) (before after : List ℕ → Bool) (result : Result Bool CacheFault)
-    : Type 0 where
-  -- Unless a marked type leads to the base, it says whether this type does.
-  pub answer : NoneLeadsTo before pairs base → IfOk result (λ is. IsTrue is ↔ IsA pairs kind base)
-  -- Where it does not, none leads there of those that are marked then.
-  pub marked : NoneLeadsTo before pairs base → IfOk result (λ is. is ≡ false → NoneLeadsTo after pairs base)
-
 -- What a step of it takes over pairs that stand, with these types marked before and after.
 pub record TakesPairs {X : Type 0} (pairs : Pairs) (before after : List ℕ → Bool) (old new : Spending) (result : Result X CacheFault)
     : Type 0 where
@@ -36,3 +31,18 @@ pub record TakesPairs {X : Type 0} (pairs : Pairs) (before after : List ℕ → 
   pub need : unmarked pairs.parents before ≤ old.budget.records → IfErr result (λ e. e ≡ OutOfMemory)
   -- A record that is taken is of a pair whose type is marked for it.
   pub owed : OnOk result (unmarked pairs.parents after + old.budget.records ≤ unmarked pairs.parents before + new.budget.records)
+
+-- what a search answers over a cache whose pairs stand, with these marks before and after
+abbrev pub AnswersMarked : List ℕ → List ℕ → List ℕ → List ℕ → List ℕ → Result Bool CacheFault → Type 0
+AnswersMarked c kind base before after result = (b : PlainDatabase) → SpellsPairs c b →
+    AnswersSearch (pairs_of b) kind base (marked_by c before) (marked_by c after) result
+
+-- what a step of it takes there: no more records than there are pairs of the types that it marks
+abbrev pub TakesMarked : {X : Type 0} → List ℕ → List ℕ → List ℕ → Spending → Spending → Result X CacheFault → Type 0
+TakesMarked c before after old new result = (b : PlainDatabase) → SpellsPairs c b →
+    TakesPairs (pairs_of b) (marked_by c before) (marked_by c after) old new result
+
+-- when a search stops: where the pairs stand and a record is left for each parent, only for memory
+abbrev pub NeedsParents : {X : Type 0} → List ℕ → Budget → Result X CacheFault → Type 0
+NeedsParents c budget result =
+    (b : PlainDatabase) → SpellsPairs c b → length b.parents ≤ budget.records → IfErr result (λ e. e ≡ OutOfMemory)

@@ -18,10 +18,13 @@ IsAliasFault c e = IsPairsFault c (field c 0 1) e
 abbrev pub IsGlobsFault : List ℕ → Budget → CacheFault → Type 0
 IsGlobsFault c after e = IsHitsFault c (field c 0 3) (field c 0 4) (field c 0 5) after e ⊎ IsAliasFault c e
 
+-- of the head of magic, which states the extent: it does not lie in the cache
+abbrev pub IsMagicHeadFault : List ℕ → CacheFault → Type 0
+IsMagicHeadFault c e = (length c < field c 0 6 + 12) × (e ≡ OutOfRange (field c 0 6))
+
 -- of what a content is sniffed as: the head of magic, or its sections
 abbrev pub IsSniffFault : List ℕ → Budget → CacheFault → Type 0
-IsSniffFault c after e =
-    ((length c < field c 0 6 + 12) × (e ≡ OutOfRange (field c 0 6))) ⊎ IsMagicFault c (field c 0 6) after e
+IsSniffFault c after e = IsMagicHeadFault c e ⊎ IsMagicFault c (field c 0 6) after e
 
 -- the parents of some type are not given
 pub record IsSomeParentsFault (c : List ℕ) (after : Budget) (e : CacheFault) : Type 0 where

@@ -5,11 +5,10 @@
 //! no type is expanded twice. The places of all pairs are found once, so a search goes through the
 //! pairs of the types that it meets, and no others.
 
-ghost use Rattle.std.specs.Prelude.{◌≡◌, ◌↔◌, ◌+◌, false, IfOk, OnOk, IsTrue};
+ghost use Rattle.std.specs.Prelude.{◌≡◌, ◌+◌, false, IfOk, OnOk};
 ghost use Rattle.std.specs.VecDeque.{deque_len};
 ghost use Rattle.mime_base.specs.Database.{pairs_of, plain_database};
-ghost use Rattle.mime_base.specs.Database.Subclass.{IsA};
-ghost use Rattle.mime_lookup.specs.Ancestry.{Expanded, NoneLeadsTo, is_one_of, kinds_of, unmarked};
+ghost use Rattle.mime_lookup.specs.Ancestry.{AnswersSearch, Expanded, is_among, kinds_of, unmarked};
 ghost use Rattle.mime_lookup.specs.Choice.{IsFirst};
 ghost use Rattle.mime_lookup.specs.Places.{ArePlaced, placed};
 
@@ -76,12 +75,8 @@ fn is_a<'a>(
 ) -> Result<bool, OutOfMemory>
     requires placed { ArePlaced both.now }
     ensures nodes { meter.new.nodes ≡ meter.old.nodes }
-    ensures answer { IfOk result (λ yes.
-        NoneLeadsTo (is_one_of (kinds_of marks.old.keys)) (placed both.now) base.now
-        → (IsTrue yes ↔ IsA (placed both.now) kind.entry.now base.now)) }
-    ensures marked { IfOk result (λ yes. yes ≡ false →
-        NoneLeadsTo (is_one_of (kinds_of marks.old.keys)) (placed both.now) base.now
-        → NoneLeadsTo (is_one_of (kinds_of marks.new.keys)) (placed both.now) base.now) }
+    ensures answer { AnswersSearch (placed both.now) kind.entry.now base.now
+        (is_among marks.old.keys) (is_among marks.new.keys) result }
 {
     let mut queue = VecDeque::new(alloc);
     queue.push_back(kind)?;
@@ -102,12 +97,10 @@ fn expand<'a>(
     queue: &mut VecDeque<&'a [u8]>,
 ) -> Result<(), OutOfMemory>
     requires placed { ArePlaced both.now }
-    ensures expanded { OnOk result (Expanded (placed both.now) kind.entry.now
-        (is_one_of (kinds_of marks.old.keys)) (is_one_of (kinds_of marks.new.keys))
-        (kinds_of queue.old.items) (kinds_of queue.new.items)) }
-    ensures falls { OnOk result (
-        deque_len queue.new + unmarked (placed both.now).parents (is_one_of (kinds_of marks.new.keys))
-        ≡ deque_len queue.old + unmarked (placed both.now).parents (is_one_of (kinds_of marks.old.keys))) }
+    ensures expanded { OnOk result (Expanded (placed both.now) kind.entry.now (is_among marks.old.keys)
+        (is_among marks.new.keys) (kinds_of queue.old.items) (kinds_of queue.new.items)) }
+    ensures falls { OnOk result (deque_len queue.new + unmarked (placed both.now).parents (is_among marks.new.keys)
+        ≡ deque_len queue.old + unmarked (placed both.now).parents (is_among marks.old.keys)) }
 {
     if is_marked(marks, kind) {
         return Ok(());
@@ -119,7 +112,7 @@ fn expand<'a>(
 
 /// Whether a type is marked.
 fn is_marked(marks: &IndexSet<&[u8]>, kind: &[u8]) -> bool
-    ensures { result ≡ is_one_of (kinds_of marks.now.keys) kind.now }
+    ensures { result ≡ is_among marks.now.keys kind.now }
 {
     marks.contains(kind)
 }

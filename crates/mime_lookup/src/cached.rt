@@ -1,21 +1,19 @@
 //! Lookup over the bytes of a cache, whatever they are.
 
-ghost use Rattle.std.specs.Prelude.{◌≡◌, ℕ, ◌+◌, ◌<◌, ◌≤◌, IfErr, IfOk, IsErrAnd, None, OnOk, false, length, max, option_map};
+ghost use Rattle.std.specs.Prelude.{◌≡◌, ◌+◌, ◌<◌, IfErr, IfOk, None, OnOk, false, length, max, option_map};
 ghost use Rattle.mime_base.specs.Database.{PlainDatabase};
-ghost use Rattle.mime_base.specs.Format.Packed.{Packed};
 ghost use Rattle.mime_lookup.specs.Affords.{Affords};
-ghost use Rattle.mime_lookup.specs.Bounds.{near_max, stated_extent};
-ghost use Rattle.mime_lookup.specs.CheckingOrder.{GlobsDecide};
-ghost use Rattle.mime_lookup.specs.Costs.{Costs, LooksAt, glob_cost, record_cost};
+ghost use Rattle.mime_lookup.specs.Bounds.{stated_extent};
+ghost use Rattle.mime_lookup.specs.Costs.{CostsSearch, LooksAt};
 ghost use Rattle.mime_lookup.specs.Fronts.{ReadsFront};
 ghost use Rattle.mime_lookup.specs.Headline.{IsHeadline};
 ghost use Rattle.mime_lookup.specs.LookUps.{AnswersLookUp, CostsLookUp, OpensFirst, ReadsLookUp, StopsLookUp, cause_in, meter_in, read_in};
+ghost use Rattle.mime_lookup.specs.Question.{AnswersQuestion, CostsQuestion, IsDecided, ReadsQuestion, StopsQuestion, near_most};
 ghost use Rattle.mime_lookup.specs.Reads.{AsksUnless, Reads};
 ghost use Rattle.mime_lookup.specs.Spelling.{SpellsGlobs};
 ghost use Rattle.mime_lookup.specs.Spent.{IsUsedUp, UsesUp};
-ghost use Rattle.mime_lookup.specs.Steps.{Stops, Suffices, SufficesForContent};
+ghost use Rattle.mime_lookup.specs.Steps.{IsPacked, Stops, SufficesForContent};
 ghost use Rattle.mime_view.specs.Hits.{near};
-ghost use Rattle.mime_view.specs.Opening.{IsOpenFault, Opens};
 
 mod ancestry;
 mod by_content;
@@ -108,16 +106,13 @@ fn open_and_find<'a, R: Content>(
 ) -> Result<&'a [u8], Cause>
     requires none { read.old ≡ 0 }
     requires fresh { meter.old ≡ record { nodes = 0; bytes = 0 } }
-    ensures answers { IfOk result (λ kind. AnswersLookUp R.remaining cache.entry question.now.name.now content.old
-        question.now.host question.now.order kind.now) }
+    ensures answers { IfOk result (λ kind. AnswersQuestion R.remaining cache.entry question.now content.old kind.now) }
     ensures opens { OpensFirst cache.entry result }
-    ensures stops { IfErr result (Stops cache.entry (UsesUp cache.entry (content.old ≡ None) meter.new.nodes)
-        (λ b. Suffices cache.entry question.now.name.now question.now.order (content.old ≡ None) b
-        × (length cache.entry ≤ 268435456) × Packed cache.entry b)
-        (λ b. GlobsDecide b question.now.name.now question.now.order (content.old ≡ None) → ⊥)) }
-    ensures reads { ReadsLookUp R.remaining R.tally R.health cache.entry question.now.name.now question.now.order
+    ensures stops { IfErr result (StopsQuestion cache.entry question.now content.old
+        (UsesUp cache.entry (content.old ≡ None) meter.new.nodes) (IsPacked cache.entry)) }
+    ensures reads { ReadsQuestion R.remaining R.tally R.health cache.entry question.now
         content.old content.new read.new result }
-    ensures costs { CostsLookUp cache.entry question.now.name.now question.now.order content.old read.new meter.new result }
+    ensures costs { CostsQuestion cache.entry question.now content.old read.new meter.new result }
 {
     let cache = Cache::open(cache, meter)?;
     let budget = Budget::of(&cache);
@@ -140,18 +135,14 @@ fn find<'a, R: Content>(
     spending: &mut Spending,
 ) -> Result<&'a [u8], Cause>
     requires none { read.old ≡ 0 }
-    ensures answers { IfOk result (λ kind. AnswersLookUp R.remaining cache.now question.now.name.now content.old
-        question.now.host question.now.order kind.now) }
-    ensures stops { IfErr result (Stops cache.now (IsUsedUp cache.now (content.old ≡ None) spending.new.budget)
-        (λ b. Suffices cache.now question.now.name.now question.now.order (content.old ≡ None) b × Affords b spending.old.budget)
-        (λ b. GlobsDecide b question.now.name.now question.now.order (content.old ≡ None) → ⊥)) }
-    ensures reads { ReadsLookUp R.remaining R.tally R.health cache.now question.now.name.now question.now.order
+    ensures answers { IfOk result (λ kind. AnswersQuestion R.remaining cache.now question.now content.old kind.now) }
+    ensures stops { IfErr result (StopsQuestion cache.now question.now content.old
+        (IsUsedUp cache.now (content.old ≡ None) spending.new.budget) (λ b. Affords b spending.old.budget)) }
+    ensures reads { ReadsQuestion R.remaining R.tally R.health cache.now question.now
         content.old content.new read.new result }
-    ensures near { (b : PlainDatabase) → SpellsGlobs cache.now b
-        → GlobsDecide b question.now.name.now question.now.order (content.old ≡ None) → OnOk result (spending.new.meter.nodes
-        < spending.old.meter.nodes + near_max (length question.now.name.now) (near question.now.name.now b.rules)) }
-    ensures cost { Costs (record_cost (length question.now.name.now)) (read.new + 1)
-        (glob_cost (length question.now.name.now) + 31) spending.old spending.new }
+    ensures near { (b : PlainDatabase) → SpellsGlobs cache.now b → IsDecided b question.now (content.old ≡ None)
+        → OnOk result (spending.new.meter.nodes < spending.old.meter.nodes + near_most b question.now) }
+    ensures cost { CostsSearch (length question.now.name.now) (read.new + 1) 31 spending.old spending.new }
 {
     let given = by_name(alloc, cache, question, spending)?;
     match given {

@@ -19,8 +19,7 @@ pub fn candidate_rules<'a>(
     meter: &mut Meter,
 ) -> Result<Vec<&'a GlobRule>, OutOfMemory>
     // These are all rules that match the name, by falling rank.
-    ensures candidates { IfOk result
-        (λ found. map (λ rule. rule.now) found.items ≡ candidate_rules rules.now name.now) }
+    ensures candidates { IfOk result (λ all. map (λ rule. rule.now) all.items ≡ candidate_rules rules.now name.now) }
     // No record of a cache is visited.
     ensures nodes { meter.new.nodes ≡ meter.old.nodes }
 {

@@ -36,8 +36,7 @@ pub trait Content: Read {
         // No more bytes are read than the buffer has.
         ensures bound { ReadsAtMost result buffer.new }
         // They are the next of those that remain.
-        ensures bytes { ReadConsumes (Self.remaining self.old) (Self.remaining self.new)
-            result buffer.new }
+        ensures bytes { ReadConsumes (Self.remaining self.old) (Self.remaining self.new) result buffer.new }
         // A read is counted by what it gave.
         ensures told { Counts (tally self.old) (tally self.new) result }
         // A sound content goes on, and a broken one fails.
@@ -47,8 +46,7 @@ pub trait Content: Read {
 /// One read of any reader.
 fn read_once<R: Read>(reader: &mut R, buffer: &mut [u8]) -> Result<usize, ReadFault>
     ensures bound { ReadsAtMost result buffer.new }
-    ensures bytes { ReadConsumes (R.remaining reader.old) (R.remaining reader.new)
-        result buffer.new }
+    ensures bytes { ReadConsumes (R.remaining reader.old) (R.remaining reader.new) result buffer.new }
 {
     match reader.read(buffer) {
         Ok(count) => Ok(count),

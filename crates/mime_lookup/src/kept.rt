@@ -18,8 +18,7 @@ pub fn kept_rules<'a>(
     meter: &mut Meter,
 ) -> Result<Vec<&'a GlobRule>, OutOfMemory>
     // These are the rules that are kept of the name, in merged order.
-    ensures kept { IfOk result
-        (λ kept. map (λ rule. rule.now) kept.items ≡ kept_rules rules.now name.now) }
+    ensures kept { IfOk result (λ kept. map (λ rule. rule.now) kept.items ≡ kept_rules rules.now name.now) }
     // No record of a cache is visited.
     ensures nodes { meter.new.nodes ≡ meter.old.nodes }
 {

@@ -1,13 +1,14 @@
 //! Lookup by trying every rule, line and pair of a database.
 
-ghost use Rattle.std.specs.Prelude.{◌≡◌, ◌⊎◌, ◌<◌, ◌≤◌, if◌then◌else◌, length, false, IfOk, IfErr, OnOk, IfSome};
+ghost use Rattle.std.specs.Prelude.{◌≡◌, ◌<◌, ◌≤◌, if◌then◌else◌, length, false, IfOk, IfErr, OnOk, IfSome};
 ghost use Rattle.mime_base.specs.Database.{pairs_of, plain_database};
 ghost use Rattle.mime_lookup.specs.Ancestry.{kinds_of};
-ghost use Rattle.mime_lookup.specs.CheckingOrder.{Chooses, IsSniffed, are_one_type, front_size, globs_suffice, read_limit, read_of};
+ghost use Rattle.mime_lookup.specs.CheckingOrder.{IsSniffed, are_one_type, front_size, globs_suffice, read_limit};
 ghost use Rattle.mime_lookup.specs.Choice.{ChoosesAmong, kept};
 ghost use Rattle.mime_lookup.specs.Content.{known_content};
-ghost use Rattle.mime_lookup.specs.LookUps.{IsPlainAnswer, cause_in, meter_in, read_in};
-ghost use Rattle.mime_lookup.specs.Reads.{AsksUnless, Reads};
+ghost use Rattle.mime_lookup.specs.LookUps.{IsPlainAnswer, cause_in, meter_in, name_too_long, read_in};
+ghost use Rattle.mime_lookup.specs.Question.{ChoosesFor, ReadsFor};
+ghost use Rattle.mime_lookup.specs.Reads.{AsksUnless, IsReadOrMemory, Reads};
 
 use crate::ancestry::first_of;
 use crate::answer::Answer;
@@ -47,14 +48,9 @@ pub fn look_up_plain<'a, R: Content>(
     ensures answers { IfOk result (λ answer. IfSome (known_content R.remaining content.old)
         (λ known. IsPlainAnswer (plain_database database.entry.now) name.now known host order answer)) }
     // A name of more than 4,096 bytes is too long, before anything else.
-    ensures too_long { 4096 < length name.now → (content.new ≡ content.old) × (result ≡ Err (record {
-      cause = Cause.NameTooLong;
-      read = 0;
-      meter = record { nodes = 0; bytes = 0 };
-    })) }
+    ensures too_long { 4096 < length name.now → (content.new ≡ content.old) × (result ≡ name_too_long) }
     // For another name it stops only for a read or for memory, so never for a cache.
-    ensures otherwise { length name.now ≤ 4096 → IfErr result
-        (λ stopped. (stopped.cause ≡ Cause.Read) ⊎ (stopped.cause ≡ Cause.OutOfMemory)) }
+    ensures otherwise { length name.now ≤ 4096 → IfErr result (λ stopped. IsReadOrMemory stopped.cause) }
     // It takes no more of its reader than magic and the test for text can look at, and gives up only where a read failed.
     ensures reader { Reads R.remaining R.tally R.health (read_limit (plain_database database.entry.now))
         content.old content.new (read_in result) (cause_in result) }
@@ -87,11 +83,9 @@ fn kind_of<'a, R: Content>(
     meter: &mut Meter,
 ) -> Result<&'a [u8], Cause>
     requires none { read.old ≡ 0 }
-    ensures chosen { IfOk result (λ kind. IfSome (known_content R.remaining content.old)
-        (λ known. Chooses (plain_database database.entry.now) question.now.name.now known question.now.host question.now.order kind.now)) }
-    ensures read { OnOk result (IfSome (known_content R.remaining content.old)
-        (λ known. read.new ≡ read_of (plain_database database.entry.now) question.now.name.now known question.now.order)) }
-    ensures causes { IfErr result (λ cause. (cause ≡ Cause.Read) ⊎ (cause ≡ Cause.OutOfMemory)) }
+    ensures chosen { ChoosesFor R.remaining (plain_database database.entry.now) question.now content.old result }
+    ensures read { ReadsFor R.remaining (plain_database database.entry.now) question.now content.old read.new result }
+    ensures causes { IfErr result IsReadOrMemory }
     ensures reader { Reads R.remaining R.tally R.health (read_limit (plain_database database.entry.now))
         content.old content.new read.new result }
     ensures asks { AsksUnless R.health (globs_suffice (plain_database database.entry.now) question.now.name.now question.now.order)
@@ -205,7 +199,7 @@ fn sniff_content<'a, R: Content>(
         (λ known. IsSniffed (plain_database database.entry.now) known host found)) }
     ensures read { OnOk result (IfSome (known_content R.remaining content.old)
         (λ known. read.new ≡ front_size (plain_database database.entry.now) known)) }
-    ensures causes { IfErr result (λ cause. (cause ≡ Cause.Read) ⊎ (cause ≡ Cause.OutOfMemory)) }
+    ensures causes { IfErr result IsReadOrMemory }
     ensures reader { Reads R.remaining R.tally R.health (read_limit (plain_database database.entry.now))
         content.old content.new read.new result }
     ensures asks { AsksUnless R.health false content.old content.new result }

@@ -1,9 +1,9 @@
 //! How the front of a content is read.
 
-ghost use Rattle.std.specs.Prelude.{◌≡◌, ◌≢◌, ◌⊎◌, ◌+◌, ◌-◌, ◌<◌, ◌≤◌, length, Some, OnOk, IfErr, IfOk, IsOk, IsErr, MatchResult};
+ghost use Rattle.std.specs.Prelude.{◌≡◌, ◌≢◌, ◌+◌, ◌-◌, ◌<◌, ◌≤◌, length, Some, OnOk, IfErr, IfOk, IsOk, IsErr};
 ghost use Rattle.std.specs.Io.KnownBytes.{Consumes, IsAtEnd, ReadConsumes};
-ghost use Rattle.mime_lookup.specs.Content.{GivesUp, Interrupts, broken, sound};
-ghost use Rattle.mime_lookup.specs.Reads.{Reads};
+ghost use Rattle.mime_lookup.specs.Content.{broken, sound};
+ghost use Rattle.mime_lookup.specs.Reads.{IsReadOrMemory, Reads, TriesAgain};
 
 use crate::content::{Content, ReadFault};
 use crate::stopped::Cause;
@@ -36,7 +36,7 @@ pub fn read_front<R: Content>(
     // A reader whose reads all fail gives no front, unless nothing is asked.
     ensures broken { OnOk result (0 < limit → R.health reader.old ≢ broken) }
     // It stops only for a read or for memory.
-    ensures causes { IfErr result (λ cause. (cause ≡ Cause.Read) ⊎ (cause ≡ Cause.OutOfMemory)) }
+    ensures causes { IfErr result IsReadOrMemory }
 {
     let mut front = Vec::new(alloc);
     let mut block = [0u8; BLOCK];
@@ -61,9 +61,7 @@ fn read_block<R: Content>(
 ) -> Result<usize, Cause>
     ensures within { IfOk result (λ count. count ≤ length block.new) }
     ensures bytes { ReadConsumes (R.remaining reader.old) (R.remaining reader.new) result block.new }
-    ensures tally { MatchResult result
-        (λ _. Interrupts (R.tally reader.old) (R.tally reader.new) (retries.old - retries.new))
-        (λ cause. (cause ≡ Cause.Read) × GivesUp (R.tally reader.old) (R.tally reader.new) retries.old) }
+    ensures tally { TriesAgain (R.tally reader.old) (R.tally reader.new) retries.old retries.new result }
     ensures sound { R.health reader.old ≡ sound → IsOk result × (R.health reader.new ≡ sound) }
     ensures broken { R.health reader.old ≡ broken → IsErr result × (R.health reader.new ≡ broken) }
     ensures fewer { retries.new ≤ retries.old }

@@ -1,10 +1,9 @@
 //! A content that follows a script, for tests and examples. This project's own.
 
-ghost use Rattle.std.specs.Prelude.{◌≡◌, ◌≤◌, ◌++◌, [], length, take, drop, Some};
+ghost use Rattle.std.specs.Prelude.{◌≡◌, ◌≤◌, [], length};
 ghost use Rattle.std.specs.Io.{ReadsAtMost};
 ghost use Rattle.std.specs.Io.KnownBytes.{ReadConsumes};
 ghost use Rattle.mime_lookup.specs.Content.{Counts, KeepsHealth};
-ghost use Rattle.mime_lookup.specs.Script.{bytes_in, health_of, tally_in};
 
 use crate::content::{Content, ReadFault};
 use std::io;
@@ -36,6 +35,8 @@ pub struct Script<'a> {
 }
 
 impl<'a> Script<'a> {
+    ghost use Rattle.mime_lookup.specs.Script.{bytes_left, health_left, tally_of};
+
     /// A content whose reads meet these steps.
     pub fn new(steps: &'a [Step<'a>]) -> Script<'a>
         // No piece is begun.
@@ -55,14 +56,9 @@ impl<'a> Script<'a> {
     /// One read.
     fn next_piece(&mut self, buffer: &mut [u8]) -> Result<usize, ReadFault>
         ensures bound { ReadsAtMost result buffer.new }
-        ensures bytes { ReadConsumes
-            (Some (self.old.piece.now ++ bytes_in (drop self.old.met self.old.steps.now)))
-            (Some (self.new.piece.now ++ bytes_in (drop self.new.met self.new.steps.now)))
-            result buffer.new }
-        ensures told { Counts (Some (tally_in (take self.old.met self.old.steps.now)))
-            (Some (tally_in (take self.new.met self.new.steps.now))) result }
-        ensures healthy { KeepsHealth (health_of (drop self.old.met self.old.steps.now))
-            (health_of (drop self.new.met self.new.steps.now)) result }
+        ensures bytes { ReadConsumes (bytes_left self.old) (bytes_left self.new) result buffer.new }
+        ensures told { Counts (tally_of self.old) (tally_of self.new) result }
+        ensures healthy { KeepsHealth (health_left self.old) (health_left self.new) result }
     {
         while self.piece.is_empty() && self.met < self.steps.len() && !buffer.is_empty() {
             let step = self.steps[self.met];
@@ -81,10 +77,9 @@ impl<'a> Script<'a> {
 }
 
 impl Read for Script<'_> {
-    ghost use Rattle.std.specs.Prelude.{Some, ◌++◌, drop};
-    ghost use Rattle.mime_lookup.specs.Script.{bytes_in};
+    ghost use Rattle.mime_lookup.specs.Script.{bytes_left};
 
-    ghost remaining = { λ script. Some (script.piece.now ++ bytes_in (drop script.met script.steps.now)) };
+    ghost remaining = { bytes_left };
 
     fn read(&mut self, buffer: &mut [u8]) -> io::Result<usize> {
         match self.next_piece(buffer) {
@@ -96,12 +91,11 @@ impl Read for Script<'_> {
 }
 
 impl Content for Script<'_> {
-    ghost use Rattle.std.specs.Prelude.{Some, drop, take};
-    ghost use Rattle.mime_lookup.specs.Script.{health_of, tally_in};
+    ghost use Rattle.mime_lookup.specs.Script.{health_left, tally_of};
 
-    ghost tally = { λ script. Some (tally_in (take script.met script.steps.now)) };
+    ghost tally = { tally_of };
 
-    ghost health = { λ script. health_of (drop script.met script.steps.now) };
+    ghost health = { health_left };
 
     fn read_piece(&mut self, buffer: &mut [u8]) -> Result<usize, ReadFault> {
         self.next_piece(buffer)

@@ -1,12 +1,11 @@
 -- Why a content is not sniffed by itself, from the fault of the cache.
-use Rattle.std.proofs.Common.{◌≡◌, ◌∙◌, ◌⊎◌, ℕ, ◌≤◌, List, length, Err, ap, inl, inr, sym}
-use Rattle.mime_base.specs.Format.Packed.{Packed}
+use Rattle.std.proofs.Common.{◌≡◌, ◌∙◌, ◌⊎◌, ℕ, List, Err, ap, inl, inr, sym}
 use Rattle.mime_base.specs.declared.magic.host.Host.{Host}
 use Rattle.mime_lookup.specs.Cached.{cause_of}
 use Rattle.mime_lookup.specs.ContentAlone.{IsSniffing, LooksWithin}
 use Rattle.mime_lookup.specs.Spelling.{SpellsMagic}
 use Rattle.mime_lookup.specs.Spent.{UsesUp}
-use Rattle.mime_lookup.specs.Steps.{Stops}
+use Rattle.mime_lookup.specs.Steps.{IsPacked, Stops}
 use Rattle.mime_lookup.specs.declared.stopped.Stopped.{Stopped}
 use Rattle.mime_lookup.proofs.StopLemmas.OpenFaults.{cause_of-open_fault}
 use Rattle.mime_lookup.proofs.StopLemmas.StepStops.{no_read_fault}
@@ -16,7 +15,7 @@ use Rattle.mime_view.specs.declared.fault.CacheFault.{CacheFault}
 -- no type, for a fault of the cache
 pub stops_sniffing : (c content : List ℕ) (host : Host) (e : CacheFault) (stopped : Stopped) → stopped.cause ≡ cause_of e
     → ((x : CacheFault) → IsOpenFault c x → e ≡ x)
-    → Stops c (UsesUp c ⊥ stopped.meter.nodes) (λ b. SpellsMagic c b × (length c ≤ 268435456) × Packed c b) (λ _. ⊥) (cause_of e)
+    → Stops c (UsesUp c ⊥ stopped.meter.nodes) (λ b. SpellsMagic c b × IsPacked c b) (λ _. ⊥) (cause_of e)
     → LooksWithin c content stopped.read stopped.meter → IsSniffing c content host (Err stopped)
 stops_sniffing c content host e stopped same refused stops within = record {
   answer = λ b magic. tt;
@@ -24,7 +23,7 @@ stops_sniffing c content host e stopped same refused stops within = record {
   stops = record {
     opened = tt;
     refused = λ x opens. same ∙ ap cause_of (refused x opens) ∙ cause_of-open_fault c x opens;
-    need = λ b enough small. same ∙ memory (stops.need b (enough.0, small, enough.1));
+    need = λ b enough small. same ∙ memory (stops.need b (enough.0, record { small = small; packed = enough.1 }));
     fault = rw same (unread (no_read_fault e) stops.fault);
   };
   spent = λ spent. stops.spent (sym same ∙ spent);

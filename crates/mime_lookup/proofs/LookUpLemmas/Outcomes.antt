@@ -1,7 +1,6 @@
 -- What a lookup promises of its outcome, from what it promises of the type or the cause alone.
 use Rattle.std.proofs.Common.{◌≡◌, ◌⊎◌, ℕ, ◌≤◌, List, length, Option, None, Result, Ok, Err, inl, inr, arith}
 use Rattle.std.specs.Prelude.{IfOk}
-use Rattle.mime_base.specs.Format.Packed.{Packed}
 use Rattle.mime_base.specs.declared.magic.host.Host.{Host}
 use Rattle.mime_base.specs.declared.meter.Meter.{Meter}
 use Rattle.mime_lookup.specs.CheckingOrder.{GlobsDecide}
@@ -9,7 +8,7 @@ use Rattle.mime_lookup.specs.Content.{GivesUp, Health, OfReader, Tally}
 use Rattle.mime_lookup.specs.Headline.{IsHeadline, IsRefused}
 use Rattle.mime_lookup.specs.LookUps.{AnswersLookUp, CostsLookUp, ReadsLookUp, StopsLookUp, cause_in, meter_in, read_in}
 use Rattle.mime_lookup.specs.Spent.{UsesUp}
-use Rattle.mime_lookup.specs.Steps.{Stops, Suffices}
+use Rattle.mime_lookup.specs.Steps.{IsPacked, Stops, Suffices}
 use Rattle.mime_lookup.specs.declared.answer.Answer.{Answer}
 use Rattle.mime_lookup.specs.declared.order.Order.{Order}
 use Rattle.mime_lookup.specs.declared.stopped.Cause.{Cause}
@@ -49,7 +48,7 @@ module _ {R : Type 0} {remaining : R → Option (List ℕ)} {tally : R → Optio
 pub stops_cause : {R : Type 0} {c name : List ℕ} {order : Order} {before after : Option R} (read : ℕ) (meter : Meter) (stop : Cause)
     → length name ≤ 4096 → ((e : CacheFault) → IsOpenFault c e → stop ≡ cause.Cache e)
     → Stops c (UsesUp c (before ≡ None) meter.nodes)
-    (λ b. Suffices c name order (before ≡ None) b × (length c ≤ 268435456) × Packed c b)
+    (λ b. Suffices c name order (before ≡ None) b × IsPacked c b)
     (λ b. GlobsDecide b name order (before ≡ None) → ⊥) stop
     → StopsLookUp c name order before after (Err (record { cause = stop; read = read; meter = meter }))
 stops_cause read meter stop short refused is = record {
@@ -58,7 +57,7 @@ stops_cause read meter stop short refused is = record {
   opened = tt;
   fault = λ _. is.fault;
   spent = is.spent;
-  need = λ b enough limit packed _. is.need b (enough, limit, packed);
+  need = λ b enough limit packed _. is.need b (enough, record { small = limit; packed = packed });
 }
 
 -- all of it in one

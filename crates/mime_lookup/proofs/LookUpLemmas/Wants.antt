@@ -1,17 +1,16 @@
 -- How much of a content is wanted, by what the name gave, and why a lookup of a name alone stops.
-use Rattle.std.proofs.Common.{◌≡◌, ◌∙◌, ◌⊎◌, ℕ, ◌+◌, ◌<◌, ◌≤◌, true, false, max, List, length, Err, refl, sym, ap, inl, inr, arith}
+use Rattle.std.proofs.Common.{◌≡◌, ◌∙◌, ◌⊎◌, ℕ, ◌≤◌, true, false, max, List, length, Err, refl, sym, ap, inl, inr, arith}
 use Rattle.std.specs.Prelude.{⊤}
 use Rattle.mime_base.specs.Cache.Bytes.{field}
 use Rattle.mime_base.specs.Database.{PlainDatabase}
-use Rattle.mime_base.specs.Format.Packed.{Packed}
 use Rattle.mime_lookup.specs.Bounds.{KeepsBounds, stated_extent}
 use Rattle.mime_lookup.specs.Cached.{cause_of}
 use Rattle.mime_lookup.specs.CheckingOrder.{globs_suffice, read_limit}
 use Rattle.mime_lookup.specs.NameAlone.{IsNameLookUp, SufficesForName}
 use Rattle.mime_lookup.specs.Spelling.{SpellsGlobs, SpellsMagic}
 use Rattle.mime_lookup.specs.Spent.{UsesUp}
-use Rattle.mime_lookup.specs.StepFaults.{of_magic}
-use Rattle.mime_lookup.specs.Steps.{Stops}
+use Rattle.mime_lookup.specs.StepFaults.{IsMagicHeadFault, of_magic}
+use Rattle.mime_lookup.specs.Steps.{IsPacked, Stops}
 use Rattle.mime_lookup.specs.Wanted.{IsWanted, wanted_of}
 use Rattle.mime_lookup.specs.declared.order.Order.{Order}
 use Rattle.mime_lookup.specs.declared.stopped.Stopped.{Stopped}
@@ -22,7 +21,6 @@ use Rattle.mime_lookup.proofs.StopLemmas.StepStops.{no_read_fault, stops_for}
 use Rattle.mime_view.specs.Opening.{IsOpenFault}
 use Rattle.mime_view.specs.declared.budget.Budget.{Budget}
 use Rattle.mime_view.specs.declared.fault.CacheFault.{CacheFault}
-use Rattle.mime_view.specs.declared.fault.CacheFault.TheVariants.{OutOfRange}
 
 module _ (c name : List ℕ) (order : Order) where
   -- nothing, where the globs suffice
@@ -52,7 +50,7 @@ module _ (c name : List ℕ) (order : Order) where
 
   -- the head of magic does not lie in the cache
   pub stops_limit : (e : CacheFault) (IsUsed : Type 0) (IsEnough : PlainDatabase → Type 0) (after : Budget)
-      → (length c < field c 0 6 + 12) × (e ≡ OutOfRange (field c 0 6)) → ((b : PlainDatabase) → IsEnough b → ⊥)
+      → IsMagicHeadFault c e → ((b : PlainDatabase) → IsEnough b → ⊥)
       → Stops c IsUsed IsEnough (λ _. ⊥) (cause_of e)
   stops_limit e IsUsed IsEnough after head need =
       stops_for c IsUsed IsEnough (λ _. ⊥) e (of_magic after (inl head))
@@ -68,7 +66,7 @@ module _ (c name : List ℕ) (order : Order) where
   pub stops_name : (e : CacheFault) (stopped : Stopped) → stopped.cause ≡ cause_of e → stopped.read ≡ 0 → length name ≤ 4096
       → ((x : CacheFault) → IsOpenFault c x → e ≡ x)
       → Stops c (UsesUp c ⊤ stopped.meter.nodes)
-      (λ b. SufficesForName c name order b × (length c ≤ 268435456) × Packed c b) (λ _. ⊥) (cause_of e)
+      (λ b. SufficesForName c name order b × IsPacked c b) (λ _. ⊥) (cause_of e)
       → KeepsBounds (length name) c 0 stopped.meter → IsNameLookUp c name order (Err stopped)
   stops_name e stopped same none short refused stops bounds = record {
     answers = tt;
@@ -77,7 +75,7 @@ module _ (c name : List ℕ) (order : Order) where
     opened = tt;
     fault = λ _. rw same (unread (no_read_fault e) stops.fault);
     spent = λ spent. stops.spent (sym same ∙ spent);
-    need = λ b enough small packed _. same ∙ memory (stops.need b (enough, small, packed));
+    need = λ b enough small packed _. same ∙ memory (stops.need b (enough, record { small = small; packed = packed }));
     read = none;
     readable = λ failed. no_read_fault e (sym same ∙ failed);
     bounds = bounds;

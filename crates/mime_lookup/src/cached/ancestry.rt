@@ -5,7 +5,7 @@
 //! marked type leads to the base, so no entry is expanded twice. Over damaged bytes it ends since each type
 //! that enters the queue takes a record of the budget.
 
-ghost use Rattle.std.specs.Prelude.{◌≡◌, ◌⊎◌, ℕ, ◌+◌, ◌*◌, ◌≤◌, ◌∷◌, ◌++◌};
+ghost use Rattle.std.specs.Prelude.{◌≡◌, ◌⊎◌, ◌+◌, ◌*◌, ◌≤◌, ◌∷◌, ◌++◌};
 ghost use Rattle.std.specs.Prelude.{Contains, length, map, IfErr, IfOk, MatchResult, OnOk};
 ghost use Rattle.std.specs.VecDeque.{deque_len};
 ghost use Rattle.mime_base.specs.Database.{PlainDatabase, pairs_of};
@@ -13,7 +13,7 @@ ghost use Rattle.mime_base.specs.Database.Subclass.{resolved};
 ghost use Rattle.mime_lookup.specs.Ancestry.{Expanded, kinds_of};
 ghost use Rattle.mime_lookup.specs.Choice.{IsFirst};
 ghost use Rattle.mime_lookup.specs.Costs.{Costs};
-ghost use Rattle.mime_lookup.specs.Searching.{AnswersSearch, TakesPairs, expansion_price, marked_by, search_cost};
+ghost use Rattle.mime_lookup.specs.Searching.{AnswersMarked, NeedsParents, TakesMarked, expansion_price, marked_by, search_cost};
 ghost use Rattle.mime_lookup.specs.Spelling.{SpellsPairs};
 ghost use Rattle.mime_lookup.specs.StepFaults.{IsAliasFault, IsSearchFault};
 ghost use Rattle.mime_view.specs.Spending.{Looks, Spends};
@@ -40,8 +40,7 @@ pub fn first_of<'a>(
     // It is the default, or one of the types.
     ensures one { IfOk result (λ kind. Contains (default.entry.now ∷ kinds_of kinds.now) kind.now) }
     // Where the pairs stand and a record is left for each parent, only memory is refused.
-    ensures need { (b : PlainDatabase) → SpellsPairs cache.now b → length b.parents ≤ spending.old.budget.records →
-        IfErr result (λ e. e ≡ CacheFault.OutOfMemory) }
+    ensures need { NeedsParents cache.now spending.old.budget result }
     // The parents of a type, an alias step or memory shows the fault.
     ensures fault { IfErr result (IsSearchFault cache.now spending.new.budget) }
     // It costs 29 nodes for each type, and 59 for each record that it takes.
@@ -68,11 +67,9 @@ pub fn leads_to<'a>(
     // Any text of the cache and any type name is this short.
     requires base { length base.now ≤ 255 }
     // Where the pairs stand, it says whether the type leads to the base, unless a marked type does.
-    ensures answer { (b : PlainDatabase) → SpellsPairs cache.now b → AnswersSearch (pairs_of b) kind.entry.now base.now
-        (marked_by cache.now marks.old) (marked_by cache.now marks.new) result }
+    ensures answer { AnswersMarked cache.now kind.entry.now base.now marks.old marks.new result }
     // There no more records are taken than there are pairs of the types that it marks.
-    ensures takes { (b : PlainDatabase) → SpellsPairs cache.now b → TakesPairs (pairs_of b)
-        (marked_by cache.now marks.old) (marked_by cache.now marks.new) spending.old spending.new result }
+    ensures takes { TakesMarked cache.now marks.old marks.new spending.old spending.new result }
     // The parents of a type, an alias step or memory shows the fault.
     ensures fault { IfErr result (IsSearchFault cache.now spending.new.budget) }
     // It costs 29 nodes, and 59 for each record that it takes.
@@ -103,8 +100,7 @@ fn expand<'a>(
     ensures expanded { (b : PlainDatabase) → SpellsPairs cache.now b → OnOk result (Expanded (pairs_of b) kind.now
         (marked_by cache.now marks.old) (marked_by cache.now marks.new) (kinds_of queue.old.items) (kinds_of queue.new.items)) }
     // There no more records are taken than there are pairs of the type, once it is marked.
-    ensures takes { (b : PlainDatabase) → SpellsPairs cache.now b → TakesPairs (pairs_of b)
-        (marked_by cache.now marks.old) (marked_by cache.now marks.new) spending.old spending.new result }
+    ensures takes { TakesMarked cache.now marks.old marks.new spending.old spending.new result }
     // The parents of a type, an alias step or memory shows the fault.
     ensures fault { IfErr result (IsSearchFault cache.now spending.new.budget) }
     // Each type that comes to the queue took a record.

@@ -1,20 +1,19 @@
 //! The second half of a lookup: what a front of the content gives, after the name ("Recommended checking order").
 
-ghost use Rattle.std.specs.Prelude.{◌≡◌, ◌+◌, ◌*◌, ◌<◌, ◌≤◌, if◌then◌else◌, All, IfErr, IfOk, None, OnOk, length, take, ⊤};
+ghost use Rattle.std.specs.Prelude.{◌≡◌, ◌+◌, ◌*◌, ◌<◌, ◌≤◌, if◌then◌else◌, All, IfOk, None, OnOk, length, take, ⊤};
 ghost use Rattle.mime_base.specs.Database.{PlainDatabase, pairs_of};
 ghost use Rattle.mime_lookup.specs.Affords.{rule_records};
 ghost use Rattle.mime_lookup.specs.Ancestry.{kinds_of};
 ghost use Rattle.mime_lookup.specs.Bounds.{near_max};
-ghost use Rattle.mime_lookup.specs.Cached.{IsCacheText, IsFinding, IsKind, cause_of, plain_finding};
+ghost use Rattle.mime_lookup.specs.Cached.{ChoosesFound, IsCacheText, IsFinding, IsKind, plain_finding};
 ghost use Rattle.mime_lookup.specs.CheckingOrder.{Chooses, GlobsDecide};
-ghost use Rattle.mime_lookup.specs.Choice.{ChoosesAmong, kept};
-ghost use Rattle.mime_lookup.specs.Costs.{Costs, LooksAt, glob_cost, record_cost};
+ghost use Rattle.mime_lookup.specs.Choice.{kept};
+ghost use Rattle.mime_lookup.specs.Costs.{Costs, CostsSearch, LooksAt, record_cost};
 ghost use Rattle.mime_lookup.specs.Searching.{search_cost};
-ghost use Rattle.mime_lookup.specs.Finding.{is_by_magic, resolved_finding};
+ghost use Rattle.mime_lookup.specs.Finding.{is_by_magic};
 ghost use Rattle.mime_lookup.specs.Halves.{AffordsRest, AreTexts, Leaves, bytes_of, front_length, order_of, owed_near, owed_nodes};
 ghost use Rattle.mime_lookup.specs.Spelling.{SpellsGlobs};
-ghost use Rattle.mime_lookup.specs.Spent.{IsUsedUp};
-ghost use Rattle.mime_lookup.specs.Steps.{Stops, Suffices, SufficesForChoice};
+ghost use Rattle.mime_lookup.specs.Steps.{StopsUnread, Suffices, SufficesForChoice};
 ghost use Rattle.mime_lookup.specs.declared.order.Order.TheVariants.{GlobsFirst};
 ghost use Rattle.mime_view.specs.Hits.{near};
 
@@ -44,9 +43,9 @@ pub fn by_content<'a>(
     // It is a text of the cache, or fixed.
     ensures kind { IfOk result (λ kind. IsKind cache.now kind.now) }
     // Where enough stands and what is left to be taken is there, only memory is refused.
-    ensures stops { IfErr result (λ e. Stops cache.now (IsUsedUp cache.now (bytes_of front.entry ≡ None) spending.new.budget)
+    ensures stops { StopsUnread cache.now (bytes_of front.entry ≡ None) spending.new.budget
         (λ b. Suffices cache.now question.now.name.now (order_of candidates.entry) (bytes_of front.entry ≡ None) b
-        × Leaves b question.now.name.now candidates.entry × AffordsRest b candidates.entry spending.old.budget) (λ _. ⊥) (cause_of e)) }
+        × Leaves b question.now.name.now candidates.entry × AffordsRest b candidates.entry spending.old.budget) result }
     // Where the glob rules stand and decide, the nodes are fewer than the name left.
     ensures near { (b : PlainDatabase) → SpellsGlobs cache.now b → Leaves b question.now.name.now candidates.entry
         → GlobsDecide b question.now.name.now (order_of candidates.entry) (bytes_of front.entry ≡ None) → OnOk result
@@ -103,16 +102,14 @@ fn by_globs<'a>(
 ) -> Result<&'a [u8], CacheFault>
     requires finding { IsFinding cache.now finding }
     requires short { length name.now ≤ 4096 }
-    ensures chosen { (b : PlainDatabase) → Suffices cache.now name.now GlobsFirst ⊤ b → IfOk result
-        (λ kind. ChoosesAmong (pairs_of b) (kept (pairs_of b) b.rules name.now)
-        (resolved_finding b.aliases (plain_finding finding.entry)) kind.now) }
+    ensures chosen { (b : PlainDatabase) → Suffices cache.now name.now GlobsFirst ⊤ b
+        → ChoosesFound b (kept (pairs_of b) b.rules name.now) finding.entry result }
     ensures kind { IfOk result (λ kind. IsKind cache.now kind.now) }
-    ensures stops { IfErr result (λ e. Stops cache.now (IsUsedUp cache.now ⊤ spending.new.budget)
-        (λ b. Suffices cache.now name.now GlobsFirst ⊤ b × (rule_records b + length b.parents ≤ spending.old.budget.records))
-        (λ _. ⊥) (cause_of e)) }
+    ensures stops { StopsUnread cache.now ⊤ spending.new.budget (λ b. Suffices cache.now name.now GlobsFirst ⊤ b
+        × (rule_records b + length b.parents ≤ spending.old.budget.records)) result }
     ensures near { (b : PlainDatabase) → SpellsGlobs cache.now b → GlobsDecide b name.now GlobsFirst ⊤ → OnOk result
         (spending.new.meter.nodes < spending.old.meter.nodes + near_max (length name.now) (near name.now b.rules)) }
-    ensures cost { Costs (record_cost (length name.now)) 0 (glob_cost (length name.now) + 29) spending.old spending.new }
+    ensures cost { CostsSearch (length name.now) 0 29 spending.old spending.new }
 {
     let types = types_of(alloc, cache, name, Which::Kept, spending)?;
     match types {
@@ -134,13 +131,11 @@ fn choose<'a>(
 ) -> Result<&'a [u8], CacheFault>
     requires finding { IsFinding cache.now finding }
     requires texts { All (IsCacheText cache.now) (kinds_of kinds.now) }
-    ensures chosen { (b : PlainDatabase) → SufficesForChoice cache.now (kinds_of kinds.now) b → IfOk result
-        (λ kind. ChoosesAmong (pairs_of b) (kinds_of kinds.now)
-        (resolved_finding b.aliases (plain_finding finding.entry)) kind.now) }
+    ensures chosen { (b : PlainDatabase) → SufficesForChoice cache.now (kinds_of kinds.now) b
+        → ChoosesFound b (kinds_of kinds.now) finding.entry result }
     ensures kind { IfOk result (λ kind. IsKind cache.now kind.now) }
-    ensures stops { IfErr result (λ e. Stops cache.now (IsUsedUp cache.now ⊤ spending.new.budget)
-        (λ b. SufficesForChoice cache.now (kinds_of kinds.now) b × (length b.parents ≤ spending.old.budget.records))
-        (λ _. ⊥) (cause_of e)) }
+    ensures stops { StopsUnread cache.now ⊤ spending.new.budget (λ b. SufficesForChoice cache.now (kinds_of kinds.now) b
+        × (length b.parents ≤ spending.old.budget.records)) result }
     ensures alone { length (kinds_of kinds.now) ≤ 1 → LooksAt 29 spending.old spending.new }
     ensures cost { Costs search_cost 0 (29 + 29 * length (kinds_of kinds.now)) spending.old spending.new }
 {

@@ -1,13 +1,11 @@
 //! The first half of a lookup: what a name gives without its content ("Recommended checking order").
 
-ghost use Rattle.std.specs.Prelude.{◌≤◌, IfErr, IfOk, ⊤};
+ghost use Rattle.std.specs.Prelude.{◌≤◌, IfOk, ⊤};
 ghost use Rattle.mime_base.specs.Database.{PlainDatabase};
 ghost use Rattle.mime_lookup.specs.Affords.{rule_records};
-ghost use Rattle.mime_lookup.specs.Cached.{cause_of};
 ghost use Rattle.mime_lookup.specs.Halves.{AreTextsByName, CostsByName, Decides};
 ghost use Rattle.mime_lookup.specs.Spelling.{SpellsGlobs};
-ghost use Rattle.mime_lookup.specs.Spent.{IsUsedUp};
-ghost use Rattle.mime_lookup.specs.Steps.{Stops};
+ghost use Rattle.mime_lookup.specs.Steps.{StopsUnread};
 
 use crate::cached::name_types::{NameTypes, types_of};
 use crate::order::Order;
@@ -50,8 +48,8 @@ pub fn by_name<'a>(
     // Its types are texts of the cache.
     ensures texts { IfOk result (AreTextsByName cache.now) }
     // Where the glob rules stand and each record that they may take is left, only memory is refused.
-    ensures stops { IfErr result (λ e. Stops cache.now (IsUsedUp cache.now ⊤ spending.new.budget)
-        (λ b. SpellsGlobs cache.now b × (rule_records b ≤ spending.old.budget.records)) (λ _. ⊥) (cause_of e)) }
+    ensures stops { StopsUnread cache.now ⊤ spending.new.budget
+        (λ b. SpellsGlobs cache.now b × (rule_records b ≤ spending.old.budget.records)) result }
     // It costs a search for the types of the name, and what the candidates owe.
     ensures costs { CostsByName cache.now question.now.name.now spending.old spending.new result }
 {

@@ -1,18 +1,18 @@
 //! A lookup of a name alone, for those who read contents themselves ("Recommended checking order").
 
-ghost use Rattle.std.specs.Prelude.{◌≡◌, ◌+◌, ◌<◌, ◌≤◌, max, length, if◌then◌else◌, IfErr, IfOk, IsErrAnd, OnOk, ⊤};
-ghost use Rattle.mime_base.specs.Cache.Bytes.{field};
+ghost use Rattle.std.specs.Prelude.{◌≡◌, ◌+◌, ◌<◌, ◌≤◌, max, length, IfErr, IfOk, IsErrAnd, OnOk, ⊤};
 ghost use Rattle.mime_base.specs.Database.{PlainDatabase};
-ghost use Rattle.mime_base.specs.Format.Packed.{Packed};
 ghost use Rattle.mime_lookup.specs.Affords.{Affords};
-ghost use Rattle.mime_lookup.specs.Bounds.{KeepsBounds, near_max, stated_extent};
+ghost use Rattle.mime_lookup.specs.Bounds.{KeepsBounds, stated_extent};
 ghost use Rattle.mime_lookup.specs.Cached.{cause_of};
-ghost use Rattle.mime_lookup.specs.CheckingOrder.{GlobsDecide, globs_suffice, read_limit};
-ghost use Rattle.mime_lookup.specs.Costs.{Costs, LooksAt, glob_cost, record_cost};
-ghost use Rattle.mime_lookup.specs.NameAlone.{AnswersName, IsNameLookUp, SufficesForName};
+ghost use Rattle.mime_lookup.specs.CheckingOrder.{read_limit};
+ghost use Rattle.mime_lookup.specs.Costs.{CostsSearch, LooksAt};
+ghost use Rattle.mime_lookup.specs.NameAlone.{IsNameLookUp};
+ghost use Rattle.mime_lookup.specs.Question.{IsDecided, NamesQuestion, SufficesUnread, extent_asked, near_most};
 ghost use Rattle.mime_lookup.specs.Spelling.{SpellsGlobs, SpellsMagic};
-ghost use Rattle.mime_lookup.specs.Spent.{IsUsedUp, UsesUp};
-ghost use Rattle.mime_lookup.specs.Steps.{Stops};
+ghost use Rattle.mime_lookup.specs.Spent.{UsesUp};
+ghost use Rattle.mime_lookup.specs.StepFaults.{IsMagicHeadFault};
+ghost use Rattle.mime_lookup.specs.Steps.{IsPacked, Stops, StopsUnread};
 ghost use Rattle.mime_view.specs.Hits.{near};
 ghost use Rattle.mime_view.specs.Opening.{IsOpenFault, Opens};
 
@@ -80,19 +80,15 @@ fn open_and_ask<'a>(
     meter: &mut Meter,
 ) -> Result<(&'a [u8], u64), CacheFault>
     requires fresh { meter.old ≡ record { nodes = 0; bytes = 0 } }
-    ensures answers { IfOk result
-        (λ found. AnswersName cache.entry question.now.name.now question.now.order found.0.now found.1) }
+    ensures answers { IfOk result (λ found. NamesQuestion cache.entry question.now found.0.now found.1) }
     ensures refused { (e : CacheFault) → IsOpenFault cache.entry e → IsErrAnd result (λ fault. fault ≡ e) }
     ensures opened { OnOk result (Opens cache.entry) }
     ensures stops { IfErr result (λ e. Stops cache.entry (UsesUp cache.entry ⊤ meter.new.nodes)
-        (λ b. SufficesForName cache.entry question.now.name.now question.now.order b
-        × (length cache.entry ≤ 268435456) × Packed cache.entry b) (λ _. ⊥) (cause_of e)) }
+        (λ b. SufficesUnread cache.entry question.now b × IsPacked cache.entry b) (λ _. ⊥) (cause_of e)) }
     ensures bounds { KeepsBounds (length question.now.name.now) cache.entry 0 meter.new }
     ensures counted { OnOk result (1 ≤ meter.new.nodes) }
-    ensures near { (b : PlainDatabase) → SpellsGlobs cache.entry b
-        → GlobsDecide b question.now.name.now question.now.order ⊤ → OnOk result (meter.new.nodes
-        ≤ near_max (length question.now.name.now) (near question.now.name.now b.rules)
-        + (if globs_suffice b question.now.name.now question.now.order then 0 else 1)) }
+    ensures near { (b : PlainDatabase) → SpellsGlobs cache.entry b → IsDecided b question.now ⊤
+        → OnOk result (meter.new.nodes ≤ near_most b question.now + extent_asked b question.now) }
 {
     let cache = Cache::open(cache, meter)?;
     let mut spending = Spending {
@@ -111,17 +107,12 @@ fn ask<'a>(
     question: &Question<'_>,
     spending: &mut Spending,
 ) -> Result<(&'a [u8], u64), CacheFault>
-    ensures answers { IfOk result
-        (λ found. AnswersName cache.now question.now.name.now question.now.order found.0.now found.1) }
-    ensures stops { IfErr result (λ e. Stops cache.now (IsUsedUp cache.now ⊤ spending.new.budget)
-        (λ b. SufficesForName cache.now question.now.name.now question.now.order b × Affords b spending.old.budget)
-        (λ _. ⊥) (cause_of e)) }
-    ensures near { (b : PlainDatabase) → SpellsGlobs cache.now b
-        → GlobsDecide b question.now.name.now question.now.order ⊤ → OnOk result (spending.new.meter.nodes
-        < spending.old.meter.nodes + near_max (length question.now.name.now) (near question.now.name.now b.rules)
-        + (if globs_suffice b question.now.name.now question.now.order then 0 else 1)) }
-    ensures cost { Costs (record_cost (length question.now.name.now)) 1
-        (glob_cost (length question.now.name.now) + 31) spending.old spending.new }
+    ensures answers { IfOk result (λ found. NamesQuestion cache.now question.now found.0.now found.1) }
+    ensures stops { StopsUnread cache.now ⊤ spending.new.budget
+        (λ b. SufficesUnread cache.now question.now b × Affords b spending.old.budget) result }
+    ensures near { (b : PlainDatabase) → SpellsGlobs cache.now b → IsDecided b question.now ⊤ → OnOk result
+        (spending.new.meter.nodes < spending.old.meter.nodes + near_most b question.now + extent_asked b question.now) }
+    ensures cost { CostsSearch (length question.now.name.now) 1 31 spending.old spending.new }
 {
     let given = by_name(alloc, cache, question, spending)?;
     match given {
@@ -139,8 +130,7 @@ pub(super) fn front_limit(cache: &Cache<'_>, spending: &mut Spending) -> Result<
     ensures stated { IfOk result (λ size. size ≡ max 128 (stated_extent cache.now)) }
     ensures spelled { (b : PlainDatabase) → SpellsMagic cache.now b → IfOk result (λ size. size ≡ read_limit b) }
     ensures need { (b : PlainDatabase) → SpellsMagic cache.now b → IfErr result (λ _. ⊥) }
-    ensures fault { IfErr result (λ e. (length cache.now < field cache.now 0 6 + 12)
-        × (e ≡ CacheFault.OutOfRange (field cache.now 0 6))) }
+    ensures fault { IfErr result (IsMagicHeadFault cache.now) }
     ensures cost { LooksAt 1 spending.old spending.new }
 {
     let extent = cache.extent(&mut spending.meter, &mut spending.budget)?;

@@ -1,17 +1,14 @@
 //! What a content is sniffed as by itself ("Recommended checking order").
 
 ghost use Rattle.std.specs.Prelude.{◌≡◌, ◌+◌, ◌≤◌, IfErr, IfOk, IsErrAnd, OnOk, length, max, take};
-ghost use Rattle.mime_base.specs.Database.{PlainDatabase};
-ghost use Rattle.mime_base.specs.Format.Packed.{Packed, value_length};
-ghost use Rattle.mime_lookup.specs.Affords.{magic_records};
 ghost use Rattle.mime_lookup.specs.Bounds.{stated_extent};
 ghost use Rattle.mime_lookup.specs.Cached.{IsKind, cause_of, plain_finding};
-ghost use Rattle.mime_lookup.specs.ContentAlone.{IsSniffedAs, IsSniffing, LooksWithin};
+ghost use Rattle.mime_lookup.specs.ContentAlone.{IsSniffing, LooksWithin, SniffsAs};
 ghost use Rattle.mime_lookup.specs.Costs.{Costs};
 ghost use Rattle.mime_lookup.specs.Finding.{priority_of};
 ghost use Rattle.mime_lookup.specs.Spelling.{SpellsMagic};
-ghost use Rattle.mime_lookup.specs.Spent.{IsUsedUp, UsesUp};
-ghost use Rattle.mime_lookup.specs.Steps.{Stops};
+ghost use Rattle.mime_lookup.specs.Spent.{UsesUp};
+ghost use Rattle.mime_lookup.specs.Steps.{IsPacked, Stops, StopsSniffing};
 ghost use Rattle.mime_view.specs.Opening.{IsOpenFault, Opens};
 
 use crate::cached::by_name_alone::front_limit;
@@ -78,13 +75,12 @@ fn open_and_sniff<'a>(
 ) -> Result<(&'a [u8], Option<u32>), CacheFault>
     requires none { read.old ≡ 0 }
     requires fresh { meter.old ≡ record { nodes = 0; bytes = 0 } }
-    ensures answer { (b : PlainDatabase) → SpellsMagic cache.entry b →
-        IfOk result (λ found. IsSniffedAs b content.now host found.0.now found.1) }
+    ensures answer { SniffsAs cache.entry content.now host result }
     ensures kind { IfOk result (λ found. IsKind cache.entry found.0.now) }
     ensures refused { (e : CacheFault) → IsOpenFault cache.entry e → IsErrAnd result (λ fault. fault ≡ e) }
     ensures opened { OnOk result (Opens cache.entry) }
     ensures stops { IfErr result (λ e. Stops cache.entry (UsesUp cache.entry ⊥ meter.new.nodes)
-        (λ b. SpellsMagic cache.entry b × (length cache.entry ≤ 268435456) × Packed cache.entry b) (λ _. ⊥) (cause_of e)) }
+        (λ b. SpellsMagic cache.entry b × IsPacked cache.entry b) (λ _. ⊥) (cause_of e)) }
     ensures within { LooksWithin cache.entry content.now read.new meter.new }
 {
     let cache = Cache::open(cache, meter)?;
@@ -106,12 +102,9 @@ fn sniff_opened<'a>(
     spending: &mut Spending,
 ) -> Result<(&'a [u8], Option<u32>), CacheFault>
     requires none { read.old ≡ 0 }
-    ensures answer { (b : PlainDatabase) → SpellsMagic cache.now b →
-        IfOk result (λ found. IsSniffedAs b content.now host found.0.now found.1) }
+    ensures answer { SniffsAs cache.now content.now host result }
     ensures kind { IfOk result (λ found. IsKind cache.now found.0.now) }
-    ensures stops { IfErr result (λ e. Stops cache.now (IsUsedUp cache.now ⊥ spending.new.budget)
-        (λ b. SpellsMagic cache.now b × (magic_records b ≤ spending.old.budget.records)
-        × (value_length b.sections ≤ spending.old.budget.value_bytes)) (λ _. ⊥) (cause_of e)) }
+    ensures stops { StopsSniffing cache.now ⊥ (SpellsMagic cache.now) spending.old spending.new result }
     ensures there { read.new ≤ length content.now }
     ensures limit { read.new ≤ max 128 (stated_extent cache.now) }
     ensures cost { Costs 256 (read.new + 1) 31 spending.old spending.new }
@@ -140,12 +133,9 @@ fn sniff_whole<'a>(
     host: Host,
     spending: &mut Spending,
 ) -> Result<(&'a [u8], Option<u32>), CacheFault>
-    ensures answer { (b : PlainDatabase) → SpellsMagic cache.now b →
-        IfOk result (λ found. IsSniffedAs b front.now host found.0.now found.1) }
+    ensures answer { SniffsAs cache.now front.now host result }
     ensures kind { IfOk result (λ found. IsKind cache.now found.0.now) }
-    ensures stops { IfErr result (λ e. Stops cache.now (IsUsedUp cache.now ⊥ spending.new.budget)
-        (λ b. SpellsMagic cache.now b × (magic_records b ≤ spending.old.budget.records)
-        × (value_length b.sections ≤ spending.old.budget.value_bytes)) (λ _. ⊥) (cause_of e)) }
+    ensures stops { StopsSniffing cache.now ⊥ (SpellsMagic cache.now) spending.old spending.new result }
     ensures cost { Costs 256 (length front.now + 1) 30 spending.old spending.new }
 {
     let finding = sniff_front(cache, Some(front), host, spending)?;

@@ -1,12 +1,10 @@
 //! The icons of a type, by a cache ("The mime.cache files").
 
 ghost use Rattle.std.specs.Prelude.{◌≡◌, ◌*◌, ◌<◌, ◌==◌, length, option_map, position};
-ghost use Rattle.std.specs.Prelude.{IfErr, IfOk, IfSome, MatchResult, OnOk};
-ghost use Rattle.mime_base.specs.Database.{PlainDatabase};
-ghost use Rattle.mime_lookup.specs.Asking.{StopsAsking};
-ghost use Rattle.mime_lookup.specs.Bounds.{KeepsBounds};
+ghost use Rattle.std.specs.Prelude.{IfErr, IfOk, IfSome, OnOk};
+ghost use Rattle.mime_lookup.specs.Asking.{KeepsAsking, StopsAsking};
 ghost use Rattle.mime_lookup.specs.Cached.{cause_of};
-ghost use Rattle.mime_lookup.specs.Icons.{HasIconLists, icons_of, plain_icons_of};
+ghost use Rattle.mime_lookup.specs.Icons.{AnswersIcons, HasIconLists, plain_icons_of};
 ghost use Rattle.mime_lookup.specs.Icons.{before_slash, generic_of_media, hyphen_for_slash, name_or, with_hyphens};
 ghost use Rattle.mime_lookup.specs.Spelling.{SpellsIcons};
 ghost use Rattle.mime_lookup.specs.StepFaults.{IsIconFault};
@@ -36,8 +34,7 @@ pub struct Icons {
 /// does not lie in it or a text does not stand; no content is read.
 pub fn icon_of<'a>(alloc: Global, cache: Counted<'a>, kind: &'a TypeName) -> Result<Icons, Stopped>
     // Where the aliases and both lists of icons stand, these are the icons of the type.
-    ensures answer { (b : PlainDatabase) → SpellsIcons cache.entry b → IfOk result
-        (λ icons. plain_icons_of icons ≡ icons_of b kind.entry.now) }
+    ensures answer { AnswersIcons plain_icons_of cache.entry kind.entry.now result }
     // For an answer all three lists lie in the cache.
     ensures lists { OnOk result (HasIconLists cache.entry) }
     // Why it stops: where the aliases and both lists of icons of a database stand, only for memory.
@@ -45,8 +42,7 @@ pub fn icon_of<'a>(alloc: Global, cache: Counted<'a>, kind: &'a TypeName) -> Res
     // No content is read.
     ensures read { IfErr result (λ stopped. stopped.read ≡ 0) }
     // Whatever the bytes are, the nodes and the bytes keep to the bounds of an empty name without content.
-    ensures bounds { MatchResult result
-        (λ icons. KeepsBounds 0 cache.entry 0 icons.meter) (λ stopped. KeepsBounds 0 cache.entry 0 stopped.meter) }
+    ensures bounds { KeepsAsking (λ icons. icons.meter) cache.entry result }
 {
     let mut meter = Meter::new();
     match find_icons(alloc, cache, kind.bytes(), &mut meter) {
@@ -72,8 +68,8 @@ fn find_icons<'a>(
     meter: &mut Meter,
 ) -> Result<(Vec<u8>, Vec<u8>), CacheFault>
     // Where the aliases and both lists of icons stand, these are the icons of the type.
-    ensures answer { (b : PlainDatabase) → SpellsIcons cache.entry b → IfOk result
-        (λ icons. record { icon = icons.0.items; generic = icons.1.items } ≡ icons_of b kind.entry.now) }
+    ensures answer { AnswersIcons (λ icons. record { icon = icons.0.items; generic = icons.1.items })
+        cache.entry kind.entry.now result }
     // For an answer all three lists lie in the cache.
     ensures lists { OnOk result (HasIconLists cache.entry) }
     // Why it stops: where the aliases and both lists of icons of a database stand, only for memory.

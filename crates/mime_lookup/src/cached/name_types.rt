@@ -1,11 +1,11 @@
 //! The types of a name over a cache ("Recommended checking order").
 
-ghost use Rattle.std.specs.Prelude.{◌≡◌, ◌+◌, ◌*◌, ◌<◌, ◌≤◌, false, All, length, take, IfErr, IfOk};
-ghost use Rattle.mime_base.specs.Database.{PlainDatabase, pairs_of};
+ghost use Rattle.std.specs.Prelude.{◌≡◌, ◌*◌, ◌<◌, ◌≤◌, false, All, length, take, IfErr, IfOk};
+ghost use Rattle.mime_base.specs.Database.{PlainDatabase};
 ghost use Rattle.mime_lookup.specs.Ancestry.{kinds_of};
 ghost use Rattle.mime_lookup.specs.Cached.{AreCacheTexts, IsCacheText, asked_count};
 ghost use Rattle.mime_lookup.specs.CheckingOrder.{are_one_type};
-ghost use Rattle.mime_lookup.specs.Costs.{CostsOwing, glob_cost, record_cost};
+ghost use Rattle.mime_lookup.specs.Costs.{ComparesTypes, CostsOwing, glob_cost, record_cost};
 ghost use Rattle.mime_lookup.specs.NameTypes.{CostsKinds, GivesKinds, GivesTypes, owed_types};
 ghost use Rattle.mime_lookup.specs.Spelling.{SpellsGlobs};
 ghost use Rattle.mime_lookup.specs.StepFaults.{IsGlobsFault};
@@ -97,10 +97,7 @@ fn count_asked(types: &[&[u8]], kept: usize, meter: &mut Meter) -> usize
     requires conflict { are_one_type (kinds_of types.now) ≡ false }
     ensures count { result ≡ asked_count (take kept (kinds_of types.now)) }
     ensures within { result ≤ length types.now }
-    ensures nodes { meter.new.nodes ≡ meter.old.nodes }
-    ensures rises { meter.old.bytes ≤ meter.new.bytes }
-    ensures bytes { All (λ kind. length kind < 256) (kinds_of types.now) →
-        meter.new.bytes ≤ meter.old.bytes + 256 * length types.now }
+    ensures compares { ComparesTypes types.now meter.old meter.new }
 {
     if kept == types.len() {
         return kept;
@@ -114,10 +111,7 @@ fn count_asked(types: &[&[u8]], kept: usize, meter: &mut Meter) -> usize
 /// Whether there are types, and all are one type.
 fn are_one_type(kinds: &[&[u8]], meter: &mut Meter) -> bool
     ensures answer { result ≡ are_one_type (kinds_of kinds.now) }
-    ensures nodes { meter.new.nodes ≡ meter.old.nodes }
-    ensures rises { meter.old.bytes ≤ meter.new.bytes }
-    ensures bytes { All (λ kind. length kind < 256) (kinds_of kinds.now) →
-        meter.new.bytes ≤ meter.old.bytes + 256 * length kinds.now }
+    ensures compares { ComparesTypes kinds.now meter.old meter.new }
 {
     let Some((first, more)) = kinds.split_first() else {
         return false;

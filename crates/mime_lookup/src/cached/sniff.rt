@@ -4,16 +4,14 @@ ghost use Rattle.std.specs.Prelude.{◌≡◌, ℕ, ◌+◌, ◌≤◌, List, If
 ghost use Rattle.mime_base.specs.Cache.Bytes.{Stands};
 ghost use Rattle.mime_base.specs.Database.{PlainDatabase};
 ghost use Rattle.mime_base.specs.Format.Header.{HeaderAt, Offsets};
-ghost use Rattle.mime_base.specs.Format.Packed.{value_length};
 ghost use Rattle.mime_base.specs.Format.Pairs.{PairsAt};
 ghost use Rattle.mime_lookup.specs.Affords.{magic_records};
-ghost use Rattle.mime_lookup.specs.Cached.{IsCacheText, IsFinding, IsKind, cause_of, plain_finding};
+ghost use Rattle.mime_lookup.specs.Cached.{IsCacheText, IsFinding, IsKind, plain_finding};
 ghost use Rattle.mime_lookup.specs.Costs.{Costs, LooksAt};
 ghost use Rattle.mime_lookup.specs.Finding.{found_by, found_in, is_high, resolved_finding};
 ghost use Rattle.mime_lookup.specs.Halves.{bytes_of, front_length};
-ghost use Rattle.mime_lookup.specs.Spent.{IsUsedUp};
 ghost use Rattle.mime_lookup.specs.StepFaults.{IsAliasFault};
-ghost use Rattle.mime_lookup.specs.Steps.{Stops, SufficesForContent};
+ghost use Rattle.mime_lookup.specs.Steps.{StopsSniffing, SufficesForContent};
 ghost use Rattle.mime_view.specs.Magic.{plain_found};
 
 use crate::fixed::OCTET_STREAM;
@@ -78,9 +76,8 @@ pub fn sniff_front<'a>(
     // Its type is a text of the cache, or fixed.
     ensures finding { IfOk result (IsFinding cache.now) }
     // Where enough stands and is afforded, it doesn't stop.
-    ensures stops { IfErr result (λ e. Stops cache.now (IsUsedUp cache.now (bytes_of front.entry ≡ None) spending.new.budget)
-        (λ b. SufficesForContent cache.now (bytes_of front.entry ≡ None) b × (magic_records b ≤ spending.old.budget.records)
-        × (value_length b.sections ≤ spending.old.budget.value_bytes)) (λ _. ⊥) (cause_of e)) }
+    ensures stops { StopsSniffing cache.now (bytes_of front.entry ≡ None)
+        (SufficesForContent cache.now (bytes_of front.entry ≡ None)) spending.old spending.new result }
     // Without a front nothing is looked at.
     ensures nothing { bytes_of front.entry ≡ None → spending.new ≡ spending.old }
     // Where the magic stands, no more records are taken than it has.

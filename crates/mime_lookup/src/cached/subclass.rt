@@ -1,16 +1,11 @@
 //! Whether a type is a subclass of another, by a cache ("Subclassing").
 
-ghost use Rattle.std.specs.Prelude.{◌≡◌, ◌↔◌, ◌+◌, ◌*◌, ◌/◌, ◌<◌, ◌≤◌, length, IfErr, IfOk, IsTrue, MatchResult};
-ghost use Rattle.mime_base.specs.Database.{PlainDatabase, pairs_of};
-ghost use Rattle.mime_base.specs.Database.Subclass.{IsA, resolved};
-ghost use Rattle.mime_base.specs.Format.Packed.{Packed};
-ghost use Rattle.mime_lookup.specs.Asking.{StopsAsking};
-ghost use Rattle.mime_lookup.specs.Bounds.{KeepsBounds};
+ghost use Rattle.std.specs.Prelude.{◌≡◌, ◌+◌, ◌*◌, ◌/◌, ◌<◌, ◌≤◌, length, IfErr};
+ghost use Rattle.mime_lookup.specs.Asking.{KeepsAsking, SaysIsA, StopsIsA};
 ghost use Rattle.mime_lookup.specs.Cached.{cause_of};
 ghost use Rattle.mime_lookup.specs.Costs.{Costs};
-ghost use Rattle.mime_lookup.specs.Searching.{search_cost};
-ghost use Rattle.mime_lookup.specs.Spelling.{SpellsPairs};
-ghost use Rattle.mime_lookup.specs.StepFaults.{IsLookUpFault, IsSearchFault};
+ghost use Rattle.mime_lookup.specs.Searching.{NeedsParents, search_cost};
+ghost use Rattle.mime_lookup.specs.StepFaults.{IsSearchFault};
 ghost use Rattle.mime_view.specs.Spending.{Looks};
 
 use crate::cached::ancestry::leads_to;
@@ -31,19 +26,16 @@ pub fn is_a<'a>(
     base: &'a TypeName,
 ) -> Result<(bool, Meter), Stopped>
     // Where the aliases and the parents stand, it says whether the one type is the other or a subclass of it, each resolved.
-    ensures answer { (b : PlainDatabase) → SpellsPairs cache.entry b → IfOk result
-        (λ found. IsTrue found.0 ↔ IsA (pairs_of b) (resolved b.aliases kind.entry.now) (resolved b.aliases base.entry.now)) }
+    ensures answer { SaysIsA (λ found. found.0) cache.entry kind.entry.now base.entry.now result }
     // Why it stops: where the aliases and the parents of a packed database stand, only for memory.
-    ensures stops { StopsAsking (λ stopped. stopped.cause) cache.entry (IsLookUpFault cache.entry)
-        (λ b. SpellsPairs cache.entry b × Packed cache.entry b) result }
+    ensures stops { StopsIsA (λ stopped. stopped.cause) cache.entry result }
     // It is spent only where more records were visited than a quarter of the cache's length.
     ensures spent { IfErr result (λ stopped. stopped.cause ≡ Cause.Cache CacheFault.Spent
         → length cache.entry / 4 < stopped.meter.nodes) }
     // No content is read.
     ensures read { IfErr result (λ stopped. stopped.read ≡ 0) }
     // Whatever the bytes are, the nodes and the bytes keep to the bounds of an empty name without content.
-    ensures bounds { MatchResult result
-        (λ found. KeepsBounds 0 cache.entry 0 found.1) (λ stopped. KeepsBounds 0 cache.entry 0 stopped.meter) }
+    ensures bounds { KeepsAsking (λ found. found.1) cache.entry result }
 {
     let mut meter = Meter::new();
     match open_and_search(alloc, cache, kind.bytes(), base.bytes(), &mut meter) {
@@ -67,11 +59,9 @@ fn open_and_search<'a>(
     // It is a type's name.
     requires base { length base.now ≤ 255 }
     // Where the aliases and the parents stand, it says whether the one type is the other or a subclass of it, each resolved.
-    ensures answer { (b : PlainDatabase) → SpellsPairs cache.entry b → IfOk result
-        (λ is. IsTrue is ↔ IsA (pairs_of b) (resolved b.aliases kind.entry.now) (resolved b.aliases base.entry.now)) }
+    ensures answer { SaysIsA (λ is. is) cache.entry kind.entry.now base.entry.now result }
     // Why it stops: where the aliases and the parents of a packed database stand, only for memory.
-    ensures stops { StopsAsking cause_of cache.entry (IsLookUpFault cache.entry)
-        (λ b. SpellsPairs cache.entry b × Packed cache.entry b) result }
+    ensures stops { StopsIsA cause_of cache.entry result }
     // It is spent only where more records were visited than a quarter of the cache's length.
     ensures spent { IfErr result (λ e. e ≡ CacheFault.Spent → length cache.entry / 4 < meter.new.nodes) }
     // It visits the header, and then 87 records and 59 for each that the budget has.
@@ -98,11 +88,9 @@ fn search<'a>(
     // It is a type's name.
     requires base { length base.now ≤ 255 }
     // Where the pairs stand, it says whether the one type is the other or a subclass of it, each resolved.
-    ensures answer { (b : PlainDatabase) → SpellsPairs cache.now b → IfOk result
-        (λ is. IsTrue is ↔ IsA (pairs_of b) (resolved b.aliases kind.entry.now) (resolved b.aliases base.entry.now)) }
+    ensures answer { SaysIsA (λ is. is) cache.now kind.entry.now base.entry.now result }
     // Where the pairs stand and a record is left for each parent, only memory is refused.
-    ensures need { (b : PlainDatabase) → SpellsPairs cache.now b → length b.parents ≤ spending.old.budget.records →
-        IfErr result (λ e. e ≡ CacheFault.OutOfMemory) }
+    ensures need { NeedsParents cache.now spending.old.budget result }
     // The parents of a type, an alias step or memory shows the fault.
     ensures fault { IfErr result (IsSearchFault cache.now spending.new.budget) }
     // It costs 87 nodes, and 59 for each record that it takes.

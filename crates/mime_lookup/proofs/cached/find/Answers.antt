@@ -100,9 +100,8 @@ returns-in_err-kind-in-Left-clause-reads g c =
 
 pub returns-in_err-kind-in-Left-clause-cost : goal.returns-in_err-kind-in-Left-clause-cost
 returns-in_err-kind-in-Left-clause-cost g c =
-    let reads = c.in_ok-front-in-Left.ensures in
-    costs_halves ((rw c.in-Left.is at c.in_ok-given.ensures.costs).cost) reads.cost
-    (rw (← reads.front.size) at (rw c.as_deref-front.ensures.value at c.in_err-kind-in-Left.ensures.cost))
+    costs_halves ((rw c.in-Left.is at c.in_ok-given.ensures.costs).cost) c.in_ok-front-in-Left.ensures.cost
+    (rw (← c.in_ok-front-in-Left.ensures.front.size) at (rw c.as_deref-front.ensures.value at c.in_err-kind-in-Left.ensures.cost))
 
 pub returns-in_ok-kind-in-Left-clause-answers : goal.returns-in_ok-kind-in-Left-clause-answers
 returns-in_ok-kind-in-Left-clause-answers g c =
@@ -147,6 +146,5 @@ returns-in_ok-kind-in-Left-clause-near g c b globs decide =
 
 pub returns-in_ok-kind-in-Left-clause-cost : goal.returns-in_ok-kind-in-Left-clause-cost
 returns-in_ok-kind-in-Left-clause-cost g c =
-    let reads = c.in_ok-front-in-Left.ensures in
-    costs_halves ((rw c.in-Left.is at c.in_ok-given.ensures.costs).cost) reads.cost
-    (rw (← reads.front.size) at (rw c.as_deref-front.ensures.value at c.in_ok-kind-in-Left.ensures.cost))
+    costs_halves ((rw c.in-Left.is at c.in_ok-given.ensures.costs).cost) c.in_ok-front-in-Left.ensures.cost
+    (rw (← c.in_ok-front-in-Left.ensures.front.size) at (rw c.as_deref-front.ensures.value at c.in_ok-kind-in-Left.ensures.cost))

@@ -29,7 +29,7 @@ returns-in_err-cache-clause-stops g c =
     (stops_for c.args.cache _ _ _ fault (of_header opened) (λ same. absurd (no_header c.args.cache fault opened same))
     (λ b enough.
     let globs = suffices_globs c.args.cache c.args.question.now.name.now (c.args.content.now ≡ None) b c.args.question.now.order enough.0 in
-    absurd (header_without_fault c.args.cache globs.offsets fault globs.header enough.1 opened)))
+    absurd (header_without_fault c.args.cache globs.offsets fault globs.header enough.1.small opened)))
 
 pub returns-in_err-cache-clause-reads : goal.returns-in_err-cache-clause-reads
 returns-in_err-cache-clause-reads g c =
@@ -70,8 +70,8 @@ returns-clause-stops g c =
     (λ b enough. (
       enough.0,
       record {
-        records = omega (arith, enough.2.records, records);
-        value_bytes = omega (arith, enough.2.values, value_bytes);
+        records = omega (arith, enough.1.packed.records, records);
+        value_bytes = omega (arith, enough.1.packed.values, value_bytes);
       },
     ))
     (λ b enough undecided. undecided)) (rw opened.0 at c.find-kind.ensures.stops)

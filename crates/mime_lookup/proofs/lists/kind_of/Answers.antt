@@ -1,16 +1,17 @@
-use Rattle.std.proofs.Common.{◌≡◌, ◌∙◌, ℕ, true, false, List, [], ap, sym}
+mod AllGlobs
+mod MagicFirst
+use Rattle.std.proofs.Common.{◌≡◌, ◌∙◌, ℕ, true, false, List, ap, sym}
 use Rattle.std.proofs.lemmas.Option.{IfSome_then}
 use denote.Bor.{Bor}
 use Rattle.mime_base.specs.Database.{pairs_of, plain_database}
 use Rattle.mime_lookup.specs.Ancestry.{kinds_of}
 use Rattle.mime_lookup.specs.CheckingOrder.{IsSniffed, are_one_type, read_limit}
 use Rattle.mime_lookup.specs.Choice.{ChoosesAmong}
-use Rattle.mime_lookup.proofs.OrderLemmas.Answering.{by_content, by_globs, by_globs_and_content, by_magic, by_magic_and_globs, first_text}
-use Rattle.mime_lookup.proofs.OrderLemmas.Answering.{read_content, read_first, read_front, read_none, suffice, suffice_never, suffice_not}
-use Rattle.mime_lookup.proofs.OrderLemmas.PlainCandidates.{by_asked, by_one_candidate, every_suffice}
-use Rattle.mime_lookup.proofs.LookUpLemmas.LookUps.{front_read, none_read}
-use Rattle.mime_lookup.proofs.LookUpLemmas.SpelledParts.{ranks-fit}
+use Rattle.mime_lookup.proofs.OrderLemmas.Answering.{by_globs, by_globs_and_content, first_text}
+use Rattle.mime_lookup.proofs.OrderLemmas.Answering.{read_front, read_none, suffice}
 use Rattle.mime_lookup.proofs.ContentLemmas.Reads.{asks_nothing, asks_stopped, reads_nothing, reads_stopped}
+use Rattle.mime_lookup.proofs.lists.kind_of.Answers.AllGlobs as all_globs
+use Rattle.mime_lookup.proofs.lists.kind_of.Answers.MagicFirst as magic_first
 use Rattle.mime_lookup.proofs.lists.kind_of.Goals as goal
 
 pub returns-then-are_one_type-clause-chosen : goal.returns-then-are_one_type-clause-chosen
@@ -60,34 +61,6 @@ returns-in_err-sniffed-in-GlobsFirst-clause-asks g c =
     c.in_ok-kept-in-GlobsFirst.ensures.kept false conflict)
     c.from_residual-in_err-sniffed-in-GlobsFirst.ensures.1 c.in_err-sniffed-in-GlobsFirst.ensures.asks
 
-pub returns-in_err-sniffed-in-MagicFirst-clause-reader :
-    goal.returns-in_err-sniffed-in-MagicFirst-clause-reader
-returns-in_err-sniffed-in-MagicFirst-clause-reader g c =
-    reads_stopped g.R.Read.remaining g.R.Content.tally g.R.Content.health (read_limit (plain_database c.args.database.now))
-    c.args.content.now c.sniff_content-in-MagicFirst.new.content c.sniff_content-in-MagicFirst.new.read
-    c.in_err-sniffed-in-MagicFirst.field-0.0 c.from_residual-in_err-sniffed-in-MagicFirst.result
-    c.from_residual-in_err-sniffed-in-MagicFirst.ensures.1 c.in_err-sniffed-in-MagicFirst.ensures.reader
-
-pub returns-in_err-sniffed-in-MagicFirst-clause-asks :
-    goal.returns-in_err-sniffed-in-MagicFirst-clause-asks
-returns-in_err-sniffed-in-MagicFirst-clause-asks g c =
-    asks_stopped g.R.Content.health _ c.args.content.now c.sniff_content-in-MagicFirst.new.content
-    c.in_err-sniffed-in-MagicFirst.field-0.0 c.from_residual-in_err-sniffed-in-MagicFirst.result
-    (suffice_not (plain_database c.args.database.now) c.args.question.now.name.now c.args.question.now.host c.args.question.now.order c.in-MagicFirst.is [] true)
-    c.from_residual-in_err-sniffed-in-MagicFirst.ensures.1 c.in_err-sniffed-in-MagicFirst.ensures.asks
-
-pub returns-then-sniffed-clause-chosen : goal.returns-then-sniffed-clause-chosen
-returns-then-sniffed-clause-chosen g c =
-    by_magic (plain_database c.args.database.now) c.args.question.now.name.now c.args.question.now.host c.args.question.now.order c.in-MagicFirst.is
-    c.in_ok-sniffed-in-MagicFirst.sniffed.kind.now c.in_ok-sniffed-in-MagicFirst.sniffed.is_high _ c.if-sniffed.true
-    (IfSome_then _ c.in_ok-sniffed-in-MagicFirst.ensures.sniffed
-    (λ known (is : IsSniffed (plain_database c.args.database.now) known c.args.question.now.host c.in_ok-sniffed-in-MagicFirst.sniffed). is.high))
-
-pub returns-then-sniffed-clause-read : goal.returns-then-sniffed-clause-read
-returns-then-sniffed-clause-read g c =
-    read_first (plain_database c.args.database.now) c.args.question.now.name.now c.args.question.now.host c.args.question.now.order c.in-MagicFirst.is [] true _ _
-    c.in_ok-sniffed-in-MagicFirst.ensures.read
-
 pub returns-in_ok-kind-in-GlobsFirst-clause-chosen :
     goal.returns-in_ok-kind-in-GlobsFirst-clause-chosen
 returns-in_ok-kind-in-GlobsFirst-clause-chosen g c =
@@ -110,127 +83,56 @@ returns-in_ok-kind-in-GlobsFirst-clause-read g c =
     read_front (plain_database c.args.database.now) c.args.question.now.name.now c.args.question.now.host c.args.question.now.order c.in-GlobsFirst.is kinds
     c.in_ok-kept-in-GlobsFirst.ensures.kept _ _ conflict c.in_ok-sniffed-in-GlobsFirst.ensures.read
 
-pub returns-in_ok-kind-in-MagicFirst-clause-chosen :
-    goal.returns-in_ok-kind-in-MagicFirst-clause-chosen
-returns-in_ok-kind-in-MagicFirst-clause-chosen g c =
-    let b = plain_database c.args.database.now in
-    let kinds = kinds_of c.in_ok-kept-in-MagicFirst.kept.items in
-    let sniffed = c.in_ok-sniffed-in-MagicFirst.sniffed in
-    let kind = c.in_ok-kind-in-MagicFirst.kind.now in
-    let chosen : ChoosesAmong (pairs_of b) kinds sniffed.kind.now kind =
-    rw c.deref-in-MagicFirst.ensures.value at c.in_ok-kind-in-MagicFirst.ensures.chosen in
-    by_magic_and_globs b c.args.question.now.name.now c.args.question.now.host c.args.question.now.order c.in-MagicFirst.is sniffed.kind.now sniffed.is_high _ kinds kind
-    c.in_ok-kept-in-MagicFirst.ensures.kept c.if-sniffed.false
-    (IfSome_then _ c.in_ok-sniffed-in-MagicFirst.ensures.sniffed
-    (λ known (is : IsSniffed (plain_database c.args.database.now) known c.args.question.now.host c.in_ok-sniffed-in-MagicFirst.sniffed). is.high))
-    (IfSome_then _ c.in_ok-sniffed-in-MagicFirst.ensures.sniffed
-    (λ known (is : IsSniffed (plain_database c.args.database.now) known c.args.question.now.host c.in_ok-sniffed-in-MagicFirst.sniffed). is.kind)) chosen
-
-pub returns-in_ok-kind-in-MagicFirst-clause-read :
-    goal.returns-in_ok-kind-in-MagicFirst-clause-read
-returns-in_ok-kind-in-MagicFirst-clause-read g c =
-    read_first (plain_database c.args.database.now) c.args.question.now.name.now c.args.question.now.host c.args.question.now.order c.in-MagicFirst.is [] true _ _
-    c.in_ok-sniffed-in-MagicFirst.ensures.read
-
-pub returns-in_err-sniffed-in-ContentOnly-clause-reader :
-    goal.returns-in_err-sniffed-in-ContentOnly-clause-reader
-returns-in_err-sniffed-in-ContentOnly-clause-reader g c =
-    reads_stopped g.R.Read.remaining g.R.Content.tally g.R.Content.health (read_limit (plain_database c.args.database.now))
-    c.args.content.now c.sniff_content-in-ContentOnly.new.content c.sniff_content-in-ContentOnly.new.read
-    c.in_err-sniffed-in-ContentOnly.field-0.0 c.from_residual-in_err-sniffed-in-ContentOnly.result
-    c.from_residual-in_err-sniffed-in-ContentOnly.ensures.1 c.in_err-sniffed-in-ContentOnly.ensures.reader
-
-pub returns-in_err-sniffed-in-ContentOnly-clause-asks :
-    goal.returns-in_err-sniffed-in-ContentOnly-clause-asks
-returns-in_err-sniffed-in-ContentOnly-clause-asks g c =
-    asks_stopped g.R.Content.health _ c.args.content.now c.sniff_content-in-ContentOnly.new.content
-    c.in_err-sniffed-in-ContentOnly.field-0.0 c.from_residual-in_err-sniffed-in-ContentOnly.result
-    (suffice_never (plain_database c.args.database.now) c.args.question.now.name.now c.args.question.now.host c.args.question.now.order c.in-ContentOnly.is)
-    c.from_residual-in_err-sniffed-in-ContentOnly.ensures.1 c.in_err-sniffed-in-ContentOnly.ensures.asks
-
-pub returns-in_ok-sniffed-in-ContentOnly-clause-chosen :
-    goal.returns-in_ok-sniffed-in-ContentOnly-clause-chosen
-returns-in_ok-sniffed-in-ContentOnly-clause-chosen g c =
-    by_content (plain_database c.args.database.now) c.args.question.now.name.now c.args.question.now.host c.args.question.now.order c.in-ContentOnly.is
-    _ c.in_ok-sniffed-in-ContentOnly.sniffed.kind.now
-    (IfSome_then _ c.in_ok-sniffed-in-ContentOnly.ensures.sniffed
-    (λ known (is : IsSniffed (plain_database c.args.database.now) known c.args.question.now.host c.in_ok-sniffed-in-ContentOnly.sniffed). is.kind))
-
-pub returns-in_ok-sniffed-in-ContentOnly-clause-read :
-    goal.returns-in_ok-sniffed-in-ContentOnly-clause-read
-returns-in_ok-sniffed-in-ContentOnly-clause-read g c =
-    read_content (plain_database c.args.database.now) c.args.question.now.name.now c.args.question.now.host c.args.question.now.order c.in-ContentOnly.is
-    _ _ c.in_ok-sniffed-in-ContentOnly.ensures.read
-
 pub returns-then-are_one_type-2-clause-chosen : goal.returns-then-are_one_type-2-clause-chosen
-returns-then-are_one_type-2-clause-chosen g c =
-    let all = c.in_ok-all-in-AllGlobs.all.items in
-    let b = plain_database c.args.database.now in
-    let one : are_one_type (kinds_of all) ≡ true =
-    rw c.deref-in-AllGlobs.ensures.value at (sym c.are_one_type-in-AllGlobs.ensures ∙ c.if-are_one_type-2.true) in
-    by_one_candidate b c.args.question.now.name.now c.args.question.now.host c.args.question.now.order c.in-AllGlobs.is (kinds_of all)
-    c.in_ok-all-in-AllGlobs.ensures.candidates _ _ (ranks-fit b.rules c.database_keeps_limits.ensures.rules) one
-    (ap (λ (text : Bor (List ℕ)). text.now) c.index-then-are_one_type-2.ensures ∙ first_text all c.index-then-are_one_type-2.result.now one)
+returns-then-are_one_type-2-clause-chosen = all_globs.returns-then-are_one_type-2-clause-chosen
 
 pub returns-then-are_one_type-2-clause-read : goal.returns-then-are_one_type-2-clause-read
-returns-then-are_one_type-2-clause-read g c =
-    let one : are_one_type (kinds_of c.in_ok-all-in-AllGlobs.all.items) ≡ true =
-    rw c.deref-in-AllGlobs.ensures.value at (sym c.are_one_type-in-AllGlobs.ensures ∙ c.if-are_one_type-2.true) in
-    none_read (plain_database c.args.database.now) c.args.question.now.name.now c.args.question.now.order _ _ c.requires.none
-    (every_suffice (plain_database c.args.database.now) c.args.question.now.name.now c.args.question.now.host c.args.question.now.order c.in-AllGlobs.is
-    (kinds_of c.in_ok-all-in-AllGlobs.all.items) c.in_ok-all-in-AllGlobs.ensures.candidates true one)
+returns-then-are_one_type-2-clause-read = all_globs.returns-then-are_one_type-2-clause-read
 
 pub returns-then-are_one_type-2-clause-reader : goal.returns-then-are_one_type-2-clause-reader
-returns-then-are_one_type-2-clause-reader g c =
-    reads_nothing g.R.Read.remaining g.R.Content.tally g.R.Content.health (read_limit (plain_database c.args.database.now))
-    c.args.content.now c.args.read.now _ c.requires.none
+returns-then-are_one_type-2-clause-reader = all_globs.returns-then-are_one_type-2-clause-reader
 
 pub returns-then-are_one_type-2-clause-asks : goal.returns-then-are_one_type-2-clause-asks
-returns-then-are_one_type-2-clause-asks g c =
-    let one : are_one_type (kinds_of c.in_ok-all-in-AllGlobs.all.items) ≡ true =
-    rw c.deref-in-AllGlobs.ensures.value at (sym c.are_one_type-in-AllGlobs.ensures ∙ c.if-are_one_type-2.true) in
-    asks_nothing g.R.Content.health _ c.args.content.now _
-    (every_suffice (plain_database c.args.database.now) c.args.question.now.name.now c.args.question.now.host c.args.question.now.order c.in-AllGlobs.is
-    (kinds_of c.in_ok-all-in-AllGlobs.all.items) c.in_ok-all-in-AllGlobs.ensures.candidates true one)
+returns-then-are_one_type-2-clause-asks = all_globs.returns-then-are_one_type-2-clause-asks
 
 pub returns-in_err-sniffed-in-AllGlobs-clause-reader : goal.returns-in_err-sniffed-in-AllGlobs-clause-reader
-returns-in_err-sniffed-in-AllGlobs-clause-reader g c =
-    reads_stopped g.R.Read.remaining g.R.Content.tally g.R.Content.health (read_limit (plain_database c.args.database.now))
-    c.args.content.now c.sniff_content-in-AllGlobs.new.content c.sniff_content-in-AllGlobs.new.read
-    c.in_err-sniffed-in-AllGlobs.field-0.0 c.from_residual-in_err-sniffed-in-AllGlobs.result
-    c.from_residual-in_err-sniffed-in-AllGlobs.ensures.1 c.in_err-sniffed-in-AllGlobs.ensures.reader
+returns-in_err-sniffed-in-AllGlobs-clause-reader = all_globs.returns-in_err-sniffed-in-AllGlobs-clause-reader
 
 pub returns-in_err-sniffed-in-AllGlobs-clause-asks : goal.returns-in_err-sniffed-in-AllGlobs-clause-asks
-returns-in_err-sniffed-in-AllGlobs-clause-asks g c =
-    let conflict : are_one_type (kinds_of c.in_ok-all-in-AllGlobs.all.items) ≡ false =
-    rw c.deref-in-AllGlobs.ensures.value at (sym c.are_one_type-in-AllGlobs.ensures ∙ c.if-are_one_type-2.false) in
-    asks_stopped g.R.Content.health _ c.args.content.now c.sniff_content-in-AllGlobs.new.content c.in_err-sniffed-in-AllGlobs.field-0.0
-    c.from_residual-in_err-sniffed-in-AllGlobs.result
-    (every_suffice (plain_database c.args.database.now) c.args.question.now.name.now c.args.question.now.host c.args.question.now.order c.in-AllGlobs.is
-    (kinds_of c.in_ok-all-in-AllGlobs.all.items) c.in_ok-all-in-AllGlobs.ensures.candidates false conflict)
-    c.from_residual-in_err-sniffed-in-AllGlobs.ensures.1 c.in_err-sniffed-in-AllGlobs.ensures.asks
+returns-in_err-sniffed-in-AllGlobs-clause-asks = all_globs.returns-in_err-sniffed-in-AllGlobs-clause-asks
 
 pub returns-in_ok-kind-in-AllGlobs-clause-chosen : goal.returns-in_ok-kind-in-AllGlobs-clause-chosen
-returns-in_ok-kind-in-AllGlobs-clause-chosen g c =
-    let b = plain_database c.args.database.now in
-    let sniffed = c.in_ok-sniffed-in-AllGlobs.sniffed in
-    let asked = c.in_ok-asked-in-AllGlobs.asked.items in
-    let kind = c.in_ok-kind-in-AllGlobs.kind.now in
-    let chosen : ChoosesAmong (pairs_of b) (kinds_of asked) sniffed.kind.now kind =
-    rw c.deref-in-AllGlobs-2.ensures.value at c.in_ok-kind-in-AllGlobs.ensures.chosen in
-    by_asked b c.args.question.now.name.now c.args.question.now.host c.args.question.now.order c.in-AllGlobs.is
-    (kinds_of c.in_ok-all-in-AllGlobs.all.items) c.in_ok-all-in-AllGlobs.ensures.candidates _ sniffed.by_magic (kinds_of asked)
-    sniffed.kind.now kind c.in_ok-asked-in-AllGlobs.ensures.asked
-    (IfSome_then _ c.in_ok-sniffed-in-AllGlobs.ensures.sniffed
-    (λ known (is : IsSniffed (plain_database c.args.database.now) known c.args.question.now.host c.in_ok-sniffed-in-AllGlobs.sniffed). is.magic))
-    (IfSome_then _ c.in_ok-sniffed-in-AllGlobs.ensures.sniffed
-    (λ known (is : IsSniffed (plain_database c.args.database.now) known c.args.question.now.host c.in_ok-sniffed-in-AllGlobs.sniffed). is.kind)) chosen
+returns-in_ok-kind-in-AllGlobs-clause-chosen = all_globs.returns-in_ok-kind-in-AllGlobs-clause-chosen
 
 pub returns-in_ok-kind-in-AllGlobs-clause-read : goal.returns-in_ok-kind-in-AllGlobs-clause-read
-returns-in_ok-kind-in-AllGlobs-clause-read g c =
-    let conflict : are_one_type (kinds_of c.in_ok-all-in-AllGlobs.all.items) ≡ false =
-    rw c.deref-in-AllGlobs.ensures.value at (sym c.are_one_type-in-AllGlobs.ensures ∙ c.if-are_one_type-2.false) in
-    front_read (plain_database c.args.database.now) c.args.question.now.name.now c.args.question.now.order _ _
-    (every_suffice (plain_database c.args.database.now) c.args.question.now.name.now c.args.question.now.host c.args.question.now.order c.in-AllGlobs.is
-    (kinds_of c.in_ok-all-in-AllGlobs.all.items) c.in_ok-all-in-AllGlobs.ensures.candidates false conflict)
-    c.in_ok-sniffed-in-AllGlobs.ensures.read
+returns-in_ok-kind-in-AllGlobs-clause-read = all_globs.returns-in_ok-kind-in-AllGlobs-clause-read
+
+pub returns-in_err-sniffed-in-MagicFirst-clause-reader : goal.returns-in_err-sniffed-in-MagicFirst-clause-reader
+returns-in_err-sniffed-in-MagicFirst-clause-reader = magic_first.returns-in_err-sniffed-in-MagicFirst-clause-reader
+
+pub returns-in_err-sniffed-in-MagicFirst-clause-asks : goal.returns-in_err-sniffed-in-MagicFirst-clause-asks
+returns-in_err-sniffed-in-MagicFirst-clause-asks = magic_first.returns-in_err-sniffed-in-MagicFirst-clause-asks
+
+pub returns-then-sniffed-clause-chosen : goal.returns-then-sniffed-clause-chosen
+returns-then-sniffed-clause-chosen = magic_first.returns-then-sniffed-clause-chosen
+
+pub returns-then-sniffed-clause-read : goal.returns-then-sniffed-clause-read
+returns-then-sniffed-clause-read = magic_first.returns-then-sniffed-clause-read
+
+pub returns-in_ok-kind-in-MagicFirst-clause-chosen : goal.returns-in_ok-kind-in-MagicFirst-clause-chosen
+returns-in_ok-kind-in-MagicFirst-clause-chosen = magic_first.returns-in_ok-kind-in-MagicFirst-clause-chosen
+
+pub returns-in_ok-kind-in-MagicFirst-clause-read : goal.returns-in_ok-kind-in-MagicFirst-clause-read
+returns-in_ok-kind-in-MagicFirst-clause-read = magic_first.returns-in_ok-kind-in-MagicFirst-clause-read
+
+pub returns-in_err-sniffed-in-ContentOnly-clause-reader : goal.returns-in_err-sniffed-in-ContentOnly-clause-reader
+returns-in_err-sniffed-in-ContentOnly-clause-reader = magic_first.returns-in_err-sniffed-in-ContentOnly-clause-reader
+
+pub returns-in_err-sniffed-in-ContentOnly-clause-asks : goal.returns-in_err-sniffed-in-ContentOnly-clause-asks
+returns-in_err-sniffed-in-ContentOnly-clause-asks = magic_first.returns-in_err-sniffed-in-ContentOnly-clause-asks
+
+pub returns-in_ok-sniffed-in-ContentOnly-clause-chosen : goal.returns-in_ok-sniffed-in-ContentOnly-clause-chosen
+returns-in_ok-sniffed-in-ContentOnly-clause-chosen = magic_first.returns-in_ok-sniffed-in-ContentOnly-clause-chosen
+
+pub returns-in_ok-sniffed-in-ContentOnly-clause-read : goal.returns-in_ok-sniffed-in-ContentOnly-clause-read
+returns-in_ok-sniffed-in-ContentOnly-clause-read = magic_first.returns-in_ok-sniffed-in-ContentOnly-clause-read

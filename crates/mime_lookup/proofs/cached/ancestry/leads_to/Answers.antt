@@ -32,8 +32,8 @@ loop-here-preserved c = record {
   owed = λ b spells. omega (arith, c.loop-here.invariant.owed b spells, (c.in_ok-expand.ensures.takes b spells).owed);
   paid =
       expanded_owing (deque_len c.pop_front.new.self) c.args.spending.now c.loop-here.spending c.expand.new.spending
-      c.is_by_itself.new.meter (rw c.in-Some.ensures.cases c.loop-here.invariant.paid) c.is_by_itself.ensures.nodes
-      c.is_by_itself.ensures.rises (omega (arith, c.is_by_itself.ensures.bytes, c.requires.base)) c.expand.ensures.cost
+      c.is_by_itself.new.meter (rw c.in-Some.ensures.cases c.loop-here.invariant.paid) c.is_by_itself.ensures.compares.nodes
+      c.is_by_itself.ensures.compares.rises (omega (arith, c.is_by_itself.ensures.compares.bytes, c.requires.base)) c.expand.ensures.cost
       (deque_len c.expand.new.queue) c.in_ok-expand.ensures.falls;
 }
 

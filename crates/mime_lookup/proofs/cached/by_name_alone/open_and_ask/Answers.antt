@@ -17,7 +17,7 @@ returns-in_err-cache-clause-stops c =
     let opened = c.in_err-cache.ensures.opened in
     passed_on _ fault c.from_residual.result c.from_residual.ensures.1
     (stops_for c.args.cache _ _ _ fault (of_header opened) (λ same. absurd (no_header c.args.cache fault opened same))
-    (λ b enough. absurd (header_without_fault c.args.cache enough.0.1.0.offsets fault enough.0.1.0.header enough.1 opened)))
+    (λ b enough. absurd (header_without_fault c.args.cache enough.0.1.0.offsets fault enough.0.1.0.header enough.1.small opened)))
 
 pub returns-clause-stops : goal.returns-clause-stops
 returns-clause-stops c =
@@ -31,8 +31,8 @@ returns-clause-stops c =
     (λ b enough. (
       enough.0,
       record {
-        records = omega (arith, enough.2.records, records);
-        value_bytes = omega (arith, enough.2.values, value_bytes);
+        records = omega (arith, enough.1.packed.records, records);
+        value_bytes = omega (arith, enough.1.packed.values, value_bytes);
       },
     ))
     (λ b enough none. none)) (rw opened.0 at c.ask-found.ensures.stops)

@@ -14,7 +14,7 @@ returns-in_err-cache-clause-stops c =
     let opened = c.in_err-cache.ensures.opened in
     passed_on _ fault c.from_residual.result c.from_residual.ensures.1
     (stops_for c.args.cache _ _ _ fault (of_header opened) (λ same. absurd (no_header c.args.cache fault opened same))
-    (λ b enough. absurd (header_without_fault c.args.cache enough.0.offsets fault enough.0.header enough.1 opened)))
+    (λ b enough. absurd (header_without_fault c.args.cache enough.0.offsets fault enough.0.header enough.1.small opened)))
 
 pub returns-clause-stops : goal.returns-clause-stops
 returns-clause-stops c =
@@ -26,5 +26,5 @@ returns-clause-stops c =
     stops_then c.args.cache (cause_of e) is
     (uses_up c.args.cache opened.1.limit records value_bytes (omega (arith, c.in_ok-cache.ensures.counted))
     c.sniff_opened-found.ensures.cost)
-    (λ b enough. (enough.0, omega (arith, enough.2.records, records), omega (arith, enough.2.values, value_bytes)))
+    (λ b enough. (enough.0, omega (arith, enough.1.packed.records, records), omega (arith, enough.1.packed.values, value_bytes)))
     (λ b enough none. none)) (rw opened.0 at c.sniff_opened-found.ensures.stops)

@@ -22,13 +22,17 @@ returns-then-not-same_name-clause-answer c =
     ∙ ap (λ ks. list_all (bytes_eq c.in-Some.first.now.now) (kinds_of ks)) from
     ∙ and_left _ _ (decided _ _ (bytes_eq-Decides _ _) c.same_name.ensures.same ∙ c.if-not-same_name.true))
 
-pub returns-then-not-same_name-clause-bytes : goal.returns-then-not-same_name-clause-bytes
-returns-then-not-same_name-clause-bytes c all =
-    let is = ap kinds_of c.in-Some.ensures.cases.0 in
-    let first : length c.in-Some.first.now.now < 256 = subst (λ ks. All (λ kind. length kind < 256) ks) is all 0 [] (omega arith) in
-    let fewer = ap length c.in-Some.ensures.cases.0 in
-    let bytes = c.loop-kind.invariant.bytes first in
-    omega (arith, c.same_name.ensures.limit, c.same_name.ensures.bytes, c.loop-kind-test.true)
+pub returns-then-not-same_name-clause-compares : goal.returns-then-not-same_name-clause-compares
+returns-then-not-same_name-clause-compares c = record {
+  nodes = omega arith;
+  rises = omega arith;
+  bytes = λ all.
+      let is = ap kinds_of c.in-Some.ensures.cases.0 in
+      let first : length c.in-Some.first.now.now < 256 = subst (λ ks. All (λ kind. length kind < 256) ks) is all 0 [] (omega arith) in
+      let fewer = ap length c.in-Some.ensures.cases.0 in
+      let bytes = c.loop-kind.invariant.bytes first in
+      omega (arith, c.same_name.ensures.limit, c.same_name.ensures.bytes, c.loop-kind-test.true);
+}
 
 pub loop-kind-preserved : goal.loop-kind-preserved
 loop-kind-preserved c =
@@ -50,10 +54,14 @@ returns-clause-answer c =
     ∙ ap (λ ks. list_all (bytes_eq c.in-Some.first.now.now) (kinds_of ks))
     (drop_all c.loop-kind.kind-index c.in-Some.more.now c.loop-kind-test.false))
 
-pub returns-clause-bytes : goal.returns-clause-bytes
-returns-clause-bytes c all =
-    let is = ap kinds_of c.in-Some.ensures.cases.0 in
-    let first : length c.in-Some.first.now.now < 256 = subst (λ ks. All (λ kind. length kind < 256) ks) is all 0 [] (omega arith) in
-    let fewer = ap length c.in-Some.ensures.cases.0 in
-    let bytes = c.loop-kind.invariant.bytes first in
-    omega arith
+pub returns-clause-compares : goal.returns-clause-compares
+returns-clause-compares c = record {
+  nodes = omega arith;
+  rises = omega arith;
+  bytes = λ all.
+      let is = ap kinds_of c.in-Some.ensures.cases.0 in
+      let first : length c.in-Some.first.now.now < 256 = subst (λ ks. All (λ kind. length kind < 256) ks) is all 0 [] (omega arith) in
+      let fewer = ap length c.in-Some.ensures.cases.0 in
+      let bytes = c.loop-kind.invariant.bytes first in
+      omega arith;
+}

@@ -41,7 +41,7 @@ returns-then-are_one_type-clause-gives c b globs =
     let same = c.as_slice-types.ensures ∙ hits.answer.types in
     record {
       given = record { answer = rw (← same) (one, first_text items _ one); need = λ enough. tt; most = hits.within };
-      near = omega (arith, c.are_one_type.ensures.nodes, cost.cost.most_nodes, cost.given, hits.nearly, hits.answer.few);
+      near = omega (arith, c.are_one_type.ensures.compares.nodes, cost.cost.most_nodes, cost.given, hits.nearly, hits.answer.few);
     }
 
 pub returns-then-are_one_type-clause-text : goal.returns-then-are_one_type-clause-text
@@ -55,7 +55,7 @@ returns-then-are_one_type-clause-cost c =
     let hits = c.in_ok-hits.ensures.cost in
     let kinds = c.in_ok-hits.hits.kinds in
     let short = texts_short c.args.cache.now kinds c.in_ok-hits.ensures.text in
-    let tested = c.are_one_type.ensures in
+    let tested = c.are_one_type.ensures.compares in
     let size = texts_count c.as_slice-types.result.now kinds c.as_slice-types.ensures in
     let bytes = (rw (c.as_slice-types.ensures, size) at tested.bytes) short in
     owing_none (costs_kinds (length c.args.name.now) hits.found (length kinds) _ _ _ hits.paid (omega (arith, hits.given)) hits.cost refl
@@ -92,7 +92,7 @@ returns-clause-gives c b globs =
         need = λ enough. tt;
         most = hits.within;
       };
-      near = omega (arith, asked.nodes, c.are_one_type.ensures.nodes, cost.cost.most_nodes, cost.given, hits.nearly, hits.answer.few);
+      near = omega (arith, asked.compares.nodes, c.are_one_type.ensures.compares.nodes, cost.cost.most_nodes, cost.given, hits.nearly, hits.answer.few);
     }
 
 pub returns-clause-text : goal.returns-clause-text
@@ -110,8 +110,8 @@ returns-clause-cost c =
     let hits = c.in_ok-hits.ensures.cost in
     let kinds = c.in_ok-hits.hits.kinds in
     let short = texts_short c.args.cache.now kinds c.in_ok-hits.ensures.text in
-    let tested = c.are_one_type.ensures in
-    let asked = c.count_asked-asked.ensures in
+    let tested = c.are_one_type.ensures.compares in
+    let asked = c.count_asked-asked.ensures.compares in
     let size = texts_count c.as_slice-types.result.now kinds c.as_slice-types.ensures in
     let bytes = (rw (c.as_slice-types.ensures, size) at tested.bytes) short in
     let more = (rw (c.as_slice-types.ensures, size) at asked.bytes) short in
