@@ -4,7 +4,7 @@
 //! of `t/g`, its one type that has any, stand at 64.
 
 use crate::tests::checked::alike;
-use crate::tests::sample::{SAMPLE, SAMPLE_TEXTS, damaged};
+use crate::tests::sample::{SAMPLE, SAMPLE_TEXTS, damaged, write_at};
 use crate::tests::texts::{Texts, merged};
 use mime_base::{Counted, TypeName};
 use mime_lookup::{Cause, Icons, icon_of, is_a};
@@ -176,6 +176,42 @@ fn subclasses_by_damaged_caches(rt: HostRuntime) -> Result<(), Fail> {
     for (name, at, fault) in rows {
         let found = leads(rt.alloc(), &damaged(at), b"t/g", b"t/z")?;
         alike(&rt, name, found, Err(Cause::Cache(fault)));
+    }
+    Ok(())
+}
+
+/// A search for a subclass and one for icons count the records and the bytes along the sample's lists.
+#[test]
+fn counts_of_the_sample(rt: HostRuntime) -> Result<(), Fail> {
+    let kind = TypeName::new(rt.alloc(), b"t/h")?;
+    let base = TypeName::new(rt.alloc(), b"t/m")?;
+    let (_, meter) = is_a(rt.alloc(), Counted::new(&SAMPLE), &kind, &base)?;
+    alike(&rt, "is a", (meter.nodes, meter.bytes), (13, 30));
+    let meter = icon_of(rt.alloc(), Counted::new(&SAMPLE), &kind)?.meter;
+    alike(&rt, "icons", (meter.nodes, meter.bytes), (6, 8));
+    Ok(())
+}
+
+/// The sample with three aliases behind it, of which the first and the last lie outside.
+fn aliases_outside() -> [u8; 268] {
+    let mut cache = [0; 268];
+    write_at(&mut cache, 0, &SAMPLE);
+    let numbers: [(usize, u32); 5] = [(4, 240), (240, 3), (244, 1_000), (252, 228), (260, 2_000)];
+    for (at, number) in numbers {
+        write_at(&mut cache, at, &number.to_be_bytes());
+    }
+    cache
+}
+
+/// The type is resolved before the base: where neither can be, the fault is the type's.
+#[test]
+fn the_type_is_resolved_first(rt: HostRuntime) -> Result<(), Fail> {
+    let cache = aliases_outside();
+    let rows: [(&[u8], &[u8], u64); 2] = [(b"a/a", b"t/z", 1_000), (b"t/z", b"a/a", 2_000)];
+    for (kind, base, at) in rows {
+        let found = leads(rt.alloc(), &cache, kind, base)?;
+        let fault = Err(Cause::Cache(CacheFault::OutOfRange(at)));
+        alike(&rt, "fault", (kind, found), (kind, fault));
     }
     Ok(())
 }
