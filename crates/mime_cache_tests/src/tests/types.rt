@@ -4,7 +4,7 @@
 //! of `t/g`, its one type that has any, stand at 64.
 
 use crate::tests::checked::alike;
-use crate::tests::sample::{SAMPLE, SAMPLE_TEXTS, damaged, write_at};
+use crate::tests::sample::{SAMPLE, SAMPLE_TEXTS, changed, damaged, write_at};
 use crate::tests::texts::{Texts, merged};
 use mime_base::{Counted, TypeName};
 use mime_lookup::{Cause, Icons, icon_of, is_a};
@@ -114,6 +114,18 @@ fn icons_of_damaged_caches(rt: HostRuntime) -> Result<(), Fail> {
         let stop = icons.err().map(|stopped| (stopped.cause, stopped.read));
         alike(&rt, name, stop, Some((Cause::Cache(fault), 0)));
     }
+    Ok(())
+}
+
+/// Where both lists of icons lie outside, the fault is that of the icons.
+#[test]
+fn the_icon_is_looked_for_first(rt: HostRuntime) -> Result<(), Fail> {
+    let kind = TypeName::new(rt.alloc(), b"t/g")?;
+    let bytes = changed(changed(SAMPLE, 32, 1_000), 36, 2_000);
+    let icons = icon_of(rt.alloc(), Counted::new(&bytes), &kind);
+    let stop = icons.err().map(|stopped| stopped.cause);
+    let fault = Cause::Cache(CacheFault::OutOfRange(1_000));
+    alike(&rt, "fault", stop, Some(fault));
     Ok(())
 }
 
