@@ -192,15 +192,24 @@ fn subclasses_by_damaged_caches(rt: HostRuntime) -> Result<(), Fail> {
     Ok(())
 }
 
-/// A search for a subclass and one for icons count the records and the bytes along the sample's lists.
+/// The nodes and bytes that a search for a subclass in the sample counts, and those of one for icons.
+fn counts_of(
+    alloc: Global,
+    kind: &TypeName,
+    base: &TypeName,
+) -> Result<((u64, u64), (u64, u64)), Fail> {
+    let (_, searched) = is_a(alloc, Counted::new(&SAMPLE), kind, base)?;
+    let found = icon_of(alloc, Counted::new(&SAMPLE), kind)?.meter;
+    Ok(((searched.nodes, searched.bytes), (found.nodes, found.bytes)))
+}
+
+/// They are counted by hand, as those of whole lookups.
 #[test]
 fn counts_of_the_sample(rt: HostRuntime) -> Result<(), Fail> {
     let kind = TypeName::new(rt.alloc(), b"t/h")?;
     let base = TypeName::new(rt.alloc(), b"t/m")?;
-    let (_, meter) = is_a(rt.alloc(), Counted::new(&SAMPLE), &kind, &base)?;
-    alike(&rt, "is a", (meter.nodes, meter.bytes), (13, 30));
-    let meter = icon_of(rt.alloc(), Counted::new(&SAMPLE), &kind)?.meter;
-    alike(&rt, "icons", (meter.nodes, meter.bytes), (6, 8));
+    let counted = counts_of(rt.alloc(), &kind, &base)?;
+    alike(&rt, "counted", counted, ((13, 30), (6, 8)));
     Ok(())
 }
 
