@@ -4,7 +4,7 @@
 //! of `t/g`, its one type that has any, stand at 64.
 
 use crate::tests::checked::alike;
-use crate::tests::sample::{SAMPLE, SAMPLE_TEXTS, damaged};
+use crate::tests::sample::{SAMPLE, SAMPLE_TEXTS, changed, damaged, write_at};
 use crate::tests::texts::{Texts, merged};
 use mime_base::{Counted, TypeName};
 use mime_lookup::{Cause, Icons, icon_of, is_a};
@@ -117,6 +117,18 @@ fn icons_of_damaged_caches(rt: HostRuntime) -> Result<(), Fail> {
     Ok(())
 }
 
+/// Where both lists of icons lie outside, the fault is that of the icons.
+#[test]
+fn the_icon_is_looked_for_first(rt: HostRuntime) -> Result<(), Fail> {
+    let kind = TypeName::new(rt.alloc(), b"t/g")?;
+    let bytes = changed(changed(SAMPLE, 32, 1_000), 36, 2_000);
+    let icons = icon_of(rt.alloc(), Counted::new(&bytes), &kind);
+    let stop = icons.err().map(|stopped| stopped.cause);
+    let fault = Cause::Cache(CacheFault::OutOfRange(1_000));
+    alike(&rt, "fault", stop, Some(fault));
+    Ok(())
+}
+
 /// Whether a type is another or a subclass of it, by a cache.
 fn leads(
     alloc: Global,
@@ -176,6 +188,51 @@ fn subclasses_by_damaged_caches(rt: HostRuntime) -> Result<(), Fail> {
     for (name, at, fault) in rows {
         let found = leads(rt.alloc(), &damaged(at), b"t/g", b"t/z")?;
         alike(&rt, name, found, Err(Cause::Cache(fault)));
+    }
+    Ok(())
+}
+
+/// The nodes and bytes that a search for a subclass in the sample counts, and those of one for icons.
+fn counts_of(
+    alloc: Global,
+    kind: &TypeName,
+    base: &TypeName,
+) -> Result<((u64, u64), (u64, u64)), Fail> {
+    let (_, searched) = is_a(alloc, Counted::new(&SAMPLE), kind, base)?;
+    let found = icon_of(alloc, Counted::new(&SAMPLE), kind)?.meter;
+    Ok(((searched.nodes, searched.bytes), (found.nodes, found.bytes)))
+}
+
+/// They are counted by hand, as those of whole lookups.
+#[test]
+fn counts_of_the_sample(rt: HostRuntime) -> Result<(), Fail> {
+    let kind = TypeName::new(rt.alloc(), b"t/h")?;
+    let base = TypeName::new(rt.alloc(), b"t/m")?;
+    let counted = counts_of(rt.alloc(), &kind, &base)?;
+    alike(&rt, "counted", counted, ((13, 30), (6, 8)));
+    Ok(())
+}
+
+/// The sample with three aliases behind it, of which the first and the last lie outside.
+fn aliases_outside() -> [u8; 268] {
+    let mut cache = [0; 268];
+    write_at(&mut cache, 0, &SAMPLE);
+    let numbers: [(usize, u32); 5] = [(4, 240), (240, 3), (244, 1_000), (252, 228), (260, 2_000)];
+    for (at, number) in numbers {
+        write_at(&mut cache, at, &number.to_be_bytes());
+    }
+    cache
+}
+
+/// The type is resolved before the base: where neither can be, the fault is the type's.
+#[test]
+fn the_type_is_resolved_first(rt: HostRuntime) -> Result<(), Fail> {
+    let cache = aliases_outside();
+    let rows: [(&[u8], &[u8], u64); 2] = [(b"a/a", b"t/z", 1_000), (b"t/z", b"a/a", 2_000)];
+    for (kind, base, at) in rows {
+        let found = leads(rt.alloc(), &cache, kind, base)?;
+        let fault = Err(Cause::Cache(CacheFault::OutOfRange(at)));
+        alike(&rt, "fault", (kind, found), (kind, fault));
     }
     Ok(())
 }

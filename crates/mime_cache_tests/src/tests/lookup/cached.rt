@@ -1,6 +1,7 @@
 //! Lookups over the bytes of caches, also of damaged and hostile ones. Each keeps to the bounds on what it visits
 //! and compares.
 
+mod counts;
 mod cut;
 mod hostile;
 mod many;

@@ -2,7 +2,7 @@
 
 use super::FAR;
 use crate::tests::checked::alike;
-use crate::tests::sample::{SAMPLE, SELF_CHILD, damaged};
+use crate::tests::sample::{SAMPLE, SELF_CHILD, changed, damaged};
 use mime_base::{Counted, Host, Meter};
 use mime_view::{Budget, Cache, CacheFault};
 
@@ -45,6 +45,32 @@ fn a_line_that_is_its_own_child(rt: HostRuntime) -> Result<(), CacheFault> {
     let found = cache.sniff(b"x", Host::Big, &mut meter, &mut budget);
     alike(&rt, "deep", found.err(), Some(CacheFault::TooDeep));
     alike(&rt, "deep", (budget.records, budget.value_bytes), (35, 112));
+    Ok(())
+}
+
+/// A cache of 64 lines of magic of which each is the child of the one before; the child of the last lies outside.
+fn chain() -> [u8; 2124] {
+    let mut cache = [0; 2124];
+    cache[..76].copy_from_slice(&SELF_CHILD[..76]);
+    for number in 0..64 {
+        let at = 76 + 32 * number;
+        cache = changed(cache, at + 4, 1);
+        cache = changed(cache, at + 8, 1);
+        cache = changed(cache, at + 24, 1);
+        cache = changed(cache, at + 28, at as u32 + 32);
+    }
+    changed(cache, 2120, u32::MAX)
+}
+
+/// A line of the 64th level that has children is too deep, wherever they stand.
+#[test]
+fn children_below_the_last_level(rt: HostRuntime) -> Result<(), CacheFault> {
+    let bytes = chain();
+    let mut meter = Meter::new();
+    let cache = Cache::open(Counted::new(&bytes), &mut meter)?;
+    let mut budget = Budget::of(&cache);
+    let found = cache.sniff(b"x", Host::Little, &mut meter, &mut budget);
+    alike(&rt, "deep", found.err(), Some(CacheFault::TooDeep));
     Ok(())
 }
 

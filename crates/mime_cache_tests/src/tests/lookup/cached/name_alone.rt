@@ -93,6 +93,17 @@ fn rows(rt: HostRuntime) -> Result<(), Fail> {
     Ok(())
 }
 
+/// Where magic and an alias of the name's type lie outside, how much is wanted is asked first.
+#[test]
+fn wanted_before_the_globs(rt: HostRuntime) {
+    let both = changed(changed(SAMPLE, 24, 240), 44, u32::MAX);
+    for row in &ROWS {
+        if row.order == Order::MagicFirst {
+            is_found(&rt, rt.alloc(), row, &both, OUTSIDE);
+        }
+    }
+}
+
 /// This is answered of a row's name, by these bytes.
 fn is_found(rt: &impl Abort, alloc: Global, row: &Row, cache: &[u8], expected: Found) {
     let found = match look_up_name(alloc, Counted::new(cache), row.file, row.order) {
