@@ -118,6 +118,8 @@ fn file_outcome<'a, D: Desk>(
 }
 
 /// Prints what a file came to, with its name as it is to be written.
+// Always inlined, as are those that it calls: the outcome is not moved.
+#[inline(always)]
 pub(crate) fn print_outcome<D: Desk>(
     desk: &mut D,
     output: Output,
@@ -136,6 +138,8 @@ pub(crate) fn print_outcome<D: Desk>(
 }
 
 // The same, where the file's name is written so.
+// Always inlined, as its caller is.
+#[inline(always)]
 fn print_named<D: Desk>(
     desk: &mut D,
     output: Output,
@@ -153,6 +157,8 @@ fn print_named<D: Desk>(
     }
 }
 
+// Always inlined, as its caller is.
+#[inline(always)]
 fn print_type<D: Desk>(
     desk: &mut D,
     output: Output,
@@ -167,6 +173,8 @@ fn print_type<D: Desk>(
     Ok(ANSWERED)
 }
 
+// Always inlined, as its caller is.
+#[inline(always)]
 fn print_kind<D: Desk>(
     desk: &mut D,
     output: Output,
@@ -186,6 +194,8 @@ fn print_kind<D: Desk>(
 }
 
 // The type is written so.
+// Always inlined, as its caller is.
+#[inline(always)]
 fn print_told<D: Desk>(
     desk: &mut D,
     output: Output,

@@ -11,6 +11,8 @@ use mime_base::{Counted, Meter};
 use std::alloc::Global;
 
 /// The types at these offsets, in their order.
+// Always inlined: mostly one text, once for a name.
+#[inline(always)]
 pub fn read_kinds<'a>(
     alloc: Global,
     counted: &Counted<'a>,

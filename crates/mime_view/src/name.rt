@@ -84,6 +84,8 @@ pub fn rule_hits<'a>(
 }
 
 /// The hits of the rules of a name that are asked for.
+// Always inlined, so that what is asked for is known.
+#[inline(always)]
 fn hits_of(
     alloc: Global,
     query: &Query<'_, '_>,

@@ -11,6 +11,8 @@ use crate::memory::OutOfMemory;
 use std::alloc::Global;
 
 /// A copy in which each of `A` to `Z` is its small letter, and every other byte as it was.
+// Always inlined: a small loop, so that the copy is not moved.
+#[inline(always)]
 pub fn fold(alloc: Global, bytes: &[u8]) -> Result<Vec<u8>, OutOfMemory>
     // The copy is as long, and only the capitals of ASCII are changed.
     ensures { IfOk result (λ text. text.items ≡ map folded bytes.now) }

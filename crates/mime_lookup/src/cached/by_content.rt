@@ -26,6 +26,8 @@ use mime_view::{Cache, CacheFault, Spending, Which};
 use std::alloc::Global;
 
 /// The type that a front of a content gives, after the name; `None` is content that is not available.
+// Always inlined, so that the candidates are not moved.
+#[inline(always)]
 pub fn by_content<'a>(
     alloc: Global,
     cache: &Cache<'a>,

@@ -36,6 +36,8 @@ pub enum Candidates<'a> {
 }
 
 /// What a name gives without its content, under an order.
+// Always inlined, so that the candidates are not moved.
+#[inline(always)]
 pub fn by_name<'a>(
     alloc: Global,
     cache: &Cache<'a>,

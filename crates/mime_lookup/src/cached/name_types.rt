@@ -26,6 +26,8 @@ pub enum NameTypes<'a> {
 }
 
 /// The types of a name that are kept, or of all rules that match it, as one where all are one type.
+// Always inlined, so that the types are not moved.
+#[inline(always)]
 pub fn types_of<'a>(
     alloc: Global,
     cache: &Cache<'a>,
@@ -55,6 +57,8 @@ pub fn types_of<'a>(
 }
 
 /// The types of the rules that are asked for, each after one alias step, and how many of these are kept.
+// Always inlined, as its caller is.
+#[inline(always)]
 fn resolved_hits<'a>(
     alloc: Global,
     cache: &Cache<'a>,
