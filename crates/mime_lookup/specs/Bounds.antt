@@ -1,5 +1,5 @@
 -- The most that a lookup visits, compares and reads over a cache of any bytes. This project's own.
-use Rattle.std.specs.Prelude.{ℕ, ◌+◌, ◌*◌, ◌≤◌, List, length}
+use Rattle.std.specs.Prelude.{◌≡◌, refl, ℕ, ◌+◌, ◌*◌, ◌≤◌, List, length}
 use Rattle.mime_base.specs.Cache.Bytes.{field}
 use Rattle.mime_base.specs.declared.meter.Meter.{Meter}
 
@@ -23,3 +23,25 @@ pub record KeepsBounds (name : ℕ) (c : List ℕ) (read : ℕ) (meter : Meter) 
 -- records that are visited for a type that the globs alone give, with the number of rules that are near the name
 abbrev pub near_max : ℕ → ℕ → ℕ
 near_max name rules = 64 * (name + 2) + 40 * rules
+
+-- the numbers of these bounds: with nothing, and what one byte more of each, or one rule more, allows
+nodes_of_nothing : nodes_max 0 0 ≡ 128
+nodes_of_nothing = refl
+
+nodes_of_a_byte : nodes_max 1 1 ≡ 128 + 64 + 16
+nodes_of_a_byte = refl
+
+bytes_of_nothing : bytes_max 0 0 0 ≡ 256 * 128 + 64
+bytes_of_nothing = refl
+
+bytes_of_a_byte : bytes_max 1 1 1 ≡ 256 * (128 + 64 + 16) + 64 * 4 + 2
+bytes_of_a_byte = refl
+
+near_of_nothing : near_max 0 0 ≡ 128
+near_of_nothing = refl
+
+near_of_a_byte : near_max 1 0 ≡ 128 + 64
+near_of_a_byte = refl
+
+near_of_a_rule : near_max 0 1 ≡ 128 + 40
+near_of_a_rule = refl
