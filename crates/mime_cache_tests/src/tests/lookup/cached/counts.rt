@@ -7,20 +7,25 @@ use super::{look_up_over, spent};
 use crate::tests::checked::alike;
 use crate::tests::sample::{PLAIN_LAYOUT, SAMPLE_BYTES, write_at};
 use mime_base::Host;
-use mime_lookup::Order;
+use mime_lookup::{Cause, Order};
+use mime_view::CacheFault;
 use std::alloc::Global;
 use std::process::Abort;
 use std::test::Fail;
 
-/// A lookup in a cache, of which one number is changed, and the nodes and bytes that it counts.
+/// A lookup in a cache, of which one number is changed, why it stops, and the nodes and bytes that it counts.
 struct Row {
     name: &'static str,
     of: &'static [u8],
     number: Option<(usize, u32)>,
     file: &'static [u8],
     content: Option<&'static [u8]>,
+    stop: Option<Cause>,
     counts: (u64, u64),
 }
+
+/// What a number of that size stops it for.
+const OUTSIDE: Option<Cause> = Some(Cause::Cache(CacheFault::OutOfRange(4_294_967_295)));
 
 static ROWS: [Row; 7] = [
     Row {
@@ -29,6 +34,7 @@ static ROWS: [Row; 7] = [
         number: None,
         file: b"mk",
         content: None,
+        stop: None,
         counts: (11, 13),
     },
     Row {
@@ -37,6 +43,7 @@ static ROWS: [Row; 7] = [
         number: None,
         file: b"A.GZ",
         content: None,
+        stop: None,
         counts: (24, 9),
     },
     Row {
@@ -45,6 +52,7 @@ static ROWS: [Row; 7] = [
         number: None,
         file: b"x",
         content: Some(&[0x1f, 0x8b, 8]),
+        stop: None,
         counts: (13, 10),
     },
     Row {
@@ -53,6 +61,7 @@ static ROWS: [Row; 7] = [
         number: None,
         file: b"mk",
         content: None,
+        stop: None,
         counts: (8, 17),
     },
     Row {
@@ -61,6 +70,7 @@ static ROWS: [Row; 7] = [
         number: Some((108, 1)),
         file: b"x",
         content: None,
+        stop: None,
         counts: (5, 4),
     },
     Row {
@@ -69,6 +79,7 @@ static ROWS: [Row; 7] = [
         number: Some((76, u32::MAX)),
         file: b"mk",
         content: None,
+        stop: OUTSIDE,
         counts: (3, 0),
     },
     Row {
@@ -77,11 +88,12 @@ static ROWS: [Row; 7] = [
         number: Some((44, u32::MAX)),
         file: b"mk",
         content: None,
+        stop: OUTSIDE,
         counts: (11, 10),
     },
 ];
 
-/// A row's lookup counts the row's nodes and bytes.
+/// A row's lookup ends as the row says, and counts its nodes and bytes.
 fn is_counted(rt: &impl Abort, alloc: Global, row: &Row) -> Result<(), Fail> {
     let mut cache = Vec::from_slice(alloc, row.of)?;
     if let Some((at, number)) = row.number {
@@ -91,7 +103,9 @@ fn is_counted(rt: &impl Abort, alloc: Global, row: &Row) -> Result<(), Fail> {
     let order = Order::GlobsFirst;
     let found = look_up_over(alloc, &cache, row.file, &mut content, host, order);
     let (_, meter) = spent(&found);
-    alike(rt, row.name, (meter.nodes, meter.bytes), row.counts);
+    let stop = found.err().map(|stopped| stopped.cause);
+    let counts = (meter.nodes, meter.bytes);
+    alike(rt, row.name, (stop, counts), (row.stop, row.counts));
     Ok(())
 }
 
