@@ -5,4 +5,4 @@ pub mod MagicLemmas
 pub mod CacheLemmas
 mod DatabaseLemmas
 pub mod FormatLemmas
-mod NameLemmas
+pub mod NameLemmas

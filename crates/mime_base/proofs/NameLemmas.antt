@@ -35,11 +35,11 @@ above x = ⊎_elim
     (leb_tells x 32)
 
 -- a mask whose lowest bit is set is not zero
-odd : (k : ℕ) → (1 + 2 * k == 0) ≡ false
+pub odd : (k : ℕ) → (1 + 2 * k == 0) ≡ false
 odd k = ⊎_elim (λ is. absurd (omega (arith, is.1))) (λ is. is.0) (eqb_tells (1 + 2 * k) 0)
 
 -- and else it is zero where the others are
-even : (k : ℕ) → (0 + 2 * k == 0) ≡ (k == 0)
+pub even : (k : ℕ) → (0 + 2 * k == 0) ≡ (k == 0)
 even k = ⊎_elim
     (λ is. ⊎_elim (λ own. is.0 ∙ sym own.0) (λ own. absurd (own.1 (omega (arith, is.1)))) (eqb_tells k 0))
     (λ is. ⊎_elim (λ own. absurd (is.1 (omega (arith, own.1)))) (λ own. is.0 ∙ sym own.0) (eqb_tells k 0))

@@ -1,3 +1,4 @@
+pub mod CapitalLemmas
 pub mod ListLemmas
 pub mod ParentsLemmas
 pub mod SearchLemmas

@@ -19,6 +19,7 @@
 mod best_hits;
 mod budget;
 mod cache;
+mod capitals;
 mod entry;
 mod fault;
 mod flags;

@@ -13,12 +13,13 @@ ghost use Rattle.mime_base.specs.declared.database.rule.GlobRule.{GlobRule};
 ghost use Rattle.mime_view.specs.Gathered.{HoldsRules};
 ghost use Rattle.mime_view.specs.Hits.{hit_visits, literal_visits_twice, literals_twice, offered_once, offered_twice};
 ghost use Rattle.mime_view.specs.Hits.{tree_twice, tree_visits_twice};
-ghost use Rattle.mime_view.specs.NameHits.{AreHits, FindsInLists, GivesTexts, IsNameFault, RulesAt, SearchesLists, has_capitals};
+ghost use Rattle.mime_view.specs.NameHits.{AreHits, FindsInLists, GivesTexts, IsNameFault, RulesAt, SearchesLists};
 ghost use Rattle.mime_view.specs.RuleHits.{AreRuleHits, gives_types};
 ghost use Rattle.mime_view.specs.Spending.{SpendsOnName};
 ghost use Rattle.mime_view.specs.Steps.{FindsAt, FindsRules, FindsStanding, IsEntriesFault, Searches};
 ghost use Rattle.mime_view.specs.SuffixTree.{IsTreeFault};
 
+use crate::capitals::has_capitals;
 use crate::fault::CacheFault;
 use crate::globs::glob_list_hits;
 use crate::hits::{Case, Hits};
@@ -138,19 +139,6 @@ fn gather_hits(
     }
     let folded = fold(alloc, name)?;
     offer_twice(query, &folded, lists, progress)
-}
-
-/// Whether one of `A` to `Z` is among the bytes.
-fn has_capitals(name: &[u8]) -> bool
-    // Whether there is a capital.
-    ensures { result ≡ has_capitals name.now }
-{
-    // It doesn't end at the first, so that many bytes are looked at in one step.
-    let mut found = false;
-    for byte in name {
-        found |= b'A' <= *byte && *byte <= b'Z';
-    }
-    found
 }
 
 /// Offers the rules that match a name which folding leaves alone.
