@@ -1,6 +1,7 @@
 -- Lemmas on matching: sets and places of a pattern, matching one element on, what an attempt says of the whole, what
 -- is left after the last star, and counts.
 pub mod Sets
+pub mod Literals
 pub mod Places
 pub mod Matches
 pub mod Attempts

@@ -1,5 +1,6 @@
 -- A database as plain values: what merged data directories say.
 pub mod Limits
+pub mod LimitsRows
 pub mod PlainPairs
 pub mod Subclass
 pub mod Rows

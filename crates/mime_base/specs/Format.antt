@@ -11,5 +11,6 @@ pub mod Magic
 pub mod Header
 pub mod Spells
 pub mod Packed
+pub mod PackedRows
 pub mod Room
 pub mod Sample

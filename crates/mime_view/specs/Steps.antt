@@ -4,13 +4,18 @@ use Rattle.mime_base.specs.Cache.Bytes.{Stands}
 use Rattle.mime_base.specs.Format.Records.{Standing}
 use Rattle.mime_base.specs.Kept.{FitsRank}
 use Rattle.mime_base.specs.declared.database.rule.GlobRule.{GlobRule}
-use Rattle.mime_view.specs.Gathered.{Offers}
+use Rattle.mime_view.specs.Gathered.{Offers, PlainHits}
 use Rattle.mime_view.specs.Lists.{IsListFault, IsTextFault}
 use Rattle.mime_view.specs.Spending.{Spends, per_record}
 use Rattle.mime_view.specs.declared.fault.CacheFault.{CacheFault}
 use Rattle.mime_view.specs.declared.fault.CacheFault.TheVariants.{OutOfMemory, Spent}
 use Rattle.mime_view.specs.declared.query.Progress.{Progress}
 use Rattle.mime_view.specs.declared.query.Query.{Query}
+use Rattle.mime_view.specs.declared.spending.Spending.{Spending}
+
+-- the hits and what is spent as one value
+abbrev pub progress_of : PlainHits → Spending → Progress
+progress_of hits spending = record { hits = hits; spending = spending }
 
 -- why a step stops: a fault of what it reads, no records left, or no memory
 abbrev pub IsSearchStop : (CacheFault → Type 0) → Progress → CacheFault → Type 0

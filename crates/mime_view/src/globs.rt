@@ -9,12 +9,14 @@ ghost use Rattle.mime_base.specs.declared.database.rule.GlobRule.{GlobRule};
 ghost use Rattle.mime_view.specs.Globs.{ReadsGlob};
 ghost use Rattle.mime_view.specs.Hits.{glob_list_hits};
 ghost use Rattle.mime_view.specs.Lists.{IsTextFault};
-ghost use Rattle.mime_view.specs.Steps.{FindsAt, FindsRules, IsEntriesFault, Searches};
+ghost use Rattle.mime_view.specs.Steps.{FindsAt, FindsRules, IsEntriesFault, Searches, progress_of};
 
 use crate::fault::CacheFault;
 use crate::flags::weight_and_case;
+use crate::hits::Hits;
 use crate::list::count_at;
 use crate::query::{Progress, Query};
+use crate::spending::Spending;
 use mime_base::{begins_otherwise, class_of_bytes, glob_matches, rank_of};
 
 /// Offers the rules of the glob list at `at` that match the name.
@@ -32,14 +34,23 @@ pub fn glob_list_hits(
     ensures searches { Searches (IsEntriesFault query.now.counted.now at) (256 * (length query.now.key.now + 2)) 1
         progress.old progress.new result }
 {
-    // A copy, whose fields stay in registers.
-    let asked = *query;
     let at = u64::from(at);
-    let count = count_at(asked.counted, at, 12, &mut progress.spending.meter)?;
+    let count = count_at(query.counted, at, 12, &mut progress.spending.meter)?;
     let first = at + 4;
+    // Copies, which stay in registers from entry to entry.
+    let asked = *query;
+    let mut spending = progress.spending;
     for i in 0..count {
-        take_glob(&asked, first + 12 * i, progress)?;
+        let at = first + 12 * i;
+        match take_glob(&asked, at, &mut progress.hits, &mut spending) {
+            Ok(()) => {}
+            Err(fault) => {
+                progress.spending = spending;
+                return Err(fault);
+            }
+        }
     }
+    progress.spending = spending;
     Ok(())
 }
 
@@ -49,35 +60,40 @@ pub fn glob_list_hits(
 /// Where a hit of its rank would not be kept, the pattern isn't tried.
 // Always inlined: the body of a loop.
 #[inline(always)]
-fn take_glob(query: &Query<'_, '_>, at: u64, progress: &mut Progress) -> Result<(), CacheFault>
+fn take_glob(
+    query: &Query<'_, '_>,
+    at: u64,
+    hits: &mut Hits,
+    spending: &mut Spending,
+) -> Result<(), CacheFault>
     // The entry lies in the cache.
     requires inside { at + 12 ≤ length query.now.counted.now }
     // Its rule is offered if it matches.
     ensures finds { (rule : GlobRule) → ReadsGlob query.now.counted.now at rule →
         FindsRules query.now.counted.now (FitsRank rule) (matching (rule ∷ []) query.now.key.now) 1
-        progress.old progress.new result }
+        (progress_of hits.old spending.old) (progress_of hits.new spending.new) result }
     // It costs its text and the tests of that against the name.
     ensures searches { Searches (IsTextFault query.now.counted.now) (256 * (length query.now.key.now + 2)) 0
-        progress.old progress.new result }
+        (progress_of hits.old spending.old) (progress_of hits.new spending.new) result }
 {
-    progress.spending.budget.take_record()?;
+    spending.budget.take_record()?;
     let [text, kind, flags] = query
         .counted
-        .cards_within::<3>(at, &mut progress.spending.meter);
+        .cards_within::<3>(at, &mut spending.meter);
     let pattern = query
         .counted
-        .text_at(u64::from(text), &mut progress.spending.meter)?;
+        .text_at(u64::from(text), &mut spending.meter)?;
     let (_, cased) = weight_and_case(flags);
     if begins_otherwise(pattern, cased, query.key) {
-        progress.spending.meter.add_bytes(1);
+        spending.meter.add_bytes(1);
         return Ok(());
     }
     // Where a hit of the least rank is wanted, one of any rank is: then the class isn't judged before the match.
-    if !progress.hits.wants(0) && !progress.hits.wants(rank_of_entry(pattern, flags)) {
+    if !hits.wants(0) && !hits.wants(rank_of_entry(pattern, flags)) {
         return Ok(());
     }
-    if glob_matches(pattern, cased, query.key, &mut progress.spending.meter) {
-        progress.hits.offer(rank_of_entry(pattern, flags), kind)?;
+    if glob_matches(pattern, cased, query.key, &mut spending.meter) {
+        hits.offer(rank_of_entry(pattern, flags), kind)?;
     }
     Ok(())
 }

@@ -6,7 +6,7 @@
 //! for a `[` among them no end of a set is sought.
 
 ghost use Rattle.std.specs.Prelude.{◌≡◌, true, Bool, ◌∷◌, [], ◌+◌, ◌<◌, ◌==◌, IsNone, IfSome, IsTrue, None, false, is_some, drop};
-ghost use Rattle.std.specs.Prelude.{List, ℕ, length, position};
+ghost use Rattle.std.specs.Prelude.{List, ℕ, ◌≤◌, length, position, take};
 ghost use Rattle.mime_base.specs.Matching.Attempt.{begins_otherwise, first_itself, refuses};
 ghost use Rattle.mime_base.specs.Matching.Elements.{HasNoEnd, IsSet, admits, elements, end_of_set, in_ranges, is_literal_text};
 ghost use Rattle.mime_base.specs.Matching.Elements.{is_negated, is_special, one_byte, ranges, width_after};
@@ -15,6 +15,7 @@ ghost use Rattle.mime_base.specs.Matching.Matches.{rule_matches};
 
 use crate::matching::folding::as_compared;
 use memchr::memrchr;
+use std::simd::prelude::*;
 
 /// What stands after an element, if the element admits a byte.
 ///
@@ -183,7 +184,23 @@ pub fn is_literal_text(text: &[u8]) -> bool
     // It is true exactly where no byte is `*`, `?`, `[` or `\`.
     ensures { result ≡ is_literal_text text.now }
 {
+    // Where a pattern has a special byte, one mostly stands among the first eight.
+    if 8 <= text.len() && !are_eight_literal(text) {
+        return false;
+    }
     text.iter().all(|byte| !is_special(*byte))
+}
+
+/// Whether each of the first eight bytes stands for itself.
+#[inline]
+fn are_eight_literal(text: &[u8]) -> bool
+    requires { 8 ≤ length text.now }
+    ensures { result ≡ is_literal_text (take 8 text.now) }
+{
+    let front = u8x8::from_slice(text);
+    let marks = front.simd_eq(u8x8::splat(b'*')) | front.simd_eq(u8x8::splat(b'?'));
+    let openings = front.simd_eq(u8x8::splat(b'[')) | front.simd_eq(u8x8::splat(b'\\'));
+    (marks | openings).to_bitmask() == 0
 }
 
 /// Whether a byte may stand for more than itself.

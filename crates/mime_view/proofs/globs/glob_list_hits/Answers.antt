@@ -1,4 +1,4 @@
-use Rattle.std.proofs.Common.{◌<◌, sym, arith, length}
+use Rattle.std.proofs.Common.{◌<◌, Err, inl, inr, ⊎_elim, sym, refl, arith, length}
 use Rattle.std.proofs.lemmas.List.{take_all}
 use Rattle.mime_base.specs.Format.Stored.{glob_rules}
 use Rattle.mime_view.proofs.GlobLemmas.GlobLists.{finds_next, glob, glob_read, globs_count, globs_inside}
@@ -18,20 +18,29 @@ loop-i-preserved c = record {
       let count = globs_count c.args.query.now.counted.now c.from-at.result rules stand in
       let l : c.loop-i.i < length (glob_rules rules) = omega (arith, count, c.in_ok-count.ensures.count.0, c.loop-i-test.true) in
       finds_next c.args.query.now.key.now rules l (c.loop-i.invariant.finds rules stand)
-      (c.in_ok-take_glob.ensures.finds (glob rules c.loop-i.i) (glob_read c.args.query.now.counted.now c.from-at.result rules stand
-      c.loop-i.i l));
-  searches = searches_then c.loop-i.invariant.searches c.in_ok-take_glob.ensures.searches (omega arith);
+      (c.in-Ok.ensures.finds (glob rules c.loop-i.i) (glob_read c.args.query.now.counted.now c.from-at.result rules stand c.loop-i.i l));
+  searches = searches_then c.loop-i.invariant.searches c.in-Ok.ensures.searches (omega arith);
 }
 
-pub returns-in_err-take_glob-clause-finds : goal.returns-in_err-take_glob-clause-finds
-returns-in_err-take_glob-clause-finds c = λ rules stand.
+pub returns-in-Err-clause-finds : goal.returns-in-Err-clause-finds
+returns-in-Err-clause-finds c = λ rules stand.
     let here = rw (sym c.from-at.ensures) at stand in
     let count = globs_count c.args.query.now.counted.now c.from-at.result rules here in
     let l : c.loop-i.i < length (glob_rules rules) = omega (arith, count, c.in_ok-count.ensures.count.0, c.loop-i-test.true) in
-    finds_err c.from_residual-in_err-take_glob.result c.from_residual-in_err-take_glob.ensures.1
+    finds_err (Err c.in-Err.fault) refl
     (finds_next c.args.query.now.key.now rules l (c.loop-i.invariant.finds rules here)
-    (c.in_err-take_glob.ensures.finds (glob rules c.loop-i.i) (glob_read c.args.query.now.counted.now c.from-at.result rules here
-    c.loop-i.i l))) (omega (arith, l))
+    (c.in-Err.ensures.finds (glob rules c.loop-i.i) (glob_read c.args.query.now.counted.now c.from-at.result rules here c.loop-i.i l)))
+    (omega (arith, l))
+
+pub returns-in-Err-clause-searches : goal.returns-in-Err-clause-searches
+returns-in-Err-clause-searches c =
+    let all = searches_then {k = 1} c.loop-i.invariant.searches c.in-Err.ensures.searches (omega arith) in
+    record {
+      fault = ⊎_elim (λ text. inl (inr text)) inr all.fault;
+      asked = tt;
+      few = tt;
+      cost = all.cost;
+    }
 
 pub returns-clause-finds : goal.returns-clause-finds
 returns-clause-finds c = λ rules stand.

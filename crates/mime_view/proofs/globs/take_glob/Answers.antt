@@ -19,7 +19,7 @@ returns-then-begins_otherwise-clause-finds c = λ rule reads.
           let states = entry_states c.args.query.now.counted.now c.args.at c.args.query.now.key.now rule c.in_ok-pattern.pattern.now
           (class_of c.in_ok-pattern.pattern.now) c.cards_within.result c.from.result c.cards_within.ensures.numbers c.from.ensures
           c.in_ok-pattern.ensures.text refl fits reads in
-          offers_other c.args.query.now.counted.now c.args.query.now.key.now rule c.args.progress.now.hits
+          offers_other c.args.query.now.counted.now c.args.query.now.key.now rule c.args.hits.now
           (sym states.its_matches
           ∙ (rw c.weight_and_case-cased.ensures.cased at (c.begins_otherwise.ensures.other c.if-begins_otherwise.true)));
       need = search rules;
@@ -33,8 +33,8 @@ returns-then-not-wants-2-clause-finds c = λ rule reads.
           let states = entry_states c.args.query.now.counted.now c.args.at c.args.query.now.key.now rule c.in_ok-pattern.pattern.now
           (class_of c.in_ok-pattern.pattern.now) c.cards_within.result c.from.result c.cards_within.ensures.numbers c.from.ensures
           c.in_ok-pattern.ensures.text refl fits reads in
-          offers_either c.args.query.now.counted.now c.args.query.now.key.now rule c.args.progress.now.hits
-          (offers_unwanted c.args.query.now.counted.now c.args.progress.now.hits rule c.rank_of_entry.result (c.rank_of_entry.ensures ∙ states.its_rank)
+          offers_either c.args.query.now.counted.now c.args.query.now.key.now rule c.args.hits.now
+          (offers_unwanted c.args.query.now.counted.now c.args.hits.now rule c.rank_of_entry.result (c.rank_of_entry.ensures ∙ states.its_rank)
           (sym c.wants-then-not-wants.ensures ∙ c.if-not-wants-2.true));
       need = search rules;
       most = omega (arith, c.in_ok-take_record.ensures.taken);
@@ -47,7 +47,7 @@ returns-in_ok-offer-clause-finds c = λ rule reads.
           let states = entry_states c.args.query.now.counted.now c.args.at c.args.query.now.key.now rule c.in_ok-pattern.pattern.now
           (class_of c.in_ok-pattern.pattern.now) c.cards_within.result c.from.result c.cards_within.ensures.numbers c.from.ensures
           c.in_ok-pattern.ensures.text refl fits reads in
-          offers_match c.args.query.now.counted.now c.args.query.now.key.now rule c.args.progress.now.hits c.offer.new.self
+          offers_match c.args.query.now.counted.now c.args.query.now.key.now rule c.args.hits.now c.offer.new.self
           (sym states.its_matches
           ∙ (rw c.weight_and_case-cased.ensures.cased at (sym c.glob_matches.ensures.answer ∙ c.if-glob_matches.true)))
           (c.in_ok-offer.ensures.offered c.args.query.now.counted.now rule (c.rank_of_entry-then-glob_matches.ensures ∙ states.its_rank) states.its_kind);
@@ -62,7 +62,7 @@ returns-else-glob_matches-clause-finds c = λ rule reads.
           let states = entry_states c.args.query.now.counted.now c.args.at c.args.query.now.key.now rule c.in_ok-pattern.pattern.now
           (class_of c.in_ok-pattern.pattern.now) c.cards_within.result c.from.result c.cards_within.ensures.numbers c.from.ensures
           c.in_ok-pattern.ensures.text refl fits reads in
-          offers_other c.args.query.now.counted.now c.args.query.now.key.now rule c.args.progress.now.hits
+          offers_other c.args.query.now.counted.now c.args.query.now.key.now rule c.args.hits.now
           (sym states.its_matches
           ∙ (rw c.weight_and_case-cased.ensures.cased at (sym c.glob_matches.ensures.answer ∙ c.if-glob_matches.false)));
       need = search rules;
@@ -77,7 +77,7 @@ returns-in_err-offer-clause-searches c =
       asked = search rules;
       few = search rules;
       cost =
-          entry_spends (length c.args.query.now.key.now) (length c.in_ok-pattern.pattern.now) c.text_at.new.meter.bytes c.args.progress.now.spending
+          entry_spends (length c.args.query.now.key.now) (length c.in_ok-pattern.pattern.now) c.text_at.new.meter.bytes c.args.spending.now
           _ c.in_ok-take_record.ensures.taken c.take_record.ensures.value_bytes (omega arith) (omega arith) (omega arith) (omega arith)
           (omega arith) (omega arith) short;
     }
@@ -90,7 +90,7 @@ returns-else-glob_matches-clause-searches c =
       asked = search rules;
       few = search rules;
       cost =
-          entry_spends (length c.args.query.now.key.now) (length c.in_ok-pattern.pattern.now) c.text_at.new.meter.bytes c.args.progress.now.spending
+          entry_spends (length c.args.query.now.key.now) (length c.in_ok-pattern.pattern.now) c.text_at.new.meter.bytes c.args.spending.now
           _ c.in_ok-take_record.ensures.taken c.take_record.ensures.value_bytes (omega arith) (omega arith) (omega arith) (omega arith)
           (omega arith) (omega arith) short;
     }
@@ -103,7 +103,7 @@ returns-in_ok-offer-clause-searches c =
       asked = search rules;
       few = search rules;
       cost =
-          entry_spends (length c.args.query.now.key.now) (length c.in_ok-pattern.pattern.now) c.text_at.new.meter.bytes c.args.progress.now.spending
+          entry_spends (length c.args.query.now.key.now) (length c.in_ok-pattern.pattern.now) c.text_at.new.meter.bytes c.args.spending.now
           _ c.in_ok-take_record.ensures.taken c.take_record.ensures.value_bytes (omega arith) (omega arith) (omega arith) (omega arith)
           (omega arith) (omega arith) short;
     }
