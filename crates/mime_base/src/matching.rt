@@ -251,7 +251,7 @@ fn count_to_end(text: &[u8], endless: usize, cased: bool) -> Option<usize>
         if *first == b'*' {
             return None;
         }
-        rest = after_element(as_compared(cased, *first), after, endless);
+        rest = after_element(*first, after, endless);
         size += 1;
     }
     Some(size)
@@ -275,7 +275,14 @@ fn try_at_end(pattern: &[u8], endless: usize, cased: bool, size: usize, name: &[
             tests: 1,
         };
     }
-    let last = attempt(pattern, endless, cased, &name[name.len() - size..]);
+    let end = &name[name.len() - size..];
+    if begins_otherwise(pattern, cased, end) {
+        return Searched {
+            found: false,
+            tests: 1,
+        };
+    }
+    let last = attempt(pattern, endless, cased, end);
     Searched {
         found: matches!(last.halt, Halt::BothEnd),
         tests: last.tests,

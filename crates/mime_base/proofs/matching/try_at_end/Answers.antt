@@ -2,7 +2,7 @@ use Rattle.std.proofs.Common.{◌-◌, length, sym, arith}
 use Rattle.std.proofs.lemmas.Slice.{between_to_end}
 use Rattle.mime_base.specs.Matching.Elements.{elements}
 use Rattle.mime_base.specs.Matching.Folding.{compared}
-use Rattle.mime_base.specs.declared.matching.attempt.Halt.TheVariants.{BothEnd}
+use Rattle.mime_base.specs.declared.matching.attempt.Halt.TheVariants.{BothEnd, Refused}
 use Rattle.mime_base.proofs.MatchingLemmas.Attempts.{goes-owed}
 use Rattle.mime_base.proofs.MatchingLemmas.Lasts.{end-found, end-owed, end-tests, end-unfound, short-matches, short-tests, singles-size}
 use Rattle.mime_base.proofs.MatchingLemmas.Places.{singles-length}
@@ -25,6 +25,24 @@ returns-then-name-size-clause-most c =
       c.requires.size,
       c.if-name-size.true,
     )
+
+pub returns-then-begins_otherwise : goal.returns-then-begins_otherwise
+returns-then-begins_otherwise c =
+    let start = length c.args.name.now - c.args.size in
+    let end = between_to_end c.args.name.now start (length c.args.name.now) (omega arith) in
+    let goes = rw end at (c.begins_otherwise.ensures.refused c.if-begins_otherwise.true) in
+    let es = elements (compared c.args.cased c.args.pattern.now) in
+    let made = end-tests c.args.cased es c.args.name.now c.args.size c.requires.none c.requires.size (omega arith) 0 es Refused goes in
+    let owed = end-owed c.args.cased es c.args.name.now c.args.size c.requires.none c.requires.size (omega arith) 0 es Refused goes
+    (λ ends. absurd cc) in
+    let unfound = end-unfound c.args.cased es c.args.name.now c.args.size c.requires.none c.requires.size (omega arith) 0 es Refused goes
+    (λ ends. absurd cc) in
+    record {
+      found = sym unfound;
+      tests = omega (arith, made);
+      least = omega (arith, owed);
+      most = c.begins_otherwise.ensures.some c.if-begins_otherwise.true;
+    }
 
 pub returns-in-BothEnd-clause-found : goal.returns-in-BothEnd-clause-found
 returns-in-BothEnd-clause-found c =
