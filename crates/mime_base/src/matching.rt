@@ -15,7 +15,7 @@ pub mod elements;
 pub mod folding;
 
 ghost use Rattle.std.specs.Prelude.{◌≡◌, true, false, ◌+◌, ◌-◌, ◌*◌, ◌<◌, ◌≤◌, ◌↔◌, ◌∷◌, length, drop, IsTrue, IfSome, IsNone};
-ghost use Rattle.mime_base.specs.Matching.Attempt.{Goes, decided, last_tests, owed, tests_after};
+ghost use Rattle.mime_base.specs.Matching.Attempt.{Goes, decided, last_tests, owed, takes_a_byte, tests_after};
 ghost use Rattle.mime_base.specs.Matching.Count.{has_star, rule_tests, tests_of};
 ghost use Rattle.mime_base.specs.Matching.Elements.{any_bytes, elements, is_literal_text, HasNoEnd};
 ghost use Rattle.mime_base.specs.Matching.Folding.{compared};
@@ -205,6 +205,14 @@ fn slide<'a>(pattern: &'a [u8], endless: usize, cased: bool, name: &[u8]) -> Rea
         let refused = count_refused(pattern, cased, &name[start..]);
         start += refused;
         tests = tests.saturating_add(refused as u64);
+        if 0 < refused && start == name.len() {
+            return Reach {
+                halt: Halt::NameEnds,
+                passed: start,
+                after: pattern,
+                tests: tests.saturating_add(1),
+            };
+        }
         let tried = attempt(pattern, endless, cased, &name[start..]);
         tests = tests.saturating_add(tried.tests);
         match tried.halt {
@@ -227,6 +235,7 @@ fn count_refused(pattern: &[u8], cased: bool, name: &[u8]) -> usize
         tests_of (any_bytes ∷ elements (compared cased pattern.now)) (compared cased name.now)
         ≡ result + tests_of (any_bytes ∷ elements (compared cased pattern.now)) (compared cased (drop result name.now)) }
     ensures within { result ≤ length name.now }
+    ensures taker { 0 < result → (takes_a_byte (elements (compared cased pattern.now)) ≡ true) × (0 < length pattern.now) }
     ensures most { result ≤ result * length pattern.now }
 {
     let Some(first) = first_itself(pattern) else {

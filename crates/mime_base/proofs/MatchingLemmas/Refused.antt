@@ -1,13 +1,14 @@
 -- Places of a name that refuse the byte that a pattern begins with.
-use Rattle.std.proofs.Common.{◌≡◌, ℕ, zero, suc, ◌+◌, ◌<◌, ◌≤◌, ◌==◌, Bool, true, false, true≢false, inl, List, ◌∷◌}
+use Rattle.std.proofs.Common.{◌≡◌, ℕ, zero, suc, ◌+◌, ◌<◌, ◌≤◌, ◌==◌, Bool, true, false, true≢false, inl, List, [], ◌∷◌}
 use Rattle.std.proofs.Common.{length, length-drop, drop, drop-cons, get_or, refl, sym, ap, subst, ◌∙◌, arith, eq-eqb}
 use Rattle.std.proofs.lemmas.Bool.{eqb-true, false_from_ne_true}
-use Rattle.std.proofs.lemmas.List.{drop-drop}
-use Rattle.mime_base.specs.Matching.Attempt.{refuses}
+use Rattle.std.proofs.lemmas.List.{drop-drop, drop_all}
+use Rattle.mime_base.specs.Matching.Attempt.{Goes, refuses, takes_a_byte}
 use Rattle.mime_base.specs.Matching.Count.{has_star, tests_of}
-use Rattle.mime_base.specs.Matching.Elements.{Element, any_bytes, elements, is_special}
+use Rattle.mime_base.specs.Matching.Elements.{Element, any_bytes, one, elements, is_special}
 use Rattle.mime_base.specs.Matching.Folding.{compared, compared_byte}
 use Rattle.mime_base.specs.Matching.Matches.{matches}
+use Rattle.mime_base.specs.declared.matching.attempt.Halt.TheVariants.{NameEnds}
 use Rattle.mime_base.proofs.MatchingLemmas.Endings.{other-refused}
 use Rattle.mime_base.proofs.MatchingLemmas.Sets.{compared_byte-mark}
 use Rattle.mime_base.proofs.MatchingLemmas.Slides.{refused-from, tests-next}
@@ -46,6 +47,23 @@ module _ (cased : Bool) (es : List Element) (name : List ℕ) (first : ℕ)
             ap (λ (k : ℕ). tests_of (any_bytes ∷ es) (compared cased (drop k name))) e in
             omega (arith, before.1 star, next, there)),
       )
+
+-- what refuses a byte takes one
+refuses-takes : (es : List Element) (name : List ℕ) → refuses es name ≡ true → takes_a_byte es ≡ true
+refuses-takes [] name is = is
+refuses-takes (any_bytes ∷ es) name is = is
+refuses-takes (one w ∷ es) name is = refl
+
+-- where all bytes but one are refused, a byte is taken
+pub refusing-takes : (cased : Bool) (es : List Element) (first : ℕ)
+    → ((byte : ℕ) (rest : List ℕ) → (byte == first) ≡ false → refuses es (compared cased (byte ∷ rest)) ≡ true) → takes_a_byte es ≡ true
+refusing-takes cased es first refusing =
+    refuses-takes es _ (refusing (suc first) [] (false_from_ne_true _ (λ is. absurd (omega (arith, eqb-true _ _ is)))))
+
+-- at the end of a name an element that takes a byte halts
+pub end-goes : (cased : Bool) (es : List Element) (name : List ℕ) (start : ℕ) → takes_a_byte es ≡ true → start ≡ length name
+    → Goes NameEnds 0 es (compared cased (drop start name)) es
+end-goes cased es name start takes is = (takes, ap (compared cased) (drop_all start name (omega (arith, is))))
 
 -- the same from a place on, which are no more than there are
 pub passed-within : (name : List ℕ) (start n : ℕ) → start ≤ length name → n ≤ length (drop start name) → start + n ≤ length name

@@ -6,8 +6,8 @@ use Rattle.mime_base.specs.Matching.Matches.{matches}
 use Rattle.mime_base.specs.Meter.{raised}
 use Rattle.mime_base.proofs.matching.slide.Given as goal
 
-abbrev pub invariant-loop-start : goal.invariant-loop-start
-invariant-loop-start l = record {
+abbrev pub invariant-loop-endless : goal.invariant-loop-endless
+invariant-loop-endless l = record {
   place : l.start ≤ length l.name;
   same : matches (any_bytes ∷ elements (compared l.cased l.pattern)) (compared l.cased l.name)
       ≡ matches (any_bytes ∷ elements (compared l.cased l.pattern)) (compared l.cased (drop l.start l.name));
@@ -16,5 +16,5 @@ invariant-loop-start l = record {
   spent : l.tests ≤ l.start * length l.pattern;
 }
 
-abbrev pub decreases-loop-start : goal.decreases-loop-start
-decreases-loop-start l = length l.name - l.start
+abbrev pub decreases-loop-endless : goal.decreases-loop-endless
+decreases-loop-endless l = length l.name - l.start
