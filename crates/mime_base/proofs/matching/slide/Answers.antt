@@ -1,4 +1,4 @@
-use Rattle.std.proofs.Common.{◌+◌, length, ◌∙◌, arith}
+use Rattle.std.proofs.Common.{◌+◌, [], length, ◌∙◌, arith}
 use Rattle.std.proofs.lemmas.Slice.{between_to_end}
 use Rattle.mime_base.proofs.MatchingLemmas.Attempts.{goes-owed}
 use Rattle.mime_base.proofs.MatchingLemmas.Costs.{last-paid, next-paid, passed-paid, star-paid}
@@ -29,6 +29,30 @@ loop-start-preserved c =
       place = omega (arith, next.0);
       same = c.loop-start.invariant.same ∙ same ∙ next.1;
       made = omega (arith, c.loop-start.invariant.made, passed, made, tests);
+      spent = omega (arith, paid);
+    }
+
+pub loop-start-preserved-then-refused_second : goal.loop-start-preserved-then-refused_second
+loop-start-preserved-then-refused_second c =
+    let name = c.args.name.now in
+    let front = between_to_end name c.loop-start.start (length name) (omega arith) in
+    let same = passed-same c.args.cased _ name c.loop-start.start _ (rw front at c.count_refused-refused.ensures.same) in
+    let passed = passed-tests c.args.cased _ name c.loop-start.start _ ((rw front at c.count_refused-refused.ensures.tests) c.requires.star) in
+    let at = c.loop-start.start + c.count_refused-refused.result in
+    let within = passed-within name c.loop-start.start c.count_refused-refused.result c.loop-start.invariant.place
+    (rw front at c.count_refused-refused.ensures.within) in
+    let left = between_to_end name at (length name) (omega arith) in
+    let goes = rw left at (c.refused_second.ensures.goes c.if-refused_second.true) in
+    let next = refused-from c.args.cased _ name at 1 [] goes in
+    let made = tests-next c.args.cased _ name at 1 [] c.requires.star goes in
+    let before = passed-paid (length c.args.pattern.now) c.loop-start.start c.loop-start.tests c.count_refused-refused.result
+    c.loop-start.invariant.spent c.count_refused-refused.ensures.most in
+    let paid = next-paid (length c.args.pattern.now) at (c.loop-start.tests + c.count_refused-refused.result)
+    2 (at + 1) before (c.refused_second.ensures.some c.if-refused_second.true) (omega arith) in
+    record {
+      place = omega (arith, next.0);
+      same = c.loop-start.invariant.same ∙ same ∙ next.1;
+      made = omega (arith, c.loop-start.invariant.made, passed, made);
       spent = omega (arith, paid);
     }
 

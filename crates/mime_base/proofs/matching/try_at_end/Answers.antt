@@ -1,9 +1,11 @@
-use Rattle.std.proofs.Common.{◌-◌, length, sym, arith}
+use Rattle.std.proofs.Common.{◌-◌, [], length, drop, sym, arith}
 use Rattle.std.proofs.lemmas.Slice.{between_to_end}
+use Rattle.mime_base.specs.Matching.Attempt.{Goes}
 use Rattle.mime_base.specs.Matching.Elements.{elements}
 use Rattle.mime_base.specs.Matching.Folding.{compared}
-use Rattle.mime_base.specs.declared.matching.attempt.Halt.TheVariants.{BothEnd}
+use Rattle.mime_base.specs.declared.matching.attempt.Halt.TheVariants.{BothEnd, Refused}
 use Rattle.mime_base.proofs.MatchingLemmas.Attempts.{goes-owed}
+use Rattle.mime_base.proofs.MatchingLemmas.Endings.{refused-unended}
 use Rattle.mime_base.proofs.MatchingLemmas.Lasts.{end-found, end-owed, end-tests, end-unfound, short-matches, short-tests, singles-size}
 use Rattle.mime_base.proofs.MatchingLemmas.Places.{singles-length}
 use Rattle.mime_base.proofs.matching.try_at_end.Goals as goal
@@ -25,6 +27,23 @@ returns-then-name-size-clause-most c =
       c.requires.size,
       c.if-name-size.true,
     )
+
+pub returns-then-begins_otherwise : goal.returns-then-begins_otherwise
+returns-then-begins_otherwise c =
+    let start = length c.args.name.now - c.args.size in
+    let es = elements (compared c.args.cased c.args.pattern.now) in
+    let goes : Goes Refused 0 es (compared c.args.cased (drop start c.args.name.now)) [] =
+    rw (between_to_end c.args.name.now start (length c.args.name.now) (omega arith)) at
+    (c.begins_otherwise.ensures.refused c.if-begins_otherwise.true) in
+    let made = end-tests c.args.cased es c.args.name.now c.args.size c.requires.none c.requires.size (omega arith) 0 [] Refused goes in
+    let owed = end-owed c.args.cased es c.args.name.now c.args.size c.requires.none c.requires.size (omega arith) 0 [] Refused goes refused-unended in
+    let unfound = end-unfound c.args.cased es c.args.name.now c.args.size c.requires.none c.requires.size (omega arith) 0 [] Refused goes refused-unended in
+    record {
+      found = sym unfound;
+      tests = sym made;
+      least = owed;
+      most = c.begins_otherwise.ensures.some c.if-begins_otherwise.true;
+    }
 
 pub returns-in-BothEnd-clause-found : goal.returns-in-BothEnd-clause-found
 returns-in-BothEnd-clause-found c =
