@@ -22,11 +22,11 @@ ghost use Rattle.mime_base.specs.Matching.Folding.{compared};
 ghost use Rattle.mime_base.specs.Matching.Matches.{least_tests, matches, rule_matches, RuleMatches};
 ghost use Rattle.mime_base.specs.Meter.{raised};
 
-use crate::matching::attempt::{Halt, Reach, attempt};
+use crate::matching::attempt::{Halt, Reach, attempt, refused_second};
 use crate::matching::elements::{
     after_element, begins_otherwise, count_endless, first_itself, is_literal_text,
 };
-use crate::matching::folding::{as_compared, common_compared};
+use crate::matching::folding::common_compared;
 use crate::meter::Meter;
 use memchr::memchr;
 
@@ -205,6 +205,7 @@ fn slide<'a>(pattern: &'a [u8], endless: usize, cased: bool, name: &[u8]) -> Rea
         let refused = count_refused(pattern, cased, &name[start..]);
         start += refused;
         tests = tests.saturating_add(refused as u64);
+        // No place is left where each has refused the first byte.
         if 0 < refused && start == name.len() {
             return Reach {
                 halt: Halt::NameEnds,
@@ -212,6 +213,12 @@ fn slide<'a>(pattern: &'a [u8], endless: usize, cased: bool, name: &[u8]) -> Rea
                 after: pattern,
                 tests: tests.saturating_add(1),
             };
+        }
+        // Most places are refused by the second byte.
+        if refused_second(pattern, cased, &name[start..]) {
+            start += 1;
+            tests = tests.saturating_add(2);
+            continue;
         }
         let tried = attempt(pattern, endless, cased, &name[start..]);
         tests = tests.saturating_add(tried.tests);
@@ -260,6 +267,7 @@ fn count_to_end(text: &[u8], endless: usize, cased: bool) -> Option<usize>
         if *first == b'*' {
             return None;
         }
+        // Folding makes no mark of a set or an escape, and takes none away.
         rest = after_element(*first, after, endless);
         size += 1;
     }
@@ -284,14 +292,15 @@ fn try_at_end(pattern: &[u8], endless: usize, cased: bool, size: usize, name: &[
             tests: 1,
         };
     }
-    let end = &name[name.len() - size..];
-    if begins_otherwise(pattern, cased, end) {
+    let ending = &name[name.len() - size..];
+    // Most names are refused by the first element.
+    if begins_otherwise(pattern, cased, ending) {
         return Searched {
             found: false,
             tests: 1,
         };
     }
-    let last = attempt(pattern, endless, cased, end);
+    let last = attempt(pattern, endless, cased, ending);
     Searched {
         found: matches!(last.halt, Halt::BothEnd),
         tests: last.tests,

@@ -247,6 +247,15 @@ fn read_every<'a>(
     // It costs their texts.
     ensures looks { Looks 0 (256 * length hits.items) meter.old meter.new }
 {
+    // One hit is in order.
+    if hits.len() == 1 {
+        let place = [hits[0].1];
+        let only = read_kinds(alloc, counted, &place, meter)?;
+        return Ok(NameHits {
+            kinds: only,
+            kept: 1,
+        });
+    }
     let mut sorted = hits;
     sort_by_rank(alloc, &mut sorted)?;
     let kept = count_best(&sorted);

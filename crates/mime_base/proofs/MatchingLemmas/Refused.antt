@@ -8,9 +8,9 @@ use Rattle.mime_base.specs.Matching.Count.{has_star, tests_of}
 use Rattle.mime_base.specs.Matching.Elements.{Element, any_bytes, one, elements, is_special}
 use Rattle.mime_base.specs.Matching.Folding.{compared, compared_byte}
 use Rattle.mime_base.specs.Matching.Matches.{matches}
-use Rattle.mime_base.specs.declared.matching.attempt.Halt.TheVariants.{NameEnds}
-use Rattle.mime_base.proofs.MatchingLemmas.Endings.{other-refused}
-use Rattle.mime_base.proofs.MatchingLemmas.Sets.{compared_byte-mark}
+use Rattle.mime_base.specs.declared.matching.attempt.Halt.TheVariants.{NameEnds, Refused}
+use Rattle.mime_base.proofs.MatchingLemmas.Endings.{elements-itself, other-refused}
+use Rattle.mime_base.proofs.MatchingLemmas.Sets.{compared_byte-mark, is_special-compared}
 use Rattle.mime_base.proofs.MatchingLemmas.Slides.{refused-from, tests-next}
 
 -- a byte that stands for itself, and that folding makes of no other, refuses every other byte
@@ -23,6 +23,15 @@ itself-refuses pattern first after is plain low cased byte rest differs =
     let other : (compared_byte cased byte == first) ≡ false = compared_byte-mark cased byte first (inl low) ∙ differs in
     other-refused cased pattern first after is plain (byte ∷ rest) byte rest refl
     (false_from_ne_true _ (λ e. true≢false (sym (eq-eqb _ _ (sym (eqb-true _ _ e) ∙ same)) ∙ other)))
+
+-- a byte that stands for itself and takes a byte, and elements that refuse the next one
+pub second-refused : (cased : Bool) (pattern : List ℕ) (first : ℕ) (after : List ℕ) → pattern ≡ first ∷ after → is_special first ≡ false →
+    (name : List ℕ) (byte : ℕ) (rest : List ℕ) → name ≡ byte ∷ rest → (compared_byte cased first == compared_byte cased byte) ≡ true →
+    refuses (elements (compared cased after)) (compared cased rest) ≡ true →
+    Goes Refused 1 (elements (compared cased pattern)) (compared cased name) []
+second-refused cased pattern first after is itself name byte rest is_name same refused =
+    rw (is, is_name, elements-itself (compared_byte cased first) (compared cased after) (is_special-compared cased first ∙ itself))
+    (same, refused)
 
 module _ (cased : Bool) (es : List Element) (name : List ℕ) (first : ℕ)
     (refusing : (byte : ℕ) (rest : List ℕ) → (byte == first) ≡ false → refuses es (compared cased (byte ∷ rest)) ≡ true) where

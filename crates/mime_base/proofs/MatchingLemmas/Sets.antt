@@ -103,15 +103,15 @@ is_special-compared cased b =
       compared_byte-mark cased b 92 (inr (lit< tt, lit< tt)),
     )
 
+-- nor does it change how wide an element is
+pub width_after-compared : (cased : Bool) (first : ℕ) (after : List ℕ) → width_after (compared_byte cased first) after ≡ width_after first after
+width_after-compared cased first after =
+    rw (compared_byte-mark cased first 92 (inr (lit< tt, lit< tt)), compared_byte-mark cased first 91 (inr (lit< tt, lit< tt)))
+
 -- and leaves a text literal that is
 pub is_literal_text-compared : (cased : Bool) (text : List ℕ) → is_literal_text (compared cased text) ≡ is_literal_text text
 is_literal_text-compared cased [] = refl
 is_literal_text-compared cased (b ∷ rest) = rw (is_special-compared cased b, is_literal_text-compared cased rest)
-
--- folding changes no byte by which an element's width is told
-pub width_after-first : (cased : Bool) (first : ℕ) (rest : List ℕ) → width_after (compared_byte cased first) rest ≡ width_after first rest
-width_after-first cased first rest =
-    rw (compared_byte-mark cased first 92 (inr (lit< tt, lit< tt)), compared_byte-mark cased first 91 (inr (lit< tt, lit< tt)))
 
 -- what stands after an element, given where it admits
 

@@ -1,11 +1,11 @@
 //! How elements go along a name from its front, one byte each.
 
-ghost use Rattle.std.specs.Prelude.{◌≡◌, ◌+◌, ◌<◌, ◌≤◌, length};
+ghost use Rattle.std.specs.Prelude.{◌≡◌, [], ◌+◌, ◌<◌, ◌≤◌, length, IsTrue};
 ghost use Rattle.mime_base.specs.Matching.Attempt.{answer, Goes, IsShorter, IsStep, last_tests, LeavesNoEnd};
 ghost use Rattle.mime_base.specs.Matching.Elements.{elements, HasNoEnd};
 ghost use Rattle.mime_base.specs.Matching.Folding.{compared};
 
-use crate::matching::elements::after_admitting;
+use crate::matching::elements::{after_admitting, begins_otherwise, is_special};
 use crate::matching::folding::as_compared;
 
 /// Why elements halt on their way along a name.
@@ -100,6 +100,28 @@ pub fn attempt<'a>(pattern: &'a [u8], endless: usize, cased: bool, name: &[u8]) 
             }
         }
     }
+}
+
+/// Whether a pattern's first byte stands for itself and takes a name's, and its second stands for itself and is refused: then
+/// an attempt ends with the second test.
+// Inlined: the body of a loop.
+#[inline]
+pub fn refused_second(pattern: &[u8], cased: bool, name: &[u8]) -> bool
+    // Then the first element takes a byte, and the next one refuses.
+    ensures goes { IsTrue result → Goes Halt.Refused 1 (elements (compared cased pattern.now)) (compared cased name.now) [] }
+    // Then the pattern has two bytes.
+    ensures some { IsTrue result → 2 ≤ length pattern.now }
+{
+    let Some((first, after)) = pattern.split_first() else {
+        return false;
+    };
+    let Some((byte, rest)) = name.split_first() else {
+        return false;
+    };
+    if is_special(*first) || as_compared(cased, *first) != as_compared(cased, *byte) {
+        return false;
+    }
+    begins_otherwise(after, cased, rest)
 }
 
 /// What comes of the element at the front of a pattern and the byte at the front of a name.

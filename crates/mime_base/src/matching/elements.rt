@@ -205,7 +205,8 @@ fn are_eight_literal(text: &[u8]) -> bool
 
 /// Whether a byte may stand for more than itself.
 #[inline]
-fn is_special(byte: u8) -> bool
+pub fn is_special(byte: u8) -> bool
+    // Whether it is `*`, `?`, `[` or `\`.
     ensures { result ≡ is_special byte }
 {
     byte == b'*' || byte == b'?' || byte == b'[' || byte == b'\\'

@@ -1,8 +1,9 @@
-use Rattle.std.proofs.Common.{length, drop, ap, refl, sym, ◌∙◌, arith}
+use Rattle.std.proofs.Common.{length, drop, ap, sym, refl, ◌∙◌, arith}
 use Rattle.mime_base.specs.Matching.Count.{has_star}
+use Rattle.mime_base.specs.Matching.Folding.{compared}
 use Rattle.mime_base.proofs.MatchingLemmas.Ends.{no_end-left}
 use Rattle.mime_base.proofs.MatchingLemmas.Places.{none-left, star-next, taker-left}
-use Rattle.mime_base.proofs.MatchingLemmas.Sets.{width_after-first}
+use Rattle.mime_base.proofs.MatchingLemmas.Sets.{width_after-compared}
 use Rattle.mime_base.proofs.matching.count_to_end.Goals as goal
 
 pub returns-then-first-eq42-clause-star : goal.returns-then-first-eq42-clause-star
@@ -11,9 +12,9 @@ returns-then-first-eq42-clause-star c =
 
 pub loop-first-preserved : goal.loop-first-preserved
 loop-first-preserved c =
-    let after = c.after_element-rest.ensures.after c.args.cased in
-    let folded = after ∙ ap (λ width. drop width c.in-Some.after.now) (sym (width_after-first c.args.cased c.in-Some.first.now _)) in
-    let left = taker-left c.args.cased _ _ _ c.in-Some.ensures.cases.0 c.if-first-eq42.false _ refl _ folded in
+    let wide = width_after-compared c.args.cased c.in-Some.first.now (compared c.args.cased c.in-Some.after.now) in
+    let after = c.after_element-rest.ensures.after c.args.cased ∙ ap (λ n. drop n c.in-Some.after.now) (sym wide) in
+    let left = taker-left c.args.cased _ _ _ c.in-Some.ensures.cases.0 c.if-first-eq42.false _ refl _ after in
     record {
       endless = no_end-left c.args.endless _ _ _ _ _ c.in-Some.ensures.cases.0 after c.loop-first.invariant.endless;
       star = c.loop-first.invariant.star ∙ left.0;

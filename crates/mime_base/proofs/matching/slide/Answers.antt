@@ -1,4 +1,4 @@
-use Rattle.std.proofs.Common.{◌+◌, length, ◌∙◌, arith}
+use Rattle.std.proofs.Common.{◌+◌, [], length, ◌∙◌, arith}
 use Rattle.std.proofs.lemmas.Slice.{between_to_end}
 use Rattle.mime_base.specs.Matching.Elements.{elements}
 use Rattle.mime_base.specs.Matching.Folding.{compared}
@@ -55,6 +55,30 @@ returns-then-start-name-clause-tests c =
     let goes = end-goes c.args.cased es name at (c.count_refused-refused.ensures.taker c.if-refused-gt0.true).0 c.if-start-name.true in
     let made = tests-from c.args.cased es name at 0 es c.requires.star NameEnds goes (λ ends. absurd cc) in
     omega (arith, c.loop-endless.invariant.made, passed, made)
+
+pub loop-endless-preserved-then-refused_second : goal.loop-endless-preserved-then-refused_second
+loop-endless-preserved-then-refused_second c =
+    let name = c.args.name.now in
+    let front = between_to_end name c.loop-endless.start (length name) (omega arith) in
+    let same = passed-same c.args.cased _ name c.loop-endless.start _ (rw front at c.count_refused-refused.ensures.same) in
+    let passed = passed-tests c.args.cased _ name c.loop-endless.start _ ((rw front at c.count_refused-refused.ensures.tests) c.requires.star) in
+    let at = c.loop-endless.start + c.count_refused-refused.result in
+    let within = passed-within name c.loop-endless.start c.count_refused-refused.result c.loop-endless.invariant.place
+    (rw front at c.count_refused-refused.ensures.within) in
+    let left = between_to_end name at (length name) (omega arith) in
+    let goes = rw left at (c.refused_second.ensures.goes c.if-refused_second.true) in
+    let next = refused-from c.args.cased _ name at 1 [] goes in
+    let made = tests-next c.args.cased _ name at 1 [] c.requires.star goes in
+    let before = passed-paid (length c.args.pattern.now) c.loop-endless.start c.loop-endless.tests c.count_refused-refused.result
+    c.loop-endless.invariant.spent c.count_refused-refused.ensures.most in
+    let paid = next-paid (length c.args.pattern.now) at (c.loop-endless.tests + c.count_refused-refused.result)
+    2 (at + 1) before (c.refused_second.ensures.some c.if-refused_second.true) (omega arith) in
+    record {
+      place = omega (arith, next.0);
+      same = c.loop-endless.invariant.same ∙ same ∙ next.1;
+      made = omega (arith, c.loop-endless.invariant.made, passed, made);
+      spent = omega (arith, paid);
+    }
 
 pub returns-in_default : goal.returns-in_default
 returns-in_default c =

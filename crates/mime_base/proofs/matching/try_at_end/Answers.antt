@@ -1,9 +1,11 @@
-use Rattle.std.proofs.Common.{◌-◌, length, sym, arith}
+use Rattle.std.proofs.Common.{◌-◌, [], length, drop, sym, arith}
 use Rattle.std.proofs.lemmas.Slice.{between_to_end}
+use Rattle.mime_base.specs.Matching.Attempt.{Goes}
 use Rattle.mime_base.specs.Matching.Elements.{elements}
 use Rattle.mime_base.specs.Matching.Folding.{compared}
 use Rattle.mime_base.specs.declared.matching.attempt.Halt.TheVariants.{BothEnd, Refused}
 use Rattle.mime_base.proofs.MatchingLemmas.Attempts.{goes-owed}
+use Rattle.mime_base.proofs.MatchingLemmas.Endings.{refused-unended}
 use Rattle.mime_base.proofs.MatchingLemmas.Lasts.{end-found, end-owed, end-tests, end-unfound, short-matches, short-tests, singles-size}
 use Rattle.mime_base.proofs.MatchingLemmas.Places.{singles-length}
 use Rattle.mime_base.proofs.matching.try_at_end.Goals as goal
@@ -29,18 +31,17 @@ returns-then-name-size-clause-most c =
 pub returns-then-begins_otherwise : goal.returns-then-begins_otherwise
 returns-then-begins_otherwise c =
     let start = length c.args.name.now - c.args.size in
-    let end = between_to_end c.args.name.now start (length c.args.name.now) (omega arith) in
-    let goes = rw end at (c.begins_otherwise.ensures.refused c.if-begins_otherwise.true) in
     let es = elements (compared c.args.cased c.args.pattern.now) in
-    let made = end-tests c.args.cased es c.args.name.now c.args.size c.requires.none c.requires.size (omega arith) 0 es Refused goes in
-    let owed = end-owed c.args.cased es c.args.name.now c.args.size c.requires.none c.requires.size (omega arith) 0 es Refused goes
-    (λ ends. absurd cc) in
-    let unfound = end-unfound c.args.cased es c.args.name.now c.args.size c.requires.none c.requires.size (omega arith) 0 es Refused goes
-    (λ ends. absurd cc) in
+    let goes : Goes Refused 0 es (compared c.args.cased (drop start c.args.name.now)) [] =
+    rw (between_to_end c.args.name.now start (length c.args.name.now) (omega arith)) at
+    (c.begins_otherwise.ensures.refused c.if-begins_otherwise.true) in
+    let made = end-tests c.args.cased es c.args.name.now c.args.size c.requires.none c.requires.size (omega arith) 0 [] Refused goes in
+    let owed = end-owed c.args.cased es c.args.name.now c.args.size c.requires.none c.requires.size (omega arith) 0 [] Refused goes refused-unended in
+    let unfound = end-unfound c.args.cased es c.args.name.now c.args.size c.requires.none c.requires.size (omega arith) 0 [] Refused goes refused-unended in
     record {
       found = sym unfound;
-      tests = omega (arith, made);
-      least = omega (arith, owed);
+      tests = sym made;
+      least = owed;
       most = c.begins_otherwise.ensures.some c.if-begins_otherwise.true;
     }
 
