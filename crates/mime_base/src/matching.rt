@@ -24,7 +24,7 @@ ghost use Rattle.mime_base.specs.Meter.{raised};
 
 use crate::matching::attempt::{Halt, Reach, attempt, refused_second};
 use crate::matching::elements::{
-    after_element, begins_otherwise, count_endless, first_itself, is_literal_text,
+    after_element, begins_otherwise, count_endless, count_itself, first_itself, is_literal_text,
 };
 use crate::matching::folding::common_compared;
 use crate::meter::Meter;
@@ -261,8 +261,8 @@ fn count_to_end(text: &[u8], endless: usize, cased: bool) -> Option<usize>
     ensures none { IfSome result (λ size. has_star (elements (compared cased text.now)) ≡ false) }
     ensures size { IfSome result (λ size. size ≡ length (elements (compared cased text.now))) }
 {
-    let mut rest = text;
-    let mut size = 0;
+    let mut size = count_itself(text);
+    let mut rest = &text[size..];
     while let Some((first, after)) = rest.split_first() {
         if *first == b'*' {
             return None;

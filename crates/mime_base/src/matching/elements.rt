@@ -185,22 +185,34 @@ pub fn is_literal_text(text: &[u8]) -> bool
     ensures { result ≡ is_literal_text text.now }
 {
     // Where a pattern has a special byte, one mostly stands among the first eight.
-    if 8 <= text.len() && !are_eight_literal(text) {
+    if 8 <= text.len() && count_itself(text) < 8 {
         return false;
     }
     text.iter().all(|byte| !is_special(*byte))
 }
 
-/// Whether each of the first eight bytes stands for itself.
+/// How many bytes at the front of a text stand for themselves: eight at most, and none of a text of fewer.
 #[inline]
-fn are_eight_literal(text: &[u8]) -> bool
-    requires { 8 ≤ length text.now }
-    ensures { result ≡ is_literal_text (take 8 text.now) }
+pub fn count_itself(text: &[u8]) -> usize
+    // They stand for themselves.
+    ensures itself { is_literal_text (take result text.now) ≡ true }
+    // The text has as many.
+    ensures within { result ≤ length text.now }
+    // Of eight bytes all, or a special byte is next.
+    ensures next { 8 ≤ length text.now → result < 8 → is_literal_text text.now ≡ false }
 {
+    if text.len() < 8 {
+        return 0;
+    }
     let front = u8x8::from_slice(text);
     let marks = front.simd_eq(u8x8::splat(b'*')) | front.simd_eq(u8x8::splat(b'?'));
     let openings = front.simd_eq(u8x8::splat(b'[')) | front.simd_eq(u8x8::splat(b'\\'));
-    (marks | openings).to_bitmask() == 0
+    let places = (marks | openings).to_bitmask();
+    if places == 0 {
+        8
+    } else {
+        places.trailing_zeros() as usize
+    }
 }
 
 /// Whether a byte may stand for more than itself.

@@ -1,10 +1,25 @@
 use Rattle.std.proofs.Common.{length, drop, ap, sym, refl, ◌∙◌, arith}
+use Rattle.std.proofs.lemmas.List.{length-drop}
+use Rattle.std.proofs.lemmas.Slice.{between_to_end}
 use Rattle.mime_base.specs.Matching.Count.{has_star}
 use Rattle.mime_base.specs.Matching.Folding.{compared}
-use Rattle.mime_base.proofs.MatchingLemmas.Ends.{no_end-left}
+use Rattle.mime_base.proofs.MatchingLemmas.Ends.{no_end-drop, no_end-left}
+use Rattle.mime_base.proofs.MatchingLemmas.Literals.{literal-elements}
 use Rattle.mime_base.proofs.MatchingLemmas.Places.{none-left, star-next, taker-left}
 use Rattle.mime_base.proofs.MatchingLemmas.Sets.{width_after-compared}
 use Rattle.mime_base.proofs.matching.count_to_end.Goals as goal
+
+pub loop-first-init : goal.loop-first-init
+loop-first-init c =
+    let text = c.args.text.now in
+    let size = c.count_itself-size.result in
+    let counted = literal-elements c.args.cased size text c.count_itself-size.ensures.within c.count_itself-size.ensures.itself in
+    rw (between_to_end text size (length text) (omega (arith, c.count_itself-size.ensures.within))) record {
+      endless = no_end-drop c.args.endless size text c.requires;
+      star = counted.0;
+      count = counted.1;
+      room = omega (arith, length-drop size text, c.count_itself-size.ensures.within);
+    }
 
 pub returns-then-first-eq42-clause-star : goal.returns-then-first-eq42-clause-star
 returns-then-first-eq42-clause-star c =
