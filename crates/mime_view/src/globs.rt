@@ -56,8 +56,8 @@ pub fn glob_list_hits(
 
 /// Offers the rule of the entry at `at` if it matches the name.
 ///
-/// It takes a record of the budget. A pattern that begins otherwise than the name is refused by that one test.
-/// Where a hit of its rank would not be kept, the pattern isn't tried.
+/// It takes a record of the budget. A pattern that begins otherwise than the name is refused by that one test. Any other isn't tried
+/// where a hit of its rank would not be kept.
 // Always inlined: the body of a loop.
 #[inline(always)]
 fn take_glob(
@@ -84,13 +84,15 @@ fn take_glob(
         .counted
         .text_at(u64::from(text), &mut spending.meter)?;
     let (_, cased) = weight_and_case(flags);
-    if begins_otherwise(pattern, cased, query.key) {
-        spending.meter.add_bytes(1);
-        return Ok(());
-    }
     // Where a hit of the least rank is wanted, one of any rank is: then the class isn't judged before the match.
-    if !hits.wants(0) && !hits.wants(rank_of_entry(pattern, flags)) {
-        return Ok(());
+    if !hits.wants(0) {
+        if begins_otherwise(pattern, cased, query.key) {
+            spending.meter.add_bytes(1);
+            return Ok(());
+        }
+        if !hits.wants(rank_of_entry(pattern, flags)) {
+            return Ok(());
+        }
     }
     if glob_matches(pattern, cased, query.key, &mut spending.meter) {
         hits.offer(rank_of_entry(pattern, flags), kind)?;
