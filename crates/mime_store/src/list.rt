@@ -81,7 +81,7 @@ pub fn gather<const N: usize, T: Entry<N>>(
     ensures gathered { IfOk result (λ records.
         RecordsIn (IsRow T.IsRecord N out.new.items) records.items (map T.plain members.now)) }
 {
-    let mut records = Vec::new(alloc);
+    let mut records = Vec::with_capacity(alloc, members.len().saturating_mul(N))?;
     for member in members {
         let record = member.write(alloc, out)?;
         records.extend_from_slice(&record)?;

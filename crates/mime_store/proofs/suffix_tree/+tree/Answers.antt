@@ -55,7 +55,7 @@ pub write_siblings-loop-at-init : goal.write_siblings-loop-at-init
 write_siblings-loop-at-init t c =
     record {
       within = omega arith;
-      sofar = rw c.in_ok-records.ensures.items
+      sofar = rw c.new-records.ensures.items
           (sofar_none c.args.out.now.items (map (ending_entry c.args.depth) c.args.endings.now));
     }
 
@@ -86,7 +86,7 @@ write_siblings-loop-at-preserved t c =
     let within = w.within in
     record {
       within = omega (arith, length-drop at es, length-map xs (ending_entry c.args.depth));
-      sofar = rw (← drop-drop n at es, c.in_ok-extend_from_slice.ensures.items)
+      sofar = rw (← drop-drop n at es, c.in_ok-extend_from_slice.ensures.ok)
           (sofar_more _ _ _ _ _ _ _ es (drop at es) c.loop-at.invariant.sofar w);
     }
 
@@ -96,7 +96,7 @@ write_siblings-returns-clause-grew t c =
     let done : drop c.loop-at.at es ≡ [] = drop_all c.loop-at.at es
     (omega (arith, length-map c.args.endings.now (ending_entry c.args.depth))) in
     sofar_grew _ _ _ c.loop-at.records.items _ es (rw done at c.loop-at.invariant.sofar)
-    (rw c.deref.ensures.value at c.in_ok-first.ensures.grew)
+    (rw c.as_slice.ensures at c.in_ok-first.ensures.grew)
 
 pub write_siblings-returns-clause-stands : goal.write_siblings-returns-clause-stands
 write_siblings-returns-clause-stands t c =
@@ -104,4 +104,4 @@ write_siblings-returns-clause-stands t c =
     let done : drop c.loop-at.at es ≡ [] = drop_all c.loop-at.at es
     (omega (arith, length-map c.args.endings.now (ending_entry c.args.depth))) in
     sofar_all _ _ _ c.loop-at.records.items _ _ _ es (rw done at c.loop-at.invariant.sofar) c.in_ok-first.ensures.grew
-    (rw c.deref.ensures.value at c.in_ok-first.ensures.stand)
+    (rw c.as_slice.ensures at c.in_ok-first.ensures.stand)
