@@ -127,14 +127,15 @@ fn write_sibling(
         WritesSibling out.old.items out.new.items sibling.row sibling.taken (map (ending_entry depth) endings.now)) }
 {
     let first = &endings[0];
-    if first.path.len() <= depth {
+    let path = first.path.as_slice();
+    if path.len() <= depth {
         let kind = append_text(out, first.rule.kind.bytes())?;
         return Ok(Sibling {
             row: [0, kind, weight_and_flags(first.rule)],
             taken: 1,
         });
     }
-    let byte = first.path[depth];
+    let byte = path[depth];
     let taken = run_length(&endings[1..], depth, byte) + 1;
     let below = write_siblings(alloc, out, &endings[..taken], depth + 1)?;
     Ok(Sibling {
@@ -151,10 +152,12 @@ fn run_length(endings: &[Ending<'_>], depth: usize, byte: u8) -> usize
 {
     let mut count = 0;
     for ending in endings {
-        if ending.path.len() <= depth {
+        let path = ending.path.as_slice();
+        if path.len() <= depth {
             return count;
         }
-        if ending.path[depth] != byte {
+        let next = path[depth];
+        if next != byte {
             return count;
         }
         count += 1;

@@ -1,5 +1,5 @@
 -- Keys in a tree, each with the number of its name's end.
-use Rattle.std.proofs.Common.{◌≡◌, ℕ, ◌==◌, Bool, true, false, ◌&&◌, ◌||◌, List, [], ◌∷◌, map, ap, ap₂, ◌∙◌, refl, sym, ⊎_elim, tt}
+use Rattle.std.proofs.Common.{◌≡◌, ℕ, ◌==◌, Bool, true, false, ◌&&◌, ◌||◌, List, [], ◌∷◌, map, ap, ap₂, ◌∙◌, refl, sym, ⊎_elim}
 use Rattle.std.proofs.Common.{Ordering, Less, Equal, Greater}
 use Rattle.std.proofs.lemmas.Bool.{and_parts, cases_Bool, eq-eqb}
 use Rattle.std.proofs.lemmas.Slice.Eq.{bytes_eq-Decides}
@@ -67,9 +67,10 @@ added-tailed key keys sought =
 pub more-tailed : (key : TailedKey) (keys : List TailedKey) → key.0 ≡ tail_of key.1.now → AreTailed keys
     → AreTailed (insert_key key_cmp keys key)
 more-tailed key [] own all = (own, tt)
-more-tailed key (x ∷ keys) own all = by_order (key_cmp key x)
+more-tailed key (x ∷ keys) own all = by_order (key_cmp key x) (more-tailed key keys own all.1)
   where
-    by_order : (o : Ordering) → AreTailed (match_ordering o (key ∷ x ∷ keys) (x ∷ keys) (x ∷ insert_key key_cmp keys key))
-    by_order Less = (own, all)
-    by_order Equal = all
-    by_order Greater = (all.0, more-tailed key keys own all.1)
+    by_order : (o : Ordering) → AreTailed (insert_key key_cmp keys key)
+        → AreTailed (match_ordering o (key ∷ x ∷ keys) (x ∷ keys) (x ∷ insert_key key_cmp keys key))
+    by_order Less later = (own, all)
+    by_order Equal later = all
+    by_order Greater later = (all.0, later)

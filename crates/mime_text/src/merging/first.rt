@@ -5,7 +5,7 @@
 //! the ends of their names, where names differ more than in front.
 
 ghost use Rattle.std.specs.Prelude.{◌≡◌, ◌∷◌, [], IfOk, OnOk, List, ℕ, length, map, not};
-ghost use Rattle.std.specs.List.{list_any};
+ghost use Rattle.std.specs.List.{list_all, list_any};
 ghost use Rattle.mime_base.specs.Database.PlainPairs.{is_same_pair};
 ghost use Rattle.mime_text.specs.Merging.{has_same_key, marks, once, picked, tail_of};
 
@@ -101,6 +101,9 @@ pub fn marked<T: Drop>(
     // Exactly the marked ones are kept, in their order.
     ensures { IfOk result (λ kept. kept.items ≡ picked marks.items entries.items) }
 {
+    if are_all_marked(&marks) {
+        return Ok(entries);
+    }
     let (mut entries, mut marks) = (entries, marks);
     let mut kept = Vec::with_capacity(alloc, entries.len())?;
     while let (Some(entry), Some(mark)) = (entries.pop(), marks.pop()) {
@@ -110,4 +113,11 @@ pub fn marked<T: Drop>(
     }
     kept.reverse();
     Ok(kept)
+}
+
+/// Whether each entry is marked.
+fn are_all_marked(marks: &[bool]) -> bool
+    ensures { result ≡ list_all (λ mark. mark) marks.now }
+{
+    marks.iter().all(|mark| *mark)
 }
