@@ -1,6 +1,6 @@
 //! The files and the streams of the system, of which nothing is known. This project's own.
 
-ghost use Rattle.std.specs.Prelude.{◌≡◌, ◌≢◌, ◌+◌, ◌<◌, ◌≤◌, None, [], IfOk, IfSome, OnOk, length, take, drop};
+ghost use Rattle.std.specs.Prelude.{◌≡◌, ◌≢◌, ◌+◌, ◌^◌, ◌<◌, ◌≤◌, None, [], IfOk, IfSome, OnOk, length, take, drop};
 ghost use Rattle.std.specs.IoError.{error_kind};
 ghost use Rattle.std.specs.Io.KnownBytes.{Appends, Consumes, IsAtEnd, Keeps, ReadConsumes};
 ghost use Rattle.mime_tool.specs.Files.{fault_of};
@@ -357,12 +357,16 @@ fn make_room(bytes: &mut Vec<u8>, filled: usize, room: usize) -> Result<(), Allo
     if filled < bytes.len() {
         return Ok(());
     }
-    let end = if filled < room {
-        room
-    } else {
-        filled + BLOCK
-    };
-    bytes.resize(end, 0)
+    bytes.resize(end_of(filled, room), 0)?;
+    Ok(())
+}
+
+// Up to where there is room for bytes behind those that are filled.
+fn end_of(filled: usize, room: usize) -> usize
+    requires { filled < 2 ^ 63 }
+    ensures { filled < result }
+{
+    if filled < room { room } else { filled + BLOCK }
 }
 
 // One read behind the bytes that are filled.
@@ -373,12 +377,13 @@ fn read_behind<R: Read>(
     retries: &mut u32,
 ) -> Result<usize, FileFault>
     requires { filled < length bytes.old }
-    ensures front { take filled bytes.new ≡ take filled bytes.old }
+    ensures front { OnOk result (take filled bytes.new ≡ take filled bytes.old) }
     ensures fits { IfOk result (λ n. filled + n ≤ length bytes.new) }
     ensures read { IfOk result (λ n. Consumes (R.remaining file.old) (R.remaining file.new) (take n (drop filled bytes.new))) }
     ensures end { IfOk result (λ n. n ≡ 0 → IsAtEnd (R.remaining file.new)) }
 {
-    read_block(file, &mut bytes[filled..], retries)
+    let count = read_block(file, &mut bytes[filled..], retries)?;
+    Ok(count)
 }
 
 // One read, tried again while it is interrupted and retries are left. Gives how many bytes came.

@@ -16,8 +16,8 @@ write_sibling-append_text-requires-clause-room t c =
     let is = first_rest c.args.endings.now e c.requires.some ∙ ap (λ (x : Ending). x ∷ rest) (sym c.index-endings-0.is) in
     rw c.bytes.ensures.text (omega (arith, c.requires.room, first_fits c.args.depth c.args.endings.now e rest is))
 
-pub write_sibling-returns-then-len-depth : goal.write_sibling-returns-then-len-depth
-write_sibling-returns-then-len-depth t c =
+pub write_sibling-returns-then-path-depth : goal.write_sibling-returns-then-path-depth
+write_sibling-returns-then-path-depth t c =
     let e = c.index-endings-0.result in
     let rest = between 1 (length c.args.endings.now) c.args.endings.now in
     rw c.weight_and_flags.ensures (first_leaf c.args.depth _ c.args.out.now.items _ c.args.endings.now e rest
