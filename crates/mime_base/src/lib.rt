@@ -51,7 +51,7 @@ pub use magic::host::Host;
 pub use magic::matchlet::Matchlet;
 pub use magic::textual::{TEXTUAL_FRONT, looks_textual};
 pub use matching::elements::begins_otherwise;
-pub use matching::folding::fold;
+pub use matching::folding::{as_compared, fold};
 pub use matching::glob_matches;
 pub use memory::OutOfMemory;
 pub use meter::Meter;

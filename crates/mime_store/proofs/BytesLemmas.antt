@@ -3,3 +3,4 @@ pub mod Written
 pub mod Records
 pub mod Lists
 pub mod Header
+pub mod Ends

@@ -80,8 +80,7 @@ pub fn append_text(out: &mut Vec<u8>, text: &[u8]) -> Result<u32, OutOfMemory>
 {
     let at = place_of(out);
     out.extend_from_slice(text)?;
-    out.push(0)?;
-    append_zeros(out, padding(text.len() + 1))?;
+    append_end(out, padding(text.len() + 1))?;
     Ok(at)
 }
 
@@ -105,6 +104,18 @@ pub fn append_zeros(out: &mut Vec<u8>, count: usize) -> Result<(), OutOfMemory>
     for _ in 0..count {
         out.push(0)?;
     }
+    Ok(())
+}
+
+/// The zero of a text, and at most three zeros more.
+fn append_end(out: &mut Vec<u8>, count: usize) -> Result<(), OutOfMemory>
+    requires few { count < 4 }
+    requires room { length out.old.items < 2 ^ 33 }
+    ensures { OnOk result (out.new.items ≡ out.old.items ++ 0 ∷ replicate count 0) }
+{
+    let end = out.len() + 1 + count;
+    out.extend_from_slice(&[0; 4])?;
+    out.truncate(end);
     Ok(())
 }
 

@@ -10,7 +10,11 @@ ghost use Rattle.mime_store.specs.Written.{Grew, Written};
 
 use crate::bytes::append_list;
 use mime_base::OutOfMemory;
+use smallvec::SmallVec;
 use std::alloc::Global;
+
+/// Records of at most that many numbers in all need no allocation.
+const SHORT_LIST: usize = 4;
 
 /// A member of a list, whose record has `N` numbers.
 pub trait Entry<const N: usize> {
@@ -70,7 +74,7 @@ pub fn gather<const N: usize, T: Entry<N>>(
     alloc: Global,
     out: &mut Vec<u8>,
     members: &[T],
-) -> Result<Vec<u32>, OutOfMemory>
+) -> Result<SmallVec<u32, SHORT_LIST>, OutOfMemory>
     // The bytes stay within what a number of 32 bits can point to.
     requires fits { length out.old.items + sum_by T.room (map T.plain members.now) < 2 ^ 32 }
     // The header has its place.
@@ -81,7 +85,7 @@ pub fn gather<const N: usize, T: Entry<N>>(
     ensures gathered { IfOk result (λ records.
         RecordsIn (IsRow T.IsRecord N out.new.items) records.items (map T.plain members.now)) }
 {
-    let mut records = Vec::new(alloc);
+    let mut records = SmallVec::with_capacity(alloc, members.len().saturating_mul(N))?;
     for member in members {
         let record = member.write(alloc, out)?;
         records.extend_from_slice(&record)?;
@@ -106,6 +110,6 @@ pub fn write_list<const N: usize, T: Entry<N>>(
         ListAt (Written out.new.items) (4 * N) (T.IsRecord (Written out.new.items)) at (map T.plain members.now)) }
 {
     let records = gather(alloc, out, members)?;
-    let at = append_list(out, members.len() as u32, &records)?;
+    let at = append_list(out, members.len() as u32, records.as_slice())?;
     Ok(at)
 }

@@ -14,7 +14,11 @@ use crate::bytes::{append_numbers, append_text, append_value};
 use crate::list::{Entry, gather};
 use crate::room::{take_lines, take_text};
 use mime_base::{Matchlet, OutOfMemory, Section};
+use smallvec::SmallVec;
 use std::alloc::Global;
+
+/// The records of four lines, of eight numbers each, need no allocation.
+const SHORT_LINES: usize = 32;
 
 /// The sections with all that belongs to them, then the head of the list; returns the offset of the head.
 pub fn write_magic(
@@ -34,7 +38,7 @@ pub fn write_magic(
     ensures stands { IfOk result (λ at. MagicAt (Written out.new.items) at (plain_sections sections.now)) }
 {
     let records = gather(alloc, out, sections)?;
-    let first = append_numbers(out, &records)?;
+    let first = append_numbers(out, records.as_slice())?;
     let at = append_numbers(
         out,
         &[sections.len() as u32, extent(sections) as u32, first],
@@ -82,12 +86,12 @@ fn write_lines(alloc: Global, out: &mut Vec<u8>, lines: &[Matchlet]) -> Result<u
     ensures grew { OnOk result (Grew out.old.items out.new.items (lines_room (forest_of (plain_matchlets lines.now)))) }
     ensures stand { IfOk result (λ at. LinesAt (Written out.new.items) at (forest_of (plain_matchlets lines.now))) }
 {
-    let mut records = Vec::with_capacity(alloc, 8 * lines.len())?;
+    let mut records: SmallVec<u32, SHORT_LINES> = SmallVec::new(alloc);
     for line in lines {
         let record = write_parts(alloc, out, line)?;
         records.extend_from_slice(&record)?;
     }
-    let at = append_numbers(out, &records)?;
+    let at = append_numbers(out, records.as_slice())?;
     Ok(at)
 }
 

@@ -87,7 +87,7 @@ pub fn take_tree(left: usize, endings: &[Ending<'_>]) -> Option<usize>
     let mut before: &[u8] = &[];
     for ending in endings {
         rest = take_ending(rest, before, ending)?;
-        before = &ending.path;
+        before = ending.path.as_slice();
     }
     Some(rest)
 }
@@ -107,7 +107,8 @@ fn nodes_of(before: &[u8], ending: &Ending<'_>) -> usize
     ensures nodes { result ≡ length ending.now.path.items - common before.now ending.now.path.items + 1 }
     ensures few { result ≤ 256 }
 {
-    ending.path.len() - agreeing_length(before, &ending.path) + 1
+    let path = ending.path.as_slice();
+    path.len() - agreeing_length(before, path) + 1
 }
 
 /// How many bytes two paths share from the front.

@@ -13,13 +13,14 @@ ghost use Rattle.mime_store.specs.Texts.{has_no_zero};
 ghost use Rattle.mime_store.specs.Written.{Grew, Written};
 
 use crate::bytes::{append_numbers, append_text};
-use crate::ending::Ending;
-use crate::rules::{compared, is_in_tree, weight_and_flags};
-use mime_base::{GlobRule, OutOfMemory};
+use crate::ending::{Ending, SHORT_PATH};
+use crate::rules::{is_in_tree, weight_and_flags};
+use mime_base::{GlobRule, OutOfMemory, as_compared};
+use smallvec::SmallVec;
 use std::alloc::Global;
 
-/// How many numbers the record of a sibling has.
-const ROW: usize = 3;
+/// The records of four siblings, of three numbers each, need no allocation.
+const SHORT_BLOCK: usize = 12;
 
 /// How many siblings there are, and where the first one stands.
 #[derive(Clone, Copy)]
@@ -96,7 +97,7 @@ fn write_siblings(
     ensures stands { IfOk result
         (λ block. IsBlock (Written out.new.items) block.count block.first (map (ending_entry depth) endings.now)) }
 {
-    let mut records = Vec::with_capacity(alloc, 4 * ROW)?;
+    let mut records: SmallVec<u32, SHORT_BLOCK> = SmallVec::new(alloc);
     let mut count = 0;
     let mut at = 0;
     while at < endings.len() {
@@ -105,7 +106,7 @@ fn write_siblings(
         count += 1;
         at += sibling.taken;
     }
-    let first = append_numbers(out, &records)?;
+    let first = append_numbers(out, records.as_slice())?;
     Ok(Block { count, first })
 }
 
@@ -126,14 +127,15 @@ fn write_sibling(
         WritesSibling out.old.items out.new.items sibling.row sibling.taken (map (ending_entry depth) endings.now)) }
 {
     let first = &endings[0];
-    if first.path.len() <= depth {
+    let path = first.path.as_slice();
+    if path.len() <= depth {
         let kind = append_text(out, first.rule.kind.bytes())?;
         return Ok(Sibling {
             row: [0, kind, weight_and_flags(first.rule)],
             taken: 1,
         });
     }
-    let byte = first.path[depth];
+    let byte = path[depth];
     let taken = run_length(&endings[1..], depth, byte) + 1;
     let below = write_siblings(alloc, out, &endings[..taken], depth + 1)?;
     Ok(Sibling {
@@ -150,10 +152,12 @@ fn run_length(endings: &[Ending<'_>], depth: usize, byte: u8) -> usize
 {
     let mut count = 0;
     for ending in endings {
-        if ending.path.len() <= depth {
+        let path = ending.path.as_slice();
+        if path.len() <= depth {
             return count;
         }
-        if ending.path[depth] != byte {
+        let next = path[depth];
+        if next != byte {
             return count;
         }
         count += 1;
@@ -170,12 +174,14 @@ fn ending_of(alloc: Global, rule: &GlobRule) -> Result<Ending<'_>, OutOfMemory>
 
 /// The stored ending of a rule, from the last byte to the first.
 #[tactic(auto, using(crate::proofs::RulesLemmas::Texts::some_pattern))]
-fn path_of(alloc: Global, rule: &GlobRule) -> Result<Vec<u8>, OutOfMemory>
+fn path_of(alloc: Global, rule: &GlobRule) -> Result<SmallVec<u8, SHORT_PATH>, OutOfMemory>
     ensures { IfOk result (λ path. (path.items ≡ reversed_ending rule.now) × (length path.items < 256)
         × (has_no_zero path.items ≡ true)) }
 {
     let pattern = rule.pattern.bytes();
-    let mut path = compared(alloc, rule.cased, &pattern[1..])?;
-    path.reverse();
+    let mut path = SmallVec::new(alloc);
+    for byte in pattern[1..].iter().rev() {
+        path.push(as_compared(rule.cased, *byte))?;
+    }
     Ok(path)
 }

@@ -2,6 +2,7 @@ pub mod Filters
 pub mod Sets
 pub mod Undeleted
 pub mod Once
+pub mod TailedKeys
 pub mod Gathered
 pub mod Picking
 pub mod Plain

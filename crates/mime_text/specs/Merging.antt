@@ -3,8 +3,10 @@ pub mod Gathering
 pub mod Hiding
 pub mod TwinKeys
 -- What merged data directories say, the most preferred first.
-use Rattle.std.specs.Prelude.{ℕ, Bool, not, List, [], ◌∷◌, ◌++◌, map, filter, bytes_eq, if◌then◌else◌}
-use Rattle.std.specs.List.{flat_map, list_any}
+use Rattle.std.specs.Prelude.{ℕ, ◌≡◌, ◌-◌, nat_lt, Bool, not, List, [], ◌∷◌, ◌++◌, map, filter, bytes_eq, if◌then◌else◌, length, drop}
+use Rattle.std.specs.Borrow.{Bor}
+use Rattle.std.specs.Int.{from_be_bytes, w64}
+use Rattle.std.specs.List.{AllByRecursion, flat_map, list_any}
 use Rattle.mime_base.specs.Database.{PlainDatabase}
 use Rattle.mime_base.specs.Falling.{falling}
 use Rattle.mime_base.specs.Kept.Hidden.{visible}
@@ -54,6 +56,14 @@ has_same_name left right = bytes_eq left.0 right.0
 -- two entries of one key
 abbrev pub has_same_key : {A : Type 0} → (A → List ℕ × List ℕ) → A → A → Bool
 has_same_key key_of left right = is_same_pair (key_of left) (key_of right)
+
+-- the last eight bytes of a name as a number, 0 of a shorter name
+abbrev pub tail_of : List ℕ → ℕ
+tail_of name = if nat_lt (length name) 8 then 0 else from_be_bytes w64 (drop (length name - 8) name)
+
+-- the numbers of keys are those of their names
+abbrev pub AreTailed : List (ℕ × Bor (List ℕ) × Bor (List ℕ)) → Type 0
+AreTailed keys = AllByRecursion (λ key. key.0 ≡ tail_of key.1.now) keys
 
 -- which of these keys are none of those before
 abbrev pub marks : List (List ℕ × List ℕ) → List (List ℕ × List ℕ) → List Bool

@@ -7,7 +7,7 @@
 //!
 //! Its work is n log n in the entries, whatever names they have.
 
-ghost use Rattle.std.specs.Prelude.{◌≡◌, IfOk, OnOk};
+ghost use Rattle.std.specs.Prelude.{◌≡◌, ◌++◌, IfOk, OnOk};
 ghost use Rattle.mime_base.specs.Database.{plain_database};
 ghost use Rattle.mime_text.specs.Merging.{merged, plain_dirs, visible_database};
 ghost use Rattle.mime_text.specs.Merging.Gathering.{Adds, Gathers};
@@ -139,17 +139,30 @@ impl Lists {
         let DirFiles {
             globs,
             magic,
-            mut aliases,
-            mut subclasses,
-            mut icons,
-            mut generic_icons,
+            aliases,
+            subclasses,
+            icons,
+            generic_icons,
         } = dir;
         self.rules.add(alloc, globs.rules, &globs.deleted)?;
         self.sections.add(alloc, magic.sections, &magic.deleted)?;
-        self.aliases.append(&mut aliases.pairs)?;
-        self.subclasses.append(&mut subclasses.pairs)?;
-        self.icons.append(&mut icons.icons)?;
-        self.generic_icons.append(&mut generic_icons.icons)?;
+        append(&mut self.aliases, aliases.pairs)?;
+        append(&mut self.subclasses, subclasses.pairs)?;
+        append(&mut self.icons, icons.icons)?;
+        append(&mut self.generic_icons, generic_icons.icons)?;
         Ok(())
     }
+}
+
+/// Appends items to a list. An empty list becomes the items, so that none is moved.
+fn append<T: Drop>(list: &mut Vec<T>, items: Vec<T>) -> Result<(), OutOfMemory>
+    ensures { OnOk result (list.new.items ≡ list.old.items ++ items.items) }
+{
+    if list.is_empty() {
+        *list = items;
+        return Ok(());
+    }
+    let mut items = items;
+    list.append(&mut items)?;
+    Ok(())
 }

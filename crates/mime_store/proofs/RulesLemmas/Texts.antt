@@ -1,9 +1,9 @@
 -- Stored texts and endings: they have no zero byte, and as many bytes as their patterns.
 use Rattle.std.proofs.Common.{◌≡◌, ℕ, zero, suc, ◌+◌, ◌<◌, ◌≤◌, Bool, true, false, not, ◌&&◌, cond, eqb, List, [], ◌∷◌, ◌++◌}
-use Rattle.std.proofs.Common.{length, drop, reverse, refl, sym, ap, subst, ◌∙◌, arith, nat_le, nat_lt}
+use Rattle.std.proofs.Common.{length, map, drop, reverse, refl, sym, ap, subst, ◌∙◌, arith, nat_le, nat_lt}
 use Rattle.std.specs.List.{list_all}
 use Rattle.std.proofs.lemmas.Bool.{and_parts, leb-true, lt-ltb, ltb-true}
-use Rattle.std.proofs.lemmas.List.{drop-map, length-drop, length-map, length-reverse, reverse-append}
+use Rattle.std.proofs.lemmas.List.{drop-map, map-append, length-drop, length-map, length-reverse, reverse-append}
 use Rattle.mime_base.specs.Matching.Folding.{compared, compared_byte}
 use Rattle.mime_base.specs.Names.{is_pattern, is_pattern_byte}
 use Rattle.mime_base.specs.Format.Stored.{reversed_ending}
@@ -69,15 +69,25 @@ pub has_no_zero-from : (xs : List ℕ) → NoZero xs → has_no_zero xs ≡ true
 has_no_zero-from [] h = refl
 has_no_zero-from (x ∷ xs) h = rw (lt-ltb 0 x h.0) (has_no_zero-from xs h.1)
 
+-- bytes that are changed one by one, backwards
+map-reverse : (f : ℕ → ℕ) (xs : List ℕ) → map f (reverse xs) ≡ reverse (map f xs)
+map-reverse f [] = refl
+map-reverse f (x ∷ xs) =
+    ap (map f) (reverse-append (x ∷ []) xs)
+    ∙ map-append f (reverse xs) (x ∷ [])
+    ∙ ap (λ ys. ys ++ f x ∷ []) (map-reverse f xs)
+    ∙ sym (reverse-append (f x ∷ []) (map f xs))
+
 -- the path of a rule, from its pattern after the first byte
-pub path_fits : (rule : GlobRule) (part old new : List ℕ) → is_pattern rule.pattern ≡ true → part ≡ drop 1 rule.pattern
-    → old ≡ compared rule.cased part → new ≡ reverse old
-    → (new ≡ reversed_ending rule) × (length new < 256) × (has_no_zero new ≡ true)
-path_fits rule part old new is from folded turned =
+pub path_fits : (rule : GlobRule) (part path : List ℕ) → is_pattern rule.pattern ≡ true → part ≡ drop 1 rule.pattern
+    → path ≡ map (compared_byte rule.cased) (reverse part)
+    → (path ≡ reversed_ending rule) × (length path < 256) × (has_no_zero path ≡ true)
+path_fits rule part path is from turned =
     let limits = compared_pattern rule.cased rule.pattern is in
     let text = compared rule.cased rule.pattern in
-    let same : new ≡ reverse (drop 1 text) =
-    turned ∙ ap reverse (folded ∙ ap (compared rule.cased) from ∙ sym (drop-map (compared_byte rule.cased) 1 rule.pattern)) in (
+    let same : path ≡ reverse (drop 1 text) =
+    turned ∙ map-reverse (compared_byte rule.cased) part
+    ∙ ap reverse (ap (compared rule.cased) from ∙ sym (drop-map (compared_byte rule.cased) 1 rule.pattern)) in (
       same,
       rw same (omega (arith, length-reverse (drop 1 text), length-drop 1 text, limits.0, limits.1)),
       rw same (has_no_zero-from (reverse (drop 1 text)) (NoZero-reverse (drop 1 text) (NoZero-drop 1 text limits.2))),

@@ -1,11 +1,22 @@
 -- The marked entries, taken from the back.
 use Rattle.std.proofs.Common.{◌≡◌, Bool, true, false, cond, List, [], ◌∷◌, ◌++◌, length, reverse, ap, ap₂, ◌∙◌, refl, sym, append_assoc}
 use Rattle.std.proofs.Common.{append-nil, arith}
-use Rattle.std.proofs.lemmas.Bool.{cond-true, cond-false}
+use Rattle.std.proofs.lemmas.Bool.{and_parts, cond-true, cond-false}
 use Rattle.std.proofs.lemmas.List.{reverse-append}
+use Rattle.std.specs.List.{list_all}
 use Rattle.mime_text.specs.Merging.{picked}
 
 module _ {A : Type 0} where
+  -- of entries that are all marked each is one
+  pub picked-all : (marks : List Bool) (entries : List A) → length marks ≡ length entries → list_all (λ mark. mark) marks ≡ true
+      → picked marks entries ≡ entries
+  picked-all [] [] same all = refl
+  picked-all [] (x ∷ entries) same all = absurd (omega arith)
+  picked-all (m ∷ marks) [] same all = absurd (omega arith)
+  picked-all (m ∷ marks) (x ∷ entries) same all =
+      let both = and_parts m (list_all (λ mark. mark) marks) all in
+      cond-true _ _ _ both.0 ∙ ap (λ ys. x ∷ ys) (picked-all marks entries (omega arith) both.1)
+
   -- a last entry
   pub picked-last : (marks : List Bool) (entries : List A) (mark : Bool) (entry : A) → length marks ≡ length entries
       → picked (marks ++ mark ∷ []) (entries ++ entry ∷ []) ≡ picked marks entries ++ cond mark (entry ∷ []) []

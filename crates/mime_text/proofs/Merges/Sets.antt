@@ -1,8 +1,9 @@
 -- A set in a tree, by the list of its keys.
-use Rattle.std.proofs.Common.{◌≡◌, ℕ, Bool, true, false, ◌&&◌, ◌||◌, List, [], ◌∷◌, map, ap, ap₂, ◌∙◌, refl, sym, Ordering, Less, Equal, Greater}
+use Rattle.std.proofs.Common.{◌≡◌, ℕ, ◌==◌, Bool, true, false, ◌&&◌, ◌||◌, List, [], ◌∷◌, map, ap, ap₂, ◌∙◌, refl, sym, Ordering, Less, Equal, Greater}
 use Rattle.std.specs.BTreeSet.{insert_key}
 use Rattle.std.specs.List.{list_any}
-use Rattle.std.specs.Cmp.{tied_then}
+use Rattle.std.specs.Borrow.{Bor}
+use Rattle.std.specs.Cmp.{tied_then, unsigned_ties}
 use Rattle.std.specs.Cmp.Lexicographic.{slice_cmp}
 use Rattle.std.specs.Ordering.{is_eq, match_ordering, nat_cmp, ordering_then}
 use Rattle.std.specs.Str.{bytes_eq}
@@ -57,7 +58,15 @@ module _ {X Y : Type 0} (f : X → Y) (equal : Y → Y → Bool) where
       (λ x y is. ap (equal sought) (decides (f x) (f y) (sym (agree x y) ∙ ap is_eq is))) key xs
       ∙ ap (λ b. equal sought (f key) || b) (sym (list_any-map f (equal sought) xs))
 
--- two texts compare as equal where each of them is equal
-pub both-tied : (k l p q : List ℕ) → is_eq (ordering_then (slice_cmp nat_cmp k l) (slice_cmp nat_cmp p q)) ≡ (bytes_eq k l && bytes_eq p q)
-both-tied k l p q =
-    sym (tied_then (slice_cmp nat_cmp k l) (slice_cmp nat_cmp p q)) ∙ ap₂ ◌&&◌ (is_eq-slice_cmp k l) (is_eq-slice_cmp p q)
+-- a number and two texts compare as equal where each of them is equal
+pub all-tied : (a b : ℕ) (k l p q : List ℕ) →
+    is_eq (ordering_then (ordering_then (nat_cmp a b) (slice_cmp nat_cmp k l)) (slice_cmp nat_cmp p q))
+    ≡ (a == b && bytes_eq k l && bytes_eq p q)
+all-tied a b k l p q =
+    sym (tied_then (ordering_then (nat_cmp a b) (slice_cmp nat_cmp k l)) (slice_cmp nat_cmp p q))
+    ∙ ap₂ ◌&&◌ (sym (tied_then (nat_cmp a b) (slice_cmp nat_cmp k l))
+    ∙ ap₂ ◌&&◌ (sym (unsigned_ties a b)) (is_eq-slice_cmp k l)) (is_eq-slice_cmp p q)
+
+-- the order of keys of a number and two texts
+abbrev pub key_cmp : ℕ × Bor (List ℕ) × Bor (List ℕ) → ℕ × Bor (List ℕ) × Bor (List ℕ) → Ordering
+key_cmp x y = ordering_then (ordering_then (nat_cmp x.0 y.0) (slice_cmp nat_cmp x.1.now y.1.now)) (slice_cmp nat_cmp x.2.now y.2.now)

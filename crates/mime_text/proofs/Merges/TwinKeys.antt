@@ -4,33 +4,18 @@ use Rattle.std.proofs.Common.{drop, length, get_or, Ordering, Equal}
 use Rattle.std.specs.List.{list_any}
 use Rattle.std.specs.Borrow.{Bor}
 use Rattle.std.specs.BTreeSet.{BTreeSet, insert_key}
-use Rattle.std.specs.Cmp.{tied_then, unsigned_ties}
 use Rattle.std.specs.Cmp.Lexicographic.{slice_cmp}
 use Rattle.std.specs.Ordering.{is_eq, nat_cmp, ordering_then}
 use Rattle.std.proofs.lemmas.Bool.{and_parts}
 use Rattle.std.proofs.lemmas.Bool.Decides.{Decides-eqb}
 use Rattle.std.proofs.lemmas.List.{drop_more}
-use Rattle.std.proofs.lemmas.Map.Text.{is_eq-slice_cmp}
 use Rattle.std.proofs.lemmas.Slice.Eq.{bytes_eq-Decides}
 use Rattle.mime_base.specs.Kept.Twins.{are_alike, is_twin}
 use Rattle.mime_base.specs.declared.database.rule.GlobRule.{GlobRule}
-use Rattle.mime_text.proofs.Merges.Sets.{inserted-any, or-turn}
+use Rattle.mime_text.proofs.Merges.Sets.{all-tied, inserted-any, key_cmp, or-turn}
 use Rattle.mime_text.specs.Merging.TwinKeys.{has_key_of, is_kept}
 
 -- ---- keys
-
--- a weight, a type and a pattern compare as equal where each of them is equal
-all-tied : (a b : ℕ) (k l p q : List ℕ) →
-    is_eq (ordering_then (ordering_then (nat_cmp a b) (slice_cmp nat_cmp k l)) (slice_cmp nat_cmp p q))
-    ≡ (a == b && bytes_eq k l && bytes_eq p q)
-all-tied a b k l p q =
-    sym (tied_then (ordering_then (nat_cmp a b) (slice_cmp nat_cmp k l)) (slice_cmp nat_cmp p q))
-    ∙ ap₂ ◌&&◌ (sym (tied_then (nat_cmp a b) (slice_cmp nat_cmp k l))
-    ∙ ap₂ ◌&&◌ (sym (unsigned_ties a b)) (is_eq-slice_cmp k l)) (is_eq-slice_cmp p q)
-
--- the order of keys
-abbrev pub key_cmp : ℕ × Bor (List ℕ) × Bor (List ℕ) → ℕ × Bor (List ℕ) × Bor (List ℕ) → Ordering
-key_cmp x y = ordering_then (ordering_then (nat_cmp x.0 y.0) (slice_cmp nat_cmp x.1.now y.1.now)) (slice_cmp nat_cmp x.2.now y.2.now)
 
 -- whether a key is that of a rule
 abbrev is_key_of : GlobRule → ℕ × Bor (List ℕ) × Bor (List ℕ) → Bool

@@ -12,6 +12,12 @@ use super::{Lines, is_passed};
 use mime_base::OutOfMemory;
 use std::alloc::Global;
 
+/// Room for an entry is made for so many bytes of a file, of which most lines have more.
+const BYTES_OF_A_LINE: usize = 24;
+
+/// Room for at most that many entries is made before a file is read.
+const ENTRIES_AT_FIRST: usize = 4_096;
+
 /// An entry that one line of a file spells.
 pub trait LineEntry: Drop {
     /// The entry that a line spells, which is neither empty nor a comment.
@@ -52,8 +58,9 @@ pub fn read_lines<T: LineEntry>(alloc: Global, bytes: &[u8]) -> Result<LineFile<
     ensures skipped { IfOk result (λ file. file.skipped.items
         ≡ skipped_of (λ line. is_malformed (line_by T.entry_of line)) bytes.now) }
 {
+    let room = (bytes.len() / BYTES_OF_A_LINE).min(ENTRIES_AT_FIRST);
     let mut file = LineFile {
-        entries: Vec::new(alloc),
+        entries: Vec::with_capacity(alloc, room)?,
         skipped: Vec::new(alloc),
     };
     let mut number = 0;

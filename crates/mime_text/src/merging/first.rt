@@ -1,12 +1,13 @@
 //! The first entry of each key.
 //!
 //! Marks are found first, with keys that borrow from the entries; then the entries are moved. So no
-//! text is copied. The keys are held in a tree, so that no choice of keys makes it slow.
+//! text is copied. The keys are held in a tree, so that no choice of keys makes it slow; they stand there by
+//! the ends of their names, where names differ more than in front.
 
 ghost use Rattle.std.specs.Prelude.{◌≡◌, ◌∷◌, [], IfOk, OnOk, List, ℕ, length, map, not};
-ghost use Rattle.std.specs.List.{list_any};
+ghost use Rattle.std.specs.List.{list_all, list_any};
 ghost use Rattle.mime_base.specs.Database.PlainPairs.{is_same_pair};
-ghost use Rattle.mime_text.specs.Merging.{has_same_key, marks, once, picked};
+ghost use Rattle.mime_text.specs.Merging.{has_same_key, marks, once, picked, tail_of};
 
 use super::key::Key;
 use mime_base::OutOfMemory;
@@ -14,18 +15,24 @@ use std::alloc::Global;
 use std::collections::BTreeSet;
 use std::marker::Model;
 
+/// The end of a key's name as a number, and the key.
+type TailedKey<'a> = (u64, &'a [u8], &'a [u8]);
+
 /// The keys that were met.
 #[derive(Drop)]
 pub struct Keys<'a> {
-    texts: BTreeSet<(&'a [u8], &'a [u8])>,
+    texts: BTreeSet<TailedKey<'a>>,
 }
 
 impl<'a> Model for Keys<'a> {
     ghost use Rattle.std.specs.Prelude.{ℕ, List, map};
+    ghost use Rattle.mime_text.specs.Merging.{AreTailed};
 
     ghost Value = { List (List ℕ × List ℕ) };
 
-    ghost view = { λ keys. map (λ key. (key.0.now, key.1.now)) keys.texts.keys };
+    ghost view = { λ keys. map (λ key. (key.1.now, key.2.now)) keys.texts.keys };
+
+    ghost invariant = { λ keys. AreTailed keys.texts.keys };
 }
 
 impl<'a> Keys<'a> {
@@ -44,7 +51,18 @@ impl<'a> Keys<'a> {
         ensures keys { OnOk result ((other : List ℕ × List ℕ) → list_any (is_same_pair other) self.new
             ≡ list_any (is_same_pair other) ((key.entry.0.now, key.entry.1.now) ∷ self.old)) }
     {
-        Ok(self.texts.insert(key)?)
+        let (name, other) = key;
+        Ok(self.texts.insert((tail_of(name), name, other))?)
+    }
+}
+
+/// The last eight bytes of a name as a number, 0 of a shorter name.
+fn tail_of(name: &[u8]) -> u64
+    ensures { result ≡ tail_of name.now }
+{
+    match name.last_chunk::<8>() {
+        Some(tail) => u64::from_be_bytes(*tail),
+        None => 0,
     }
 }
 
@@ -83,6 +101,9 @@ pub fn marked<T: Drop>(
     // Exactly the marked ones are kept, in their order.
     ensures { IfOk result (λ kept. kept.items ≡ picked marks.items entries.items) }
 {
+    if are_all_marked(&marks) {
+        return Ok(entries);
+    }
     let (mut entries, mut marks) = (entries, marks);
     let mut kept = Vec::with_capacity(alloc, entries.len())?;
     while let (Some(entry), Some(mark)) = (entries.pop(), marks.pop()) {
@@ -92,4 +113,11 @@ pub fn marked<T: Drop>(
     }
     kept.reverse();
     Ok(kept)
+}
+
+/// Whether each entry is marked.
+fn are_all_marked(marks: &[bool]) -> bool
+    ensures { result ≡ list_all (λ mark. mark) marks.now }
+{
+    marks.iter().all(|mark| *mark)
 }

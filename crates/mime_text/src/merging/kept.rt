@@ -1,6 +1,6 @@
 //! What markers leave of rules and sections.
 
-ghost use Rattle.std.specs.Prelude.{◌≡◌, ◌++◌, [], OnOk, ℕ, List};
+ghost use Rattle.std.specs.Prelude.{◌≡◌, ◌++◌, [], OnOk, true, ℕ, List};
 ghost use Rattle.mime_text.specs.Merging.{is_among, without};
 
 use super::types::Types;
@@ -78,12 +78,24 @@ impl<T: Kinded> Kept<T> {
         Ok(())
     }
 
+    /// Whether nothing is kept or discarded yet.
+    fn is_new(&self) -> bool
+        ensures items { result ≡ true → self.now.items.items ≡ [] }
+        ensures deleted { result ≡ true → self.now.deleted ≡ [] }
+    {
+        self.items.is_empty() && self.deleted.is_empty()
+    }
+
     /// Adds those items that are not discarded.
     fn keep(&mut self, items: Vec<T>) -> Result<(), OutOfMemory>
         ensures items { OnOk result
             (self.new.items.items ≡ self.old.items.items ++ without T.kind_of self.old.deleted items.items) }
         ensures deleted { self.new.deleted ≡ self.old.deleted }
     {
+        if self.is_new() {
+            self.items = items;
+            return Ok(());
+        }
         for item in items {
             if !self.deleted.contains(item.kind()) {
                 self.items.push(item)?;

@@ -1,6 +1,6 @@
 //! Sets of types.
 
-ghost use Rattle.std.specs.Prelude.{◌≡◌, ◌∷◌, [], List, OnOk, ℕ};
+ghost use Rattle.std.specs.Prelude.{◌≡◌, ◌∷◌, [], List, OnOk, true, ℕ};
 ghost use Rattle.mime_text.specs.Merging.{is_among};
 
 use mime_base::{OutOfMemory, TypeName};
@@ -31,6 +31,14 @@ impl Types {
         Types {
             names: BTreeSet::new(alloc),
         }
+    }
+
+    /// Whether it holds no type.
+    pub fn is_empty(&self) -> bool
+        // It is true only where no type was added.
+        ensures { result ≡ true → self.now ≡ [] }
+    {
+        self.names.is_empty()
     }
 
     /// Whether it holds this type.

@@ -23,7 +23,7 @@ loop-member-preserved g c =
     record {
       grew = grew_more g.T.Entry.plain g.T.Entry.room c.args.members.now c.loop-member.member-index c.member-item.result
           c.args.out.now.items _ _ c.loop-member-test.true c.member-item.is c.loop-member.invariant.grew c.in_ok-record.ensures.grew;
-      gathered = rw c.in_ok-extend_from_slice.ensures.items (gather_push g.T.Entry.plain g.T.Entry.IsRecord g.row.N
+      gathered = rw c.in_ok-extend_from_slice.ensures.ok (gather_push g.T.Entry.plain g.T.Entry.IsRecord g.row.N
           _ _ _ _ _ c.args.members.now _ _ c.loop-member-test.true c.member-item.is c.in_ok-record.ensures.grew
           c.loop-member.invariant.gathered c.in_ok-record.ensures.row);
     }

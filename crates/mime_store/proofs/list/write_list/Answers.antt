@@ -1,4 +1,4 @@
-use Rattle.std.proofs.Common.{arith, map}
+use Rattle.std.proofs.Common.{arith, map, length, ap}
 use Rattle.std.proofs.lemmas.List.{length-map}
 use Rattle.mime_store.proofs.ListLemmas.Gather.{gather_end, rows_room}
 use Rattle.mime_store.proofs.BytesLemmas.Records.{members_fit, parts_within}
@@ -16,7 +16,7 @@ append_list-requires-clause-room g c =
       c.requires.room,
       grew_length _ _ _ c.in_ok-records.ensures.grew,
       rows_room g.T.Entry.IsRecord g.row.N g.T.Entry.room _ _ _ c.in_ok-records.ensures.gathered,
-      c.deref.ensures.len,
+      ap length c.as_slice.ensures,
     )
 
 pub append_list-requires-clause-begun : goal.append_list-requires-clause-begun
@@ -25,7 +25,7 @@ append_list-requires-clause-begun g c = omega (arith, c.requires.begun, grew_len
 pub returns-clause-grew : goal.returns-clause-grew
 returns-clause-grew g c =
     grew_to _ _ _ _
-    (omega (arith, rows_room g.T.Entry.IsRecord g.row.N g.T.Entry.room _ _ _ c.in_ok-records.ensures.gathered, c.deref.ensures.len))
+    (omega (arith, rows_room g.T.Entry.IsRecord g.row.N g.T.Entry.room _ _ _ c.in_ok-records.ensures.gathered, ap length c.as_slice.ensures))
     (grew_on _ _ _ _ _ c.in_ok-records.ensures.grew c.in_ok-at.ensures.grew)
 
 pub returns-clause-stands : goal.returns-clause-stands
@@ -34,7 +34,7 @@ returns-clause-stands g c =
       count = rw (length-map c.args.members.now g.T.Entry.plain) c.in_ok-at.ensures.count;
       records = gather_end g.T.Entry.IsRecord g.row.N _ _ _ _ _
           (map g.T.Entry.plain c.args.members.now) c.in_ok-at.ensures.grew c.in_ok-records.ensures.gathered
-          (rw (← c.deref.ensures.value) c.in_ok-at.ensures.numbers);
+          (rw (← c.as_slice.ensures) c.in_ok-at.ensures.numbers);
     }
 
 pub overflow_cast-members : goal.overflow_cast-members

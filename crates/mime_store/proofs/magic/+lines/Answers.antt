@@ -1,4 +1,4 @@
-use Rattle.std.proofs.Common.{arith, rules, map, sym, ap, ◌∙◌}
+use Rattle.std.proofs.Common.{arith, map, length, length-append, sym, ap, ◌∙◌}
 use denote.Param.Weighed.{at_most}
 use Rattle.mime_base.proofs.magic.matchlet.Matchlet.TheLaws.{the_size}
 use Rattle.mime_base.specs.Magic.{plain_matchlet}
@@ -29,17 +29,18 @@ write_lines-loop-line-preserved t c =
     record {
       grew = grew_more plain_matchlet matchlet_parts_room c.args.lines.now c.loop-line.line-index c.line-item.result
           c.args.out.now.items _ _ c.loop-line-test.true c.line-item.is c.loop-line.invariant.grew c.in_ok-record.ensures.grew;
-      gathered = rw c.in_ok-extend_from_slice.ensures.items (gather_push plain_matchlet IsLineRecord 8 _ _ _ _ _
+      gathered = rw c.in_ok-extend_from_slice.ensures.ok (gather_push plain_matchlet IsLineRecord 8 _ _ _ _ _
           c.args.lines.now _ _ c.loop-line-test.true c.line-item.is c.in_ok-record.ensures.grew
           c.loop-line.invariant.gathered c.in_ok-record.ensures.row);
-      count = search rules;
+      count = omega (arith, ap length c.in_ok-extend_from_slice.ensures.ok, length-append c.loop-line.records.items c.in_ok-record.record,
+          c.in_ok-record.ensures.row.long, c.loop-line.invariant.count);
     }
 
 pub write_lines-append_numbers-requires-clause-room : goal.write_lines-append_numbers-requires-clause-room
 write_lines-append_numbers-requires-clause-room t c =
     let g = grew_all plain_matchlet matchlet_parts_room c.args.lines.now c.loop-line.line-index
     c.args.out.now.items _ c.loop-line-test.false c.loop-line.invariant.grew in
-    omega (arith, grew_length _ _ _ g, room-lines c.args.lines.now, c.deref.ensures.len, c.requires.room, c.loop-line.invariant.count)
+    omega (arith, grew_length _ _ _ g, room-lines c.args.lines.now, ap length c.as_slice.ensures, c.requires.room, c.loop-line.invariant.count)
 
 pub write_lines-append_numbers-requires-clause-begun : goal.write_lines-append_numbers-requires-clause-begun
 write_lines-append_numbers-requires-clause-begun t c =
@@ -49,7 +50,7 @@ pub write_lines-returns-clause-grew : goal.write_lines-returns-clause-grew
 write_lines-returns-clause-grew t c =
     let g = grew_all plain_matchlet matchlet_parts_room c.args.lines.now c.loop-line.line-index
     c.args.out.now.items _ c.loop-line-test.false c.loop-line.invariant.grew in
-    grew_to _ _ _ _ (omega (arith, room-lines c.args.lines.now, c.deref.ensures.len, c.loop-line.invariant.count))
+    grew_to _ _ _ _ (omega (arith, room-lines c.args.lines.now, ap length c.as_slice.ensures, c.loop-line.invariant.count))
     (grew_on _ _ _ _ _ g c.in_ok-at.ensures.grew)
 
 pub write_lines-returns-clause-stand : goal.write_lines-returns-clause-stand
@@ -58,7 +59,7 @@ write_lines-returns-clause-stand t c =
     (gather_end IsLineRecord 8 _ _ c.loop-line.out.items _ _ (map plain_matchlet c.args.lines.now)
     c.in_ok-at.ensures.grew
     (gather_all plain_matchlet IsLineRecord 8 _ _ c.args.lines.now _ c.loop-line-test.false c.loop-line.invariant.gathered)
-    (rw (← c.deref.ensures.value) c.in_ok-at.ensures.stand))
+    (rw (← c.as_slice.ensures) c.in_ok-at.ensures.stand))
 
 pub write_parts-overflow_cast-count : goal.write_parts-overflow_cast-count
 write_parts-overflow_cast-count t c =

@@ -1,4 +1,4 @@
-use Rattle.std.proofs.Common.{arith, map, refl, lit<}
+use Rattle.std.proofs.Common.{arith, map, length, ap, refl, lit<}
 use Rattle.std.proofs.lemmas.List.{length-map}
 use Rattle.mime_base.specs.Format.Magic.{IsSection}
 use Rattle.mime_base.specs.Magic.{plain_section, plain_sections}
@@ -21,7 +21,7 @@ append_numbers-requires-clause-room c =
       c.requires.room,
       grew_length _ _ _ c.in_ok-records.ensures.grew,
       rows_room IsSection 4 section_parts_room _ _ _ c.in_ok-records.ensures.gathered,
-      c.deref.ensures.len,
+      ap length c.as_slice.ensures,
     )
 
 pub append_numbers-requires-clause-begun : goal.append_numbers-requires-clause-begun
@@ -43,7 +43,7 @@ append_numbers-requires-2-clause-room c =
       grew_length _ _ _ c.in_ok-records.ensures.grew,
       grew_length _ _ _ c.in_ok-first.ensures.grew,
       rows_room IsSection 4 section_parts_room _ _ _ c.in_ok-records.ensures.gathered,
-      c.deref.ensures.len,
+      ap length c.as_slice.ensures,
     )
 
 pub append_numbers-requires-2-clause-begun : goal.append_numbers-requires-2-clause-begun
@@ -55,7 +55,7 @@ returns-clause-grew c =
     grew_to _ _ _ _ (omega (
       arith,
       rows_room IsSection 4 section_parts_room _ _ _ c.in_ok-records.ensures.gathered,
-      c.deref.ensures.len,
+      ap length c.as_slice.ensures,
     ))
     (grew_on _ _ _ _ _ (grew_on _ _ _ _ _ c.in_ok-records.ensures.grew c.in_ok-first.ensures.grew) c.in_ok-at.ensures.grew)
 
@@ -63,5 +63,5 @@ pub returns-clause-stands : goal.returns-clause-stands
 returns-clause-stands c =
     magic_stands _ _ c.args.sections.now _ _ _ _ _
     (gather_end IsSection 4 _ _ _ _ _ (map plain_section c.args.sections.now)
-    c.in_ok-first.ensures.grew c.in_ok-records.ensures.gathered (rw (← c.deref.ensures.value) c.in_ok-first.ensures.stand))
+    c.in_ok-first.ensures.grew c.in_ok-records.ensures.gathered (rw (← c.as_slice.ensures) c.in_ok-first.ensures.stand))
     c.in_ok-at.ensures.grew refl c.extent.ensures c.in_ok-at.ensures.stand

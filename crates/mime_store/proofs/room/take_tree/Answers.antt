@@ -13,7 +13,7 @@ loop-ending-preserved c =
         c.loop-ending.invariant.taken,
         entries_more xs i c.ending-item.result c.loop-ending-test.true c.ending-item.is,
       );
-      last = c.deref-before.ensures.value ∙ sym (last_more xs i c.ending-item.result c.loop-ending-test.true c.ending-item.is);
+      last = c.as_slice-before.ensures ∙ sym (last_more xs i c.ending-item.result c.loop-ending-test.true c.ending-item.is);
     }
 
 pub returns-in_err-rest : goal.returns-in_err-rest

@@ -1,6 +1,6 @@
-use Rattle.std.proofs.Common.{arith, map, length, drop, List, [], ◌∷◌, ◌<◌, ◌≡◌, sym, ap, ◌∙◌, subst}
+use Rattle.std.proofs.Common.{arith, map, length, get_or, drop, List, [], ◌∷◌, ◌<◌, ◌≡◌, sym, ap, ◌∙◌, subst}
 use Rattle.std.specs.List.{between}
-use Rattle.std.proofs.lemmas.List.{length-map, drop-drop, drop_all, get_or_default, take_rest, length-drop}
+use Rattle.std.proofs.lemmas.List.{length-map, drop-drop, drop_all, take_rest, length-drop}
 use Rattle.std.proofs.lemmas.Slice.{first_rest}
 use Rattle.mime_store.specs.SuffixTree.{PathRule, WritesSibling, entries_room, ending_entry}
 use Rattle.mime_store.specs.declared.ending.Ending.{Ending}
@@ -16,13 +16,13 @@ write_sibling-append_text-requires-clause-room t c =
     let is = first_rest c.args.endings.now e c.requires.some ∙ ap (λ (x : Ending). x ∷ rest) (sym c.index-endings-0.is) in
     rw c.bytes.ensures.text (omega (arith, c.requires.room, first_fits c.args.depth c.args.endings.now e rest is))
 
-pub write_sibling-returns-then-len-depth : goal.write_sibling-returns-then-len-depth
-write_sibling-returns-then-len-depth t c =
+pub write_sibling-returns-then-path-depth : goal.write_sibling-returns-then-path-depth
+write_sibling-returns-then-path-depth t c =
     let e = c.index-endings-0.result in
     let rest = between 1 (length c.args.endings.now) c.args.endings.now in
     rw c.weight_and_flags.ensures (first_leaf c.args.depth _ c.args.out.now.items _ c.args.endings.now e rest
     (first_rest c.args.endings.now e c.requires.some
-    ∙ ap (λ (x : Ending). x ∷ rest) (sym c.index-endings-0.is)) (omega (arith, e.path.ok.0))
+    ∙ ap (λ (x : Ending). x ∷ rest) (sym c.index-endings-0.is)) (omega (arith, ap length c.as_slice-path.ensures))
     (rw c.bytes.ensures.text at c.in_ok-kind.ensures.grew) (rw c.bytes.ensures.text at c.in_ok-kind.ensures.stands))
 
 pub write_sibling-write_siblings-requires : goal.write_sibling-write_siblings-requires
@@ -30,10 +30,10 @@ write_sibling-write_siblings-requires t c =
     let e = c.index-endings-0.result in
     let rest = between 1 (length c.args.endings.now) c.args.endings.now in
     let is = first_rest c.args.endings.now e c.requires.some ∙ ap (λ (x : Ending). x ∷ rest) (sym c.index-endings-0.is) in
-    let lt : c.args.depth < length e.path.items = omega (arith, e.path.ok.0) in
-    let here = starts c.args.depth e c.index-byte.result.now lt (get_or_default e.path.items c.args.depth 0 c.index-byte.result.now lt
-    ∙ sym c.index-byte.ensures) in
-    let g = a_group c.args.depth c.index-byte.result.now c.run_length-taken.result c.args.endings.now e rest is
+    let lt : c.args.depth < length e.path.items = omega (arith, ap length c.as_slice-path.ensures) in
+    let byte = get_or c.as_slice-path.result.now c.args.depth 0 in
+    let here = starts c.args.depth e byte lt (ap (λ path. get_or path c.args.depth 0) (sym c.as_slice-path.ensures)) in
+    let g = a_group c.args.depth byte c.run_length-taken.result c.args.endings.now e rest is
     c.run_length-taken.ensures.within here c.run_length-taken.ensures.all c.run_length-taken.ensures.clear in
     let less = group_room _ _ _ _ g in
     let short = e.short in
@@ -44,10 +44,10 @@ write_sibling-returns t c =
     let e = c.index-endings-0.result in
     let rest = between 1 (length c.args.endings.now) c.args.endings.now in
     let is = first_rest c.args.endings.now e c.requires.some ∙ ap (λ (x : Ending). x ∷ rest) (sym c.index-endings-0.is) in
-    let lt : c.args.depth < length e.path.items = omega (arith, e.path.ok.0) in
-    let here = starts c.args.depth e c.index-byte.result.now lt (get_or_default e.path.items c.args.depth 0 c.index-byte.result.now lt
-    ∙ sym c.index-byte.ensures) in
-    let g = a_group c.args.depth c.index-byte.result.now c.run_length-taken.result c.args.endings.now e rest is
+    let lt : c.args.depth < length e.path.items = omega (arith, ap length c.as_slice-path.ensures) in
+    let byte = get_or c.as_slice-path.result.now c.args.depth 0 in
+    let here = starts c.args.depth e byte lt (ap (λ path. get_or path c.args.depth 0) (sym c.as_slice-path.ensures)) in
+    let g = a_group c.args.depth byte c.run_length-taken.result c.args.endings.now e rest is
     c.run_length-taken.ensures.within here c.run_length-taken.ensures.all c.run_length-taken.ensures.clear in
     rw c.from.ensures (first_group _ _ _ _ _ _ _ c.args.endings.now g c.in_ok-below.ensures.grew c.in_ok-below.ensures.stands)
 
@@ -55,7 +55,7 @@ pub write_siblings-loop-at-init : goal.write_siblings-loop-at-init
 write_siblings-loop-at-init t c =
     record {
       within = omega arith;
-      sofar = rw c.in_ok-records.ensures.items
+      sofar = rw c.new-records.ensures.items
           (sofar_none c.args.out.now.items (map (ending_entry c.args.depth) c.args.endings.now));
     }
 
@@ -86,7 +86,7 @@ write_siblings-loop-at-preserved t c =
     let within = w.within in
     record {
       within = omega (arith, length-drop at es, length-map xs (ending_entry c.args.depth));
-      sofar = rw (← drop-drop n at es, c.in_ok-extend_from_slice.ensures.items)
+      sofar = rw (← drop-drop n at es, c.in_ok-extend_from_slice.ensures.ok)
           (sofar_more _ _ _ _ _ _ _ es (drop at es) c.loop-at.invariant.sofar w);
     }
 
@@ -96,7 +96,7 @@ write_siblings-returns-clause-grew t c =
     let done : drop c.loop-at.at es ≡ [] = drop_all c.loop-at.at es
     (omega (arith, length-map c.args.endings.now (ending_entry c.args.depth))) in
     sofar_grew _ _ _ c.loop-at.records.items _ es (rw done at c.loop-at.invariant.sofar)
-    (rw c.deref.ensures.value at c.in_ok-first.ensures.grew)
+    (rw c.as_slice.ensures at c.in_ok-first.ensures.grew)
 
 pub write_siblings-returns-clause-stands : goal.write_siblings-returns-clause-stands
 write_siblings-returns-clause-stands t c =
@@ -104,4 +104,4 @@ write_siblings-returns-clause-stands t c =
     let done : drop c.loop-at.at es ≡ [] = drop_all c.loop-at.at es
     (omega (arith, length-map c.args.endings.now (ending_entry c.args.depth))) in
     sofar_all _ _ _ c.loop-at.records.items _ _ _ es (rw done at c.loop-at.invariant.sofar) c.in_ok-first.ensures.grew
-    (rw c.deref.ensures.value at c.in_ok-first.ensures.stand)
+    (rw c.as_slice.ensures at c.in_ok-first.ensures.stand)

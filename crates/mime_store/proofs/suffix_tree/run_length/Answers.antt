@@ -1,5 +1,4 @@
-use Rattle.std.proofs.Common.{arith, sym, ap, ◌∙◌, ◌+◌, ◌<◌, length}
-use Rattle.std.proofs.lemmas.List.{get_or_default}
+use Rattle.std.proofs.Common.{arith, sym, ap, ◌∙◌, ◌+◌, ◌<◌, length, get_or}
 use Rattle.mime_store.specs.SuffixTree.{ending_entry}
 use Rattle.mime_store.proofs.ListLemmas.Loops.{views_more}
 use Rattle.mime_store.proofs.SuffixTreeLemmas.Groups.{start_push, starts}
@@ -8,13 +7,13 @@ use Rattle.mime_store.proofs.suffix_tree.run_length.Goals as goal
 pub loop-ending-preserved : goal.loop-ending-preserved
 loop-ending-preserved c =
     let e = c.ending-item.result in
-    let lt : c.args.depth < length e.path.items = omega (arith, e.path.ok.0) in
+    let lt : c.args.depth < length e.path.items = omega (arith, ap length c.as_slice-path.ensures) in
     record {
       place = ap (λ n. n + 1) c.loop-ending.invariant.place;
       all = rw (views_more
           (ending_entry c.args.depth) c.args.endings.now c.loop-ending.ending-index c.ending-item.result
           c.loop-ending-test.true c.ending-item.is)
           (start_push _ _ _ c.loop-ending.invariant.all
-          (starts c.args.depth c.ending-item.result c.args.byte lt (get_or_default e.path.items c.args.depth 0 c.index.result.now lt
-          ∙ sym c.index.ensures ∙ c.if-index-byte.false)));
+          (starts c.args.depth c.ending-item.result c.args.byte lt
+          (ap (λ path. get_or path c.args.depth 0) (sym c.as_slice-path.ensures) ∙ c.if-next-byte.false)));
     }

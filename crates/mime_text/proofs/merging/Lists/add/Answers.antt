@@ -17,8 +17,8 @@ returns c = record {
         c.in_ok-add-2.ensures.deleted kind
         ∙ ap (λ more. is_among (c.args.self.now.sections.deleted ++ more) kind) c.deref-2.ensures.value;
   };
-  aliases = c.in_ok-append.ensures.items;
-  subclasses = c.in_ok-append-2.ensures.items;
-  icons = c.in_ok-append-3.ensures.items;
-  generic_icons = c.in_ok-append-4.ensures.items;
+  aliases = c.in_ok-append.ensures;
+  subclasses = c.in_ok-append-2.ensures;
+  icons = c.in_ok-append-3.ensures;
+  generic_icons = c.in_ok-append-4.ensures;
 }

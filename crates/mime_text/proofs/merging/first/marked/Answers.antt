@@ -1,6 +1,7 @@
 -- An entry less, which is taken if it is marked.
-use Rattle.std.proofs.Common.{◌≡◌, ◌++◌, ◌∙◌, length, reverse, ap, arith, length-append}
-use Rattle.mime_text.proofs.Merges.Picking.{leaves-others, takes-marked}
+use Rattle.std.proofs.Common.{◌≡◌, ◌++◌, ◌∙◌, length, reverse, sym, ap, arith, length-append}
+use Rattle.std.specs.List.{list_all}
+use Rattle.mime_text.proofs.Merges.Picking.{leaves-others, picked-all, takes-marked}
 use Rattle.mime_text.specs.Merging.{picked}
 use Rattle.mime_text.proofs.merging.first.marked.Goals as goal
 
@@ -34,3 +35,8 @@ loop-entry-preserved g c =
           c.if-mark.false
           ∙ c.loop-entry.invariant.kept;
     }
+
+pub returns-then-are_all_marked : goal.returns-then-are_all_marked
+returns-then-are_all_marked g c =
+    sym (picked-all c.args.marks.items c.args.entries.items c.requires
+    (ap (list_all (λ mark. mark)) (sym c.deref.ensures.value) ∙ sym c.are_all_marked.ensures ∙ c.if-are_all_marked.true))

@@ -1,0 +1,12 @@
+-- Where there is no name there is no type.
+use Rattle.std.proofs.Common.{◌≡◌, ◌∙◌, List, [], ◌∷◌, length, map, refl, sym, ap, arith}
+use Rattle.mime_text.proofs.merging.types.Types.is_empty.Goals as goal
+
+-- a list without a length is empty
+none_left : {A : Type 0} (xs : List A) → length xs ≡ 0 → xs ≡ []
+none_left [] none = refl
+none_left (x ∷ xs) none = absurd (omega arith)
+
+pub returns : goal.returns
+returns c = λ none.
+    sym c.self.view_is ∙ ap (map (λ name. name.items)) (none_left c.self.inside.names.keys (c.is_empty.ensures.0 none))
