@@ -8,8 +8,7 @@ pub mod PairsRows
 pub mod Icons
 pub mod IconsRows
 -- The lines of a text, their fields and their numbers.
-use Rattle.std.specs.Prelude.{ℕ, ◌==◌, ◌↔◌, Bool, true, if◌then◌else◌, Option, Some, None, List, [], ◌∷◌, map, filter, Contains}
-use Rattle.std.specs.Borrow.{Bor}
+use Rattle.std.specs.Prelude.{ℕ, ◌==◌, ◌↔◌, Bool, true, if◌then◌else◌, List, [], ◌∷◌, map, filter, Contains}
 use Rattle.std.specs.List.{enumerate_from, onto_first, slice_split}
 
 -- the bytes up to each newline (10), and those behind the last newline, if any
@@ -20,11 +19,6 @@ lines (b ∷ rest) = if b == 10 then [] ∷ lines rest else onto_first b (lines 
 -- what stands between the separators of a line
 abbrev pub line_fields : ℕ → List ℕ → List (List ℕ)
 line_fields separator line = slice_split (λ b. b == separator) line
-
--- the fields of what is left of a line, none where nothing is
-abbrev pub fields_left : ℕ → Option (Bor (List ℕ)) → List (List ℕ)
-fields_left separator None = []
-fields_left separator (Some rest) = line_fields separator rest.now
 
 -- an empty line, or one that begins with # (35)
 abbrev pub is_passed : List ℕ → Bool

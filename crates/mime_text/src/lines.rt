@@ -9,9 +9,10 @@ pub mod icons;
 mod names;
 pub mod pairs;
 
-ghost use Rattle.std.specs.Prelude.{◌≡◌, ◌<◌, ◌∷◌, length};
-ghost use Rattle.mime_text.specs.Lines.{fields_left, is_passed, line_fields, lines};
+ghost use Rattle.std.specs.Prelude.{◌≡◌, ◌<◌, ◌∷◌, length, slice_index};
+ghost use Rattle.mime_text.specs.Lines.{line_fields, is_passed, lines};
 
+use bstr::{ByteSlice, Split};
 use memchr::memchr;
 use std::marker::Model;
 
@@ -81,58 +82,12 @@ pub fn is_passed(line: &[u8]) -> bool
     }
 }
 
-/// The fields of a line, first to last.
-#[derive(Drop)]
-pub struct LineFields<'a> {
-    separator: u8,
-    rest: Option<&'a [u8]>,
-}
-
-impl<'a> Model for LineFields<'a> {
-    ghost use Rattle.std.specs.Prelude.{ℕ, List};
-    ghost use Rattle.mime_text.specs.Lines.{fields_left};
-
-    ghost Value = { List (List ℕ) };
-
-    ghost view = { λ s. fields_left s.separator s.rest };
-}
-
-impl<'a> Iterator for LineFields<'a> {
-    ghost use Rattle.std.specs.Iterator.{YieldsFirstRef, item_count};
-
-    type Item = &'a [u8];
-
-    ghost next_gives = { YieldsFirstRef (λ left. left) };
-
-    ghost remaining = { item_count (λ left. left) };
-
-    fn next(&mut self) -> Option<&'a [u8]> {
-        let Some(line) = self.rest else {
-            return None;
-        };
-        let (field, rest) = cut_field(self.separator, line);
-        self.rest = rest;
-        Some(field)
-    }
-}
-
 /// The fields of a line, which stand between the separators.
-pub fn fields(line: &[u8], separator: u8) -> LineFields<'_>
+pub fn fields<'a, 's>(line: &'a [u8], separator: &'s [u8]) -> Split<'a, 's>
+    // The separator is one byte.
+    requires { length separator.now ≡ 1 }
     // The fields are what is between the separators, in their order.
-    ensures { result ≡ line_fields separator line.now }
+    ensures { result ≡ line_fields (slice_index separator.now 0) line.now }
 {
-    LineFields {
-        separator,
-        rest: Some(line),
-    }
-}
-
-/// The first field of a line, and the bytes after its separator, if there is one.
-fn cut_field(separator: u8, line: &[u8]) -> (&[u8], Option<&[u8]>)
-    ensures { line_fields separator line.now ≡ result.0.now ∷ fields_left separator result.1 }
-{
-    match memchr(separator, line) {
-        Some(end) => (&line[..end], Some(&line[end + 1..])),
-        None => (line, None),
-    }
+    line.split_str(separator)
 }

@@ -99,7 +99,7 @@ impl LineEntry for GlobEntry {
 
     #[tactic(auto, unfolding(crate::specs::Lines::Globs2::entry_of))]
     fn read(alloc: Global, line: &[u8]) -> Result<Option<GlobEntry>, OutOfMemory> {
-        let mut fields = fields(line, b':');
+        let mut fields = fields(line, b":");
         let (Some(weight), Some(kind), Some(pattern)) = (
             fields.next(),
             fields.next(),
@@ -168,5 +168,5 @@ fn weight_of(field: &[u8]) -> Option<u8>
 fn has_cs(flags: &[u8]) -> bool
     ensures { result ≡ has_cs flags.now }
 {
-    fields(flags, b',').any(|flag| flag == CASED)
+    fields(flags, b",").any(|flag| flag == CASED)
 }

@@ -44,7 +44,7 @@ impl LineEntry for Pair {
 
     #[tactic(auto, unfolding(crate::specs::Lines::Pairs::pair_of))]
     fn read(alloc: Global, line: &[u8]) -> Result<Option<Pair>, OutOfMemory> {
-        let mut fields = fields(line, b' ');
+        let mut fields = fields(line, b" ");
         let (Some(name), Some(target), None) = (fields.next(), fields.next(), fields.next()) else {
             return Ok(None);
         };
