@@ -8,8 +8,7 @@ ghost use Rattle.mime_base.specs.Kept.{FitsRank, class_of, hits as matching, ran
 ghost use Rattle.mime_base.specs.declared.database.rule.GlobRule.{GlobRule};
 ghost use Rattle.mime_view.specs.Globs.{ReadsGlob};
 ghost use Rattle.mime_view.specs.Hits.{glob_list_hits};
-ghost use Rattle.mime_view.specs.Lists.{IsTextFault};
-ghost use Rattle.mime_view.specs.Steps.{FindsAt, FindsRules, IsEntriesFault, Searches};
+ghost use Rattle.mime_view.specs.Steps.{FindsAt, FindsRules, Searches, entry_part, list_part};
 
 use crate::fault::CacheFault;
 use crate::flags::weight_and_case;
@@ -29,7 +28,7 @@ pub fn glob_list_hits(
     ensures finds { FindsAt query.now GlobsAt at (glob_list_hits query.now.key.now)
         (λ rules. length (glob_rules rules)) progress.old progress.new result }
     // An entry costs its text and the tests of that against the name; the count of the list comes besides.
-    ensures searches { Searches (IsEntriesFault query.now.counted.now at) (256 * (length query.now.key.now + 2)) 1
+    ensures searches { Searches (list_part query.now.counted.now at) (256 * (length query.now.key.now + 2)) 1
         progress.old progress.new result }
 {
     // A copy, whose fields stay in registers.
@@ -57,7 +56,7 @@ fn take_glob(query: &Query<'_, '_>, at: u64, progress: &mut Progress) -> Result<
         FindsRules query.now.counted.now (FitsRank rule) (matching (rule ∷ []) query.now.key.now) 1
         progress.old progress.new result }
     // It costs its text and the tests of that against the name.
-    ensures searches { Searches (IsTextFault query.now.counted.now) (256 * (length query.now.key.now + 2)) 0
+    ensures searches { Searches (entry_part query.now.counted.now at) (256 * (length query.now.key.now + 2)) 0
         progress.old progress.new result }
 {
     progress.spending.budget.take_record()?;

@@ -2,7 +2,9 @@ use Rattle.std.proofs.Common.{◌<◌, sym, arith, length}
 use Rattle.std.proofs.lemmas.List.{take_all}
 use Rattle.mime_base.specs.Format.Stored.{glob_rules}
 use Rattle.mime_view.proofs.GlobLemmas.GlobLists.{finds_next, glob, glob_read, globs_count, globs_inside}
-use Rattle.mime_view.proofs.HitsLemmas.Steps.{finds_err, searches_then}
+use Rattle.mime_view.proofs.HitsLemmas.ListParts.{entry_of_list}
+use Rattle.mime_view.proofs.HitsLemmas.Parts.{searches_within}
+use Rattle.mime_view.proofs.HitsLemmas.Steps.{finds_err, searches_err, searches_then}
 use Rattle.mime_view.proofs.globs.glob_list_hits.Goals as goal
 
 pub returns-in_err-count-clause-finds : goal.returns-in_err-count-clause-finds
@@ -20,7 +22,10 @@ loop-i-preserved c = record {
       finds_next c.args.query.now.key.now rules l (c.loop-i.invariant.finds rules stand)
       (c.in_ok-take_glob.ensures.finds (glob rules c.loop-i.i) (glob_read c.args.query.now.counted.now c.from-at.result rules stand
       c.loop-i.i l));
-  searches = searches_then c.loop-i.invariant.searches c.in_ok-take_glob.ensures.searches (omega arith);
+  searches =
+      let within = entry_of_list c.args.query.now.counted.now c.from-at.result c.loop-i.i
+      (omega (arith, c.in_ok-count.ensures.count.0, c.loop-i-test.true)) in
+      searches_then c.loop-i.invariant.searches (searches_within within c.in_ok-take_glob.ensures.searches) (omega arith);
 }
 
 pub returns-in_err-take_glob-clause-finds : goal.returns-in_err-take_glob-clause-finds
@@ -44,3 +49,11 @@ returns-clause-finds c = λ rules stand.
       need = λ enough. tt;
       most = omega (arith, count, c.in_ok-count.ensures.count.0, c.loop-i.auto.i-end, found.most);
     }
+
+pub returns-in_err-take_glob-clause-searches : goal.returns-in_err-take_glob-clause-searches
+returns-in_err-take_glob-clause-searches c =
+    let within = entry_of_list c.args.query.now.counted.now c.from-at.result c.loop-i.i
+    (omega (arith, c.in_ok-count.ensures.count.0, c.loop-i-test.true)) in
+    rw (sym c.from-at.ensures)
+    (searches_err c.from_residual-in_err-take_glob.result c.from_residual-in_err-take_glob.ensures.1
+    (searches_then {k = 1} c.loop-i.invariant.searches (searches_within within c.in_err-take_glob.ensures.searches) (omega arith)))
