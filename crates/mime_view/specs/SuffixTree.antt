@@ -64,9 +64,16 @@ abbrev pub IsBelow : List ℕ → Tree → Option Siblings → Type 0
 IsBelow c tree None = tree ≡ bare
 IsBelow c tree (Some block) = ReadsBlock c block tree
 
--- the record at r is one of a block
-abbrev pub IsSibling : Siblings → ℕ → Type 0
-IsSibling block r = (i : ℕ) × (i < block.count) × (r ≡ block.first + 12 * i)
+-- The record at r is one of a block.
+pub record IsSibling (c : List ℕ) (block : Siblings) (r : ℕ) : Type 0 where
+  -- The block lies in the cache.
+  pub lies : LiesBlock c block.first 12 block.count
+  -- Which record it is.
+  pub i : ℕ
+  -- It is one of them.
+  pub within : i < block.count
+  -- It stands there.
+  pub is : r ≡ block.first + 12 * i
 
 -- The record at `at` is the node of a character.
 pub record IsNodeOf (c : List ℕ) (at character : ℕ) : Type 0 where
@@ -93,7 +100,7 @@ pub record IsBlockBelow (c : List ℕ) (block : Siblings) (character : ℕ) (bel
   -- It lies in the cache.
   pub lies : IfSome below (λ lower. LiesBlock c lower.first 12 lower.count)
   -- It is what one of the siblings names.
-  pub named : IfSome below (IsNamedBlock c (IsSibling block) character)
+  pub named : IfSome below (IsNamedBlock c (IsSibling c block) character)
   -- It is of the siblings below the character, wherever those of the block stand.
   pub reads : (tree : Tree) → ReadsBlock c block tree → IsBelow c (below_character character tree) below
 
@@ -130,7 +137,7 @@ leaf_part c at = record { Fault = λ e. ⊥; Kind = λ place. (field c at 0 ≡ 
 abbrev pub leaves_part : List ℕ → Siblings → Part
 leaves_part c block = record {
   Fault = λ e. ⊥;
-  Kind = λ place. (r : ℕ) × IsSibling block r × (leaf_part c r).Kind place;
+  Kind = λ place. (r : ℕ) × IsSibling c block r × (leaf_part c r).Kind place;
 }
 
 -- the block that the node of a character names, one of these records: it lies outside the cache, or has the leaf
@@ -142,9 +149,9 @@ below_part c Among character = record {
 
 -- the last `depth` bytes of a name lead from the roots of the tree at `at` to the record at r
 abbrev pub LeadsAlong : List ℕ → ℕ → List ℕ → ℕ → ℕ → Type 0
-LeadsAlong c at name zero r = IsSibling (record { first = field c at 1; count = field c at 0 }) r
+LeadsAlong c at name zero r = IsSibling c (record { first = field c at 1; count = field c at 0 }) r
 LeadsAlong c at name (suc depth) r =
-    (block : Siblings) × IsNamedBlock c (LeadsAlong c at name depth) (get_or (reverse name) depth 0) block × IsSibling block r
+    (block : Siblings) × IsNamedBlock c (LeadsAlong c at name depth) (get_or (reverse name) depth 0) block × IsSibling c block r
 
 -- the tree at `at` along a name: its head, its roots, and each block that an ending of the name leads to
 abbrev pub tree_part : List ℕ → ℕ → List ℕ → Part

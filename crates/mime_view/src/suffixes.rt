@@ -122,7 +122,8 @@ fn descend(
     ensures finds { (tree : Tree) → ReadsBlock query.now.counted.now block tree →
         FindsLeaves query.now pattern_length (below_character byte tree) progress.old progress.new result }
     // The halving comes besides.
-    ensures searches { Searches (below_part query.now.counted.now (IsSibling block) byte) 256 29 progress.old progress.new result }
+    ensures searches { Searches (below_part query.now.counted.now (IsSibling query.now.counted.now block) byte) 256 29
+        progress.old progress.new result }
 {
     let Some(below) = block_below(query, block, byte, progress)? else {
         return Ok(None);
@@ -148,7 +149,8 @@ fn block_below(
     ensures finds { (tree : Tree) → ReadsBlock query.now.counted.now block tree →
         FindsRules query.now.counted.now (Unit {0}) [] 0 progress.old progress.new result }
     // It costs the halving, and the sibling that is found.
-    ensures searches { Searches (below_part query.now.counted.now (IsSibling block) byte) 256 27 progress.old progress.new result }
+    ensures searches { Searches (below_part query.now.counted.now (IsSibling query.now.counted.now block) byte) 256 27
+        progress.old progress.new result }
 {
     if byte == 0 {
         return Ok(None);

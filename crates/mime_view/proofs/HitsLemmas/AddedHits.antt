@@ -1,7 +1,7 @@
 -- Which hits are added where one is offered, and by one step after another.
-use Rattle.std.proofs.Common.{◌≡◌, ℕ, List, [], ◌∷◌, ◌++◌, inl, inr, ⊎_elim, refl, sym, subst, arith}
+use Rattle.std.proofs.Common.{◌≡◌, ℕ, List, [], ◌∷◌, ◌++◌, inl, inr, ⊎_elim, sym, subst, arith}
 use Rattle.std.specs.List.{Contains}
-use Rattle.std.specs.Prelude.{◌⊎◌, length, map}
+use Rattle.std.specs.Prelude.{◌⊎◌, map}
 use Rattle.std.proofs.lemmas.List.{length-append, length-map, map-append}
 use Rattle.std.proofs.lemmas.List.Elements.{Contains-push_cases}
 use Rattle.mime_base.proofs.KeptLemmas.Offers.{items-ranked}

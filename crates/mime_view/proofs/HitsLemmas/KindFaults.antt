@@ -1,5 +1,5 @@
 -- Why the types of hits are not given, by where the lists say that they stand.
-use Rattle.std.proofs.Common.{◌≡◌, ℕ, ◌<◌, true, false, cond, ltb, List, [], ◌∷◌, get_or, length, map, inl, inr, ⊎_elim, sym, subst, arith}
+use Rattle.std.proofs.Common.{◌≡◌, ℕ, ◌<◌, true, false, cond, ltb, List, [], ◌∷◌, get_or, length, inl, inr, ⊎_elim, sym, subst, arith}
 use Rattle.std.specs.List.{All, AllByRecursion, Contains}
 use Rattle.std.specs.Prelude.{Result, IfErr}
 use Rattle.std.proofs.Math.ListN.{get_or-map}
@@ -10,7 +10,7 @@ use Rattle.std.proofs.lemmas.Result.{IfErr-weaker}
 use Rattle.mime_base.specs.Falling.{falling, insert_falling}
 use Rattle.mime_view.specs.Gathered.{AddsAt, in_order, places_of}
 use Rattle.mime_view.specs.Lists.{IsNoText}
-use Rattle.mime_view.specs.NameHits.{IsHitsFault, IsKindFault, lists_part}
+use Rattle.mime_view.specs.NameHits.{IsHitsFault, lists_part}
 use Rattle.mime_view.specs.Texts.{IsPlaceFault, IsTextsStop}
 use Rattle.mime_view.specs.declared.budget.Budget.{Budget}
 use Rattle.mime_view.specs.declared.fault.CacheFault.{CacheFault}

@@ -1,8 +1,7 @@
 -- A part of a cache that belongs to another: what a search of the one says, it says of the other.
-use Rattle.std.proofs.Common.{◌≡◌, ℕ, inl, inr, ⊎_elim}
-use Rattle.std.specs.Prelude.{Result, OnOk, IfErr}
+use Rattle.std.proofs.Common.{ℕ, inl, inr, ⊎_elim}
+use Rattle.std.specs.Prelude.{Result}
 use Rattle.std.proofs.lemmas.Result.{IfErr-weaker, on_ok_weaker}
-use Rattle.mime_view.specs.Gathered.{AddsAt}
 use Rattle.mime_view.specs.Steps.{IsSearchStop, Part, Searches, either_part, no_part}
 use Rattle.mime_view.specs.declared.fault.CacheFault.{CacheFault}
 use Rattle.mime_view.specs.declared.query.Progress.{Progress}

@@ -49,7 +49,12 @@ returns-clause-below c = record {
       let same = sym (ap (λ xs. get_or xs 0 0) c.cards_within.ensures.numbers) ∙ c.if-character-from.false ∙ c.from.ensures in
       record {
         node = c.args.block.first + 12 * c.first_not_below-place.result;
-        among = (c.first_not_below-place.result, omega (arith, c.first_not_below-place.ensures.place.within, c.if-place-block.false), refl);
+        among = record {
+          lies = c.requires.lies;
+          i = c.first_not_below-place.result;
+          within = omega (arith, c.first_not_below-place.ensures.place.within, c.if-place-block.false);
+          is = refl;
+        };
         of = record { some = omega (arith, c.if-byte-eq0.false); is = same };
         first = c.in_ok-block_of.ensures.block.0 ∙ ap (λ xs. get_or xs 2 0) c.cards_within.ensures.numbers;
         count = c.in_ok-block_of.ensures.block.1 ∙ ap (λ xs. get_or xs 1 0) c.cards_within.ensures.numbers;
@@ -68,10 +73,15 @@ returns-in_err-block_of-clause-searches c =
     let same = sym (ap (λ xs. get_or xs 0 0) c.cards_within.ensures.numbers) ∙ c.if-character-from.false ∙ c.from.ensures in
     let p = err_from_is_err_and c.from_residual.result c.from_residual.ensures.1 in
     let block : Siblings = record { first = get_or c.cards_within.result 2 0; count = get_or c.cards_within.result 1 0 } in
-    let named : IsNamedBlock c.args.query.now.counted.now (IsSibling c.args.block) c.args.byte block =
+    let named : IsNamedBlock c.args.query.now.counted.now (IsSibling c.args.query.now.counted.now c.args.block) c.args.byte block =
     record {
       node = c.args.block.first + 12 * c.first_not_below-place.result;
-      among = (c.first_not_below-place.result, omega (arith, c.first_not_below-place.ensures.place.within, c.if-place-block.false), refl);
+      among = record {
+        lies = c.requires.lies;
+        i = c.first_not_below-place.result;
+        within = omega (arith, c.first_not_below-place.ensures.place.within, c.if-place-block.false);
+        is = refl;
+      };
       of = record { some = omega (arith, c.if-byte-eq0.false); is = same };
       first = ap (λ xs. get_or xs 2 0) c.cards_within.ensures.numbers;
       count = ap (λ xs. get_or xs 1 0) c.cards_within.ensures.numbers;

@@ -25,7 +25,7 @@ loop-i-preserved c = record {
       next_leaf (c.loop-i.invariant.left tree reads) c.offer_leaf.new.progress c.loop-i-test.true
       (sym c.in_ok-offer_leaf.ensures.leaf ∙ c.if-not-branch.false) leaf;
   searches = searches_ok (searches_then c.loop-i.invariant.searches (searches_within
-      (leaf_within c.args.query.now.counted.now c.args.block c.loop-i.i c.loop-i-test.true) c.in_ok-offer_leaf.ensures.searches)
+      (leaf_within c.args.query.now.counted.now c.args.block c.requires.lies c.loop-i.i c.loop-i-test.true) c.in_ok-offer_leaf.ensures.searches)
       (omega arith));
 }
 
@@ -38,7 +38,7 @@ pub returns-in_err-offer_leaf-clause-searches : goal.returns-in_err-offer_leaf-c
 returns-in_err-offer_leaf-clause-searches c =
     searches_err c.from_residual.result c.from_residual.ensures.1
     (searches_then {k = 0} c.loop-i.invariant.searches (searches_within
-    (leaf_within c.args.query.now.counted.now c.args.block c.loop-i.i c.loop-i-test.true) c.in_err-offer_leaf.ensures.searches)
+    (leaf_within c.args.query.now.counted.now c.args.block c.requires.lies c.loop-i.i c.loop-i-test.true) c.in_err-offer_leaf.ensures.searches)
     (omega arith))
 
 pub returns-then-not-branch-clause-finds : goal.returns-then-not-branch-clause-finds
@@ -53,5 +53,5 @@ returns-clause-finds c = λ tree reads. none_left (c.loop-i.invariant.left tree 
 pub returns-then-not-branch-clause-searches : goal.returns-then-not-branch-clause-searches
 returns-then-not-branch-clause-searches c =
     searches_ok (searches_then {k = 0} c.loop-i.invariant.searches (searches_within
-    (leaf_within c.args.query.now.counted.now c.args.block c.loop-i.i c.loop-i-test.true) c.in_ok-offer_leaf.ensures.searches)
+    (leaf_within c.args.query.now.counted.now c.args.block c.requires.lies c.loop-i.i c.loop-i-test.true) c.in_ok-offer_leaf.ensures.searches)
     (omega arith))

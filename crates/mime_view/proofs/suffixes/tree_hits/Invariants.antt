@@ -14,6 +14,6 @@ invariant-loop-depth l = record {
   left : (rules : List GlobRule) → SuffixTreeAt (Stands l.query.counted.now) l.at rules
       → WalkLeft l.query.counted.now l.query.case rules l.name l.fn.progress l.block l.depth l.progress;
   lies : LiesBlock l.query.counted.now l.block.first 12 l.block.count;
-  leads : (r : ℕ) → IsSibling l.block r → LeadsAlong l.query.counted.now l.at l.name l.depth r;
+  leads : (r : ℕ) → IsSibling l.query.counted.now l.block r → LeadsAlong l.query.counted.now l.at l.name l.depth r;
   searches : Searches {X = Unit {0}} (tree_part l.query.counted.now l.at l.name) 256 (29 * l.depth + 1) l.fn.progress l.progress (Ok tt);
 }
