@@ -5,10 +5,9 @@ use Rattle.std.specs.Prelude.{IfErr}
 use Rattle.std.proofs.lemmas.Bool.{ltb-false, ltb-true}
 use Rattle.std.proofs.lemmas.List.{get_or-append_right, get_or-drop, get_or-map, get_or-take, get_or_append_left}
 use Rattle.std.proofs.lemmas.List.{length-append, length-drop, length-map, length-take, length-take-le}
-use Rattle.mime_base.specs.Cache.Bytes.{field}
 use Rattle.mime_base.specs.declared.database.rule.GlobRule.{GlobRule}
 use Rattle.mime_c.specs.Hits.{GivenHit, IsHits, given, given_hits, one_if}
-use Rattle.mime_view.specs.NameHits.{GivesHits, GivesTexts, IsHitsFault, SpellsRules}
+use Rattle.mime_view.specs.NameHits.{GivesHits, GivesTexts, IsHitsFault, SpellsRules, lists_of}
 use Rattle.mime_view.specs.RuleHits.{AreRuleHits, gives_types}
 use Rattle.mime_view.specs.declared.fault.CacheFault.{CacheFault}
 use Rattle.mime_view.specs.declared.rule_hits.RuleHit.{RuleHit}
@@ -68,7 +67,7 @@ given-at found i d e here = by_test (ltb i found.kept) refl
 -- what the reader gives of a name is what is promised
 pub is_hits : (c name : List ℕ) (old new : Spending) (result : Result RuleHits CacheFault) → old.budget.records ≡ length c / 4 →
     ((rules : List GlobRule) → SpellsRules c rules → GivesHits AreRuleHits name rules old.budget new.budget result) →
-    GivesTexts c old new (gives_types result) → IfErr result (IsHitsFault c (field c 0 3) (field c 0 4) (field c 0 5) new.budget) →
+    GivesTexts c old new (gives_types result) → IfErr result (IsHitsFault c (lists_of c) name new.budget) →
     IsHits c name result
 is_hits c name old new (Ok hits) records gives texts fault = record {
   answer = λ b spells fits. (gives b.rules spells).answer fits;

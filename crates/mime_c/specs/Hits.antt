@@ -1,7 +1,6 @@
 -- Which rules match a name by a cache of any bytes, and what C gets of them.
 use Rattle.std.specs.Prelude.{◌≡◌, ℕ, ◌+◌, ◌*◌, ◌/◌, ◌<◌, ◌≤◌, Bool, if◌then◌else◌, List, [], ◌∷◌, ◌++◌, length, drop, map, take}
 use Rattle.std.specs.Prelude.{All, Result, Ok, IfErr, IfOk}
-use Rattle.mime_base.specs.Cache.Bytes.{field}
 use Rattle.mime_base.specs.Cache.Texts.{text_at}
 use Rattle.mime_base.specs.Database.{PlainDatabase}
 use Rattle.mime_base.specs.Format.Packed.{Packed}
@@ -12,7 +11,7 @@ use Rattle.mime_c.specs.Report.{IsStatusAlone}
 use Rattle.mime_c.specs.Status.{status_name_too_long}
 use Rattle.mime_c.specs.declared.hits.Hit.{Hit}
 use Rattle.mime_c.specs.declared.report.Report.{Report}
-use Rattle.mime_view.specs.NameHits.{IsHitsFault, SpellsRules}
+use Rattle.mime_view.specs.NameHits.{IsHitsFault, SpellsRules, lists_of}
 use Rattle.mime_view.specs.RuleHits.{AreRuleHits, types_alone}
 use Rattle.mime_view.specs.declared.budget.Budget.{Budget}
 use Rattle.mime_view.specs.declared.fault.CacheFault.{CacheFault}
@@ -32,8 +31,8 @@ pub record IsHits (c name : List ℕ) (result : Result RuleHits CacheFault) : Ty
   pub count : IfOk result (λ hits. length hits.rules.items ≤ length c / 4)
   -- No more are kept than there are.
   pub front : IfOk result (λ hits. hits.kept ≤ length hits.rules.items)
-  -- A fault is one of the lists of rules, of the tree or of a text; or the budget was spent, or memory was refused.
-  pub fault : IfErr result (λ e. (left : Budget) × IsHitsFault c (field c 0 3) (field c 0 4) (field c 0 5) left e)
+  -- A fault is one of the lists of rules, of the tree along the name or of a text that they name; or the budget was spent, or memory was refused.
+  pub fault : IfErr result (λ e. (left : Budget) × IsHitsFault c (lists_of c) name left e)
 
 -- a hit as C gets it
 pub record GivenHit : Type 0 where

@@ -3,7 +3,7 @@ use Rattle.std.specs.Prelude.{◌≡◌, ◌⊎◌, ℕ, ◌+◌, ◌<◌, List,
 use Rattle.mime_base.specs.Cache.Bytes.{field}
 use Rattle.mime_view.specs.Lists.{IsPairsFault}
 use Rattle.mime_view.specs.Magic.{IsMagicFault}
-use Rattle.mime_view.specs.NameHits.{IsHitsFault}
+use Rattle.mime_view.specs.NameHits.{IsHitsFault, lists_of}
 use Rattle.mime_view.specs.Opening.{IsOpenFault}
 use Rattle.mime_view.specs.Parents.{IsParentsFault}
 use Rattle.mime_view.specs.declared.budget.Budget.{Budget}
@@ -15,8 +15,8 @@ abbrev pub IsAliasFault : List ℕ → CacheFault → Type 0
 IsAliasFault c e = IsPairsFault c (field c 0 1) e
 
 -- of the types of a name: the glob rules, or an alias step
-abbrev pub IsGlobsFault : List ℕ → Budget → CacheFault → Type 0
-IsGlobsFault c after e = IsHitsFault c (field c 0 3) (field c 0 4) (field c 0 5) after e ⊎ IsAliasFault c e
+abbrev pub IsGlobsFault : List ℕ → List ℕ → Budget → CacheFault → Type 0
+IsGlobsFault c name after e = IsHitsFault c (lists_of c) name after e ⊎ IsAliasFault c e
 
 -- of the head of magic, which states the extent: it does not lie in the cache
 abbrev pub IsMagicHeadFault : List ℕ → CacheFault → Type 0
@@ -37,10 +37,10 @@ pub record IsSomeParentsFault (c : List ℕ) (after : Budget) (e : CacheFault) :
 abbrev pub IsSearchFault : List ℕ → Budget → CacheFault → Type 0
 IsSearchFault c after e = IsSomeParentsFault c after e ⊎ IsAliasFault c e ⊎ (e ≡ OutOfMemory)
 
--- of a lookup: its header, the types of the name, what the content is sniffed as, or a search for a subclass
+-- of a lookup: its header, the types of a name, what the content is sniffed as, or a search for a subclass
 pub data IsLookUpFault (c : List ℕ) (e : CacheFault) : Type 0 where
   of_header : IsOpenFault c e → IsLookUpFault c e
-  of_globs : (after : Budget) → IsGlobsFault c after e → IsLookUpFault c e
+  of_globs : (name : List ℕ) (after : Budget) → IsGlobsFault c name after e → IsLookUpFault c e
   of_magic : (after : Budget) → IsSniffFault c after e → IsLookUpFault c e
   of_search : (after : Budget) → IsSearchFault c after e → IsLookUpFault c e
 

@@ -65,10 +65,12 @@ capitals-from near far name within tells = by_near (has_capitals (drop near name
   where
     beyond : drop far name ≡ drop (far - near) (drop near name)
     beyond = ap (λ k. drop k name) (omega arith) ∙ sym (drop-drop (far - near) near name)
+
     by_far : (is : Bool) → has_capitals (drop far name) ≡ is → has_capitals (drop near name) ≡ false → has_capitals (drop far name) ≡ false
     by_far false e none = e
     by_far true e none = absurd (true≢false
         (sym (capitals-after (far - near) (drop near name) (ap has_capitals (sym beyond) ∙ e)) ∙ none))
+
     by_near : (is : Bool) → has_capitals (drop near name) ≡ is → has_capitals (drop near name) ≡ has_capitals name
     by_near true e = e ∙ sym (capitals-after near name e)
     by_near false e = e ∙ sym (by_far (has_capitals (drop far name)) refl e) ∙ tells

@@ -3,6 +3,10 @@ pub mod AllOf
 pub mod Offers
 pub mod BestOffers
 pub mod Gathering
+pub mod AddedHits
+pub mod Parts
+pub mod ListParts
+pub mod KindFaults
 pub mod Steps
 pub mod StoredRules
 pub mod KindTexts

@@ -14,3 +14,4 @@ pub mod TreeLeaves
 pub mod TreeOrder
 pub mod EndedRules
 pub mod TreesRead
+pub mod WalkedParts

@@ -1,5 +1,5 @@
 -- What a search gathers of the hits that the lists of a cache offer: the best of them, or all.
-use Rattle.std.specs.Prelude.{◌≡◌, ℕ, nat_le, Bool, true, List, [], ◌∷◌, ◌++◌, length, map, Ok}
+use Rattle.std.specs.Prelude.{◌≡◌, ◌⊎◌, ℕ, ◌+◌, ◌≤◌, nat_le, Bool, true, List, [], ◌∷◌, ◌++◌, Contains, length, map, Ok}
 use Rattle.std.specs.List.{list_all}
 use Rattle.mime_base.specs.Cache.Texts.{text_at}
 use Rattle.mime_base.specs.Falling.{falling}
@@ -23,6 +23,21 @@ pub record PlainHits : Type 0 where
 abbrev pub plain_hits : Gathered → PlainHits
 plain_hits (Best hits) = record { which = Kept; offers = hits }
 plain_hits (Every hits) = record { which = Candidates; offers = hits.items }
+
+-- the offsets of the types of hits
+abbrev pub places_of : List (ℕ × ℕ) → List ℕ
+places_of offers = map (λ offer. offer.1) offers
+
+-- each hit is one of the old, or of a type at such a place
+abbrev pub AddsAt : (ℕ → Type 0) → List (ℕ × ℕ) → List (ℕ × ℕ) → Type 0
+AddsAt Is old new = (place : ℕ) → Contains (places_of new) place → Contains (places_of old) place ⊎ Is place
+
+-- A hit of a type at this place is offered.
+pub record TakesOne (kind : ℕ) (old new : List (ℕ × ℕ)) : Type 0 where
+  -- At most one hit is added.
+  pub few : length new ≤ length old + 1
+  -- It is that hit.
+  pub added : AddsAt (λ place. place ≡ kind) old new
 
 -- whether a hit of this rank would be held
 abbrev pub wants_rank : Which → List (ℕ × ℕ) → ℕ → Bool

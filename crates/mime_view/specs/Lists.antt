@@ -64,13 +64,6 @@ pub record IsSought (c : List ℕ) (first size count : ℕ) (key : List ℕ) (so
   -- It says that it is not only where it is another.
   pub other : sought.equal ≡ false → (text : List ℕ) → sought.place < count → HasText c first size sought.place text → text ≢ key
 
--- no text stands at some offset
-pub record IsTextFault (c : List ℕ) (e : CacheFault) : Type 0 where
-  pub at : ℕ
-  pub fault : ByteFault
-  pub no_text : text_at c at ≡ Err fault
-  pub is : e ≡ cache_fault fault
-
 -- the list at `at`, of records of this size, lies in the cache
 abbrev pub LiesList : List ℕ → ℕ → ℕ → Type 0
 LiesList c at size = at + 4 + size * field c at 0 ≤ length c
@@ -101,6 +94,15 @@ pub record IsNamedFault (c : List ℕ) (first size count number : ℕ) (e : Cach
   pub within : i < count
   -- No text stands where it says.
   pub text : IsNoText c (field c (first + size * i) number) e
+
+-- Among `count` records from `first` on, this number of one is a place.
+pub record IsNamedPlace (c : List ℕ) (first size count number place : ℕ) : Type 0 where
+  -- Which record it is.
+  pub i : ℕ
+  -- It is one of them.
+  pub within : i < count
+  -- It says so.
+  pub is : place ≡ field c (first + size * i) number
 
 -- why no key is found in the list at `at`, of two numbers an entry: the list, or a key that one of its entries names
 abbrev pub IsKeysFault : List ℕ → ℕ → CacheFault → Type 0

@@ -1,5 +1,5 @@
 -- What the three lists of rules give for a name, and why nothing is said of it.
-use Rattle.std.specs.Prelude.{◌≡◌, ◌⊎◌, ℕ, ◌+◌, ◌*◌, ◌≤◌, ◌&&◌, Bool, List, length, map, nat_le, Result, Ok, IfOk, IfErr, All}
+use Rattle.std.specs.Prelude.{◌≡◌, ◌⊎◌, ℕ, ◌+◌, ◌*◌, ◌≤◌, ◌&&◌, Bool, false, List, length, map, nat_le, Result, Ok, IfOk, IfErr, All}
 use Rattle.std.specs.List.{list_any}
 use Rattle.mime_base.specs.Cache.Bytes.{Stands, field}
 use Rattle.mime_base.specs.Cache.Texts.{text_at}
@@ -8,13 +8,14 @@ use Rattle.mime_base.specs.Format.Rules.{GlobsAt, LiteralsAt}
 use Rattle.mime_base.specs.Format.Stored.{glob_rules, literal_rules}
 use Rattle.mime_base.specs.Format.SuffixTree.{SuffixTreeAt, tree_size}
 use Rattle.mime_base.specs.Kept.{FitsRank, kept_rules}
+use Rattle.mime_base.specs.Matching.Folding.{compared}
 use Rattle.mime_base.specs.declared.database.rule.GlobRule.{GlobRule}
 use Rattle.mime_view.specs.Gathered.{asked_rules}
 use Rattle.mime_view.specs.Hits.{hit_visits, near}
-use Rattle.mime_view.specs.Lists.{IsListFault, IsTextFault}
+use Rattle.mime_view.specs.Lists.{IsNoText}
 use Rattle.mime_view.specs.Spending.{halving}
-use Rattle.mime_view.specs.Steps.{Searches}
-use Rattle.mime_view.specs.SuffixTree.{IsTreeFault}
+use Rattle.mime_view.specs.Steps.{Part, Searches, either_part, list_part}
+use Rattle.mime_view.specs.SuffixTree.{tree_part}
 use Rattle.mime_view.specs.declared.budget.Budget.{Budget}
 use Rattle.mime_view.specs.declared.fault.CacheFault.{CacheFault}
 use Rattle.mime_view.specs.declared.fault.CacheFault.TheVariants.{OutOfMemory, Spent}
@@ -55,25 +56,34 @@ pub record SpellsRules (c : List ℕ) (rules : List GlobRule) : Type 0 where
   -- The glob list.
   pub globs : GlobsAt (Stands c) offsets.globs rules
 
--- why the lists can't be read: the literal list, the tree, the glob list, or a text
-abbrev pub IsRuleListsFault : List ℕ → RuleLists → CacheFault → Type 0
-IsRuleListsFault c lists e =
-    IsListFault c lists.literals 12 e ⊎ IsTreeFault c lists.tree e ⊎ IsListFault c lists.globs 12 e ⊎ IsTextFault c e
+-- the tree at `at` along a name, and along the folded name
+abbrev pub walks_part : List ℕ → ℕ → List ℕ → Part
+walks_part c at name = either_part (tree_part c at name) (tree_part c at (compared false name))
+
+-- the three lists as they are read for a name: the literal list, the tree, and the glob list
+abbrev pub lists_part : List ℕ → RuleLists → List ℕ → Part
+lists_part c lists name =
+    either_part (list_part c lists.literals) (either_part (walks_part c lists.tree name) (list_part c lists.globs))
 
 -- a search of the three lists on any bytes: a record costs as in the glob list; the halving comes besides, for both cases
 abbrev pub SearchesLists : Query → RuleLists → Progress → Progress → Result (Unit {0}) CacheFault → Type 0
 SearchesLists query lists old new result =
-    Searches (IsRuleListsFault query.counted.now lists) (256 * (length query.key.now + 2)) (halving query.key.now) old new result
+    Searches (lists_part query.counted.now lists query.key.now) (256 * (length query.key.now + 2)) (halving query.key.now) old new result
 
--- why nothing is said of the types of a name: the literal list, the tree, the glob list, a text, what is left, or memory
-abbrev pub IsHitsFault : List ℕ → ℕ → ℕ → ℕ → Budget → CacheFault → Type 0
-IsHitsFault c literals tree globs after e =
-    IsListFault c literals 12 e ⊎ IsTreeFault c tree e ⊎ IsListFault c globs 12 e ⊎ IsTextFault c e
+-- No text stands where a part says that the type of one of its rules does.
+pub record IsKindFault (c : List ℕ) (part : Part) (e : CacheFault) : Type 0 where
+  -- Where it would stand.
+  pub place : ℕ
+  -- The part says so.
+  pub named : part.Kind place
+  -- There is none.
+  pub no_text : IsNoText c place e
+
+-- why nothing is said of the types of a name: the three lists, the type of a rule, what is left, or memory
+abbrev pub IsHitsFault : List ℕ → RuleLists → List ℕ → Budget → CacheFault → Type 0
+IsHitsFault c lists name after e =
+    (lists_part c lists name).Fault e ⊎ IsKindFault c (lists_part c lists name) e
     ⊎ ((e ≡ Spent) × (after.records ≡ 0)) ⊎ (e ≡ OutOfMemory)
-
--- the same by where the three lists stand
-abbrev pub IsNameFault : List ℕ → RuleLists → Budget → CacheFault → Type 0
-IsNameFault c lists after e = IsHitsFault c lists.literals lists.tree lists.globs after e
 
 -- the records that are taken for a name at most: for each entry of a list, two where one search serves both cases
 abbrev pub list_records : List GlobRule → ℕ

@@ -1,5 +1,5 @@
 -- The reverse suffix tree as it is read along a name, and why a walk gives no answer.
-use Rattle.std.specs.Prelude.{◌≡◌, ◌⊎◌, ℕ, ◌+◌, ◌*◌, ◌<◌, ◌≤◌, ◌==◌, if◌then◌else◌, List, [], length, filter, All}
+use Rattle.std.specs.Prelude.{◌≡◌, ◌⊎◌, ℕ, zero, suc, ◌+◌, ◌*◌, ◌<◌, ◌≤◌, ◌==◌, if◌then◌else◌, List, [], get_or, length, reverse, filter, All}
 use Rattle.std.specs.Prelude.{Result, Ok, Option, None, Some, IfSome}
 use Rattle.mime_base.specs.Cache.Bytes.{field}
 use Rattle.mime_base.specs.Cache.Texts.{text_at}
@@ -11,7 +11,7 @@ use Rattle.mime_base.specs.declared.kept.class.Class.TheVariants.{Suffix}
 use Rattle.mime_view.specs.Hits.{takes_rule, visits}
 use Rattle.mime_view.specs.Lists.{IsHeadFault}
 use Rattle.mime_view.specs.Magic.{IsBlockFault, LiesBlock}
-use Rattle.mime_view.specs.Steps.{FindsRules}
+use Rattle.mime_view.specs.Steps.{FindsRules, Part}
 use Rattle.mime_view.specs.declared.fault.CacheFault.{CacheFault}
 use Rattle.mime_view.specs.declared.hits.Case.{Case}
 use Rattle.mime_view.specs.declared.query.Progress.{Progress}
@@ -64,10 +64,43 @@ abbrev pub IsBelow : List ℕ → Tree → Option Siblings → Type 0
 IsBelow c tree None = tree ≡ bare
 IsBelow c tree (Some block) = ReadsBlock c block tree
 
+-- The record at r is one of a block.
+pub record IsSibling (c : List ℕ) (block : Siblings) (r : ℕ) : Type 0 where
+  -- The block lies in the cache.
+  pub lies : LiesBlock c block.first 12 block.count
+  -- Which record it is.
+  pub i : ℕ
+  -- It is one of them.
+  pub within : i < block.count
+  -- It stands there.
+  pub is : r ≡ block.first + 12 * i
+
+-- The record at `at` is the node of a character.
+pub record IsNodeOf (c : List ℕ) (at character : ℕ) : Type 0 where
+  -- The character is not zero.
+  pub some : 0 < character
+  -- The record has it.
+  pub is : field c at 0 ≡ character
+
+-- A block is what the node of a character names, one of these records.
+pub record IsNamedBlock (c : List ℕ) (Among : ℕ → Type 0) (character : ℕ) (block : Siblings) : Type 0 where
+  -- The node.
+  pub node : ℕ
+  -- It is one of the records.
+  pub among : Among node
+  -- It is that of the character.
+  pub of : IsNodeOf c node character
+  -- It says where the first sibling is.
+  pub first : block.first ≡ field c node 2
+  -- And how many there are.
+  pub count : block.count ≡ field c node 1
+
 -- The block below a character of another, if there is one.
 pub record IsBlockBelow (c : List ℕ) (block : Siblings) (character : ℕ) (below : Option Siblings) : Type 0 where
   -- It lies in the cache.
   pub lies : IfSome below (λ lower. LiesBlock c lower.first 12 lower.count)
+  -- It is what one of the siblings names.
+  pub named : IfSome below (IsNamedBlock c (IsSibling c block) character)
   -- It is of the siblings below the character, wherever those of the block stand.
   pub reads : (tree : Tree) → ReadsBlock c block tree → IsBelow c (below_character character tree) below
 
@@ -96,11 +129,34 @@ FindsLeaves query long tree old new result =
     FindsRules query.counted.now (All (IsSuffixRule long) (leaves_at [] tree)) (admitted query.case (leaves_at [] tree))
     (visits query.case * scan_visits tree) old new result
 
--- the block that a record names does not lie in the cache
-abbrev pub IsChildFault : List ℕ → CacheFault → Type 0
-IsChildFault c e = (r : ℕ) × IsBlockFault c (field c r 2) 12 (field c r 1) e
+-- the leaf at `at`, if it is one: where its type stands
+abbrev pub leaf_part : List ℕ → ℕ → Part
+leaf_part c at = record { Fault = λ e. ⊥; Kind = λ place. (field c at 0 ≡ 0) × (place ≡ field c at 1) }
 
--- the tree at `at` gives no answer: its head, its roots, or the siblings below a character
-abbrev pub IsTreeFault : List ℕ → ℕ → CacheFault → Type 0
-IsTreeFault c at e =
-    IsHeadFault c at 8 e ⊎ IsBlockFault c (field c at 1) 12 (field c at 0) e ⊎ IsChildFault c e
+-- the leaves of a block
+abbrev pub leaves_part : List ℕ → Siblings → Part
+leaves_part c block = record {
+  Fault = λ e. ⊥;
+  Kind = λ place. (r : ℕ) × IsSibling c block r × (leaf_part c r).Kind place;
+}
+
+-- the block that the node of a character names, one of these records: it lies outside the cache, or has the leaf
+abbrev pub below_part : List ℕ → (ℕ → Type 0) → ℕ → Part
+below_part c Among character = record {
+  Fault = λ e. (block : Siblings) × IsNamedBlock c Among character block × IsBlockFault c block.first 12 block.count e;
+  Kind = λ place. (block : Siblings) × IsNamedBlock c Among character block × (leaves_part c block).Kind place;
+}
+
+-- the last `depth` bytes of a name lead from the roots of the tree at `at` to the record at r
+abbrev pub LeadsAlong : List ℕ → ℕ → List ℕ → ℕ → ℕ → Type 0
+LeadsAlong c at name zero r = IsSibling c (record { first = field c at 1; count = field c at 0 }) r
+LeadsAlong c at name (suc depth) r =
+    (block : Siblings) × IsNamedBlock c (LeadsAlong c at name depth) (get_or (reverse name) depth 0) block × IsSibling c block r
+
+-- the tree at `at` along a name: its head, its roots, and each block that an ending of the name leads to
+abbrev pub tree_part : List ℕ → ℕ → List ℕ → Part
+tree_part c at name = record {
+  Fault = λ e. IsHeadFault c at 8 e ⊎ IsBlockFault c (field c at 1) 12 (field c at 0) e
+      ⊎ (depth : ℕ) × (below_part c (LeadsAlong c at name depth) (get_or (reverse name) depth 0)).Fault e;
+  Kind = λ place. (depth : ℕ) × (below_part c (LeadsAlong c at name depth) (get_or (reverse name) depth 0)).Kind place;
+}

@@ -1,8 +1,9 @@
 //! The hits of the greatest rank, of those that the lists of a cache offer.
 
-ghost use Rattle.std.specs.Prelude.{◌≡◌, ℕ, ◌+◌, ◌≤◌, nat_le, List, [], ◌∷◌, ◌++◌, length, map, OnOk, IfErr};
+ghost use Rattle.std.specs.Prelude.{◌≡◌, ℕ, nat_le, List, [], ◌∷◌, ◌++◌, map, OnOk, IfErr};
 ghost use Rattle.std.specs.List.{list_all};
 ghost use Rattle.mime_base.specs.Kept.{best};
+ghost use Rattle.mime_view.specs.Gathered.{TakesOne};
 
 use crate::fault::CacheFault;
 use smallvec::SmallVec;
@@ -58,8 +59,8 @@ impl BestHits {
         // What is the best of the offers before becomes the best of them and this one.
         ensures kept { (offers : List (ℕ × ℕ)) → self.old ≡ best offers →
             OnOk result (self.new ≡ best (offers ++ (rank, kind) ∷ [])) }
-        // At most one hit is added.
-        ensures one_more { length self.new ≤ length self.old + 1 }
+        // At most one hit is added, and it is this one.
+        ensures takes { TakesOne kind self.old self.new }
         // Only memory can be short.
         ensures fault { IfErr result (λ e. e ≡ CacheFault.OutOfMemory) }
     {

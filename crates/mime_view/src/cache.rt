@@ -15,7 +15,7 @@ ghost use Rattle.mime_base.specs.declared.database.rule.GlobRule.{GlobRule};
 ghost use Rattle.mime_view.specs.Magic.{AnswersMagic, IsMagicFault, NamesText, magic_price};
 ghost use Rattle.mime_base.specs.Magic.Extent.{sections_extent};
 ghost use Rattle.mime_view.specs.Lists.{IsHeadFault};
-ghost use Rattle.mime_view.specs.NameHits.{AreHits, GivesHits, GivesTexts, IsNameFault, SpellsRules, lists_of};
+ghost use Rattle.mime_view.specs.NameHits.{AreHits, GivesHits, GivesTexts, IsHitsFault, SpellsRules, lists_of};
 ghost use Rattle.mime_view.specs.RuleHits.{AreRuleHits, gives_types};
 ghost use Rattle.mime_view.specs.Pairs.{GivesSecondName, GivesUnaliased, LooksUp};
 ghost use Rattle.mime_view.specs.Parents.{GivesParents, TakesOrStops};
@@ -146,7 +146,7 @@ impl<'a> Cache<'a> {
         // Whatever the bytes are, each type is a text of the cache, and was paid for by a record.
         ensures texts { GivesTexts self.now (spending_of meter.old budget.old) (spending_of meter.new budget.new) result }
         // Why nothing is said of the name.
-        ensures fault { IfErr result (IsNameFault self.now (lists_of self.now) budget.new) }
+        ensures fault { IfErr result (IsHitsFault self.now (lists_of self.now) name.now budget.new) }
         // A record costs as in the glob list, and the text of a type; the halving comes besides, for both cases.
         ensures cost { SpendsOnName name.now 3 (spending_of meter.old budget.old) (spending_of meter.new budget.new) }
     {
@@ -185,7 +185,7 @@ impl<'a> Cache<'a> {
         ensures texts { GivesTexts self.now (spending_of meter.old budget.old) (spending_of meter.new budget.new)
             (gives_types result) }
         // Why nothing is said of the name.
-        ensures fault { IfErr result (IsNameFault self.now (lists_of self.now) budget.new) }
+        ensures fault { IfErr result (IsHitsFault self.now (lists_of self.now) name.now budget.new) }
         // A record costs as in the glob list, and the text of a type; the halving comes besides, for both cases.
         ensures cost { SpendsOnName name.now 3 (spending_of meter.old budget.old) (spending_of meter.new budget.new) }
     {

@@ -8,8 +8,7 @@ ghost use Rattle.mime_base.specs.Kept.{FitsRank, class_of, hits as matching, ran
 ghost use Rattle.mime_base.specs.declared.database.rule.GlobRule.{GlobRule};
 ghost use Rattle.mime_view.specs.Globs.{ReadsGlob};
 ghost use Rattle.mime_view.specs.Hits.{glob_list_hits};
-ghost use Rattle.mime_view.specs.Lists.{IsTextFault};
-ghost use Rattle.mime_view.specs.Steps.{FindsAt, FindsRules, IsEntriesFault, Searches, progress_of};
+ghost use Rattle.mime_view.specs.Steps.{FindsAt, FindsRules, Searches, entry_part, list_part, progress_of};
 
 use crate::fault::CacheFault;
 use crate::flags::weight_and_case;
@@ -31,7 +30,7 @@ pub fn glob_list_hits(
     ensures finds { FindsAt query.now GlobsAt at (glob_list_hits query.now.key.now)
         (λ rules. length (glob_rules rules)) progress.old progress.new result }
     // An entry costs its text and the tests of that against the name; the count of the list comes besides.
-    ensures searches { Searches (IsEntriesFault query.now.counted.now at) (256 * (length query.now.key.now + 2)) 1
+    ensures searches { Searches (list_part query.now.counted.now at) (256 * (length query.now.key.now + 2)) 1
         progress.old progress.new result }
 {
     let at = u64::from(at);
@@ -73,16 +72,12 @@ fn take_glob(
         FindsRules query.now.counted.now (FitsRank rule) (matching (rule ∷ []) query.now.key.now) 1
         (progress_of hits.old spending.old) (progress_of hits.new spending.new) result }
     // It costs its text and the tests of that against the name.
-    ensures searches { Searches (IsTextFault query.now.counted.now) (256 * (length query.now.key.now + 2)) 0
+    ensures searches { Searches (entry_part query.now.counted.now at) (256 * (length query.now.key.now + 2)) 0
         (progress_of hits.old spending.old) (progress_of hits.new spending.new) result }
 {
     spending.budget.take_record()?;
-    let [text, kind, flags] = query
-        .counted
-        .cards_within::<3>(at, &mut spending.meter);
-    let pattern = query
-        .counted
-        .text_at(u64::from(text), &mut spending.meter)?;
+    let [text, kind, flags] = query.counted.cards_within::<3>(at, &mut spending.meter);
+    let pattern = query.counted.text_at(u64::from(text), &mut spending.meter)?;
     let (_, cased) = weight_and_case(flags);
     // Where a hit of the least rank is wanted, one of any rank is: then the class isn't judged before the match.
     if !hits.wants(0) {

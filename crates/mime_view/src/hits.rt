@@ -1,16 +1,15 @@
 //! The hits that are held of those that the lists of a cache offer: the best, or all.
 
-ghost use Rattle.std.specs.Prelude.{◌≡◌, ◌⊎◌, ℕ, ◌+◌, ◌*◌, ◌≤◌, List, [], ◌∷◌, length, map, All, Ok, OnOk, OnErr, IfOk, IfErr};
+ghost use Rattle.std.specs.Prelude.{◌≡◌, ℕ, ◌+◌, ◌*◌, ◌≤◌, List, [], ◌∷◌, length, map, All, Ok, OnOk, OnErr, IfOk, IfErr};
 ghost use Rattle.mime_base.specs.Cache.Texts.{text_at};
 ghost use Rattle.mime_base.specs.Falling.{falling};
 ghost use Rattle.mime_base.specs.Kept.{best, rank_of_rule};
 ghost use Rattle.mime_base.specs.declared.database.rule.GlobRule.{GlobRule};
-ghost use Rattle.mime_view.specs.Gathered.{AreGiven, Offers, in_order, plain_hits, wants_rank};
+ghost use Rattle.mime_view.specs.Gathered.{AreGiven, Offers, TakesOne, in_order, places_of, plain_hits, wants_rank};
 ghost use Rattle.mime_view.specs.Hits.{CandidatesAreNear, takes_rule, IsVisit, KeptAreNear, extra_visits, visits};
-ghost use Rattle.mime_view.specs.Lists.{IsTextFault};
 ghost use Rattle.mime_view.specs.RuleHits.{AreRulesAt, types_alone};
 ghost use Rattle.mime_view.specs.Spending.{Looks, Spends, per_record};
-ghost use Rattle.mime_view.specs.Texts.{NeedsMemory};
+ghost use Rattle.mime_view.specs.Texts.{IsTextsStop, NeedsMemory};
 
 use crate::best_hits::{BestHits, FEW};
 use crate::fault::CacheFault;
@@ -144,8 +143,8 @@ impl Hits {
             OnOk result (Offers c (rule ∷ []) self.old self.new) }
         // What is asked for stays.
         ensures asked { self.new.which ≡ self.old.which }
-        // At most one hit is added.
-        ensures one_more { length self.new.offers ≤ length self.old.offers + 1 }
+        // At most one hit is added, and it is this one.
+        ensures takes { TakesOne kind self.old.offers self.new.offers }
         // Only memory can be short.
         ensures fault { IfErr result (λ e. e ≡ CacheFault.OutOfMemory) }
     {
@@ -169,8 +168,8 @@ impl Hits {
         ensures answer { IfOk result (AreGiven counted.now self) }
         // Where texts stand there, only memory can be short.
         ensures need { NeedsMemory counted.now (map (λ hit. hit.1) (in_order self.which self.offers)) result }
-        // Else a text is at fault.
-        ensures fault { IfErr result (λ e. IsTextFault counted.now e ⊎ (e ≡ CacheFault.OutOfMemory)) }
+        // Else one of them does not.
+        ensures fault { IfErr result (IsTextsStop counted.now (places_of (in_order self.which self.offers))) }
         // It costs their texts.
         ensures looks { Looks 0 (256 * length self.offers) meter.old meter.new }
     {
@@ -195,8 +194,8 @@ impl Hits {
         ensures rules { IfOk result (λ found. AreRulesAt counted.now (in_order self.which self.offers) found.rules.items) }
         // Where texts stand there, only memory can be short.
         ensures need { NeedsMemory counted.now (map (λ hit. hit.1) (in_order self.which self.offers)) result }
-        // Else a text is at fault.
-        ensures fault { IfErr result (λ e. IsTextFault counted.now e ⊎ (e ≡ CacheFault.OutOfMemory)) }
+        // Else one of them does not.
+        ensures fault { IfErr result (IsTextsStop counted.now (places_of (in_order self.which self.offers))) }
         // It costs their texts.
         ensures looks { Looks 0 (256 * length self.offers) meter.old meter.new }
     {
@@ -218,8 +217,8 @@ fn read_best<'a>(
     ensures answer { IfOk result (AreGiven counted.now (plain_hits (Gathered.Best hits.now))) }
     // Where texts stand there, only memory can be short.
     ensures need { NeedsMemory counted.now (map (λ hit. hit.1) hits.now) result }
-    // Else a text is at fault.
-    ensures fault { IfErr result (λ e. IsTextFault counted.now e ⊎ (e ≡ CacheFault.OutOfMemory)) }
+    // Else one of them does not.
+    ensures fault { IfErr result (IsTextsStop counted.now (places_of hits.now)) }
     // It costs their texts.
     ensures looks { Looks 0 (256 * length hits.now) meter.old meter.new }
 {
@@ -242,8 +241,8 @@ fn read_every<'a>(
     ensures answer { IfOk result (AreGiven counted.now (plain_hits (Gathered.Every hits))) }
     // Where texts stand there, only memory can be short.
     ensures need { NeedsMemory counted.now (map (λ hit. hit.1) (falling (λ hit. hit.0) hits.items)) result }
-    // Else a text is at fault.
-    ensures fault { IfErr result (λ e. IsTextFault counted.now e ⊎ (e ≡ CacheFault.OutOfMemory)) }
+    // Else one of them does not.
+    ensures fault { IfErr result (IsTextsStop counted.now (places_of (falling (λ hit. hit.0) hits.items))) }
     // It costs their texts.
     ensures looks { Looks 0 (256 * length hits.items) meter.old meter.new }
 {
@@ -277,8 +276,8 @@ fn read_every_rule<'a>(
     ensures rules { IfOk result (λ found. AreRulesAt counted.now (falling (λ hit. hit.0) hits.items) found.rules.items) }
     // Where texts stand there, only memory can be short.
     ensures need { NeedsMemory counted.now (map (λ hit. hit.1) (falling (λ hit. hit.0) hits.items)) result }
-    // Else a text is at fault.
-    ensures fault { IfErr result (λ e. IsTextFault counted.now e ⊎ (e ≡ CacheFault.OutOfMemory)) }
+    // Else one of them does not.
+    ensures fault { IfErr result (IsTextsStop counted.now (places_of (falling (λ hit. hit.0) hits.items))) }
     // It costs their texts.
     ensures looks { Looks 0 (256 * length hits.items) meter.old meter.new }
 {

@@ -1,9 +1,8 @@
 //! The types of the hits that were held.
 
-ghost use Rattle.std.specs.Prelude.{◌≡◌, ◌⊎◌, ◌*◌, length, IfErr, IfOk};
-ghost use Rattle.mime_view.specs.Lists.{IsTextFault};
+ghost use Rattle.std.specs.Prelude.{◌*◌, length, IfErr, IfOk};
 ghost use Rattle.mime_view.specs.Spending.{Looks};
-ghost use Rattle.mime_view.specs.Texts.{AreTexts, NeedsMemory};
+ghost use Rattle.mime_view.specs.Texts.{AreTexts, IsTextsStop, NeedsMemory};
 
 use crate::fault::CacheFault;
 use crate::texts::Texts;
@@ -23,8 +22,8 @@ pub fn read_kinds<'a>(
     ensures answer { IfOk result (AreTexts counted.now places.now) }
     // Where texts stand there, only memory can be short.
     ensures need { NeedsMemory counted.now places.now result }
-    // Else a text is at fault.
-    ensures fault { IfErr result (λ e. IsTextFault counted.now e ⊎ (e ≡ CacheFault.OutOfMemory)) }
+    // Else one of them does not.
+    ensures fault { IfErr result (IsTextsStop counted.now places.now) }
     // It costs their texts.
     ensures looks { Looks 0 (256 * length places.now) meter.old meter.new }
 {

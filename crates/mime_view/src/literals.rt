@@ -12,11 +12,10 @@ ghost use Rattle.mime_base.specs.Cache.Texts.{text_at};
 ghost use Rattle.mime_base.specs.Format.Rules.{LiteralsAt};
 ghost use Rattle.mime_base.specs.Format.Stored.{stored_text, weight_and_flags};
 ghost use Rattle.mime_base.specs.declared.database.rule.GlobRule.{GlobRule};
-ghost use Rattle.mime_view.specs.Gathered.{Offers};
+ghost use Rattle.mime_view.specs.Gathered.{Offers, TakesOne};
 ghost use Rattle.mime_view.specs.Hits.{takes_rule, literal_hits, literal_visits, visits};
-ghost use Rattle.mime_view.specs.Lists.{IsTextFault};
 ghost use Rattle.mime_view.specs.Literals.{AreRun, IsLiteral, ReadsRule, ReadsRules, run_visits, taken};
-ghost use Rattle.mime_view.specs.Steps.{FindsAt, FindsRules, IsEntriesFault, Searches};
+ghost use Rattle.mime_view.specs.Steps.{FindsAt, FindsRules, Searches, entries_part, entry_part, list_part, no_part};
 
 use crate::fault::CacheFault;
 use crate::flags::weight_and_case;
@@ -42,7 +41,7 @@ pub fn literal_hits(
     ensures finds { FindsAt query.now LiteralsAt at (literal_hits query.now.case query.now.key.now)
         (λ rules. visits query.now.case * literal_visits query.now.key.now rules) progress.old progress.new result }
     // An entry costs its text; the halving comes besides.
-    ensures searches { Searches (IsEntriesFault query.now.counted.now at) 256 28 progress.old progress.new result }
+    ensures searches { Searches (list_part query.now.counted.now at) 256 28 progress.old progress.new result }
 {
     let at = u64::from(at);
     let count = count_at(query.counted, at, 12, &mut progress.spending.meter)?;
@@ -67,7 +66,7 @@ fn pass_entry(query: &Query<'_, '_>, progress: &mut Progress) -> Result<(), Cach
     // It offers nothing.
     ensures finds { FindsRules query.now.counted.now (Unit {0}) [] (visits query.now.case) progress.old progress.new result }
     // It costs the visit, and reads nothing that could be at fault.
-    ensures searches { Searches (λ e. ⊥) 256 0 progress.old progress.new result }
+    ensures searches { Searches no_part 256 0 progress.old progress.new result }
 {
     query.case.take_records(&mut progress.spending)?;
     progress.spending.meter.add_node();
@@ -92,7 +91,7 @@ fn scan_entries(
         FindsRules query.now.counted.now (All IsLiteral rules) (taken query.now.case query.now.key.now rules)
         (visits query.now.case * run_visits query.now.key.now rules) progress.old progress.new result }
     // An entry costs its text.
-    ensures searches { Searches (IsTextFault query.now.counted.now) 256 0 progress.old progress.new result }
+    ensures searches { Searches (entries_part query.now.counted.now first count) 256 0 progress.old progress.new result }
 {
     for i in start..count {
         if !visit_entry(query, first + 12 * i, progress)? {
@@ -117,7 +116,7 @@ fn visit_entry(query: &Query<'_, '_>, at: u64, progress: &mut Progress) -> Resul
         FindsRules query.now.counted.now (IsLiteral rule) (taken query.now.case query.now.key.now (rule ∷ []))
         (visits query.now.case) progress.old progress.new result }
     // It costs its text.
-    ensures searches { Searches (IsTextFault query.now.counted.now) 256 0 progress.old progress.new result }
+    ensures searches { Searches (entry_part query.now.counted.now at) 256 0 progress.old progress.new result }
 {
     query.case.take_records(&mut progress.spending)?;
     let [text, kind, flags] = query
@@ -152,8 +151,8 @@ fn offer_entry(
         OnOk result (Offers c (filter (λ rule. takes_rule case rule.cased) (rule ∷ [])) hits.old hits.new) }
     // What is asked for stays.
     ensures asked { hits.new.which ≡ hits.old.which }
-    // At most one hit is added.
-    ensures one_more { length hits.new.offers ≤ length hits.old.offers + 1 }
+    // At most one hit is added, and it is this one.
+    ensures takes { TakesOne kind hits.old.offers hits.new.offers }
     // Only memory can be short.
     ensures fault { IfErr result (λ e. e ≡ CacheFault.OutOfMemory) }
 {

@@ -13,11 +13,10 @@ ghost use Rattle.mime_base.specs.declared.database.rule.GlobRule.{GlobRule};
 ghost use Rattle.mime_view.specs.Gathered.{HoldsRules};
 ghost use Rattle.mime_view.specs.Hits.{hit_visits, literal_visits_twice, literals_twice, offered_once, offered_twice};
 ghost use Rattle.mime_view.specs.Hits.{tree_twice, tree_visits_twice};
-ghost use Rattle.mime_view.specs.NameHits.{AreHits, FindsInLists, GivesTexts, IsNameFault, RulesAt, SearchesLists};
+ghost use Rattle.mime_view.specs.NameHits.{AreHits, FindsInLists, GivesTexts, IsHitsFault, RulesAt, SearchesLists, lists_part, walks_part};
 ghost use Rattle.mime_view.specs.RuleHits.{AreRuleHits, gives_types};
 ghost use Rattle.mime_view.specs.Spending.{SpendsOnName};
-ghost use Rattle.mime_view.specs.Steps.{FindsAt, FindsRules, FindsStanding, IsEntriesFault, Searches};
-ghost use Rattle.mime_view.specs.SuffixTree.{IsTreeFault};
+ghost use Rattle.mime_view.specs.Steps.{FindsAt, FindsRules, FindsStanding, Searches, list_part};
 
 use crate::capitals::has_capitals;
 use crate::fault::CacheFault;
@@ -56,7 +55,7 @@ pub fn glob_hits<'a>(
     // Whatever the bytes are, it gives texts of the cache.
     ensures gives { GivesTexts query.now.counted.now spending.old spending.new result }
     // Why it gives none.
-    ensures fault { IfErr result (IsNameFault query.now.counted.now lists spending.new.budget) }
+    ensures fault { IfErr result (IsHitsFault query.now.counted.now lists query.now.key.now spending.new.budget) }
     // A record costs as in the glob list, and the text of a type; the halving comes besides, for both cases.
     ensures cost { SpendsOnName query.now.key.now 3 spending.old spending.new }
 {
@@ -76,7 +75,7 @@ pub fn rule_hits<'a>(
     // Whatever the bytes are, their types are texts of the cache.
     ensures gives { GivesTexts query.now.counted.now spending.old spending.new (gives_types result) }
     // Why it gives none.
-    ensures fault { IfErr result (IsNameFault query.now.counted.now lists spending.new.budget) }
+    ensures fault { IfErr result (IsHitsFault query.now.counted.now lists query.now.key.now spending.new.budget) }
     // A record costs as in the glob list, and the text of a type; the halving comes besides, for both cases.
     ensures cost { SpendsOnName query.now.key.now 3 spending.old spending.new }
 {
@@ -98,10 +97,12 @@ fn hits_of(
     ensures found { FindsInLists (HoldsRules query.now.counted.now which) query.now lists spending.old spending.new result }
     // Whatever the bytes are, those that are asked for are held.
     ensures asked { IfOk result (λ hits. hits.which ≡ which) }
+    // Their types stand where the lists say.
+    ensures named { IfOk result (λ hits. All (λ hit. (lists_part query.now.counted.now lists query.now.key.now).Kind hit.1) hits.offers) }
     // Each was paid for by a record.
     ensures paid { IfOk result (λ hits. length hits.offers + spending.new.budget.records ≤ spending.old.budget.records) }
     // Why there are none.
-    ensures fault { IfErr result (IsNameFault query.now.counted.now lists spending.new.budget) }
+    ensures fault { IfErr result (IsHitsFault query.now.counted.now lists query.now.key.now spending.new.budget) }
     // A record costs as in the glob list; the halving comes besides, for both cases.
     ensures cost { SpendsOnName query.now.key.now 2 spending.old spending.new }
 {
@@ -198,7 +199,7 @@ fn search_twice(
     ensures finds { FindsAt query.now LiteralsAt at (literals_twice query.now.key.now)
         (literal_visits_twice query.now.key.now) progress.old progress.new result }
     // It costs two searches.
-    ensures searches { Searches (IsEntriesFault query.now.counted.now at) 256 56 progress.old progress.new result }
+    ensures searches { Searches (list_part query.now.counted.now at) 256 56 progress.old progress.new result }
 {
     let exact = Query {
         counted: query.counted,
@@ -227,7 +228,7 @@ fn walk_twice(
     ensures finds { FindsAt query.now SuffixTreeAt at (tree_twice query.now.key.now)
         (tree_visits_twice query.now.key.now) progress.old progress.new result }
     // It costs two walks.
-    ensures searches { Searches (IsTreeFault query.now.counted.now at) 256 (58 * length query.now.key.now + 2)
+    ensures searches { Searches (walks_part query.now.counted.now at query.now.key.now) 256 (58 * length query.now.key.now + 2)
         progress.old progress.new result }
 {
     let exact = Query {

@@ -1,10 +1,10 @@
 //! The rules that match a name, each with its type, its weight and its flag ("Recommended checking order").
 
-ghost use Rattle.std.specs.Prelude.{◌≡◌, ◌⊎◌, ◌*◌, length, map, IfErr, IfOk};
-ghost use Rattle.mime_view.specs.Lists.{IsTextFault};
+ghost use Rattle.std.specs.Prelude.{◌≡◌, ◌*◌, length, map, IfErr, IfOk};
+ghost use Rattle.mime_view.specs.Gathered.{places_of};
 ghost use Rattle.mime_view.specs.RuleHits.{AreRulesAt, parts_of_rank};
 ghost use Rattle.mime_view.specs.Spending.{Looks};
-ghost use Rattle.mime_view.specs.Texts.{NeedsMemory};
+ghost use Rattle.mime_view.specs.Texts.{IsTextsStop, NeedsMemory};
 
 use crate::fault::CacheFault;
 use mime_base::{Counted, Meter};
@@ -41,8 +41,8 @@ pub fn read_rules<'a>(
     ensures answer { IfOk result (λ rules. AreRulesAt counted.now hits.now rules.items) }
     // Where texts stand there, only memory can be short.
     ensures need { NeedsMemory counted.now (map (λ hit. hit.1) hits.now) result }
-    // Else a text is at fault.
-    ensures fault { IfErr result (λ e. IsTextFault counted.now e ⊎ (e ≡ CacheFault.OutOfMemory)) }
+    // Else one of them does not.
+    ensures fault { IfErr result (IsTextsStop counted.now (places_of hits.now)) }
     // It costs their texts.
     ensures looks { Looks 0 (256 * length hits.now) meter.old meter.new }
 {

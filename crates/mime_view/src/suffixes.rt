@@ -21,8 +21,8 @@ ghost use Rattle.mime_view.specs.Hits.{tree_hits, tree_visits, visits};
 ghost use Rattle.mime_view.specs.Magic.{IsBlockFault, LiesBlock};
 ghost use Rattle.mime_view.specs.Spending.{Looks};
 ghost use Rattle.mime_view.specs.Steps.{FindsAt, FindsRules, Searches};
-ghost use Rattle.mime_view.specs.SuffixTree.{FindsLeaves, IsBlockBelow, IsCharacterPlace, IsChildFault, IsSuffixRule, IsTreeFault};
-ghost use Rattle.mime_view.specs.SuffixTree.{ReadsBlock, ReadsLeaf, admitted, below_character};
+ghost use Rattle.mime_view.specs.SuffixTree.{FindsLeaves, IsBlockBelow, IsCharacterPlace, IsSibling, IsSuffixRule};
+ghost use Rattle.mime_view.specs.SuffixTree.{ReadsBlock, ReadsLeaf, admitted, below_character, below_part, leaf_part, leaves_part, tree_part};
 
 use crate::fault::CacheFault;
 use crate::flags::weight_and_case;
@@ -53,7 +53,7 @@ pub fn tree_hits(query: &Query<'_, '_>, at: u32, progress: &mut Progress) -> Res
     ensures finds { FindsAt query.now SuffixTreeAt at (tree_hits query.now.case query.now.key.now)
         (λ rules. visits query.now.case * tree_visits query.now.key.now rules) progress.old progress.new result }
     // A leaf costs its visit; the halving among siblings comes besides, once for each byte of the name.
-    ensures searches { Searches (IsTreeFault query.now.counted.now at) 256 (29 * length query.now.key.now + 1)
+    ensures searches { Searches (tree_part query.now.counted.now at query.now.key.now) 256 (29 * length query.now.key.now + 1)
         progress.old progress.new result }
 {
     let name = query.key;
@@ -122,7 +122,8 @@ fn descend(
     ensures finds { (tree : Tree) → ReadsBlock query.now.counted.now block tree →
         FindsLeaves query.now pattern_length (below_character byte tree) progress.old progress.new result }
     // The halving comes besides.
-    ensures searches { Searches (IsChildFault query.now.counted.now) 256 29 progress.old progress.new result }
+    ensures searches { Searches (below_part query.now.counted.now (IsSibling query.now.counted.now block) byte) 256 29
+        progress.old progress.new result }
 {
     let Some(below) = block_below(query, block, byte, progress)? else {
         return Ok(None);
@@ -148,7 +149,8 @@ fn block_below(
     ensures finds { (tree : Tree) → ReadsBlock query.now.counted.now block tree →
         FindsRules query.now.counted.now (Unit {0}) [] 0 progress.old progress.new result }
     // It costs the halving, and the sibling that is found.
-    ensures searches { Searches (IsChildFault query.now.counted.now) 256 27 progress.old progress.new result }
+    ensures searches { Searches (below_part query.now.counted.now (IsSibling query.now.counted.now block) byte) 256 27
+        progress.old progress.new result }
 {
     if byte == 0 {
         return Ok(None);
@@ -212,7 +214,7 @@ fn leaf_hits(
     ensures finds { (tree : Tree) → ReadsBlock query.now.counted.now block tree →
         FindsLeaves query.now pattern_length tree progress.old progress.new result }
     // It costs the visits, and reads nothing that could be at fault.
-    ensures searches { Searches (λ e. ⊥) 256 0 progress.old progress.new result }
+    ensures searches { Searches (leaves_part query.now.counted.now block) 256 0 progress.old progress.new result }
 {
     for i in 0..block.count {
         if !offer_leaf(query, block.first + 12 * i, pattern_length, progress)? {
@@ -243,7 +245,7 @@ fn offer_leaf(
     ensures passes { (field query.now.counted.now at 0 == 0) ≡ false →
         FindsRules query.now.counted.now (Unit {0}) [] (visits query.now.case) progress.old progress.new result }
     // It costs the visit, and reads nothing that could be at fault.
-    ensures searches { Searches (λ e. ⊥) 256 0 progress.old progress.new result }
+    ensures searches { Searches (leaf_part query.now.counted.now at) 256 0 progress.old progress.new result }
 {
     query.case.take_records(&mut progress.spending)?;
     let [character, kind, flags] = query

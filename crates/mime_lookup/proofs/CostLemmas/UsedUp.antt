@@ -1,10 +1,11 @@
 -- Which faults say that a lookup used up what it may take of a cache, and what is left then.
-use Rattle.std.proofs.Common.{◌≡◌, ◌∙◌, ◌⊎◌, ℕ, ◌+◌, ◌*◌, ◌/◌, ◌<◌, ◌≤◌, List, length, inl, inr, sym, arith}
+use Rattle.std.proofs.Common.{◌≡◌, ◌∙◌, ◌⊎◌, ℕ, ◌+◌, ◌*◌, ◌/◌, ◌<◌, ◌≤◌, false, List, length, inl, inr, sym, arith}
 use Rattle.mime_base.specs.Cache.Bytes.{field}
+use Rattle.mime_base.specs.Matching.Folding.{compared}
 use Rattle.mime_lookup.specs.Costs.{Costs}
 use Rattle.mime_lookup.specs.Spent.{IsUsedUp, UsesUp}
 use Rattle.mime_lookup.specs.StepFaults.{IsAliasFault, IsGlobsFault, IsSearchFault, IsSniffFault}
-use Rattle.mime_lookup.proofs.StopLemmas.PlacedFaults.{no_alias, no_byte, no_keys, no_memory, no_named, no_place, no_text, no_tree}
+use Rattle.mime_lookup.proofs.StopLemmas.PlacedFaults.{no_alias, no_keys, no_list, no_memory, no_named, no_place, no_text, no_tree}
 use Rattle.mime_view.specs.Magic.{IsMagicFault, IsMagicLine, IsOwnFault, IsSectionFault}
 use Rattle.mime_view.specs.Parents.{IsParentsFault, IsTextsFault, parents_at}
 use Rattle.mime_view.specs.declared.budget.Budget.{Budget}
@@ -13,14 +14,15 @@ use Rattle.mime_view.specs.declared.fault.CacheFault.TheVariants.{Spent, TooDeep
 use Rattle.mime_view.specs.declared.spending.Spending.{Spending}
 
 -- the search for the types of a name does only where no record is left
-pub globs_spent : (c : List ℕ) (left : Budget) (e : CacheFault) → IsGlobsFault c left e → e ≡ Spent → left.records ≡ 0
-globs_spent c left e (inl (inl list)) same = absurd (no_place (field c 0 3) (sym list.is ∙ same))
-globs_spent c left e (inl (inr (inl tree))) same = absurd (no_tree c (field c 0 4) e tree same)
-globs_spent c left e (inl (inr (inr (inl list)))) same = absurd (no_place (field c 0 5) (sym list.is ∙ same))
-globs_spent c left e (inl (inr (inr (inr (inl text))))) same = absurd (no_text c e text same)
-globs_spent c left e (inl (inr (inr (inr (inr (inl spent)))))) same = spent.1
-globs_spent c left e (inl (inr (inr (inr (inr (inr memory)))))) same = absurd (no_memory e memory same)
-globs_spent c left e (inr alias) same = absurd (no_alias c e alias same)
+pub globs_spent : (c name : List ℕ) (left : Budget) (e : CacheFault) → IsGlobsFault c name left e → e ≡ Spent → left.records ≡ 0
+globs_spent c name left e (inl (inl (inl list))) same = absurd (no_list c (field c 0 3) e list same)
+globs_spent c name left e (inl (inl (inr (inl (inl tree))))) same = absurd (no_tree c (field c 0 4) name e tree same)
+globs_spent c name left e (inl (inl (inr (inl (inr tree))))) same = absurd (no_tree c (field c 0 4) (compared false name) e tree same)
+globs_spent c name left e (inl (inl (inr (inr list)))) same = absurd (no_list c (field c 0 5) e list same)
+globs_spent c name left e (inl (inr (inl kind))) same = absurd (no_text c kind.place e kind.no_text same)
+globs_spent c name left e (inl (inr (inr (inl spent)))) same = spent.1
+globs_spent c name left e (inl (inr (inr (inr memory)))) same = absurd (no_memory e memory same)
+globs_spent c name left e (inr alias) same = absurd (no_alias c e alias same)
 
 -- and so does the search for a subclass
 texts_spent : (c : List ℕ) (at before after : ℕ) (e : CacheFault) → IsTextsFault c at before after e → e ≡ Spent → after ≡ 0
@@ -75,7 +77,7 @@ module _ (c : List ℕ) (left : Budget) (NoContent : Type 0) (content : NoConten
         leads = line.leads;
       })
       line.fault same
-  section_spent i e within (inr (inr (inr text))) same = absurd (no_byte text.fault (sym text.is ∙ same))
+  section_spent i e within (inr (inr (inr text))) same = absurd (no_text c _ e text same)
 
   -- and magic
   magic_spent : (e : CacheFault) → IsMagicFault c (field c 0 6) left e → e ≡ Spent → IsUsedUp c NoContent left

@@ -42,7 +42,7 @@ pub fn types_of<'a>(
     // They are texts of the cache.
     ensures text { IfOk result (AreCacheTexts cache.now) }
     // The lists of rules, the tree of suffixes or an alias step shows the fault.
-    ensures fault { IfErr result (IsGlobsFault cache.now spending.new.budget) }
+    ensures fault { IfErr result (IsGlobsFault cache.now name.now spending.new.budget) }
     // Whatever the bytes are, it costs a search, and leaves enough to try each type.
     ensures cost { CostsOwing (owed_types result) (record_cost (length name.now)) 0 (glob_cost (length name.now))
         spending.old spending.new }
@@ -71,7 +71,7 @@ fn resolved_hits<'a>(
         GivesKinds which b name.now spending.old spending.new result }
     ensures text { IfOk result (λ hits. All (IsCacheText cache.now) hits.kinds) }
     ensures front { IfOk result (λ hits. hits.kept ≤ length hits.kinds) }
-    ensures fault { IfErr result (IsGlobsFault cache.now spending.new.budget) }
+    ensures fault { IfErr result (IsGlobsFault cache.now name.now spending.new.budget) }
     ensures cost { CostsKinds (length name.now) spending.old spending.new result }
 {
     let hits = cache.glob_hits(

@@ -1,14 +1,15 @@
 -- What steps of a search do one after another.
-use Rattle.std.proofs.Common.{◌≡◌, ℕ, ◌+◌, ◌*◌, ◌≤◌, List, [], ◌++◌, refl, ◌∙◌, arith}
+use Rattle.std.proofs.Common.{◌≡◌, ℕ, ◌+◌, ◌*◌, ◌≤◌, List, [], ◌++◌, inl, refl, ◌∙◌, arith}
 use Rattle.std.specs.Prelude.{Result, Ok, Err, IsErrAnd}
 use Rattle.std.proofs.lemmas.Result.{err_from_is_err_and, on_ok_weaker}
 use Rattle.mime_base.specs.declared.database.rule.GlobRule.{GlobRule}
 use Rattle.mime_base.specs.declared.meter.Meter.{Meter}
 use Rattle.mime_view.specs.Spending.{per_record}
-use Rattle.mime_view.specs.Steps.{FindsRules, Searches}
+use Rattle.mime_view.specs.Steps.{FindsRules, Part, Searches}
 use Rattle.mime_view.specs.declared.fault.CacheFault.{CacheFault}
 use Rattle.mime_view.specs.declared.query.Progress.{Progress}
 use Rattle.mime_view.proofs.CostLemmas.Costs.{spends_none, spends_then, spends_within}
+use Rattle.mime_view.proofs.HitsLemmas.AddedHits.{adds_then}
 use Rattle.mime_view.proofs.HitsLemmas.Gathering.{offers_append, offers_none}
 
 -- no step finds nothing
@@ -20,11 +21,12 @@ finds_none {c} at = record {
 }
 
 -- and takes nothing
-pub searches_none : {Fault : CacheFault → Type 0} {each : ℕ} (at : Progress) → Searches {X = Unit {0}} Fault each 0 at at (Ok tt)
+pub searches_none : {part : Part} {each : ℕ} (at : Progress) → Searches {X = Unit {0}} part each 0 at at (Ok tt)
 searches_none {each = each} at = record {
   fault = tt;
   asked = refl;
   few = omega arith;
+  added = λ place held. inl held;
   cost = spends_none (per_record each) at.spending;
 }
 
@@ -39,24 +41,26 @@ finds_then {c = c} {xs = xs} {ys = ys} {old = old} {mid = mid} {new = new} {r = 
 }
 
 -- and takes
-pub searches_then : {X Y : Type 0} {Fault : CacheFault → Type 0} {each m n k : ℕ} {old mid new : Progress} {x : X}
-    {r : Result Y CacheFault} → Searches Fault each m old mid (Ok x) → Searches Fault each n mid new r → m + n ≤ k
-    → Searches Fault each k old new r
-searches_then {each = each} {m = m} {n = n} {k = k} {old = old} {mid = mid} {new = new} {r = r} first second l = record {
+pub searches_then : {X Y : Type 0} {part : Part} {each m n k : ℕ} {old mid new : Progress} {x : X}
+    {r : Result Y CacheFault} → Searches part each m old mid (Ok x) → Searches part each n mid new r → m + n ≤ k
+    → Searches part each k old new r
+searches_then {part = part} {each = each} {m = m} {n = n} {k = k} {old = old} {mid = mid} {new = new} {r = r} first second l = record {
   fault = second.fault;
   asked = on_ok_weaker r (λ stays. stays ∙ first.asked) second.asked;
   few = on_ok_weaker r (λ fewer. omega (arith, fewer, first.few)) second.few;
+  added = on_ok_weaker r (adds_then part.Kind old.hits.offers mid.hits.offers new.hits.offers first.added) second.added;
   cost = spends_within (per_record each) (m + n) (256 * m + 256 * n) k (256 * k) old.spending new.spending l (omega (arith, l))
       (spends_then (per_record each) m (256 * m) n (256 * n) old.spending mid.spending new.spending first.cost second.cost);
 }
 
 -- what goes on with another value
-pub searches_ok : {X Y : Type 0} {Fault : CacheFault → Type 0} {each m : ℕ} {old new : Progress} {x : X} {y : Y}
-    → Searches Fault each m old new (Ok x) → Searches Fault each m old new (Ok y)
+pub searches_ok : {X Y : Type 0} {part : Part} {each m : ℕ} {old new : Progress} {x : X} {y : Y}
+    → Searches part each m old new (Ok x) → Searches part each m old new (Ok y)
 searches_ok step = record {
   fault = tt;
   asked = step.asked;
   few = step.few;
+  added = step.added;
   cost = step.cost;
 }
 
@@ -82,14 +86,15 @@ finds_err r is step l =
     }
 
 -- and takes what it took
-pub searches_err : {X Y : Type 0} {Fault : CacheFault → Type 0} {each m : ℕ} {old new : Progress} {e : CacheFault} (r : Result Y CacheFault)
-    → IsErrAnd r (λ y. y ≡ e) → Searches {X = X} Fault each m old new (Err e) → Searches Fault each m old new r
+pub searches_err : {X Y : Type 0} {part : Part} {each m : ℕ} {old new : Progress} {e : CacheFault} (r : Result Y CacheFault)
+    → IsErrAnd r (λ y. y ≡ e) → Searches {X = X} part each m old new (Err e) → Searches part each m old new r
 searches_err r is step =
     let p = err_from_is_err_and r is in
     rw (p.1, p.2) record {
       fault = step.fault;
       asked = tt;
       few = tt;
+      added = tt;
       cost = step.cost;
     }
 

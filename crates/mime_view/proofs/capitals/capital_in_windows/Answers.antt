@@ -1,4 +1,4 @@
-use Rattle.std.proofs.Common.{sym, ◌∙◌, length, drop, ◌+◌, ◌-◌, arith, ap}
+use Rattle.std.proofs.Common.{sym, ◌∙◌, length, drop, ◌-◌, arith, ap}
 use Rattle.std.proofs.lemmas.List.{drop-drop}
 use Rattle.std.proofs.lemmas.Slice.{between_to_end}
 use Rattle.mime_view.specs.NameHits.{has_capitals}

@@ -1,7 +1,9 @@
-use Rattle.std.proofs.Common.{◌<◌, Err, inl, inr, ⊎_elim, sym, refl, arith, length}
+use Rattle.std.proofs.Common.{◌<◌, Err, sym, refl, arith, length}
 use Rattle.std.proofs.lemmas.List.{take_all}
 use Rattle.mime_base.specs.Format.Stored.{glob_rules}
 use Rattle.mime_view.proofs.GlobLemmas.GlobLists.{finds_next, glob, glob_read, globs_count, globs_inside}
+use Rattle.mime_view.proofs.HitsLemmas.ListParts.{entry_of_list}
+use Rattle.mime_view.proofs.HitsLemmas.Parts.{searches_within}
 use Rattle.mime_view.proofs.HitsLemmas.Steps.{finds_err, searches_then}
 use Rattle.mime_view.proofs.globs.glob_list_hits.Goals as goal
 
@@ -18,8 +20,12 @@ loop-i-preserved c = record {
       let count = globs_count c.args.query.now.counted.now c.from-at.result rules stand in
       let l : c.loop-i.i < length (glob_rules rules) = omega (arith, count, c.in_ok-count.ensures.count.0, c.loop-i-test.true) in
       finds_next c.args.query.now.key.now rules l (c.loop-i.invariant.finds rules stand)
-      (c.in-Ok.ensures.finds (glob rules c.loop-i.i) (glob_read c.args.query.now.counted.now c.from-at.result rules stand c.loop-i.i l));
-  searches = searches_then c.loop-i.invariant.searches c.in-Ok.ensures.searches (omega arith);
+      (c.in-Ok.ensures.finds (glob rules c.loop-i.i) (glob_read c.args.query.now.counted.now c.from-at.result rules stand
+      c.loop-i.i l));
+  searches =
+      let within = entry_of_list c.args.query.now.counted.now c.from-at.result c.loop-i.i
+      (omega (arith, c.in_ok-count.ensures.count.0, c.loop-i-test.true)) in
+      searches_then c.loop-i.invariant.searches (searches_within within c.in-Ok.ensures.searches) (omega arith);
 }
 
 pub returns-in-Err-clause-finds : goal.returns-in-Err-clause-finds
@@ -34,13 +40,10 @@ returns-in-Err-clause-finds c = λ rules stand.
 
 pub returns-in-Err-clause-searches : goal.returns-in-Err-clause-searches
 returns-in-Err-clause-searches c =
-    let all = searches_then {k = 1} c.loop-i.invariant.searches c.in-Err.ensures.searches (omega arith) in
-    record {
-      fault = ⊎_elim (λ text. inl (inr text)) inr all.fault;
-      asked = tt;
-      few = tt;
-      cost = all.cost;
-    }
+    let within = entry_of_list c.args.query.now.counted.now c.from-at.result c.loop-i.i
+    (omega (arith, c.in_ok-count.ensures.count.0, c.loop-i-test.true)) in
+    rw (sym c.from-at.ensures)
+    (searches_then {k = 1} c.loop-i.invariant.searches (searches_within within c.in-Err.ensures.searches) (omega arith))
 
 pub returns-clause-finds : goal.returns-clause-finds
 returns-clause-finds c = λ rules stand.

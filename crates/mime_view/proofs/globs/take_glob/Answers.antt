@@ -1,5 +1,6 @@
-use Rattle.std.proofs.Common.{arith, rules, length, refl, sym, ◌∙◌}
+use Rattle.std.proofs.Common.{◌≡◌, ℕ, arith, rules, get_or, length, inl, refl, sym, ap, subst, ◌∙◌}
 use Rattle.mime_base.specs.Kept.{class_of}
+use Rattle.mime_view.specs.Gathered.{AddsAt}
 use Rattle.mime_view.proofs.GlobLemmas.GlobEntries.{entry_spends, entry_states, offers_either, offers_match, offers_other, text_short}
 use Rattle.mime_view.proofs.HitsLemmas.Gathering.{offers_unwanted}
 use Rattle.mime_view.proofs.globs.take_glob.Goals as goal
@@ -76,6 +77,7 @@ returns-in_err-offer-clause-searches c =
       fault = search rules;
       asked = search rules;
       few = search rules;
+      added = search rules;
       cost =
           entry_spends (length c.args.query.now.key.now) (length c.in_ok-pattern.pattern.now) c.text_at.new.meter.bytes c.args.spending.now
           _ c.in_ok-take_record.ensures.taken c.take_record.ensures.value_bytes (omega arith) (omega arith) (omega arith) (omega arith)
@@ -89,6 +91,7 @@ returns-else-glob_matches-clause-searches c =
       fault = search rules;
       asked = search rules;
       few = search rules;
+      added = λ place held. inl held;
       cost =
           entry_spends (length c.args.query.now.key.now) (length c.in_ok-pattern.pattern.now) c.text_at.new.meter.bytes c.args.spending.now
           _ c.in_ok-take_record.ensures.taken c.take_record.ensures.value_bytes (omega arith) (omega arith) (omega arith) (omega arith)
@@ -102,6 +105,10 @@ returns-in_ok-offer-clause-searches c =
       fault = search rules;
       asked = search rules;
       few = search rules;
+      added =
+          let kind = ap (λ xs. get_or xs 1 0) c.cards_within.ensures.numbers in
+          subst (λ (kind : ℕ). AddsAt (λ place. place ≡ kind) c.args.hits.now.offers c.offer.new.self.offers) kind
+          c.in_ok-offer.ensures.takes.added;
       cost =
           entry_spends (length c.args.query.now.key.now) (length c.in_ok-pattern.pattern.now) c.text_at.new.meter.bytes c.args.spending.now
           _ c.in_ok-take_record.ensures.taken c.take_record.ensures.value_bytes (omega arith) (omega arith) (omega arith) (omega arith)

@@ -1,5 +1,6 @@
-use Rattle.std.proofs.Common.{arith, rules}
+use Rattle.std.proofs.Common.{arith, rules, inl}
 use Rattle.std.proofs.lemmas.List.{take_all}
+use Rattle.std.proofs.lemmas.Result.{err_from_is_err_and}
 use Rattle.mime_view.proofs.HitsLemmas.KindTexts.{AreTexts-at, AreTexts-one, AreTexts-pushed}
 use Rattle.mime_view.proofs.kinds.read_kinds.Goals as goal
 
@@ -36,3 +37,13 @@ pub returns-clause-answer : goal.returns-clause-answer
 returns-clause-answer c =
     let all = take_all c.loop-place.place-index c.args.places.now c.loop-place-test.false in
     rw c.of.ensures (rw all at c.loop-place.invariant.are)
+
+pub returns-in_err-text-2-clause-fault : goal.returns-in_err-text-2-clause-fault
+returns-in_err-text-2-clause-fault c =
+    let at = c.from-in-loop-place.ensures in
+    let p = err_from_is_err_and c.from_residual-in_err-text-2.result c.from_residual-in_err-text-2.ensures.1 in
+    rw p.1 (inl (record {
+      i = c.loop-place.place-index;
+      within = c.loop-place-test.true;
+      no_text = record { fault = c.in_err-text-2.field-0.0; no_text = cc (c.in_err-text-2.ensures.text, at); is = p.2 };
+    }))

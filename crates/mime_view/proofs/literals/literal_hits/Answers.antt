@@ -1,4 +1,4 @@
-use Rattle.std.proofs.Common.{◌+◌, refl, sym, arith}
+use Rattle.std.proofs.Common.{◌+◌, refl, sym, rules, arith}
 use Rattle.std.proofs.Math.Nat.{mul-le-mul_left}
 use Rattle.std.proofs.lemmas.Result.{err_from_is_err_and}
 use Rattle.mime_base.specs.Cache.Bytes.{field}
@@ -6,6 +6,8 @@ use Rattle.mime_view.specs.Hits.{literal_visits, visits}
 use Rattle.mime_view.proofs.LiteralLemmas.LiteralEntries.{texts_of}
 use Rattle.mime_view.proofs.LiteralLemmas.LiteralPlaces.{placed_by, searched, some_visits, unmet, unmet_visits}
 use Rattle.mime_view.proofs.HitsLemmas.Gathering.{offers_none}
+use Rattle.mime_view.specs.Steps.{list_part}
+use Rattle.mime_view.proofs.HitsLemmas.Parts.{none_within, searches_within}
 use Rattle.mime_view.proofs.HitsLemmas.Steps.{finds_within}
 use Rattle.mime_view.proofs.literals.literal_hits.Goals as goal
 
@@ -68,3 +70,8 @@ returns-else-sought-count-clause-finds c = λ rules stand.
       need = λ enough. tt;
       most = omega arith;
     }
+
+pub returns-in_ok-pass_entry-clause-searches : goal.returns-in_ok-pass_entry-clause-searches
+returns-in_ok-pass_entry-clause-searches c =
+    let pass = searches_within (none_within (list_part c.args.query.now.counted.now c.args.at)) c.in_ok-pass_entry.ensures.searches in
+    record { fault = tt; asked = search rules; few = search rules; added = pass.added; cost = search rules }

@@ -1,8 +1,9 @@
-use Rattle.std.proofs.Common.{◌≡◌, true, false, get_or, sym, ap, ◌∙◌, rules, arith}
+use Rattle.std.proofs.Common.{◌≡◌, ℕ, true, false, get_or, sym, ap, subst, ◌∙◌, rules, arith}
 use Rattle.std.specs.Prelude.{bytes_eq}
 use Rattle.mime_base.specs.Cache.Bytes.{field}
 use Rattle.mime_base.specs.Cache.Texts.{text_at}
 use Rattle.mime_base.specs.Format.Stored.{stored_text}
+use Rattle.mime_view.specs.Gathered.{AddsAt}
 use Rattle.mime_view.proofs.LiteralLemmas.LiteralEntries.{length-pattern}
 use Rattle.mime_view.proofs.SearchLemmas.Lookups.{equal_texts, other_texts}
 use Rattle.mime_view.proofs.HitsLemmas.Gathering.{offers_none}
@@ -50,4 +51,17 @@ returns-in_default-clause-finds c = λ rule reads.
       answer = λ is. rw other (offers_none c.args.query.now.counted.now c.args.progress.now.hits);
       need = search rules;
       most = omega (arith, c.in_ok-take_records.ensures.taken.records);
+    }
+
+pub returns-in_ok-offer_entry-in-Equal-clause-searches : goal.returns-in_ok-offer_entry-in-Equal-clause-searches
+returns-in_ok-offer_entry-in-Equal-clause-searches c =
+    let kind = ap (λ xs. get_or xs 1 0) c.cards_within.ensures.numbers in
+    record {
+      fault = tt;
+      asked = search rules;
+      few = search rules;
+      added =
+          subst (λ (kind : ℕ). AddsAt (λ place. place ≡ kind) c.args.progress.now.hits.offers c.offer_entry.new.hits.offers) kind
+          c.in_ok-offer_entry-in-Equal.ensures.takes.added;
+      cost = search rules;
     }

@@ -5,6 +5,7 @@ use Rattle.mime_base.specs.Cache.Texts.{text_at}
 use Rattle.mime_view.specs.Gathered.{AreGiven, asked_rules}
 use Rattle.mime_view.specs.NameHits.{AreHits}
 use Rattle.mime_view.proofs.HitsLemmas.GivenTypes.{given-all, kept-within, length-given, types_given, types_stand}
+use Rattle.mime_view.proofs.HitsLemmas.KindFaults.{read_stops}
 use Rattle.mime_view.proofs.name.glob_hits.Goals as goal
 
 pub returns-clause-found : goal.returns-clause-found
@@ -35,3 +36,9 @@ returns-clause-gives c =
           (λ given are. omega (arith, length-given cache hits given are, paid)) c.read.ensures.answer;
       front = IfOk-weaker c.read.result (AreGiven cache hits) (λ given. given.kept ≤ length given.kinds) (kept-within cache hits) c.read.ensures.answer;
     }
+
+pub returns-clause-fault : goal.returns-clause-fault
+returns-clause-fault c =
+    let hits = c.in_ok-hits.hits in
+    read_stops c.args.query.now.counted.now c.args.lists c.args.query.now.key.now c.hits_of.new.spending.budget hits.which hits.offers
+    c.read.result c.in_ok-hits.ensures.named c.read.ensures.fault

@@ -1,6 +1,12 @@
-use Rattle.std.proofs.Common.{◌+◌, ◌*◌, length, arith}
+use Rattle.std.proofs.Common.{ℕ, ◌+◌, ◌*◌, List, length, rules, arith}
+use Rattle.std.proofs.lemmas.Result.{on_ok_weaker}
 use Rattle.mime_base.specs.Format.Stored.{glob_rules}
 use Rattle.mime_view.specs.Hits.{tree_visits}
+use Rattle.mime_view.specs.NameHits.{lists_part}
+use Rattle.mime_view.specs.Steps.{Part}
+use Rattle.mime_view.proofs.HitsLemmas.AddedHits.{adds_then}
+use Rattle.mime_view.proofs.HitsLemmas.ListParts.{globs_within, literals_within, walk_within}
+use Rattle.mime_view.proofs.HitsLemmas.Parts.{searches_within}
 use Rattle.mime_view.proofs.HitsLemmas.Steps.{finds_then}
 use Rattle.mime_view.proofs.name.offer_once.Goals as goal
 
@@ -12,3 +18,24 @@ returns-clause-finds c = λ rules at.
     rw c.requires.alone
     (finds_then {n = 2 * tree_visits c.args.query.now.key.now rules + length (glob_rules rules)} first
     (finds_then second third (omega arith)) (omega arith))
+
+pub returns-clause-searches : goal.returns-clause-searches
+returns-clause-searches c =
+    let cache = c.args.query.now.counted.now in
+    let name = c.args.query.now.key.now in
+    let part : Part = lists_part cache c.args.lists name in
+    let one = searches_within (literals_within cache c.args.lists name) c.in_ok-literal_hits.ensures.searches in
+    let two = searches_within (walk_within cache c.args.lists name) c.in_ok-tree_hits.ensures.searches in
+    let last = searches_within (globs_within cache c.args.lists name) c.glob_list_hits.ensures.searches in
+    let old : List (ℕ × ℕ) = c.args.progress.now.hits.offers in
+    let first : List (ℕ × ℕ) = c.literal_hits.new.progress.hits.offers in
+    let second : List (ℕ × ℕ) = c.tree_hits.new.progress.hits.offers in
+    record {
+      fault = last.fault;
+      asked = search rules;
+      few = search rules;
+      added = on_ok_weaker c.glob_list_hits.result
+          (adds_then part.Kind old second c.glob_list_hits.new.progress.hits.offers (adds_then part.Kind old first second one.added two.added))
+          last.added;
+      cost = search rules;
+    }

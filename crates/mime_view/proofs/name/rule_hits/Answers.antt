@@ -7,6 +7,7 @@ use Rattle.mime_view.specs.Gathered.{AreGiven}
 use Rattle.mime_view.specs.declared.name_hits.Which.TheVariants.{Candidates}
 use Rattle.mime_view.proofs.HitsLemmas.GivenRules.{given_of_types, given_with_rules}
 use Rattle.mime_view.proofs.HitsLemmas.GivenTypes.{given-all, kept-within, length-given, types_stand}
+use Rattle.mime_view.proofs.HitsLemmas.KindFaults.{read_stops}
 use Rattle.mime_view.proofs.name.rule_hits.Goals as goal
 
 pub returns-clause-found : goal.returns-clause-found
@@ -36,3 +37,9 @@ returns-clause-gives c =
           (λ given are. omega (arith, length-given cache hits given are, paid)) types;
       front = IfOk-weaker _ (AreGiven cache hits) (λ given. given.kept ≤ length given.kinds) (kept-within cache hits) types;
     }
+
+pub returns-clause-fault : goal.returns-clause-fault
+returns-clause-fault c =
+    let hits = c.in_ok-hits.hits in
+    read_stops c.args.query.now.counted.now c.args.lists c.args.query.now.key.now c.hits_of.new.spending.budget hits.which hits.offers
+    c.read_rules.result c.in_ok-hits.ensures.named c.read_rules.ensures.fault

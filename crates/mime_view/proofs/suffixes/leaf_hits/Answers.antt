@@ -1,6 +1,8 @@
 use Rattle.std.proofs.Common.{◌≡◌, ◌+◌, ◌*◌, arith, ◌∙◌, sym}
+use Rattle.mime_view.proofs.HitsLemmas.Parts.{searches_within}
 use Rattle.mime_view.proofs.HitsLemmas.Steps.{searches_err, searches_none, searches_ok, searches_then}
 use Rattle.mime_view.proofs.SuffixTreeLemmas.TreeScans.{next_leaf, node_left, none_left, stopped}
+use Rattle.mime_view.proofs.SuffixTreeLemmas.WalkedParts.{leaf_within}
 use Rattle.mime_view.proofs.suffixes.leaf_hits.Goals as goal
 
 pub loop-i-init : goal.loop-i-init
@@ -22,7 +24,9 @@ loop-i-preserved c = record {
       let leaf = rw c.if-not-branch.false at c.in_ok-offer_leaf.ensures.finds in
       next_leaf (c.loop-i.invariant.left tree reads) c.offer_leaf.new.progress c.loop-i-test.true
       (sym c.in_ok-offer_leaf.ensures.leaf ∙ c.if-not-branch.false) leaf;
-  searches = searches_ok (searches_then c.loop-i.invariant.searches c.in_ok-offer_leaf.ensures.searches (omega arith));
+  searches = searches_ok (searches_then c.loop-i.invariant.searches (searches_within
+      (leaf_within c.args.query.now.counted.now c.args.block c.requires.lies c.loop-i.i c.loop-i-test.true) c.in_ok-offer_leaf.ensures.searches)
+      (omega arith));
 }
 
 pub returns-in_err-offer_leaf-clause-finds : goal.returns-in_err-offer_leaf-clause-finds
@@ -33,7 +37,9 @@ returns-in_err-offer_leaf-clause-finds c = λ tree reads.
 pub returns-in_err-offer_leaf-clause-searches : goal.returns-in_err-offer_leaf-clause-searches
 returns-in_err-offer_leaf-clause-searches c =
     searches_err c.from_residual.result c.from_residual.ensures.1
-    (searches_then {k = 0} c.loop-i.invariant.searches c.in_err-offer_leaf.ensures.searches (omega arith))
+    (searches_then {k = 0} c.loop-i.invariant.searches (searches_within
+    (leaf_within c.args.query.now.counted.now c.args.block c.requires.lies c.loop-i.i c.loop-i-test.true) c.in_err-offer_leaf.ensures.searches)
+    (omega arith))
 
 pub returns-then-not-branch-clause-finds : goal.returns-then-not-branch-clause-finds
 returns-then-not-branch-clause-finds c = λ tree reads.
@@ -43,3 +49,9 @@ returns-then-not-branch-clause-finds c = λ tree reads.
 
 pub returns-clause-finds : goal.returns-clause-finds
 returns-clause-finds c = λ tree reads. none_left (c.loop-i.invariant.left tree reads) c.loop-i-test.false
+
+pub returns-then-not-branch-clause-searches : goal.returns-then-not-branch-clause-searches
+returns-then-not-branch-clause-searches c =
+    searches_ok (searches_then {k = 0} c.loop-i.invariant.searches (searches_within
+    (leaf_within c.args.query.now.counted.now c.args.block c.requires.lies c.loop-i.i c.loop-i-test.true) c.in_ok-offer_leaf.ensures.searches)
+    (omega arith))

@@ -1,8 +1,10 @@
-use Rattle.std.proofs.Common.{◌≡◌, ◌%◌, ◌/◌, ◌==◌, true, get_or, refl, sym, ap, ◌∙◌, arith, rules}
+use Rattle.std.proofs.Common.{◌≡◌, ℕ, ◌%◌, ◌/◌, ◌==◌, true, get_or, refl, sym, ap, ◌∙◌, arith, rules}
 use Rattle.mime_base.specs.Cache.Texts.{text_at}
 use Rattle.mime_base.specs.Kept.{rank_of_rule}
 use Rattle.mime_view.specs.Hits.{takes_rule}
 use Rattle.mime_view.proofs.HitsLemmas.StoredRules.{cased-stored, weight-stored}
+use Rattle.mime_view.specs.SuffixTree.{leaf_part}
+use Rattle.mime_view.proofs.HitsLemmas.AddedHits.{adds_within}
 use Rattle.mime_view.proofs.suffixes.offer_leaf.Goals as goal
 
 pub returns-in_ok-offer-clause-finds : goal.returns-in_ok-offer-clause-finds
@@ -24,4 +26,17 @@ returns-in_ok-offer-clause-finds c = λ rule reads.
           rw takes (c.in_ok-offer.ensures.offered cache rule ranked (ap (text_at cache) kind ∙ reads.kind));
       need = search rules;
       most = omega (arith, c.in_ok-take_records.ensures.taken.records);
+    }
+
+pub returns-in_ok-offer-clause-searches : goal.returns-in_ok-offer-clause-searches
+returns-in_ok-offer-clause-searches c =
+    let character = ap (λ xs. get_or xs 0 0) c.cards_within.ensures.numbers in
+    let kind = ap (λ xs. get_or xs 1 0) c.cards_within.ensures.numbers in
+    record {
+      fault = tt;
+      asked = search rules;
+      few = search rules;
+      added = adds_within (λ (place : ℕ). place ≡ _) (leaf_part c.args.query.now.counted.now c.args.at).Kind c.args.progress.now.hits.offers
+          c.offer.new.self.offers (λ place is. (sym character ∙ c.if-character-ne0.false, is ∙ kind)) c.in_ok-offer.ensures.takes.added;
+      cost = search rules;
     }

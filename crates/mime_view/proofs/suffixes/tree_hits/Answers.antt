@@ -1,8 +1,11 @@
-use Rattle.std.proofs.Common.{◌-◌, get_or, length, sym, refl, rules, arith, ◌∙◌, ap}
-use Rattle.mime_view.proofs.HitsLemmas.Steps.{finds_metered, searches_ok, searches_then}
+use Rattle.std.proofs.Common.{ℕ, ◌-◌, get_or, length, sym, refl, rules, arith, ◌∙◌, ap}
+use Rattle.mime_base.specs.Cache.Bytes.{field}
+use Rattle.mime_view.proofs.HitsLemmas.Parts.{searches_within}
+use Rattle.mime_view.proofs.HitsLemmas.Steps.{finds_metered, searches_err, searches_ok, searches_then}
 use Rattle.mime_view.proofs.SuffixTreeLemmas.TreeBegins.{nothing_sought}
 use Rattle.mime_view.proofs.SuffixTreeLemmas.TreePaths.{all_left, next, none_left}
 use Rattle.mime_view.proofs.SuffixTreeLemmas.TreeStands.{head_inside, roots_inside}
+use Rattle.mime_view.proofs.SuffixTreeLemmas.WalkedParts.{leads_on, leads_roots, step_within}
 use Rattle.mime_view.proofs.suffixes.tree_hits.Goals as goal
 
 pub returns-in_err-count-clause-finds : goal.returns-in_err-count-clause-finds
@@ -42,6 +45,12 @@ loop-depth-init c = record {
         whole = λ new result walk. finds_metered c.cards.new.meter (begun.whole new result walk);
       };
   lies = c.in_ok-block.ensures.lies;
+  leads =
+      leads_roots c.args.query.now.counted.now c.args.at c.args.query.now.key.now c.in_ok-block.block
+      (c.in_ok-block.ensures.block.0 ∙ ap (λ xs. get_or xs 1 0) c.in_ok-count.ensures.numbers.1
+      ∙ ap (λ (n : ℕ). field c.args.query.now.counted.now n 1) c.from.ensures)
+      (c.in_ok-block.ensures.block.1 ∙ ap (λ xs. get_or xs 0 0) c.in_ok-count.ensures.numbers.1
+      ∙ ap (λ (n : ℕ). field c.args.query.now.counted.now n 0) c.from.ensures);
   searches = search rules;
 }
 
@@ -73,8 +82,27 @@ loop-depth-preserved c = record {
       let step = rw c.in-Some.is at found in
       next.later c.in-Some.below c.descend.new.progress lower step;
   lies = rw c.in-Some.is at c.in_ok-below.ensures.below.lies;
-  searches = searches_ok (searches_then c.loop-depth.invariant.searches c.in_ok-below.ensures.searches (omega arith));
+  leads =
+      leads_on c.args.query.now.counted.now c.args.at c.args.query.now.key.now c.loop-depth.depth c.loop-depth.block c.loop-depth.invariant.leads
+      c.in-Some.below c.loop-depth-test.true (rw c.in-Some.is at c.in_ok-below.ensures.below.named);
+  searches =
+      let within = step_within c.args.query.now.counted.now c.args.at c.args.query.now.key.now c.loop-depth.depth c.loop-depth.block
+      c.loop-depth.invariant.leads c.loop-depth-test.true in
+      searches_ok (searches_then c.loop-depth.invariant.searches (searches_within within c.in_ok-below.ensures.searches) (omega arith));
 }
 
 pub returns-clause-finds : goal.returns-clause-finds
 returns-clause-finds c = λ rules stand. none_left c.loop-depth-test.false (c.loop-depth.invariant.left rules stand)
+
+pub returns-in_default-clause-searches : goal.returns-in_default-clause-searches
+returns-in_default-clause-searches c =
+    let within = step_within c.args.query.now.counted.now c.args.at c.args.query.now.key.now c.loop-depth.depth c.loop-depth.block
+    c.loop-depth.invariant.leads c.loop-depth-test.true in
+    searches_ok (searches_then c.loop-depth.invariant.searches (searches_within within c.in_ok-below.ensures.searches) (omega arith))
+
+pub returns-in_err-below-clause-searches : goal.returns-in_err-below-clause-searches
+returns-in_err-below-clause-searches c =
+    let within = step_within c.args.query.now.counted.now c.args.at c.args.query.now.key.now c.loop-depth.depth c.loop-depth.block
+    c.loop-depth.invariant.leads c.loop-depth-test.true in
+    searches_err c.from_residual-in_err-below.result c.from_residual-in_err-below.ensures.1
+    (searches_then c.loop-depth.invariant.searches (searches_within within c.in_err-below.ensures.searches) (omega arith))

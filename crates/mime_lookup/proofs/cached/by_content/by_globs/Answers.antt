@@ -19,8 +19,8 @@ pub returns-in_err-types-clause-stops : goal.returns-in_err-types-clause-stops
 returns-in_err-types-clause-stops c =
     let types = c.in_err-types in
     passed_on _ types.field-0.0 c.from_residual.result c.from_residual.ensures.1
-    (stops_for c.args.cache.now _ _ _ types.field-0.0 (of_globs c.types_of.new.spending.budget types.ensures.fault)
-    (λ same. inl (globs_spent c.args.cache.now c.types_of.new.spending.budget types.field-0.0 types.ensures.fault same))
+    (stops_for c.args.cache.now _ _ _ types.field-0.0 (of_globs c.args.name.now c.types_of.new.spending.budget types.ensures.fault)
+    (λ same. inl (globs_spent c.args.cache.now c.args.name.now c.types_of.new.spending.budget types.field-0.0 types.ensures.fault same))
     (λ b enough. (types.ensures.gives b (suffices_globs c.args.cache.now c.args.name.now ⊤ b GlobsFirst enough.0)).given.need
     (omega (arith, enough.1))))
 

@@ -10,8 +10,8 @@ returns-in_err-types-in-GlobsFirst-clause-stops c =
     let types = c.in_err-types-in-GlobsFirst in
     let left = c.types_of.new.spending.budget in
     passed_on _ types.field-0.0 c.from_residual.result c.from_residual.ensures.1
-    (stops_for c.args.cache.now _ _ _ types.field-0.0 (of_globs left types.ensures.fault)
-    (λ same. inl (globs_spent c.args.cache.now left types.field-0.0 types.ensures.fault same))
+    (stops_for c.args.cache.now _ _ _ types.field-0.0 (of_globs c.args.question.now.name.now left types.ensures.fault)
+    (λ same. inl (globs_spent c.args.cache.now c.args.question.now.name.now left types.field-0.0 types.ensures.fault same))
     (λ b enough. (types.ensures.gives b enough.0).given.need enough.1))
 
 pub returns-in_err-types-in-GlobsFirst-clause-costs : goal.returns-in_err-types-in-GlobsFirst-clause-costs
@@ -62,8 +62,8 @@ returns-in_err-types-in-AllGlobs-clause-stops c =
     let types = c.in_err-types-in-AllGlobs in
     let left = c.types_of-in-AllGlobs.new.spending.budget in
     passed_on _ types.field-0.0 c.from_residual-in_err-types-in-AllGlobs.result c.from_residual-in_err-types-in-AllGlobs.ensures.1
-    (stops_for c.args.cache.now _ _ _ types.field-0.0 (of_globs left types.ensures.fault)
-    (λ same. inl (globs_spent c.args.cache.now left types.field-0.0 types.ensures.fault same))
+    (stops_for c.args.cache.now _ _ _ types.field-0.0 (of_globs c.args.question.now.name.now left types.ensures.fault)
+    (λ same. inl (globs_spent c.args.cache.now c.args.question.now.name.now left types.field-0.0 types.ensures.fault same))
     (λ b enough. (types.ensures.gives b enough.0).given.need enough.1))
 
 pub returns-in_err-types-in-AllGlobs-clause-costs : goal.returns-in_err-types-in-AllGlobs-clause-costs

@@ -1,5 +1,6 @@
 use Rattle.std.proofs.Common.{arith, ◌∙◌, sym}
 use Rattle.mime_base.proofs.KeptLemmas.Offers.{offer-less, offer-same, offer-more}
+use Rattle.mime_view.proofs.HitsLemmas.AddedHits.{takes_alone, takes_ranked}
 use Rattle.mime_view.proofs.best_hits.BestHits.offer.Goals as goal
 use Rattle.mime_view.proofs.best_hits.BestHits.offer.Goals.{then-rank-self-2, else-rank-self-2}
 
@@ -18,4 +19,14 @@ returns-clause-kept c = λ offers kept.
           w.if-rank-self-2.true)
       | else-rank-self-2 w ↦ rw (c.in_ok-push.ensures.ok, w.self-inside-is)
           (offer-same old.rank old.kinds.items c.self.invariant offers (c.self.view_is ∙ kept) c.args.rank c.args.kind (omega arith))
+    ]
+
+pub returns-clause-takes : goal.returns-clause-takes
+returns-clause-takes c =
+    let old = c.self.inside in
+    elim c.if-rank-self-2.branch [
+      | then-rank-self-2 w ↦ rw (c.in_ok-push.ensures.ok, w.self-inside-is, w.clear.ensures.items)
+          (takes_alone c.args.kind c.args.rank c.args.self.now)
+      | else-rank-self-2 w ↦ rw (← c.self.view_is, c.in_ok-push.ensures.ok, w.self-inside-is)
+          (takes_ranked c.args.kind old.rank c.args.rank old.kinds.items)
     ]
