@@ -1,8 +1,8 @@
--- The zeros behind a text.
+-- The zeros after a text.
 use Rattle.std.proofs.Common.{◌≡◌, ℕ, zero, suc, ◌+◌, ◌<◌, List, [], ◌∷◌, ◌++◌, length, take, ap, refl, arith}
 use Rattle.std.specs.Prelude.{replicate}
 
--- of four zeros behind a list, as many are kept as the end leaves
+-- of four zeros after a list, as many are kept as the end leaves
 pub zeros_kept : (xs : List ℕ) (end count : ℕ) → count < 4 → end ≡ length xs + 1 + count
     → take end (xs ++ 0 ∷ 0 ∷ 0 ∷ 0 ∷ []) ≡ xs ++ 0 ∷ replicate count 0
 zeros_kept [] end count few is = rw is (by_count count few)

@@ -7,7 +7,6 @@ use Rattle.std.proofs.lemmas.Cmp.{nat_list_eq_equiv}
 use Rattle.std.proofs.lemmas.List.{drop_more}
 use Rattle.std.proofs.lemmas.List.Elements.{filter_agree}
 use Rattle.std.proofs.lemmas.List.Folds.{list_any-append}
-use Rattle.std.proofs.lemmas.Slice.Eq.{bytes_eq-Decides}
 use Rattle.std.specs.List.{filter, list_any}
 use Rattle.std.specs.Str.{bytes_eq}
 use Rattle.mime_base.specs.Database.PlainPairs.{are_distinct_pairs, have_distinct_names, is_same_pair}
@@ -15,12 +14,6 @@ use Rattle.mime_text.proofs.Merges.Filters.{filter-all, filter-filter, filter-ma
 use Rattle.mime_text.specs.Merging.{has_same_key, has_same_name, marks, once, picked}
 
 -- ---- keys
-
--- two keys that are the same are equal
-pub same_is : (left right : List ℕ × List ℕ) → is_same_pair left right ≡ true → left ≡ right
-same_is left right same =
-    let parts = and_parts (bytes_eq left.0 right.0) (bytes_eq left.1 right.1) same in
-    ap₂ (λ x y. (x, y)) ((bytes_eq-Decides left.0 right.0).0 parts.0) ((bytes_eq-Decides left.1 right.1).0 parts.1)
 
 -- whichever comes first
 same_both_ways : (left right : List ℕ × List ℕ) → is_same_pair left right ≡ is_same_pair right left
