@@ -1,8 +1,8 @@
 //! The files and the streams of the system, of which nothing is known. This project's own.
 
-ghost use Rattle.std.specs.Prelude.{◌≡◌, ◌≢◌, ◌+◌, ◌^◌, ◌<◌, ◌≤◌, None, [], IfOk, IfSome, OnOk, length, take, drop};
+ghost use Rattle.std.specs.Prelude.{◌≡◌, ◌≢◌, ◌≤◌, None, [], IfOk, IfSome, OnOk, length};
 ghost use Rattle.std.specs.IoError.{error_kind};
-ghost use Rattle.std.specs.Io.KnownBytes.{Appends, Consumes, IsAtEnd, Keeps, ReadConsumes};
+ghost use Rattle.std.specs.Io.KnownBytes.{Appends, Keeps, ReadConsumes};
 ghost use Rattle.mime_tool.specs.Files.{fault_of};
 ghost use Rattle.mime_tool.specs.Sink.{IsPut};
 
@@ -10,7 +10,7 @@ use crate::files::{FileFault, Files, Inode};
 use crate::sink::{Sink, SinkFault};
 use mime_base::OutOfMemory;
 use mime_lookup::Untold;
-use std::alloc::{AllocError, Global};
+use std::alloc::Global;
 use std::fs::{File, Metadata, OpenFile, Permissions};
 use std::io::{ErrorKind, Read, Write};
 use std::os::unix::fs::FileTypeExt;
@@ -274,7 +274,7 @@ fn remove_left<R: rt::Files>(rt: &R, path: &str) -> io::Result<()> {
 }
 
 // All the bytes of an open file that says that it has `size`, at most `limit`. One that says that it is longer isn't read; for
-// any other, room is made at once, with one byte more, which no read fills.
+// any other, room is made at once.
 fn read_open<F: Read>(
     alloc: Global,
     limit: usize,
@@ -287,7 +287,7 @@ fn read_open<F: Read>(
     if size > limit as u64 {
         return Err(FileFault::Failed);
     }
-    read_sized(alloc, (size as usize).saturating_add(1), limit, file)
+    read_sized(alloc, size as usize, limit, file)
 }
 
 /// All the bytes that a reader still gives, at most `limit`.
@@ -303,7 +303,7 @@ pub fn read_whole<R: Read>(alloc: Global, limit: usize, file: &mut R) -> Result<
     read_sized(alloc, 0, limit, file)
 }
 
-// The same, with room for so many bytes to begin with. They are read to where they stay.
+// The same, with room for so many bytes to begin with.
 fn read_sized<R: Read>(
     alloc: Global,
     room: usize,
@@ -313,77 +313,20 @@ fn read_sized<R: Read>(
     ensures bytes { IfOk result (λ v. IfSome (R.remaining file.old) (λ xs. v.items ≡ xs)) }
     ensures limited { IfOk result (λ v. length v.items ≤ limit) }
 {
-    let mut bytes = Vec::new(alloc);
-    let mut filled = 0;
+    let mut bytes = Vec::with_capacity(alloc, room)?;
+    let mut block = [0u8; BLOCK];
     let mut retries = RETRIES;
     for _ in 0..u64::MAX {
-        let count = read_more(file, &mut bytes, filled, room, &mut retries)?;
+        let count = read_block(file, &mut block, &mut retries)?;
         if count == 0 {
-            bytes.truncate(filled);
             return Ok(bytes);
         }
-        filled += count;
-        if filled > limit {
+        if count > limit - bytes.len() {
             return Err(FileFault::Failed);
         }
+        bytes.extend_from_slice(&block[..count])?;
     }
     Err(FileFault::Failed)
-}
-
-// One read behind the bytes that are filled, where room is made for it. Gives how many bytes came.
-fn read_more<R: Read>(
-    file: &mut R,
-    bytes: &mut Vec<u8>,
-    filled: usize,
-    room: usize,
-    retries: &mut u32,
-) -> Result<usize, FileFault>
-    requires { filled ≤ length bytes.old.items }
-    ensures front { OnOk result (take filled bytes.new.items ≡ take filled bytes.old.items) }
-    ensures fits { IfOk result (λ n. filled + n ≤ length bytes.new.items) }
-    ensures read { IfOk result (λ n. Consumes (R.remaining file.old) (R.remaining file.new) (take n (drop filled bytes.new.items))) }
-    ensures end { IfOk result (λ n. n ≡ 0 → IsAtEnd (R.remaining file.new)) }
-{
-    make_room(bytes, filled, room)?;
-    read_behind(file, bytes.as_mut_slice(), filled, retries)
-}
-
-// Makes the bytes more than those that are filled, by zeros: as many as there is to be room for, and later a block more.
-fn make_room(bytes: &mut Vec<u8>, filled: usize, room: usize) -> Result<(), AllocError>
-    requires { filled ≤ length bytes.old.items }
-    ensures front { OnOk result (take filled bytes.new.items ≡ take filled bytes.old.items) }
-    ensures more { OnOk result (filled < length bytes.new.items) }
-{
-    if filled < bytes.len() {
-        return Ok(());
-    }
-    bytes.resize(end_of(filled, room), 0)?;
-    Ok(())
-}
-
-// Up to where there is room for bytes behind those that are filled.
-fn end_of(filled: usize, room: usize) -> usize
-    requires { filled < 2 ^ 63 }
-    ensures { filled < result }
-{
-    if filled < room { room } else { filled + BLOCK }
-}
-
-// One read behind the bytes that are filled.
-fn read_behind<R: Read>(
-    file: &mut R,
-    bytes: &mut [u8],
-    filled: usize,
-    retries: &mut u32,
-) -> Result<usize, FileFault>
-    requires { filled < length bytes.old }
-    ensures front { OnOk result (take filled bytes.new ≡ take filled bytes.old) }
-    ensures fits { IfOk result (λ n. filled + n ≤ length bytes.new) }
-    ensures read { IfOk result (λ n. Consumes (R.remaining file.old) (R.remaining file.new) (take n (drop filled bytes.new))) }
-    ensures end { IfOk result (λ n. n ≡ 0 → IsAtEnd (R.remaining file.new)) }
-{
-    let count = read_block(file, &mut bytes[filled..], retries)?;
-    Ok(count)
 }
 
 // One read, tried again while it is interrupted and retries are left. Gives how many bytes came.

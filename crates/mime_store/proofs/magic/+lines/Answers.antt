@@ -32,8 +32,13 @@ write_lines-loop-line-preserved t c =
       gathered = rw c.in_ok-extend_from_slice.ensures.ok (gather_push plain_matchlet IsLineRecord 8 _ _ _ _ _
           c.args.lines.now _ _ c.loop-line-test.true c.line-item.is c.in_ok-record.ensures.grew
           c.loop-line.invariant.gathered c.in_ok-record.ensures.row);
-      count = omega (arith, ap length c.in_ok-extend_from_slice.ensures.ok, length-append c.loop-line.records.items c.in_ok-record.record,
-          c.in_ok-record.ensures.row.long, c.loop-line.invariant.count);
+      count = omega (
+        arith,
+        ap length c.in_ok-extend_from_slice.ensures.ok,
+        length-append c.loop-line.records.items c.in_ok-record.record,
+        c.in_ok-record.ensures.row.long,
+        c.loop-line.invariant.count,
+      );
     }
 
 pub write_lines-append_numbers-requires-clause-room : goal.write_lines-append_numbers-requires-clause-room
