@@ -2,6 +2,407 @@
 
 	.text
 	.p2align	4
+	.type	"smallvec::small_vec::SmallVec::extend_from_slice::<#8f588e0f66f62309>",@function
+"smallvec::small_vec::SmallVec::extend_from_slice::<#8f588e0f66f62309>":
+	pushq	%rbp
+	pushq	%r15
+	pushq	%r14
+	pushq	%r13
+	pushq	%r12
+	pushq	%rbx
+	subq	$88, %rsp
+	movq	%rdi, %rbx
+	movzbl	(%rdi), %edi
+	xorl	%eax, %eax
+	testb	%dil, %dil
+	sete	%al
+	movq	16(%rbx,%rax,8), %r8
+	je	1f
+	movq	24(%rbx), %rax
+	subq	%r8, %rax
+	cmpq	%rax, %rdx
+	ja	2f
+	jmp	23f
+1:
+	movl	$4, %eax
+	subq	%r8, %rax
+	cmpq	%rax, %rdx
+	jbe	23f
+2:
+	movq	%rdx, %rax
+	notq	%rax
+	leaq	(%r8,%rdx), %rcx
+	xorl	%r9d, %r9d
+	cmpq	%rax, %r8
+	cmovbeq	%rcx, %r9
+	seta	%cl
+	movabsq	$-9223372036854775808, %rax
+	cmpq	%rax, %r9
+	seta	%r10b
+	movb	$1, %al
+	orb	%cl, %r10b
+	jne	32f
+	cmpq	$2, %r9
+	jae	3f
+	cmpq	$1, %r8
+	jbe	4f
+	jmp	23f
+3:
+	leaq	-1(%r9), %r10
+	movl	$127, %ecx
+	bsrq	%r10, %rcx
+	xorq	$-64, %rcx
+	addq	$65, %rcx
+	movl	$1, %r13d
+	shlq	%cl, %r13
+	movq	%r13, %r14
+	subq	%r8, %r14
+	jb	23f
+	cmpq	$4, %r9
+	ja	5f
+4:
+	cmpb	$1, %dil
+	jne	23f
+	movq	8(%rbx), %rdi
+	movq	16(%rbx), %rcx
+	movq	24(%rbx), %rax
+	leaq	12(%rsp), %r8
+	movq	%r8, 8(%rbx)
+	xorps	%xmm0, %xmm0
+	movups	%xmm0, 16(%rbx)
+	movaps	%xmm0, 16(%rsp)
+	movq	$0, 32(%rsp)
+	testq	%rcx, %rcx
+	je	9f
+	cmpq	$1, %rcx
+	jne	6f
+	xorl	%r8d, %r8d
+	jmp	8f
+5:
+	leaq	8(%rbx), %r15
+	testb	%dil, %dil
+	je	11f
+	movq	24(%rbx), %rcx
+	cmpq	%rcx, %r13
+	jae	16f
+	movq	16(%rbx), %rax
+	cmpq	%r13, %rax
+	cmovaq	%rax, %r13
+	cmpq	%rcx, %rax
+	jae	23f
+	movq	(%r15), %rdi
+	shlq	$2, %rax
+	leaq	(,%r13,4), %r8
+	movl	$4, %ecx
+	movq	%rsi, %r15
+	movq	%rax, %rsi
+	movq	%rdx, %r14
+	movq	%r8, %rdx
+	callq	rattle_realloc@PLT
+	movq	%r15, %rsi
+	movq	%rdx, %rcx
+	movq	%r14, %rdx
+	testb	$1, %al
+	je	23f
+	movq	%rcx, 8(%rbx)
+	movq	%r13, 24(%rbx)
+	jmp	23f
+6:
+	movq	%rcx, %r9
+	andq	$-2, %r9
+	xorl	%r8d, %r8d
+	.p2align	4
+7:
+	leaq	1(%r8), %r10
+	movl	(%rdi,%r8,4), %r11d
+	movl	%r11d, 16(%rsp,%r8,4)
+	movq	%r10, 32(%rsp)
+	movl	4(%rdi,%r8,4), %r10d
+	movl	%r10d, 20(%rsp,%r8,4)
+	addq	$2, %r8
+	movq	%r8, 32(%rsp)
+	cmpq	%r8, %r9
+	jne	7b
+	testb	$1, %cl
+	je	9f
+8:
+	leaq	1(%r8), %rcx
+	movl	(%rdi,%r8,4), %r9d
+	movl	%r9d, 16(%rsp,%r8,4)
+	movq	%rcx, 32(%rsp)
+9:
+	leaq	8(%rbx), %r14
+	testq	%rax, %rax
+	je	10f
+	movq	%rdx, %r15
+	movq	%rsi, %r12
+	callq	rattle_dealloc@PLT
+	movq	%r12, %rsi
+	movq	%r15, %rdx
+	movq	8(%rbx), %rdi
+	movq	24(%rbx), %rax
+	cmpb	$0, (%rbx)
+	movq	32(%rsp), %rcx
+	movq	%rcx, 64(%rsp)
+	movaps	16(%rsp), %xmm0
+	movaps	%xmm0, 48(%rsp)
+	movq	$0, (%rbx)
+	movq	64(%rsp), %rcx
+	movq	%rcx, 16(%r14)
+	movaps	48(%rsp), %xmm0
+	movups	%xmm0, (%r14)
+	je	23f
+	testq	%rax, %rax
+	je	23f
+	callq	rattle_dealloc@PLT
+	movq	%r12, %rsi
+	movq	%r15, %rdx
+	jmp	23f
+10:
+	movq	32(%rsp), %rax
+	movq	%rax, 64(%rsp)
+	movaps	16(%rsp), %xmm0
+	movaps	%xmm0, 48(%rsp)
+	movq	$0, (%rbx)
+	movq	64(%rsp), %rax
+	movq	%rax, 16(%r14)
+	movaps	48(%rsp), %xmm0
+	movups	%xmm0, (%r14)
+	jmp	23f
+11:
+	movabsq	$1152921504606846976, %rdi
+	cmpq	%rdi, %r9
+	ja	32f
+	movq	%rsi, %rbp
+	movq	%rdx, 80(%rsp)
+	movl	$4, %edi
+	shlq	%cl, %rdi
+	movl	$4, %esi
+	callq	rattle_alloc@PLT
+	movq	%rax, %rcx
+	movb	$1, %al
+	testb	$1, %cl
+	je	32f
+	movq	%rdx, %r12
+	movq	24(%rbx), %r14
+	movq	%r15, %rdi
+	movq	%r14, %rsi
+	movq	%r14, %rdx
+	callq	"arrayvec::array_vec::move_to_end::<i32>"
+	testq	%r14, %r14
+	movq	%rbp, %rsi
+	je	19f
+	cmpq	$12, %r14
+	jb	12f
+	leaq	(%r12,%r14,4), %rax
+	cmpq	%rax, %r15
+	jae	17f
+	leaq	(%rbx,%r14,4), %rax
+	addq	$8, %rax
+	cmpq	%r12, %rax
+	jbe	17f
+12:
+	xorl	%eax, %eax
+13:
+	movq	%rax, %rcx
+	orq	$1, %rcx
+	testb	$1, %r14b
+	je	14f
+	movl	(%r15,%rax,4), %edx
+	movl	$0, (%r15,%rax,4)
+	movl	%edx, (%r12,%rax,4)
+	movq	%rcx, %rax
+14:
+	cmpq	%rcx, %r14
+	je	19f
+15:
+	movl	8(%rbx,%rax,4), %ecx
+	movl	$0, 8(%rbx,%rax,4)
+	movl	%ecx, (%r12,%rax,4)
+	movl	12(%rbx,%rax,4), %ecx
+	movl	$0, 12(%rbx,%rax,4)
+	movl	%ecx, 4(%r12,%rax,4)
+	addq	$2, %rax
+	cmpq	%rax, %r14
+	jne	15b
+	jmp	19f
+16:
+	movq	16(%rbx), %r8
+	movq	%rcx, %rdi
+	subq	%r8, %rdi
+	cmpq	%rdi, %r14
+	jbe	23f
+	addq	%r8, %r14
+	jb	32f
+	movq	%r14, %rdi
+	shrq	$61, %rdi
+	jne	32f
+	movq	%rsi, %r13
+	movq	%rdx, %r12
+	testq	%rcx, %rcx
+	je	21f
+	movq	(%r15), %rdi
+	shlq	$2, %r8
+	leaq	(,%r14,4), %rdx
+	movl	$4, %ecx
+	movq	%r8, %rsi
+	callq	rattle_realloc@PLT
+	jmp	22f
+17:
+	movq	%r14, %rax
+	andq	$-8, %rax
+	xorl	%ecx, %ecx
+18:
+	movups	8(%rbx,%rcx,4), %xmm0
+	movups	24(%rbx,%rcx,4), %xmm1
+	xorps	%xmm2, %xmm2
+	movups	%xmm2, 8(%rbx,%rcx,4)
+	movups	%xmm2, 24(%rbx,%rcx,4)
+	movups	%xmm0, (%r12,%rcx,4)
+	movups	%xmm1, 16(%r12,%rcx,4)
+	addq	$8, %rcx
+	cmpq	%rcx, %rax
+	jne	18b
+	cmpq	%rax, %r14
+	jne	13b
+19:
+	movq	24(%rbx), %rdx
+	testq	%rdx, %rdx
+	je	20f
+	shlq	$2, %rdx
+	movq	%r15, %rdi
+	xorl	%esi, %esi
+	callq	memset@PLT
+	movq	%rbp, %rsi
+20:
+	movq	$1, (%rbx)
+	movq	%r12, 8(%rbx)
+	movq	%r14, 16(%rbx)
+	movq	%r13, 24(%rbx)
+	movq	80(%rsp), %rdx
+	jmp	24f
+21:
+	leaq	(,%r14,4), %rdi
+	movl	$4, %esi
+	callq	rattle_alloc@PLT
+22:
+	testb	$1, %al
+	movb	$1, %al
+	je	32f
+	movq	%r13, %rsi
+	movq	%rdx, 8(%rbx)
+	movq	%r14, 24(%rbx)
+	movq	%r12, %rdx
+23:
+	cmpb	$0, (%rbx)
+	movq	24(%rbx), %r13
+	je	26f
+	movq	16(%rbx), %r14
+24:
+	movq	%r13, %rax
+	subq	%r14, %rax
+	cmpq	%rax, %rdx
+	ja	33f
+25:
+	leaq	16(%rbx), %rax
+	movq	8(%rbx), %r15
+	xorps	%xmm0, %xmm0
+	movups	%xmm0, (%rax)
+	leaq	(%r15,%r14,4), %rdi
+	addq	%rdx, %r14
+	leaq	(,%rdx,4), %rax
+	movq	%rdi, %rcx
+	subq	%rsi, %rcx
+	cmpq	%rax, %rcx
+	jae	28f
+	movl	(%rsi), %eax
+	movl	%eax, (%rdi)
+	cmpq	$1, %rdx
+	je	29f
+	movl	4(%rsi), %eax
+	movl	%eax, 4(%rdi)
+	cmpq	$2, %rdx
+	je	29f
+	movl	8(%rsi), %eax
+	movl	%eax, 8(%rdi)
+	cmpq	$3, %rdx
+	je	29f
+	movl	12(%rsi), %eax
+	movl	%eax, 12(%rdi)
+	jmp	29f
+26:
+	movl	$4, %eax
+	subq	%r13, %rax
+	cmpq	%rdx, %rax
+	jb	34f
+	leaq	(%rbx,%r13,4), %rdi
+	addq	$8, %rdi
+	leaq	(,%rdx,4), %rax
+	movq	%rdi, %rcx
+	subq	%rsi, %rcx
+	cmpq	%rax, %rcx
+	jae	30f
+	movl	(%rsi), %eax
+	movl	%eax, (%rdi)
+	cmpq	$1, %rdx
+	je	27f
+	movl	4(%rsi), %eax
+	movl	%eax, 4(%rdi)
+	cmpq	$2, %rdx
+	je	27f
+	movl	8(%rsi), %eax
+	movl	%eax, 8(%rdi)
+	cmpq	$3, %rdx
+	je	27f
+	movl	12(%rsi), %eax
+	movl	%eax, 12(%rdi)
+27:
+	addq	%rdx, %r13
+	jmp	31f
+28:
+	movq	%rax, %rdx
+	callq	memmove@PLT
+29:
+	movq	%r15, 8(%rbx)
+	movq	%r14, 16(%rbx)
+	jmp	31f
+30:
+	movq	%rdx, %r14
+	movq	%rax, %rdx
+	callq	memmove@PLT
+	addq	%r14, %r13
+31:
+	movq	%r13, 24(%rbx)
+	xorl	%eax, %eax
+32:
+	addq	$88, %rsp
+	popq	%rbx
+	popq	%r12
+	popq	%r13
+	popq	%r14
+	popq	%r15
+	popq	%rbp
+	retq
+33:
+	movq	%rsi, %r15
+	leaq	8(%rbx), %rdi
+	movq	%rdx, %r12
+	movq	%rdx, %rsi
+	callq	"std_alloc::vec::Vec::grow_amortized::<#6f4ec3444080bcc6>"
+	testb	%al, %al
+	je	34f
+	movq	16(%rbx), %r14
+	movq	24(%rbx), %r13
+	movq	%r12, %rdx
+	movq	%r15, %rsi
+	jmp	25b
+34:
+	ud2
+35:
+	.size	"smallvec::small_vec::SmallVec::extend_from_slice::<#8f588e0f66f62309>", 35b-"smallvec::small_vec::SmallVec::extend_from_slice::<#8f588e0f66f62309>"
+
+	.text
+	.p2align	4
 	.type	"smallvec::small_vec::SmallVec::from_slice::<#2ed0ce7c3eafb947>",@function
 "smallvec::small_vec::SmallVec::from_slice::<#2ed0ce7c3eafb947>":
 	pushq	%r15
@@ -335,9 +736,10 @@
 2:
 	pushq	%r15
 	pushq	%r14
+	pushq	%r13
 	pushq	%r12
 	pushq	%rbx
-	subq	$72, %rsp
+	subq	$80, %rsp
 	cmpq	%rsi, %rax
 	jne	10f
 	movb	$1, %al
@@ -346,10 +748,10 @@
 	je	3f
 	bsrq	%rsi, %rcx
 	incq	%rcx
-	movl	$1, %r14d
-	shlq	%cl, %r14
-	movq	%r14, %r15
-	subq	%rsi, %r15
+	movl	$1, %r12d
+	shlq	%cl, %r12
+	movq	%r12, %r14
+	subq	%rsi, %r14
 	jb	10f
 	cmpq	$3, %rsi
 	ja	4f
@@ -376,23 +778,23 @@
 	testb	%dl, %dl
 	je	12f
 	movq	24(%rdi), %rcx
-	cmpq	%rcx, %r14
+	cmpq	%rcx, %r12
 	jae	17f
 	movq	16(%rdi), %rsi
-	cmpq	%r14, %rsi
-	cmovaq	%rsi, %r14
+	cmpq	%r12, %rsi
+	cmovaq	%rsi, %r12
 	cmpq	%rcx, %rsi
 	jae	10f
-	movq	%rdi, %r15
+	movq	%rdi, %r14
 	movq	(%rbx), %rdi
 	shlq	$2, %rsi
-	leaq	(,%r14,4), %rdx
+	leaq	(,%r12,4), %rdx
 	movl	$4, %ecx
 	callq	rattle_realloc@PLT
 	testb	$1, %al
 	je	10f
-	movq	%rdx, 8(%r15)
-	movq	%r14, 24(%r15)
+	movq	%rdx, 8(%r14)
+	movq	%r12, 24(%r14)
 	jmp	10f
 5:
 	movq	%rdx, %r8
@@ -454,16 +856,17 @@
 10:
 	xorl	%eax, %eax
 11:
-	addq	$72, %rsp
+	addq	$80, %rsp
 	popq	%rbx
 	popq	%r12
+	popq	%r13
 	popq	%r14
 	popq	%r15
 	retq
 12:
 	shrq	$60, %rsi
 	jne	11b
-	movq	%rdi, %r15
+	movq	%rdi, %r13
 	movl	$4, %edi
 	shlq	%cl, %rdi
 	movl	$4, %esi
@@ -472,109 +875,111 @@
 	movb	$1, %al
 	testb	$1, %cl
 	je	11b
-	movq	%r15, %rcx
-	movq	24(%r15), %r12
-	testq	%r12, %r12
-	je	21f
-	cmpq	$12, %r12
+	movq	%rdx, %r14
+	movq	24(%r13), %r15
+	movq	%rbx, %rdi
+	movq	%r15, %rsi
+	movq	%r15, %rdx
+	callq	"arrayvec::array_vec::move_to_end::<i32>"
+	movq	%r13, %rax
+	testq	%r15, %r15
+	je	20f
+	cmpq	$12, %r15
 	jb	13f
-	leaq	(%rdx,%r12,4), %rax
-	cmpq	%rax, %rbx
+	leaq	(%r14,%r15,4), %rcx
+	cmpq	%rcx, %rbx
 	jae	18f
-	leaq	(%rcx,%r12,4), %rax
-	addq	$8, %rax
-	cmpq	%rdx, %rax
+	leaq	(%rax,%r15,4), %rcx
+	addq	$8, %rcx
+	cmpq	%r14, %rcx
 	jbe	18f
 13:
-	xorl	%eax, %eax
+	xorl	%ecx, %ecx
 14:
-	movq	%rax, %rsi
-	orq	$1, %rsi
-	testb	$1, %r12b
+	movq	%rcx, %rdx
+	orq	$1, %rdx
+	testb	$1, %r15b
 	je	15f
-	movl	(%rbx,%rax,4), %edi
-	movl	$0, (%rbx,%rax,4)
-	movl	%edi, (%rdx,%rax,4)
-	movq	%rsi, %rax
+	movl	(%rbx,%rcx,4), %esi
+	movl	$0, (%rbx,%rcx,4)
+	movl	%esi, (%r14,%rcx,4)
+	movq	%rdx, %rcx
 15:
-	cmpq	%rsi, %r12
+	cmpq	%rdx, %r15
 	je	20f
 16:
-	movl	8(%rcx,%rax,4), %esi
-	movl	$0, 8(%rcx,%rax,4)
-	movl	%esi, (%rdx,%rax,4)
-	movl	12(%rcx,%rax,4), %esi
-	movl	$0, 12(%rcx,%rax,4)
-	movl	%esi, 4(%rdx,%rax,4)
-	addq	$2, %rax
-	cmpq	%rax, %r12
+	movl	8(%rax,%rcx,4), %edx
+	movl	$0, 8(%rax,%rcx,4)
+	movl	%edx, (%r14,%rcx,4)
+	movl	12(%rax,%rcx,4), %edx
+	movl	$0, 12(%rax,%rcx,4)
+	movl	%edx, 4(%r14,%rcx,4)
+	addq	$2, %rcx
+	cmpq	%rcx, %r15
 	jne	16b
 	jmp	20f
 17:
 	movq	16(%rdi), %rsi
 	movq	%rcx, %rdx
 	subq	%rsi, %rdx
-	cmpq	%rdx, %r15
+	cmpq	%rdx, %r14
 	jbe	10b
-	addq	%rsi, %r15
+	addq	%rsi, %r14
 	jb	11b
-	movq	%r15, %rdx
+	movq	%r14, %rdx
 	shrq	$61, %rdx
 	jne	11b
-	movq	%rdi, %r14
+	movq	%rdi, %r15
 	testq	%rcx, %rcx
 	je	22f
 	movq	(%rbx), %rdi
 	shlq	$2, %rsi
-	leaq	(,%r15,4), %rdx
+	leaq	(,%r14,4), %rdx
 	movl	$4, %ecx
 	callq	rattle_realloc@PLT
 	jmp	23f
 18:
-	movq	%r12, %rax
-	andq	$-8, %rax
-	xorl	%esi, %esi
+	movq	%r15, %rcx
+	andq	$-8, %rcx
+	xorl	%edx, %edx
 19:
-	movups	8(%rcx,%rsi,4), %xmm0
-	movups	24(%rcx,%rsi,4), %xmm1
+	movups	8(%rax,%rdx,4), %xmm0
+	movups	24(%rax,%rdx,4), %xmm1
 	xorps	%xmm2, %xmm2
-	movups	%xmm2, 8(%rcx,%rsi,4)
-	movups	%xmm2, 24(%rcx,%rsi,4)
-	movups	%xmm0, (%rdx,%rsi,4)
-	movups	%xmm1, 16(%rdx,%rsi,4)
-	addq	$8, %rsi
-	cmpq	%rsi, %rax
+	movups	%xmm2, 8(%rax,%rdx,4)
+	movups	%xmm2, 24(%rax,%rdx,4)
+	movups	%xmm0, (%r14,%rdx,4)
+	movups	%xmm1, 16(%r14,%rdx,4)
+	addq	$8, %rdx
+	cmpq	%rdx, %rcx
 	jne	19b
-	cmpq	%rax, %r12
+	cmpq	%rcx, %r15
 	jne	14b
 20:
-	movq	24(%rcx), %rax
-	testq	%rax, %rax
+	movq	24(%rax), %rdx
+	testq	%rdx, %rdx
 	je	21f
-	shlq	$2, %rax
+	shlq	$2, %rdx
 	movq	%rbx, %rdi
 	xorl	%esi, %esi
-	movq	%rdx, %rbx
-	movq	%rax, %rdx
 	callq	memset@PLT
-	movq	%rbx, %rdx
-	movq	%r15, %rcx
+	movq	%r13, %rax
 21:
-	movq	$1, (%rcx)
-	movq	%rdx, 8(%rcx)
-	movq	%r12, 16(%rcx)
-	movq	%r14, 24(%rcx)
+	movq	$1, (%rax)
+	movq	%r14, 8(%rax)
+	movq	%r15, 16(%rax)
+	movq	%r12, 24(%rax)
 	jmp	10b
 22:
-	leaq	(,%r15,4), %rdi
+	leaq	(,%r14,4), %rdi
 	movl	$4, %esi
 	callq	rattle_alloc@PLT
 23:
 	testb	$1, %al
 	movb	$1, %al
 	je	11b
-	movq	%rdx, 8(%r14)
-	movq	%r15, 24(%r14)
+	movq	%rdx, 8(%r15)
+	movq	%r14, 24(%r15)
 	jmp	10b
 24:
 	.size	"smallvec::small_vec::SmallVec::reserve_one::<#bc37e6e66b18402c>", 24b-"smallvec::small_vec::SmallVec::reserve_one::<#bc37e6e66b18402c>"
@@ -859,3 +1264,311 @@
 	jmp	11b
 25:
 	.size	"smallvec::small_vec::SmallVec::reserve_one::<#c56eefbaea896dc3>", 25b-"smallvec::small_vec::SmallVec::reserve_one::<#c56eefbaea896dc3>"
+
+	.section	.text.unlikely,"ax",@progbits
+	.p2align	4
+	.type	"smallvec::small_vec::SmallVec::reserve_one::<#eefa06e28924e2ee>",@function
+"smallvec::small_vec::SmallVec::reserve_one::<#eefa06e28924e2ee>":
+	movzbl	(%rdi), %edx
+	xorl	%eax, %eax
+	testb	%dl, %dl
+	sete	%al
+	movq	16(%rdi,%rax,8), %rsi
+	je	1f
+	movq	24(%rdi), %rax
+	jmp	2f
+1:
+	movl	$16, %eax
+2:
+	pushq	%r15
+	pushq	%r14
+	pushq	%r12
+	pushq	%rbx
+	subq	$72, %rsp
+	cmpq	%rsi, %rax
+	jne	11f
+	movb	$1, %al
+	testq	%rsi, %rsi
+	js	12f
+	je	3f
+	bsrq	%rsi, %r8
+	xorq	$63, %r8
+	movl	%r8d, %ecx
+	negb	%cl
+	movl	$1, %ebx
+	shlq	%cl, %rbx
+	movq	%rbx, %r15
+	subq	%rsi, %r15
+	jb	11f
+	cmpq	$15, %rsi
+	ja	4f
+3:
+	cmpb	$1, %dl
+	jne	11f
+	movq	8(%rdi), %rax
+	movq	16(%rdi), %r8
+	movq	24(%rdi), %rcx
+	leaq	15(%rsp), %rdx
+	movq	%rdx, 8(%rdi)
+	xorps	%xmm0, %xmm0
+	movups	%xmm0, 16(%rdi)
+	movaps	%xmm0, 16(%rsp)
+	movq	$0, 32(%rsp)
+	testq	%r8, %r8
+	je	9f
+	movl	%r8d, %edx
+	andl	$3, %edx
+	cmpq	$4, %r8
+	jae	5f
+	xorl	%esi, %esi
+	jmp	7f
+4:
+	leaq	8(%rdi), %r14
+	testb	%dl, %dl
+	je	13f
+	movq	24(%rdi), %rcx
+	cmpq	%rcx, %rbx
+	jae	21f
+	movq	16(%rdi), %rsi
+	cmpq	%rbx, %rsi
+	cmovaq	%rsi, %rbx
+	cmpq	%rcx, %rsi
+	jae	11f
+	movq	%rdi, %r15
+	movq	(%r14), %rdi
+	movl	$1, %ecx
+	movq	%rbx, %rdx
+	callq	rattle_realloc@PLT
+	testb	$1, %al
+	je	11f
+	movq	%rdx, 8(%r15)
+	movq	%rbx, 24(%r15)
+	jmp	11f
+5:
+	andq	$-4, %r8
+	negq	%r8
+	movl	$2, %esi
+	.p2align	4
+6:
+	leaq	-1(%rsi), %r9
+	movzbl	-2(%rax,%rsi), %r10d
+	movb	%r10b, 14(%rsp,%rsi)
+	movq	%r9, 32(%rsp)
+	movzbl	-1(%rax,%rsi), %r9d
+	movb	%r9b, 15(%rsp,%rsi)
+	movq	%rsi, 32(%rsp)
+	leaq	1(%rsi), %r9
+	movzbl	(%rax,%rsi), %r10d
+	movb	%r10b, 16(%rsp,%rsi)
+	movq	%r9, 32(%rsp)
+	leaq	2(%rsi), %r9
+	movzbl	1(%rax,%rsi), %r10d
+	movb	%r10b, 17(%rsp,%rsi)
+	movq	%r9, 32(%rsp)
+	leaq	(%r8,%rsi), %r9
+	addq	$4, %r9
+	addq	$4, %rsi
+	cmpq	$2, %r9
+	jne	6b
+	testq	%rdx, %rdx
+	je	9f
+	addq	$-2, %rsi
+7:
+	incq	%rsi
+	.p2align	4
+8:
+	movzbl	-1(%rax,%rsi), %r8d
+	movb	%r8b, 15(%rsp,%rsi)
+	movq	%rsi, 32(%rsp)
+	incq	%rsi
+	decq	%rdx
+	jne	8b
+9:
+	leaq	8(%rdi), %rbx
+	testq	%rcx, %rcx
+	je	10f
+	movq	%rdi, %r14
+	movq	%rax, %rdi
+	callq	rattle_dealloc@PLT
+	movq	8(%r14), %rdi
+	movq	24(%r14), %rax
+	cmpb	$0, (%r14)
+	movq	32(%rsp), %rcx
+	movq	%rcx, 64(%rsp)
+	movaps	16(%rsp), %xmm0
+	movaps	%xmm0, 48(%rsp)
+	movq	$0, (%r14)
+	movq	64(%rsp), %rcx
+	movq	%rcx, 16(%rbx)
+	movaps	48(%rsp), %xmm0
+	movups	%xmm0, (%rbx)
+	je	11f
+	testq	%rax, %rax
+	je	11f
+	callq	rattle_dealloc@PLT
+	jmp	11f
+10:
+	movq	32(%rsp), %rax
+	movq	%rax, 64(%rsp)
+	movaps	16(%rsp), %xmm0
+	movaps	%xmm0, 48(%rsp)
+	movq	$0, (%rdi)
+	movq	64(%rsp), %rax
+	movq	%rax, 16(%rbx)
+	movaps	48(%rsp), %xmm0
+	movups	%xmm0, (%rbx)
+11:
+	xorl	%eax, %eax
+12:
+	addq	$72, %rsp
+	popq	%rbx
+	popq	%r12
+	popq	%r14
+	popq	%r15
+	retq
+13:
+	cmpl	$1, %r8d
+	je	12b
+	movq	%rdi, %r15
+	movl	$1, %esi
+	movq	%rbx, %rdi
+	callq	rattle_alloc@PLT
+	movq	%rax, %rcx
+	movb	$1, %al
+	testb	$1, %cl
+	je	12b
+	movq	%r15, %rcx
+	movq	24(%r15), %r12
+	testq	%r12, %r12
+	je	20f
+	cmpq	$8, %r12
+	jb	14f
+	leaq	(%rcx,%r12), %rax
+	addq	$8, %rax
+	leaq	(%rdx,%r12), %rsi
+	cmpq	%rsi, %r14
+	setb	%sil
+	cmpq	%rdx, %rax
+	seta	%al
+	testb	%al, %sil
+	je	24f
+14:
+	xorl	%eax, %eax
+15:
+	movq	%r12, %rdi
+	movq	%rax, %rsi
+	andq	$3, %rdi
+	je	17f
+	movq	%rax, %rsi
+16:
+	movzbl	(%r14,%rsi), %r8d
+	movb	$0, (%r14,%rsi)
+	movb	%r8b, (%rdx,%rsi)
+	incq	%rsi
+	decq	%rdi
+	jne	16b
+17:
+	subq	%r12, %rax
+	cmpq	$-4, %rax
+	ja	19f
+18:
+	movzbl	8(%rcx,%rsi), %eax
+	movb	$0, 8(%rcx,%rsi)
+	movb	%al, (%rdx,%rsi)
+	movzbl	9(%rcx,%rsi), %eax
+	movb	$0, 9(%rcx,%rsi)
+	movb	%al, 1(%rdx,%rsi)
+	movzbl	10(%rcx,%rsi), %eax
+	movb	$0, 10(%rcx,%rsi)
+	movb	%al, 2(%rdx,%rsi)
+	movzbl	11(%rcx,%rsi), %eax
+	movb	$0, 11(%rcx,%rsi)
+	movb	%al, 3(%rdx,%rsi)
+	addq	$4, %rsi
+	cmpq	%rsi, %r12
+	jne	18b
+19:
+	movq	24(%rcx), %rax
+	testq	%rax, %rax
+	je	20f
+	movq	%r14, %rdi
+	xorl	%esi, %esi
+	movq	%rdx, %r14
+	movq	%rax, %rdx
+	callq	memset@PLT
+	movq	%r14, %rdx
+	movq	%r15, %rcx
+20:
+	movq	$1, (%rcx)
+	movq	%rdx, 8(%rcx)
+	movq	%r12, 16(%rcx)
+	movq	%rbx, 24(%rcx)
+	jmp	11b
+21:
+	movq	16(%rdi), %rsi
+	movq	%rcx, %rdx
+	subq	%rsi, %rdx
+	cmpq	%rdx, %r15
+	jbe	11b
+	addq	%rsi, %r15
+	jb	12b
+	js	12b
+	movq	%rdi, %rbx
+	testq	%rcx, %rcx
+	je	22f
+	movq	(%r14), %rdi
+	movl	$1, %ecx
+	movq	%r15, %rdx
+	callq	rattle_realloc@PLT
+	jmp	23f
+22:
+	movl	$1, %esi
+	movq	%r15, %rdi
+	callq	rattle_alloc@PLT
+23:
+	testb	$1, %al
+	movb	$1, %al
+	je	12b
+	movq	%rdx, 8(%rbx)
+	movq	%r15, 24(%rbx)
+	jmp	11b
+24:
+	cmpq	$32, %r12
+	jae	25f
+	xorl	%eax, %eax
+	jmp	27f
+25:
+	movq	%r12, %rax
+	andq	$-32, %rax
+	xorl	%esi, %esi
+26:
+	movups	8(%rcx,%rsi), %xmm0
+	movups	24(%rcx,%rsi), %xmm1
+	xorps	%xmm2, %xmm2
+	movups	%xmm2, 8(%rcx,%rsi)
+	movups	%xmm2, 24(%rcx,%rsi)
+	movups	%xmm0, (%rdx,%rsi)
+	movups	%xmm1, 16(%rdx,%rsi)
+	addq	$32, %rsi
+	cmpq	%rsi, %rax
+	jne	26b
+	cmpq	%rax, %r12
+	je	19b
+	testb	$24, %r12b
+	je	15b
+27:
+	movq	%rax, %rsi
+	movq	%r12, %rax
+	andq	$-8, %rax
+28:
+	movq	(%r14,%rsi), %rdi
+	movq	$0, (%r14,%rsi)
+	movq	%rdi, (%rdx,%rsi)
+	addq	$8, %rsi
+	cmpq	%rsi, %rax
+	jne	28b
+	cmpq	%rax, %r12
+	je	19b
+	jmp	15b
+29:
+	.size	"smallvec::small_vec::SmallVec::reserve_one::<#eefa06e28924e2ee>", 29b-"smallvec::small_vec::SmallVec::reserve_one::<#eefa06e28924e2ee>"

@@ -1859,413 +1859,6 @@
 
 	.text
 	.p2align	4
-	.type	"std_collections::btree::node::Node::destroy::<#e72b02972323b5e3>",@function
-"std_collections::btree::node::Node::destroy::<#e72b02972323b5e3>":
-	pushq	%r15
-	pushq	%r14
-	pushq	%rbx
-	subq	$112, %rsp
-	movzwl	(%rdi), %esi
-	movzwl	2(%rdi), %edx
-	xorl	%r8d, %r8d
-	testw	%dx, %dx
-	setne	%r8b
-	leaq	1(%rsi), %r9
-	shll	$4, %r8d
-	leaq	488(%rdi), %rcx
-	leaq	8(%rdi), %rax
-	xorl	%r10d, %r10d
-	testw	%dx, %dx
-	cmovneq	%r9, %r10
-	movq	%rax, 32(%rsp)
-	movq	%rsi, 40(%rsp)
-	movq	$15, 48(%rsp)
-	movq	%rcx, 56(%rsp)
-	movq	%rsi, 64(%rsp)
-	movq	$15, 72(%rsp)
-	movq	%rcx, 80(%rsp)
-	movq	%r10, 88(%rsp)
-	movq	%r8, 96(%rsp)
-	movq	%rdi, 104(%rsp)
-	je	14f
-	testq	%rsi, %rsi
-	jne	7f
-	movq	(%rcx), %rbx
-	cmpq	$257, %rsi
-	jb	13f
-1:
-	leaq	56(%rcx), %rdi
-	xorl	%eax, %eax
-	.p2align	4
-2:
-	xorl	%edx, %edx
-	.p2align	4
-3:
-	movups	-48(%rdi,%rdx,8), %xmm0
-	movups	-32(%rdi,%rdx,8), %xmm1
-	movups	-16(%rdi,%rdx,8), %xmm2
-	movups	(%rdi,%rdx,8), %xmm3
-	movups	%xmm0, -56(%rdi,%rdx,8)
-	movups	%xmm1, -40(%rdi,%rdx,8)
-	movups	%xmm2, -24(%rdi,%rdx,8)
-	movups	%xmm3, -8(%rdi,%rdx,8)
-	addq	$8, %rdx
-	cmpq	$256, %rdx
-	jne	3b
-	addq	$256, %rax
-	movq	%rsi, %rdx
-	subq	%rax, %rdx
-	addq	$2048, %rdi
-	cmpq	$256, %rdx
-	ja	2b
-	cmpq	%rax, %rsi
-	je	5f
-4:
-	leaq	(%rcx,%rax,8), %rdi
-	leaq	(%rcx,%rax,8), %rsi
-	addq	$8, %rsi
-	shlq	$3, %rdx
-	callq	memmove@PLT
-5:
-	movq	%rbx, %rdi
-	callq	"std_collections::btree::node::Node::destroy::<#e72b02972323b5e3>"
-	movq	104(%rsp), %rdi
-	jmp	28f
-	.p2align	4
-6:
-	movq	%r14, 88(%rsp)
-	movq	%r15, 96(%rsp)
-	movq	%rbx, %rdi
-	callq	"std_collections::btree::node::Node::destroy::<#e72b02972323b5e3>"
-	movq	%rsp, %rdi
-	leaq	32(%rsp), %rsi
-	xorl	%edx, %edx
-	callq	"std_alloc::vec::Vec::remove::<#cb26c3583adab773>"
-	decq	64(%rsp)
-	cmpq	$0, 40(%rsp)
-	je	12f
-7:
-	movq	80(%rsp), %rax
-	movq	88(%rsp), %r14
-	movq	(%rax), %rbx
-	decq	%r14
-	cmpq	$257, %r14
-	jb	10f
-	leaq	56(%rax), %rsi
-	xorl	%ecx, %ecx
-	.p2align	4
-8:
-	xorl	%edx, %edx
-	.p2align	4
-9:
-	movups	-48(%rsi,%rdx,8), %xmm0
-	movups	-32(%rsi,%rdx,8), %xmm1
-	movups	-16(%rsi,%rdx,8), %xmm2
-	movups	(%rsi,%rdx,8), %xmm3
-	movups	%xmm0, -56(%rsi,%rdx,8)
-	movups	%xmm1, -40(%rsi,%rdx,8)
-	movups	%xmm2, -24(%rsi,%rdx,8)
-	movups	%xmm3, -8(%rsi,%rdx,8)
-	addq	$8, %rdx
-	cmpq	$256, %rdx
-	jne	9b
-	addq	$256, %rcx
-	movq	%r14, %rdx
-	subq	%rcx, %rdx
-	addq	$2048, %rsi
-	cmpq	$256, %rdx
-	ja	8b
-	movq	96(%rsp), %r15
-	cmpq	%rcx, %r14
-	je	6b
-	jmp	11f
-	.p2align	4
-10:
-	xorl	%ecx, %ecx
-	movq	%r14, %rdx
-	movq	96(%rsp), %r15
-	cmpq	%rcx, %r14
-	je	6b
-11:
-	leaq	(%rax,%rcx,8), %rdi
-	leaq	(%rax,%rcx,8), %rsi
-	addq	$8, %rsi
-	shlq	$3, %rdx
-	callq	memmove@PLT
-	jmp	6b
-12:
-	movq	80(%rsp), %rcx
-	movq	88(%rsp), %rsi
-	decq	%rsi
-	movq	(%rcx), %rbx
-	cmpq	$257, %rsi
-	jae	1b
-13:
-	xorl	%eax, %eax
-	movq	%rsi, %rdx
-	cmpq	%rax, %rsi
-	jne	4b
-	jmp	5b
-14:
-	cmpw	$15, %si
-	jbe	15f
-	movl	%esi, %edx
-	shrl	%edx
-	subq	%rdx, %rsi
-	shlq	$5, %rsi
-	addq	%rax, %rsi
-	movq	%rdi, %rbx
-	movq	%rax, %rdi
-	callq	"core::slice::edits::mirror::<34'(,)::<3'&[](*,i64,),3'&[](*,i64,)>>"
-	movq	%rbx, %rdi
-	jmp	28f
-15:
-	cmpw	$2, %si
-	jb	28f
-	leaq	-2(%rsi), %rdx
-	movq	%rdx, %rcx
-	shrq	%rcx
-	movq	%rsi, %r8
-	decq	%r8
-	je	16f
-	shlq	$5, %r8
-	movups	(%rax), %xmm0
-	movups	16(%rax), %xmm1
-	movaps	%xmm1, 16(%rsp)
-	movaps	%xmm0, (%rsp)
-	movups	(%rax,%r8), %xmm0
-	movups	16(%rax,%r8), %xmm1
-	movups	%xmm0, (%rax)
-	movups	%xmm1, 16(%rax)
-	movaps	(%rsp), %xmm0
-	movaps	16(%rsp), %xmm1
-	movups	%xmm1, 16(%rax,%r8)
-	movups	%xmm0, (%rax,%r8)
-16:
-	testq	%rcx, %rcx
-	je	28f
-	cmpq	$1, %rdx
-	jbe	17f
-	shlq	$5, %rdx
-	movups	40(%rdi), %xmm0
-	movups	56(%rdi), %xmm1
-	movaps	%xmm1, 16(%rsp)
-	movaps	%xmm0, (%rsp)
-	movups	(%rax,%rdx), %xmm0
-	movups	16(%rax,%rdx), %xmm1
-	movups	%xmm0, 40(%rdi)
-	movups	%xmm1, 56(%rdi)
-	movaps	(%rsp), %xmm0
-	movaps	16(%rsp), %xmm1
-	movups	%xmm1, 16(%rax,%rdx)
-	movups	%xmm0, (%rax,%rdx)
-	jmp	18f
-17:
-	testq	%rdx, %rdx
-	jne	18f
-	movups	(%rax), %xmm0
-	movups	16(%rax), %xmm1
-	movaps	%xmm1, 16(%rsp)
-	movaps	%xmm0, (%rsp)
-	movups	40(%rdi), %xmm0
-	movups	56(%rdi), %xmm1
-	movups	%xmm0, (%rax)
-	movups	%xmm1, 16(%rax)
-	movaps	(%rsp), %xmm0
-	movaps	16(%rsp), %xmm1
-	movups	%xmm1, 56(%rdi)
-	movups	%xmm0, 40(%rdi)
-18:
-	cmpq	$1, %rcx
-	je	28f
-	leaq	-3(%rsi), %rdx
-	cmpq	$2, %rdx
-	jbe	19f
-	shlq	$5, %rdx
-	movups	72(%rdi), %xmm0
-	movups	88(%rdi), %xmm1
-	movaps	%xmm1, 16(%rsp)
-	movaps	%xmm0, (%rsp)
-	movups	(%rax,%rdx), %xmm0
-	movups	16(%rax,%rdx), %xmm1
-	movups	%xmm0, 72(%rdi)
-	movups	%xmm1, 88(%rdi)
-	movaps	(%rsp), %xmm0
-	movaps	16(%rsp), %xmm1
-	movups	%xmm1, 16(%rax,%rdx)
-	movups	%xmm0, (%rax,%rdx)
-	jmp	20f
-19:
-	cmpl	$2, %edx
-	je	20f
-	shlq	$5, %rdx
-	movups	(%rax,%rdx), %xmm0
-	movups	16(%rax,%rdx), %xmm1
-	movaps	%xmm1, 16(%rsp)
-	movaps	%xmm0, (%rsp)
-	movups	72(%rdi), %xmm0
-	movups	88(%rdi), %xmm1
-	movups	%xmm0, (%rax,%rdx)
-	movups	%xmm1, 16(%rax,%rdx)
-	movaps	(%rsp), %xmm0
-	movaps	16(%rsp), %xmm1
-	movups	%xmm1, 88(%rdi)
-	movups	%xmm0, 72(%rdi)
-20:
-	cmpq	$2, %rcx
-	je	28f
-	leaq	-4(%rsi), %rdx
-	cmpq	$3, %rdx
-	jbe	21f
-	shlq	$5, %rdx
-	movups	104(%rdi), %xmm0
-	movups	120(%rdi), %xmm1
-	movaps	%xmm1, 16(%rsp)
-	movaps	%xmm0, (%rsp)
-	movups	(%rax,%rdx), %xmm0
-	movups	16(%rax,%rdx), %xmm1
-	movups	%xmm0, 104(%rdi)
-	movups	%xmm1, 120(%rdi)
-	movaps	(%rsp), %xmm0
-	movaps	16(%rsp), %xmm1
-	movups	%xmm1, 16(%rax,%rdx)
-	movups	%xmm0, (%rax,%rdx)
-	jmp	22f
-21:
-	cmpl	$3, %edx
-	je	22f
-	shlq	$5, %rdx
-	movups	(%rax,%rdx), %xmm0
-	movups	16(%rax,%rdx), %xmm1
-	movaps	%xmm1, 16(%rsp)
-	movaps	%xmm0, (%rsp)
-	movups	104(%rdi), %xmm0
-	movups	120(%rdi), %xmm1
-	movups	%xmm0, (%rax,%rdx)
-	movups	%xmm1, 16(%rax,%rdx)
-	movaps	(%rsp), %xmm0
-	movaps	16(%rsp), %xmm1
-	movups	%xmm1, 120(%rdi)
-	movups	%xmm0, 104(%rdi)
-22:
-	cmpq	$3, %rcx
-	je	28f
-	leaq	-5(%rsi), %rdx
-	cmpq	$4, %rdx
-	jbe	23f
-	shlq	$5, %rdx
-	movups	136(%rdi), %xmm0
-	movups	152(%rdi), %xmm1
-	movaps	%xmm1, 16(%rsp)
-	movaps	%xmm0, (%rsp)
-	movups	(%rax,%rdx), %xmm0
-	movups	16(%rax,%rdx), %xmm1
-	movups	%xmm0, 136(%rdi)
-	movups	%xmm1, 152(%rdi)
-	movaps	(%rsp), %xmm0
-	movaps	16(%rsp), %xmm1
-	movups	%xmm1, 16(%rax,%rdx)
-	movups	%xmm0, (%rax,%rdx)
-	jmp	24f
-23:
-	cmpl	$4, %edx
-	je	24f
-	shlq	$5, %rdx
-	movups	(%rax,%rdx), %xmm0
-	movups	16(%rax,%rdx), %xmm1
-	movaps	%xmm1, 16(%rsp)
-	movaps	%xmm0, (%rsp)
-	movups	136(%rdi), %xmm0
-	movups	152(%rdi), %xmm1
-	movups	%xmm0, (%rax,%rdx)
-	movups	%xmm1, 16(%rax,%rdx)
-	movaps	(%rsp), %xmm0
-	movaps	16(%rsp), %xmm1
-	movups	%xmm1, 152(%rdi)
-	movups	%xmm0, 136(%rdi)
-24:
-	cmpq	$4, %rcx
-	je	28f
-	leaq	-6(%rsi), %rdx
-	cmpq	$5, %rdx
-	jbe	25f
-	shlq	$5, %rdx
-	movups	168(%rdi), %xmm0
-	movups	184(%rdi), %xmm1
-	movaps	%xmm1, 16(%rsp)
-	movaps	%xmm0, (%rsp)
-	movups	(%rax,%rdx), %xmm0
-	movups	16(%rax,%rdx), %xmm1
-	movups	%xmm0, 168(%rdi)
-	movups	%xmm1, 184(%rdi)
-	movaps	(%rsp), %xmm0
-	movaps	16(%rsp), %xmm1
-	movups	%xmm1, 16(%rax,%rdx)
-	movups	%xmm0, (%rax,%rdx)
-	jmp	26f
-25:
-	cmpl	$5, %edx
-	je	26f
-	shlq	$5, %rdx
-	movups	(%rax,%rdx), %xmm0
-	movups	16(%rax,%rdx), %xmm1
-	movaps	%xmm1, 16(%rsp)
-	movaps	%xmm0, (%rsp)
-	movups	168(%rdi), %xmm0
-	movups	184(%rdi), %xmm1
-	movups	%xmm0, (%rax,%rdx)
-	movups	%xmm1, 16(%rax,%rdx)
-	movaps	(%rsp), %xmm0
-	movaps	16(%rsp), %xmm1
-	movups	%xmm1, 184(%rdi)
-	movups	%xmm0, 168(%rdi)
-26:
-	cmpq	$5, %rcx
-	je	28f
-	addq	$-7, %rsi
-	cmpq	$6, %rsi
-	jbe	27f
-	shlq	$5, %rsi
-	movups	200(%rdi), %xmm0
-	movups	216(%rdi), %xmm1
-	movaps	%xmm1, 16(%rsp)
-	movaps	%xmm0, (%rsp)
-	movups	(%rax,%rsi), %xmm0
-	movups	16(%rax,%rsi), %xmm1
-	movups	%xmm0, 200(%rdi)
-	movups	%xmm1, 216(%rdi)
-	movaps	(%rsp), %xmm0
-	movaps	16(%rsp), %xmm1
-	movups	%xmm1, 16(%rax,%rsi)
-	movups	%xmm0, (%rax,%rsi)
-	jmp	28f
-27:
-	cmpl	$6, %esi
-	je	28f
-	shlq	$5, %rsi
-	movups	(%rax,%rsi), %xmm0
-	movups	16(%rax,%rsi), %xmm1
-	movaps	%xmm1, 16(%rsp)
-	movaps	%xmm0, (%rsp)
-	movups	200(%rdi), %xmm0
-	movups	216(%rdi), %xmm1
-	movups	%xmm0, (%rax,%rsi)
-	movups	%xmm1, 16(%rax,%rsi)
-	movaps	(%rsp), %xmm0
-	movaps	16(%rsp), %xmm1
-	movups	%xmm1, 216(%rdi)
-	movups	%xmm0, 200(%rdi)
-28:
-	addq	$112, %rsp
-	popq	%rbx
-	popq	%r14
-	popq	%r15
-	jmp	rattle_dealloc@PLT
-29:
-	.size	"std_collections::btree::node::Node::destroy::<#e72b02972323b5e3>", 29b-"std_collections::btree::node::Node::destroy::<#e72b02972323b5e3>"
-
-	.text
-	.p2align	4
 	.type	"std_collections::btree::node::Node::destroy::<#edcdc2349bef7e9b>",@function
 "std_collections::btree::node::Node::destroy::<#edcdc2349bef7e9b>":
 	pushq	%rbp
@@ -2580,3 +2173,489 @@
 	jmp	rattle_dealloc@PLT
 35:
 	.size	"std_collections::btree::node::Node::destroy::<#edcdc2349bef7e9b>", 35b-"std_collections::btree::node::Node::destroy::<#edcdc2349bef7e9b>"
+
+	.text
+	.p2align	4
+	.type	"std_collections::btree::node::Node::destroy::<#ff262cf09b237c33>",@function
+"std_collections::btree::node::Node::destroy::<#ff262cf09b237c33>":
+	pushq	%r15
+	pushq	%r14
+	pushq	%rbx
+	subq	$128, %rsp
+	movzwl	(%rdi), %ecx
+	movzwl	2(%rdi), %edx
+	xorl	%r8d, %r8d
+	testw	%dx, %dx
+	setne	%r8b
+	leaq	1(%rcx), %r9
+	shll	$4, %r8d
+	leaq	608(%rdi), %rsi
+	leaq	8(%rdi), %rax
+	xorl	%r10d, %r10d
+	testw	%dx, %dx
+	cmovneq	%r9, %r10
+	movq	%rax, 48(%rsp)
+	movq	%rcx, 56(%rsp)
+	movq	$15, 64(%rsp)
+	movq	%rsi, 72(%rsp)
+	movq	%rcx, 80(%rsp)
+	movq	$15, 88(%rsp)
+	movq	%rsi, 96(%rsp)
+	movq	%r10, 104(%rsp)
+	movq	%r8, 112(%rsp)
+	movq	%rdi, 120(%rsp)
+	je	14f
+	testq	%rcx, %rcx
+	jne	7f
+	movq	(%rsi), %rbx
+	cmpq	$257, %rcx
+	jb	13f
+1:
+	leaq	56(%rsi), %rdi
+	xorl	%eax, %eax
+	.p2align	4
+2:
+	xorl	%edx, %edx
+	.p2align	4
+3:
+	movups	-48(%rdi,%rdx,8), %xmm0
+	movups	-32(%rdi,%rdx,8), %xmm1
+	movups	-16(%rdi,%rdx,8), %xmm2
+	movups	(%rdi,%rdx,8), %xmm3
+	movups	%xmm0, -56(%rdi,%rdx,8)
+	movups	%xmm1, -40(%rdi,%rdx,8)
+	movups	%xmm2, -24(%rdi,%rdx,8)
+	movups	%xmm3, -8(%rdi,%rdx,8)
+	addq	$8, %rdx
+	cmpq	$256, %rdx
+	jne	3b
+	addq	$256, %rax
+	movq	%rcx, %rdx
+	subq	%rax, %rdx
+	addq	$2048, %rdi
+	cmpq	$256, %rdx
+	ja	2b
+	cmpq	%rax, %rcx
+	je	5f
+4:
+	leaq	(%rsi,%rax,8), %rdi
+	leaq	(%rsi,%rax,8), %rsi
+	addq	$8, %rsi
+	shlq	$3, %rdx
+	callq	memmove@PLT
+5:
+	movq	%rbx, %rdi
+	callq	"std_collections::btree::node::Node::destroy::<#ff262cf09b237c33>"
+	movq	120(%rsp), %rdi
+	jmp	28f
+	.p2align	4
+6:
+	movq	%r14, 104(%rsp)
+	movq	%r15, 112(%rsp)
+	movq	%rbx, %rdi
+	callq	"std_collections::btree::node::Node::destroy::<#ff262cf09b237c33>"
+	movq	%rsp, %rdi
+	leaq	48(%rsp), %rsi
+	xorl	%edx, %edx
+	callq	"std_alloc::vec::Vec::remove::<#21647806b46d5bf1>"
+	decq	80(%rsp)
+	cmpq	$0, 56(%rsp)
+	je	12f
+7:
+	movq	96(%rsp), %rax
+	movq	104(%rsp), %r14
+	movq	(%rax), %rbx
+	decq	%r14
+	cmpq	$257, %r14
+	jb	10f
+	leaq	56(%rax), %rsi
+	xorl	%ecx, %ecx
+	.p2align	4
+8:
+	xorl	%edx, %edx
+	.p2align	4
+9:
+	movups	-48(%rsi,%rdx,8), %xmm0
+	movups	-32(%rsi,%rdx,8), %xmm1
+	movups	-16(%rsi,%rdx,8), %xmm2
+	movups	(%rsi,%rdx,8), %xmm3
+	movups	%xmm0, -56(%rsi,%rdx,8)
+	movups	%xmm1, -40(%rsi,%rdx,8)
+	movups	%xmm2, -24(%rsi,%rdx,8)
+	movups	%xmm3, -8(%rsi,%rdx,8)
+	addq	$8, %rdx
+	cmpq	$256, %rdx
+	jne	9b
+	addq	$256, %rcx
+	movq	%r14, %rdx
+	subq	%rcx, %rdx
+	addq	$2048, %rsi
+	cmpq	$256, %rdx
+	ja	8b
+	movq	112(%rsp), %r15
+	cmpq	%rcx, %r14
+	je	6b
+	jmp	11f
+	.p2align	4
+10:
+	xorl	%ecx, %ecx
+	movq	%r14, %rdx
+	movq	112(%rsp), %r15
+	cmpq	%rcx, %r14
+	je	6b
+11:
+	leaq	(%rax,%rcx,8), %rdi
+	leaq	(%rax,%rcx,8), %rsi
+	addq	$8, %rsi
+	shlq	$3, %rdx
+	callq	memmove@PLT
+	jmp	6b
+12:
+	movq	96(%rsp), %rsi
+	movq	104(%rsp), %rcx
+	decq	%rcx
+	movq	(%rsi), %rbx
+	cmpq	$257, %rcx
+	jae	1b
+13:
+	xorl	%eax, %eax
+	movq	%rcx, %rdx
+	cmpq	%rax, %rcx
+	jne	4b
+	jmp	5b
+14:
+	cmpw	$15, %cx
+	jbe	15f
+	movl	%ecx, %edx
+	shrl	%edx
+	subq	%rdx, %rcx
+	leaq	(%rcx,%rcx,4), %rcx
+	leaq	(%rax,%rcx,8), %rsi
+	movq	%rdi, %rbx
+	movq	%rax, %rdi
+	callq	"core::slice::edits::mirror::<39'(,,)::<i64,3'&[](*,i64,),3'&[](*,i64,)>>"
+	movq	%rbx, %rdi
+	jmp	28f
+15:
+	cmpw	$2, %cx
+	jb	28f
+	leaq	-2(%rcx), %rsi
+	movq	%rsi, %rdx
+	shrq	%rdx
+	movq	%rcx, %r8
+	decq	%r8
+	je	16f
+	leaq	(%r8,%r8,4), %r8
+	movq	32(%rax), %r9
+	movq	%r9, 32(%rsp)
+	movups	(%rax), %xmm0
+	movups	16(%rax), %xmm1
+	movaps	%xmm1, 16(%rsp)
+	movaps	%xmm0, (%rsp)
+	movq	32(%rax,%r8,8), %r9
+	movups	(%rax,%r8,8), %xmm0
+	movups	16(%rax,%r8,8), %xmm1
+	movups	%xmm0, (%rax)
+	movups	%xmm1, 16(%rax)
+	movq	%r9, 32(%rax)
+	movq	32(%rsp), %r9
+	movq	%r9, 32(%rax,%r8,8)
+	movaps	(%rsp), %xmm0
+	movaps	16(%rsp), %xmm1
+	movups	%xmm1, 16(%rax,%r8,8)
+	movups	%xmm0, (%rax,%r8,8)
+16:
+	testq	%rdx, %rdx
+	je	28f
+	cmpq	$1, %rsi
+	jbe	17f
+	leaq	(%rsi,%rsi,4), %rsi
+	movq	80(%rdi), %r8
+	movq	%r8, 32(%rsp)
+	movups	48(%rdi), %xmm0
+	movups	64(%rdi), %xmm1
+	movaps	%xmm1, 16(%rsp)
+	movaps	%xmm0, (%rsp)
+	movq	32(%rax,%rsi,8), %r8
+	movups	(%rax,%rsi,8), %xmm0
+	movups	16(%rax,%rsi,8), %xmm1
+	movups	%xmm0, 48(%rdi)
+	movups	%xmm1, 64(%rdi)
+	movq	%r8, 80(%rdi)
+	movq	32(%rsp), %r8
+	movq	%r8, 32(%rax,%rsi,8)
+	movaps	(%rsp), %xmm0
+	movaps	16(%rsp), %xmm1
+	movups	%xmm1, 16(%rax,%rsi,8)
+	movups	%xmm0, (%rax,%rsi,8)
+	jmp	18f
+17:
+	testq	%rsi, %rsi
+	jne	18f
+	leaq	(%rsi,%rsi,4), %rsi
+	movq	32(%rax,%rsi,8), %r8
+	movq	%r8, 32(%rsp)
+	movups	(%rax,%rsi,8), %xmm0
+	movups	16(%rax,%rsi,8), %xmm1
+	movaps	%xmm1, 16(%rsp)
+	movaps	%xmm0, (%rsp)
+	movq	80(%rdi), %r8
+	movups	48(%rdi), %xmm0
+	movups	64(%rdi), %xmm1
+	movups	%xmm0, (%rax,%rsi,8)
+	movups	%xmm1, 16(%rax,%rsi,8)
+	movq	%r8, 32(%rax,%rsi,8)
+	movq	32(%rsp), %rsi
+	movq	%rsi, 80(%rdi)
+	movaps	(%rsp), %xmm0
+	movaps	16(%rsp), %xmm1
+	movups	%xmm1, 64(%rdi)
+	movups	%xmm0, 48(%rdi)
+18:
+	cmpq	$1, %rdx
+	je	28f
+	leaq	-3(%rcx), %rsi
+	cmpq	$2, %rsi
+	jbe	19f
+	leaq	(%rsi,%rsi,4), %rsi
+	movq	120(%rdi), %r8
+	movq	%r8, 32(%rsp)
+	movups	88(%rdi), %xmm0
+	movups	104(%rdi), %xmm1
+	movaps	%xmm1, 16(%rsp)
+	movaps	%xmm0, (%rsp)
+	movq	32(%rax,%rsi,8), %r8
+	movups	(%rax,%rsi,8), %xmm0
+	movups	16(%rax,%rsi,8), %xmm1
+	movups	%xmm0, 88(%rdi)
+	movups	%xmm1, 104(%rdi)
+	movq	%r8, 120(%rdi)
+	movq	32(%rsp), %r8
+	movq	%r8, 32(%rax,%rsi,8)
+	movaps	(%rsp), %xmm0
+	movaps	16(%rsp), %xmm1
+	movups	%xmm1, 16(%rax,%rsi,8)
+	movups	%xmm0, (%rax,%rsi,8)
+	jmp	20f
+19:
+	cmpl	$2, %esi
+	je	20f
+	leaq	(%rsi,%rsi,4), %rsi
+	movq	32(%rax,%rsi,8), %r8
+	movq	%r8, 32(%rsp)
+	movups	(%rax,%rsi,8), %xmm0
+	movups	16(%rax,%rsi,8), %xmm1
+	movaps	%xmm1, 16(%rsp)
+	movaps	%xmm0, (%rsp)
+	movq	120(%rdi), %r8
+	movups	88(%rdi), %xmm0
+	movups	104(%rdi), %xmm1
+	movups	%xmm0, (%rax,%rsi,8)
+	movups	%xmm1, 16(%rax,%rsi,8)
+	movq	%r8, 32(%rax,%rsi,8)
+	movq	32(%rsp), %rsi
+	movq	%rsi, 120(%rdi)
+	movaps	(%rsp), %xmm0
+	movaps	16(%rsp), %xmm1
+	movups	%xmm1, 104(%rdi)
+	movups	%xmm0, 88(%rdi)
+20:
+	cmpq	$2, %rdx
+	je	28f
+	leaq	-4(%rcx), %rsi
+	cmpq	$3, %rsi
+	jbe	21f
+	leaq	(%rsi,%rsi,4), %rsi
+	movq	160(%rdi), %r8
+	movq	%r8, 32(%rsp)
+	movups	128(%rdi), %xmm0
+	movups	144(%rdi), %xmm1
+	movaps	%xmm1, 16(%rsp)
+	movaps	%xmm0, (%rsp)
+	movq	32(%rax,%rsi,8), %r8
+	movups	(%rax,%rsi,8), %xmm0
+	movups	16(%rax,%rsi,8), %xmm1
+	movups	%xmm0, 128(%rdi)
+	movups	%xmm1, 144(%rdi)
+	movq	%r8, 160(%rdi)
+	movq	32(%rsp), %r8
+	movq	%r8, 32(%rax,%rsi,8)
+	movaps	(%rsp), %xmm0
+	movaps	16(%rsp), %xmm1
+	movups	%xmm1, 16(%rax,%rsi,8)
+	movups	%xmm0, (%rax,%rsi,8)
+	jmp	22f
+21:
+	cmpl	$3, %esi
+	je	22f
+	leaq	(%rsi,%rsi,4), %rsi
+	movq	32(%rax,%rsi,8), %r8
+	movq	%r8, 32(%rsp)
+	movups	(%rax,%rsi,8), %xmm0
+	movups	16(%rax,%rsi,8), %xmm1
+	movaps	%xmm1, 16(%rsp)
+	movaps	%xmm0, (%rsp)
+	movq	160(%rdi), %r8
+	movups	128(%rdi), %xmm0
+	movups	144(%rdi), %xmm1
+	movups	%xmm0, (%rax,%rsi,8)
+	movups	%xmm1, 16(%rax,%rsi,8)
+	movq	%r8, 32(%rax,%rsi,8)
+	movq	32(%rsp), %rsi
+	movq	%rsi, 160(%rdi)
+	movaps	(%rsp), %xmm0
+	movaps	16(%rsp), %xmm1
+	movups	%xmm1, 144(%rdi)
+	movups	%xmm0, 128(%rdi)
+22:
+	cmpq	$3, %rdx
+	je	28f
+	leaq	-5(%rcx), %rsi
+	cmpq	$4, %rsi
+	jbe	23f
+	leaq	(%rsi,%rsi,4), %rsi
+	movq	200(%rdi), %r8
+	movq	%r8, 32(%rsp)
+	movups	168(%rdi), %xmm0
+	movups	184(%rdi), %xmm1
+	movaps	%xmm1, 16(%rsp)
+	movaps	%xmm0, (%rsp)
+	movq	32(%rax,%rsi,8), %r8
+	movups	(%rax,%rsi,8), %xmm0
+	movups	16(%rax,%rsi,8), %xmm1
+	movups	%xmm0, 168(%rdi)
+	movups	%xmm1, 184(%rdi)
+	movq	%r8, 200(%rdi)
+	movq	32(%rsp), %r8
+	movq	%r8, 32(%rax,%rsi,8)
+	movaps	(%rsp), %xmm0
+	movaps	16(%rsp), %xmm1
+	movups	%xmm1, 16(%rax,%rsi,8)
+	movups	%xmm0, (%rax,%rsi,8)
+	jmp	24f
+23:
+	cmpl	$4, %esi
+	je	24f
+	leaq	(%rsi,%rsi,4), %rsi
+	movq	32(%rax,%rsi,8), %r8
+	movq	%r8, 32(%rsp)
+	movups	(%rax,%rsi,8), %xmm0
+	movups	16(%rax,%rsi,8), %xmm1
+	movaps	%xmm1, 16(%rsp)
+	movaps	%xmm0, (%rsp)
+	movq	200(%rdi), %r8
+	movups	168(%rdi), %xmm0
+	movups	184(%rdi), %xmm1
+	movups	%xmm0, (%rax,%rsi,8)
+	movups	%xmm1, 16(%rax,%rsi,8)
+	movq	%r8, 32(%rax,%rsi,8)
+	movq	32(%rsp), %rsi
+	movq	%rsi, 200(%rdi)
+	movaps	(%rsp), %xmm0
+	movaps	16(%rsp), %xmm1
+	movups	%xmm1, 184(%rdi)
+	movups	%xmm0, 168(%rdi)
+24:
+	cmpq	$4, %rdx
+	je	28f
+	leaq	-6(%rcx), %rsi
+	cmpq	$5, %rsi
+	jbe	25f
+	leaq	(%rsi,%rsi,4), %rsi
+	movq	240(%rdi), %r8
+	movq	%r8, 32(%rsp)
+	movups	208(%rdi), %xmm0
+	movups	224(%rdi), %xmm1
+	movaps	%xmm1, 16(%rsp)
+	movaps	%xmm0, (%rsp)
+	movq	32(%rax,%rsi,8), %r8
+	movups	(%rax,%rsi,8), %xmm0
+	movups	16(%rax,%rsi,8), %xmm1
+	movups	%xmm0, 208(%rdi)
+	movups	%xmm1, 224(%rdi)
+	movq	%r8, 240(%rdi)
+	movq	32(%rsp), %r8
+	movq	%r8, 32(%rax,%rsi,8)
+	movaps	(%rsp), %xmm0
+	movaps	16(%rsp), %xmm1
+	movups	%xmm1, 16(%rax,%rsi,8)
+	movups	%xmm0, (%rax,%rsi,8)
+	jmp	26f
+25:
+	cmpl	$5, %esi
+	je	26f
+	leaq	(%rsi,%rsi,4), %rsi
+	movq	32(%rax,%rsi,8), %r8
+	movq	%r8, 32(%rsp)
+	movups	(%rax,%rsi,8), %xmm0
+	movups	16(%rax,%rsi,8), %xmm1
+	movaps	%xmm1, 16(%rsp)
+	movaps	%xmm0, (%rsp)
+	movq	240(%rdi), %r8
+	movups	208(%rdi), %xmm0
+	movups	224(%rdi), %xmm1
+	movups	%xmm0, (%rax,%rsi,8)
+	movups	%xmm1, 16(%rax,%rsi,8)
+	movq	%r8, 32(%rax,%rsi,8)
+	movq	32(%rsp), %rsi
+	movq	%rsi, 240(%rdi)
+	movaps	(%rsp), %xmm0
+	movaps	16(%rsp), %xmm1
+	movups	%xmm1, 224(%rdi)
+	movups	%xmm0, 208(%rdi)
+26:
+	cmpq	$5, %rdx
+	je	28f
+	addq	$-7, %rcx
+	cmpq	$6, %rcx
+	jbe	27f
+	leaq	(%rcx,%rcx,4), %rcx
+	movq	280(%rdi), %rdx
+	movq	%rdx, 32(%rsp)
+	movups	248(%rdi), %xmm0
+	movups	264(%rdi), %xmm1
+	movaps	%xmm1, 16(%rsp)
+	movaps	%xmm0, (%rsp)
+	movq	32(%rax,%rcx,8), %rdx
+	movups	(%rax,%rcx,8), %xmm0
+	movups	16(%rax,%rcx,8), %xmm1
+	movups	%xmm0, 248(%rdi)
+	movups	%xmm1, 264(%rdi)
+	movq	%rdx, 280(%rdi)
+	movq	32(%rsp), %rdx
+	movq	%rdx, 32(%rax,%rcx,8)
+	movaps	(%rsp), %xmm0
+	movaps	16(%rsp), %xmm1
+	movups	%xmm1, 16(%rax,%rcx,8)
+	movups	%xmm0, (%rax,%rcx,8)
+	jmp	28f
+27:
+	cmpl	$6, %ecx
+	je	28f
+	leaq	(%rcx,%rcx,4), %rcx
+	movq	32(%rax,%rcx,8), %rdx
+	movq	%rdx, 32(%rsp)
+	movups	(%rax,%rcx,8), %xmm0
+	movups	16(%rax,%rcx,8), %xmm1
+	movaps	%xmm1, 16(%rsp)
+	movaps	%xmm0, (%rsp)
+	movq	280(%rdi), %rdx
+	movups	248(%rdi), %xmm0
+	movups	264(%rdi), %xmm1
+	movups	%xmm0, (%rax,%rcx,8)
+	movups	%xmm1, 16(%rax,%rcx,8)
+	movq	%rdx, 32(%rax,%rcx,8)
+	movq	32(%rsp), %rax
+	movq	%rax, 280(%rdi)
+	movaps	(%rsp), %xmm0
+	movaps	16(%rsp), %xmm1
+	movups	%xmm1, 264(%rdi)
+	movups	%xmm0, 248(%rdi)
+28:
+	addq	$128, %rsp
+	popq	%rbx
+	popq	%r14
+	popq	%r15
+	jmp	rattle_dealloc@PLT
+29:
+	.size	"std_collections::btree::node::Node::destroy::<#ff262cf09b237c33>", 29b-"std_collections::btree::node::Node::destroy::<#ff262cf09b237c33>"

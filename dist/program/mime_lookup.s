@@ -3313,6 +3313,48 @@
 6:
 	.size	"mime_lookup::content::UntoldContent::read_piece::<13'std::fs::File,17'std::fs::FileRead{}>", 6b-"mime_lookup::content::UntoldContent::read_piece::<13'std::fs::File,17'std::fs::FileRead{}>"
 
+	.section	.rodata.cst16,"aM",@progbits,16
+	.p2align	4, 0x0
+1:
+	.byte	42,42,42,42,42,42,42,42
+	.zero	1
+	.zero	1
+	.zero	1
+	.zero	1
+	.zero	1
+	.zero	1
+	.zero	1
+	.zero	1
+2:
+	.byte	63,63,63,63,63,63,63,63
+	.zero	1
+	.zero	1
+	.zero	1
+	.zero	1
+	.zero	1
+	.zero	1
+	.zero	1
+	.zero	1
+3:
+	.byte	92,92,92,92,92,92,92,92
+	.zero	1
+	.zero	1
+	.zero	1
+	.zero	1
+	.zero	1
+	.zero	1
+	.zero	1
+	.zero	1
+4:
+	.byte	91,91,91,91,91,91,91,91
+	.zero	1
+	.zero	1
+	.zero	1
+	.zero	1
+	.zero	1
+	.zero	1
+	.zero	1
+	.zero	1
 	.text
 	.p2align	4
 	.type	"mime_lookup::kept::kept_kinds",@function
@@ -3327,10 +3369,10 @@
 	movq	%r8, 56(%rsp)
 	movq	%rcx, 160(%rsp)
 	movq	%rdx, 152(%rsp)
-	xorps	%xmm0, %xmm0
-	movups	%xmm0, 127(%rsp)
-	movaps	%xmm0, 112(%rsp)
-	movaps	%xmm0, 16(%rsp)
+	pxor	%xmm0, %xmm0
+	movdqu	%xmm0, 127(%rsp)
+	movdqa	%xmm0, 112(%rsp)
+	movdqa	%xmm0, 16(%rsp)
 	movq	$0, 32(%rsp)
 	movq	(%rsi), %rbx
 	movq	8(%rsi), %rax
@@ -3338,37 +3380,37 @@
 	leaq	8(%rsp), %rcx
 	movq	%rcx, 104(%rsp)
 	movq	%rcx, 72(%rsp)
-	movups	%xmm0, 80(%rsp)
+	movdqu	%xmm0, 80(%rsp)
 	movq	%rax, 144(%rsp)
 	testq	%rax, %rax
-	je	26f
+	je	32f
 	movq	%rsi, 96(%rsp)
 	movq	%rdi, 48(%rsp)
 	xorl	%r13d, %r13d
 	xorl	%ebp, %ebp
-	xorl	%r15d, %r15d
-	jmp	2f
+	xorl	%r14d, %r14d
+	jmp	6f
 	.p2align	4
-1:
-	movl	%r13d, %r14d
-	incq	%r15
-	movl	%r14d, %r13d
-	cmpq	144(%rsp), %r15
-	je	18f
-2:
-	imulq	$88, %r15, %rax
+5:
+	movl	%r13d, %r15d
+	incq	%r14
+	movl	%r15d, %r13d
+	cmpq	144(%rsp), %r14
+	je	24f
+6:
+	imulq	$88, %r14, %rax
 	leaq	(%rbx,%rax), %r12
 	cmpb	$0, 48(%rbx,%rax)
-	leaq	56(%rbx,%rax), %r14
-	je	3f
+	leaq	56(%rbx,%rax), %r15
+	je	7f
 	movq	56(%r12), %rdi
 	leaq	64(%r12), %rax
-	jmp	4f
+	jmp	8f
 	.p2align	4
-3:
+7:
 	leaq	72(%r12), %rax
-	movq	%r14, %rdi
-4:
+	movq	%r15, %rdi
+8:
 	movq	(%rax), %rsi
 	movzbl	80(%r12), %edx
 	movq	152(%rsp), %rcx
@@ -3376,125 +3418,160 @@
 	movq	56(%rsp), %r9
 	callq	"mime_base::matching::glob_matches"
 	testb	%al, %al
-	je	1b
+	je	5b
 	cmpb	$0, 48(%r12)
-	je	5f
-	movq	56(%r12), %r14
+	je	9f
+	movq	56(%r12), %r15
 	leaq	64(%r12), %rax
 	movq	(%rax), %rax
 	movabsq	$1688849862361089, %rcx
 	testq	%rax, %rax
-	jne	6f
-	jmp	8f
-5:
+	jne	10f
+	jmp	14f
+9:
 	leaq	72(%r12), %rax
 	movq	(%rax), %rax
 	movabsq	$1688849862361089, %rcx
 	testq	%rax, %rax
-	je	8f
-6:
-	cmpb	$42, (%r14)
-	jne	8f
+	je	14f
+10:
+	cmpb	$42, (%r15)
+	jne	13f
+	leaq	-1(%rax), %rdx
+	cmpq	$8, %rdx
+	jb	11f
+	movq	1(%r15), %xmm0
+	movdqa	1b(%rip), %xmm1
+	pcmpeqb	%xmm0, %xmm1
+	movdqa	2b(%rip), %xmm2
+	pcmpeqb	%xmm0, %xmm2
+	por	%xmm1, %xmm2
+	movdqa	3b(%rip), %xmm1
+	pcmpeqb	%xmm0, %xmm1
+	pcmpeqb	4b(%rip), %xmm0
+	por	%xmm1, %xmm0
+	por	%xmm2, %xmm0
+	pmovmskb	%xmm0, %edx
+	testb	%dl, %dl
+	jne	16f
+11:
 	movl	$1, %edx
 	.p2align	4
-7:
+12:
 	cmpq	%rdx, %rax
-	je	16f
-	movzbl	(%r14,%rdx), %esi
+	je	22f
+	movzbl	(%r15,%rdx), %esi
 	incq	%rdx
 	addl	$-42, %esi
 	cmpl	$50, %esi
-	ja	7b
+	ja	12b
 	btq	%rsi, %rcx
-	jae	7b
-	jmp	10f
+	jae	12b
+	jmp	16f
+13:
+	cmpq	$8, %rax
+	jb	14f
+	movq	(%r15), %xmm0
+	movdqa	1b(%rip), %xmm1
+	pcmpeqb	%xmm0, %xmm1
+	movdqa	2b(%rip), %xmm2
+	pcmpeqb	%xmm0, %xmm2
+	por	%xmm1, %xmm2
+	movdqa	3b(%rip), %xmm1
+	pcmpeqb	%xmm0, %xmm1
+	pcmpeqb	4b(%rip), %xmm0
+	por	%xmm1, %xmm0
+	por	%xmm2, %xmm0
+	pmovmskb	%xmm0, %edx
+	testb	%dl, %dl
+	jne	16f
 	.p2align	4
-8:
+14:
 	xorl	%edx, %edx
 	.p2align	4
-9:
+15:
 	cmpq	%rdx, %rax
-	je	15f
-	movzbl	(%r14,%rdx), %esi
+	je	21f
+	movzbl	(%r15,%rdx), %esi
 	incq	%rdx
 	addl	$-42, %esi
 	cmpl	$50, %esi
-	ja	9b
+	ja	15b
 	btq	%rsi, %rcx
-	jae	9b
-10:
+	jae	15b
+16:
 	xorl	%ecx, %ecx
-11:
+17:
 	movzbl	(%r12), %edx
 	orl	%ecx, %edx
 	movzbl	80(%r12), %ecx
 	shll	$17, %edx
 	movzwl	%ax, %eax
-	leal	(%rdx,%rax,2), %r14d
-	orl	%ecx, %r14d
-	cmpl	%r13d, %r14d
-	jb	1b
-	jbe	13f
+	leal	(%rdx,%rax,2), %r15d
+	orl	%ecx, %r15d
+	cmpl	%r13d, %r15d
+	jb	5b
+	jbe	19f
 	testq	%rbp, %rbp
-	je	12f
+	je	18f
 	movq	$0, 80(%rsp)
-12:
+18:
 	xorl	%ebp, %ebp
-13:
+19:
 	cmpq	%rbp, 88(%rsp)
-	je	17f
-14:
+	je	23f
+20:
 	movq	104(%rsp), %rax
 	movq	%r12, (%rax,%rbp,8)
 	incq	%rbp
 	movq	%rbp, 80(%rsp)
-	movl	%r14d, 64(%rsp)
-	incq	%r15
-	movl	%r14d, %r13d
-	cmpq	144(%rsp), %r15
-	jne	2b
-	jmp	18f
-15:
+	movl	%r15d, 64(%rsp)
+	incq	%r14
+	movl	%r15d, %r13d
+	cmpq	144(%rsp), %r14
+	jne	6b
+	jmp	24f
+21:
 	movl	$512, %ecx
-	jmp	11b
-16:
+	jmp	17b
+22:
 	movl	$256, %ecx
-	jmp	11b
-17:
+	jmp	17b
+23:
 	leaq	72(%rsp), %rdi
 	callq	"std_alloc::vec::Vec::grow_amortized::<#33f378437a29c276>"
 	testb	%al, %al
-	je	31f
+	je	37f
 	movq	72(%rsp), %rax
 	movq	%rax, 104(%rsp)
 	movq	80(%rsp), %rbp
-	jmp	14b
-18:
+	jmp	20b
+24:
 	movq	72(%rsp), %r15
 	movq	88(%rsp), %rax
 	movq	%rax, 56(%rsp)
 	leaq	8(%rsp), %r12
 	movq	%r12, 16(%rsp)
-	xorps	%xmm0, %xmm0
-	movups	%xmm0, 24(%rsp)
+	pxor	%xmm0, %xmm0
+	movdqu	%xmm0, 24(%rsp)
 	testq	%rbp, %rbp
 	movq	96(%rsp), %rbx
-	je	24f
+	je	30f
 	xorl	%r14d, %r14d
-	jmp	22f
+	jmp	28f
 	.p2align	4
-19:
+25:
 	movq	16(%rax), %rdx
 	addq	$24, %rax
-20:
+26:
 	movq	24(%rbx), %rdi
 	movq	32(%rbx), %rsi
 	movq	(%rax), %rcx
 	callq	"mime_lookup::pairs::unalias"
 	movq	24(%rsp), %rcx
 	cmpq	%rcx, 32(%rsp)
-	je	23f
-21:
+	je	29f
+27:
 	movq	%rcx, %rsi
 	shlq	$4, %rsi
 	movq	%rax, (%r12,%rsi)
@@ -3503,28 +3580,28 @@
 	movq	%rcx, 24(%rsp)
 	incq	%r14
 	cmpq	%r14, %rbp
-	je	24f
-22:
+	je	30f
+28:
 	movq	(%r15,%r14,8), %rax
 	cmpb	$0, 8(%rax)
-	jne	19b
+	jne	25b
 	leaq	16(%rax), %rdx
 	addq	$40, %rax
-	jmp	20b
-23:
+	jmp	26b
+29:
 	movq	%rdx, %r13
 	movq	%rax, %rbx
 	leaq	16(%rsp), %rdi
 	callq	"std_alloc::vec::Vec::grow_amortized::<#25095d740b27081c>"
 	testb	%al, %al
-	je	29f
+	je	35f
 	movq	16(%rsp), %r12
 	movq	24(%rsp), %rcx
 	movq	%rbx, %rax
 	movq	%r13, %rdx
 	movq	96(%rsp), %rbx
-	jmp	21b
-24:
+	jmp	27b
+30:
 	movq	32(%rsp), %rax
 	movq	%rax, 135(%rsp)
 	movq	16(%rsp), %rax
@@ -3533,16 +3610,16 @@
 	movq	%rax, 127(%rsp)
 	leaq	119(%rsp), %r14
 	cmpq	$0, 56(%rsp)
-	je	25f
+	je	31f
 	movq	%r15, %rdi
 	callq	rattle_dealloc@PLT
-25:
+31:
 	movq	48(%rsp), %rdi
-	jmp	27f
-26:
+	jmp	33f
+32:
 	leaq	8(%rsp), %rax
 	movq	%rax, 16(%rsp)
-	movups	%xmm0, 24(%rsp)
+	movdqu	%xmm0, 24(%rsp)
 	leaq	119(%rsp), %r14
 	movq	16(%rsp), %rax
 	movq	%rax, 119(%rsp)
@@ -3550,13 +3627,13 @@
 	movq	%rax, 127(%rsp)
 	movq	32(%rsp), %rax
 	movq	%rax, 135(%rsp)
-27:
+33:
 	movb	$0, (%rdi)
-	movups	(%r14), %xmm0
-	movups	%xmm0, 8(%rdi)
+	movdqu	(%r14), %xmm0
+	movdqu	%xmm0, 8(%rdi)
 	movq	16(%r14), %rax
 	movq	%rax, 24(%rdi)
-28:
+34:
 	addq	$168, %rsp
 	popq	%rbx
 	popq	%r12
@@ -3565,31 +3642,31 @@
 	popq	%r15
 	popq	%rbp
 	retq
-29:
+35:
 	cmpq	$0, 32(%rsp)
-	je	30f
+	je	36f
 	movq	16(%rsp), %rdi
 	callq	rattle_dealloc@PLT
-30:
+36:
 	cmpq	$0, 56(%rsp)
-	je	33f
+	je	39f
 	movq	%r15, %rdi
-	jmp	32f
-31:
+	jmp	38f
+37:
 	cmpq	$0, 88(%rsp)
-	je	33f
+	je	39f
 	movq	72(%rsp), %rdi
-32:
+38:
 	callq	rattle_dealloc@PLT
-33:
+39:
 	movq	48(%rsp), %rax
 	movb	$1, (%rax)
-	xorps	%xmm0, %xmm0
-	movups	%xmm0, 8(%rax)
+	pxor	%xmm0, %xmm0
+	movdqu	%xmm0, 8(%rax)
 	movq	$0, 24(%rax)
-	jmp	28b
-34:
-	.size	"mime_lookup::kept::kept_kinds", 34b-"mime_lookup::kept::kept_kinds"
+	jmp	34b
+40:
+	.size	"mime_lookup::kept::kept_kinds", 40b-"mime_lookup::kept::kept_kinds"
 
 	.text
 	.p2align	4
