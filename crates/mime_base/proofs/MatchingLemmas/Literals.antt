@@ -10,7 +10,7 @@ use Rattle.std.proofs.lemmas.List.Sums.{prefix_len-le-length}
 use lib.Bits.{bit_or}
 use lib.Count.{count_trailing_zeros}
 use Rattle.mime_base.specs.Matching.Count.{has_star}
-use Rattle.mime_base.specs.Matching.Elements.{elements, is_literal_text, is_special}
+use Rattle.mime_base.specs.Matching.Elements.{elements, is_literal_text, is_special, itself_len}
 use Rattle.mime_base.specs.Matching.Folding.{compared, compared_byte}
 use Rattle.mime_base.proofs.CacheLemmas.Eights.{first-place, no-place}
 use Rattle.mime_base.proofs.MatchingLemmas.Endings.{elements-itself}
@@ -52,10 +52,6 @@ lanes-special (suc n) [] long = absurd (omega arith)
 lanes-special (suc n) (x ∷ xs) long =
     rw (special-lane (x == 42) (x == 63) (x == 91) (x == 92), lanes-special n xs (omega arith)) refl
 
--- the front without special bytes
-abbrev pub itself_len : List ℕ → ℕ
-itself_len xs = prefix_len (λ b. not (is_special b)) xs
-
 -- it ends before the first lane that is set
 itself-lanes : (xs : List ℕ) → prefix_len (λ m. not m) (map is_special xs) ≡ itself_len xs
 itself-lanes [] = refl
@@ -95,6 +91,7 @@ literal-front k text none =
 pub itself-found : (text : List ℕ) (places : ℕ) → length (take 8 text) ≡ 8 → places ≡ mask_l (special_lanes 8 (take 8 text)) % 2 ^ 64 →
     0 < places → (is_literal_text (take (count_trailing_zeros 64 places) text) ≡ true) × (count_trailing_zeros 64 places ≤ 8)
     × (count_trailing_zeros 64 places < 8 → is_literal_text text ≡ false)
+    × (count_trailing_zeros 64 places ≡ itself_len (take 8 text))
 itself-found text places long is some =
     let front = take 8 text in
     let lanes = lanes-special 8 front long in
@@ -107,12 +104,13 @@ itself-found text places long is some =
     rw found (
       ap is_literal_text (sym same) ∙ itself-literal front,
       within,
-      λ less. literal-front 8 text (itself-short front (omega (arith, less, long))),
+      (λ less. literal-front 8 text (itself-short front (omega (arith, less, long)))),
+      refl,
     )
 
 -- where none is set, all eight do
 pub itself-all : (text : List ℕ) (places : ℕ) → length (take 8 text) ≡ 8 → places ≡ mask_l (special_lanes 8 (take 8 text)) % 2 ^ 64 →
-    places ≡ 0 → is_literal_text (take 8 text) ≡ true
+    places ≡ 0 → (is_literal_text (take 8 text) ≡ true) × (itself_len (take 8 text) ≡ 8)
 itself-all text places long is none =
     let front = take 8 text in
     let lanes = lanes-special 8 front long in
@@ -120,7 +118,7 @@ itself-all text places long is none =
     let all : itself_len front ≡ 8 =
     sym (itself-lanes front)
     ∙ no-place (map is_special front) places (omega (arith, size, long)) (is ∙ ap (λ ms. mask_l ms % 2 ^ 64) lanes) none ∙ size ∙ long in
-    ap is_literal_text (sym (take_all (itself_len front) front (omega (arith, all, long)))) ∙ itself-literal front
+    (ap is_literal_text (sym (take_all (itself_len front) front (omega (arith, all, long)))) ∙ itself-literal front, all)
 
 -- bytes that stand for themselves are an element each, and none is a star
 pub literal-elements : (cased : Bool) (k : ℕ) (text : List ℕ) → k ≤ length text → is_literal_text (take k text) ≡ true →

@@ -29,6 +29,13 @@ begins_otherwise cased (first ∷ _) (byte ∷ _) = not (is_special first) && no
 begins_otherwise cased (first ∷ _) [] = false
 begins_otherwise cased [] name = false
 
+-- it begins with a byte that stands for itself and is compared as the name's first, and goes on with one that is not
+abbrev pub goes_on_otherwise : Bool → List ℕ → List ℕ → Bool
+goes_on_otherwise cased (first ∷ after) (byte ∷ rest) =
+    (not (is_special first) && agrees cased (first, byte)) && begins_otherwise cased after rest
+goes_on_otherwise cased (first ∷ after) [] = false
+goes_on_otherwise cased [] name = false
+
 -- the byte that a pattern begins with, where it is below the letters and stands for itself
 abbrev pub first_itself : List ℕ → Option ℕ
 first_itself [] = None

@@ -2,7 +2,7 @@
 use Rattle.std.specs.Prelude.{◌≡◌, ◌≢◌, ◌<◌, ℕ, zero, suc, ◌+◌, Bool, true, false, not, ◌&&◌, ◌||◌, ◌==◌, nat_le}
 use Rattle.std.specs.Prelude.{if◌then◌else◌, List, [], ◌∷◌, length, drop, take, slice_index_or, min, position, Option}
 use Rattle.std.specs.Prelude.{Some, None}
-use Rattle.std.specs.List.{list_all}
+use Rattle.std.specs.List.{list_all, prefix_len}
 
 -- an element that takes exactly one byte
 pub data OneByte : Type 0 where
@@ -109,6 +109,10 @@ is_special b = b == 42 || b == 63 || b == 91 || b == 92
 -- a text without special bytes: each of its bytes stands for itself
 abbrev pub is_literal_text : List ℕ → Bool
 is_literal_text text = list_all (λ b. not (is_special b)) text
+
+-- how many bytes at its front do
+abbrev pub itself_len : List ℕ → ℕ
+itself_len text = prefix_len (λ b. not (is_special b)) text
 
 -- none of the last so many bytes is a `]`, by which a set ends
 abbrev pub HasNoEnd : ℕ → List ℕ → Type 0

@@ -1,7 +1,7 @@
 //! How elements go along a name from its front, one byte each.
 
 ghost use Rattle.std.specs.Prelude.{◌≡◌, [], ◌+◌, ◌<◌, ◌≤◌, length, IsTrue};
-ghost use Rattle.mime_base.specs.Matching.Attempt.{answer, Goes, IsShorter, IsStep, last_tests, LeavesNoEnd};
+ghost use Rattle.mime_base.specs.Matching.Attempt.{answer, goes_on_otherwise, Goes, IsShorter, IsStep, last_tests, LeavesNoEnd};
 ghost use Rattle.mime_base.specs.Matching.Elements.{elements, HasNoEnd};
 ghost use Rattle.mime_base.specs.Matching.Folding.{compared};
 
@@ -111,6 +111,8 @@ pub fn refused_second(pattern: &[u8], cased: bool, name: &[u8]) -> bool
     ensures goes { IsTrue result → Goes Halt.Refused 1 (elements (compared cased pattern.now)) (compared cased name.now) [] }
     // Then the pattern has two bytes.
     ensures some { IsTrue result → 2 ≤ length pattern.now }
+    // Exactly then it is refused at its second byte.
+    ensures exact { result ≡ goes_on_otherwise cased pattern.now name.now }
 {
     let Some((first, after)) = pattern.split_first() else {
         return false;

@@ -6,10 +6,10 @@
 //! for a `[` among them no end of a set is sought.
 
 ghost use Rattle.std.specs.Prelude.{◌≡◌, true, Bool, ◌∷◌, [], ◌+◌, ◌<◌, ◌==◌, IsNone, IfSome, IsTrue, None, false, is_some, drop};
-ghost use Rattle.std.specs.Prelude.{List, ℕ, ◌≤◌, length, position, take};
+ghost use Rattle.std.specs.Prelude.{List, ℕ, ◌≤◌, length, position, take, nat_lt, if◌then◌else◌};
 ghost use Rattle.mime_base.specs.Matching.Attempt.{begins_otherwise, first_itself, refuses};
 ghost use Rattle.mime_base.specs.Matching.Elements.{HasNoEnd, IsSet, admits, elements, end_of_set, in_ranges, is_literal_text};
-ghost use Rattle.mime_base.specs.Matching.Elements.{is_negated, is_special, one_byte, ranges, width_after};
+ghost use Rattle.mime_base.specs.Matching.Elements.{is_negated, is_special, itself_len, one_byte, ranges, width_after};
 ghost use Rattle.mime_base.specs.Matching.Folding.{compared, compared_byte};
 ghost use Rattle.mime_base.specs.Matching.Matches.{rule_matches};
 
@@ -200,6 +200,8 @@ pub fn count_itself(text: &[u8]) -> usize
     ensures within { result ≤ length text.now }
     // Of eight bytes all, or a special byte is next.
     ensures next { 8 ≤ length text.now → result < 8 → is_literal_text text.now ≡ false }
+    // They are all before the first special byte of the eight.
+    ensures exact { result ≡ (if nat_lt (length text.now) 8 then 0 else itself_len (take 8 text.now)) }
 {
     if text.len() < 8 {
         return 0;

@@ -1,6 +1,6 @@
 //! Sets of types.
 
-ghost use Rattle.std.specs.Prelude.{◌≡◌, ◌∷◌, [], List, OnOk, true, ℕ};
+ghost use Rattle.std.specs.Prelude.{◌≡◌, ◌↔◌, ◌∷◌, [], IsTrue, List, OnOk, ℕ};
 ghost use Rattle.mime_text.specs.Merging.{is_among};
 
 use mime_base::{OutOfMemory, TypeName};
@@ -35,8 +35,8 @@ impl Types {
 
     /// Whether it holds no type.
     pub fn is_empty(&self) -> bool
-        // It is true only where no type was added.
-        ensures { result ≡ true → self.now ≡ [] }
+        // It is true exactly where no type was added.
+        ensures { IsTrue result ↔ (self.now ≡ []) }
     {
         self.names.is_empty()
     }
