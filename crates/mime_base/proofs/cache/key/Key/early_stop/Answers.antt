@@ -1,6 +1,6 @@
-use Rattle.std.proofs.Common.{◌≡◌, ℕ, ◌<◌, take, List, ap, sym, ◌∙◌, arith}
+use Rattle.std.proofs.Common.{◌<◌, ap, ◌∙◌, arith}
 use Rattle.std.proofs.lemmas.List.{length-take}
-use Rattle.mime_base.specs.Cache.Texts.{padded, shared}
+use Rattle.mime_base.specs.Cache.Texts.{padded}
 use Rattle.mime_base.proofs.CacheLemmas.Padding.{shared-padded}
 use Rattle.mime_base.proofs.cache.key.Key.early_stop.Goals as goal
 
