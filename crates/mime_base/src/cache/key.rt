@@ -55,7 +55,7 @@ impl<'k> Key<'k> {
 
     /// All of its bytes.
     #[inline(always)]
-    pub fn bytes(&self) -> &'k [u8]
+    pub(super) fn bytes(&self) -> &'k [u8]
         // They are just the key's.
         ensures { result.now ≡ self.now }
     {
@@ -64,7 +64,7 @@ impl<'k> Key<'k> {
 
     /// Where the text at the front of these bytes and the key stop to be equal, if that is among the first sixteen.
     #[inline(always)]
-    pub fn early_stop(&self, rest: &[u8]) -> Option<usize>
+    pub(super) fn early_stop(&self, rest: &[u8]) -> Option<usize>
         // A place that is given is where text and key stop to agree, among the first sixteen bytes.
         ensures { IfSome result (λ place. (place ≡ shared (take 256 rest.now) self.now)
             × (place < length (take 256 rest.now)) × (place < 16)) }
@@ -82,7 +82,7 @@ impl<'k> Key<'k> {
     /// How a text compares with the key where `place` of their first bytes are equal, and those that stand there
     /// tell. It adds as many bytes, and one.
     #[inline(always)]
-    pub fn order_at(
+    pub(super) fn order_at(
         &self,
         rest: &[u8],
         place: usize,
