@@ -2,6 +2,7 @@
 pub mod Zeros
 pub mod Prefixes
 pub mod Stops
+pub mod Padding
 pub mod Orders
 pub mod Eights
 pub mod ZeroLanes

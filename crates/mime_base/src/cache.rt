@@ -7,6 +7,7 @@
 pub mod byte_fault;
 pub mod byte_laws;
 pub mod comparing;
+pub mod key;
 pub mod stated_value;
 
 ghost use Rattle.std.specs.Prelude.{◌≡◌, true, false, ℕ, ◌+◌, ◌*◌, ◌<◌, ◌≤◌, List, length, take, drop, min, Ok, Err};
@@ -23,6 +24,7 @@ ghost use Rattle.mime_base.specs.Cache.Texts.{before_zero, order_at, order_cost,
 
 use crate::cache::byte_fault::ByteFault;
 use crate::cache::comparing::{compare_all, early_stop, order_at_stop};
+use crate::cache::key::Key;
 use crate::cache::stated_value::StatedValue;
 use crate::magic::host::Host;
 use crate::magic::masking::equal_bytes;
@@ -216,6 +218,41 @@ impl<'a> Counted<'a> {
             Some(order) => Ok(order),
             None => Err(unended(front, at)),
         }
+    }
+
+    /// The same of a key that many texts are compared with.
+    // Always inlined: the body of a search.
+    #[tactic(auto, unfolding(crate::specs::Cache::Texts::text_at, crate::specs::Cache::Texts::order_at, crate::specs::Cache::Texts::order_cost))]
+    #[inline(always)]
+    pub fn compare_key(
+        &self,
+        at: u64,
+        key: &Key<'_>,
+        meter: &mut Meter,
+    ) -> Result<Ordering, ByteFault>
+        // The first difference decides, also where no zero follows; a fault comes where neither is among 256 bytes.
+        ensures order { result ≡ order_at self.now at key.now }
+        // Where a text stands, the answer is its order against the key.
+        ensures text { (text : List ℕ) → text_at self.now at ≡ Ok text →
+            result ≡ Ok (slice_cmp nat_cmp text key.now) }
+        // A fault means that no text stands there, and is the fault of reading one.
+        ensures fault { IfErr result (λ fault. text_at self.now at ≡ Err fault) }
+        // No record is counted.
+        ensures nodes { meter.new.nodes ≡ meter.old.nodes }
+        // It counts the bytes up to and including the first difference or the zero; before a fault, all that lie there.
+        ensures bytes { meter.new.bytes ≡ raised meter.old.bytes (order_cost self.now at key.now) }
+        // It counts at most 256 bytes.
+        ensures limit { order_cost self.now at key.now ≤ 256 }
+        // The count of bytes never falls, since it stops at the greatest number.
+        ensures rises { meter.old.bytes ≤ meter.new.bytes }
+    {
+        if at < self.length() {
+            let rest = &self.bytes[at as usize..];
+            if let Some(place) = key.early_stop(rest) {
+                return key.order_at(rest, place, meter);
+            }
+        }
+        self.compare_text(at, key.bytes(), meter)
     }
 
     /// Whether the window equals the value of `size` bytes at `at`, both under the mask at `mask_at`.

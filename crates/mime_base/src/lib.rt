@@ -33,6 +33,7 @@ mod names;
 pub use cache::byte_fault::ByteFault;
 pub use cache::byte_laws::{appended_stands, reading_stays, standing_reads_back, texts_are_read};
 pub use cache::comparing::same_name;
+pub use cache::key::Key;
 pub use cache::stated_value::StatedValue;
 pub use cache::{Counted, LARGEST_CACHE};
 pub use database::Database;

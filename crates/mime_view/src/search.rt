@@ -13,7 +13,7 @@ ghost use Rattle.mime_view.specs.Lists.{AreSorted, IsNamedFault, IsSought, KeysA
 ghost use Rattle.mime_view.specs.Spending.{Looks};
 
 use crate::fault::CacheFault;
-use mime_base::{Counted, Meter};
+use mime_base::{Counted, Key, Meter};
 use std::cmp::Ordering;
 
 /// Where a key is sought in a list.
@@ -52,13 +52,14 @@ pub fn seek(
     // It compares at most 26 texts.
     ensures cost { Looks 26 (256 * 26) meter.old meter.new }
 {
+    let key = Key::new(key);
     let mut low = 0;
     let mut high = count;
     let mut equal = false;
     while low < high {
         let middle = (low + high) / 2;
         let [text] = counted.cards_within::<1>(first + size * middle, meter);
-        match counted.compare_text(u64::from(text), key, meter)? {
+        match counted.compare_key(u64::from(text), &key, meter)? {
             Ordering::Less => low = middle + 1,
             Ordering::Equal => {
                 high = middle;

@@ -6,7 +6,8 @@ use Rattle.std.specs.Cmp.Lexicographic.{slice_cmp}
 use Rattle.std.specs.declared.cmp.Ordering.TheVariants.{Less, Equal, Greater}
 use Rattle.std.proofs.Math.ListN.{drop_of_length-le}
 use Rattle.std.proofs.Math.Seq.{drop-cons}
-use Rattle.std.proofs.lemmas.List.{get_or-take, length-take}
+use Rattle.std.proofs.lemmas.Bool.Decides.{nat_tests}
+use Rattle.std.proofs.lemmas.List.{get_or-drop, get_or-take, length-take}
 use Rattle.mime_base.specs.Cache.Texts.{before_zero, shared}
 use Rattle.mime_base.proofs.CacheLemmas.Stops.{shared-first, shared-on}
 
@@ -58,3 +59,18 @@ pub order-inside : (room k : ℕ) (bytes ys : List ℕ) → k ≡ shared (take r
     ≡ cond (get_or bytes k 0 == 0 || nat_lt (get_or bytes k 0) (get_or ys k 0)) Less Greater
 order-inside room k bytes ys is within below =
     order-stopped room k bytes ys is within ∙ ap (stopped (get_or bytes k 0)) (drop-cons ys k 0 below)
+
+-- bytes that differ give the order, where a key has zeros after its end
+stopped-differs : (b : ℕ) (ys : List ℕ) → (b ≡ get_or ys 0 0 → ⊥) → stopped b ys ≡ nat_cmp b (get_or ys 0 0)
+stopped-differs b [] differs = grind (arith, nat_tests)
+stopped-differs b (y ∷ ys) differs = grind (arith, nat_tests)
+
+-- where the bytes of both differ
+pub order-differs : (room k : ℕ) (bytes ys : List ℕ) → k ≡ shared (take room bytes) ys → k < length (take room bytes) →
+    (get_or bytes k 0 ≡ get_or ys k 0 → ⊥) →
+    slice_cmp nat_cmp (before_zero (take room bytes)) ys ≡ nat_cmp (get_or bytes k 0) (get_or ys k 0)
+order-differs room k bytes ys is within differs =
+    let first : get_or (drop k ys) 0 0 ≡ get_or ys k 0 = get_or-drop k ys 0 0 ∙ ap (λ (i : ℕ). get_or ys i 0) (omega arith) in
+    order-stopped room k bytes ys is within
+    ∙ stopped-differs (get_or bytes k 0) (drop k ys) (λ e. differs (e ∙ first))
+    ∙ ap (nat_cmp (get_or bytes k 0)) first

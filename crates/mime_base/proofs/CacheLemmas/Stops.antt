@@ -12,7 +12,7 @@ use Rattle.std.proofs.lemmas.List.Sums.{common_prefix_len-le}
 use Rattle.mime_base.specs.Cache.Texts.{before_zero, shared}
 
 -- nothing is equal to an empty key
-shared-nil : (xs : List ℕ) → shared xs [] ≡ 0
+pub shared-nil : (xs : List ℕ) → shared xs [] ≡ 0
 shared-nil [] = refl
 shared-nil (x ∷ xs) = none (x == 0)
   where
@@ -30,7 +30,7 @@ shared-first x y xs ys = first (x == 0)
     first false = refl
 
 -- how many are equal in a window at the front of both
-shared-front : (n : ℕ) (xs ys : List ℕ) → shared (take n xs) (take n ys) ≡ min n (shared xs ys)
+pub shared-front : (n : ℕ) (xs ys : List ℕ) → shared (take n xs) (take n ys) ≡ min n (shared xs ys)
 shared-front zero xs ys = omega arith
 shared-front (suc n) [] ys = omega arith
 shared-front (suc n) (x ∷ xs) [] = omega (arith, shared-nil (x ∷ take n xs), shared-nil (x ∷ xs))

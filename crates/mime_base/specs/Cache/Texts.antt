@@ -1,6 +1,6 @@
 -- Texts in the bytes of a cache: they end in a zero, which is one of their first 256 bytes.
 use Rattle.std.specs.Prelude.{◌≢◌, ℕ, ◌+◌, ◌<◌, ◌==◌, nat_eq, nat_lt, min, if◌then◌else◌, List, [], ◌∷◌, ◌++◌, length}
-use Rattle.std.specs.Prelude.{take, drop, Result, Ok, Err}
+use Rattle.std.specs.Prelude.{take, drop, replicate, Result, Ok, Err}
 use Rattle.std.specs.List.{common_prefix_len}
 use Rattle.std.specs.Ordering.{nat_cmp}
 use Rattle.std.specs.Cmp.Lexicographic.{slice_cmp}
@@ -44,6 +44,10 @@ text_in room at bytes =
 -- how many of its bytes are equal to those of a key, before the first difference and before the zero
 abbrev pub shared : List ℕ → List ℕ → ℕ
 shared bytes key = common_prefix_len nat_eq (before_zero bytes) key
+
+-- the first `room` bytes, with zeros for those that are lacking
+unfoldable pub padded : ℕ → List ℕ → List ℕ
+padded room bytes = take room (bytes ++ replicate room 0)
 
 -- the order of the text against a key, where a difference or the zero is among the bytes
 abbrev pub order_in : ℕ → ℕ → List ℕ → List ℕ → Result Ordering ByteFault

@@ -276,7 +276,7 @@ fn shared_of_eight(front: &[u8], key: &[u8]) -> usize
 
 /// How many of the first sixteen bytes are equal, from the front, and none of them zero.
 #[inline]
-fn shared_of_sixteen(front: &[u8], key: &[u8]) -> usize
+pub fn shared_of_sixteen(front: &[u8], key: &[u8]) -> usize
     requires front { 16 ≤ length front.now }
     requires key { 16 ≤ length key.now }
     ensures shared { result ≡ shared (take 16 front.now) (take 16 key.now) }

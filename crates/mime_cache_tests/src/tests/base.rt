@@ -1,3 +1,4 @@
+mod keys;
 mod numbers;
 mod ranges;
 mod texts;

@@ -9,17 +9,17 @@ use Rattle.mime_view.proofs.ListLemmas.OneText.{same_text}
 use Rattle.mime_view.proofs.SearchLemmas.Places.{splits-found, key_at}
 use Rattle.mime_view.proofs.search.seek.Goals as goal
 
-pub returns-in_err-compare_text-clause-answer : goal.returns-in_err-compare_text-clause-answer
-returns-in_err-compare_text-clause-answer c = λ keys n stand.
+pub returns-in_err-compare_key-clause-answer : goal.returns-in_err-compare_key-clause-answer
+returns-in_err-compare_key-clause-answer c = λ keys n stand.
     let middle : ℕ = (c.loop-low.low + c.loop-low.high) / 2 in
     let text = key_at c.args.counted.now c.args.first c.args.size keys middle stand (omega arith) in
     let at : c.from.result ≡ field c.args.counted.now (c.args.first + c.args.size * middle) 0 =
     c.from.ensures ∙ ap (λ xs. get_or xs 0 0) c.cards_within.ensures.numbers in
-    let order = c.in_err-compare_text.ensures.text _ (ap (text_at c.args.counted.now) at ∙ text) in
+    let order = c.in_err-compare_key.ensures.text _ (ap (text_at c.args.counted.now) at ∙ text) in
     absurd (cc order)
 
-pub returns-in_err-compare_text-clause-sought : goal.returns-in_err-compare_text-clause-sought
-returns-in_err-compare_text-clause-sought c =
+pub returns-in_err-compare_key-clause-sought : goal.returns-in_err-compare_key-clause-sought
+returns-in_err-compare_key-clause-sought c =
     let middle : ℕ = (c.loop-low.low + c.loop-low.high) / 2 in
     let at : c.from.result ≡ field c.args.counted.now (c.args.first + c.args.size * middle) 0 =
     c.from.ensures ∙ ap (λ xs. get_or xs 0 0) c.cards_within.ensures.numbers in
@@ -28,8 +28,8 @@ returns-in_err-compare_text-clause-sought c =
       i = middle;
       within = omega arith;
       text = record {
-        fault = c.in_err-compare_text.field-0.0;
-        no_text = ap (text_at c.args.counted.now) (sym at) ∙ c.in_err-compare_text.ensures.fault;
+        fault = c.in_err-compare_key.field-0.0;
+        no_text = ap (text_at c.args.counted.now) (sym at) ∙ c.in_err-compare_key.ensures.fault;
         is = p.2;
       };
     })
@@ -65,7 +65,7 @@ loop-low-preserved-in-Less c =
           let read : c.from.result ≡ field c.args.counted.now (c.args.first + c.args.size * middle) 0 =
           c.from.ensures ∙ ap (λ xs. get_or xs 0 0) c.cards_within.ensures.numbers in
           let at = read ∙ ap (λ (j : ℕ). field c.args.counted.now (c.args.first + c.args.size * j) 0) m in
-          let order = c.in_ok-compare_text.ensures.text text (ap (text_at c.args.counted.now) at ∙ stands) in
+          let order = c.in_ok-compare_key.ensures.text text (ap (text_at c.args.counted.now) at ∙ stands) in
           cc (order, c.in-Less.is);
       after = c.loop-low.invariant.after;
       equal = c.loop-low.invariant.equal;
@@ -89,12 +89,12 @@ loop-low-preserved-in-Equal c =
       within = omega arith;
       before = c.loop-low.invariant.before;
       after = λ text h stands less.
-          let order = c.in_ok-compare_text.ensures.text text (ap (text_at c.args.counted.now) at ∙ stands) in
+          let order = c.in_ok-compare_key.ensures.text text (ap (text_at c.args.counted.now) at ∙ stands) in
           cc (order, less, c.in-Equal.is);
       equal = λ yes. (
         omega arith,
         ap (text_at c.args.counted.now) (sym at)
-            ∙ equal_text c.args.counted.now c.from.result c.args.key.now (cc (c.in_ok-compare_text.ensures.order, c.in-Equal.is)),
+            ∙ equal_text c.args.counted.now c.from.result c.args.key.now (cc (c.in_ok-compare_key.ensures.order, c.in-Equal.is)),
       );
       other = λ no. absurd (true≢false no);
       rises = omega arith;
@@ -116,11 +116,11 @@ loop-low-preserved c =
       within = omega arith;
       before = c.loop-low.invariant.before;
       after = λ text h stands less.
-          let order = c.in_ok-compare_text.ensures.text text (ap (text_at c.args.counted.now) at ∙ stands) in
+          let order = c.in_ok-compare_key.ensures.text text (ap (text_at c.args.counted.now) at ∙ stands) in
           cc (order, less, c.in-Greater.is);
       equal = λ yes. absurd (true≢false (sym yes));
       other = λ no text h stands same.
-          let order = c.in_ok-compare_text.ensures.text text (ap (text_at c.args.counted.now) at ∙ stands) in
+          let order = c.in_ok-compare_key.ensures.text text (ap (text_at c.args.counted.now) at ∙ stands) in
           let alike : slice_cmp nat_cmp text c.args.key.now ≡ Equal = same_text text c.args.key.now same in
           cc (order, alike, c.in-Greater.is);
       rises = omega arith;

@@ -8,10 +8,10 @@ abbrev pub invariant-loop-low : goal.invariant-loop-low
 invariant-loop-low l = record {
   order : l.low ≤ l.high;
   within : l.high ≤ l.count;
-  before : (i : ℕ) (text : List ℕ) → i + 1 ≡ l.low → HasText l.counted l.first l.size i text → slice_cmp nat_cmp text l.key ≡ Less;
-  after : (text : List ℕ) → l.high < l.count → HasText l.counted l.first l.size l.high text → slice_cmp nat_cmp text l.key ≢ Less;
-  equal : l.equal ≡ true → (l.high < l.count) × HasText l.counted l.first l.size l.high l.key;
-  other : l.equal ≡ false → (text : List ℕ) → l.high < l.count → HasText l.counted l.first l.size l.high text → text ≢ l.key;
+  before : (i : ℕ) (text : List ℕ) → i + 1 ≡ l.low → HasText l.counted l.first l.size i text → slice_cmp nat_cmp text l.fn.key ≡ Less;
+  after : (text : List ℕ) → l.high < l.count → HasText l.counted l.first l.size l.high text → slice_cmp nat_cmp text l.fn.key ≢ Less;
+  equal : l.equal ≡ true → (l.high < l.count) × HasText l.counted l.first l.size l.high l.fn.key;
+  other : l.equal ≡ false → (text : List ℕ) → l.high < l.count → HasText l.counted l.first l.size l.high text → text ≢ l.fn.key;
   rises : l.initial.meter.nodes ≤ l.meter.nodes;
   bytes_rise : l.initial.meter.bytes ≤ l.meter.bytes;
   probes :
