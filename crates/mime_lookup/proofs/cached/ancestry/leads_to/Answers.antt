@@ -1,4 +1,4 @@
-use Rattle.std.proofs.Common.{length, refl, sym, true≢false, arith, ◌∙◌}
+use Rattle.std.proofs.Common.{add-one, length, refl, sym, ap, true≢false, arith, ◌∙◌}
 use Rattle.mime_base.specs.Database.{pairs_of}
 use Rattle.mime_lookup.specs.Searching.{marked_by}
 use Rattle.mime_lookup.proofs.CostLemmas.SearchCosts.{expanded_owing}
@@ -29,7 +29,7 @@ loop-here-preserved c = record {
   owed = λ b spells. omega (arith, c.loop-here.invariant.owed b spells, (c.in_ok-expand.ensures.takes b spells).owed);
   paid =
       expanded_owing (length c.pop_front.new.self) c.args.spending.now c.loop-here.spending c.expand.new.spending
-      c.is_by_itself.new.meter (rw c.in-Some.ensures.taken c.loop-here.invariant.paid) c.is_by_itself.ensures.compares.nodes
+      c.is_by_itself.new.meter (rw (ap length c.in-Some.ensures.taken ∙ sym (add-one (length c.pop_front.new.self))) at c.loop-here.invariant.paid) c.is_by_itself.ensures.compares.nodes
       c.is_by_itself.ensures.compares.rises (omega (arith, c.is_by_itself.ensures.compares.bytes, c.requires.base)) c.expand.ensures.cost
       (length c.expand.new.queue) c.in_ok-expand.ensures.falls;
 }
