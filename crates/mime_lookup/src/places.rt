@@ -80,11 +80,10 @@ pub fn push_parents<'a>(
 ) -> Result<(), OutOfMemory>
     requires placed { ArePlaced both.now }
     // The parents that the pairs name come to the end of the queue, each after one alias step.
-    ensures queue { OnOk result (queue.new ≡ queue.old
-        ++ above.above (placed both.now) kind.now) }
+    ensures queue { OnOk result (queue.new ≡ queue.old ++ above.above (placed both.now) kind.now) }
     // The queue is longer by as many.
-    ensures longer { OnOk result (length queue.new
-        ≡ length queue.old + length (above.parents (placed both.now).parents kind.now)) }
+    ensures longer { OnOk result (length queue.new ≡ length queue.old
+        + length (above.parents (placed both.now).parents kind.now)) }
 {
     let parents = &both.parents;
     let pairs = parents.pairs;

@@ -9,7 +9,7 @@ use std::marker::Model;
 
 /// Types in the order in which they came.
 ///
-/// The first that waits takes no memory, so a search that meets no more than one at a time takes none.
+/// The first that waits is held in place, so a queue in which no more than one waits at a time never allocates.
 #[derive(Drop)]
 pub(crate) struct Queue<'a> {
     first: Option<&'a [u8]>,
@@ -29,7 +29,7 @@ impl<'a> Model for Queue<'a> {
 }
 
 impl<'a> Queue<'a> {
-    /// No types. It takes no memory.
+    /// No types. It never allocates.
     pub(crate) fn new(alloc: Global) -> Queue<'a>
         // There are none.
         ensures { result ≡ [] }
@@ -44,7 +44,7 @@ impl<'a> Queue<'a> {
     pub(crate) fn push_back(&mut self, kind: &'a [u8]) -> Result<(), OutOfMemory>
         // The type comes after all that waited.
         ensures added { OnOk result (self.new ≡ self.old ++ kind.entry.now ∷ []) }
-        // Without memory the queue is as it was.
+        // Where an allocation was refused, the queue is as it was.
         ensures unchanged { OnErr result (self.new ≡ self.old) }
     {
         match self.first {

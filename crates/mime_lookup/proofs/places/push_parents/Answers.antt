@@ -55,9 +55,8 @@ loop-place-preserved c =
     rw c.in_ok-push_back.ensures.added
     (subst (λ place. Walked pairs step c.args.kind.now place (c.loop-place.queue ++ c.unalias_at.result.now ∷ []) c.args.queue.now)
     (sym value)
-    (walked-more pairs step c.args.kind.now c.args.queue.now here c.index-pairs-here.result
-    c.index-pairs-here.is c.loop-place.queue c.unalias_at.result.now
-    (place_in c.args.both.now.parents.first) next k at c.requires.placed.parents size
+    (walked-more pairs step c.args.kind.now c.args.queue.now here c.index-pairs-here.result c.index-pairs-here.is c.loop-place.queue
+    c.unalias_at.result.now (place_in c.args.both.now.parents.first) next k at c.requires.placed.parents size
     (c.unalias_at.ensures ∙ ap step c.bytes.ensures.text)))
 
 pub returns-clause-queue : goal.returns-clause-queue

@@ -14,8 +14,11 @@ loop-kind-preserved c = record {
       c.loop-kind.kind-index c.in_ok-name.name.now _ c.loop-kind-test.true
       (c.in_ok-name.ensures.answer spells.offsets b.aliases spells.header spells.aliases)
       c.in_ok-push_back.ensures.added (c.loop-kind.invariant.queue b spells);
-  longer = omega (arith, c.loop-kind.invariant.longer,
-      length-queued c.loop-kind.queue c.push_back.new.self c.in_ok-name.name.now c.in_ok-push_back.ensures.added);
+  longer = omega (
+    arith,
+    c.loop-kind.invariant.longer,
+    length-queued c.loop-kind.queue c.push_back.new.self c.in_ok-name.name.now c.in_ok-push_back.ensures.added,
+  );
   budget = search rules;
   cost = search rules;
 }
