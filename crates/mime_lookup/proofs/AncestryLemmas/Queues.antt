@@ -1,6 +1,6 @@
 -- A queue of types that grows, and candidates that are passed over.
 use Rattle.std.proofs.Common.{◌≡◌, ℕ, ◌+◌, ◌<◌, List, [], ◌∷◌, ◌++◌, length, map, get_or, take, drop, drop-cons, add-one}
-use Rattle.std.proofs.Common.{refl, sym, ap, subst, inr, arith, ◌∙◌, append_assoc}
+use Rattle.std.proofs.Common.{sym, ap, subst, inr, arith, ◌∙◌, append_assoc}
 use Rattle.std.proofs.lemmas.List.{get_or-map, length-append, length-map, map-append, take_more}
 use Rattle.std.proofs.lemmas.List.Elements.{Contains-append_right, Contains-get_or}
 use Rattle.std.specs.Prelude.{Contains}
