@@ -5,19 +5,18 @@
 //! no type is expanded twice. The places of all pairs are found once, so a search goes through the
 //! pairs of the types that it meets, and no others.
 
-ghost use Rattle.std.specs.Prelude.{◌≡◌, ◌+◌, false, IfOk, OnOk};
-ghost use Rattle.std.specs.VecDeque.{deque_len};
+ghost use Rattle.std.specs.Prelude.{◌≡◌, ◌+◌, false, length, IfOk, OnOk};
 ghost use Rattle.mime_base.specs.Database.{pairs_of, plain_database};
 ghost use Rattle.mime_lookup.specs.Ancestry.{AnswersSearch, Expanded, is_among, kinds_of, unmarked};
 ghost use Rattle.mime_lookup.specs.Choice.{IsFirst};
 ghost use Rattle.mime_lookup.specs.Places.{ArePlaced, placed};
 
 use crate::places::{PlacedPairs, places_of, push_parents};
+use crate::queue::Queue;
 use crate::subclass::is_by_itself;
 use indexmap::IndexSet;
 use mime_base::{Database, Meter, OutOfMemory};
 use std::alloc::Global;
-use std::collections::VecDeque;
 
 /// The first of the types that is the base or a subclass of it, else the default.
 pub fn first_of<'a>(
@@ -78,7 +77,7 @@ fn is_a<'a>(
     ensures answer { AnswersSearch (placed both.now) kind.entry.now base.now
         (is_among marks.old.keys) (is_among marks.new.keys) result }
 {
-    let mut queue = VecDeque::new(alloc);
+    let mut queue = Queue::new(alloc);
     queue.push_back(kind)?;
     while let Some(here) = queue.pop_front() {
         if is_by_itself(here, base, meter) {
@@ -94,13 +93,13 @@ fn expand<'a>(
     both: &PlacedPairs<'a>,
     marks: &mut IndexSet<&'a [u8]>,
     kind: &'a [u8],
-    queue: &mut VecDeque<&'a [u8]>,
+    queue: &mut Queue<'a>,
 ) -> Result<(), OutOfMemory>
     requires placed { ArePlaced both.now }
     ensures expanded { OnOk result (Expanded (placed both.now) kind.entry.now (is_among marks.old.keys)
-        (is_among marks.new.keys) (kinds_of queue.old.items) (kinds_of queue.new.items)) }
-    ensures falls { OnOk result (deque_len queue.new + unmarked (placed both.now).parents (is_among marks.new.keys)
-        ≡ deque_len queue.old + unmarked (placed both.now).parents (is_among marks.old.keys)) }
+        (is_among marks.new.keys) queue.old queue.new) }
+    ensures falls { OnOk result (length queue.new + unmarked (placed both.now).parents (is_among marks.new.keys)
+        ≡ length queue.old + unmarked (placed both.now).parents (is_among marks.old.keys)) }
 {
     if is_marked(marks, kind) {
         return Ok(());

@@ -35,6 +35,7 @@ mod order;
 mod pairs;
 mod places;
 mod question;
+mod queue;
 mod reading;
 mod script;
 mod sniff;

@@ -1,18 +1,16 @@
 //! Where the pairs of each name stand, so that a search goes through no other pairs.
 
 ghost use Rattle.std.specs.Prelude.{◌≡◌, ◌+◌, ◌<◌, ◌++◌, get_or, length, map, IfOk, OnOk};
-ghost use Rattle.std.specs.VecDeque.{deque_len};
 ghost use Rattle.mime_base.specs.Database.PlainPairs.{plain_pairs};
 ghost use Rattle.mime_base.specs.Database.Subclass as above;
 ghost use Rattle.mime_base.specs.declared.database.pair.Pair as plain;
 ghost use Rattle.mime_base.specs.Database.Subclass.{resolved};
-ghost use Rattle.mime_lookup.specs.Ancestry.{kinds_of};
 ghost use Rattle.mime_lookup.specs.Places.{ArePlaced, IsPlaced, placed};
 
+use crate::queue::Queue;
 use indexmap::IndexMap;
 use mime_base::{OutOfMemory, Pair};
 use std::alloc::Global;
-use std::collections::VecDeque;
 
 /// Some pairs, with the place of each by its name.
 #[derive(Drop)]
@@ -78,15 +76,14 @@ fn target_at<'a>(pairs: &'a [Pair], place: usize) -> &'a [u8]
 pub fn push_parents<'a>(
     both: &PlacedPairs<'a>,
     kind: &[u8],
-    queue: &mut VecDeque<&'a [u8]>,
+    queue: &mut Queue<'a>,
 ) -> Result<(), OutOfMemory>
     requires placed { ArePlaced both.now }
     // The parents that the pairs name come to the end of the queue, each after one alias step.
-    ensures queue { OnOk result (kinds_of queue.new.items ≡ kinds_of queue.old.items
-        ++ above.above (placed both.now) kind.now) }
+    ensures queue { OnOk result (queue.new ≡ queue.old ++ above.above (placed both.now) kind.now) }
     // The queue is longer by as many.
-    ensures longer { OnOk result (deque_len queue.new
-        ≡ deque_len queue.old + length (above.parents (placed both.now).parents kind.now)) }
+    ensures longer { OnOk result (length queue.new ≡ length queue.old
+        + length (above.parents (placed both.now).parents kind.now)) }
 {
     let parents = &both.parents;
     let pairs = parents.pairs;

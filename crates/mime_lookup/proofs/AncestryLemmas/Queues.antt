@@ -1,7 +1,7 @@
 -- A queue of types that grows, and candidates that are passed over.
 use Rattle.std.proofs.Common.{◌≡◌, ℕ, ◌+◌, ◌<◌, List, [], ◌∷◌, ◌++◌, length, map, get_or, take, drop, drop-cons, add-one}
-use Rattle.std.proofs.Common.{refl, sym, ap, subst, inr, arith, ◌∙◌, append_assoc}
-use Rattle.std.proofs.lemmas.List.{get_or-map, length-map, map-append, take_more}
+use Rattle.std.proofs.Common.{sym, ap, subst, inr, arith, ◌∙◌, append_assoc}
+use Rattle.std.proofs.lemmas.List.{get_or-map, length-append, length-map, map-append, take_more}
 use Rattle.std.proofs.lemmas.List.Elements.{Contains-append_right, Contains-get_or}
 use Rattle.std.specs.Prelude.{Contains}
 use Rattle.std.specs.Borrow.{Bor}
@@ -10,27 +10,22 @@ use Rattle.mime_lookup.specs.Ancestry.{kinds_of}
 use Rattle.mime_lookup.specs.Choice.{IsFirst}
 
 -- one type more is put at the end, after a step
-pub queued-more : (step : List ℕ → List ℕ) (kinds before queue after : List (Bor (List ℕ))) (i : ℕ) (one d : Bor (List ℕ))
-    → i < length kinds → one.now ≡ step (get_or kinds i d).now → after ≡ queue ++ one ∷ []
-    → kinds_of queue ≡ kinds_of before ++ map step (kinds_of (take i kinds))
-    → kinds_of after ≡ kinds_of before ++ map step (kinds_of (take (i + 1) kinds))
+pub queued-more : (step : List ℕ → List ℕ) (kinds : List (Bor (List ℕ))) (before queue after : List (List ℕ)) (i : ℕ)
+    (one : List ℕ) (d : Bor (List ℕ)) → i < length kinds → one ≡ step (get_or kinds i d).now → after ≡ queue ++ one ∷ []
+    → queue ≡ before ++ map step (kinds_of (take i kinds)) → after ≡ before ++ map step (kinds_of (take (i + 1) kinds))
 queued-more step kinds before queue after i one d within is grown so_far =
     let done = map step (kinds_of (take i kinds)) in
     let next = get_or kinds i d in
-    let last : map step (kinds_of (take (i + 1) kinds)) ≡ done ++ one.now ∷ [] =
+    let last : map step (kinds_of (take (i + 1) kinds)) ≡ done ++ one ∷ [] =
     ap (λ ks. map step (kinds_of ks)) (take_more kinds i d within)
     ∙ ap (map step) (map-append (λ (k : Bor (List ℕ)). k.now) (take i kinds) (next ∷ []))
     ∙ map-append step (kinds_of (take i kinds)) (next.now ∷ [])
     ∙ ap (λ k. done ++ k ∷ []) (sym is) in
-    ap kinds_of grown ∙ map-append (λ (k : Bor (List ℕ)). k.now) queue (one ∷ [])
-    ∙ ap (λ q. q ++ one.now ∷ []) so_far
-    ∙ append_assoc (kinds_of before) done (one.now ∷ [])
-    ∙ ap (λ more. kinds_of before ++ more) (sym last)
+    grown ∙ ap (λ q. q ++ one ∷ []) so_far ∙ append_assoc before done (one ∷ []) ∙ ap (λ more. before ++ more) (sym last)
 
--- a queue that stays the same without its first type has none
-pub none_queued : (queue after : List (Bor (List ℕ))) → queue ≡ after → after ≡ drop 1 queue → queue ≡ []
-none_queued [] after same rest = refl
-none_queued (first ∷ queue) after same rest = absurd (omega (arith, ap length (same ∙ rest)))
+-- so the queue is longer by one
+pub length-queued : (queue after : List (List ℕ)) (one : List ℕ) → after ≡ queue ++ one ∷ [] → length after ≡ length queue + 1
+length-queued queue after one grown = ap length grown ∙ length-append queue (one ∷ [])
 
 -- a type that is no subclass of the base is passed over
 pub passed_over : (pairs : Pairs) (base default : List ℕ) (kinds : List (Bor (List ℕ))) (i : ℕ) (d : Bor (List ℕ))

@@ -2,7 +2,7 @@
 use Rattle.std.proofs.Common.{◌≡◌, ℕ, ◌+◌, ◌-◌, ◌<◌, true, List, [], ◌∷◌, ◌++◌, length, get_or, drop, map, Option, None, Some}
 use Rattle.std.proofs.Common.{refl, sym, ap, subst, ◌∙◌, ⊎_elim, arith, append-nil, bytes_eq}
 use Rattle.std.proofs.lemmas.Bool.{cases_Bool}
-use Rattle.std.proofs.lemmas.List.{get_or_default}
+use Rattle.std.proofs.lemmas.List.{get_or_default, length-append, length-map}
 use Rattle.std.proofs.lemmas.Slice.Eq.{bytes_eq-Decides}
 use Rattle.mime_base.specs.Database.PlainPairs.{plain_pairs}
 use Rattle.mime_base.specs.Database.Subclass.{parents, resolved}
@@ -63,35 +63,37 @@ resolved-to pairs kind place target next says =
 
 -- a walk along the pairs of a type has put what stands before this place at the end of a queue
 pub record Walked (pairs : List Pair) (step : List ℕ → List ℕ) (kind : List ℕ) (place : Option ℕ) (queue before : List (List ℕ))
-    (long long_before : ℕ) : Type 0 where
+    : Type 0 where
   pub low : ℕ
   pub next : IsNext pairs kind low place
   pub grown :
       queue ++ map step (parents (plain_pairs (drop low pairs)) kind) ≡ before ++ map step (parents (plain_pairs pairs) kind)
-  pub longer :
-      long + length (parents (plain_pairs (drop low pairs)) kind) ≡ long_before + length (parents (plain_pairs pairs) kind)
 
-module _ (pairs : List Pair) (step : List ℕ → List ℕ) (kind : List ℕ) (before : List (List ℕ)) (long_before : ℕ) where
+module _ (pairs : List Pair) (step : List ℕ → List ℕ) (kind : List ℕ) (before : List (List ℕ)) where
   -- at first
-  pub walked-first : (place : Option ℕ) → IsNext pairs kind 0 place → Walked pairs step kind place before before long_before long_before
-  walked-first place first = record { low = 0; next = first; grown = refl; longer = refl }
+  pub walked-first : (place : Option ℕ) → IsNext pairs kind 0 place → Walked pairs step kind place before before
+  walked-first place first = record { low = 0; next = first; grown = refl }
 
   -- after the last place
-  pub walked-all : (queue : List (List ℕ)) (long : ℕ) → Walked pairs step kind None queue before long long_before →
-      (queue ≡ before ++ map step (parents (plain_pairs pairs) kind)) × (long ≡ long_before + length (parents (plain_pairs pairs) kind))
-  walked-all queue long walked = (
-    sym (append-nil queue) ∙ ap (λ ks. queue ++ map step ks) (sym walked.next) ∙ walked.grown,
-    omega (arith, walked.longer, ap length walked.next),
-  )
+  pub walked-all : (queue : List (List ℕ)) → Walked pairs step kind None queue before →
+      queue ≡ before ++ map step (parents (plain_pairs pairs) kind)
+  walked-all queue walked = sym (append-nil queue) ∙ ap (λ ks. queue ++ map step ks) (sym walked.next) ∙ walked.grown
+
+  -- and how long it is then
+  pub walked-length : (queue : List (List ℕ)) → Walked pairs step kind None queue before →
+      length queue ≡ length before + length (parents (plain_pairs pairs) kind)
+  walked-length queue walked =
+      let came = map step (parents (plain_pairs pairs) kind) in
+      ap length (walked-all queue walked) ∙ length-append before came
+      ∙ ap (λ n. length before + n) (length-map (parents (plain_pairs pairs) kind) step)
 
   module _ (here : ℕ) (pair : Pair) (is : pair ≡ get_or pairs here pair) where
     -- a place more
-    pub walked-more : (queue : List (List ℕ)) (one : List ℕ) (long longer : ℕ) (first : List ℕ → Option ℕ)
-        (next : List (Option ℕ)) (k : ℕ) → Walked pairs step kind (Some here) queue before long long_before →
-        IsIndexed pairs 0 first next → k + (here + 1) ≡ length pairs →
-        one ≡ step pair.target → longer ≡ long + 1 →
-        Walked pairs step kind (get_or next k None) (queue ++ one ∷ []) before longer long_before
-    walked-more queue one long longer first next k walked indexed size gives more =
+    pub walked-more : (queue : List (List ℕ)) (one : List ℕ) (first : List ℕ → Option ℕ)
+        (next : List (Option ℕ)) (k : ℕ) → Walked pairs step kind (Some here) queue before →
+        IsIndexed pairs 0 first next → k + (here + 1) ≡ length pairs → one ≡ step pair.target →
+        Walked pairs step kind (get_or next k None) (queue ++ one ∷ []) before
+    walked-more queue one first next k walked indexed size gives =
         let name : pair.name ≡ kind = walked.next.3 pair is in
         let rest = parents (plain_pairs (drop (here + 1) pairs)) kind in
         let left : parents (plain_pairs (drop walked.low pairs)) kind ≡ pair.target ∷ rest =
@@ -101,7 +103,6 @@ module _ (pairs : List Pair) (step : List ℕ → List ℕ) (kind : List ℕ) (b
           low = here + 1;
           next = subst (λ n. IsNext pairs n (here + 1) (get_or next k None)) name (indexed.nexts here k pair (omega arith) size is);
           grown = pushed step queue one pair.target rest _ gives left ∙ walked.grown;
-          longer = omega (arith, more, walked.longer, ap length left);
         }
 
 -- the next place is nearer to the end

@@ -7,7 +7,6 @@
 
 ghost use Rattle.std.specs.Prelude.{◌≡◌, ◌⊎◌, ◌+◌, ◌*◌, ◌≤◌, ◌∷◌, ◌++◌};
 ghost use Rattle.std.specs.Prelude.{Contains, length, map, IfErr, IfOk, MatchResult, OnOk};
-ghost use Rattle.std.specs.VecDeque.{deque_len};
 ghost use Rattle.mime_base.specs.Database.{PlainDatabase, pairs_of};
 ghost use Rattle.mime_base.specs.Database.Subclass.{resolved};
 ghost use Rattle.mime_lookup.specs.Ancestry.{Expanded, kinds_of};
@@ -18,10 +17,10 @@ ghost use Rattle.mime_lookup.specs.Spelling.{SpellsPairs};
 ghost use Rattle.mime_lookup.specs.StepFaults.{IsAliasFault, IsSearchFault};
 ghost use Rattle.mime_view.specs.Spending.{Looks, Spends};
 
+use crate::queue::Queue;
 use crate::subclass::is_by_itself;
 use mime_view::{Cache, CacheFault, Marks, Spending};
 use std::alloc::Global;
-use std::collections::VecDeque;
 
 /// The first of the types that is the base or a subclass of it, else the default.
 pub fn first_of<'a>(
@@ -75,7 +74,7 @@ pub fn leads_to<'a>(
     // It costs 29 nodes, and 59 for each record that it takes.
     ensures cost { Costs search_cost 0 29 spending.old spending.new }
 {
-    let mut queue = VecDeque::new(alloc);
+    let mut queue = Queue::new(alloc);
     queue.push_back(kind)?;
     while let Some(here) = queue.pop_front() {
         if is_by_itself(here, base, &mut spending.meter) {
@@ -93,19 +92,19 @@ fn expand<'a>(
     cache: &Cache<'a>,
     marks: &mut Marks,
     kind: &[u8],
-    queue: &mut VecDeque<&'a [u8]>,
+    queue: &mut Queue<'a>,
     spending: &mut Spending,
 ) -> Result<(), CacheFault>
     // Where the pairs stand, all above the type comes to the queue, or nothing if it was marked.
     ensures expanded { (b : PlainDatabase) → SpellsPairs cache.now b → OnOk result (Expanded (pairs_of b) kind.now
-        (marked_by cache.now marks.old) (marked_by cache.now marks.new) (kinds_of queue.old.items) (kinds_of queue.new.items)) }
+        (marked_by cache.now marks.old) (marked_by cache.now marks.new) queue.old queue.new) }
     // There no more records are taken than there are pairs of the type, once it is marked.
     ensures takes { TakesMarked cache.now marks.old marks.new spending.old spending.new result }
     // The parents of a type, an alias step or memory shows the fault.
     ensures fault { IfErr result (IsSearchFault cache.now spending.new.budget) }
     // Each type that comes to the queue took a record.
     ensures falls { OnOk result
-        (deque_len queue.new + spending.new.budget.records ≡ deque_len queue.old + spending.old.budget.records) }
+        (length queue.new + spending.new.budget.records ≡ length queue.old + spending.old.budget.records) }
     // It costs 29 nodes, and for each record its own and an alias step.
     ensures cost { Spends expansion_price 29 (256 * 27) spending.old spending.new }
 {
@@ -126,17 +125,17 @@ fn expand<'a>(
 fn push_unaliased<'a>(
     cache: &Cache<'a>,
     kinds: &[&'a [u8]],
-    queue: &mut VecDeque<&'a [u8]>,
+    queue: &mut Queue<'a>,
     spending: &mut Spending,
 ) -> Result<(), CacheFault>
     // Where the aliases stand, the resolved types come to the end of the queue, unless memory is refused.
     ensures queue { (b : PlainDatabase) → SpellsPairs cache.now b → MatchResult result
-        (λ _. kinds_of queue.new.items ≡ kinds_of queue.old.items ++ map (resolved b.aliases) (kinds_of kinds.now))
+        (λ _. queue.new ≡ queue.old ++ map (resolved b.aliases) (kinds_of kinds.now))
         (λ e. e ≡ CacheFault.OutOfMemory) }
     // An alias step or memory shows the fault.
     ensures fault { IfErr result (λ e. IsAliasFault cache.now e ⊎ (e ≡ CacheFault.OutOfMemory)) }
     // The queue has one more for each type.
-    ensures longer { OnOk result (deque_len queue.new ≡ deque_len queue.old + length kinds.now) }
+    ensures longer { OnOk result (length queue.new ≡ length queue.old + length kinds.now) }
     // Nothing is taken of the budget.
     ensures budget { spending.new.budget ≡ spending.old.budget }
     // It visits at most 29 records for each type, and compares at most a text for each.

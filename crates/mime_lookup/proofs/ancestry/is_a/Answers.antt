@@ -1,7 +1,6 @@
 use Rattle.std.proofs.Common.{refl, sym, true≢false, ◌∙◌}
 use Rattle.mime_lookup.specs.Places.{placed}
-use Rattle.mime_lookup.specs.Ancestry.{is_among, kinds_of}
-use Rattle.mime_lookup.proofs.AncestryLemmas.Queues.{none_queued}
+use Rattle.mime_lookup.specs.Ancestry.{is_among}
 use Rattle.mime_lookup.proofs.AncestryLemmas.Searches.{searched_all, searched_found, searched_more}
 use Rattle.mime_lookup.proofs.ancestry.is_a.Goals as goal
 
@@ -9,8 +8,8 @@ pub returns-then-is_by_itself-clause-answer : goal.returns-then-is_by_itself-cla
 returns-then-is_by_itself-clause-answer c = record {
   answer = λ none. (
     (λ _. searched_found (placed c.args.both.now) c.args.base.now c.args.kind.now
-        (is_among c.loop-here.marks.keys) c.in-Some.here.now (kinds_of c.pop_front.new.self.items)
-        (rw c.in-Some.ensures.items at (c.loop-here.invariant.searched none))
+        (is_among c.loop-here.marks.keys) c.in-Some.here.now c.pop_front.new.self
+        (rw c.in-Some.ensures.taken at (c.loop-here.invariant.searched none))
         (sym c.is_by_itself.ensures.answer ∙ c.if-is_by_itself.true)),
     (λ _. refl),
   );
@@ -23,8 +22,8 @@ loop-here-preserved c = record {
   searched = λ none.
       searched_more (placed c.args.both.now) c.args.base.now c.args.kind.now
       (is_among c.loop-here.marks.keys) (is_among c.expand.new.marks.keys) c.in-Some.here.now
-      (kinds_of c.pop_front.new.self.items) (kinds_of c.expand.new.queue.items)
-      (rw c.in-Some.ensures.items at (c.loop-here.invariant.searched none))
+      c.pop_front.new.self c.expand.new.queue
+      (rw c.in-Some.ensures.taken at (c.loop-here.invariant.searched none))
       (sym c.is_by_itself.ensures.answer ∙ c.if-is_by_itself.false)
       c.in_ok-expand.ensures.expanded;
 }
@@ -32,8 +31,7 @@ loop-here-preserved c = record {
 pub returns-clause-answer : goal.returns-clause-answer
 returns-clause-answer c =
     let marked = is_among c.loop-here.marks.keys in
-    let left = none_queued c.loop-here.queue.items c.pop_front.new.self.items c.in_default.ensures.items
-    c.in_default.ensures.rest in
+    let left = c.in_default.ensures.taken.0 in
     record {
       answer = λ none.
           let all = searched_all (placed c.args.both.now) c.args.base.now c.args.kind.now marked

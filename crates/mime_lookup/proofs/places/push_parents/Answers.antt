@@ -1,17 +1,15 @@
 use Rattle.std.proofs.Common.{◌≡◌, ◌+◌, ◌-◌, ◌<◌, ◌∙◌, ◌++◌, ◌∷◌, [], length, get_or, None, sym, ap, subst, arith}
-use Rattle.std.proofs.lemmas.List.{get_or_default, map-append}
-use Rattle.std.specs.VecDeque.{deque_len}
+use Rattle.std.proofs.lemmas.List.{get_or_default}
 use Rattle.mime_base.specs.Database.PlainPairs.{plain_pairs}
 use Rattle.mime_base.specs.Database.Subclass.{above, resolved}
-use Rattle.mime_lookup.specs.Ancestry.{kinds_of}
 use Rattle.mime_lookup.specs.Places.{IsNext, place_in}
-use Rattle.mime_lookup.proofs.AncestryLemmas.Walks.{Walked, places_left-falls, walked-all, walked-first, walked-more}
+use Rattle.mime_lookup.proofs.AncestryLemmas.Walks.{Walked, places_left-falls, walked-all, walked-first, walked-length, walked-more}
 use Rattle.mime_lookup.proofs.places.push_parents.Goals as goal
 
 pub loop-place-init : goal.loop-place-init
 loop-place-init c =
     walked-first c.args.both.now.parents.pairs.now (resolved (plain_pairs c.args.both.now.aliases.pairs.now)) c.args.kind.now
-    (kinds_of c.args.queue.now.items) (deque_len c.args.queue.now) c.copied-place.result
+    c.args.queue.now c.copied-place.result
     (subst (IsNext c.args.both.now.parents.pairs.now c.args.kind.now 0) (sym (c.copied-place.ensures ∙ c.get.ensures.value))
     (c.requires.placed.parents.firsts c.args.kind.now))
 
@@ -54,23 +52,22 @@ loop-place-preserved c =
     let size : k + (here + 1) ≡ length pairs = omega (arith, at.next.1) in
     let value : c.index-place.result.now ≡ get_or next k None =
     c.index-place.ensures ∙ get_or_default next k c.index-place.result.now None inside in
-    rw (c.in_ok-push_back.ensures.items, map-append)
-    (subst (λ place. Walked pairs step c.args.kind.now place (kinds_of c.loop-place.queue.items ++ c.unalias_at.result.now ∷ [])
-    (kinds_of c.args.queue.now.items) (deque_len c.push_back.new.self) (deque_len c.args.queue.now)) (sym value)
-    (walked-more pairs step c.args.kind.now (kinds_of c.args.queue.now.items) (deque_len c.args.queue.now) here c.index-pairs-here.result
-    c.index-pairs-here.is (kinds_of c.loop-place.queue.items) c.unalias_at.result.now (deque_len c.loop-place.queue)
-    (deque_len c.push_back.new.self) (place_in c.args.both.now.parents.first) next k at c.requires.placed.parents size
-    (c.unalias_at.ensures ∙ ap step c.bytes.ensures.text) (omega (arith, c.in_ok-push_back.ensures.len))))
+    rw c.in_ok-push_back.ensures.added
+    (subst (λ place. Walked pairs step c.args.kind.now place (c.loop-place.queue ++ c.unalias_at.result.now ∷ []) c.args.queue.now)
+    (sym value)
+    (walked-more pairs step c.args.kind.now c.args.queue.now here c.index-pairs-here.result c.index-pairs-here.is c.loop-place.queue
+    c.unalias_at.result.now (place_in c.args.both.now.parents.first) next k at c.requires.placed.parents size
+    (c.unalias_at.ensures ∙ ap step c.bytes.ensures.text)))
 
 pub returns-clause-queue : goal.returns-clause-queue
 unfolding above
 returns-clause-queue c =
     let at = rw c.in_default.is at c.loop-place.invariant in
-    (walked-all c.args.both.now.parents.pairs.now (resolved (plain_pairs c.args.both.now.aliases.pairs.now)) c.args.kind.now
-    (kinds_of c.args.queue.now.items) (deque_len c.args.queue.now) (kinds_of c.loop-place.queue.items) (deque_len c.loop-place.queue) at).0
+    walked-all c.args.both.now.parents.pairs.now (resolved (plain_pairs c.args.both.now.aliases.pairs.now)) c.args.kind.now
+    c.args.queue.now c.loop-place.queue at
 
 pub returns-clause-longer : goal.returns-clause-longer
 returns-clause-longer c =
     let at = rw c.in_default.is at c.loop-place.invariant in
-    (walked-all c.args.both.now.parents.pairs.now (resolved (plain_pairs c.args.both.now.aliases.pairs.now)) c.args.kind.now
-    (kinds_of c.args.queue.now.items) (deque_len c.args.queue.now) (kinds_of c.loop-place.queue.items) (deque_len c.loop-place.queue) at).1
+    walked-length c.args.both.now.parents.pairs.now (resolved (plain_pairs c.args.both.now.aliases.pairs.now)) c.args.kind.now
+    c.args.queue.now c.loop-place.queue at

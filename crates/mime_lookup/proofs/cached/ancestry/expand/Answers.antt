@@ -23,8 +23,8 @@ returns-in_default-clause-expanded c = λ b spells.
     let is = asked cache (field cache 0 2) b.parents spells.parents.kinds c.args.kind.now c.args.marks.now c.parents_of.new.marks
     _ _ c.in_ok-found.found gives.answer c.in_ok-found.ensures.taken in
     expanded_by (pairs_of b) c.args.kind.now (marked_by cache c.args.marks.now) (marked_by cache c.parents_of.new.marks) []
-    (kinds_of c.args.queue.now.items) (kinds_of c.args.queue.now.items)
-    (rw (ap came c.in_default.is) at is) (sym (append-nil (kinds_of c.args.queue.now.items)))
+    c.args.queue.now c.args.queue.now
+    (rw (ap came c.in_default.is) at is) (sym (append-nil c.args.queue.now))
 
 pub returns-clause-expanded : goal.returns-clause-expanded
 returns-clause-expanded c = λ b spells.
@@ -35,7 +35,7 @@ returns-clause-expanded c = λ b spells.
     let given = rw (ap came c.in-Some.is, sym c.as_slice.ensures) at is in
     MatchResult-weaker c.push_unaliased.result (c.push_unaliased.ensures.queue b spells)
     (λ _ grown. expanded_by (pairs_of b) c.args.kind.now (marked_by cache c.args.marks.now) (marked_by cache c.parents_of.new.marks)
-    (kinds_of c.as_slice.result.now) (kinds_of c.args.queue.now.items) (kinds_of c.push_unaliased.new.queue.items) given grown)
+    (kinds_of c.as_slice.result.now) c.args.queue.now c.push_unaliased.new.queue given grown)
     (λ e memory. tt)
 
 pub returns-clause-takes : goal.returns-clause-takes

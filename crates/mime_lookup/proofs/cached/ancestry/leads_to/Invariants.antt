@@ -1,7 +1,6 @@
-use Rattle.std.proofs.Common.{◌+◌, ◌*◌, ◌≤◌}
-use Rattle.std.specs.VecDeque.{deque_len}
+use Rattle.std.proofs.Common.{◌+◌, ◌*◌, ◌≤◌, length}
 use Rattle.mime_base.specs.Database.{PlainDatabase, pairs_of}
-use Rattle.mime_lookup.specs.Ancestry.{NoneLeadsTo, kinds_of, unmarked}
+use Rattle.mime_lookup.specs.Ancestry.{NoneLeadsTo, unmarked}
 use Rattle.mime_lookup.specs.Costs.{CostsOwing}
 use Rattle.mime_lookup.specs.Searching.{marked_by, search_cost}
 use Rattle.mime_lookup.specs.Spelling.{SpellsPairs}
@@ -11,12 +10,12 @@ use Rattle.mime_lookup.proofs.cached.ancestry.leads_to.Given as goal
 abbrev pub invariant-loop-here : goal.invariant-loop-here
 invariant-loop-here l = record {
   searched : (b : PlainDatabase) → SpellsPairs l.cache b → NoneLeadsTo (marked_by l.cache l.fn.marks) (pairs_of b) l.base →
-      Searched (pairs_of b) l.base l.kind (marked_by l.cache l.marks) (kinds_of l.queue.items);
+      Searched (pairs_of b) l.base l.kind (marked_by l.cache l.marks) l.queue;
   owed : (b : PlainDatabase) → SpellsPairs l.cache b →
       unmarked b.parents (marked_by l.cache l.marks) + l.fn.spending.budget.records
       ≤ unmarked b.parents (marked_by l.cache l.fn.marks) + l.spending.budget.records;
-  paid : CostsOwing (29 * deque_len l.queue) search_cost 0 29 l.fn.spending l.spending;
+  paid : CostsOwing (29 * length l.queue) search_cost 0 29 l.fn.spending l.spending;
 }
 
 abbrev pub decreases-loop-here : goal.decreases-loop-here
-decreases-loop-here l = deque_len l.queue + l.spending.budget.records
+decreases-loop-here l = length l.queue + l.spending.budget.records

@@ -1,5 +1,4 @@
-use Rattle.std.proofs.Common.{◌≡◌, ◌+◌, ◌*◌, ◌++◌, map, take}
-use Rattle.std.specs.VecDeque.{deque_len}
+use Rattle.std.proofs.Common.{◌≡◌, ◌+◌, ◌*◌, ◌++◌, length, map, take}
 use Rattle.mime_base.specs.Database.{PlainDatabase}
 use Rattle.mime_base.specs.Database.Subclass.{resolved}
 use Rattle.mime_view.specs.Spending.{Looks}
@@ -10,8 +9,8 @@ use Rattle.mime_lookup.proofs.cached.ancestry.push_unaliased.Given as goal
 abbrev pub invariant-loop-kind : goal.invariant-loop-kind
 invariant-loop-kind l = record {
   queue : (b : PlainDatabase) → SpellsPairs l.cache b →
-      kinds_of l.queue.items ≡ kinds_of l.fn.queue.items ++ map (resolved b.aliases) (kinds_of (take l.kind-index l.kinds));
-  longer : deque_len l.queue ≡ deque_len l.fn.queue + l.kind-index;
+      l.queue ≡ l.fn.queue ++ map (resolved b.aliases) (kinds_of (take l.kind-index l.kinds));
+  longer : length l.queue ≡ length l.fn.queue + l.kind-index;
   budget : l.spending.budget ≡ l.fn.spending.budget;
   cost : Looks (29 * l.kind-index) (256 * 29 * l.kind-index) l.fn.spending.meter l.spending.meter;
 }
