@@ -22,8 +22,8 @@ const LONGEST_FILE: usize = 4_294_967_296;
 /// How many interrupted reads of a file are tried again.
 const RETRIES: u32 = 1_000;
 
-/// For how many bytes more there is room at once, where a file has more than it said.
-const BLOCK: usize = 65_536;
+/// How many bytes are asked for at once, at most.
+const BLOCK: usize = 262_144;
 
 /// The files of the system.
 ///
@@ -287,7 +287,9 @@ fn read_open<F: Read>(
     if size > limit as u64 {
         return Err(FileFault::Failed);
     }
-    read_sized(alloc, size as usize, limit, file)
+    // One byte more, so that the read that finds the end has room.
+    let room = (size as usize).saturating_add(1);
+    read_onto(Vec::with_capacity(alloc, room)?, limit, file)
 }
 
 /// All the bytes that a reader still gives, at most `limit`.
@@ -300,25 +302,19 @@ pub fn read_whole<R: Read>(alloc: Global, limit: usize, file: &mut R) -> Result<
     // An answer is no longer than the limit.
     ensures limited { IfOk result (λ v. length v.items ≤ limit) }
 {
-    read_sized(alloc, 0, limit, file)
+    read_onto(Vec::new(alloc), limit, file)
 }
 
-// The same, with room for so many bytes to begin with, and for one more, so that the read that finds the end needs no other.
-fn read_sized<R: Read>(
-    alloc: Global,
-    room: usize,
-    limit: usize,
-    file: &mut R,
-) -> Result<Vec<u8>, FileFault>
+// The same, into a vector that is empty, and may have room.
+fn read_onto<R: Read>(mut bytes: Vec<u8>, limit: usize, file: &mut R) -> Result<Vec<u8>, FileFault>
+    requires empty { bytes.items ≡ [] }
     ensures bytes { IfOk result (λ v. IfSome (R.remaining file.old) (λ xs. v.items ≡ xs)) }
     ensures limited { IfOk result (λ v. length v.items ≤ limit) }
 {
-    let mut bytes = Vec::new(alloc);
-    bytes.resize(room.saturating_add(1), 0)?;
     let mut filled = 0;
     let mut retries = RETRIES;
     for _ in 0..u64::MAX {
-        make_room(&mut bytes, filled)?;
+        lengthen(&mut bytes, filled)?;
         let count = read_after(file, &mut bytes, filled, &mut retries)?;
         if count == 0 {
             bytes.truncate(filled);
@@ -332,15 +328,20 @@ fn read_sized<R: Read>(
     Err(FileFault::Failed)
 }
 
-// Makes the bytes longer than those that are filled. The filled ones stay.
-fn make_room(bytes: &mut Vec<u8>, filled: usize) -> Result<(), FileFault>
+// Makes the bytes longer than those that are filled, by zeros: as long as there is room, and a block at most. The filled ones stay.
+fn lengthen(bytes: &mut Vec<u8>, filled: usize) -> Result<(), FileFault>
     requires { filled ≤ vec_len bytes.old }
-    ensures room { OnOk result (filled < vec_len bytes.new) }
+    ensures longer { OnOk result (filled < vec_len bytes.new) }
     ensures front { take filled bytes.new.items ≡ take filled bytes.old.items }
 {
-    if filled == bytes.len() {
-        bytes.resize(filled.saturating_add(BLOCK), 0)?;
+    if filled < bytes.len() {
+        return Ok(());
     }
+    let more = match bytes.capacity() - filled {
+        0 => BLOCK,
+        room => room.min(BLOCK),
+    };
+    bytes.resize(filled.saturating_add(more), 0)?;
     Ok(())
 }
 

@@ -1,6 +1,6 @@
 use Rattle.std.proofs.Common.{◌≤◌, take, vec_len}
 use Rattle.std.specs.Io.KnownBytes.{Consumes}
-use Rattle.mime_tool.proofs.system.read_sized.Given as goal
+use Rattle.mime_tool.proofs.system.read_onto.Given as goal
 
 abbrev pub invariant-loop : goal.invariant-loop
 invariant-loop g l = record {

@@ -2,7 +2,7 @@
 use Rattle.std.proofs.Common.{◌≡◌, ℕ, ◌+◌, List, ◌++◌, take, drop, Option, None, Some, refl, sym, ap, ◌∙◌, append_assoc, rules, arith}
 use Rattle.std.specs.Io.KnownBytes.{Consumes}
 use Rattle.std.proofs.lemmas.List.{drop-take, take-append-drop, take-take, with_items_is, places}
-use Rattle.mime_tool.proofs.system.read_sized.Goals as goal
+use Rattle.mime_tool.proofs.system.read_onto.Goals as goal
 
 -- two reads, one after the other
 both_read : (a b c : Option (List ℕ)) (xs ys : List ℕ) → Consumes a b xs → Consumes b c ys → Consumes a c (xs ++ ys)
@@ -24,8 +24,8 @@ loop-preserved g c =
     let count = c.in_ok-count.count in
     let read = c.in_ok-count.ensures in
     let bytes = c.read_after.new.bytes in
-    let items = with_items_is c.make_room.new.bytes bytes (search (rules, places)) in
-    let front = read.front ∙ ap (take filled) c.deref_mut.ensures.value ∙ c.in_ok-make_room.ensures.front in
+    let items = with_items_is c.lengthen.new.bytes bytes (search (rules, places)) in
+    let front = read.front ∙ ap (take filled) c.deref_mut.ensures.value ∙ c.in_ok-lengthen.ensures.front in
     let more = both_read _ _ _ _ _ c.loop.invariant.read read.read in
     let all = ap (λ old. old ++ take count (drop filled bytes)) (sym front) ∙ taken_more filled count bytes in
     rw (items, sym all) (record { within = search (rules, places); read = more; limited = search rules })
