@@ -1,8 +1,8 @@
 //! The files and the streams of the system, of which nothing is known. This project's own.
 
-ghost use Rattle.std.specs.Prelude.{◌≡◌, ◌≢◌, ◌≤◌, None, [], IfOk, IfSome, OnOk, length};
+ghost use Rattle.std.specs.Prelude.{◌≡◌, ◌≢◌, ◌+◌, ◌<◌, ◌≤◌, None, [], IfOk, IfSome, OnOk, drop, length, take, vec_len};
 ghost use Rattle.std.specs.IoError.{error_kind};
-ghost use Rattle.std.specs.Io.KnownBytes.{Appends, Keeps, ReadConsumes};
+ghost use Rattle.std.specs.Io.KnownBytes.{Appends, Consumes, IsAtEnd, Keeps, ReadConsumes};
 ghost use Rattle.mime_tool.specs.Files.{fault_of};
 ghost use Rattle.mime_tool.specs.Sink.{IsPut};
 
@@ -22,8 +22,8 @@ const LONGEST_FILE: usize = 4_294_967_296;
 /// How many interrupted reads of a file are tried again.
 const RETRIES: u32 = 1_000;
 
-/// How many bytes are asked for at once.
-const BLOCK: usize = 65_536;
+/// How many bytes are asked for at once, at most.
+const BLOCK: usize = 262_144;
 
 /// The files of the system.
 ///
@@ -287,7 +287,9 @@ fn read_open<F: Read>(
     if size > limit as u64 {
         return Err(FileFault::Failed);
     }
-    read_sized(alloc, size as usize, limit, file)
+    // One byte more, so that the read that finds the end has room.
+    let room = (size as usize).saturating_add(1);
+    read_onto(Vec::with_capacity(alloc, room)?, limit, file)
 }
 
 /// All the bytes that a reader still gives, at most `limit`.
@@ -300,33 +302,63 @@ pub fn read_whole<R: Read>(alloc: Global, limit: usize, file: &mut R) -> Result<
     // An answer is no longer than the limit.
     ensures limited { IfOk result (λ v. length v.items ≤ limit) }
 {
-    read_sized(alloc, 0, limit, file)
+    read_onto(Vec::new(alloc), limit, file)
 }
 
-// The same, with room for so many bytes to begin with.
-fn read_sized<R: Read>(
-    alloc: Global,
-    room: usize,
-    limit: usize,
-    file: &mut R,
-) -> Result<Vec<u8>, FileFault>
+// The same, into a vector that is empty, and may have room.
+fn read_onto<R: Read>(mut bytes: Vec<u8>, limit: usize, file: &mut R) -> Result<Vec<u8>, FileFault>
+    requires empty { bytes.items ≡ [] }
     ensures bytes { IfOk result (λ v. IfSome (R.remaining file.old) (λ xs. v.items ≡ xs)) }
     ensures limited { IfOk result (λ v. length v.items ≤ limit) }
 {
-    let mut bytes = Vec::with_capacity(alloc, room)?;
-    let mut block = [0u8; BLOCK];
+    let mut filled = 0;
     let mut retries = RETRIES;
     for _ in 0..u64::MAX {
-        let count = read_block(file, &mut block, &mut retries)?;
+        lengthen(&mut bytes, filled)?;
+        let count = read_after(file, &mut bytes, filled, &mut retries)?;
         if count == 0 {
+            bytes.truncate(filled);
             return Ok(bytes);
         }
-        if count > limit - bytes.len() {
+        if count > limit - filled {
             return Err(FileFault::Failed);
         }
-        bytes.extend_from_slice(&block[..count])?;
+        filled += count;
     }
     Err(FileFault::Failed)
+}
+
+// Makes the bytes longer than those that are filled, by zeros: as long as there is room, and a block at most. The filled ones stay.
+fn lengthen(bytes: &mut Vec<u8>, filled: usize) -> Result<(), FileFault>
+    requires { filled ≤ vec_len bytes.old }
+    ensures longer { OnOk result (filled < vec_len bytes.new) }
+    ensures front { take filled bytes.new.items ≡ take filled bytes.old.items }
+{
+    if filled < bytes.len() {
+        return Ok(());
+    }
+    let more = match bytes.capacity() - filled {
+        0 => BLOCK,
+        room => room.min(BLOCK),
+    };
+    bytes.resize(filled.saturating_add(more), 0)?;
+    Ok(())
+}
+
+// One read into the bytes after those that are filled, which stay. Gives how many bytes came: none only at the end.
+fn read_after<R: Read>(
+    file: &mut R,
+    bytes: &mut [u8],
+    filled: usize,
+    retries: &mut u32,
+) -> Result<usize, FileFault>
+    requires { filled < length bytes.old }
+    ensures front { take filled bytes.new ≡ take filled bytes.old }
+    ensures within { IfOk result (λ count. filled + count ≤ length bytes.new) }
+    ensures read { IfOk result (λ count. Consumes (R.remaining file.old) (R.remaining file.new) (take count (drop filled bytes.new))) }
+    ensures end { IfOk result (λ count. count ≡ 0 → IsAtEnd (R.remaining file.new)) }
+{
+    read_block(file, &mut bytes[filled..], retries)
 }
 
 // One read, tried again while it is interrupted and retries are left. Gives how many bytes came.
