@@ -277,9 +277,13 @@ fn shared_of_eight(front: &[u8], key: &[u8]) -> usize
 /// How many of the first sixteen bytes are equal, from the front, and none of them zero.
 #[inline]
 pub fn shared_of_sixteen(front: &[u8], key: &[u8]) -> usize
+    // The first has sixteen bytes.
     requires front { 16 ≤ length front.now }
+    // The second has sixteen bytes.
     requires key { 16 ≤ length key.now }
+    // It is how many are equal before the first difference and before the first zero.
     ensures shared { result ≡ shared (take 16 front.now) (take 16 key.now) }
+    // There are sixteen at most.
     ensures most { result ≤ 16 }
 {
     let bytes = u8x16::from_slice(front);
