@@ -52,6 +52,13 @@ pub fn seek(
     // It compares at most 26 texts.
     ensures cost { Looks 26 (256 * 26) meter.old meter.new }
 {
+    // An empty list wants no key.
+    if count == 0 {
+        return Ok(Sought {
+            place: 0,
+            equal: false,
+        });
+    }
     let key = Key::new(key);
     let mut low = 0;
     let mut high = count;

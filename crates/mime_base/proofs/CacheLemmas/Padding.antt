@@ -1,6 +1,6 @@
 -- A key with zeros after it: they end its agreement with a text where its own end does.
 use Rattle.std.proofs.Common.{◌≡◌, ℕ, zero, suc, ◌+◌, ◌<◌, ◌≤◌, ◌==◌, min, Bool, true, false, cond, List, [], ◌∷◌, ◌++◌}
-use Rattle.std.proofs.Common.{length, get_or, take, drop, replicate, refl, sym, ap, ◌∙◌, arith}
+use Rattle.std.proofs.Common.{length, get_or, take, drop, replicate, refl, sym, ap, ◌∙◌, arith, ne_eqb}
 use Rattle.std.proofs.lemmas.List.{get_or-take, get_or-replicate, take-replicate, take-take}
 use Rattle.mime_base.specs.Cache.Texts.{padded, shared}
 use Rattle.mime_base.proofs.CacheLemmas.Stops.{shared-first, shared-front, shared-nil}
@@ -31,6 +31,18 @@ shared-padded n room k xs ys front wide is place below =
     let room_too : shared (take n (take room xs)) (take n ys) ≡ min n (shared (take room xs) ys) = shared-front n (take room xs) ys in
     let same : take n (take room xs) ≡ take n xs = take-take n room xs wide in
     omega (arith, place, window, shared-front n xs ys, ap (λ (zs : List ℕ). shared zs (take n ys)) same, room_too)
+
+-- where the first bytes differ, none is shared
+pub shared-none : (n : ℕ) (xs ys : List ℕ) → 0 < length xs → (get_or xs zero zero ≡ get_or ys zero zero → ⊥) → shared (take (suc n) xs) ys ≡ 0
+shared-none n [] ys some differ = absurd (omega arith)
+shared-none n (x ∷ xs) [] some differ = shared-nil (x ∷ take n xs)
+shared-none n (x ∷ xs) (y ∷ ys) some differ =
+    shared-first x y (take n xs) ys
+    ∙ ap (λ (same : Bool). cond (x == 0) 0 (cond same (1 + shared (take n xs) ys) 0)) (ne_eqb x y differ) ∙ none (x == 0)
+  where
+    none : (ends : Bool) → cond ends zero zero ≡ zero
+    none true = refl
+    none false = refl
 
 -- a byte of the padded key is the key's, or the zero that stands for one that it lacks
 get_or-zeros : (n i : ℕ) (ys : List ℕ) → i < n → get_or (ys ++ replicate n 0) i 0 ≡ get_or ys i 0

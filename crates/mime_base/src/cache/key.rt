@@ -72,6 +72,10 @@ impl<'k> Key<'k> {
         if rest.len() < FRONT {
             return None;
         }
+        // Most texts differ from a key at once.
+        if rest[0] != self.front[0] {
+            return Some(0);
+        }
         let place = shared_of_sixteen(rest, &self.front);
         if place == FRONT {
             return None;
