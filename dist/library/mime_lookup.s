@@ -10,189 +10,157 @@
 	pushq	%r13
 	pushq	%r12
 	pushq	%rbx
-	subq	$312, %rsp
+	subq	$296, %rsp
 	movq	%r9, %r13
-	movq	%r8, %rbx
-	movq	%rcx, %r15
-	movq	%rdx, 208(%rsp)
+	movq	%rdx, %r12
 	movq	%rsi, 136(%rsp)
-	movq	%rdi, %rbp
+	movq	%rdi, 112(%rsp)
+	movq	360(%rsp), %rdx
+	movq	352(%rsp), %r9
+	movq	$0, 24(%rsp)
+	leaq	16(%rsp), %rax
+	movq	%rax, 48(%rsp)
 	pxor	%xmm0, %xmm0
 	movdqu	%xmm0, 56(%rsp)
-	movdqu	%xmm0, 40(%rsp)
-	leaq	16(%rsp), %rax
-	movq	%rax, 32(%rsp)
-	leaq	32(%rsp), %rdi
-	callq	"std_alloc::vec::deque::VecDeque::grow::<#25095d740b27081c>"
-	testb	%al, %al
-	je	4f
-	movq	32(%rsp), %rcx
-	movq	40(%rsp), %r10
-	movq	64(%rsp), %rdx
-	movq	%r10, %rdi
-	subq	%rdx, %rdi
-	movq	48(%rsp), %rax
-	movq	56(%rsp), %rsi
-	movq	%rax, %r8
-	subq	%rsi, %r8
-	cmpq	%r8, %rdi
-	jae	6f
-	addq	%rdi, %rsi
-	shlq	$4, %rsi
-	movq	%r15, (%rcx,%rsi)
-	movq	%rbx, 8(%rcx,%rsi)
-	incq	%r10
-	jne	7f
-1:
-	testq	%rax, %rax
-	je	3f
-2:
-	movq	32(%rsp), %rdi
-	callq	rattle_dealloc@PLT
-3:
-	movw	$0, (%rbp)
-	jmp	51f
-4:
-	cmpq	$0, 48(%rsp)
-	je	5f
-	movq	32(%rsp), %rdi
-	callq	rattle_dealloc@PLT
-5:
-	movw	$1, (%rbp)
-	movl	$7, 8(%rbp)
-	jmp	52f
-6:
-	movq	%rdx, %rsi
-	shlq	$4, %rsi
-	movq	%r15, (%rcx,%rsi)
-	movq	%rbx, 8(%rcx,%rsi)
-	incq	%rdx
-	movq	%rdx, 64(%rsp)
-	incq	%r10
-	je	1b
-7:
-	movq	368(%rsp), %r15
-	cmpq	$10, %r15
+	movdqu	%xmm0, 72(%rsp)
+	movq	%rcx, 32(%rsp)
+	movq	%r8, 40(%rsp)
+	cmpq	$10, %r9
 	movl	$10, %eax
-	cmovbq	%r15, %rax
-	movq	%rax, 80(%rsp)
-	cmpq	$24, %r15
-	movl	$24, %ebx
-	cmovbq	%r15, %rbx
-	movq	376(%rsp), %rax
-	addq	$16, %rax
-	movq	%rax, 200(%rsp)
-	movq	%rbp, 24(%rsp)
-	movq	%rbx, 184(%rsp)
-	movq	%r13, 192(%rsp)
-	jmp	9f
+	cmovbq	%r9, %rax
+	movq	%rax, 88(%rsp)
+	cmpq	$24, %r9
+	movl	$24, %r11d
+	cmovbq	%r9, %r11
+	leaq	16(%rdx), %rax
+	movq	%rax, 192(%rsp)
+	movb	$1, %al
+	movq	%r13, 120(%rsp)
+	movq	%r12, 184(%rsp)
+	movq	%r11, 128(%rsp)
+	jmp	3f
 	.p2align	4
-8:
-	movq	%rbp, %r10
-	movq	24(%rsp), %rbp
-	testq	%r10, %r10
-	je	57f
-9:
-	movq	64(%rsp), %rcx
-	movq	%rcx, 72(%rsp)
-	cmpq	%r10, %rcx
-	jne	10f
-	movq	$0, 64(%rsp)
-	movq	$0, 72(%rsp)
-	xorl	%eax, %eax
-	jmp	11f
+1:
+	movl	%ebx, %eax
+2:
+	movq	352(%rsp), %r9
+	movq	128(%rsp), %r11
+3:
+	movq	56(%rsp), %r15
+	testq	%r15, %r15
+	je	4f
+	cmpq	%r15, 80(%rsp)
+	jne	5f
+	movq	$0, 80(%rsp)
+	xorl	%ecx, %ecx
+	jmp	6f
 	.p2align	4
-10:
-	movq	56(%rsp), %rax
-11:
-	leaq	1(%rax), %rcx
-	movq	%rcx, 128(%rsp)
-	movq	%rcx, 56(%rsp)
-	decq	%r10
-	movq	%r10, 40(%rsp)
-	movq	32(%rsp), %rdi
-	shlq	$4, %rax
-	movq	(%rdi,%rax), %rdx
-	movq	8(%rdi,%rax), %rcx
-	cmpq	%r15, %rcx
-	movq	%r15, %rsi
+4:
+	xorl	%r15d, %r15d
+	xorl	%ebx, %ebx
+	xorl	%esi, %esi
+	xorl	%edi, %edi
+	jmp	7f
+	.p2align	4
+5:
+	movq	72(%rsp), %rcx
+6:
+	leaq	1(%rcx), %rdx
+	movq	%rdx, 72(%rsp)
+	decq	%r15
+	movq	%r15, 56(%rsp)
+	movq	48(%rsp), %rdx
+	shlq	$4, %rcx
+	movq	(%rdx,%rcx), %rsi
+	movq	8(%rdx,%rcx), %rdi
+	movl	$1, %ebx
+7:
+	movq	32(%rsp), %rdx
+	movq	40(%rsp), %rcx
+	movq	%rbx, 24(%rsp)
+	movq	%rsi, 32(%rsp)
+	movq	%rdi, 40(%rsp)
+	cmpb	$1, %al
+	jne	47f
+	cmpq	%r9, %rcx
+	movq	%r9, %rsi
 	cmovbq	%rcx, %rsi
 	xorl	%eax, %eax
 	.p2align	4
-12:
-	movq	%rsi, %r8
-	subq	%rax, %r8
-	cmpq	$8, %r8
-	jb	13f
+8:
+	movq	%rsi, %rdi
+	subq	%rax, %rdi
+	cmpq	$8, %rdi
+	jb	9f
 	pmovzxbw	(%r13,%rax), %xmm0
 	pmovzxbw	(%rdx,%rax), %xmm1
 	pcmpeqw	%xmm0, %xmm1
 	packsswb	%xmm1, %xmm1
-	pmovmskb	%xmm1, %r8d
-	notl	%r8d
-	orl	$256, %r8d
-	rep		bsfl	%r8d, %r8d
-	addq	%r8, %rax
-	cmpb	$7, %r8b
-	ja	12b
-13:
+	pmovmskb	%xmm1, %edi
+	notl	%edi
+	orl	$256, %edi
+	rep		bsfl	%edi, %edi
+	addq	%rdi, %rax
+	cmpb	$7, %dil
+	ja	8b
+9:
 	cmpq	%rsi, %rax
-	jae	16f
+	jae	12f
 	.p2align	4
-14:
-	movzbl	(%r13,%rax), %r8d
-	cmpb	(%rdx,%rax), %r8b
-	jne	15f
+10:
+	movzbl	(%r13,%rax), %edi
+	cmpb	(%rdx,%rax), %dil
+	jne	11f
 	incq	%rax
 	cmpq	%rax, %rsi
-	jne	14b
-	jmp	16f
+	jne	10b
+	jmp	12f
 	.p2align	4
-15:
+11:
 	movq	%rax, %rsi
-16:
-	leaq	1(%rsi), %r9
-	movq	376(%rsp), %r8
-	addq	8(%r8), %r9
+12:
+	leaq	1(%rsi), %rdi
+	movq	360(%rsp), %r8
+	addq	8(%r8), %rdi
 	movq	$-1, %rax
-	cmovaeq	%r9, %rax
+	cmovaeq	%rdi, %rax
 	movq	%rax, 8(%r8)
-	movq	%rsi, %r8
-	xorq	%r15, %r8
+	movq	%rsi, %rdi
+	xorq	%r9, %rdi
 	xorq	%rcx, %rsi
-	orq	%r8, %rsi
-	je	49f
+	orq	%rdi, %rsi
+	je	45f
 	cmpq	$5, %rcx
-	jb	23f
+	jb	19f
 	movl	$1, %esi
 	cmpb	$116, (%rdx)
-	jne	20f
+	jne	16f
 	movl	$2, %esi
 	cmpb	$101, 1(%rdx)
-	jne	20f
+	jne	16f
 	movl	$3, %esi
 	cmpb	$120, 2(%rdx)
-	jne	20f
+	jne	16f
 	movl	$4, %esi
 	cmpb	$116, 3(%rdx)
-	jne	20f
+	jne	16f
 	movl	$5, %esi
 	cmpb	$47, 4(%rdx)
-	jne	20f
+	jne	16f
 	addq	$6, %rax
 	movq	$-1, %rsi
 	cmovaeq	%rax, %rsi
-	movq	376(%rsp), %rax
+	movq	360(%rsp), %rax
 	movq	%rsi, 8(%rax)
 	xorl	%eax, %eax
 	.p2align	4
-17:
-	movq	80(%rsp), %r8
+13:
+	movq	88(%rsp), %r8
 	subq	%rax, %r8
-	leaq	.Laafe98300121(%rip), %r11
+	leaq	.Laafe98300121(%rip), %rdi
 	cmpq	$8, %r8
-	jb	18f
-	pmovzxbw	(%rax,%r11), %xmm0
+	jb	14f
+	pmovzxbw	(%rax,%rdi), %xmm0
 	pmovzxbw	(%r13,%rax), %xmm1
 	pcmpeqw	%xmm0, %xmm1
 	packsswb	%xmm1, %xmm1
@@ -202,73 +170,73 @@
 	rep		bsfl	%r8d, %r8d
 	addq	%r8, %rax
 	cmpb	$7, %r8b
-	ja	17b
-18:
-	movq	80(%rsp), %r9
-	movq	%r9, %r8
-	cmpq	%r9, %rax
-	jae	48f
+	ja	13b
+14:
+	movq	88(%rsp), %r10
+	movq	%r10, %r8
+	cmpq	%r10, %rax
+	jae	44f
 	.p2align	4
-19:
-	movzbl	(%rax,%r11), %r8d
+15:
+	movzbl	(%rax,%rdi), %r8d
 	cmpb	(%r13,%rax), %r8b
-	jne	47f
+	jne	43f
 	incq	%rax
-	cmpq	%rax, 80(%rsp)
-	jne	19b
-	movq	80(%rsp), %r8
-	jmp	48f
+	cmpq	%rax, 88(%rsp)
+	jne	15b
+	movq	88(%rsp), %r8
+	jmp	44f
 	.p2align	4
-20:
+16:
 	addq	%rax, %rsi
 	movq	$-1, %rax
 	cmovaeq	%rsi, %rax
-	movq	376(%rsp), %rsi
+	movq	360(%rsp), %rsi
 	movq	%rax, 8(%rsi)
-21:
+17:
 	cmpq	$5, %rcx
-	je	23f
+	je	19f
 	movl	$1, %esi
 	cmpb	$105, (%rdx)
-	jne	22f
+	jne	18f
 	movl	$2, %esi
 	cmpb	$110, 1(%rdx)
-	jne	22f
+	jne	18f
 	movl	$3, %esi
 	cmpb	$111, 2(%rdx)
-	jne	22f
+	jne	18f
 	movl	$4, %esi
 	cmpb	$100, 3(%rdx)
-	jne	22f
+	jne	18f
 	movl	$5, %esi
 	cmpb	$101, 4(%rdx)
-	jne	22f
+	jne	18f
 	movl	$6, %esi
 	cmpb	$47, 5(%rdx)
-	jne	22f
+	jne	18f
 	addq	$7, %rax
 	movq	$-1, %rsi
 	cmovaeq	%rax, %rsi
-	movq	376(%rsp), %rax
+	movq	360(%rsp), %rax
 	movq	%rsi, 8(%rax)
-	jmp	29f
+	jmp	25f
 	.p2align	4
-22:
+18:
 	addq	%rax, %rsi
 	movq	$-1, %rax
 	cmovaeq	%rsi, %rax
-	movq	376(%rsp), %rsi
+	movq	360(%rsp), %rsi
 	movq	%rax, 8(%rsi)
-23:
+19:
 	xorl	%esi, %esi
 	.p2align	4
-24:
-	movq	%rbx, %r8
+20:
+	movq	%r11, %r8
 	subq	%rsi, %r8
-	leaq	.L67248b46a1a0(%rip), %r9
+	leaq	.L67248b46a1a0(%rip), %rdi
 	cmpq	$8, %r8
-	jb	25f
-	pmovzxbw	(%rsi,%r9), %xmm0
+	jb	21f
+	pmovzxbw	(%rsi,%rdi), %xmm0
 	pmovzxbw	(%r13,%rsi), %xmm1
 	pcmpeqw	%xmm0, %xmm1
 	packsswb	%xmm1, %xmm1
@@ -278,100 +246,89 @@
 	rep		bsfl	%r8d, %r8d
 	addq	%r8, %rsi
 	cmpb	$7, %r8b
-	ja	24b
-25:
-	movq	%rbx, %r8
-	cmpq	%rbx, %rsi
-	jae	28f
+	ja	20b
+21:
+	movq	%r11, %r8
+	cmpq	%r11, %rsi
+	jae	24f
 	.p2align	4
-26:
-	movzbl	(%rsi,%r9), %r8d
+22:
+	movzbl	(%rsi,%rdi), %r8d
 	cmpb	(%r13,%rsi), %r8b
-	jne	27f
+	jne	23f
 	incq	%rsi
-	cmpq	%rsi, %rbx
-	jne	26b
-	movq	%rbx, %r8
-	jmp	28f
+	cmpq	%rsi, %r11
+	jne	22b
+	movq	%r11, %r8
+	jmp	24f
 	.p2align	4
-27:
+23:
 	movq	%rsi, %r8
-28:
+24:
 	leaq	1(%r8), %rsi
 	addq	%rax, %rsi
 	movq	$-1, %rax
 	cmovaeq	%rsi, %rax
-	movq	376(%rsp), %rsi
+	movq	360(%rsp), %rsi
 	movq	%rax, 8(%rsi)
-	cmpq	$24, %r15
-	jne	29f
+	cmpq	$24, %r9
+	jne	25f
 	cmpq	$24, %r8
-	je	49f
-29:
-	movq	%rdi, 120(%rsp)
-	movq	%r10, %rbp
-	movq	$0, 216(%rsp)
+	je	45f
+25:
+	movq	$0, 200(%rsp)
 	pxor	%xmm0, %xmm0
+	movdqa	%xmm0, 240(%rsp)
 	movdqa	%xmm0, 256(%rsp)
 	movdqa	%xmm0, 272(%rsp)
-	movdqa	%xmm0, 288(%rsp)
-	movq	$0, 304(%rsp)
-	movq	200(%rsp), %rax
+	movq	$0, 288(%rsp)
+	movq	192(%rsp), %rax
 	movq	%rax, (%rsp)
-	leaq	256(%rsp), %rdi
+	leaq	240(%rsp), %rdi
 	movq	136(%rsp), %rsi
-	movq	208(%rsp), %r8
-	movq	376(%rsp), %r9
+	movq	%r12, %r8
+	movq	360(%rsp), %r9
 	callq	"mime_view::cache::Cache::parents_of"
-	movzbl	264(%rsp), %r12d
-	movq	272(%rsp), %r14
-	cmpb	$0, 256(%rsp)
-	jne	54f
-	cmpb	$1, %r12b
-	jne	8b
-	movzbl	280(%rsp), %esi
-	movl	%r14d, 216(%rsp)
-	movq	%rsi, 224(%rsp)
-	leaq	288(%rsp), %rcx
+	movzbl	248(%rsp), %r14d
+	movq	256(%rsp), %rcx
+	cmpb	$0, 240(%rsp)
+	jne	50f
+	cmpb	$1, %r14b
+	jne	1b
+	movzbl	264(%rsp), %esi
+	movl	%ecx, 200(%rsp)
+	movq	%rsi, 208(%rsp)
+	leaq	272(%rsp), %rcx
 	movq	16(%rcx), %rax
-	leaq	232(%rsp), %rdx
+	leaq	216(%rsp), %rdx
 	movq	%rax, 16(%rdx)
 	movdqu	(%rcx), %xmm0
 	movdqu	%xmm0, (%rdx)
+	movq	%rsi, 96(%rsp)
 	testq	%rsi, %rsi
-	je	30f
-	movq	240(%rsp), %rax
-	testq	%rax, %rax
-	je	43f
-	movq	%rsi, 88(%rsp)
-	movq	232(%rsp), %r13
-	jmp	31f
-30:
-	movq	%rsi, 88(%rsp)
-	movl	$1, %eax
+	je	26f
+	movq	224(%rsp), %r12
+	testq	%r12, %r12
+	je	39f
+	movq	216(%rsp), %r13
+	jmp	27f
+26:
+	movl	$1, %r12d
 	movq	%rdx, %r13
-31:
+27:
 	addq	$8, %r13
-	jmp	34f
+	jmp	29f
 	.p2align	4
-32:
-	addq	%rdi, %rax
-	shlq	$4, %rax
-	movq	120(%rsp), %rcx
-	movq	%rbx, (%rcx,%rax)
-	movq	%r15, 8(%rcx,%rax)
-33:
-	movq	96(%rsp), %rax
-	incq	%rdx
-	movq	%rdx, %rbp
-	movq	%rdx, 40(%rsp)
+28:
+	movq	$1, 24(%rsp)
+	movq	%rbx, 32(%rsp)
+	movq	%rbp, 40(%rsp)
 	addq	$16, %r13
-	decq	%rax
-	je	41f
-34:
-	movq	%rax, 96(%rsp)
+	decq	%r12
+	je	35f
+29:
 	movq	-8(%r13), %rbx
-	movq	(%r13), %r15
+	movq	(%r13), %rbp
 	pxor	%xmm0, %xmm0
 	movdqa	%xmm0, 160(%rsp)
 	movdqa	%xmm0, 144(%rsp)
@@ -379,141 +336,168 @@
 	movl	20(%rsi), %edx
 	leaq	144(%rsp), %rdi
 	movq	%rbx, %rcx
-	movq	%r15, %r8
-	movq	376(%rsp), %r9
+	movq	%rbp, %r8
+	movq	360(%rsp), %r9
 	callq	"mime_view::pairs::look_up_pair"
-	movzbl	152(%rsp), %r12d
-	movq	160(%rsp), %r14
+	movzbl	152(%rsp), %r14d
+	movq	160(%rsp), %rcx
 	cmpb	$0, 144(%rsp)
-	jne	39f
-	cmpb	$1, %r12b
-	jne	35f
-	movq	168(%rsp), %r15
-	movq	%r14, %rbx
-35:
-	movq	48(%rsp), %rcx
-	cmpq	%rcx, %rbp
-	jae	37f
-	movq	%rbp, %rdx
-	movq	%rbp, %rax
-	movq	72(%rsp), %rsi
-	subq	%rsi, %rax
-	movq	128(%rsp), %rdi
-	subq	%rdi, %rcx
-	cmpq	%rcx, %rax
-	jb	32b
-	movq	%rsi, %rax
-	shlq	$4, %rax
-	movq	120(%rsp), %rcx
-	movq	%rbx, (%rcx,%rax)
-	movq	%r15, 8(%rcx,%rax)
-36:
-	incq	%rsi
-	movq	%rsi, 72(%rsp)
-	movq	%rsi, 64(%rsp)
-	jmp	33b
-37:
-	leaq	32(%rsp), %rdi
+	jne	36f
+	cmpb	$1, %r14b
+	jne	30f
+	movq	168(%rsp), %rbp
+	movq	%rcx, %rbx
+30:
+	cmpb	$1, 24(%rsp)
+	jne	28b
+	movq	64(%rsp), %rsi
+	cmpq	%rsi, %r15
+	jae	32f
+	movq	80(%rsp), %rcx
+	movq	%r15, %rdx
+	subq	%rcx, %rdx
+	movq	48(%rsp), %rax
+	movq	72(%rsp), %rdi
+	subq	%rdi, %rsi
+	cmpq	%rsi, %rdx
+	jae	33f
+	addq	%rdi, %rdx
+31:
+	shlq	$4, %rdx
+	movq	%rbx, (%rax,%rdx)
+	movq	%rbp, 8(%rax,%rdx)
+	jmp	34f
+32:
+	leaq	48(%rsp), %rdi
 	callq	"std_alloc::vec::deque::VecDeque::grow::<#25095d740b27081c>"
 	testb	%al, %al
-	je	46f
-	movq	32(%rsp), %rdi
-	movq	40(%rsp), %rdx
-	movq	64(%rsp), %rsi
-	movq	%rdx, %rax
-	subq	%rsi, %rax
-	movq	48(%rsp), %rcx
-	movq	56(%rsp), %r8
-	subq	%r8, %rcx
-	cmpq	%rcx, %rax
-	movq	%rdi, 120(%rsp)
-	movq	%r8, 128(%rsp)
-	jae	38f
-	movq	%rsi, 72(%rsp)
-	addq	%r8, %rax
-	shlq	$4, %rax
-	movq	%rbx, (%rdi,%rax)
-	movq	%r15, 8(%rdi,%rax)
-	jmp	33b
-38:
-	movq	%rsi, %rax
-	shlq	$4, %rax
-	movq	%rbx, (%rdi,%rax)
-	movq	%r15, 8(%rdi,%rax)
-	jmp	36b
-39:
+	je	42f
+	movq	48(%rsp), %rax
+	movq	56(%rsp), %r15
+	movq	80(%rsp), %rcx
+	movq	%r15, %rsi
+	subq	%rcx, %rsi
+	movq	64(%rsp), %rdi
+	movq	72(%rsp), %rdx
+	subq	%rdx, %rdi
+	cmpq	%rdi, %rsi
+	jae	33f
+	addq	%rsi, %rdx
+	jmp	31b
+	.p2align	4
+33:
+	movq	%rcx, %rdx
+	shlq	$4, %rdx
+	movq	%rbx, (%rax,%rdx)
+	movq	%rbp, 8(%rax,%rdx)
+	incq	%rcx
+	movq	%rcx, 80(%rsp)
+34:
+	incq	%r15
+	movq	%r15, 56(%rsp)
+	addq	$16, %r13
+	decq	%r12
+	jne	29b
+35:
+	xorl	%ecx, %ecx
+	pxor	%xmm0, %xmm0
+	movb	$1, %bl
+	xorl	%r14d, %r14d
+	jmp	38f
+36:
 	movd	154(%rsp), %xmm0
-40:
+37:
 	xorl	%ebx, %ebx
-	jmp	42f
-41:
-	xorl	%r14d, %r14d
+38:
+	movq	120(%rsp), %r13
+	movq	96(%rsp), %rax
+	cmpl	$1, %eax
+	movq	184(%rsp), %r12
+	je	40f
+	jmp	41f
+39:
 	pxor	%xmm0, %xmm0
 	movb	$1, %bl
-	xorl	%r12d, %r12d
-42:
-	movq	24(%rsp), %rbp
-	movq	368(%rsp), %r15
-	movq	88(%rsp), %rsi
-	cmpl	$1, %esi
-	movq	192(%rsp), %r13
-	je	44f
-	jmp	45f
-43:
-	pxor	%xmm0, %xmm0
-	movb	$1, %bl
+	xorl	%ecx, %ecx
 	xorl	%r14d, %r14d
-	xorl	%r12d, %r12d
-	movq	24(%rsp), %rbp
-	cmpl	$1, %esi
-	movq	192(%rsp), %r13
-	jne	45f
-44:
-	cmpq	$0, 248(%rsp)
-	je	45f
-	movq	232(%rsp), %rdi
+	movq	96(%rsp), %rax
+	cmpl	$1, %eax
+	movq	184(%rsp), %r12
+	jne	41f
+40:
+	cmpq	$0, 232(%rsp)
+	je	41f
+	movq	216(%rsp), %rdi
+	movq	%rcx, %r15
 	movdqa	%xmm0, 96(%rsp)
 	callq	rattle_dealloc@PLT
 	movdqa	96(%rsp), %xmm0
-45:
+	movq	%r15, %rcx
+41:
 	testb	%bl, %bl
-	je	55f
-	movq	40(%rsp), %r10
-	movq	184(%rsp), %rbx
-	testq	%r10, %r10
-	jne	9b
-	jmp	57f
-46:
+	je	51f
+	movzbl	24(%rsp), %eax
+	jmp	2b
+42:
 	pxor	%xmm0, %xmm0
-	movb	$7, %r12b
-	xorl	%r14d, %r14d
-	jmp	40b
-47:
+	movb	$7, %r14b
+	xorl	%ecx, %ecx
+	jmp	37b
+43:
 	movq	%rax, %r8
-48:
-	leaq	1(%r8), %r9
-	addq	%rsi, %r9
+44:
+	leaq	1(%r8), %rdi
+	addq	%rsi, %rdi
 	movq	$-1, %rax
-	cmovaeq	%r9, %rax
-	movq	376(%rsp), %rsi
+	cmovaeq	%rdi, %rax
+	movq	360(%rsp), %rsi
 	movq	%rax, 8(%rsi)
-	cmpq	$10, %r15
-	jne	21b
+	cmpq	$10, %r9
+	jne	17b
 	cmpq	$10, %r8
-	jne	21b
-49:
-	cmpq	$0, 48(%rsp)
-	je	50f
+	jne	17b
+45:
+	cmpq	$0, 64(%rsp)
+	je	46f
+	movq	48(%rsp), %rdi
 	callq	rattle_dealloc@PLT
+46:
+	movq	112(%rsp), %rax
+	movw	$256, (%rax)
+	jmp	49f
+47:
+	cmpq	$0, 64(%rsp)
+	je	48f
+	movq	48(%rsp), %rdi
+	callq	rattle_dealloc@PLT
+48:
+	movq	112(%rsp), %rax
+	movw	$0, (%rax)
+49:
+	movl	$0, 8(%rax)
+	movw	$0, 12(%rax)
+	movq	$0, 16(%rax)
+	jmp	53f
 50:
-	movw	$256, (%rbp)
+	movd	250(%rsp), %xmm0
 51:
-	movl	$0, 8(%rbp)
+	movzbl	%r14b, %ebx
+	cmpq	$0, 64(%rsp)
+	je	52f
+	movq	48(%rsp), %rdi
+	movq	%rcx, %r14
+	movdqa	%xmm0, 96(%rsp)
+	callq	rattle_dealloc@PLT
+	movdqa	96(%rsp), %xmm0
+	movq	%r14, %rcx
 52:
-	movw	$0, 12(%rbp)
-	movq	$0, 16(%rbp)
+	movq	112(%rsp), %rax
+	movw	$1, (%rax)
+	movw	%bx, 8(%rax)
+	movd	%xmm0, 10(%rax)
+	movq	%rcx, 16(%rax)
 53:
-	addq	$312, %rsp
+	addq	$296, %rsp
 	popq	%rbx
 	popq	%r12
 	popq	%r13
@@ -522,29 +506,7 @@
 	popq	%rbp
 	retq
 54:
-	movd	266(%rsp), %xmm0
-	movq	24(%rsp), %rbp
-55:
-	movzbl	%r12b, %ebx
-	cmpq	$0, 48(%rsp)
-	je	56f
-	movq	32(%rsp), %rdi
-	movdqa	%xmm0, 96(%rsp)
-	callq	rattle_dealloc@PLT
-	movdqa	96(%rsp), %xmm0
-56:
-	movw	$1, (%rbp)
-	movw	%bx, 8(%rbp)
-	movd	%xmm0, 10(%rbp)
-	movq	%r14, 16(%rbp)
-	jmp	53b
-57:
-	movq	48(%rsp), %rax
-	testq	%rax, %rax
-	jne	2b
-	jmp	3b
-58:
-	.size	"mime_lookup::cached::ancestry::leads_to", 58b-"mime_lookup::cached::ancestry::leads_to"
+	.size	"mime_lookup::cached::ancestry::leads_to", 54b-"mime_lookup::cached::ancestry::leads_to"
 
 	.text
 	.p2align	4

@@ -13973,7 +13973,7 @@
 	shll	$3, %ecx
 	leaq	".Lswitch.table.mime_tool::line::print_line::<#2e1b2a3647f851f7>"(%rip), %rax
 	movq	(%rcx,%rax), %r13
-	leaq	".Lswitch.table.mime_tool::line::print_line::<#2e1b2a3647f851f7>.2135"(%rip), %rax
+	leaq	".Lswitch.table.mime_tool::line::print_line::<#2e1b2a3647f851f7>.2132"(%rip), %rax
 	movq	(%rcx,%rax), %r8
 	movq	56(%rsp), %r12
 	jmp	68f
@@ -26591,364 +26591,240 @@
 	pushq	%r13
 	pushq	%r12
 	pushq	%rbx
-	movq	%rsp, %r11
-	subq	$64512, %r11
-3:
-	subq	$3072, %rsp
-	movq	$0, (%rsp)
-	cmpq	%r11, %rsp
-	jne	3b
-	subq	$1448, %rsp
+	subq	$376, %rsp
 	movq	%rdi, %rbx
 	xorps	%xmm0, %xmm0
-	movaps	%xmm0, 400(%rsp)
-	movaps	%xmm0, 384(%rsp)
-	movaps	%xmm0, 368(%rsp)
 	movaps	%xmm0, 352(%rsp)
 	movaps	%xmm0, 336(%rsp)
 	movaps	%xmm0, 320(%rsp)
-	movaps	%xmm0, 96(%rsp)
-	movq	$0, 112(%rsp)
+	movaps	%xmm0, 304(%rsp)
 	movaps	%xmm0, 288(%rsp)
-	movups	%xmm0, 302(%rsp)
-	movaps	%xmm0, 128(%rsp)
-	movq	$0, 144(%rsp)
-	leaq	320(%rsp), %rdi
+	movaps	%xmm0, 272(%rsp)
+	movaps	%xmm0, 48(%rsp)
+	movq	$0, 64(%rsp)
+	movaps	%xmm0, 240(%rsp)
+	movups	%xmm0, 254(%rsp)
+	movaps	%xmm0, 112(%rsp)
+	movq	$0, 128(%rsp)
+	leaq	272(%rsp), %rdi
 	callq	"mime_tool::system::open_file::<#a1ba6ce099ef6b20>"
-	cmpb	$0, 320(%rsp)
-	movabsq	$2820983053732684064, %r14
-	je	5f
-	movzbl	329(%rsp), %eax
+	cmpb	$0, 272(%rsp)
+	movabsq	$2820983053732684064, %rcx
+	je	4f
+	movzbl	281(%rsp), %eax
 	movaps	1b(%rip), %xmm0
-	movaps	%xmm0, 416(%rsp)
+	movaps	%xmm0, 144(%rsp)
 	movaps	2b(%rip), %xmm1
-	movaps	%xmm1, 432(%rsp)
-	movq	%r14, 448(%rsp)
-	movb	$40, 456(%rsp)
+	movaps	%xmm1, 160(%rsp)
+	movq	%rcx, 176(%rsp)
+	movb	$40, 184(%rsp)
 	cmpq	$41, %rax
-	jae	4f
-	cmpb	$0, 416(%rsp,%rax)
-	je	9f
-4:
-	movaps	%xmm0, 416(%rsp)
-	movaps	%xmm1, 432(%rsp)
-	movq	%r14, 448(%rsp)
-	movb	$40, 456(%rsp)
+	jae	3f
+	cmpb	$0, 144(%rsp,%rax)
+	je	14f
+3:
+	movaps	%xmm0, 144(%rsp)
+	movaps	%xmm1, 160(%rsp)
+	movq	%rcx, 176(%rsp)
+	movb	$40, 184(%rsp)
 	cmpb	$41, %al
-	jae	7f
-	movzbl	416(%rsp,%rax), %eax
-	leaq	".Lswitch.table.mime_tool::system::SystemFilesFiles::whole::<#a1ba6ce099ef6b20>.2134"(%rip), %rcx
+	jae	13f
+	movzbl	144(%rsp,%rax), %eax
+	leaq	".Lswitch.table.mime_tool::system::SystemFilesFiles::whole::<#a1ba6ce099ef6b20>.2131"(%rip), %rcx
 	movzbl	(%rax,%rcx), %eax
 	movb	$1, %cl
-	jmp	10f
-5:
-	movl	328(%rsp), %eax
-	movl	%eax, 8(%rsp)
-	movq	336(%rsp), %rdi
+	jmp	15f
+4:
+	movl	280(%rsp), %eax
+	movl	%eax, 4(%rsp)
+	movq	288(%rsp), %r14
 	xorps	%xmm0, %xmm0
-	movups	%xmm0, 78(%rsp)
-	movaps	%xmm0, 64(%rsp)
-	movabsq	$4294967297, %rax
-	cmpq	%rax, %rdi
-	jb	8f
-6:
+	movups	%xmm0, 94(%rsp)
+	movaps	%xmm0, 80(%rsp)
 	movb	$1, %bpl
-	jmp	42f
+	movabsq	$4294967296, %rax
+	cmpq	%rax, %r14
+	ja	21f
+	incq	%r14
+	movl	$1, %esi
+	movq	%r14, %rdi
+	callq	rattle_alloc@PLT
+	movb	$2, %bpl
+	testb	$1, %al
+	je	21f
+	movq	%rdx, %r12
+	movq	%rdx, 16(%rsp)
+	movq	$0, 24(%rsp)
+	movq	%r14, 32(%rsp)
+	movl	$1000, %r15d
+	xorl	%edi, %edi
+	xorl	%ebp, %ebp
+	xorl	%eax, %eax
+5:
+	movq	%rax, 232(%rsp)
+	cmpq	%rdi, %rbp
+	jb	8f
+	movq	%r14, %rax
+	subq	%rbp, %rax
+	cmpq	$262144, %rax
+	movl	$262144, %ecx
+	cmovaeq	%rcx, %rax
+	cmpq	%rbp, %r14
+	cmoveq	%rcx, %rax
+	addq	%rbp, %rax
+	movq	$-1, %rdx
+	cmovaeq	%rax, %rdx
+	subq	%rdi, %rdx
+	jbe	8f
+	movq	%r14, %rax
+	subq	%rdi, %rax
+	cmpq	%rax, %rdx
+	ja	12f
+	leaq	(%rdi,%rdx), %rax
+	cmpq	%rax, %rdi
+	jae	7f
+6:
+	addq	%r12, %rdi
+	xorl	%esi, %esi
+	movq	%rax, %r13
+	callq	memset@PLT
+	movq	%r13, %rax
 7:
+	movq	%rax, 24(%rsp)
+	movq	%r14, 32(%rsp)
+	jmp	9f
+	.p2align	4
+8:
+	movq	%rdi, %rax
+9:
+	movq	%r12, 8(%rsp)
+	leaq	(%r12,%rbp), %r13
+	movq	%rax, 40(%rsp)
+	movq	%rax, %r12
+	subq	%rbp, %r12
+10:
+	movl	4(%rsp), %edi
+	movq	%r13, %rsi
+	movq	%r12, %rdx
+	callq	read@PLT
+	testq	%rax, %rax
+	jns	11f
+	callq	rattle_errno@PLT
+	leaq	144(%rsp), %rdi
+	movl	%eax, %esi
+	callq	"std_io::io::error::Error::from_raw_os_error"
+	movq	144(%rsp), %rax
+	shrq	$8, %rax
+	movaps	1b(%rip), %xmm0
+	movaps	%xmm0, 144(%rsp)
+	movaps	2b(%rip), %xmm1
+	movaps	%xmm1, 160(%rsp)
+	movabsq	$2820983053732684064, %rcx
+	movq	%rcx, 176(%rsp)
+	movb	$40, 184(%rsp)
+	cmpb	$41, %al
+	jae	17f
+	movl	%eax, %ecx
+	andl	$63, %ecx
+	cmpb	$35, 144(%rsp,%rcx)
+	jne	17f
+	testl	%r15d, %r15d
+	je	17f
+	decl	%r15d
+	jmp	10b
+	.p2align	4
+11:
+	cmpq	%r12, %rax
+	cmovbq	%rax, %r12
+	testq	%r12, %r12
+	movabsq	$4294967296, %rax
+	je	23f
+	subq	%rbp, %rax
+	cmpq	%r12, %rax
+	movq	232(%rsp), %rax
+	jb	24f
+	addq	%r12, %rbp
+	incq	%rax
+	movq	40(%rsp), %rdi
+	cmpq	$-1, %rax
+	movq	8(%rsp), %r12
+	jne	5b
+	jmp	25f
+12:
+	leaq	16(%rsp), %rdi
+	movq	%rdx, %r12
+	movq	%rdx, %rsi
+	callq	"std_alloc::vec::Vec::grow_amortized::<#1d775b5957dec42c>"
+	testb	%al, %al
+	je	28f
+	movq	16(%rsp), %rax
+	movq	24(%rsp), %rdi
+	movq	32(%rsp), %r14
+	movq	%r12, %rdx
+	movq	%rax, %r12
+	leaq	(%rdi,%rdx), %rax
+	cmpq	%rax, %rdi
+	jb	6b
+	jmp	7b
+13:
 	movb	$1, %cl
 	movb	$1, %al
-	jmp	10f
-8:
-	movaps	%xmm0, 160(%rsp)
-	movups	%xmm0, 174(%rsp)
-	testq	%rdi, %rdi
-	je	12f
-	movl	$1, %esi
-	movq	%rdi, %r15
-	callq	rattle_alloc@PLT
-	testb	$1, %al
-	je	41f
-	movq	%r15, %rdi
-	jmp	13f
-9:
+	jmp	15f
+14:
 	xorps	%xmm0, %xmm0
-	movaps	%xmm0, 128(%rsp)
-	movq	$0, 144(%rsp)
+	movaps	%xmm0, 112(%rsp)
+	movq	$0, 128(%rsp)
 	xorl	%ecx, %ecx
 	xorl	%eax, %eax
-10:
-	movq	144(%rsp), %rdx
-	movq	%rdx, 112(%rsp)
-	movaps	128(%rsp), %xmm0
-	movaps	%xmm0, 96(%rsp)
+15:
+	movq	128(%rsp), %rdx
+	movq	%rdx, 64(%rsp)
+	movaps	112(%rsp), %xmm0
+	movaps	%xmm0, 48(%rsp)
 	xorl	%edx, %edx
-11:
+16:
 	movb	%cl, (%rbx)
 	movb	%al, 1(%rbx)
 	movq	%rdx, 8(%rbx)
-	movaps	96(%rsp), %xmm0
+	movaps	48(%rsp), %xmm0
 	movups	%xmm0, 16(%rbx)
-	movq	112(%rsp), %rax
+	movq	64(%rsp), %rax
 	movq	%rax, 32(%rbx)
-	jmp	43f
-12:
-	leaq	15(%rsp), %rdx
-13:
-	movq	%rdx, 56(%rsp)
-	movq	%rdx, 32(%rsp)
-	movq	$0, 40(%rsp)
-	movq	%rdi, 16(%rsp)
-	movq	%rdi, 48(%rsp)
-	leaq	416(%rsp), %rdi
-	xorl	%ebp, %ebp
-	movl	$65536, %edx
-	xorl	%esi, %esi
-	callq	memset@PLT
-	movl	$1000, %r13d
-	xorl	%r9d, %r9d
-14:
-	movq	%r9, 24(%rsp)
-	leaq	416(%rsp), %rsi
-	movl	$65536, %r12d
-15:
-	movl	$65536, %edx
-	movl	8(%rsp), %edi
-	callq	read@PLT
-	testq	%rax, %rax
-	jns	16f
-	callq	rattle_errno@PLT
-	leaq	192(%rsp), %rdi
-	movl	%eax, %esi
-	callq	"std_io::io::error::Error::from_raw_os_error"
-	movq	192(%rsp), %rax
-	shrq	$8, %rax
-	movaps	1b(%rip), %xmm0
-	movaps	%xmm0, 192(%rsp)
-	movaps	2b(%rip), %xmm1
-	movaps	%xmm1, 208(%rsp)
-	movq	%r14, 224(%rsp)
-	movb	$40, 232(%rsp)
-	cmpb	$41, %al
-	jae	31f
-	movl	%eax, %ecx
-	andl	$63, %ecx
-	cmpb	$35, 192(%rsp,%rcx)
-	jne	31f
-	testl	%r13d, %r13d
-	je	31f
-	decl	%r13d
-	leaq	416(%rsp), %rsi
-	jmp	15b
-	.p2align	4
-16:
-	movq	%rax, %r15
-	movq	16(%rsp), %r8
-	cmpq	$65536, %rax
-	cmovbq	%rax, %r12
-	testq	%rax, %rax
-	movq	56(%rsp), %rcx
-	leaq	416(%rsp), %rdx
-	je	35f
-	movabsq	$4294967296, %rax
-	subq	%rbp, %rax
-	cmpq	%r12, %rax
-	jb	36f
-	movq	%r8, %rax
-	subq	%rbp, %rax
-	cmpq	%rax, %r12
-	ja	30f
+	jmp	22f
 17:
-	leaq	(%rcx,%rbp), %rdi
-	movq	%rdi, %rax
-	subq	%rdx, %rax
-	cmpq	%r12, %rax
-	movq	%rcx, 56(%rsp)
-	jae	23f
-	cmpq	$4, %r15
-	jb	18f
-	movq	%rbp, %rax
-	subq	%rdx, %rax
-	addq	%rcx, %rax
-	cmpq	$32, %rax
-	jae	25f
-18:
-	xorl	%eax, %eax
-	movq	24(%rsp), %r9
-19:
-	movq	%r12, %rdx
-	movq	%rax, %rcx
-	andq	$3, %rdx
-	je	21f
-	movq	%rax, %rcx
-	.p2align	4
-20:
-	movzbl	416(%rsp,%rcx), %esi
-	movb	%sil, (%rdi,%rcx)
-	incq	%rcx
-	decq	%rdx
-	jne	20b
-21:
-	subq	%r12, %rax
-	cmpq	$-4, %rax
-	ja	24f
-	movq	56(%rsp), %rax
-	addq	%rbp, %rax
-	addq	$3, %rax
-	.p2align	4
-22:
-	movzbl	416(%rsp,%rcx), %edx
-	movb	%dl, -3(%rax,%rcx)
-	movzbl	417(%rsp,%rcx), %edx
-	movb	%dl, -2(%rax,%rcx)
-	movzbl	418(%rsp,%rcx), %edx
-	movb	%dl, -1(%rax,%rcx)
-	movzbl	419(%rsp,%rcx), %edx
-	movb	%dl, (%rax,%rcx)
-	addq	$4, %rcx
-	cmpq	%rcx, %r12
-	jne	22b
-	jmp	24f
-23:
-	leaq	416(%rsp), %rsi
-	movq	%r12, %rdx
-	movq	%r8, %r15
-	callq	memmove@PLT
-	movq	%r15, %r8
-	movq	24(%rsp), %r9
-24:
-	addq	%r12, %rbp
-	movq	%rbp, 40(%rsp)
-	movq	%r8, 16(%rsp)
-	movq	%r8, 48(%rsp)
-	incq	%r9
-	cmpq	$-1, %r9
-	jne	14b
-	jmp	39f
-25:
-	cmpq	$32, %r15
-	jae	26f
-	xorl	%eax, %eax
-	movq	24(%rsp), %r9
-	jmp	28f
-26:
-	movl	%r12d, %eax
-	andl	$131040, %eax
-	addq	%rbp, %rcx
-	addq	$16, %rcx
-	xorl	%edx, %edx
-	movq	24(%rsp), %r9
-	.p2align	4
-27:
-	movups	416(%rsp,%rdx), %xmm0
-	movups	432(%rsp,%rdx), %xmm1
-	movups	%xmm0, -16(%rcx,%rdx)
-	movups	%xmm1, (%rcx,%rdx)
-	addq	$32, %rdx
-	cmpq	%rdx, %rax
-	jne	27b
-	cmpq	%rax, %r12
-	je	24b
-	testb	$28, %r12b
-	je	19b
-28:
-	movq	%rax, %rcx
-	movl	%r12d, %eax
-	andl	$131068, %eax
-	.p2align	4
-29:
-	movl	416(%rsp,%rcx), %edx
-	movl	%edx, (%rdi,%rcx)
-	addq	$4, %rcx
-	cmpq	%rcx, %rax
-	jne	29b
-	cmpq	%rax, %r12
-	jne	19b
-	jmp	24b
-30:
-	leaq	32(%rsp), %rdi
-	movq	%r12, %rsi
-	callq	"std_alloc::vec::Vec::grow_amortized::<#1d775b5957dec42c>"
-	testb	%al, %al
-	je	40f
-	movq	32(%rsp), %rcx
-	movq	40(%rsp), %rbp
-	movq	48(%rsp), %r8
-	leaq	416(%rsp), %rdx
-	jmp	17b
-31:
-	movaps	%xmm0, 192(%rsp)
-	movaps	%xmm1, 208(%rsp)
-	movq	%r14, 224(%rsp)
-	movb	$40, 232(%rsp)
+	movaps	%xmm0, 144(%rsp)
+	movaps	%xmm1, 160(%rsp)
+	movabsq	$2820983053732684064, %rcx
+	movq	%rcx, 176(%rsp)
+	movb	$40, 184(%rsp)
 	cmpb	$41, %al
-	jae	32f
+	jae	18f
 	andl	$63, %eax
-	movzbl	192(%rsp,%rax), %eax
-	leaq	".Lswitch.table.mime_tool::system::SystemFilesFiles::whole::<#a1ba6ce099ef6b20>.2134"(%rip), %rcx
+	movzbl	144(%rsp,%rax), %eax
+	leaq	".Lswitch.table.mime_tool::system::SystemFilesFiles::whole::<#a1ba6ce099ef6b20>.2131"(%rip), %rcx
 	movzbl	(%rax,%rcx), %ebp
-	jmp	33f
-32:
+	jmp	19f
+18:
 	movb	$1, %bpl
-33:
-	movq	16(%rsp), %rax
-	testq	%rax, %rax
-	je	34f
-	movq	32(%rsp), %rdi
+19:
+	movq	8(%rsp), %rdi
+	testq	%r14, %r14
+	je	20f
 	callq	rattle_dealloc@PLT
-34:
+20:
 	xorps	%xmm0, %xmm0
-	movups	%xmm0, 70(%rsp)
-	movq	$0, 86(%rsp)
-	jmp	42f
-35:
-	movq	48(%rsp), %rax
-	movups	32(%rsp), %xmm0
-	movups	%xmm0, 294(%rsp)
-	movq	%rax, 310(%rsp)
-	movaps	%xmm0, 96(%rsp)
-	movq	%rax, 112(%rsp)
-	movl	8(%rsp), %edi
-	callq	close@PLT
-	movl	$1, %edx
-	xorl	%eax, %eax
-	xorl	%ecx, %ecx
-	jmp	11b
-36:
-	testq	%r8, %r8
-	je	38f
-37:
-	movq	32(%rsp), %rdi
-	callq	rattle_dealloc@PLT
-38:
-	movq	182(%rsp), %rax
-	movq	%rax, 86(%rsp)
-	movups	166(%rsp), %xmm0
-	movups	%xmm0, 70(%rsp)
-	jmp	6b
-39:
-	cmpq	$0, 16(%rsp)
-	jne	37b
-	jmp	38b
-40:
-	cmpq	$0, 48(%rsp)
-	je	41f
-	movq	32(%rsp), %rdi
-	callq	rattle_dealloc@PLT
-41:
-	xorps	%xmm0, %xmm0
-	movups	%xmm0, 70(%rsp)
-	movq	$0, 86(%rsp)
-	movb	$2, %bpl
-42:
-	movl	8(%rsp), %edi
+	movups	%xmm0, 86(%rsp)
+	movq	$0, 102(%rsp)
+21:
+	movl	4(%rsp), %edi
 	callq	close@PLT
 	movb	$1, (%rbx)
 	movb	%bpl, 1(%rbx)
 	xorps	%xmm0, %xmm0
 	movups	%xmm0, 8(%rbx)
 	movups	%xmm0, 24(%rbx)
-43:
-	addq	$65960, %rsp
+22:
+	addq	$376, %rsp
 	popq	%rbx
 	popq	%r12
 	popq	%r13
@@ -26956,8 +26832,53 @@
 	popq	%r15
 	popq	%rbp
 	retq
-44:
-	.size	"mime_tool::system::SystemFilesFiles::whole::<#a1ba6ce099ef6b20>", 44b-"mime_tool::system::SystemFilesFiles::whole::<#a1ba6ce099ef6b20>"
+23:
+	movq	40(%rsp), %rax
+	cmpq	%rbp, %rax
+	cmovbq	%rax, %rbp
+	movq	%rbp, 24(%rsp)
+	movups	16(%rsp), %xmm0
+	movq	32(%rsp), %rax
+	movq	%rax, 262(%rsp)
+	movups	%xmm0, 246(%rsp)
+	movq	%rax, 64(%rsp)
+	movaps	%xmm0, 48(%rsp)
+	movl	4(%rsp), %edi
+	callq	close@PLT
+	movl	$1, %edx
+	xorl	%eax, %eax
+	xorl	%ecx, %ecx
+	jmp	16b
+24:
+	testq	%r14, %r14
+	je	27f
+	movq	8(%rsp), %rdi
+	jmp	26f
+25:
+	testq	%r14, %r14
+	je	27f
+	movq	%r12, %rdi
+26:
+	callq	rattle_dealloc@PLT
+27:
+	xorps	%xmm0, %xmm0
+	movups	%xmm0, 86(%rsp)
+	movq	$0, 102(%rsp)
+	movb	$1, %bpl
+	jmp	21b
+28:
+	cmpq	$0, 32(%rsp)
+	je	29f
+	movq	16(%rsp), %rdi
+	callq	rattle_dealloc@PLT
+29:
+	xorps	%xmm0, %xmm0
+	movups	%xmm0, 86(%rsp)
+	movq	$0, 102(%rsp)
+	movb	$2, %bpl
+	jmp	21b
+30:
+	.size	"mime_tool::system::SystemFilesFiles::whole::<#a1ba6ce099ef6b20>", 30b-"mime_tool::system::SystemFilesFiles::whole::<#a1ba6ce099ef6b20>"
 
 	.text
 	.p2align	4
