@@ -20,7 +20,7 @@ ghost use Rattle.mime_base.specs.Magic.Holds.{equals_from};
 ghost use Rattle.mime_base.specs.Magic.Masking.{equal_bytes, window_equals};
 ghost use Rattle.mime_base.specs.Magic.Ranges.{compared_from, stated_line, window_fits};
 ghost use Rattle.mime_base.specs.Meter.{raised};
-ghost use Rattle.mime_base.specs.Cache.Texts.{before_zero, order_at, order_cost, text_at, text_cost, unended};
+ghost use Rattle.mime_base.specs.Cache.Texts.{Compares, before_zero, text_at, text_cost, unended};
 
 use crate::cache::byte_fault::ByteFault;
 use crate::cache::comparing::{compare_all, early_stop, order_at_stop};
@@ -187,21 +187,8 @@ impl<'a> Counted<'a> {
         key: &[u8],
         meter: &mut Meter,
     ) -> Result<Ordering, ByteFault>
-        // The first difference decides, also where no zero follows; a fault comes where neither is among 256 bytes.
-        ensures order { result ≡ order_at self.now at key.now }
-        // Where a text stands, the answer is its order against the key.
-        ensures text { (text : List ℕ) → text_at self.now at ≡ Ok text →
-            result ≡ Ok (slice_cmp nat_cmp text key.now) }
-        // A fault means that no text stands there, and is the fault of reading one.
-        ensures fault { IfErr result (λ fault. text_at self.now at ≡ Err fault) }
-        // No record is counted.
-        ensures nodes { meter.new.nodes ≡ meter.old.nodes }
-        // It counts the bytes up to and including the first difference or the zero; before a fault, all that lie there.
-        ensures bytes { meter.new.bytes ≡ raised meter.old.bytes (order_cost self.now at key.now) }
-        // It counts at most 256 bytes.
-        ensures limit { order_cost self.now at key.now ≤ 256 }
-        // The count of bytes never falls, since it stops at the greatest number.
-        ensures rises { meter.old.bytes ≤ meter.new.bytes }
+        // It is the order, or why there is none, and the bytes that tell are counted.
+        ensures { Compares self.now at key.now meter.old meter.new result }
     {
         if self.length() <= at {
             meter.add_bytes(0);
@@ -230,21 +217,8 @@ impl<'a> Counted<'a> {
         key: &Key<'_>,
         meter: &mut Meter,
     ) -> Result<Ordering, ByteFault>
-        // The first difference decides, also where no zero follows; a fault comes where neither is among 256 bytes.
-        ensures order { result ≡ order_at self.now at key.now }
-        // Where a text stands, the answer is its order against the key.
-        ensures text { (text : List ℕ) → text_at self.now at ≡ Ok text →
-            result ≡ Ok (slice_cmp nat_cmp text key.now) }
-        // A fault means that no text stands there, and is the fault of reading one.
-        ensures fault { IfErr result (λ fault. text_at self.now at ≡ Err fault) }
-        // No record is counted.
-        ensures nodes { meter.new.nodes ≡ meter.old.nodes }
-        // It counts the bytes up to and including the first difference or the zero; before a fault, all that lie there.
-        ensures bytes { meter.new.bytes ≡ raised meter.old.bytes (order_cost self.now at key.now) }
-        // It counts at most 256 bytes.
-        ensures limit { order_cost self.now at key.now ≤ 256 }
-        // The count of bytes never falls, since it stops at the greatest number.
-        ensures rises { meter.old.bytes ≤ meter.new.bytes }
+        // It is the order, or why there is none, and the bytes that tell are counted.
+        ensures { Compares self.now at key.now meter.old meter.new result }
     {
         if at < self.length() {
             let rest = &self.bytes[at as usize..];

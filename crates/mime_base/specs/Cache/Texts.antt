@@ -1,12 +1,14 @@
 -- Texts in the bytes of a cache: they end in a zero, which is one of their first 256 bytes.
-use Rattle.std.specs.Prelude.{◌≢◌, ℕ, ◌+◌, ◌<◌, ◌==◌, nat_eq, nat_lt, min, if◌then◌else◌, List, [], ◌∷◌, ◌++◌, length}
-use Rattle.std.specs.Prelude.{take, drop, replicate, Result, Ok, Err}
+use Rattle.std.specs.Prelude.{◌≡◌, ◌≢◌, ◌≤◌, ℕ, ◌+◌, ◌<◌, ◌==◌, nat_eq, nat_lt, min, if◌then◌else◌, List, [], ◌∷◌, ◌++◌, length}
+use Rattle.std.specs.Prelude.{take, drop, replicate, Result, Ok, Err, IfErr}
 use Rattle.std.specs.List.{common_prefix_len}
 use Rattle.std.specs.Ordering.{nat_cmp}
 use Rattle.std.specs.Cmp.Lexicographic.{slice_cmp}
 use Rattle.std.specs.declared.cmp.Ordering.{Ordering}
+use Rattle.mime_base.specs.Meter.{raised}
 use Rattle.mime_base.specs.declared.cache.byte_fault.ByteFault.{ByteFault}
 use Rattle.mime_base.specs.declared.cache.byte_fault.ByteFault.TheVariants.{OutOfRange, LongText}
+use Rattle.mime_base.specs.declared.meter.Meter.{Meter}
 
 -- no byte is zero
 abbrev pub HasNoZero : List ℕ → Type 0
@@ -70,3 +72,20 @@ order_at c at key = order_in 256 at (front 256 c at) key
 -- how many bytes are looked at for it: with the first difference or the zero, or all that may be
 unfoldable pub order_cost : List ℕ → ℕ → List ℕ → ℕ
 order_cost c at key = min (shared (front 256 c at) key + 1) (length (front 256 c at))
+
+-- What comes of comparing the text at `at` with a key.
+pub record Compares (c : List ℕ) (at : ℕ) (key : List ℕ) (old new : Meter) (result : Result Ordering ByteFault) : Type 0 where
+  -- The first difference decides, also where no zero follows; a fault comes where neither is among 256 bytes.
+  pub order : result ≡ order_at c at key
+  -- Where a text stands, the answer is its order against the key.
+  pub text : (text : List ℕ) → text_at c at ≡ Ok text → result ≡ Ok (slice_cmp nat_cmp text key)
+  -- A fault means that no text stands there, and is the fault of reading one.
+  pub fault : IfErr result (λ fault. text_at c at ≡ Err fault)
+  -- No record is counted.
+  pub nodes : new.nodes ≡ old.nodes
+  -- It counts the bytes up to and including the first difference or the zero; before a fault, all that lie there.
+  pub bytes : new.bytes ≡ raised old.bytes (order_cost c at key)
+  -- It counts at most 256 bytes.
+  pub limit : order_cost c at key ≤ 256
+  -- The count of bytes never falls, since it stops at the greatest number.
+  pub rises : old.bytes ≤ new.bytes
