@@ -55,9 +55,12 @@ static mimelook_report by_content(bool *is_left) {
     return looked_up("x", "\x1f\x8b\x08", 3, MIMELOOK_MAGIC_FIRST, is_left);
 }
 
+static const uint32_t three[] = {3, MK, T_M, T_H};
+static uint8_t three_parents[sizeof SAMPLE + sizeof three];
+
 static mimelook_report is_a(bool *is_left) {
     bool is = false;
-    mimelook_report report = mimelook_is_a(SAMPLE, sizeof SAMPLE, bytes_of("t/h"), 3, bytes_of("t/m"), 3, &is);
+    mimelook_report report = mimelook_is_a(three_parents, sizeof three_parents, bytes_of("t/h"), 3, bytes_of("t/m"), 3, &is);
     *is_left = !is;
     return report;
 }
@@ -72,13 +75,9 @@ static mimelook_report icons(bool *is_left) {
 }
 
 static mimelook_report parents(bool *is_left) {
-    static const uint8_t before[] = "before";
-    static const uint32_t numbers[] = {3, MK, T_M, T_H};
-    uint8_t cache[sizeof SAMPLE + sizeof numbers];
-    lead_to(cache, 0x3c, numbers, 4);
     mimelook_text parent = {before, 6};
     size_t count = 77;
-    mimelook_report report = mimelook_parents(cache, sizeof cache, bytes_of("t/g"), 3, &parent, 1, &count);
+    mimelook_report report = mimelook_parents(three_parents, sizeof three_parents, bytes_of("t/g"), 3, &parent, 1, &count);
     *is_left = parent.at == before && parent.length == 6 && count == 77;
     return report;
 }
@@ -126,6 +125,7 @@ static void take_none(void) {
     static mimelook_text text, other;
     static mimelook_sniffed sniffed;
     uint64_t extent;
+    bool is = false;
     made = 0;
     refused = 1;
     are_all_after = true;
@@ -133,6 +133,7 @@ static void take_none(void) {
     CHECK(mimelook_listed_icons(SAMPLE, sizeof SAMPLE, bytes_of("t/h"), 3, &text, &other).status == MIMELOOK_ANSWERED);
     CHECK(mimelook_extent(SAMPLE, sizeof SAMPLE, &extent).status == MIMELOOK_ANSWERED);
     CHECK(mimelook_sniff(SAMPLE, sizeof SAMPLE, bytes_of("\x1f\x8b\x08"), 3, &sniffed).status == MIMELOOK_ANSWERED);
+    CHECK(mimelook_is_a(SAMPLE, sizeof SAMPLE, bytes_of("t/h"), 3, bytes_of("t/m"), 3, &is).status == MIMELOOK_ANSWERED && is);
     CHECK(mimelook_is_type_name(bytes_of("t/h"), 3) && made == 0);
     refused = 0;
 }
@@ -156,6 +157,7 @@ static void refuse_in_turn(const char *what, call *ask) {
 }
 
 int main(void) {
+    lead_to(three_parents, 0x3c, three, 4);
     refuse_in_turn("look_up by name", by_name);
     refuse_in_turn("look_up by content", by_content);
     refuse_in_turn("is_a", is_a);
