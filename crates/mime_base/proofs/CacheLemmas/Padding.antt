@@ -19,18 +19,18 @@ shared-zeros n (x ∷ xs) (y ∷ ys) =
     ∙ ap (λ (k : ℕ). cond (x == 0) 0 (cond (x == y) (1 + k) 0)) (shared-zeros n xs ys)
     ∙ sym (shared-first x y xs ys)
 
--- where the padded front stops, the key does
-pub shared-padded : (n room k : ℕ) (xs ys front : List ℕ) → n ≤ room → front ≡ padded n ys →
-    k ≡ shared (take n xs) (take n front) → k < n → k ≡ shared (take room xs) ys
+-- as many bytes of a text are equal to those of a padded key as to those of the key, as far as the padded ones go
+pub shared-padded : (n room : ℕ) (xs ys front : List ℕ) → n ≤ room → front ≡ padded n ys →
+    shared (take n xs) (take n front) ≡ min n (shared (take room xs) ys)
 unfolding padded
-shared-padded n room k xs ys front wide is place below =
+shared-padded n room xs ys front wide is =
     let zeros = ys ++ replicate n 0 in
     let whole : take n front ≡ take n zeros = ap (take n) is ∙ take-take n n zeros (omega arith) in
     let window : shared (take n xs) (take n front) ≡ min n (shared xs ys) =
     ap (shared (take n xs)) whole ∙ shared-front n xs zeros ∙ ap (min n) (shared-zeros n xs ys) in
     let room_too : shared (take n (take room xs)) (take n ys) ≡ min n (shared (take room xs) ys) = shared-front n (take room xs) ys in
     let same : take n (take room xs) ≡ take n xs = take-take n room xs wide in
-    omega (arith, place, window, shared-front n xs ys, ap (λ (zs : List ℕ). shared zs (take n ys)) same, room_too)
+    omega (arith, window, shared-front n xs ys, ap (λ (zs : List ℕ). shared zs (take n ys)) same, room_too)
 
 -- where the first bytes differ, none is shared
 pub shared-none : (n : ℕ) (xs ys : List ℕ) → 0 < length xs → (get_or xs zero zero ≡ get_or ys zero zero → ⊥) → shared (take (suc n) xs) ys ≡ 0

@@ -4,7 +4,7 @@
 //! vector's width, with zeros for those that a short key lacks: a zero ends the agreement with any text, since a
 //! text's own zero does.
 
-ghost use Rattle.std.specs.Prelude.{◌≡◌, ◌+◌, ◌<◌, ◌≤◌, length, take, IfSome, Ok};
+ghost use Rattle.std.specs.Prelude.{◌≡◌, ◌⊎◌, ◌+◌, ◌<◌, ◌≤◌, length, take, IfNone, IfSome, Ok};
 ghost use Rattle.std.specs.Ordering.{nat_cmp};
 ghost use Rattle.std.specs.Cmp.Lexicographic.{slice_cmp};
 ghost use Rattle.mime_base.specs.Meter.{raised};
@@ -66,8 +66,10 @@ impl<'k> Key<'k> {
     #[inline(always)]
     pub(super) fn early_stop(&self, rest: &[u8]) -> Option<usize>
         // A place that is given is where text and key stop to agree, among the first sixteen bytes.
-        ensures { IfSome result (λ place. (place ≡ shared (take 256 rest.now) self.now)
+        ensures place { IfSome result (λ place. (place ≡ shared (take 256 rest.now) self.now)
             × (place < length (take 256 rest.now)) × (place < 16)) }
+        // None is given only where fewer bytes are there, or all sixteen agree.
+        ensures none { IfNone result ((length rest.now < 16) ⊎ (16 ≤ shared (take 256 rest.now) self.now)) }
     {
         if rest.len() < FRONT {
             return None;
