@@ -78,7 +78,10 @@ pub(crate) fn put_all<S: Sink>(sink: &mut S, pieces: &[&[u8]]) -> Result<(), Sin
         (flat_map (λ piece. piece.now) pieces.now) }
 {
     for piece in pieces {
-        sink.put(piece)?;
+        // A line's last pieces are mostly empty.
+        if !piece.is_empty() {
+            sink.put(piece)?;
+        }
     }
     Ok(())
 }

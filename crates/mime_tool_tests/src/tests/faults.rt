@@ -16,22 +16,19 @@ const ENTRIES: &[(&str, Entry<'static>)] = &[(
 static WORDS: [&str; 7] = ["plain", "--name-only", "-d", "/s", "x.a", "y", "z.a"];
 
 // What is put on standard output, call by call, after the flush that comes before the message; after it comes another.
-static PIECES: [&str; 16] = [
+static PIECES: [&str; 13] = [
     "",
     "x.a",
     ": ",
     "t/a",
-    "",
     "\n",
     "y",
     ": ",
     "application/octet-stream",
-    "",
     "\n",
     "z.a",
     ": ",
     "t/a",
-    "",
     "\n",
 ];
 
@@ -190,7 +187,7 @@ fn flushes_all_lines(rt: HostRuntime) {
     is_taken(&rt, rt.alloc(), "no fault", &WORDS, streams, wanted);
 }
 
-/// A fault of standard error after so many calls, and what is printed and said then.
+/// A fault of standard error after that many calls, and what is printed and said then.
 struct Message {
     name: &'static str,
     fault: SinkFault,

@@ -284,7 +284,7 @@ fn answers_names_of_any_length(rt: HostRuntime) -> Result<(), Fail> {
 #[test]
 fn hands_on_before_it_reads_on(rt: HostRuntime) -> Result<(), Fail> {
     let alloc = rt.alloc();
-    let out = FailingSink::new(alloc, 7, usize::MAX, SinkFault::Failed);
+    let out = FailingSink::new(alloc, 6, usize::MAX, SinkFault::Failed);
     let wanted = Taken {
         status: 3,
         out: "x.a: t/a\n",

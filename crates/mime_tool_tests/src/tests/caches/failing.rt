@@ -25,7 +25,7 @@ const CANNOT_WRITE: &str = "mimelook: cannot write output\n";
 
 const NO_MEMORY: &str = "mimelook: out of memory\n";
 
-/// Words, how many calls of the files are met before one fails for want of memory or else, and what comes of it.
+/// Words, how many calls of the files are met before one fails out of memory or otherwise, and what comes of it.
 struct Row {
     name: &'static str,
     words: &'static [&'static str],
@@ -182,7 +182,7 @@ static PUTS: [Puts; 4] = [
         name: "list",
         words: LIST,
         pieces: &[
-            "50", ":", "t/m", ":", "mk", "", "\n", "50", ":", "t/g", ":", "*.gz", "", "\n",
+            "50", ":", "t/m", ":", "mk", "\n", "50", ":", "t/g", ":", "*.gz", "\n",
         ],
         handed_on: 0,
         said: "",
@@ -204,9 +204,7 @@ static PUTS: [Puts; 4] = [
     Puts {
         name: "type",
         words: TYPE,
-        pieces: &[
-            "/x", ": ", "t/g", "", "\n", "", "/mk", ": ", "t/m", "", "\n",
-        ],
+        pieces: &["/x", ": ", "t/g", "\n", "", "/mk", ": ", "t/m", "\n"],
         handed_on: 8,
         said: MISSING,
     },
@@ -251,7 +249,7 @@ fn stops_at(
 ) -> Result<(), Fail> {
     let (fault, status, why) = *stop;
     // The message on the missing file stands between its neighbours' lines.
-    let said = if calls < 6 { "" } else { puts.said };
+    let said = if calls < 5 { "" } else { puts.said };
     let at = format!(in alloc; "{} at {calls}", puts.name)?;
     let message = format!(in alloc; "{said}{why}")?;
     let is_flushed = calls < puts.pieces.len();
