@@ -1600,6 +1600,226 @@
 24:
 	.size	"mime_lookup::cached::icons::icon_or_hyphens", 24b-"mime_lookup::cached::icons::icon_or_hyphens"
 
+	.section	.rodata.cst16,"aM",@progbits,16
+	.p2align	4, 0x0
+1:
+	.short	288,288,288,288,288,288,288,288
+	.text
+	.p2align	4
+	.type	"mime_lookup::cached::sniff::sniff_front",@function
+"mime_lookup::cached::sniff::sniff_front":
+	pushq	%rbp
+	pushq	%r15
+	pushq	%r14
+	pushq	%r13
+	pushq	%r12
+	pushq	%rbx
+	subq	$1160, %rsp
+	movq	%rdi, %rbx
+	cmpb	$1, (%rdx)
+	jne	3f
+	movq	%r8, %r14
+	movq	%rsi, %r15
+	movl	%ecx, 12(%rsp)
+	movq	8(%rdx), %r12
+	movq	16(%rdx), %r13
+	movq	$0, 1152(%rsp)
+	xorps	%xmm0, %xmm0
+	movaps	%xmm0, 16(%rsp)
+	movaps	%xmm0, 32(%rsp)
+	movq	$0, 48(%rsp)
+	leaq	96(%rsp), %rdi
+	movl	$512, %edx
+	xorl	%esi, %esi
+	callq	memset@PLT
+	movaps	1b(%rip), %xmm0
+	movaps	%xmm0, 96(%rsp)
+	movaps	%xmm0, 112(%rsp)
+	movaps	%xmm0, 128(%rsp)
+	movaps	%xmm0, 144(%rsp)
+	movaps	%xmm0, 160(%rsp)
+	movaps	%xmm0, 176(%rsp)
+	movaps	%xmm0, 192(%rsp)
+	movaps	%xmm0, 208(%rsp)
+	movaps	%xmm0, 224(%rsp)
+	movaps	%xmm0, 240(%rsp)
+	movaps	%xmm0, 256(%rsp)
+	movaps	%xmm0, 272(%rsp)
+	movaps	%xmm0, 288(%rsp)
+	movaps	%xmm0, 304(%rsp)
+	movaps	%xmm0, 320(%rsp)
+	movaps	%xmm0, 336(%rsp)
+	movaps	%xmm0, 352(%rsp)
+	movaps	%xmm0, 368(%rsp)
+	movaps	%xmm0, 384(%rsp)
+	movaps	%xmm0, 400(%rsp)
+	movaps	%xmm0, 416(%rsp)
+	movaps	%xmm0, 432(%rsp)
+	movaps	%xmm0, 448(%rsp)
+	movaps	%xmm0, 464(%rsp)
+	movaps	%xmm0, 480(%rsp)
+	movaps	%xmm0, 496(%rsp)
+	movaps	%xmm0, 512(%rsp)
+	movaps	%xmm0, 528(%rsp)
+	movaps	%xmm0, 544(%rsp)
+	movaps	%xmm0, 560(%rsp)
+	movaps	%xmm0, 576(%rsp)
+	movaps	%xmm0, 592(%rsp)
+	leaq	16(%r14), %rbp
+	testq	%r13, %r13
+	je	7f
+	cmpq	$288, %r13
+	movl	$288, %ecx
+	cmovbq	%r13, %rcx
+	movq	%rcx, %rdx
+	andq	$3, %rdx
+	je	4f
+	.p2align	4
+2:
+	leaq	-1(%rcx), %rax
+	movzbl	-1(%r12,%rcx), %esi
+	decl	%ecx
+	movw	%cx, 96(%rsp,%rsi,2)
+	movq	%rax, %rcx
+	decq	%rdx
+	jne	2b
+	cmpq	$4, %r13
+	jae	5f
+	jmp	7f
+3:
+	movq	$0, (%rbx)
+	movl	$1, 8(%rbx)
+	movw	$0, 12(%rbx)
+	leaq	.L67248b46a1a0(%rip), %rax
+	movq	%rax, 16(%rbx)
+	movq	$24, 24(%rbx)
+	jmp	8f
+4:
+	movq	%rcx, %rax
+	cmpq	$4, %r13
+	jb	7f
+5:
+	leaq	-1(%r12), %rcx
+	movq	$-4, %rdx
+	xorl	%esi, %esi
+	.p2align	4
+6:
+	movzbl	(%rcx,%rax), %edi
+	leal	(%rax,%rdx), %r8d
+	addl	$3, %r8d
+	movw	%r8w, 96(%rsp,%rdi,2)
+	movzbl	-1(%rcx,%rax), %edi
+	leal	2(%rax,%rdx), %r8d
+	movw	%r8w, 96(%rsp,%rdi,2)
+	movzbl	-2(%rcx,%rax), %edi
+	leal	1(%rax,%rdx), %r8d
+	movw	%r8w, 96(%rsp,%rdi,2)
+	leal	(%rax,%rdx), %edi
+	movzbl	-3(%rcx,%rax), %r8d
+	movw	%di, 96(%rsp,%r8,2)
+	addq	$4, %rsi
+	addq	$-4, %rcx
+	addq	$-4, %rdx
+	cmpq	%rsi, %rax
+	jne	6b
+7:
+	movq	%r15, 616(%rsp)
+	movq	%r12, 624(%rsp)
+	movq	%r13, 632(%rsp)
+	leaq	640(%rsp), %rdi
+	leaq	96(%rsp), %rsi
+	movl	$512, %edx
+	callq	memcpy@PLT
+	movl	12(%rsp), %eax
+	movb	%al, 1152(%rsp)
+	movups	(%r14), %xmm0
+	movaps	%xmm0, 64(%rsp)
+	movups	(%rbp), %xmm0
+	movaps	%xmm0, 80(%rsp)
+	movl	40(%r15), %edx
+	leaq	16(%rsp), %rdi
+	leaq	616(%rsp), %rsi
+	leaq	64(%rsp), %rcx
+	callq	"mime_view::magic::sniff"
+	movaps	64(%rsp), %xmm0
+	movups	%xmm0, (%r14)
+	movaps	80(%rsp), %xmm0
+	movups	%xmm0, (%rbp)
+	movzbl	24(%rsp), %eax
+	movq	32(%rsp), %rcx
+	cmpb	$0, 16(%rsp)
+	je	10f
+	movss	26(%rsp), %xmm0
+	movq	$1, (%rbx)
+	movw	%ax, 8(%rbx)
+	movss	%xmm0, 10(%rbx)
+	movq	%rcx, 16(%rbx)
+	movq	$0, 24(%rbx)
+8:
+	movl	$0, 32(%rbx)
+9:
+	addq	$1160, %rsp
+	popq	%rbx
+	popq	%r12
+	popq	%r13
+	popq	%r14
+	popq	%r15
+	popq	%rbp
+	retq
+10:
+	xorl	%edx, %edx
+	cmpb	$1, %al
+	jne	11f
+	movq	40(%rsp), %rsi
+	movl	48(%rsp), %edx
+	xorl	%eax, %eax
+	jmp	16f
+11:
+	movw	$1, %ax
+	testq	%r13, %r13
+	je	15f
+	cmpq	$128, %r13
+	movl	$128, %edi
+	cmovbq	%r13, %rdi
+	xorl	%r8d, %r8d
+	jmp	13f
+	.p2align	4
+12:
+	incq	%r8
+	cmpq	%r8, %rdi
+	je	14f
+13:
+	movzbl	(%r12,%r8), %r9d
+	cmpl	$31, %r9d
+	ja	12b
+	xorl	%edx, %edx
+	movl	$24, %esi
+	leaq	.L67248b46a1a0(%rip), %rcx
+	cmpl	$13, %r9d
+	ja	16f
+	movl	$9728, %r10d
+	btl	%r9d, %r10d
+	jb	12b
+	jmp	16f
+14:
+	xorl	%edx, %edx
+	movl	$10, %esi
+	leaq	.Laafe98300121(%rip), %rcx
+	jmp	16f
+15:
+	movl	$22, %esi
+	leaq	.L74bbd0aeee0d(%rip), %rcx
+16:
+	movq	$0, (%rbx)
+	movw	%ax, 8(%rbx)
+	movl	$0, 10(%rbx)
+	movq	%rcx, 16(%rbx)
+	movq	%rsi, 24(%rbx)
+	movl	%edx, 32(%rbx)
+	jmp	9b
+17:
+	.size	"mime_lookup::cached::sniff::sniff_front", 17b-"mime_lookup::cached::sniff::sniff_front"
+
 	.text
 	.p2align	4
 	.type	"mime_lookup::cached::sniff::unalias",@function

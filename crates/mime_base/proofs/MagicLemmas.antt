@@ -9,6 +9,7 @@ pub mod PassedPairs
 pub mod Skipping
 pub mod SecondBytes
 pub mod MostCompared
+pub mod NotedPlaces
 pub mod StatedLines
 pub mod Fronts
 pub mod Extents

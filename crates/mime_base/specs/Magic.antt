@@ -6,6 +6,7 @@ pub mod Holds
 pub mod HoldsRows
 pub mod Ranges
 pub mod Pairs
+pub mod Places
 pub mod Textual
 use Rattle.std.specs.Prelude.{ℕ, zero, suc, ◌+◌, ◌%◌, Bool, true, false, ◌&&◌, ◌||◌, ◌==◌, nat_lt, List, [], ◌∷◌, map}
 use Rattle.std.specs.Prelude.{length, Option, Some, None}

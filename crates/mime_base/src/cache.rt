@@ -26,9 +26,10 @@ use crate::cache::byte_fault::ByteFault;
 use crate::cache::comparing::{compare_all, early_stop, order_at_stop};
 use crate::cache::key::Key;
 use crate::cache::stated_value::StatedValue;
+use crate::magic::content::Content;
 use crate::magic::host::Host;
 use crate::magic::masking::equal_bytes;
-use crate::magic::ranges::{first_byte_differs, value_in_range};
+use crate::magic::ranges::{value_in_range, windows_differing};
 use crate::meter::Meter;
 use byteorder::{BigEndian, ByteOrder};
 use memchr::memchr;
@@ -278,9 +279,9 @@ impl<'a> Counted<'a> {
         Ok(equal == window.len())
     }
 
-    /// Whether already the first byte of the only window differs: most lines are refused so.
+    /// Whether already the first byte of each window differs: most lines are refused so.
     ///
-    /// It says so only of a value without a mask and of one byte a word, whose window lies in the content and itself in the
+    /// It says so only of a value without a mask and of one byte a word, whose first window lies in the content and itself in the
     /// cache, and then it adds what [`Counted::value_in_range`] does. Else it says and adds nothing.
     // A few tests of numbers that the caller has at hand.
     #[inline(always)]
@@ -289,7 +290,7 @@ impl<'a> Counted<'a> {
         value: StatedValue,
         start: u32,
         range: u32,
-        content: &[u8],
+        content: &Content<'_>,
         meter: &mut Meter,
     ) -> bool
         // What differs at once lies in the cache with its mask.
@@ -316,16 +317,20 @@ impl<'a> Counted<'a> {
             word,
         } = value;
         let (start, size) = (start as usize, u64::from(size));
-        if range != 1 || mask_at != 0 || (content.len() as u64) < start as u64 + size {
+        if mask_at != 0 || word != 1 || size == 0 {
+            return false;
+        }
+        if (content.bytes().len() as u64) < start as u64 + size {
             return false;
         }
         let Ok(bytes) = bytes_at(self.bytes, u64::from(at), size) else {
             return false;
         };
-        if !first_byte_differs(bytes, &[], word, content, start) {
+        let windows = windows_differing(bytes, content, start, range as usize);
+        if windows == 0 {
             return false;
         }
-        meter.add_bytes(1);
+        meter.add_bytes(windows as u64);
         true
     }
 

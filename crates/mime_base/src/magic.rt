@@ -1,6 +1,7 @@
 //! Sections of `magic`, and what their lines are made of: read [`Section`] first, then
 //! [`matchlet::Matchlet`], then [`masking::equal_bytes`].
 
+pub mod content;
 pub mod extent;
 pub mod holding;
 pub mod host;

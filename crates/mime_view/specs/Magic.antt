@@ -77,13 +77,13 @@ pub record Answers {X : Type 0} (Is : X → Type 0) (allowed : Type 0) (records 
 -- of a line by itself: whether it equals its value at an offset of its range
 abbrev pub AnswersLine : MagicQuery → PlainLine → Spending → Spending → Result Seen CacheFault → Type 0
 AnswersLine query own old new result =
-    Answers (λ seen. seen.equals ≡ equals_from own query.host query.content.now own.start own.range) (Unit {0})
+    Answers (λ seen. seen.equals ≡ equals_from own query.host query.content own.start own.range) (Unit {0})
     1 (length own.value) old new result
 
 -- of lines with their children, of which so many levels are allowed: whether one holds
 abbrev pub AnswersLines : MagicQuery → ℕ → Forest → Spending → Spending → Result Bool CacheFault → Type 0
 AnswersLines query levels lines old new result =
-    Answers (λ holds. holds ≡ some_holds lines query.content.now query.host) (are_allowed levels lines ≡ true)
+    Answers (λ holds. holds ≡ some_holds lines query.content query.host) (are_allowed levels lines ≡ true)
     (line_count lines) (forest_value_length lines) old new result
 
 -- a type and a priority that were found, as plain values
@@ -102,7 +102,7 @@ AnswersMagic content host allowed sections old new result =
 abbrev pub AnswersSections : MagicQuery → List PlainSection → Spending → Spending
     → Result (Option (Bor (List ℕ) × ℕ)) CacheFault → Type 0
 AnswersSections query sections old new result =
-    AnswersMagic query.content.now query.host (are_allowed_sections sections ≡ true) sections old new result
+    AnswersMagic query.content query.host (are_allowed_sections sections ≡ true) sections old new result
 
 -- of the sections that stand in the magic list at `at`
 abbrev pub AnswersMagicAt : MagicQuery → ℕ → Spending → Spending → Result (Option (Bor (List ℕ) × ℕ)) CacheFault → Type 0
@@ -131,7 +131,7 @@ pub record Ends {X : Type 0} (Fault : Budget → CacheFault → Type 0) (price :
 
 -- a line costs a node, and each of its value bytes one byte more than the content has
 abbrev pub line_price : MagicQuery → Price
-line_price query = record { nodes = 1; bytes = 0; value_byte = length query.content.now + 1 }
+line_price query = record { nodes = 1; bytes = 0; value_byte = length query.content + 1 }
 
 -- a section costs the text of its type besides; so a search of magic does, for a content of so many bytes
 abbrev pub magic_price : ℕ → Price

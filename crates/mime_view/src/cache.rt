@@ -37,7 +37,7 @@ use crate::query::Query;
 use crate::rule_hits::RuleHits;
 use crate::rules::{Listed, ListingSource, list_rules};
 use crate::spending::Spending;
-use mime_base::{Counted, Host, LARGEST_CACHE, Meter};
+use mime_base::{Content, Counted, Host, LARGEST_CACHE, Meter};
 use std::alloc::Global;
 use std::marker::Model;
 
@@ -364,7 +364,7 @@ impl<'a> Cache<'a> {
     {
         let query = MagicQuery {
             counted: &self.counted,
-            content,
+            content: Content::new(content),
             host,
         };
         let mut spending = Spending {

@@ -27,9 +27,15 @@ pub fn count_at(
     // It looks at the count.
     ensures cost { Looks 1 0 meter.old meter.new }
 {
-    let [count] = counted.cards::<1>(at, meter)?;
+    // Of an offset of 32 bits no sum overflows, so one test is enough.
+    let first = at + 4;
+    if counted.length() < first {
+        meter.add_node();
+        return Err(CacheFault::OutOfRange(at));
+    }
+    let [count] = counted.cards_within::<1>(at, meter);
     let count = u64::from(count);
-    if counted.length() < at + 4 + size * count {
+    if counted.length() < first + size * count {
         return Err(CacheFault::OutOfRange(at));
     }
     Ok(count)

@@ -21,18 +21,18 @@ ghost use Rattle.mime_view.specs.Spending.{Spends};
 
 use crate::fault::CacheFault;
 use crate::spending::Spending;
-use mime_base::{Counted, Host, StatedValue};
+use mime_base::{Content, Counted, Host, StatedValue};
 
 /// The last level on which a line stands, counted from 0.
 const LAST_LEVEL: u32 = 63;
 
 /// What sections and lines are asked: whether they hold for a content.
-#[derive(Clone, Copy)]
+#[derive(Drop)]
 pub struct MagicQuery<'q, 'a> {
     /// The bytes of the cache.
     pub counted: &'q Counted<'a>,
     /// The content.
-    pub content: &'q [u8],
+    pub content: Content<'q>,
     /// Its order of bytes is that of words.
     pub host: Host,
 }
@@ -50,7 +50,7 @@ pub fn sniff<'a>(
     // A type that is given is a text of the cache.
     ensures text { IfOk result (NamesText query.now.counted.now) }
     // On any bytes: why there is no answer, and what the call costs.
-    ensures ends { Ends (IsMagicFault query.now.counted.now at) (magic_price (length query.now.content.now)) 1 spending.old spending.new result }
+    ensures ends { Ends (IsMagicFault query.now.counted.now at) (magic_price (length query.now.content)) 1 spending.old spending.new result }
 {
     let mut own = *spending;
     let result = sniff_sections(query, at, &mut own);
@@ -70,7 +70,7 @@ fn sniff_sections<'a>(
     // A type that is given is a text of the cache.
     ensures text { IfOk result (NamesText query.now.counted.now) }
     // On any bytes: why there is no answer, and what the call costs.
-    ensures ends { Ends (IsMagicFault query.now.counted.now at) (magic_price (length query.now.content.now)) 1 spending.old spending.new result }
+    ensures ends { Ends (IsMagicFault query.now.counted.now at) (magic_price (length query.now.content)) 1 spending.old spending.new result }
 {
     let counted = query.counted;
     let [count, _, first] = counted.cards::<3>(u64::from(at), &mut spending.meter)?;
@@ -88,7 +88,7 @@ fn sniff_sections<'a>(
 
 /// The type and the priority of the section at `at`, if one of its lines holds.
 // Part of the loop over sections.
-#[inline]
+#[inline(always)]
 fn take_section<'a>(
     query: &MagicQuery<'_, 'a>,
     at: u64,
@@ -101,7 +101,7 @@ fn take_section<'a>(
     // A type that is given is a text of the cache.
     ensures text { IfOk result (NamesText query.now.counted.now) }
     // On any bytes: why there is no answer, and what the step costs.
-    ensures ends { Ends (IsSectionFault query.now.counted.now at) (magic_price (length query.now.content.now)) 0 spending.old spending.new result }
+    ensures ends { Ends (IsSectionFault query.now.counted.now at) (magic_price (length query.now.content)) 0 spending.old spending.new result }
 {
     spending.budget.take_record()?;
     let counted = query.counted;
@@ -190,7 +190,7 @@ fn line_holds(
     holds_apart(query, at, level, spending)
 }
 
-/// Whether already the first byte of a line differs, and as much is left as the line takes: most lines go no further.
+/// Whether already the first byte of each window of a line differs, and as much is left as the line takes: most go no further.
 // The part of the loop over lines that most of them are done with.
 #[inline(always)]
 fn differs_at_once(query: &MagicQuery<'_, '_>, at: u64, spending: &mut Spending) -> bool
@@ -222,7 +222,7 @@ fn differs_at_once(query: &MagicQuery<'_, '_>, at: u64, spending: &mut Spending)
         },
         start,
         range,
-        query.content,
+        &query.content,
         &mut after.meter,
     );
     if differs {
@@ -285,7 +285,7 @@ fn whole_line_holds(
         return Err(CacheFault::TooDeep);
     }
     check_block(query.counted, u64::from(first), 32, u64::from(count))?;
-    some_child_holds(*query, first, count, level + 1, spending)
+    some_child_holds(query, first, count, level + 1, spending)
 }
 
 /// Whether a line by itself holds, and where its children stand.
@@ -329,7 +329,7 @@ fn see_line(
         value,
         start,
         range,
-        query.content,
+        query.content.bytes(),
         query.host,
         &mut spending.meter,
     )?;
@@ -341,22 +341,22 @@ fn see_line(
 }
 
 /// Whether one of the `count` children from `first` on holds.
-// The query goes by value, so that the loops above have theirs in registers.
+// In code of its own: few lines have children.
 #[cycle(sniffing)]
 #[inline(never)]
 fn some_child_holds(
-    query: MagicQuery<'_, '_>,
+    query: &MagicQuery<'_, '_>,
     first: u32,
     count: u32,
     level: u32,
     spending: &mut Spending,
 ) -> Result<bool, CacheFault>
     requires level { level ≤ 63 }
-    requires block { LiesBlock query.counted.now first 32 count }
+    requires block { LiesBlock query.now.counted.now first 32 count }
     // Children that stand answer whether one holds.
-    ensures lines { AnswersLinesAt query.entry first count level spending.old spending.new result }
+    ensures lines { AnswersLinesAt query.now first count level spending.old spending.new result }
     // On any bytes: why there is no answer, and what the step costs.
-    ensures ends { Ends (IsLinesFault query.entry.counted.now first count level) (line_price query.entry) 0 spending.old spending.new result }
+    ensures ends { Ends (IsLinesFault query.now.counted.now first count level) (line_price query.now) 0 spending.old spending.new result }
 {
-    some_line_holds(&query, first, count, level, spending)
+    some_line_holds(query, first, count, level, spending)
 }

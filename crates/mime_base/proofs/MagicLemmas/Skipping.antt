@@ -14,7 +14,7 @@ use Rattle.mime_base.specs.Magic.{PlainLine, line_from}
 use Rattle.mime_base.specs.declared.magic.host.Host.{Host}
 use Rattle.mime_base.specs.declared.magic.host.Host.TheVariants.{Little, Big}
 use Rattle.mime_base.proofs.MagicLemmas.HoldingLines.{equals_from-none, equals_from-passed}
-use Rattle.mime_base.proofs.MagicLemmas.Ranges.{compared_from-none, compared_from-passed, window_cost}
+use Rattle.mime_base.proofs.MagicLemmas.Ranges.{compared_from-none, compared_from-passed, compared_from-room, equals_from-room, window_cost}
 use Rattle.mime_base.proofs.MagicLemmas.Windows.{counted, stops}
 
 -- all bits of a byte
@@ -104,6 +104,19 @@ module _ (value : List ℕ) (word : ℕ) (host : Host) (content : List ℕ) (som
       let first : at + i ≡ at = omega arith in
       other (ap (λ (j : ℕ). get_or content j 0) (sym first) ∙ e)) in
       (told.0 ∙ equals_from-none own host content (at + 1), omega (arith, told.1, compared_from-none own host content (at + 1)))
+
+  -- all windows of a range, of which so many lie in the content
+  pub all_differ : (at n range : ℕ) → n ≤ range → (n < range → length content < at + n + length value)
+      → at + n + length value ≤ length content + 1
+      → ((i : ℕ) → i < n → get_or content (at + i) 0 ≡ get_or value 0 0 → ⊥)
+      → (equals_from own host content at range ≡ false) × (compared_from own host content at range ≡ n)
+  all_differ at n range few beyond inside others =
+      let told = passed_over at n 0 n (omega arith) inside others in (
+        equals_from-room own host content at n (range - n) range (omega arith) (λ some. beyond (omega arith))
+            ∙ told.0 ∙ equals_from-none own host content (at + n),
+        compared_from-room own host content at n (range - n) range (omega arith) (λ some. beyond (omega arith))
+            ∙ omega (arith, told.1, compared_from-none own host content (at + n)),
+      )
 
 -- a word of one byte reverses nothing
 pub word_of_one : (word : ℕ) (host : Host) (size : ℕ) → word ≡ 1 → group_of word host size ≡ 1

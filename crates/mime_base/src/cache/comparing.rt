@@ -106,7 +106,7 @@ pub fn early_stop(rest: &[u8], key: &[u8]) -> Option<usize>
     }
     match key.len() {
         8..=15 => Some(shared_by_eights(rest, key)),
-        16..=256 => shared_by_sixteens(rest, key),
+        16..=32 => Some(shared_by_sixteens(rest, key)),
         _ => None,
     }
 }
@@ -149,25 +149,22 @@ pub fn order_at_stop(
     }
 }
 
-/// How many bytes of a text and a key of 16 to 256 bytes are equal, if sixteen at the key's front tell, or sixteen
-/// at the end of a key of 32 at most.
+/// How many bytes of a text and a key of 16 to 32 bytes are equal: by sixteen at the key's front, and sixteen at
+/// its end.
 #[inline(always)]
-fn shared_by_sixteens(rest: &[u8], key: &[u8]) -> Option<usize>
+fn shared_by_sixteens(rest: &[u8], key: &[u8]) -> usize
     requires room { 32 < length rest.now }
     requires least { 16 ≤ length key.now }
-    requires most { length key.now ≤ 256 }
-    ensures { IfSome result (λ place. (place ≡ shared (take 256 rest.now) key.now)
-        × (place < length (take 256 rest.now))) }
+    requires most { length key.now ≤ 32 }
+    ensures shared { result ≡ shared (take 256 rest.now) key.now }
+    ensures within { result ≤ length key.now }
 {
     let place = shared_of_sixteen(rest, key);
     if place < 16 {
-        return Some(place);
-    }
-    if key.len() > 32 {
-        return None;
+        return place;
     }
     let last = key.len() - 16;
-    Some(last + shared_of_sixteen(&rest[last..], &key[last..]))
+    last + shared_of_sixteen(&rest[last..], &key[last..])
 }
 
 /// How many bytes of a text and a key of 8 to 15 bytes are equal: by eight at the key's front, and eight at its end.

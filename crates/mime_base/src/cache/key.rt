@@ -48,8 +48,12 @@ impl<'k> Key<'k> {
         ensures { result ≡ bytes.now }
     {
         let mut front = [0; FRONT];
-        let shown = bytes.len().min(FRONT);
-        front[..shown].copy_from_slice(&bytes[..shown]);
+        if bytes.len() < FRONT {
+            front[..bytes.len()].copy_from_slice(bytes);
+        } else {
+            // Of a size that the compiler knows, so that the copy is no call.
+            front.copy_from_slice(&bytes[..FRONT]);
+        }
         Key { bytes, front }
     }
 

@@ -7,6 +7,7 @@ ghost use Rattle.mime_base.specs.Magic.Masking.{equal_bytes, group_of, window_eq
 ghost use Rattle.mime_base.specs.Magic.Ranges.{compared_from};
 ghost use Rattle.mime_base.specs.Meter.{raised};
 
+use crate::magic::content::Content;
 use crate::magic::host::Host;
 use crate::magic::masking::{equal_bytes, group_of};
 use crate::magic::pairs::{Passed, pass_pairs};
@@ -67,6 +68,36 @@ pub fn first_byte_differs(value: &[u8], mask: &[u8], word: u32, content: &[u8], 
         return false;
     }
     content[at] != value[0]
+}
+
+/// How many windows the range of a value without a mask has, if it is told at once that each differs in its first byte; else 0.
+///
+/// Most lines are refused so. Each byte is a number of its own.
+#[inline(always)]
+pub fn windows_differing(value: &[u8], content: &Content<'_>, start: usize, range: usize) -> usize
+    // The first window lies in the content.
+    requires inside { start + length value.now ≤ length content.now }
+    // There is a first byte.
+    requires some { 0 < length value.now }
+    // No offset overflows.
+    requires fits { start + range < 2 ^ 64 }
+    // Then none of them equals the value.
+    ensures equal { 0 < result → (host : Host) →
+        equals_from (line_from 0 0 1 value.now (Some [])) host content.now start range ≡ false }
+    // One byte of each is compared.
+    ensures counted { 0 < result → (host : Host) →
+        compared_from (line_from 0 0 1 value.now (Some [])) host content.now start range ≡ result }
+{
+    let bytes = content.bytes();
+    if range == 1 {
+        return if bytes[start] == value[0] { 0 } else { 1 };
+    }
+    let end = (start + range).min(bytes.len() - value.len() + 1);
+    if content.lacks(value[0], end) {
+        end - start
+    } else {
+        0
+    }
 }
 
 /// Whether the window at one of the offsets from `start` up to `end` equals a value under its mask. Of most lines the one

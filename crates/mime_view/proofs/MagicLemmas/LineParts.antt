@@ -55,7 +55,7 @@ module _ (query : MagicQuery) (levels : ℕ) (own : PlainLine) (children : Fores
   pub line_differs : (old new : Spending) (seen : Seen) → AnswersLine query own old new (Ok seen) → seen.equals ≡ false
       → AnswersLines query levels (line own children bare) old new (Ok false)
   line_differs old new seen here other = record {
-    answer = sym (differs own children query.content.now query.host (sym here.answer ∙ other));
+    answer = sym (differs own children query.content query.host (sym here.answer ∙ other));
     need = λ allowed records bytes. refl;
     takes = record {
       most_records = omega (arith, here.takes.most_records);
@@ -67,7 +67,7 @@ module _ (query : MagicQuery) (levels : ℕ) (own : PlainLine) (children : Fores
   pub line_alone : (old new : Spending) (seen : Seen) → AnswersLine query own old new (Ok seen) → seen.equals ≡ true → width children ≡ 0
       → AnswersLines query levels (line own children bare) old new (Ok true)
   line_alone old new seen here equal none = record {
-    answer = sym (alone own children query.content.now query.host (sym here.answer ∙ equal) none);
+    answer = sym (alone own children query.content query.host (sym here.answer ∙ equal) none);
     need = λ allowed records bytes. refl;
     takes = record {
       most_records = omega (arith, here.takes.most_records);
@@ -81,7 +81,7 @@ module _ (query : MagicQuery) (levels : ℕ) (own : PlainLine) (children : Fores
       → AnswersLines query (suc levels) (line own children bare) old new result
   line_parent old mid new seen result here equal some lower = record {
     answer = subst (λ (b : Bool). IfOk result (λ holds. holds ≡ b))
-        (sym (parent own children query.content.now query.host (sym here.answer ∙ equal) some)) lower.answer;
+        (sym (parent own children query.content query.host (sym here.answer ∙ equal) some)) lower.answer;
     need = λ allowed records bytes.
         lower.need (below levels own children allowed) (omega (arith, here.takes.most_records))
         (omega (arith, here.takes.most_value_bytes));

@@ -48,9 +48,9 @@ pub lines_then : (query : MagicQuery) (levels : ℕ) (own : PlainLine) (children
     (result : Result Bool CacheFault) → AnswersLines query levels (line own children bare) old mid (Ok false)
     → AnswersLines query levels rest mid new result → AnswersLines query levels (line own children rest) old new result
 lines_then query levels own children rest old mid new result first later =
-    let alike : some_holds (line own children rest) query.content.now query.host ≡ some_holds rest query.content.now query.host =
-    some_holds-split own children rest query.content.now query.host
-    ∙ ap (λ (b : Bool). b || some_holds rest query.content.now query.host) (sym first.answer) in
+    let alike : some_holds (line own children rest) query.content query.host ≡ some_holds rest query.content query.host =
+    some_holds-split own children rest query.content query.host
+    ∙ ap (λ (b : Bool). b || some_holds rest query.content query.host) (sym first.answer) in
     record {
       answer = subst (λ (b : Bool). IfOk result (λ holds. holds ≡ b)) (sym alike) later.answer;
       need = λ allowed records bytes.
@@ -67,7 +67,7 @@ pub lines_holds_here : (query : MagicQuery) (levels : ℕ) (own : PlainLine) (ch
     → AnswersLines query levels (line own children bare) old new (Ok true)
     → AnswersLines query levels (line own children rest) old new (Ok true)
 lines_holds_here query levels own children rest old new first = record {
-  answer = sym (some_holds-split own children rest query.content.now query.host ∙ or_left _ _ (sym first.answer));
+  answer = sym (some_holds-split own children rest query.content query.host ∙ or_left _ _ (sym first.answer));
   need = λ allowed records bytes. refl;
   takes = record {
     most_records = omega (arith, first.takes.most_records);

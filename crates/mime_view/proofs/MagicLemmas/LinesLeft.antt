@@ -65,7 +65,7 @@ module _ {query : MagicQuery} {levels first count : ℕ} {lines : Forest} {old :
           → ((new : Spending) (result : Result Bool CacheFault) → AnswersLines query levels left now new result
           → AnswersLines query levels lines old new result) → AnswersLines query levels lines old now (Ok false)
       by_left bare size whole = whole now (Ok false) record {
-        answer = sym (some_holds-bare query.content.now query.host);
+        answer = sym (some_holds-bare query.content query.host);
         need = λ allowed records bytes. refl;
         takes = record { most_records = omega arith; most_value_bytes = omega arith };
       }

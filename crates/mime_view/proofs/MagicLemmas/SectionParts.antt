@@ -35,7 +35,7 @@ module _ (query : MagicQuery) (section : PlainSection) (old mid new : Spending) 
   -- where no line holds it gives nothing
   pub section_passes : AnswersLines query 64 section.lines mid new (Ok false) → AnswersSections query (section ∷ []) old new (Ok None)
   section_passes step = record {
-    answer = sym (first_magic-one section query.content.now query.host false step.answer);
+    answer = sym (first_magic-one section query.content query.host false step.answer);
     need = λ allowed records bytes. refl;
     takes = record {
       most_records = omega (arith, lines, step.takes.most_records);
@@ -47,7 +47,7 @@ module _ (query : MagicQuery) (section : PlainSection) (old mid new : Spending) 
   pub section_holds : (pair : Bor (List ℕ) × ℕ) → pair.0.now ≡ section.kind → pair.1 ≡ section.priority
       → AnswersLines query 64 section.lines mid new (Ok true) → AnswersSections query (section ∷ []) old new (Ok (Some pair))
   section_holds pair kind priority step = record {
-    answer = rw (kind, priority) (sym (first_magic-one section query.content.now query.host true step.answer));
+    answer = rw (kind, priority) (sym (first_magic-one section query.content query.host true step.answer));
     need = λ allowed records bytes. refl;
     takes = record {
       most_records = omega (arith, lines, step.takes.most_records);

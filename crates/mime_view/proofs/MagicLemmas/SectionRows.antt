@@ -59,7 +59,7 @@ module _ (query : MagicQuery) (section : PlainSection) (rest : List PlainSection
   pub sections_then : (mid new : Spending) (result : Result Found CacheFault) → AnswersSections query (section ∷ []) old mid (Ok None)
       → AnswersSections query rest mid new result → AnswersSections query (section ∷ rest) old new result
   sections_then mid new result first later =
-      let alike = first_magic-passed section rest query.content.now query.host first.answer in
+      let alike = first_magic-passed section rest query.content query.host first.answer in
       record {
         answer = subst (λ (found : Option (List ℕ × ℕ)). IfOk result (λ it. plain_found it ≡ found)) (sym alike) later.answer;
         need = λ allowed records bytes.
@@ -75,7 +75,7 @@ module _ (query : MagicQuery) (section : PlainSection) (rest : List PlainSection
   pub sections_found_here : (new : Spending) (pair : Bor (List ℕ) × ℕ) → AnswersSections query (section ∷ []) old new (Ok (Some pair))
       → AnswersSections query (section ∷ rest) old new (Ok (Some pair))
   sections_found_here new pair first = record {
-    answer = sym (first_magic-found section rest query.content.now query.host (pair.0.now, pair.1) first.answer);
+    answer = sym (first_magic-found section rest query.content query.host (pair.0.now, pair.1) first.answer);
     need = λ allowed records bytes. refl;
     takes = record {
       most_records = omega (arith, lines, first.takes.most_records);

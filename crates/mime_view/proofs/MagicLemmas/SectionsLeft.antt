@@ -63,7 +63,7 @@ module _ {query : MagicQuery} {first count : ℕ} {sections : List PlainSection}
           → ((new : Spending) (result : Result Found CacheFault) → AnswersSections query left now new result
           → AnswersSections query sections old new result) → AnswersSections query sections old now (Ok None)
       by_left [] size whole = whole now (Ok None) record {
-        answer = sym (first_magic-none query.content.now query.host);
+        answer = sym (first_magic-none query.content query.host);
         need = λ allowed records bytes. refl;
         takes = record { most_records = omega arith; most_value_bytes = omega arith };
       }

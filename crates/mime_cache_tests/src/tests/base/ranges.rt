@@ -2,9 +2,9 @@
 
 use crate::tests::checked::alike;
 use crate::tests::sample::SAMPLE;
-use mime_base::{ByteFault, Counted, Host, Meter, StatedValue};
+use mime_base::{ByteFault, Content, Counted, Host, Meter, StatedValue};
 
-/// A range of a content against the value 1F 8B of [`SAMPLE`].
+/// A range of a content against the value 1F 8B of [`SAMPLE`], and whether already the first bytes tell that it isn't there.
 struct Range {
     name: &'static str,
     content: &'static [u8],
@@ -12,9 +12,10 @@ struct Range {
     range: u32,
     equal: bool,
     bytes: u64,
+    at_once: bool,
 }
 
-static RANGES: [Range; 10] = [
+static RANGES: [Range; 13] = [
     Range {
         name: "the first offset",
         content: b"\x1f\x8b",
@@ -22,6 +23,7 @@ static RANGES: [Range; 10] = [
         range: 1,
         equal: true,
         bytes: 2,
+        at_once: false,
     },
     Range {
         name: "offsets that are passed over",
@@ -30,6 +32,7 @@ static RANGES: [Range; 10] = [
         range: 3,
         equal: true,
         bytes: 4,
+        at_once: false,
     },
     Range {
         name: "a first byte alone",
@@ -38,6 +41,7 @@ static RANGES: [Range; 10] = [
         range: 3,
         equal: true,
         bytes: 5,
+        at_once: false,
     },
     Range {
         name: "a first byte at the end",
@@ -46,6 +50,7 @@ static RANGES: [Range; 10] = [
         range: 9,
         equal: false,
         bytes: 2,
+        at_once: true,
     },
     Range {
         name: "past the range",
@@ -54,6 +59,7 @@ static RANGES: [Range; 10] = [
         range: 2,
         equal: false,
         bytes: 2,
+        at_once: true,
     },
     Range {
         name: "before the range",
@@ -62,6 +68,7 @@ static RANGES: [Range; 10] = [
         range: 9,
         equal: false,
         bytes: 2,
+        at_once: false,
     },
     Range {
         name: "the last offset",
@@ -70,6 +77,7 @@ static RANGES: [Range; 10] = [
         range: 9,
         equal: true,
         bytes: 2,
+        at_once: false,
     },
     Range {
         name: "an empty range",
@@ -78,6 +86,7 @@ static RANGES: [Range; 10] = [
         range: 0,
         equal: false,
         bytes: 0,
+        at_once: false,
     },
     Range {
         name: "a content that is too short",
@@ -86,6 +95,7 @@ static RANGES: [Range; 10] = [
         range: 5,
         equal: false,
         bytes: 0,
+        at_once: false,
     },
     Range {
         name: "a start that is too great",
@@ -94,6 +104,34 @@ static RANGES: [Range; 10] = [
         range: u32::MAX,
         equal: false,
         bytes: 0,
+        at_once: false,
+    },
+    Range {
+        name: "one offset",
+        content: b"ab",
+        start: 0,
+        range: 1,
+        equal: false,
+        bytes: 1,
+        at_once: true,
+    },
+    Range {
+        name: "as many offsets as are noted",
+        content: &[0; 400],
+        start: 0,
+        range: 288,
+        equal: false,
+        bytes: 288,
+        at_once: true,
+    },
+    Range {
+        name: "one offset more",
+        content: &[0; 400],
+        start: 0,
+        range: 289,
+        equal: false,
+        bytes: 289,
+        at_once: false,
     },
 ];
 
@@ -121,6 +159,18 @@ fn values_in_ranges(rt: HostRuntime) {
         let answer = sample.value_in_range(GZIP, start, range, row.content, host, &mut meter);
         alike(&rt, row.name, answer, Ok(row.equal));
         alike(&rt, row.name, (meter.nodes, meter.bytes), (0, row.bytes));
+    }
+}
+
+#[test]
+fn ranges_that_differ_at_once(rt: HostRuntime) {
+    let sample = Counted::new(&SAMPLE);
+    for row in &RANGES {
+        let (content, mut meter) = (Content::new(row.content), Meter::new());
+        let differs = sample.differs_at_once(GZIP, row.start, row.range, &content, &mut meter);
+        alike(&rt, row.name, differs, row.at_once);
+        let bytes = if row.at_once { row.bytes } else { 0 };
+        alike(&rt, row.name, (meter.nodes, meter.bytes), (0, bytes));
     }
 }
 

@@ -8,7 +8,7 @@ returns-then-differs-clause-line c = λ yes own reads.
     ap (λ (ns : List ℕ). get_or ns 3 0) c.cards_within.ensures.numbers ∙ reads.size in
     record {
       answer = line_stated c.args.query.now.counted.now c.args.at own c.cards_within.result c.args.query.now.host
-          c.args.query.now.content.now false c.cards_within.ensures.numbers reads
+          c.args.query.now.content false c.cards_within.ensures.numbers reads
           (λ lie. c.differs_at_once-differs.ensures.differs yes c.args.query.now.host);
       need = λ allowed records bytes. refl;
       takes = record {
@@ -19,7 +19,7 @@ returns-then-differs-clause-line c = λ yes own reads.
 
 pub returns-then-differs-clause-cost : goal.returns-then-differs-clause-cost
 returns-then-differs-clause-cost c = λ yes.
-    let e : ℕ = length c.args.query.now.content.now + 1 in
+    let e : ℕ = length c.args.query.now.content + 1 in
     let v : ℕ = c.take_value_bytes.new.self.value_bytes in
     let taken : c.args.spending.now.budget.value_bytes ≡ v + c.from.result = omega (arith, c.in-Ok-take_value_bytes.ensures.taken) in
     let m : e * c.args.spending.now.budget.value_bytes ≡ e * (v + c.from.result) = ap (λ (n : ℕ). e * n) taken in

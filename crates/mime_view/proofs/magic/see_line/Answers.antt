@@ -1,4 +1,4 @@
-use Rattle.std.proofs.Common.{◌≡◌, ℕ, ◌+◌, ◌*◌, List, length, get_or, refl, arith, ap, ◌∙◌}
+use Rattle.std.proofs.Common.{◌≡◌, ℕ, ◌+◌, ◌*◌, List, length, get_or, refl, sym, arith, ap, ◌∙◌}
 use Rattle.mime_view.proofs.MagicLemmas.LineValues.{line_stated}
 use Rattle.mime_view.proofs.magic.see_line.Goals as goal
 
@@ -7,8 +7,8 @@ returns-clause-line c = λ own reads.
     let size : get_or c.cards_within.result 3 0 ≡ length own.value =
     ap (λ (ns : List ℕ). get_or ns 3 0) c.cards_within.ensures.numbers ∙ reads.size in
     record {
-      answer = line_stated c.args.query.now.counted.now c.args.at own c.cards_within.result c.args.query.now.host
-          c.args.query.now.content.now c.in_ok-equals.equals c.cards_within.ensures.numbers reads c.in_ok-equals.ensures.equal;
+      answer = rw (sym c.bytes.ensures.same) (line_stated c.args.query.now.counted.now c.args.at own c.cards_within.result
+          c.args.query.now.host c.bytes.result.now c.in_ok-equals.equals c.cards_within.ensures.numbers reads c.in_ok-equals.ensures.equal);
       need = λ allowed records bytes. refl;
       takes = record {
         most_records = omega (arith, c.in_ok-take_record.ensures.taken);
@@ -18,11 +18,12 @@ returns-clause-line c = λ own reads.
 
 pub returns-clause-ends : goal.returns-clause-ends
 returns-clause-ends c =
-    let e : ℕ = length c.args.query.now.content.now + 1 in
+    let e : ℕ = length c.args.query.now.content + 1 in
     let v : ℕ = c.take_value_bytes.new.self.value_bytes in
     let taken : c.args.spending.now.budget.value_bytes ≡ v + c.from.result = omega (arith, c.in_ok-take_value_bytes.ensures.taken) in
     let m : e * c.args.spending.now.budget.value_bytes ≡ e * (v + c.from.result) = ap (λ (n : ℕ). e * n) taken in
     let s = ap (λ (n : ℕ). e * n) c.from.ensures in
+    let same = ap (λ (bytes : List ℕ). (length bytes + 1) * get_or c.cards_within.result 3 0) c.bytes.ensures.same in
     record {
       fault = tt;
       cost = record {
@@ -32,7 +33,7 @@ returns-clause-ends c =
         rises = omega arith;
         bytes_rise = omega arith;
         most_nodes = omega (arith, c.in_ok-take_record.ensures.taken);
-        most_bytes = omega (arith, c.in_ok-equals.ensures.limit);
+        most_bytes = omega (arith, c.in_ok-equals.ensures.limit, same);
         fair = omega (arith, c.in_ok-take_record.ensures.taken);
       };
     }

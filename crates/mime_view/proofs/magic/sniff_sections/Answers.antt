@@ -22,7 +22,7 @@ loop-i-preserved c = record {
   left = λ sections reads.
       let n = next (c.loop-i.invariant.left sections reads) c.loop-i-test.true in
       n.later c.take_section.new.spending (rw c.in-None.is at (c.in_ok-found.ensures.section n.section n.reads));
-  cost = spends_then (magic_price (length c.args.query.now.content.now)) 1 0 0 0 c.args.spending.now c.loop-i.spending c.take_section.new.spending
+  cost = spends_then (magic_price (length c.args.query.now.content)) 1 0 0 0 c.args.spending.now c.loop-i.spending c.take_section.new.spending
       c.loop-i.invariant.cost c.in_ok-found.ensures.ends.cost;
 }
 
@@ -42,6 +42,6 @@ returns-in_err-found-clause-ends c =
     c.take_section.new.spending.budget c.in_err-found.field-0.0) (c.from-first.ensures ∙ first) c.in_err-found.ensures.ends.fault in
     rw (p.1, p.2) (record {
       fault = inr (inr (c.loop-i.i, omega (arith, c.loop-i-test.true, c.from-count.ensures, count), section));
-      cost = spends_then (magic_price (length c.args.query.now.content.now)) 1 0 0 0 c.args.spending.now c.loop-i.spending
+      cost = spends_then (magic_price (length c.args.query.now.content)) 1 0 0 0 c.args.spending.now c.loop-i.spending
           c.take_section.new.spending c.loop-i.invariant.cost c.in_err-found.ensures.ends.cost;
     })

@@ -9,5 +9,5 @@ abbrev pub invariant-loop-i : goal.invariant-loop-i
 invariant-loop-i l = record {
   left : (sections : List PlainSection) → ReadsMagic l.query.counted.now l.at sections
       → Left l.query l.first l.count sections l.fn.spending l.i l.spending;
-  cost : Spends (magic_price (length l.query.content.now)) 1 0 l.fn.spending l.spending;
+  cost : Spends (magic_price (length l.query.content)) 1 0 l.fn.spending l.spending;
 }
