@@ -37,8 +37,9 @@ pub struct TypeAnswer<'a> {
 /// The type that the checking order gives to a name and a content, by a cache ("Recommended checking order").
 ///
 /// `has_content` is false where the content is not available; then `content` is not looked at. `order` is 0 where the globs
-/// are asked first, and 1 where content of a high priority decides before them. Words of the content are read as on a machine
-/// whose numbers have the lowest byte first. C calls this through `mimelook_look_up`, whose content may be NULL.
+/// are asked first, 1 where content of a high priority decides before them, and 2 where the content chooses among all globs
+/// that match. Words of the content are read as on a machine whose numbers have the lowest byte first. C calls this through
+/// `mimelook_look_up`, whose content may be NULL.
 #[unsafe(no_mangle)]
 pub extern "C" fn look_up_with<'a>(
     alloc: Global,
