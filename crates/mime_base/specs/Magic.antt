@@ -100,7 +100,7 @@ is_allowed own =
     nat_lt (own.start + own.range + length own.value) 4294967296 && nat_lt (length own.value) 65536
     && fits_word own.word (length own.value) && fits_mask own.mask (length own.value)
 
--- each line is allowed, and there are at most so many levels
+-- each line is allowed, and there are at most that many levels
 abbrev pub are_allowed : ℕ → Forest → Bool
 are_allowed levels bare = true
 are_allowed zero (line own children rest) = false

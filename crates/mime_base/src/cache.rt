@@ -188,7 +188,7 @@ impl<'a> Counted<'a> {
         key: &[u8],
         meter: &mut Meter,
     ) -> Result<Ordering, ByteFault>
-        // It is the order, or why there is none, and the bytes that tell are counted.
+        // It is the order, or why there is none, and the bytes that decide are counted.
         ensures { Compares self.now at key.now meter.old meter.new result }
     {
         if self.length() <= at {
@@ -218,7 +218,7 @@ impl<'a> Counted<'a> {
         key: &Key<'_>,
         meter: &mut Meter,
     ) -> Result<Ordering, ByteFault>
-        // It is the order, or why there is none, and the bytes that tell are counted.
+        // It is the order, or why there is none, and the bytes that decide are counted.
         ensures { Compares self.now at key.now meter.old meter.new result }
     {
         if at < self.length() {
@@ -392,7 +392,7 @@ impl<'a> Counted<'a> {
     }
 }
 
-/// So many bytes at an offset.
+/// That many bytes at an offset.
 #[inline]
 fn bytes_at(bytes: &[u8], at: u64, size: u64) -> Result<&[u8], ByteFault>
     ensures given { IfOk result
@@ -407,7 +407,7 @@ fn bytes_at(bytes: &[u8], at: u64, size: u64) -> Result<&[u8], ByteFault>
     Ok(&bytes[at as usize..(at + size) as usize])
 }
 
-/// A mask of so many bytes at an offset; at the offset 0 there is none.
+/// A mask of that many bytes at an offset; at the offset 0 there is none.
 #[inline]
 fn optional_mask(bytes: &[u8], at: u64, size: u64) -> Result<&[u8], ByteFault>
     ensures given { IfOk result (λ given. given.now ≡ optional_mask bytes.now at size) }

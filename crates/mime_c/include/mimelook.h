@@ -1,7 +1,7 @@
 /* mimelook: the MIME type of a file by its name and its content, from the bytes of a mime.cache that nobody vouches for.
  *
  * Every function is total: any bytes and any lengths give a report. None keeps anything between calls, so threads may ask
- * the same cache at once. A pointer with length 0 may be NULL; any other has to point to so many bytes that nothing writes
+ * the same cache at once. A pointer with length 0 may be NULL; any other has to point to that many bytes that nothing writes
  * while the call runs, and what a call writes to must not overlap anything else that it is given.
  *
  * What is written through a pointer is as it was unless the report's status is MIMELOOK_ANSWERED. Memory is taken by
@@ -10,7 +10,7 @@
  *
  * A file's type takes one call, or two. The first gives the name alone, with NULL for the content: it says the type, and how
  * much of a content could give another (`wanted`). Where that is 0 the type is final, and the file need not be opened. Else
- * read so much of it, or all where it has less, and give that in the second call, whose answer is that of the whole content.
+ * read that much of it, or all where it has less, and give that in the second call, whose answer is that of the whole content.
  * Where the content can't be had, the first answer stands. Open regular files only, and without blocking: a pipe may never
  * be written to.
  *
@@ -47,7 +47,7 @@ enum mimelook_status {
     MIMELOOK_ANSWERED = 0,
     MIMELOOK_NAME_TOO_LONG = 1,  /* the name has more than 4,096 bytes */
     MIMELOOK_OUT_OF_MEMORY = 2,  /* an allocation was refused */
-    MIMELOOK_NOT_A_TYPE = 3,     /* bytes that have to be a type's name are none */
+    MIMELOOK_NOT_A_TYPE = 3,     /* bytes that have to be a type's name are not one */
     MIMELOOK_SHORT_BUFFER = 4,   /* a buffer has no room for an icon's name, or for a cache */
     MIMELOOK_TRUNCATED = 5,      /* the cache ends inside its header */
     MIMELOOK_VERSION = 6,        /* the cache is of version major.minor, not 1.2 */
@@ -204,7 +204,7 @@ MIMELOOK_LAYOUT(offsetof(mimelook_merge_report, spare) == 24);
 #undef MIMELOOK_LAYOUT
 #endif
 
-/* So much room is enough for each icon's name. */
+/* That much room is enough for each icon's name. */
 #define MIMELOOK_ICON_ROOM 265
 
 /* Whether the cache can be opened: MIMELOOK_ANSWERED, or what is wrong with its header. */
@@ -218,7 +218,7 @@ mimelook_report mimelook_check(const uint8_t *cache, size_t cache_length);
 mimelook_report mimelook_look_up(const uint8_t *cache, size_t cache_length, const uint8_t *name, size_t name_length,
     const uint8_t *content, size_t content_length, uint32_t order, mimelook_answer *answer);
 
-/* The globs that match a name (of the file alone, with no folder), the best first, at the front of an array of so much room,
+/* The globs that match a name (of the file alone, with no folder), the best first, at the front of an array of that much room,
  * and how many there are. Where count is above room, the first of them are written. They are ordered by what is preferred: a
  * literal name, then an ending, then any other pattern; among these a greater weight, then a longer pattern, then a
  * case-sensitive one; and those that are alike as the cache has them. Of these the first are kept: no other is preferred to
@@ -242,7 +242,7 @@ mimelook_report mimelook_icons(const uint8_t *cache, size_t cache_length, const 
 mimelook_report mimelook_unalias(const uint8_t *cache, size_t cache_length, const uint8_t *type, size_t type_length,
     mimelook_text *resolved);
 
-/* The parents that the cache lists for a type, in its order, at the front of an array of so much room, and how many there
+/* The parents that the cache lists for a type, in its order, at the front of an array of that much room, and how many there
  * are. Where count is above room, the first of them are written. That text/plain is a parent of every text type, and
  * application/octet-stream of every type of a file, is not listed: mimelook_is_a knows it. */
 mimelook_report mimelook_parents(const uint8_t *cache, size_t cache_length, const uint8_t *type, size_t type_length,
@@ -262,7 +262,7 @@ mimelook_report mimelook_sniff(const uint8_t *cache, size_t cache_length, const 
     mimelook_sniffed *sniffed);
 
 /* One cache of the texts of data directories, the most preferred first: the bytes that `mimelook build` writes, at the front of
- * a buffer of so much room, and their length. Where there is no room for them the status is MIMELOOK_SHORT_BUFFER, and the
+ * a buffer of that much room, and their length. Where there is no room for them the status is MIMELOOK_SHORT_BUFFER, and the
  * length alone is written, which is the room that is needed; with any other status neither is. A malformed line is skipped.
  * Memory of several times the length of the texts may be taken. */
 mimelook_merge_report mimelook_merge(const mimelook_directory *directories, size_t count, uint8_t *cache, size_t room,

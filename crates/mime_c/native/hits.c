@@ -13,7 +13,7 @@ static const uint8_t before[] = "before";
 static mimelook_hit found[ROOM];
 static size_t count;
 
-/* The hits of a name, for which there is so much room, in an array that was filled before. */
+/* The hits of a name, for which there is that much room, in an array that was filled before. */
 static mimelook_report ask(const uint8_t *cache, size_t length, const char *name, size_t size, size_t room) {
     for (size_t i = 0; i < ROOM; i++) {
         found[i] = (mimelook_hit){{before, 6}, 777, 77, 77, {7, 7}};

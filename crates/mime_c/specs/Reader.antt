@@ -18,7 +18,7 @@ abbrev pub IsReaderReport : {X : Type 0} → (X → Type 0) → Type 0 → Resul
 IsReaderReport Given Left (Ok answer) meter told = Given answer × (told ≡ status_report status_answered 0 meter)
 IsReaderReport Given Left (Err e) meter told = Left × (told ≡ fault_report e 0 meter)
 
--- What C gets of a call that visits at most so many records and compares at most so many bytes.
+-- What C gets of a call that visits at most that many records and compares at most that many bytes.
 pub record IsReaderCall {X : Type 0} (c : List ℕ) (IsSo : Result X CacheFault → Type 0) (nodes bytes : ℕ)
     (Given : X → Type 0) (Left : Type 0) (told : Report) : Type 0 where
   -- How the call ended.

@@ -13,7 +13,7 @@ status_name_too_long = 1
 abbrev pub status_out_of_memory : ℕ
 status_out_of_memory = 2
 
--- bytes that have to be a type name are none
+-- bytes that have to be a type name are not one
 abbrev pub status_not_a_type : ℕ
 status_not_a_type = 3
 

@@ -66,7 +66,7 @@ impl From<DirsFault> for MergeFault {
 /// One cache of the text files of directories, the most preferred first, at the front of a buffer: what the command `build`
 /// writes ("The mime.cache files").
 ///
-/// Where the buffer has no room for it, the length alone is written: as much room is needed. Malformed lines are passed over;
+/// Where the buffer has no room for it, the length alone is written: as much room is needed. Malformed lines are skipped;
 /// the first directory whose `magic` is refused is told, with what is wrong and where.
 #[unsafe(no_mangle)]
 pub extern "C" fn mimelook_merge(

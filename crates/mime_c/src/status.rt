@@ -9,7 +9,7 @@ pub const NAME_TOO_LONG: u32 = 1;
 /// An allocation was refused.
 pub const OUT_OF_MEMORY: u32 = 2;
 
-/// Bytes that have to be a type name are none.
+/// Bytes that have to be a type name are not one.
 pub const NOT_A_TYPE: u32 = 3;
 
 /// A buffer has no room for what goes into it.

@@ -19,7 +19,7 @@ pub extern "C" fn mimelook_is_type_name(bytes: &[u8]) -> bool
 
 /// The bytes as a type name, or the status that says why there is none.
 pub fn type_name(alloc: Global, bytes: &[u8]) -> Result<TypeName, u32>
-    // The bytes as a type's name if they are one, else the status of a name that is none, or of no memory.
+    // The bytes as a type's name if they are one, else the status of a name that is not one, or of no memory.
     ensures { MatchResult result (λ name. (is_type_name bytes.now ≡ true) × (name ≡ bytes.now))
         (λ status. ((status ≡ status_not_a_type) × (is_type_name bytes.now ≡ false))
         ⊎ ((status ≡ status_out_of_memory) × (is_type_name bytes.now ≡ true))) }

@@ -34,7 +34,7 @@ KeepsHealth sound after result = IsOk result × (after ≡ sound)
 KeepsHealth broken after result = (result ≡ Err Failed) × (after ≡ broken)
 KeepsHealth untold after result = ⊤
 
--- no read failed, and just so many were interrupted
+-- no read failed, and just that many were interrupted
 abbrev pub Interrupts : Option Tally → Option Tally → ℕ → Type 0
 Interrupts None after count = ⊤
 Interrupts (Some before) None count = ⊥
@@ -63,6 +63,6 @@ OfReader IsSo Otherwise None (Some after) = ⊥
 OfReader IsSo Otherwise (Some before) None = ⊥
 OfReader IsSo Otherwise (Some before) (Some after) = IsSo before after
 
--- the known bytes advanced by so many
+-- the known bytes advanced by that many
 abbrev pub Advances : Option (List ℕ) → Option (List ℕ) → ℕ → Type 0
 Advances before after count = (bytes : List ℕ) × Consumes before after bytes × (length bytes ≡ count)

@@ -39,7 +39,7 @@ pub record LooksWithin (c content : List ℕ) (read : ℕ) (meter : Meter) : Typ
   pub there : read ≤ length content
   -- Nor more than 128 bytes or the extent that the cache states.
   pub limit : read ≤ max 128 (stated_extent c)
-  -- The nodes and the bytes keep to the bounds of an empty name with so much content.
+  -- The nodes and the bytes keep to the bounds of an empty name with that much content.
   pub bounds : KeepsBounds 0 c read meter
 
 -- All that is promised of what a content is sniffed as.

@@ -6,7 +6,7 @@ use Rattle.mime_lookup.specs.Ancestry.{kinds_of}
 use Rattle.mime_view.specs.Spending.{Looks, Price, Spends}
 use Rattle.mime_view.specs.declared.spending.Spending.{Spending}
 
--- what a lookup pays: 59 nodes and so many bytes for a record, and so many bytes for a value byte
+-- what a lookup pays: 59 nodes and that many bytes for a record, and that many bytes for a value byte
 abbrev pub lookup_price : ℕ → ℕ → Price
 lookup_price each value = record { nodes = 59; bytes = each; value_byte = value }
 
@@ -14,7 +14,7 @@ lookup_price each value = record { nodes = 59; bytes = each; value_byte = value 
 abbrev pub Costs : ℕ → ℕ → ℕ → Spending → Spending → Type 0
 Costs each value more old new = Spends (lookup_price each value) more (256 * more) old new
 
--- A step that costs so much, with `owed` nodes that are still to come, each with at most 256 bytes.
+-- A step that costs that much, with `owed` nodes that are still to come, each with at most 256 bytes.
 pub record CostsOwing (owed each value more : ℕ) (old new : Spending) : Type 0 where
   -- It does without them.
   pub alone : Costs each value more old new
@@ -24,14 +24,14 @@ pub record CostsOwing (owed each value more : ℕ) (old new : Spending) : Type 0
   pub bytes : new.meter.bytes + 256 * owed + each * new.budget.records + value * new.budget.value_bytes
       ≤ old.meter.bytes + each * old.budget.records + value * old.budget.value_bytes + 256 * more
 
--- A step that takes nothing of the budget: it visits at most so many records, each with at most 256 bytes.
+-- A step that takes nothing of the budget: it visits at most that many records, each with at most 256 bytes.
 pub record LooksAt (nodes : ℕ) (old new : Spending) : Type 0 where
   -- The budget stays.
   pub budget : new.budget ≡ old.budget
   -- The meter rises by no more.
   pub looks : Looks nodes (256 * nodes) old.meter new.meter
 
--- A step that visits no record, and compares at most so many bytes.
+-- A step that visits no record, and compares at most that many bytes.
 pub record Compares (most : ℕ) (old new : Meter) : Type 0 where
   -- No record is visited.
   pub nodes : new.nodes ≡ old.nodes
@@ -49,7 +49,7 @@ pub record ComparesTypes (types : List (Bor (List ℕ))) (old new : Meter) : Typ
   -- Where each type has fewer than 256 bytes, at most 256 are compared for each.
   pub bytes : All (λ kind. length kind < 256) (kinds_of types) → new.bytes ≤ old.bytes + 256 * length types
 
--- the bytes of a record, for a name of so many bytes
+-- the bytes of a record, for a name of that many bytes
 abbrev pub record_cost : ℕ → ℕ
 record_cost name = 256 * (name + 64)
 
@@ -57,6 +57,6 @@ record_cost name = 256 * (name + 64)
 abbrev pub glob_cost : ℕ → ℕ
 glob_cost name = 29 * (2 * name + 2) + 1
 
--- a step costs a search for the types of a name, and so many nodes besides
+-- a step costs a search for the types of a name, and that many nodes besides
 abbrev pub CostsSearch : ℕ → ℕ → ℕ → Spending → Spending → Type 0
 CostsSearch name value more old new = Costs (record_cost name) value (glob_cost name + more) old new

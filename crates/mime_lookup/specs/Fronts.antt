@@ -29,7 +29,7 @@ pub record ReadsFront {R : Type 0} (remaining : R → Option (List ℕ)) (c : Li
     (front : Option (List ℕ)) : Type 0 where
   -- Over each database whose magic stands in the cache the front is enough for the content, where that is known.
   pub enough : (b : PlainDatabase) → SpellsMagic c b → IfSome (known_content remaining content) (λ known. IsEnough b known front)
-  -- So many bytes were read.
+  -- That many bytes were read.
   pub size : read ≡ front_length front
   -- There is no front where no content is available.
   pub absent : content ≡ None → front ≡ None

@@ -59,7 +59,7 @@ abbrev pub AreTextsByName : List ℕ → NameDecision → Type 0
 AreTextsByName c (Decided kind) = IsCacheText c kind.now
 AreTextsByName c (Left candidates) = AreTexts c candidates
 
--- the nodes that candidates may still need, for a name of so many bytes: 29 for each type, or those of a search
+-- the nodes that candidates may still need, for a name of that many bytes: 29 for each type, or those of a search
 abbrev pub owed_nodes : ℕ → Candidates → ℕ
 owed_nodes name (Kept kinds) = 29 * length kinds
 owed_nodes name (Every kinds asked) = 29 * length kinds

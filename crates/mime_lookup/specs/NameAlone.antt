@@ -33,7 +33,7 @@ pub record AnswersName (c name : List ℕ) (order : Order) (kind : List ℕ) (wa
   pub chosen : (b : PlainDatabase) → Suffices c name order ⊤ b → (host : Host) → Chooses b name None host order kind
   -- Whatever the bytes are, it is a text of the cache, or a fixed type.
   pub allowed : IsKind c kind
-  -- So much of a content is wanted.
+  -- That much of a content is wanted.
   pub wants : IsWanted c name order wanted
 
 -- All that is promised of a lookup of a name alone.

@@ -45,7 +45,7 @@ pub record GivesKinds (which : Which) (b : PlainDatabase) (name : List ℕ) (old
 
 -- What they cost: a search for the rules, and an alias step for each type that is found.
 pub record CostsKinds (name : ℕ) (old new : Spending) (result : Result NameHits CacheFault) : Type 0 where
-  -- So many are found.
+  -- That many are found.
   pub found : ℕ
   -- An answer has all of them.
   pub given : IfOk result (λ hits. length hits.kinds ≡ found)

@@ -13,7 +13,7 @@ abbrev pub TriesAgain : {X : Type 0} → Option Tally → Option Tally → ℕ �
 TriesAgain before after retries left result = MatchResult result
     (λ _. Interrupts before after (retries - left)) (λ cause. (cause ≡ Read) × GivesUp before after retries)
 
--- a lookup took so many bytes from its reader, within a limit, and answers or stops for what the reader tells
+-- a lookup took that many bytes from its reader, within a limit, and answers or stops for what the reader tells
 pub record Reads {R X : Type 0} (remaining : R → Option (List ℕ)) (tally : R → Option Tally) (health : R → Health)
     (limit : ℕ) (before after : Option R) (read : ℕ) (result : Result X Cause) : Type 0 where
   -- It stops for a read only where one failed, or was interrupted once more than is tried again.

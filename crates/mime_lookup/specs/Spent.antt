@@ -9,7 +9,7 @@ abbrev pub IsUsedUp : List ℕ → Type 0 → Budget → Type 0
 IsUsedUp c NoContent left = (left.records ≡ 0) ⊎ ((NoContent → ⊥) × (r : ℕ) × IsMagicLine c (field c 0 6) r
     × (left.value_bytes < field c r 3))
 
--- it is used up, where so many records were visited: the header, each record that was taken, and any others
+-- it is used up, where that many records were visited: the header, each record that was taken, and any others
 pub record UsesUp (c : List ℕ) (NoContent : Type 0) (nodes : ℕ) : Type 0 where
   pub left : Budget
   pub records : length c / 4 < nodes + left.records

@@ -11,9 +11,9 @@ use Rattle.mime_lookup.specs.declared.order.Order.{Order}
 abbrev pub wanted_of : PlainDatabase → List ℕ → Order → ℕ
 wanted_of b name order = if globs_suffice b name order then 0 else read_limit b
 
--- So much of a content gives the type of the whole.
+-- That much of a content gives the type of the whole.
 pub record IsFrontEnough (b : PlainDatabase) (name : List ℕ) (order : Order) (wanted : ℕ) : Type 0 where
-  -- A front of so much, or the whole, has the type of the whole.
+  -- A front of that much, or the whole, has the type of the whole.
   pub front : (host : Host) (content rest kind : List ℕ) → (rest ≡ []) ⊎ (wanted ≤ length content) →
       Chooses b name (Some content) host order kind → Chooses b name (Some (content ++ rest)) host order kind
   -- Where nothing is wanted, so has no content.
@@ -29,7 +29,7 @@ pub record IsWanted (c name : List ℕ) (order : Order) (wanted : ℕ) : Type 0 
       wanted ≡ (if globs_suffice b name order then 0 else max 128 (stated_extent c))
   -- Where the magic stands too, it is what a lookup reads at most.
   pub most : (b : PlainDatabase) → SpellsGlobs c b → SpellsMagic c b → wanted ≡ wanted_of b name order
-  -- And so much is enough.
+  -- And that much is enough.
   pub enough : (b : PlainDatabase) → SpellsGlobs c b → SpellsMagic c b → IsFrontEnough b name order wanted
 
 -- enough of a database stands to say how much is wanted: glob rules that suffice, or these and the magic

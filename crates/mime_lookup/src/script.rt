@@ -22,7 +22,7 @@ pub enum Step<'a> {
 
 /// A content whose reads meet given steps, one after another, and then the end.
 ///
-/// A piece without bytes is passed over. A read after the end gives no bytes.
+/// A piece without bytes is skipped. A read after the end gives no bytes.
 #[derive(Clone, Copy, Debug)]
 pub struct Script<'a> {
     /// What is left of the piece that was met last.

@@ -7,7 +7,7 @@ pub record Written (c : List ℕ) (at : ℕ) (bytes : List ℕ) : Type 0 where
   pub stands : Stands c at bytes
   pub after : 40 ≤ at
 
--- `new` is `old` and so many bytes more
+-- `new` is `old` and that many bytes more
 pub record Grew (old new : List ℕ) (size : ℕ) : Type 0 where
   pub more : List ℕ
   pub is : new ≡ old ++ more

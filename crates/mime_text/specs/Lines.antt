@@ -11,7 +11,7 @@ pub mod IconsRows
 use Rattle.std.specs.Prelude.{ℕ, ◌==◌, ◌↔◌, Bool, true, if◌then◌else◌, List, [], ◌∷◌, map, filter, Contains}
 use Rattle.std.specs.List.{enumerate_from, onto_first, slice_split}
 
--- the bytes up to each newline (10), and those behind the last newline, if any
+-- the bytes up to each newline (10), and those after the last newline, if any
 abbrev pub lines : List ℕ → List (List ℕ)
 lines [] = []
 lines (b ∷ rest) = if b == 10 then [] ∷ lines rest else onto_first b (lines rest)

@@ -68,7 +68,7 @@ impl<T: Drop> From<AllocFailed<T>> for DirsFault {
 
 /// Reads the text files of directories, of which [`merge_visible`](crate::merge_visible) makes one database.
 ///
-/// Malformed lines are passed over. A directory is named only where no directory before it is refused.
+/// Malformed lines are skipped. A directory is named only where no directory before it is refused.
 pub fn read_dirs(alloc: Global, dirs: &[DirTexts<'_>]) -> Result<Vec<DirFiles>, DirsFault>
     // What is read of each directory is what its six texts say.
     ensures says { IfOk result (λ files. SayDirs dirs.now (plain_dirs files.items)) }

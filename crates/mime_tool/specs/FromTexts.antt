@@ -70,7 +70,7 @@ FirstRefused (dir ∷ dirs) (suc i) f = (magic_fault dir.magic.now ≡ None) × 
 
 -- ---- answers
 
--- a meter keeps to the bounds of a lookup over a cache of at most so many bytes
+-- a meter keeps to the bounds of a lookup over a cache of at most that many bytes
 pub record KeepsRoom (name size read : ℕ) (meter : Meter) : Type 0 where
   pub nodes : meter.nodes ≤ nodes_max name size
   pub bytes : meter.bytes ≤ bytes_max name size read
@@ -108,7 +108,7 @@ abbrev pub IfStopped : AnswerFault → (Stopped → Type 0) → Type 0
 IfStopped (fault.Lookup stopped) IsSo = IsSo stopped
 IfStopped e IsSo = ⊤
 
--- a lookup took so many bytes: of a fault before it none, and where memory ran out how many isn't told
+-- a lookup took that many bytes: of a fault before it none, and where memory ran out how many isn't told
 abbrev pub TookBytes : (ℕ → Type 0) → Result OwnedAnswer AnswerFault → Type 0
 TookBytes Took (Ok answer) = Took answer.read
 TookBytes Took (Err (fault.Magic i f)) = Took 0
@@ -116,7 +116,7 @@ TookBytes Took (Err (fault.Store f)) = Took 0
 TookBytes Took (Err (fault.Lookup stopped)) = Took stopped.read
 TookBytes Took (Err fault.OutOfMemory) = (read : ℕ) × Took read
 
--- what becomes of the content's reader: an answer or a stop takes so many bytes of it, and a stop for a read is its fault
+-- what becomes of the content's reader: an answer or a stop takes that many bytes of it, and a stop for a read is its fault
 pub record AsksReader {R : Type 0} (remaining : R → Option (List ℕ)) (tally : R → Option Tally) (health : R → Health)
     (before after : Option R) (result : Result OwnedAnswer AnswerFault) : Type 0 where
   pub gives_up : IfErr result (λ e. IfStopped e (λ stopped. stopped.cause ≡ cause.Read →

@@ -15,7 +15,7 @@ use Rattle.mime_tool.specs.Files.{Stored}
 use Rattle.mime_tool.specs.Run.{Run, printed}
 use Rattle.mime_tool.specs.Sources.{IsSourceCommand}
 
--- `:cs` behind a rule that is case-sensitive
+-- `:cs` after a rule that is case-sensitive
 abbrev pub cased_mark : Bool → List ℕ
 cased_mark true = codes ":cs"
 cased_mark false = []

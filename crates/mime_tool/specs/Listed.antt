@@ -4,7 +4,7 @@ use Rattle.std.specs.List.{onto_first}
 use Rattle.mime_tool.specs.Files.{Stored, bytes, unknown}
 use Rattle.mime_tool.specs.Run.{IsFollowed, Run, cannot_read, refusal, silent, stopped, stops, unanswered}
 
--- the names in the bytes of a list: those up to each zero byte, and that behind the last zero byte, if any
+-- the names in the bytes of a list: those up to each zero byte, and that after the last zero byte, if any
 abbrev pub listed : List ℕ → List (List ℕ)
 listed [] = []
 listed (b ∷ rest) = if b == 0 then [] ∷ listed rest else onto_first b (listed rest)

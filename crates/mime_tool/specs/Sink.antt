@@ -14,7 +14,7 @@ WroteFront None new bs = Unit {0}
 WroteFront (Some xs) new bs =
     (front : List ℕ) × (rest : List ℕ) × (bs ≡ front ++ rest) × (new ≡ Some (xs ++ front))
 
--- a known sink that holds so many bytes at the most, where that is told, has room for these
+-- a known sink that holds that many bytes at the most, where that is told, has room for these
 abbrev pub HasRoom : Option ℕ → Option (List ℕ) → List ℕ → Type 0
 HasRoom None held bs = ⊥
 HasRoom (Some capacity) None bs = ⊥
@@ -39,7 +39,7 @@ abbrev pub Flushes : Option (List ℕ) → Flush → Result (Unit {0}) SinkFault
 Flushes None flush answer = Unit {0}
 Flushes (Some xs) flush answer = flush ≡ Some answer
 
--- all bytes were handed on; or memory ran out while they were, and the status tells that or an earlier stop
+-- all bytes were handed on; or memory ran out while they were, and the status says that or an earlier stop
 abbrev pub IsHandedOn : ℕ → Flush → Type 0
 IsHandedOn status flush =
     (flush ≡ Some (Ok tt)) ⊎ ((flush ≡ Some (Err OutOfMemory)) × (3 ≤ status))

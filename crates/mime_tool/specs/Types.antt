@@ -23,12 +23,12 @@ use Rattle.mime_tool.specs.Run.{Run, cannot_read, printed, unanswered}
 use Rattle.mime_tool.specs.Sources.{IsSourceCommand}
 use Rattle.mime_tool.specs.Subjects.{AreRuns}
 
--- what `--cost` tells of an answer: the records that were visited, the bytes that were compared, and those that were read
+-- what `--cost` reports of an answer: the records that were visited, the bytes that were compared, and those that were read
 abbrev pub cost_text : Meter → ℕ → List ℕ
 cost_text meter read =
     codes " nodes=" ++ (decimal meter.nodes ++ (codes " bytes=" ++ (decimal meter.bytes ++ (codes " read=" ++ decimal read))))
 
--- what stands behind a type, with `--cost` or without it
+-- what is printed after a type, with `--cost` or without it
 abbrev pub cost_tail : Bool → Meter → ℕ → List ℕ
 cost_tail true meter read = cost_text meter read
 cost_tail false meter read = []
@@ -49,7 +49,7 @@ pub record IsLine (cache : List ℕ) (cost : Bool) (output : Output) (order : Or
   pub spelled : (b : PlainDatabase) → IsWithinLimits b → Spells cache b → IsSaid b kind read
   pub is : run ≡ printed (type_line output file kind (cost_tail cost meter read))
 
--- the checking order gives the type to the name and this content, and reads so many bytes of it
+-- the checking order gives the type to the name and this content, and reads that many bytes of it
 abbrev pub IsChosen : Option (List ℕ) → Order → List ℕ → PlainDatabase → List ℕ → ℕ → Type 0
 IsChosen content order file b kind read =
     Chooses b (name_for order file) content Little order kind × (read ≡ read_of b (name_for order file) content order)

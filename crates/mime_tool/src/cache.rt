@@ -12,7 +12,7 @@ use std::alloc::{AllocError, Global};
 
 /// The stop of a fault of the cache at this path.
 pub(crate) fn faulty(alloc: Global, path: &str, fault: CacheFault) -> Stop
-    // The stop has the message on this fault, or tells that memory ran out.
+    // The stop has the message on this fault, or says that memory ran out.
     ensures { IsCacheFaultStop path.now fault result }
 {
     match fault {
@@ -29,7 +29,7 @@ pub(crate) fn stopped_for(alloc: Global, path: &str, cause: Cause) -> Stop
     requires readable { cause ≢ Cause.Read }
     // A fault of the cache is that stop.
     ensures fault { (fault : CacheFault) → cause ≡ Cause.Cache fault → IsCacheFaultStop path.now fault result }
-    // Where memory ran out, the stop tells that.
+    // Where memory ran out, the stop says so.
     ensures memory { cause ≡ Cause.OutOfMemory → result ≡ Stop.OutOfMemory }
 {
     match cause {

@@ -81,7 +81,7 @@ pub(crate) trait Desk {
     fn hand_on(&mut self) -> Result<(), Stop>
         ensures { Works (Does silent) (state self.old) (state self.new) result };
 
-    /// Says it on standard error, after what was printed. A fault there is passed over, unless memory ran
+    /// Says it on standard error, after what was printed. A fault there is ignored, unless memory ran
     /// out.
     fn complain(&mut self, message: &[u8]) -> Result<(), Stop>
         ensures { Works (Does (said message.now)) (state self.old) (state self.new) result };

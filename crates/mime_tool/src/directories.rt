@@ -1,7 +1,7 @@
 //! Data directories: the six text files of each, and the database of all of them ("Directory
 //! layout").
 //!
-//! A missing file counts as empty; that all are missing is said first. A malformed line of a file of lines is passed over with a message
+//! A missing file counts as empty; that all are missing is said first. A malformed line of a file of lines is skipped with a message
 //! once its file was read; a file that can't be read, and a fault of `magic`, stop the command. That,
 //! the messages and the order of the files are this project's own.
 

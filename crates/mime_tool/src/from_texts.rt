@@ -129,7 +129,7 @@ impl From<Stopped> for AnswerFault {
 ///
 /// The files are read and merged, less the rules that are never kept, a cache is written in memory, and the
 /// lookup goes over its bytes: what it visits, compares and reads keeps to the bounds of a lookup. Malformed
-/// lines are passed over.
+/// lines are skipped.
 ///
 /// Want of memory is [`AnswerFault::OutOfMemory`], wherever it arose. A lookup stops for the content only where
 /// there is one and a read of it failed, or a 1,001st interruption came. This project's own.

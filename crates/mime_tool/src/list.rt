@@ -27,7 +27,7 @@ use mime_request::Source;
 use mime_view::{Budget, Cache, CacheFault, Listed};
 use std::alloc::Global;
 
-/// Prints a line `WEIGHT:TYPE:PATTERN` for each glob rule of a cache, and `:cs` behind one that is
+/// Prints a line `WEIGHT:TYPE:PATTERN` for each glob rule of a cache, and `:cs` after one that is
 /// case-sensitive, and gives the status. Where the cache is refused nothing is printed.
 pub(crate) fn list<D: Desk>(
     desk: &mut D,

@@ -48,7 +48,7 @@ use std::convert::AsStr;
 /// printed, or help was shown; 1 where some file can't be opened or read or has a name that is too
 /// long, or `isa` says no; 2 where the words are wrong; 3 where the data or the cache can't be read or
 /// are refused, a cache can't be written or `out` fails; and 4 where memory ran out. Messages go to
-/// `err`, a line each; its faults are passed over, unless memory ran out. Lines that were printed
+/// `err`, a line each; its faults are ignored, unless memory ran out. Lines that were printed
 /// before a stop stay, and are flushed.
 pub fn run<F: Files, I: Content + Drop, O: Sink, E: Sink, S: AsStr>(
     alloc: Global,

@@ -59,7 +59,7 @@ impl From<SinkFault> for Stop {
 
 /// The file of this path can't be read.
 pub(crate) fn unreadable(alloc: Global, path: &str) -> Stop
-    // The stop has the message `cannot read`, or tells that memory ran out.
+    // The stop has the message `cannot read`, or says that memory ran out.
     ensures { IsRefusal (cannot_read path.now) result }
 {
     match format!(in alloc; "mimelook: {path}: cannot read\n") {
@@ -70,7 +70,7 @@ pub(crate) fn unreadable(alloc: Global, path: &str) -> Stop
 
 /// The file of this path can't be written.
 pub(crate) fn unwritable(alloc: Global, path: &str) -> Stop
-    // The stop has the message `cannot write`, or tells that memory ran out.
+    // The stop has the message `cannot write`, or says that memory ran out.
     ensures { IsRefusal (cannot_write path.now) result }
 {
     match format!(in alloc; "mimelook: {path}: cannot write\n") {
@@ -79,7 +79,7 @@ pub(crate) fn unwritable(alloc: Global, path: &str) -> Stop
     }
 }
 
-/// Says it on standard error. A fault there is passed over, unless memory ran out.
+/// Says it on standard error. A fault there is ignored, unless memory ran out.
 pub(crate) fn complain<E: Sink>(err: &mut E, text: &[u8]) -> Result<(), OutOfMemory>
     // Where standard error tells what it holds, the message is added, or what it begins with where memory runs out.
     ensures says { Says (E.holds err.old) (E.holds err.new) result text.now }

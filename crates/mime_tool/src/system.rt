@@ -35,9 +35,8 @@ const BLOCK: usize = 262_144;
 /// A regular file alone is replaced, and keeps its mode; where a link leads to it, by way of a file beside
 /// it, and the link stays. Where nothing is, a file is made.
 ///
-/// Of files that are read whole, one that doesn't exist is none; any other that can't be opened or read
-/// is [`FileFault::Failed`], and so is one of more than 4 GiB. A file that says that it is so long isn't
-/// read.
+/// Of files that are read whole, a missing one is `None`; any other that can't be opened or read is
+/// [`FileFault::Failed`], and so is one of more than 4 GiB, which isn't read where its size is known before.
 #[derive(Drop)]
 pub struct SystemFiles<'r, R: rt::Files>(&'r R);
 

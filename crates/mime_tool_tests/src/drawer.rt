@@ -18,7 +18,7 @@ pub struct Drawer<'a> {
     pub shelf: Shelf<'a>,
     /// The path of the file that can be replaced.
     pub path: &'a str,
-    /// What the path that its bytes are written to has behind it.
+    /// What the path that its bytes are written to has after it.
     pub ending: &'a str,
     /// What it was last replaced by.
     pub laid: Option<Vec<u8>>,

@@ -39,7 +39,7 @@ impl Files for FailingFiles {
     }
 }
 
-/// Files of a shelf of which one call fails: so many are met before it.
+/// Files of a shelf of which one call fails: that many are met before it.
 #[derive(Drop)]
 pub struct FailingShelf<'a> {
     pub shelf: Shelf<'a>,
@@ -80,7 +80,7 @@ impl<'a> Files for FailingShelf<'a> {
     }
 }
 
-/// Files of a drawer of which one call fails: so many are met before it.
+/// Files of a drawer of which one call fails: that many are met before it.
 #[derive(Drop)]
 pub struct FailingDrawer<'a> {
     pub drawer: Drawer<'a>,
@@ -130,7 +130,7 @@ fn step(calls: &mut usize, fault: FileFault) -> Result<(), FileFault> {
     Ok(())
 }
 
-/// A sink of which some calls fail, flushes too: so many are met, then so many fail, and the rest
+/// A sink of which some calls fail, flushes too: that many are met, then that many fail, and the rest
 /// are met.
 #[derive(Drop)]
 pub struct FailingSink {

@@ -6,9 +6,9 @@ use std::io::{ErrorKind, Read, Write};
 /// What calls of a script meet.
 #[derive(Clone, Copy)]
 pub enum Step {
-    /// So many calls move one byte each.
+    /// That many calls move one byte each.
     Bytes(usize),
-    /// So many calls fail so.
+    /// That many calls fail so.
     Faults(usize, ErrorKind),
 }
 

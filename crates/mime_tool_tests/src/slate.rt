@@ -5,7 +5,7 @@ ghost use Rattle.std.specs.Prelude.{Ok, Some};
 use arrayvec::ArrayVec;
 use mime_tool::{Sink, SinkFault};
 
-/// A sink of at most so many bytes. It takes all the bytes of a call or none, and runs out of memory
+/// A sink of at most that many bytes. It takes all the bytes of a call or none, and runs out of memory
 /// only where it has no room for them.
 #[derive(Drop)]
 pub struct Slate<const N: usize>(pub ArrayVec<u8, N>);

@@ -71,7 +71,7 @@ pub record IsRow (c : List ℕ) (at : ℕ) (old new : Spending) (row : Row) : Ty
   -- It took a record of the budget.
   pub taken : new.budget.records + 1 ≡ old.budget.records
 
--- what a step adds to a listing where these rules stand, by so many records: their rows, in their order
+-- what a step adds to a listing where these rules stand, by that many records: their rows, in their order
 abbrev pub AddsRules : {X : Type 0} → List GlobRule → ℕ → List PlainListed → List PlainListed → Spending → Spending
     → Result X CacheFault → Type 0
 AddsRules rules records before after old new result = Gives (λ _. after ≡ before ++ map listed_rule rules) records old new result
@@ -87,5 +87,5 @@ pub record Adds {X : Type 0} (c : List ℕ) (Fault : ℕ → CacheFault → Type
   pub texts : All (IsListed c) before → All (IsListed c) after
   -- Where it stops, such a fault says why, by the records that are left.
   pub fault : IfErr result (Fault new.budget.records)
-  -- Each record adds one node and at most 512 bytes, and so many nodes come besides.
+  -- Each record adds one node and at most 512 bytes, and that many nodes come besides.
   pub cost : Spends (per_record 512) nodes 0 old new

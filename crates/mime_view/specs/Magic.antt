@@ -18,7 +18,7 @@ use Rattle.mime_view.specs.declared.magic.MagicQuery.{MagicQuery}
 use Rattle.mime_view.specs.declared.magic.Seen.{Seen}
 use Rattle.mime_view.specs.declared.spending.Spending.{Spending}
 
--- so many records of a size lie in the cache; no records lie anywhere
+-- that many records of a size lie in the cache; no records lie anywhere
 pub record LiesBlock (c : List ℕ) (first size count : ℕ) : Type 0 where
   pub inside : 0 < count → first + size * count ≤ length c
 
@@ -59,12 +59,12 @@ pub record ReadsMagic (c : List ℕ) (at : ℕ) (sections : List PlainSection) :
   pub block : LiesBlock c (field c at 2) 16 (length sections)
   pub sections_read : ReadsSections c (field c at 2) sections
 
--- at most so many records and value bytes are taken
+-- at most that many records and value bytes are taken
 pub record Takes (records value_bytes : ℕ) (old new : Budget) : Type 0 where
   pub most_records : old.records ≤ new.records + records
   pub most_value_bytes : old.value_bytes ≤ new.value_bytes + value_bytes
 
--- What is answered of lines or sections that stand, and have so many records and so many value bytes.
+-- What is answered of lines or sections that stand, and have that many records and that many value bytes.
 pub record Answers {X : Type 0} (Is : X → Type 0) (allowed : Type 0) (records value_bytes : ℕ) (old new : Spending)
     (result : Result X CacheFault) : Type 0 where
   -- An answer is the right one.
@@ -80,7 +80,7 @@ AnswersLine query own old new result =
     Answers (λ seen. seen.equals ≡ equals_from own query.host query.content own.start own.range) (Unit {0})
     1 (length own.value) old new result
 
--- of lines with their children, of which so many levels are allowed: whether one holds
+-- of lines with their children, of which that many levels are allowed: whether one holds
 abbrev pub AnswersLines : MagicQuery → ℕ → Forest → Spending → Spending → Result Bool CacheFault → Type 0
 AnswersLines query levels lines old new result =
     Answers (λ holds. holds ≡ some_holds lines query.content query.host) (are_allowed levels lines ≡ true)
@@ -109,7 +109,7 @@ abbrev pub AnswersMagicAt : MagicQuery → ℕ → Spending → Spending → Res
 AnswersMagicAt query at old new result =
     (sections : List PlainSection) → ReadsMagic query.counted.now at sections → AnswersSections query sections old new result
 
--- of so many lines that stand on a level, the first at `first`, with their children
+-- of that many lines that stand on a level, the first at `first`, with their children
 abbrev pub AnswersLinesAt : MagicQuery → ℕ → ℕ → ℕ → Spending → Spending → Result Bool CacheFault → Type 0
 AnswersLinesAt query first count level old new result =
     (lines : Forest) → width lines ≡ count → ReadsLines query.counted.now first lines
@@ -133,7 +133,7 @@ pub record Ends {X : Type 0} (Fault : Budget → CacheFault → Type 0) (price :
 abbrev pub line_price : MagicQuery → Price
 line_price query = record { nodes = 1; bytes = 0; value_byte = length query.content + 1 }
 
--- a section costs the text of its type besides; so a search of magic does, for a content of so many bytes
+-- a section costs the text of its type besides; so a search of magic does, for a content of that many bytes
 abbrev pub magic_price : ℕ → Price
 magic_price content = record { nodes = 1; bytes = 256; value_byte = content + 1 }
 
@@ -172,7 +172,7 @@ abbrev pub IsOwnFault : List ℕ → ℕ → ℕ → Budget → CacheFault → T
 IsOwnFault c r level after e =
     IsSeenFault c r after e ⊎ IsBlockFault c (field c r 7) 32 (field c r 6) e ⊎ (e ≡ TooDeep) × (0 < field c r 6) × (level ≡ 63)
 
--- so many steps, each from a line to one of its children, lead from the line at `at` to the one at r
+-- that many steps, each from a line to one of its children, lead from the line at `at` to the one at r
 abbrev pub LeadsToLine : List ℕ → ℕ → ℕ → ℕ → Type 0
 LeadsToLine c zero at r = r ≡ at
 LeadsToLine c (suc steps) at r = (i : ℕ) × (i < field c at 6) × LeadsToLine c steps (field c at 7 + 32 * i) r
@@ -190,7 +190,7 @@ pub record IsLineFault (c : List ℕ) (at level : ℕ) (after : Budget) (e : Cac
   -- Why it gives no answer.
   pub fault : IsOwnFault c r (level + steps) after e
 
--- one of so many lines on a level, or one below it, gives no answer
+-- one of that many lines on a level, or one below it, gives no answer
 abbrev pub IsLinesFault : List ℕ → ℕ → ℕ → ℕ → Budget → CacheFault → Type 0
 IsLinesFault c first count level after e = (i : ℕ) × (i < count) × IsLineFault c (first + 32 * i) level after e
 

@@ -12,7 +12,7 @@ abbrev pub looked_up : List (List ℕ × List ℕ) → List ℕ → Option (List
 looked_up [] key = None
 looked_up (pair ∷ pairs) key = if bytes_eq pair.0 key then Some pair.1 else looked_up pairs key
 
--- the pairs stand one behind another from `at` on, each as the offsets of its two names
+-- the pairs stand one after another from `at` on, each as the offsets of its two names
 abbrev pub ReadsPairEntries : List ℕ → ℕ → List (List ℕ × List ℕ) → Type 0
 ReadsPairEntries c at [] = Unit {0}
 ReadsPairEntries c at (pair ∷ pairs) =

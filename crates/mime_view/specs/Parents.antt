@@ -46,7 +46,7 @@ is_marked c at places kind = list_any (is_entry c at kind) places
 abbrev pub parents_at : List ℕ → ℕ → ℕ → ℕ
 parents_at c at place = field c (at + 4 + 8 * place) 1
 
--- a count, and so many numbers after it, that name these texts
+-- a count, and that many numbers after it, that name these texts
 pub record ReadsTexts (c : List ℕ) (at : ℕ) (texts : List (List ℕ)) : Type 0 where
   pub count : field c at 0 ≡ length texts
   pub inside : at + 4 + 4 * length texts ≤ length c

@@ -17,7 +17,7 @@ pub record Price : Type 0 where
   pub bytes : ℕ
   pub value_byte : ℕ
 
--- a record costs a node and so many bytes, and no value bytes are taken
+-- a record costs a node and that many bytes, and no value bytes are taken
 abbrev pub per_record : ℕ → Price
 per_record bytes = record { nodes = 1; bytes = bytes; value_byte = 0 }
 
@@ -55,7 +55,7 @@ halving name = 29 * (2 * length name + 2) + 1
 abbrev pub SpendsOnName : List ℕ → ℕ → Spending → Spending → Type 0
 SpendsOnName name texts old new = Spends (per_record (256 * (length name + texts))) (halving name) (256 * halving name) old new
 
--- A step that takes nothing of the budget: it adds at most so many nodes and bytes.
+-- A step that takes nothing of the budget: it adds at most that many nodes and bytes.
 pub record Looks (nodes bytes : ℕ) (old new : Meter) : Type 0 where
   -- The nodes never fall.
   pub rises : old.nodes ≤ new.nodes
@@ -66,7 +66,7 @@ pub record Looks (nodes bytes : ℕ) (old new : Meter) : Type 0 where
   -- Nor more bytes.
   pub most_bytes : new.bytes ≤ old.bytes + bytes
 
--- What a step gives where what it reads stands, and so many records are enough.
+-- What a step gives where what it reads stands, and that many records are enough.
 pub record Gives {X : Type 0} (Answer : X → Type 0) (records : ℕ) (old new : Spending) (result : Result X CacheFault) : Type 0 where
   -- Unless it stops, this is the answer.
   pub answer : IfOk result Answer

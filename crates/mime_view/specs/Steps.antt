@@ -36,7 +36,7 @@ no_part = record { Fault = λ e. ⊥; Kind = λ place. ⊥ }
 abbrev pub entry_part : List ℕ → ℕ → Part
 entry_part c at = record { Fault = IsNoText c (field c at 0); Kind = λ place. place ≡ field c at 1 }
 
--- so many entries of a list of rules, from `first` on
+-- that many entries of a list of rules, from `first` on
 abbrev pub entries_part : List ℕ → ℕ → ℕ → Part
 entries_part c first count = record { Fault = IsNamedFault c first 12 count 0; Kind = IsNamedPlace c first 12 count 1 }
 
@@ -64,7 +64,7 @@ pub record FindsRules {X : Type 0} (c : List ℕ) (fits : Type 0) (rules : List 
   -- It takes no more of them.
   pub most : old.spending.budget.records ≤ new.spending.budget.records + visits
 
--- of rules that stand somewhere, a search offers these, if their ranks have room for them, by so many visits
+-- of rules that stand somewhere, a search offers these, if their ranks have room for them, by that many visits
 abbrev pub FindsStanding : Query → (List GlobRule → Type 0) → (List GlobRule → List GlobRule) → (List GlobRule → ℕ)
     → Progress → Progress → Result (Unit {0}) CacheFault → Type 0
 FindsStanding query Stand offered visited old new result =

@@ -47,7 +47,7 @@ impl Budget {
         Ok(())
     }
 
-    /// Takes so many value bytes.
+    /// Takes that many value bytes.
     #[inline]
     pub(crate) fn take_value_bytes(&mut self, count: u64) -> Result<(), CacheFault>
         // That many less are left.

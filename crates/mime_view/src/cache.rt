@@ -53,7 +53,7 @@ const HEADER: u64 = 40;
 /// assert_eq!(rt; cache.unalias(b"t/h", &mut meter, &mut budget), Ok(b"t/g" as &[u8]));
 /// ```
 ///
-/// Nothing behind the header is trusted. Names that its calls give borrow from the cache's bytes.
+/// Only the header is checked. Names that its calls give borrow from the cache's bytes.
 #[derive(Drop)]
 pub struct Cache<'a> {
     counted: Counted<'a>,
@@ -75,7 +75,7 @@ impl<'a> Model for Cache<'a> {
 impl<'a> Cache<'a> {
     /// Reads the header of a cache.
     ///
-    /// It adds one node where there are 40 bytes. It takes no memory.
+    /// It adds one node where there are 40 bytes. It never allocates.
     ///
     /// # Errors
     ///
@@ -218,7 +218,7 @@ impl<'a> Cache<'a> {
 
     /// The type that an alias stands for, or the name itself where it is no alias ("Directory layout").
     ///
-    /// It takes no memory and nothing of the budget.
+    /// It never allocates, and takes nothing of the budget.
     pub fn unalias(
         &self,
         kind: &'a [u8],
@@ -245,7 +245,7 @@ impl<'a> Cache<'a> {
 
     /// The name of a type's icon, where the cache has one ("The mime.cache files").
     ///
-    /// It takes no memory and nothing of the budget.
+    /// It never allocates, and takes nothing of the budget.
     pub fn icon(
         &self,
         kind: &[u8],
@@ -270,7 +270,7 @@ impl<'a> Cache<'a> {
     /// The name of the icon that stands for a type and those like it, where the cache has one ("The
     /// mime.cache files").
     ///
-    /// It takes no memory and nothing of the budget.
+    /// It never allocates, and takes nothing of the budget.
     pub fn generic_icon(
         &self,
         kind: &[u8],
@@ -335,7 +335,7 @@ impl<'a> Cache<'a> {
     /// content, where there is one ("The magic files").
     ///
     /// Each section and each line takes a record of the budget, and each line then as many value bytes as its
-    /// value has. It takes no memory.
+    /// value has. It never allocates.
     ///
     /// # Errors
     ///
@@ -380,7 +380,7 @@ impl<'a> Cache<'a> {
     /// How much of a content the lines of magic can look at, as the cache states it, in bytes ("The
     /// mime.cache files").
     ///
-    /// It takes no memory and nothing of the budget.
+    /// It never allocates, and takes nothing of the budget.
     pub fn extent(&self, meter: &mut Meter, budget: &mut Budget) -> Result<u32, CacheFault>
         // Where magic stands, it gives how far into a content its lines can look.
         ensures answer { (offsets : Offsets) (sections : List PlainSection) → HeaderAt (Stands self.now) offsets →
@@ -403,7 +403,7 @@ impl<'a> Cache<'a> {
     /// list ("The mime.cache files").
     ///
     /// The tree is walked depth first. Leaves among its roots, and what is below a character above 255, are
-    /// passed over: no name leads there. Each entry of a list and each node of the tree, a leaf or not, takes
+    /// skipped: no name leads there. Each entry of a list and each node of the tree, a leaf or not, takes
     /// a record of the budget before it is read. The memory is for the list and the patterns.
     ///
     /// # Errors

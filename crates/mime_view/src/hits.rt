@@ -288,7 +288,7 @@ fn read_every_rule<'a>(
     Ok(RuleHits { rules, kept })
 }
 
-/// Puts the hits of the greatest rank first; those of one rank stay in their order. Up to 20 take no memory.
+/// Puts the hits of the greatest rank first; those of one rank stay in their order. Up to 20 need no allocation.
 fn sort_by_rank(alloc: Global, hits: &mut SmallVec<(u32, u32), FEW>) -> Result<(), CacheFault>
     // The hits are by falling rank then.
     ensures sorted { OnOk result (hits.new.items ≡ falling (λ hit. hit.0) hits.old.items) }

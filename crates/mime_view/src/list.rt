@@ -1,4 +1,4 @@
-//! Lists of a cache: a count, and right behind it records of one size.
+//! Lists of a cache: a count, and right after it records of one size.
 
 ghost use Rattle.std.specs.Prelude.{◌≡◌, ◌+◌, ◌*◌, ◌^◌, ◌<◌, ◌≤◌, length, IfErr, IfOk};
 ghost use Rattle.mime_base.specs.Cache.Bytes.{field};

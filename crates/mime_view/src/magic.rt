@@ -9,7 +9,7 @@
 //! child and is at most the 64th.
 //!
 //! Most lines differ in their first byte already. So the loop over the lines of a section is part of the loop over sections, in
-//! one piece of code that passes over them, with the meter and the budget in registers; a line that may equal its value is
+//! one piece of code that skips them, with the meter and the budget in registers; a line that may equal its value is
 //! looked at by a call of its own, with a copy of both.
 
 ghost use Rattle.std.specs.Prelude.{◌≡◌, ℕ, ◌+◌, ◌*◌, ◌^◌, ◌<◌, ◌≤◌, List, [], ◌∷◌, length, true, false, Ok, IfErr, IfOk, OnOk};

@@ -10,7 +10,7 @@ use std::marker::Model;
 
 /// A set of places of entries of the parent list.
 ///
-/// The first that is added takes no memory. The others are in a tree, and not in a table, since a cache could
+/// The first that is added needs no allocation. The others are in a tree, and not in a table, since a cache could
 /// choose places whose hashes are equal.
 #[derive(Drop)]
 pub struct Marks {
@@ -30,7 +30,7 @@ impl Model for Marks {
 }
 
 impl Marks {
-    /// No places. It takes no memory.
+    /// No places. It never allocates.
     pub fn new(alloc: Global) -> Marks
         // There are none.
         ensures { result ≡ [] }

@@ -12,7 +12,7 @@ pub struct Texts<'a> {
     held: Held<'a>,
 }
 
-/// One text, which takes no memory, or a list.
+/// One text, which is held in place, or a list.
 #[derive(Drop)]
 enum Held<'a> {
     One(&'a [u8]),
@@ -29,7 +29,7 @@ impl<'a> Model for Texts<'a> {
 }
 
 impl<'a> Texts<'a> {
-    /// No texts. It takes no memory.
+    /// No texts. It never allocates.
     pub(crate) fn none(alloc: Global) -> Texts<'a>
         // There are none.
         ensures { result ≡ [] }
@@ -39,7 +39,7 @@ impl<'a> Texts<'a> {
         }
     }
 
-    /// One text. It takes no memory.
+    /// One text. It never allocates.
     pub(crate) fn one(text: &'a [u8]) -> Texts<'a>
         // It is the one.
         ensures { result ≡ text.entry.now ∷ [] }
@@ -70,7 +70,7 @@ impl<'a> Texts<'a> {
         }
     }
 
-    /// Puts a text in the place of another, counted from 0. It takes no memory.
+    /// Puts a text in the place of another, counted from 0. It never allocates.
     pub fn replace(&mut self, place: usize, text: &'a [u8])
         // There is such a place.
         requires { place < length self.old }

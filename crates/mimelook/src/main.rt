@@ -66,7 +66,7 @@ struct Variables {
 }
 
 impl Variables {
-    // An error tells that memory ran out, or that some variable is no text.
+    // An error says that memory ran out, or that some variable is no text.
     fn read(rt: &HostRuntime) -> Result<Variables, VarError> {
         Ok(Variables {
             data_home: variable(rt, "XDG_DATA_HOME")?,

@@ -10,7 +10,7 @@ pub common_prefix_len-self : (xs : List ℕ) → common_prefix_len nat_eq xs xs 
 common_prefix_len-self [] = refl
 common_prefix_len-self (x ∷ xs) = rw (eq-eqb x x refl) (omega (arith, common_prefix_len-self xs))
 
--- so many are equal, and one more
+-- that many are equal, and one more
 pub longer : (test : Bool) (n k : ℕ) → cond test (1 + n) 0 ≡ suc k → (test ≡ true) × (n ≡ k)
 longer true n k e = (refl, omega arith)
 longer false n k e = absurd (omega arith)

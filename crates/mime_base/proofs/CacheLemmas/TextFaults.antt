@@ -34,7 +34,7 @@ refused : {X Y : Type 0} (test : Bool) (x : X) (y z : Y)
 refused true x y z e = absurd cc
 refused false x y z e = (refl, cc)
 
--- a fault is too long a text exactly if there are so many bytes
+-- a fault is too long a text exactly if there are that many bytes
 long : (room at : ℕ) (bytes : List ℕ) → (unended room at bytes ≡ LongText at) ↔ (length bytes ≡ room)
 long room at bytes = (by (length bytes == room) refl, λ e. rw (eq-eqb (length bytes) room e) refl)
   where

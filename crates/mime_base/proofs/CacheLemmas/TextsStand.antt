@@ -18,7 +18,7 @@ no_zero-before (b ∷ bytes) = grown (b == 0) refl (no_zero-before bytes)
     grown true is rest = tt
     grown false is rest = (λ e. absurd (cc (eq-eqb b 0 e)), rest)
 
--- a text with its zero among so many bytes is what stands before their first zero
+-- a text with its zero among that many bytes is what stands before their first zero
 before_zero-written : (room : ℕ) (text rest : List ℕ) → length text < room → HasNoZero text
     → before_zero (take room (text ++ 0 ∷ rest)) ≡ text
 before_zero-written zero text rest short none = absurd (omega arith)
@@ -44,7 +44,7 @@ chose : {X Y : Type 0} (test : Bool) (x z : X) (y : Y)
 chose true x z y e = (refl, cc)
 chose false x z y e = absurd cc
 
--- a text that is written among so many bytes is read
+-- a text that is written among that many bytes is read
 text_in-written : (room at : ℕ) (text rest : List ℕ) → length text < room → HasNoZero text
     → text_in room at (take room (text ++ 0 ∷ rest)) ≡ Ok text
 text_in-written room at text rest short none =

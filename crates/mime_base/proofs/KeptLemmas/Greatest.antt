@@ -25,7 +25,7 @@ module _ {X : Type 0} (f : X → ℕ) where
       let top : greatest f (xs ++ ys) ≡ greatest f xs = (let e = greatest-append xs ys in omega arith) in
       rw (top, filter-append, filter-above (greatest f xs) ys less, append-nil)
 
-  -- where the greatest is behind, only that part is kept
+  -- where the greatest is after, only that part is kept
   of_greatest-back : (xs ys : List X) → greatest f xs < greatest f ys → of_greatest f (xs ++ ys) ≡ of_greatest f ys
   of_greatest-back xs ys less =
       let top : greatest f (xs ++ ys) ≡ greatest f ys = (let e = greatest-append xs ys in omega arith) in
@@ -47,7 +47,7 @@ module _ {X : Type 0} (f : X → ℕ) where
   pub push-less : (xs : List X) (x : X) → f x < greatest f xs → of_greatest f (xs ++ x ∷ []) ≡ of_greatest f xs
   push-less xs x less = of_greatest-front xs (x ∷ []) (omega arith)
 
-  -- another of the greatest is kept behind the others
+  -- another of the greatest is kept after the others
   pub push-same : (xs : List X) (x : X) → f x ≡ greatest f xs → of_greatest f (xs ++ x ∷ []) ≡ of_greatest f xs ++ x ∷ []
   push-same xs x same =
       of_greatest-append xs (x ∷ []) (omega arith) ∙ ap (λ end. of_greatest f xs ++ end) (of_greatest-one x)

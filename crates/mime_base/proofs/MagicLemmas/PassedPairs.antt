@@ -22,7 +22,7 @@ take-front (suc k) (suc n) [] within = refl
 take-front (suc k) (suc n) (x ∷ xs) within = ap (λ l. x ∷ l) (take-front k n xs (omega arith))
 
 module _ (first second : ℕ) (bytes : List ℕ) where
-  -- no place is passed over
+  -- no place is skipped
   pub passes_none : PassesPairs first second bytes 0 0
   passes_none = record { none = λ i below. absurd (omega arith); counted = refl }
 

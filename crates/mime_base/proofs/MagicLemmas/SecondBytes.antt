@@ -1,4 +1,4 @@
--- Windows that are passed over, since one of their first two bytes is not the value's.
+-- Windows that are skipped, since one of their first two bytes is not the value's.
 use Rattle.std.proofs.Common.{◌≡◌, ℕ, zero, suc, ◌+◌, ◌-◌, ◌<◌, ◌≤◌, ◌==◌, Bool, true, false, cond, List, []}
 use Rattle.std.proofs.Common.{length, get_or, take, drop, bit_and, Some, refl, sym, ap, ap₂, ◌∙◌, arith, length-drop}
 use Rattle.std.specs.List.{count_by}
@@ -108,7 +108,7 @@ module _ (value : List ℕ) (word : ℕ) (host : Host) (content : List ℕ) (two
         omega (arith, passed, told.0, rest.1, later, count_next at k (omega arith)),
       )
 
-  -- so do those that a search passed over
+  -- so do those that a search skipped
   pub pairs_passed : (at end passed firsts : ℕ) → at ≤ end → end + length value ≤ length content + 1 → passed ≤ end - at
       → PassesPairs (get_or value 0 0) (get_or value 1 0) (drop at content) passed firsts
       → (equals_from own host content at (end - at) ≡ equals_from own host content (at + passed) (end - (at + passed)))

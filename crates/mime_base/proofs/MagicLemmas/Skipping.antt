@@ -1,4 +1,4 @@
--- Windows that are passed over, since already their first byte is not the value's.
+-- Windows that are skipped, since already their first byte is not the value's.
 use Rattle.std.proofs.Common.{◌≡◌, ℕ, zero, suc, ◌+◌, ◌-◌, ◌<◌, ◌≤◌, false, List, [], ◌∷◌, length, get_or, take, drop}
 use Rattle.std.proofs.Common.{bit_and, Option, Some, None, refl, sym, ap, ap₂, ◌∙◌, arith, length-drop}
 use Rattle.std.specs.Option.{unwrap_or}
@@ -105,7 +105,7 @@ module _ (value : List ℕ) (word : ℕ) (host : Host) (content : List ℕ) (som
       other (ap (λ (j : ℕ). get_or content j 0) (sym first) ∙ e)) in
       (told.0 ∙ equals_from-none own host content (at + 1), omega (arith, told.1, compared_from-none own host content (at + 1)))
 
-  -- all windows of a range, of which so many lie in the content
+  -- all windows of a range, of which that many lie in the content
   pub all_differ : (at n range : ℕ) → n ≤ range → (n < range → length content < at + n + length value)
       → at + n + length value ≤ length content + 1
       → ((i : ℕ) → i < n → get_or content (at + i) 0 ≡ get_or value 0 0 → ⊥)

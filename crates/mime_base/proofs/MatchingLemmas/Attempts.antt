@@ -63,7 +63,7 @@ refused-within (suc k) (any_bytes ∷ es) name after goes = absurd goes
 refused-within (suc k) (one w ∷ es) [] after goes = absurd goes
 refused-within (suc k) (one w ∷ es) (b ∷ name) after goes = let h = refused-within k es name after goes.1 in omega arith
 
--- so many tests are owed, and no more were due
+-- that many tests are owed, and no more were due
 pub goes-owed : (halt : Halt) (k : ℕ) (es : List Element) (name : List ℕ) (after : List Element) → Goes halt k es name after →
     owed halt es after ≤ k + last_tests halt
 goes-owed BothEnd zero es name after goes = rw goes.0 (omega arith)
@@ -98,7 +98,7 @@ name_ends-false (suc k) (one w ∷ es) (b ∷ name) after goes [] short m = true
 name_ends-false (suc k) (one w ∷ es) (b ∷ name) after goes (c ∷ text) short m =
     name_ends-false k es name after goes.1 text (omega arith) (one-next w es c text m)
 
--- where a star was next, what is left of any text that matches so many bytes on matches from that star on
+-- where a star was next, what is left of any text that matches that many bytes on matches from that star on
 star-carried : (k : ℕ) (es : List Element) (name : List ℕ) (after : List Element) → Goes Star k es name after →
     (text : List ℕ) → matches es text ≡ true → matches (any_bytes ∷ after) (drop k text) ≡ true
 star-carried zero es name after goes text m = rw goes at m

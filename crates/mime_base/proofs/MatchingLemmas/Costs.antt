@@ -5,7 +5,7 @@ use Rattle.std.proofs.Common.{◌≡◌, ℕ, ◌+◌, ◌-◌, ◌*◌, ◌<◌
 pub next-paid : (p start tests more next : ℕ) → tests ≤ start * p → more ≤ p → start < next → tests + more ≤ next * p
 next-paid p start tests more next h k l = grind arith
 
--- so are places that are passed over, by a pattern that is not empty
+-- so are places that are skipped, by a pattern that is not empty
 pub passed-paid : (p start tests passed : ℕ) → tests ≤ start * p → passed ≤ passed * p → tests + passed ≤ (start + passed) * p
 passed-paid p start tests passed h k = grind arith
 
@@ -13,7 +13,7 @@ passed-paid p start tests passed h k = grind arith
 pub last-paid : (p n start tests more : ℕ) → tests ≤ start * p → more ≤ p → start ≤ n → tests + more ≤ p * (n + 1)
 last-paid p n start tests more h k l = grind arith
 
--- what goes on after a star, so much of the pattern and of the name, is paid too
+-- what goes on after a star, that much of the pattern and of the name, is paid too
 
 -- the bound on tests is kept from one star to the next
 paid_on : (spare more after start passed left tests : ℕ) → tests ≤ start * (more + after + 1 + spare) →

@@ -13,7 +13,7 @@ no_end-drop count zero text none = none
 no_end-drop count (suc k) [] none = none
 no_end-drop count (suc k) (b ∷ rest) none = no_end-drop count k rest none.1
 
--- no end is among so many bytes
+-- no end is among that many bytes
 no_end-prefix : (count : ℕ) (text : List ℕ) → HasNoEnd count text → length text ≤ count →
     prefix_len (λ b. not (b == 93)) text ≡ length text
 no_end-prefix count [] none short = refl

@@ -36,11 +36,11 @@ fields_from c at i (suc n) = field c at i ∷ fields_from c at (suc i) n
 abbrev pub fields : List ℕ → ℕ → ℕ → List ℕ
 fields c at n = fields_from c at 0 n
 
--- so many bytes at `at`
+-- that many bytes at `at`
 abbrev pub value_at : List ℕ → ℕ → ℕ → List ℕ
 value_at c at size = take size (drop at c)
 
--- whether so many bytes lie in c at `at`; no bytes lie at any offset
+-- whether that many bytes lie in c at `at`; no bytes lie at any offset
 abbrev pub lies : List ℕ → ℕ → ℕ → Bool
 lies c at size = size == 0 || nat_le (at + size) (length c)
 

@@ -6,7 +6,7 @@ use Rattle.std.proofs.lemmas.List.Elements.{All-cons, All-nil}
 use Rattle.mime_base.specs.Database.Limits.{KeepsLimits}
 use Rattle.mime_base.specs.Magic.{Forest, are_allowed_sections, bare, is_allowed, line, line_from}
 
--- lines one below another, so many
+-- lines one below another, that many
 pub levels : ℕ → Forest
 levels zero = bare
 levels (suc n) = line (line_from 0 1 1 (1 ∷ []) None) (levels n) bare

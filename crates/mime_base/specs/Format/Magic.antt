@@ -19,7 +19,7 @@ abbrev pub MaskAt : Standing → ℕ → Option (List ℕ) → Type 0
 MaskAt S at None = at ≡ 0
 MaskAt S at (Some mask) = (0 < at) × S at mask
 
--- the numbers of a line with so many children, and the offsets of its value, of its mask and of the first child
+-- the numbers of a line with that many children, and the offsets of its value, of its mask and of the first child
 abbrev pub line_numbers : PlainLine → ℕ → ℕ → ℕ → ℕ → List ℕ
 line_numbers own value mask count first =
     own.start ∷ own.range ∷ own.word ∷ length own.value ∷ value ∷ mask ∷ count ∷ first ∷ []

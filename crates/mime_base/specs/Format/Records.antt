@@ -18,7 +18,7 @@ RecordsAt S size Is at [] = Unit {0}
 RecordsAt S size Is at (x ∷ xs) =
     (numbers : List ℕ) × CardsAt S at numbers × Is x numbers × RecordsAt S size Is (at + size) xs
 
--- a count, and so many records after it
+-- a count, and that many records after it
 pub record ListAt {X : Type 0} (S : Standing) (size : ℕ) (Is : X → List ℕ → Type 0) (at : ℕ) (xs : List X) : Type 0 where
   pub count : CardsAt S at (length xs ∷ [])
   pub records : RecordsAt S size Is (at + 4) xs

@@ -16,7 +16,7 @@ equals_at own host content at =
     nat_le (at + length own.value) (length content)
     && window_equals own.value (bytes_of_mask own.mask) own.word host (take (length own.value) (drop at content))
 
--- whether it does at one of so many offsets from this one on
+-- whether it does at one of that many offsets from this one on
 unfoldable pub equals_from : PlainLine → Host → List ℕ → ℕ → ℕ → Bool
 equals_from own host content at zero = false
 equals_from own host content at (suc range) =

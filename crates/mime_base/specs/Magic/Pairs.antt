@@ -2,7 +2,7 @@
 use Rattle.std.specs.Prelude.{◌≡◌, ℕ, ◌+◌, ◌<◌, ◌==◌, List, take, slice_index}
 use Rattle.std.specs.List.{count_by}
 
--- so many places from the front on were passed over, and the first byte stands at so many of them
+-- that many places from the front on were skipped, and the first byte stands at that many of them
 pub record PassesPairs (first second : ℕ) (bytes : List ℕ) (passed firsts : ℕ) : Type 0 where
   -- Both bytes stand at none of them.
   pub none : (i : ℕ) → i < passed → slice_index bytes i ≡ first → slice_index bytes (i + 1) ≡ second → ⊥

@@ -18,7 +18,7 @@ compared_at own host content at =
     (length own.value)
     else 0
 
--- how many are compared at so many offsets from this one on, up to and including the first whose window equals the value
+-- how many are compared at that many offsets from this one on, up to and including the first whose window equals the value
 unfoldable pub compared_from : PlainLine → Host → List ℕ → ℕ → ℕ → ℕ
 compared_from own host content at zero = 0
 compared_from own host content at (suc range) =

@@ -75,12 +75,12 @@ IsShorter pattern name (Passes left rest) = (length left.now < length pattern) �
 IsShorter pattern name (Halts halt after) =
     (last_tests halt ≤ length pattern) × (halt ≡ Star → length after.now < length pattern)
 
--- none of the last so many bytes of what it leaves of the pattern is a `]`
+-- none of the last that many bytes of what it leaves of the pattern is a `]`
 abbrev pub LeavesNoEnd : ℕ → Step → Type 0
 LeavesNoEnd endless (Passes left rest) = HasNoEnd endless left.now
 LeavesNoEnd endless (Halts halt after) = HasNoEnd endless after.now
 
--- so many elements take a byte each, and then they halt
+-- that many elements take a byte each, and then they halt
 abbrev pub Goes : Halt → ℕ → List Element → List ℕ → List Element → Type 0
 Goes halt zero elements name after = HaltsAt halt elements name after
 Goes halt (suc k) (one element ∷ elements) (b ∷ name) after =

@@ -86,7 +86,7 @@ width_after first rest =
 abbrev pub element : ℕ → List ℕ → Element
 element first rest = if first == 42 then any_bytes else one (one_byte first rest)
 
--- the elements of a text of which so many bytes belong to an element before
+-- the elements of a text of which that many bytes belong to an element before
 abbrev pub elements_after : ℕ → List ℕ → List Element
 elements_after k [] = []
 elements_after zero (b ∷ rest) = element b rest ∷ elements_after (width_after b rest) rest
@@ -114,7 +114,7 @@ is_literal_text text = list_all (λ b. not (is_special b)) text
 abbrev pub itself_len : List ℕ → ℕ
 itself_len text = prefix_len (λ b. not (is_special b)) text
 
--- none of the last so many bytes is a `]`, by which a set ends
+-- none of the last that many bytes is a `]`, by which a set ends
 abbrev pub HasNoEnd : ℕ → List ℕ → Type 0
 HasNoEnd count [] = Unit {0}
 HasNoEnd count (b ∷ rest) = (length rest < count → b ≢ 93) × HasNoEnd count rest

@@ -43,7 +43,7 @@ rule_matches pattern cased name = matches (elements (compared cased pattern)) (c
 abbrev pub EndsSo : Bool → List ℕ → List ℕ → Type 0
 EndsSo cased ending name = compared cased ending ≡ compared cased (drop (length name - length ending) name)
 
--- at least so many tests of elements: of each that takes a byte if the name matches, else one, if there is one
+-- at least that many tests of elements: of each that takes a byte if the name matches, else one, if there is one
 abbrev pub least_tests : Bool → List Element → ℕ
 least_tests true elements = singles elements
 least_tests false elements = min 1 (singles elements)

@@ -4,7 +4,7 @@ use Rattle.mime_base.specs.Kept.{class_of}
 use Rattle.mime_base.specs.Names.{is_icon_name, is_pattern, is_type_name}
 use Rattle.mime_base.specs.declared.kept.class.Class.TheVariants.{Literal, Suffix, Full}
 
--- so many times the letter a
+-- that many times the letter a
 abbrev letters : ℕ → List ℕ
 letters zero = []
 letters (suc n) = 97 ∷ letters n

@@ -1,4 +1,4 @@
-//! Comparisons of bytes that tell how far they looked.
+//! Comparisons of bytes that say how far they looked.
 
 ghost use Rattle.std.specs.Prelude.{◌≡◌, ◌↔◌, ◌+◌, ◌<◌, ◌≤◌, nat_eq, nat_lt, length, take, drop, min};
 ghost use Rattle.std.specs.Prelude.{IfSome, Some, None, Ok, if◌then◌else◌, IsTrue};
@@ -89,7 +89,7 @@ fn common_of_eight(left: &[u8], right: &[u8]) -> usize
 }
 
 /// Where the text at the front of these bytes and a key stop to be equal, if their first bytes or sixteen of each
-/// tell: at the first byte that differs, or is the text's zero.
+/// decide: at the first byte that differs, or is the text's zero.
 #[inline(always)]
 pub fn early_stop(rest: &[u8], key: &[u8]) -> Option<usize>
     // There is a byte at the offset.
@@ -111,7 +111,7 @@ pub fn early_stop(rest: &[u8], key: &[u8]) -> Option<usize>
     }
 }
 
-/// How a text compares with a key where `place` of their bytes are equal, and those that stand there tell. It adds
+/// How a text compares with a key where `place` of their bytes are equal, and those at it decide. It adds
 /// as many bytes, and one.
 #[inline(always)]
 pub fn order_at_stop(
@@ -185,7 +185,7 @@ fn shared_by_eights(rest: &[u8], key: &[u8]) -> usize
 }
 
 /// How what stands in the front, up to its first zero, compares with a key, and how many bytes were looked at:
-/// none tells, where all of them are equal to the key's and none is zero.
+/// none decides, where all of them are equal to the key's and none is zero.
 pub fn compare_all(front: &[u8], key: &[u8]) -> (Option<Ordering>, usize)
     // An order is given where some byte of the front stops the agreement, else none.
     ensures order { result.0 ≡ (if nat_lt (shared front.now key.now) (length front.now)

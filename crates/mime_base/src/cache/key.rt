@@ -89,8 +89,8 @@ impl<'k> Key<'k> {
         Some(place)
     }
 
-    /// How a text compares with the key where `place` of their first bytes are equal, and those that stand there
-    /// tell. It adds as many bytes, and one.
+    /// How a text compares with the key where `place` of their first bytes are equal, and those at it
+    /// decide. It adds as many bytes, and one.
     #[inline(always)]
     pub(super) fn order_at(
         &self,

@@ -8,7 +8,7 @@ ghost use Rattle.mime_base.specs.Magic.Places.{NotesFrom};
 
 use std::marker::Model;
 
-/// Of so many places the bytes are noted: most ranges end before.
+/// The bytes of that many places are noted: most ranges end before.
 const FRONT: usize = 288;
 
 /// A content, with the places at which its bytes first stand near its front. This project's own.

@@ -16,7 +16,7 @@ const LANES: usize = 32;
 /// So few places are looked at one by one sooner: most ranges are a place longer than whole blocks.
 const FEW: usize = 4;
 
-/// Places that were passed over: at none of them do both bytes stand.
+/// Places that were skipped: at none of them do both bytes stand.
 #[derive(Clone, Copy)]
 pub struct Passed {
     /// How many they are.

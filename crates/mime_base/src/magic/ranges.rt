@@ -52,7 +52,7 @@ pub fn value_in_range(
     value_in_windows(value, mask, word, host, content, start, end, meter)
 }
 
-/// Whether already the first byte of the window at an offset is not the value's, where that alone tells.
+/// Whether the first byte alone rules the window at an offset out.
 #[inline(always)]
 pub fn first_byte_differs(value: &[u8], mask: &[u8], word: u32, content: &[u8], at: usize) -> bool
     // The window lies in the content.

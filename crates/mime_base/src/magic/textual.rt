@@ -3,7 +3,7 @@
 ghost use Rattle.std.specs.Prelude.{◌≡◌};
 ghost use Rattle.mime_base.specs.Magic.Textual.{is_control, looks_textual};
 
-/// How many bytes of a content tell whether it looks like text. No lookup wants fewer.
+/// How many bytes of a content decide whether it looks like text. No lookup wants fewer.
 pub const TEXTUAL_FRONT: u32 = 128;
 
 /// Whether no control byte is among the first 128 bytes of a content, so that it is likely text.

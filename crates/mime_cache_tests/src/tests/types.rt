@@ -213,7 +213,7 @@ fn counts_of_the_sample(rt: HostRuntime) -> Result<(), Fail> {
     Ok(())
 }
 
-/// The sample with three aliases behind it, of which the first and the last lie outside.
+/// The sample with three aliases after it, of which the first and the last lie outside.
 fn aliases_outside() -> [u8; 268] {
     let mut cache = [0; 268];
     write_at(&mut cache, 0, &SAMPLE);

@@ -15,7 +15,7 @@ pub resolved-here : (alias target kind : List ℕ) (pairs : List (List ℕ × Li
 unfolding resolved
 resolved-here alias target kind pairs hit = rw hit refl
 
--- a pair of another name is passed over
+-- a pair of another name is skipped
 pub resolved-past : (alias target kind : List ℕ) (pairs : List (List ℕ × List ℕ)) → bytes_eq alias kind ≡ false →
     resolved ((alias, target) ∷ pairs) kind ≡ resolved pairs kind
 unfolding resolved
@@ -32,7 +32,7 @@ pub parents-here : (name parent kind : List ℕ) (pairs : List (List ℕ × List
 unfolding parents
 parents-here name parent kind pairs hit = rw hit refl
 
--- a pair of another type is passed over
+-- a pair of another type is skipped
 pub parents-past : (name parent kind : List ℕ) (pairs : List (List ℕ × List ℕ)) → bytes_eq name kind ≡ false →
     parents ((name, parent) ∷ pairs) kind ≡ parents pairs kind
 unfolding parents
@@ -48,7 +48,7 @@ pub is_one_of-here : (mark kind : List ℕ) (marks : List (List ℕ)) → bytes_
 unfolding is_one_of
 is_one_of-here mark kind marks hit = rw hit refl
 
--- another mark is passed over
+-- another mark is skipped
 pub is_one_of-past : (mark kind : List ℕ) (marks : List (List ℕ)) → bytes_eq mark kind ≡ false →
     is_one_of (mark ∷ marks) kind ≡ is_one_of marks kind
 unfolding is_one_of

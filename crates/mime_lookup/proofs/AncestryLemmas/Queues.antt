@@ -1,4 +1,4 @@
--- A queue of types that grows, and candidates that are passed over.
+-- A queue of types that grows, and candidates that are skipped.
 use Rattle.std.proofs.Common.{◌≡◌, ℕ, ◌+◌, ◌<◌, List, [], ◌∷◌, ◌++◌, length, map, get_or, take, drop, drop-cons, add-one}
 use Rattle.std.proofs.Common.{sym, ap, subst, inr, arith, ◌∙◌, append_assoc}
 use Rattle.std.proofs.lemmas.List.{get_or-map, length-append, length-map, map-append, take_more}
@@ -27,7 +27,7 @@ queued-more step kinds before queue after i one d within is grown so_far =
 pub length-queued : (queue after : List (List ℕ)) (one : List ℕ) → after ≡ queue ++ one ∷ [] → length after ≡ length queue + 1
 length-queued queue after one grown = ap length grown ∙ length-append queue (one ∷ [])
 
--- a type that is no subclass of the base is passed over
+-- a type that is no subclass of the base is skipped
 pub passed_over : (pairs : Pairs) (base default : List ℕ) (kinds : List (Bor (List ℕ))) (i : ℕ) (d : Bor (List ℕ))
     → i < length kinds → (IsA pairs (get_or kinds i d).now base → ⊥) → (answer : List ℕ)
     → IsFirst pairs base default (kinds_of (drop (i + 1) kinds)) answer

@@ -10,7 +10,7 @@ use Rattle.mime_lookup.specs.Ancestry.{Expanded, NoneLeadsTo}
 Contains-head : (x : List ℕ) (xs : List (List ℕ)) → Contains (x ∷ xs) x
 Contains-head x xs = (0, omega arith, refl)
 
--- what is behind the first is in the list
+-- what is after the first is in the list
 Contains-more : (x : List ℕ) (xs : List (List ℕ)) (q : List ℕ) → Contains xs q → Contains (x ∷ xs) q
 Contains-more x xs q is = Contains-append_right (x ∷ []) xs q is
 
@@ -23,7 +23,7 @@ Contains-only : (x q : List ℕ) → Contains (x ∷ []) q → x ≡ q
 Contains-only x q (zero, within, same) = same
 Contains-only x q (suc k, within, same) = absurd (omega (arith, within))
 
--- what is in a list is its first, or behind it
+-- what is in a list is its first, or after it
 Contains-cases : (x : List ℕ) (xs : List (List ℕ)) (q : List ℕ) → Contains (x ∷ xs) q → (x ≡ q) ⊎ Contains xs q
 Contains-cases x xs q is =
     ⊎_elim (λ only. inl (Contains-only x q only)) (λ more. inr more) (Contains-append_cases (x ∷ []) xs q is)

@@ -38,7 +38,7 @@ module _ (steps : List Step) (i : ℕ) (d step : Step) (within : i < length step
   pub interruptions_more : interruptions_in (take (i + 1) steps) ≡ interruptions_in (take i steps) + interruptions_in (step ∷ [])
   interruptions_more = ap interruptions_in front_more ∙ interruptions_in-append (take i steps) (step ∷ [])
 
-  -- the bytes that are left are its own and those behind it
+  -- the bytes that are left are its own and those after it
   pub bytes_more : bytes_in (drop i steps) ≡ bytes_in (step ∷ drop (i + 1) steps)
   bytes_more = ap bytes_in back_more
 

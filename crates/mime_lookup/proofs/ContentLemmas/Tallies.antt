@@ -2,7 +2,7 @@
 use Rattle.std.proofs.Common.{◌≡◌, ℕ, ◌+◌, Option, None, Some, ap, ◌∙◌, arith}
 use Rattle.mime_lookup.specs.Content.{Interrupts, Tally}
 
--- so many were interrupted, and then so many
+-- that many were interrupted, and then that many
 pub interrupts-trans : (a b c : Option Tally) (m n all : ℕ) → all ≡ m + n → Interrupts a b m → Interrupts b c n → Interrupts a c all
 interrupts-trans None b c m n all is first second = tt
 interrupts-trans (Some a) None c m n all is first second = absurd first

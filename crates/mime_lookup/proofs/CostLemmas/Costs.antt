@@ -95,7 +95,7 @@ costs_magic content old new is = record {
   fair = is.fair;
 }
 
--- a search for types, and then so many alias steps
+-- a search for types, and then that many alias steps
 pub spends_steps : {each more : ℕ} {old mid new : Spending} (steps : ℕ) → Spends (per_record each) more (256 * more) old mid
     → new.budget ≡ mid.budget → Looks (29 * steps) (256 * 29 * steps) mid.meter new.meter
     → Spends (per_record each) (more + 29 * steps) (256 * (more + 29 * steps)) old new

@@ -50,7 +50,7 @@ by_front b name host AllGlobs content rest kind least long chosen =
 by_front b name host ContentOnly content rest kind least long chosen =
     chosen ∙ front_is_enough b content rest host (inr (least, long))
 
--- where they don't, the whole or so much of it is enough
+-- where they don't, the whole or that much of it is enough
 by_size : (b : PlainDatabase) (name : List ℕ) (host : Host) (order : Order) (content rest kind : List ℕ) (wanted : ℕ) →
     wanted ≡ read_limit b → (rest ≡ []) ⊎ (wanted ≤ length content) → Chooses b name (Some content) host order kind →
     Chooses b name (Some (content ++ rest)) host order kind
@@ -61,7 +61,7 @@ by_size b name host order content rest kind wanted is (inl none) chosen =
 by_size b name host order content rest kind wanted is (inr most) chosen =
     by_front b name host order content rest kind (omega (arith, is, most)) (omega (arith, is, most)) chosen
 
--- so much is enough, by whether the globs suffice
+-- that much is enough, by whether the globs suffice
 enough_by : (b : PlainDatabase) (name : List ℕ) (order : Order) (wanted : ℕ) (suffice : Bool) → All FitsRank b.rules → globs_suffice b name order ≡ suffice →
     wanted ≡ cond suffice 0 (read_limit b) → IsFrontEnough b name order wanted
 unfolding read_limit
@@ -74,7 +74,7 @@ enough_by b name order wanted false ranked suffice is = record {
   unopened = λ none host content kind. absurd (omega (arith, is, none));
 }
 
--- so much is enough
+-- that much is enough
 pub enough : (b : PlainDatabase) (name : List ℕ) (order : Order) (wanted : ℕ) → All FitsRank b.rules → wanted ≡ wanted_of b name order →
     IsFrontEnough b name order wanted
 enough b name order wanted ranked is = enough_by b name order wanted (globs_suffice b name order) ranked refl is

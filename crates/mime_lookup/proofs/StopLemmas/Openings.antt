@@ -6,7 +6,7 @@ use Rattle.mime_base.proofs.CacheLemmas.Numbers.{fields-standing, length-card_by
 use Rattle.mime_base.proofs.CacheLemmas.Standing.{Stands-inside}
 use Rattle.mime_view.specs.Opening.{Opens}
 
--- so many numbers have four times as many bytes
+-- that many numbers have four times as many bytes
 length-cards : (numbers : List ℕ) → length (cards numbers) ≡ 4 * length numbers
 length-cards [] = refl
 length-cards (n ∷ numbers) =

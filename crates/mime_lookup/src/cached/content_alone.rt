@@ -38,7 +38,7 @@ pub struct SniffedContent<'a> {
 /// ```
 ///
 /// The type is that of the first section of magic that holds, after one alias step, else a type by the bytes alone. At most
-/// the greater of 128 bytes and the extent that the cache states is looked at. It takes no memory. [`Cause::Cache`] says what
+/// the greater of 128 bytes and the extent that the cache states is looked at. It never allocates. [`Cause::Cache`] says what
 /// is wrong with the cache; no read fails.
 pub fn sniff_alone<'a>(
     cache: Counted<'a>,
@@ -115,7 +115,7 @@ fn sniff_opened<'a>(
     sniff_whole(cache, front, host, spending)
 }
 
-/// The front of a content, of at most so many bytes.
+/// The front of a content, of at most that many bytes.
 fn front_of(content: &[u8], limit: u64) -> &[u8]
     ensures { result.now ≡ take limit content.now }
 {

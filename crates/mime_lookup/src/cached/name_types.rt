@@ -20,7 +20,7 @@ use std::alloc::Global;
 pub enum NameTypes<'a> {
     /// All are this one type.
     One(&'a [u8]),
-    /// There is none, or they differ. Where no magic holds, so many of the first are asked: those that are kept, or one
+    /// There is none, or they differ. Where no magic holds, that many of the first are asked: those that are kept, or one
     /// where these are one type.
     Others(Texts<'a>, usize),
 }

@@ -40,14 +40,14 @@ option_o : Steps build_shape [] (walk_from nothing_held) (codes "-o") (before_va
 unfolding clap_on_literals
 option_o = record { no_fault = refl; moves = refl }
 
--- behind the directories `-o` waits for its value
+-- after the directories `-o` waits for its value
 option_o-after : (dirs : Text)
     → Steps build_shape [] (after_value (codes "dirs") [] dirs) (codes "-o")
     (before_value (codes "output") (directories_used dirs []))
 unfolding clap_on_literals
 option_o-after dirs = record { no_fault = refl; moves = refl }
 
--- behind the file `-d` waits for its value
+-- after the file `-d` waits for its value
 option_d-after : (file : Text)
     → Steps build_shape [] (after_value (codes "output") [] file) (codes "-d") (before_value (codes "dirs") (output_used file []))
 unfolding clap_on_literals

@@ -20,7 +20,7 @@ drop_twins : Steps build_shape [] (walk_from nothing_held) (codes "--drop-twins"
 unfolding clap_on_literals
 drop_twins = record { no_fault = refl; moves = refl }
 
--- behind it `-o` waits for its value
+-- after it `-o` waits for its value
 option_o-dropped : Steps build_shape [] (between twins_dropped None idle) (codes "-o") (before_value (codes "output") twins_dropped)
 unfolding clap_on_literals
 option_o-dropped = record { no_fault = refl; moves = refl }
@@ -30,7 +30,7 @@ option_d-dropped : Steps build_shape [] (between twins_dropped None idle) (codes
 unfolding clap_on_literals
 option_d-dropped = record { no_fault = refl; moves = refl }
 
--- and `-o` behind its value
+-- and `-o` after its value
 option_o-dropped_after : (dirs : Text)
     → Steps build_shape [] (after_value (codes "dirs") twins_dropped dirs) (codes "-o")
     (before_value (codes "output") (directories_used dirs twins_dropped))

@@ -39,7 +39,7 @@ meets (cache_met is_a_over) = record { no_fault = refl; moves = refl }
 meets (cache_met icon_over) = record { no_fault = refl; moves = refl }
 meets (cache_met type_over) = record { no_fault = refl; moves = refl }
 
--- a word behind a command is the command's
+-- a word after a command is the command's
 passes_on : (name : Text) (before : List Text) (word : Text)
     → Steps top commands (at_command name before) word (at_command name (before ++ word ∷ []))
 unfolding clap_on_literals

@@ -52,7 +52,7 @@ values_fit (v ∷ vs) = values_fit vs
 range_fits : (n : ℕ) → 0 < n → n < 2 ^ 64 → range_kinds 1 usize_max n ≡ []
 range_fits n some few = grind (arith, nat_tests)
 
--- so many FILEs as memory can hold are taken
+-- as many FILEs as memory can hold are taken
 pub files_fit : (s : Shape) → TakesFiles s → (rows : List Row) (file : Text) (files : List Text) → length (file ∷ files) < 2 ^ 64
     → settle_fault s.rules false (in_files rows (file ∷ files)).held ≡ []
 unfolding clap_on_literals

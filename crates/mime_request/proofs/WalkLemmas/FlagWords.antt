@@ -46,7 +46,7 @@ module _ (s : Shape) (t : TakesFiles s) where
       goes _ _ _ _ _ (flag_step s t flag rows settled pending both.0 settles new.0)
       (over_flags flags next words end both.1 new.1 later next None (nothing_pending s next))
 
--- and over a cache or directories behind them
+-- and over a cache or directories after them
 pub over_source : (s : Shape) (t : TakesFiles s) (by : Named) → TakesSource s t by → (flags : List Flag) (words : List Text) (end : Walk)
     → is_option (source_word by) ≡ false → LeadsFrom s t (map flag_row flags ++ source_rows by) words end
     → LeadsFrom s t (map flag_row flags) (source_words by ++ words) end

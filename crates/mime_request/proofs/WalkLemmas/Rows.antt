@@ -24,7 +24,7 @@ pub neither_of : (a b : Bool) → (a || b) ≡ false → (a ≡ false) × (b ≡
 neither_of true b h = absurd (cc)
 neither_of false b h = (refl, h)
 
--- where there is no row of the id, the missing ones come behind
+-- where there is no row of the id, the missing ones come after
 pub at_row-new : (id : Text) (change : Row → List Row) (missing rows : List Row) → has_row id rows ≡ false
     → at_row id change missing rows ≡ rows ++ missing
 at_row-new id change missing [] new = refl

@@ -24,7 +24,7 @@ between = at_position 1
 abbrev pub before_value : Text → List Row → Walk
 before_value id rows = between rows (Some (id, [])) (option id)
 
--- where the words stand behind an option's value
+-- where the words stand after an option's value
 abbrev pub after_value : Text → List Row → Text → Walk
 after_value id rows value = between rows (Some (id, value ∷ [])) idle
 

@@ -28,7 +28,7 @@ sections_packed (section ∷ sections) =
       sum_by-cons (λ (s : PlainSection). 16 + (text_room s.kind + lines_room s.lines)) section sections,
     )
 
--- each member takes at least so much
+-- each member takes at least that much
 many : {X : Type 0} (size : ℕ) (part : X → ℕ) (xs : List X) → size * length xs ≤ sum_by (λ x. size + part x) xs
 many size part [] = omega arith
 many size part (x ∷ xs) = omega (arith, many size part xs, sum_by-cons (λ y. size + part y) x xs)

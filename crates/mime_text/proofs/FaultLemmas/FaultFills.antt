@@ -6,12 +6,12 @@ use Rattle.mime_text.specs.Magic.FaultTable.{IsToStart, IsToValue}
 use Rattle.mime_text.proofs.FaultLemmas.FaultLinesStay.{longer}
 use Rattle.mime_text.proofs.FaultLemmas.FaultEnds.{LineEnds, extended, mask_ends}
 
--- so many zeros
+-- that many zeros
 zeros : ℕ → List ℕ
 zeros zero = []
 zeros (suc n) = 0 ∷ zeros n
 
--- there are so many zeros
+-- there are that many zeros
 length-zeros : (n : ℕ) → length (zeros n) ≡ n
 unfolding zeros
 length-zeros zero = refl

@@ -11,7 +11,7 @@ use Rattle.mime_text.proofs.MagicLemmas.Steps.{chosen}
 use Rattle.mime_text.proofs.FaultLemmas.FaultSteps.{bind_err, guard_err, fault_is}
 use Rattle.mime_text.proofs.FaultLemmas.FaultNumbers.{number_ends}
 
--- so many bytes
+-- that many bytes
 bytes_fail : (n : ℕ) (bytes : List ℕ) (f : Fault) → bytes_at n bytes ≡ Err f → (f ≡ fault_at Truncated 0) × (length bytes < n)
 unfolding bytes_at
 bytes_fail n bytes f e =

@@ -32,7 +32,7 @@ pub guard_err : {A : Type 0} (b : Bool) (d f : Fault) (x : Result A Fault) → c
 guard_err true d f x e = inl (refl, fault_is d f e)
 guard_err false d f x e = inr (refl, e)
 
--- in a text of so many bytes the fault is of this kind at this offset, and so it is after more bytes
+-- in a text of that many bytes the fault is of this kind at this offset, and so it is after more bytes
 pub record Places (f : Fault) (size : ℕ) (kind : MagicFaultKind) (offset : ℕ) : Type 0 where
   pub at : (n : ℕ) → placed (n + size) f ≡ Malformed kind (n + offset)
 

@@ -15,7 +15,7 @@ abbrev onto_front : List ℕ → List (List ℕ) → List (List ℕ)
 onto_front front [] = front ∷ []
 onto_front front (piece ∷ pieces) = (front ++ piece) ∷ pieces
 
--- a byte put before the first piece goes behind the front
+-- a byte put before the first piece goes after the front
 onto_front-onto_first : (front : List ℕ) (b : ℕ) (pieces : List (List ℕ))
     → onto_front front (onto_first b pieces) ≡ onto_front (front ++ b ∷ []) pieces
 onto_front-onto_first front b [] = refl
@@ -40,7 +40,7 @@ occurs_at-one : (line rest : List ℕ) (c b i : ℕ) → drop i line ≡ b ∷ r
     → occurs_at line (c ∷ []) i ≡ eqb b c
 occurs_at-one line rest c b i e fits = rw (e, le-leb (i + 1) (length line) (omega arith)) (and-true (eqb b c))
 
--- the bytes behind a place
+-- the bytes after a place
 drop-behind : (i : ℕ) (line rest : List ℕ) (b : ℕ) → drop i line ≡ b ∷ rest → drop (suc i) line ≡ rest
 drop-behind zero [] rest b e = cc
 drop-behind zero (x ∷ xs) rest b e = cc
@@ -51,7 +51,7 @@ drop-behind (suc i) (x ∷ xs) rest b e = drop-behind i xs rest b e
 occurs_at-end : (line : List ℕ) (c i : ℕ) → i ≡ length line → occurs_at line (c ∷ []) i ≡ false
 occurs_at-end line c i end = and_left _ _ (lt-leb (i + 1) (length line) (omega arith))
 
--- one step of the search: a match is given, and the search goes on behind it
+-- one step of the search: a match is given, and the search goes on after it
 matches_from-hit : (line : List ℕ) (c i n : ℕ) → occurs_at line (c ∷ []) i ≡ true
     → matches_from line (c ∷ []) 0 i (suc n) ≡ i ∷ matches_from line (c ∷ []) 0 (suc i) n
 unfolding matches_from
@@ -73,7 +73,7 @@ split_at-nil : (line : List ℕ) (last : ℕ) → split_at line 1 last [] ≡ dr
 unfolding split_at
 split_at-nil line last = refl
 
--- a piece ends before a match, and the next begins behind it
+-- a piece ends before a match, and the next begins after it
 split_at-cons : (line : List ℕ) (last k : ℕ) (ks : List ℕ) → split_at line 1 last (k ∷ ks) ≡ part last k line ∷ split_at line 1 (suc k) ks
 unfolding split_at
 split_at-cons line last k ks = rw add-one refl

@@ -21,7 +21,7 @@ more_levels (suc a) (suc b) (line own children rest) le e =
     let q = and_parts (is_allowed own) (are_allowed a children) p.0 in
     and_from _ _ (and_from _ _ q.0 (more_levels a b children (omega (arith, le)) q.1)) (more_levels (suc a) (suc b) rest le p.1)
 
--- a matchlet whose children have at most so many levels
+-- a matchlet whose children have at most that many levels
 abbrev AllowedMatchlet : ℕ → Option PlainMatchlet → Type 0
 AllowedMatchlet levels None = Unit {0}
 AllowedMatchlet levels (Some t) = (is_allowed t.own ≡ true) × (are_allowed levels t.children ≡ true)
@@ -44,7 +44,7 @@ one_more below zero (Some t) matchlets so lt e = absurd (omega (arith, lt))
 one_more below (suc levels) (Some t) matchlets so lt e =
     and_from _ _ (and_from _ _ so.0 (more_levels below levels t.children (omega (arith, lt)) so.1)) e
 
--- the matchlets of such entries have so many levels
+-- the matchlets of such entries have that many levels
 matchlets_allowed : (levels : ℕ) (ts : List PlainRoot) → AllowedRoots levels ts → are_allowed levels (forest_of (kept_matchlets ts)) ≡ true
 matchlets_allowed levels [] are = refl
 matchlets_allowed levels (t ∷ ts) are =

@@ -59,7 +59,7 @@ indent_found (b ∷ bytes) x e =
           (n.0, n.1, as_indent n.0 x.0 n.2)
     ]
 
--- so many bytes that are read are the first, and so many
+-- that many bytes that are read are the first, and that many
 pub bytes_found : (n : ℕ) (bytes : List ℕ) (x : List ℕ × List ℕ) → bytes_at n bytes ≡ Ok x → (bytes ≡ x.0 ++ x.1) × (length x.0 ≡ n)
 unfolding bytes_at
 bytes_found n bytes x e =

@@ -39,7 +39,7 @@ indent_only (b ∷ text) n rest is =
     (bind_on (byte_at 62 (fault_at BadIndent (length whole)) (62 ∷ rest)) rest _ (n, rest)
     (byte_only 62 (fault_at BadIndent (length whole)) rest) refl)
 
--- so many bytes before a rest are read
+-- that many bytes before a rest are read
 pub bytes_only : (n : ℕ) (v rest : List ℕ) → length v ≡ n → bytes_at n (v ++ rest) ≡ Ok (v, rest)
 unfolding bytes_at
 bytes_only n v rest len =

@@ -6,7 +6,7 @@ use Rattle.mime_text.specs.declared.lines.file.Line.TheVariants.{Spelled, Passed
 use Rattle.mime_text.specs.Lines.{is_passed, lines}
 
 module _ {Entry : Type 0} where
-  -- a line that is not passed over spells an entry, or is malformed
+  -- a line that is not skipped spells an entry, or is malformed
   abbrev pub spelled_or_malformed : Option Entry → Line Entry
   spelled_or_malformed None = Malformed
   spelled_or_malformed (Some entry) = Spelled entry

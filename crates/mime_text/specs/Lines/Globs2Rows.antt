@@ -72,7 +72,7 @@ pub markers : Spell (
 unfolding weight_of has_cs entry entry_of is_type_name is_pattern
 markers = refl
 
--- an empty line and one that begins with # are passed over
+-- an empty line and one that begins with # are skipped
 pub passed : Spell (
     ([], Passed) ∷
     (codes "#", Passed) ∷

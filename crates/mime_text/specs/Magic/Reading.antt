@@ -13,7 +13,7 @@ use Rattle.mime_text.specs.declared.magic.fault.ReadError.{ReadError}
 use Rattle.mime_text.specs.declared.magic.fault.ReadError.TheVariants as errors
 use Rattle.mime_text.specs.Magic.Entries.{PlainRole, kept, ignored, marker, PlainEntry, PlainFlatSection}
 
--- a fault of this kind, where so many bytes are left
+-- a fault of this kind, where that many bytes are left
 abbrev pub fault_at : MagicFaultKind → ℕ → Fault
 fault_at kind left = record { kind = kind; left = left }
 
@@ -81,7 +81,7 @@ start_at bytes = do
   rest ← byte_at 61 (fault_at BadNumber (length bytes)) n.1
   Ok (n.0, rest)
 
--- so many bytes
+-- that many bytes
 unfoldable pub bytes_at : ℕ → List ℕ → Result (List ℕ × List ℕ) Fault
 bytes_at n bytes =
     if nat_lt (length bytes) n then Err (fault_at Truncated 0) else Ok (take n bytes, drop n bytes)
@@ -92,7 +92,7 @@ sized_at [] = Err (fault_at Truncated 0)
 sized_at (high ∷ []) = Err (fault_at Truncated 0)
 sized_at (high ∷ low ∷ bytes) = bytes_at (256 * high + low) bytes
 
--- nothing, or `&` and so many bytes
+-- nothing, or `&` and that many bytes
 unfoldable pub mask_at : ℕ → List ℕ → Result (Option (List ℕ) × List ℕ) Fault
 mask_at n [] = Ok (None, [])
 mask_at n (b ∷ bytes) = if b == 38 then (do
@@ -273,7 +273,7 @@ whole (b ∷ bytes) = below_header (length (b ∷ bytes)) (after_prefix header (
 
 -- ---- the fault of a text
 
--- a fault with its offset, in a text of so many bytes
+-- a fault with its offset, in a text of that many bytes
 abbrev pub placed : ℕ → Fault → MagicFault
 placed size fault = faults.Malformed fault.kind (size - fault.left)
 
@@ -282,7 +282,7 @@ abbrev pub placed_error : ℕ → ReadError → MagicFault
 placed_error size errors.OutOfMemory = faults.OutOfMemory
 placed_error size (errors.Fault fault) = placed size fault
 
--- the fault of what was read, in a text of so many bytes
+-- the fault of what was read, in a text of that many bytes
 abbrev pub fault_in : {A : Type 0} → ℕ → Result A Fault → Option MagicFault
 fault_in size (Ok x) = None
 fault_in size (Err fault) = Some (placed size fault)

@@ -102,7 +102,7 @@ first_indent : magic_fault (section (codes "1>0=" ++ 0 ∷ 1 ∷ codes "a" ++ 10
 unfolding computing
 first_indent = refl
 
--- lines of the indents from n on, so many, one each, with two digits for the indent
+-- lines of the indents from n on, that many, one each, with two digits for the indent
 abbrev levels : ℕ → ℕ → List ℕ
 levels n zero = []
 levels n (suc more) = (48 + n / 10) ∷ (48 + n % 10) ∷ codes ">0=" ++ 0 ∷ 1 ∷ codes "a" ++ 10 ∷ levels (n + 1) more

@@ -1,6 +1,6 @@
 //! The reader of a line file: `globs2`, `aliases`, `subclasses` and the icon files.
 //!
-//! Each line of such a file is empty or a comment and passed over, or spells an entry, or is
+//! Each line of such a file is empty or a comment and skipped, or spells an entry, or is
 //! malformed. What the entries are, and how a line spells one, is all in which the files differ.
 
 ghost use Rattle.std.specs.Prelude.{◌≡◌, ◌++◌, ◌∷◌, [], if◌then◌else◌, IfOk, OnOk, ℕ, List, Option};
@@ -12,7 +12,7 @@ use super::{Lines, is_passed};
 use mime_base::OutOfMemory;
 use std::alloc::Global;
 
-/// Room for an entry is made for so many bytes of a file, of which most lines have more.
+/// Room for an entry is made for that many bytes of a file, of which most lines have more.
 const BYTES_OF_A_LINE: usize = 24;
 
 /// Room for at most that many entries is made before a file is read.

@@ -54,7 +54,7 @@ const CASED: &[u8] = b"cs";
 /// assert_eq!(rt; file.skipped.as_slice(), &[2]);
 /// ```
 ///
-/// A malformed line is told by its number. Empty lines and comments are passed over.
+/// A malformed line is told by its number. Empty lines and comments are skipped.
 #[tactic(auto, unfolding(crate::specs::Lines::Globs2::rules_of, crate::specs::Lines::Globs2::markers_of))]
 pub fn read_globs2(alloc: Global, bytes: &[u8]) -> Result<GlobsFile, OutOfMemory>
     // The rules are those that the lines spell, in their order, repetitions kept.

@@ -24,7 +24,7 @@ pub struct IconsFile {
 
 /// Reads an `icons` or a `generic-icons` file. It fails only where an allocation is refused.
 ///
-/// A malformed line is told by its number. Empty lines and comments are passed over.
+/// A malformed line is told by its number. Empty lines and comments are skipped.
 pub fn read_icons(alloc: Global, bytes: &[u8]) -> Result<IconsFile, OutOfMemory>
     // The icons are those that the lines spell, in order, repetitions kept: a type, and all after the first colon.
     ensures icons { IfOk result (λ file. file.icons.items ≡ icons_in bytes.now) }

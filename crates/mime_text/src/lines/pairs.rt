@@ -23,7 +23,7 @@ pub struct PairsFile {
 
 /// Reads an `aliases` or a `subclasses` file. It fails only where an allocation is refused.
 ///
-/// A malformed line is told by its number. Empty lines and comments are passed over.
+/// A malformed line is told by its number. Empty lines and comments are skipped.
 pub fn read_pairs(alloc: Global, bytes: &[u8]) -> Result<PairsFile, OutOfMemory>
     // The pairs are those that the lines spell, in their order, repetitions kept.
     ensures pairs { IfOk result (λ file. file.pairs.items ≡ pairs_in bytes.now) }

@@ -65,7 +65,7 @@ impl Fault {
         left: 0,
     };
 
-    /// The fault of a text of so many bytes, with its offset.
+    /// The fault of a text of that many bytes, with its offset.
     pub fn placed(self, size: usize) -> MagicFault
         // The offset is how many bytes of the text were read.
         ensures { result ≡ placed size self }
@@ -96,7 +96,7 @@ pub enum ReadError {
 }
 
 impl ReadError {
-    /// The same with its offset in a text of so many bytes.
+    /// The same with its offset in a text of that many bytes.
     pub fn placed(self, size: usize) -> MagicFault
         // A fault of the text gets its offset; out of memory stays what it is.
         ensures { result ≡ placed_error size self }

@@ -97,7 +97,7 @@ fn mask(bytes: &[u8], n: usize) -> Result<(Option<&[u8]>, &[u8]), Fault>
     }
 }
 
-/// Whether a value of so many bytes is made of words of this size.
+/// Whether a value of that many bytes is made of words of this size.
 fn fits_word(word: u32, size: usize) -> bool
     ensures { result ≡ fits_word word size }
 {

@@ -34,7 +34,7 @@ none_taken None = ([], tt, refl)
 none_taken (Some bytes) = ([], refl, refl)
 
 module _ {R : Type 0} (remaining : R → Option (List ℕ)) (tally : R → Option Tally) (health : R → Health) where
-  -- that the content's reader took so many bytes
+  -- that the content's reader took that many bytes
   abbrev Took : Option R → Option R → ℕ → Type 0
   Took before after read = OfReader (λ old new. Advances (remaining old) (remaining new) read) (read ≡ 0) before after
 
@@ -52,7 +52,7 @@ module _ {R : Type 0} (remaining : R → Option (List ℕ)) (tally : R → Optio
   reader_early content fault.OutOfMemory early =
       record { gives_up = tt; goes = tt; fails = tt; advances = (0, untouched content) }
 
-  -- memory ran out after a lookup took so many bytes
+  -- memory ran out after a lookup took that many bytes
   pub reader_lost : (before after : Option R) (read : ℕ) → Took before after read
       → AsksReader remaining tally health before after (Err fault.OutOfMemory)
   reader_lost before after read took = record { gives_up = tt; goes = tt; fails = tt; advances = (read, took) }

@@ -14,7 +14,7 @@ use Rattle.mime_view.specs.Opening.{IsOpenFault}
 use Rattle.mime_view.specs.declared.fault.CacheFault.{CacheFault}
 use Rattle.mime_view.specs.declared.fault.CacheFault.TheVariants as fault
 
--- so many numbers have four times as many bytes
+-- that many numbers have four times as many bytes
 length-cards : (numbers : List ℕ) → length (cards numbers) ≡ 4 * length numbers
 length-cards [] = refl
 length-cards (n ∷ numbers) = omega

@@ -77,7 +77,7 @@ stops_after stored xs ys a b c dirs (stop.Refused m) p q = (
   (wrote-append a.out b.out c.out [] [] p.2.0 q.2.0, wrote-append a.err b.err c.err p.0 q.0 p.2.1 q.2.1),
 )
 
--- a stop behind directories that were read is one of all of them
+-- a stop after directories that were read is one of all of them
 works_after : (xs ys : List (List ℕ)) (a b c : State) (dirs : Vec DirFiles Global) (s : Stop) → ReadsDirectories xs a b (Ok dirs)
     → ReadsDirectories ys b c (Err s) → ReadsDirectories (xs ++ ys) a c (Err s)
 works_after xs ys a b c dirs s p q = record {

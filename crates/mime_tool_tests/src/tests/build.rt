@@ -136,7 +136,7 @@ fn says_what_cannot_be_written(rt: HostRuntime) -> Result<(), Fail> {
     is_not_stored(&rt, rt.alloc(), &mut files, "/f")
 }
 
-/// So many calls are met, and then one fails so: the run ends as is wanted, and the file stays.
+/// That many calls are met, and then one fails so: the run ends as is wanted, and the file stays.
 fn leaves_the_file(
     rt: &impl Abort,
     alloc: Global,
@@ -155,7 +155,7 @@ fn leaves_the_file(
     Ok(())
 }
 
-/// What is said of the call that fails after so many.
+/// What is said of the call that fails after that many.
 fn unmet(alloc: Global, calls: usize) -> Result<String, Fail> {
     Ok(match DATA.get(calls) {
         Some(path) => format!(in alloc; "mimelook: {path}: cannot read\n")?,
@@ -163,7 +163,7 @@ fn unmet(alloc: Global, calls: usize) -> Result<String, Fail> {
     })
 }
 
-/// So many calls are met, and then one fails so: this is said, after what is said of an ignored line.
+/// That many calls are met, and then one fails so: this is said, after what is said of an ignored line.
 fn is_left(
     rt: &impl Abort,
     alloc: Global,
@@ -182,7 +182,7 @@ fn is_left(
     leaves_the_file(rt, alloc, at.as_str(), (calls, fault), wanted)
 }
 
-/// So many calls are met, and then one fails, for each reason.
+/// That many calls are met, and then one fails, for each reason.
 fn is_left_at(rt: &impl Abort, alloc: Global, calls: usize) -> Result<(), Fail> {
     let memory = (FileFault::OutOfMemory, 4);
     is_left(rt, alloc, calls, memory, "mimelook: out of memory\n")?;

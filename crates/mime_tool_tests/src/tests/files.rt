@@ -40,7 +40,7 @@ fn failing(calls: usize, fault: FileFault) -> FailingShelf<'static> {
     }
 }
 
-/// After so many calls that are met one fails so, and the run ends as is wanted.
+/// After that many calls that are met one fails so, and the run ends as is wanted.
 fn fails(
     rt: &impl Abort,
     alloc: Global,

@@ -69,7 +69,7 @@ fn type_of(
     answer(alloc, dirs, file, &mut content, host, order)
 }
 
-/// The directories give the name and the content this type, and so much of the content is read.
+/// The directories give the name and the content this type, and that much of the content is read.
 fn is_answered(
     rt: &impl Abort,
     alloc: Global,

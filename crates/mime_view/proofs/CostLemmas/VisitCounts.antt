@@ -110,7 +110,7 @@ module _ (rules : List GlobRule) (name : List ℕ) where
   pub visits_within : hit_visits name rules ≤ 2 * length (literal_rules rules) + 2 * tree_size rules + length (glob_rules rules)
   visits_within = omega arith
 
-  -- so what is found for so many visits is given for the records of the lists, or for those near the name
+  -- so what is found for that many visits is given for the records of the lists, or for those near the name
   pub gives_hits : {X : Type 0} (Answer : List ℕ → List GlobRule → X → Type 0) (old new : Spending) (result : Result X CacheFault) →
       FindsHits Answer name rules old new result → GivesHits Answer name rules old.budget new.budget result
   gives_hits Answer old new result found = record {

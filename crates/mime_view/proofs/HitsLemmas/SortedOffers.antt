@@ -89,7 +89,7 @@ pub length-falling : {A : Type 0} (number : A → ℕ) (items : List A) → leng
 length-falling number [] = refl
 length-falling number (item ∷ items) = length-insert number item (falling number items) ∙ ap suc (length-falling number items)
 
--- so many hits are given as are held
+-- as many hits are given as are held
 pub length-in_order : (which : Which) (offers : List (ℕ × ℕ)) → length (in_order which offers) ≡ length offers
 length-in_order Kept offers = refl
 length-in_order Candidates offers = length-falling offered_rank offers

@@ -19,7 +19,7 @@ first_read c at n numbers stand = ap (λ (ns : List ℕ). get_or ns 0 0) (number
 pub second_read : (c : List ℕ) (at m n : ℕ) (numbers : List ℕ) → CardsAt (Stands c) at (m ∷ n ∷ numbers) → field c at 1 ≡ n
 second_read c at m n numbers stand = ap (λ (ns : List ℕ). get_or ns 1 0) (numbers_read c at (m ∷ n ∷ numbers) stand)
 
--- so many numbers have four times as many bytes
+-- that many numbers have four times as many bytes
 length-cards : (numbers : List ℕ) → length (cards numbers) ≡ 4 * length numbers
 length-cards [] = refl
 length-cards (n ∷ numbers) = omega (arith, length-append (card_bytes n) (cards numbers), length-card_bytes n, length-cards numbers)

@@ -103,7 +103,7 @@ module _ (key : List ℕ) where
   none_of_text (rule ∷ rules) others =
       rw (others 0 (omega arith)) (none_of_text rules (λ i l. others (suc i) (omega arith)))
 
-  -- rules of lesser texts are passed over
+  -- rules of lesser texts are skipped
   pub of_text-from : (place : ℕ) (rules : List GlobRule) → ((i : ℕ) → i < place → is_less (get_or (texts_of rules) i []) key ≡ true)
       → place ≤ length rules → of_text key (drop place rules) ≡ of_text key rules
   of_text-from zero rules less within = refl

@@ -91,6 +91,6 @@ unmet c first start count key (rule ∷ rest) size reads run other =
 pub unmet_visits : (key : List ℕ) (rules : List GlobRule) → of_text key rules ≡ [] → 0 < length rules → run_visits key rules ≡ 1
 unmet_visits key rules none some = let sizes : length (of_text key rules) ≡ 0 = ap length none in omega arith
 
--- so many records for each of some visits are at least those of one
+-- that many records for each of some visits are at least those of one
 pub some_visits : (each visits : ℕ) → 1 ≤ visits → each ≤ each * visits
 some_visits each visits some = let m = mul-le-mul_left each some in omega arith

@@ -24,7 +24,7 @@ pub first_magic-none : (content : List ℕ) (host : Host) → first_magic [] con
 unfolding first_magic
 first_magic-none content host = refl
 
--- a section that gives nothing is passed over
+-- a section that gives nothing is skipped
 first_magic-passed : (section : PlainSection) (rest : List PlainSection) (content : List ℕ) (host : Host)
     → None ≡ first_magic (section ∷ []) content host → first_magic (section ∷ rest) content host ≡ first_magic rest content host
 unfolding first_magic

@@ -44,7 +44,7 @@ Descends c case long below now new result =
     FindsRules c (All (IsSuffixRule long) (leaves_at [] below)) (admitted case (leaves_at [] below)) (visits case * scan_visits below)
     now new result
 
--- what is left of a walk after so many characters: whatever is found of that, the whole search finds
+-- what is left of a walk after that many characters: whatever is found of that, the whole search finds
 pub record WalkLeft (c : List ℕ) (case : Case) (rules : List GlobRule) (name : List ℕ) (old : Progress) (block : Siblings) (depth : ℕ)
     (now : Progress) : Type 0 where
   pub tree : Tree

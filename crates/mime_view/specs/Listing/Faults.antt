@@ -23,18 +23,18 @@ pub record IsNode (c : List ℕ) (at : ℕ) : Type 0 where
   pub some : 0 < field c at 0
   pub byte : field c at 0 < 256
 
--- so many nodes, each below the one before, lead from the record at `at` down to the one at r
+-- that many nodes, each below the one before, lead from the record at `at` down to the one at r
 abbrev pub Leads : List ℕ → ℕ → ℕ → ℕ → Type 0
 Leads c zero at r = r ≡ at
 Leads c (suc steps) at r = IsNode c at × ((i : ℕ) × (i < field c at 1) × Leads c steps (field c at 2 + 12 * i) r)
 
--- why the record at r, below so many characters, is not listed: what it leads to, the depth, a leaf's type, the records left, or memory
+-- why the record at r, below that many characters, is not listed: what it leads to, the depth, a leaf's type, the records left, or memory
 abbrev pub IsSiblingFault : List ℕ → ℕ → ℕ → ℕ → CacheFault → Type 0
 IsSiblingFault c r above left e =
     (IsNode c r × IsBlockFault c (field c r 2) 12 (field c r 1) e) ⊎ (IsNode c r × (above ≡ 254) × (e ≡ TooDeep))
     ⊎ ((field c r 0 ≡ 0) × IsNoText c (field c r 1) e) ⊎ IsSpent left e ⊎ (e ≡ OutOfMemory)
 
--- One of so many siblings below `above` characters is not listed, or what one of them leads to.
+-- One of that many siblings below `above` characters is not listed, or what one of them leads to.
 pub record IsSiblingsFault (c : List ℕ) (first count above left : ℕ) (e : CacheFault) : Type 0 where
   -- Which sibling it is that leads there.
   pub i : ℕ

@@ -22,7 +22,7 @@ impl Model for NameEnding {
 }
 
 impl NameEnding {
-    /// The ending of no bytes. It takes no memory.
+    /// The ending of no bytes. It never allocates.
     pub fn none(alloc: Global) -> NameEnding
         ensures { result ≡ [] }
     {

@@ -37,7 +37,7 @@ impl<'a> Model for Listing<'a> {
 }
 
 impl<'a> Listing<'a> {
-    /// No rules. It takes no memory.
+    /// No rules. It never allocates.
     pub fn none(alloc: Global) -> Listing<'a>
         // There are none.
         ensures { result ≡ [] }
@@ -67,7 +67,7 @@ impl<'a> Listing<'a> {
         Ok(())
     }
 
-    /// The list of the rules. It takes no memory.
+    /// The list of the rules. It never allocates.
     pub fn into_vec(self) -> Vec<Listed<'a>>
         // They are the rules that were added, in their order.
         ensures { map plain_listed result.items ≡ self.entry }

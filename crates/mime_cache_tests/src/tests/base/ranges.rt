@@ -4,7 +4,7 @@ use crate::tests::checked::alike;
 use crate::tests::sample::SAMPLE;
 use mime_base::{ByteFault, Content, Counted, Host, Meter, StatedValue};
 
-/// A range of a content against the value 1F 8B of [`SAMPLE`], and whether already the first bytes tell that it isn't there.
+/// A range of a content against the value 1F 8B of [`SAMPLE`], and whether the first bytes alone rule it out.
 struct Range {
     name: &'static str,
     content: &'static [u8],
@@ -26,7 +26,7 @@ static RANGES: [Range; 13] = [
         at_once: false,
     },
     Range {
-        name: "offsets that are passed over",
+        name: "offsets that are skipped",
         content: b"ab\x1f\x8b",
         start: 0,
         range: 3,

@@ -6,7 +6,7 @@ use mime_base::{ByteFault, Counted, Meter, same_name};
 use std::cmp::Ordering;
 use std::process::Abort;
 
-/// Texts stand at offsets, and so many bytes are read for each.
+/// Texts stand at offsets, and that many bytes are read for each.
 fn are_read(rt: &impl Abort, cache: Counted<'_>, rows: &[Text]) {
     for row in rows {
         let mut meter = Meter::new();

@@ -12,7 +12,7 @@ use std::test::Fail;
 /// How many pieces a content has at most where its reads are interrupted or fail.
 const MOST: usize = 8;
 
-/// The pieces of a content, each of so many bytes but the last.
+/// The pieces of a content, each of that many bytes but the last.
 fn pieces_of<'a>(alloc: Global, content: &'a [u8], size: usize) -> Result<Vec<Step<'a>>, Fail> {
     let mut pieces = Vec::new(alloc);
     for piece in content.chunks(size.max(1)) {
@@ -21,7 +21,7 @@ fn pieces_of<'a>(alloc: Global, content: &'a [u8], size: usize) -> Result<Vec<St
     Ok(pieces)
 }
 
-/// The pieces with another step before one of them, or behind all.
+/// The pieces with another step before one of them, or after all.
 fn with<'a>(
     alloc: Global,
     pieces: &[Step<'a>],
@@ -95,7 +95,7 @@ pub fn is_refused_by_failures(
     Ok(())
 }
 
-/// The same where the reads follow these steps, of which one fails after so many bytes.
+/// The same where the reads follow these steps, of which one fails after that many bytes.
 fn fails_or_answers(
     rt: &impl Abort,
     alloc: Global,
@@ -113,7 +113,7 @@ fn fails_or_answers(
     is_failure_or_answer(rt, asked, found, before);
 }
 
-/// The outcome is a failed read after so many bytes, or the ordinary one where no more than these bytes are needed.
+/// The outcome is a failed read after that many bytes, or the ordinary one where no more than these bytes are needed.
 fn is_failure_or_answer(rt: &impl Abort, asked: &Asked<'_>, found: Outcome<'_>, before: usize) {
     let before = before as u64;
     if found.is_ok() && is_enough(asked.outcome, before) {
@@ -124,7 +124,7 @@ fn is_failure_or_answer(rt: &impl Abort, asked: &Asked<'_>, found: Outcome<'_>, 
     }
 }
 
-/// Whether no more than so many bytes are needed.
+/// Whether no more than that many bytes are needed.
 fn is_enough(outcome: Outcome<'_>, before: u64) -> bool {
     match outcome {
         Ok((_, read)) => read <= before,

@@ -10,7 +10,7 @@ use std::alloc::Global;
 use std::process::Abort;
 use std::test::Fail;
 
-/// The cache of a directory, which fits in so many bytes and in no less.
+/// The cache of a directory, which fits in that many bytes and in no fewer.
 fn cache_of(
     rt: &impl Abort,
     alloc: Global,

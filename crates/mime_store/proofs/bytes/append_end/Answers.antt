@@ -1,4 +1,4 @@
--- Of four zeros, one and so many more are kept.
+-- Of four zeros, one and that many more are kept.
 use Rattle.std.proofs.Common.{◌∙◌, ◌+◌, take, ap, arith}
 use Rattle.mime_store.proofs.BytesLemmas.Ends.{zeros_kept}
 use Rattle.mime_store.proofs.bytes.append_end.Goals as goal

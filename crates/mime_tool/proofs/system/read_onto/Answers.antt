@@ -11,7 +11,7 @@ both_read (Some _) None c xs ys first second = absurd first
 both_read (Some _) (Some _) None xs ys first second = absurd second
 both_read (Some _) (Some _) (Some rest) xs ys first second = first ∙ ap (λ l. xs ++ l) second ∙ sym (append_assoc xs ys rest)
 
--- the first bytes, and so many after them
+-- the first bytes, and that many after them
 taken_more : (filled count : ℕ) (bytes : List ℕ) → take filled bytes ++ take count (drop filled bytes) ≡ take (filled + count) bytes
 taken_more filled count bytes =
     ap (λ front. front ++ take count (drop filled bytes)) (sym (take-take filled (filled + count) bytes (omega arith)))

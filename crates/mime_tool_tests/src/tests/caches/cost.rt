@@ -1,4 +1,4 @@
-//! The cost that `type` tells.
+//! The cost that `type` reports.
 
 use crate::tests::ran::{alike, ran};
 use crate::{Entry, Shelf};

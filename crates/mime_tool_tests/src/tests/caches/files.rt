@@ -8,7 +8,7 @@ use std::test::Fail;
 
 static FILES: [Row; 2] = [
     Row {
-        name: "files without an answer are passed over",
+        name: "files without an answer are skipped",
         words: &["type", "-c", "/c", "/missing", "/x", "/folder", "/mk"],
         status: 1,
         out: "/x: t/g\n/mk: t/m\n",

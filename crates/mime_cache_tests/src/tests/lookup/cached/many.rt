@@ -20,7 +20,7 @@ fn of_a_thousand(alloc: Global) -> Result<Vec<u8>, Fail> {
     Ok(write_cache(alloc, &database, usize::MAX)?)
 }
 
-/// Whether a name has a type after so many probes as a search among a thousand takes, nine or ten.
+/// Whether a name has a type after as many probes as a search among a thousand takes, nine or ten.
 fn is_searched(alloc: Global, cache: &[u8], file: &[u8], kind: &[u8]) -> Result<bool, Fail> {
     let mut content: Option<&[u8]> = None;
     let (host, order) = (Host::Little, Order::GlobsFirst);

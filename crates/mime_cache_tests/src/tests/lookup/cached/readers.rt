@@ -102,8 +102,8 @@ fn an_extent_past_all_contents(rt: HostRuntime) {
 fn with(step: Step<'static>, at: usize) -> [Step<'static>; 4] {
     let mut steps = [step; 4];
     for (place, piece) in PIECES.iter().enumerate() {
-        let behind = if place < at { place } else { place + 1 };
-        steps[behind] = *piece;
+        let moved = if place < at { place } else { place + 1 };
+        steps[moved] = *piece;
     }
     steps
 }
