@@ -5,3 +5,4 @@ pub mod SniffLemmas
 pub mod CostLemmas
 pub mod LookUpLemmas
 pub mod StopLemmas
+pub mod IndexLemmas

@@ -27,3 +27,4 @@ pub mod Question
 pub mod Wanted
 pub mod NameAlone
 pub mod ContentAlone
+pub mod Endings

@@ -33,7 +33,7 @@ pub fn candidate_rules<'a>(
 }
 
 /// The rules by falling rank; those of one rank stay in their order.
-fn by_rank(rules: Vec<&GlobRule>) -> Result<Vec<&GlobRule>, OutOfMemory>
+pub fn by_rank(rules: Vec<&GlobRule>) -> Result<Vec<&GlobRule>, OutOfMemory>
     // The greatest rank comes first, and those of one rank keep their order.
     ensures { IfOk result (λ sorted. sorted.items ≡ falling (λ rule. rank_of_rule rule.now) rules.entry.items) }
 {

@@ -151,7 +151,8 @@ fn asked_kinds<'a>(
 }
 
 /// Whether there are types, and all are one type.
-fn are_one_type(kinds: &[&[u8]]) -> bool
+pub fn are_one_type(kinds: &[&[u8]]) -> bool
+    // It says whether the first type is there, and each other is the same.
     ensures { result ≡ are_one_type (kinds_of kinds.now) }
 {
     let Some((first, more)) = kinds.split_first() else {
@@ -167,14 +168,16 @@ fn are_one_type(kinds: &[&[u8]]) -> bool
 
 /// What was sniffed where there is no type, else the first of these that is it or a subclass of it,
 /// else the first.
-fn choose<'a>(
+pub fn choose<'a>(
     alloc: Global,
     database: &'a Database,
     kinds: &[&'a [u8]],
     sniffed: &'a [u8],
     meter: &mut Meter,
 ) -> Result<&'a [u8], OutOfMemory>
+    // No record of a cache is visited.
     ensures nodes { meter.new.nodes ≡ meter.old.nodes }
+    // It is the one that is chosen among them.
     ensures chosen { IfOk result (λ kind. ChoosesAmong (pairs_of (plain_database database.entry.now))
         (kinds_of kinds.now) sniffed.entry.now kind.now) }
 {
@@ -186,7 +189,7 @@ fn choose<'a>(
 
 /// What a content is sniffed as, by its front: as much of it as magic can look at.
 #[tactic(auto, unfolding(crate::specs::Sniffing::sniffed, crate::specs::CheckingOrder::before_globs))]
-fn sniff_content<'a, R: Content>(
+pub fn sniff_content<'a, R: Content>(
     alloc: Global,
     database: &'a Database,
     content: &mut Option<R>,
@@ -195,14 +198,20 @@ fn sniff_content<'a, R: Content>(
     meter: &mut Meter,
 ) -> Result<Sniffed<'a>, Cause>
     requires none { read.old ≡ 0 }
+    // It is what the content is sniffed as.
     ensures sniffed { IfOk result (λ found. IfSome (known_content R.remaining content.old)
         (λ known. IsSniffed (plain_database database.entry.now) known host found)) }
+    // As much is read as magic can look at.
     ensures read { OnOk result (IfSome (known_content R.remaining content.old)
         (λ known. read.new ≡ front_size (plain_database database.entry.now) known)) }
+    // It stops only for a read or for memory.
     ensures causes { IfErr result IsReadOrMemory }
+    // It takes no more of its reader than that, and gives up only where a read failed.
     ensures reader { Reads R.remaining R.tally R.health (read_limit (plain_database database.entry.now))
         content.old content.new read.new result }
+    // It asks its reader.
     ensures asks { AsksUnless R.health false content.old content.new result }
+    // No record of a cache is visited.
     ensures nodes { meter.new.nodes ≡ meter.old.nodes }
 {
     match content {

@@ -1,5 +1,6 @@
 -- What is kept of the rules that match, in one pass over them.
-use Rattle.std.proofs.Common.{◌≡◌, ℕ, ◌+◌, ◌<◌, true, false, cond, List, [], ◌∷◌, ◌++◌, length, take, get_or, map, sym, ap, ◌∙◌}
+use Rattle.std.proofs.Common.{◌≡◌, ℕ, ◌+◌, ◌<◌, true, false, cond, List, [], ◌∷◌, ◌++◌, length, take, get_or, map, refl, sym, ap}
+use Rattle.std.proofs.Common.{◌∙◌, arith}
 use Rattle.std.specs.List.{All}
 use Rattle.std.proofs.lemmas.List.{append-nil, map-append, map-id}
 use Rattle.std.proofs.lemmas.List.Elements.{All-push, filter_more}
@@ -25,6 +26,10 @@ pub record KeepsBest (kept : List (ℕ × Bor GlobRule)) (rules : List GlobRule)
   pub kept_is : kept ≡ best offers
   pub offers_are : map offered offers ≡ map offer_of rules
   pub ranked : All FitsRank rules
+
+-- before the first offer
+pub keeps_none : (kept : List (ℕ × Bor GlobRule)) → kept ≡ [] → KeepsBest kept []
+keeps_none kept none = record { offers = []; kept_is = none; offers_are = refl; ranked = λ k rule within. absurd (omega arith) }
 
 -- an offer more
 pub keeps_more : (kept new : List (ℕ × Bor GlobRule)) (rules : List GlobRule) (rank : ℕ) (rule : Bor GlobRule) → KeepsBest kept rules →

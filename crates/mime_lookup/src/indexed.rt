@@ -1,0 +1,68 @@
+//! Lookup over an index of a database, which is made once and lent to each lookup.
+//!
+//! It answers as [`crate::look_up_plain`] does over the database, which tries every rule. Here most rules are
+//! skipped by one number each: of the last bytes of the names that they match. Read `endings` first.
+
+pub mod candidates;
+pub mod choice;
+pub mod endings;
+pub mod kept;
+pub mod look_up;
+pub mod rule_key;
+
+ghost use Rattle.std.specs.Prelude.{◌≡◌, IfOk};
+ghost use Rattle.std.specs.List.{All};
+ghost use Rattle.mime_base.specs.Kept.{FitsRank};
+
+use crate::indexed::endings::keys_of;
+use crate::indexed::rule_key::RuleKey;
+use mime_base::{Database, OutOfMemory, database_keeps_limits};
+use std::alloc::Global;
+use std::marker::Model;
+
+/// A database with what is found of it once for many lookups. This project's own.
+///
+/// ```
+/// let index = IndexedDatabase::new(alloc, &database)?;
+/// let answer = look_up_indexed(alloc, &index, b"notes.txt", &mut content, Host::Little, order)?;
+/// ```
+#[derive(Drop)]
+pub struct IndexedDatabase<'a> {
+    /// The database.
+    database: &'a Database,
+    /// The key of each of its rules.
+    keys: Vec<RuleKey>,
+}
+
+impl<'a> Model for IndexedDatabase<'a> {
+    ghost use Rattle.mime_base.specs.declared.database.Database.{Database};
+    ghost use Rattle.mime_base.specs.contracts.magic.matchlet.Matchlet as line;
+    ghost use Rattle.mime_lookup.specs.Endings.{AreKeys};
+    ghost use Rattle.std.specs.Coded.{codes};
+
+    ghost Value = { Database };
+
+    ghost coded = { Prim.hlevel (codes, line.the_row.coded) };
+
+    ghost view = { λ index. index.database.now };
+
+    ghost invariant = { λ index. AreKeys index.keys.items index.database.now.rules.items };
+}
+
+impl<'a> IndexedDatabase<'a> {
+    /// The index of a database. Its time and memory grow with the rules.
+    pub fn new(alloc: Global, database: &'a Database) -> Result<IndexedDatabase<'a>, OutOfMemory>
+        // It is an index of this database.
+        ensures { IfOk result (λ index. index ≡ database.entry.now) }
+    {
+        let keys = keys_of(alloc, &database.rules)?;
+        Ok(IndexedDatabase { database, keys })
+    }
+
+    /// The rules keep their limits, as those of every database do.
+    fn keeps_limits(&self)
+        ensures { All FitsRank self.now.rules.items }
+    {
+        database_keeps_limits(self.database);
+    }
+}
