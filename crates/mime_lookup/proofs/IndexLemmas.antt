@@ -2,3 +2,4 @@
 pub mod EndingNumbers
 pub mod RuleEndings
 pub mod SkippedRules
+pub mod Indexes

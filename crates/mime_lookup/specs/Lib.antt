@@ -28,3 +28,4 @@ pub mod Wanted
 pub mod NameAlone
 pub mod ContentAlone
 pub mod Endings
+pub mod Indexed

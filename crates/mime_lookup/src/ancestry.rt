@@ -41,7 +41,7 @@ pub fn first_of<'a>(
 }
 
 /// The same over pairs whose places are known.
-fn first_at<'a>(
+pub fn first_at<'a>(
     alloc: Global,
     both: &PlacedPairs<'a>,
     kinds: &[&'a [u8]],
@@ -50,7 +50,9 @@ fn first_at<'a>(
     meter: &mut Meter,
 ) -> Result<&'a [u8], OutOfMemory>
     requires placed { ArePlaced both.now }
+    // No record of a cache is visited.
     ensures nodes { meter.new.nodes ≡ meter.old.nodes }
+    // It is the first of the types that is the base or a subclass of it, else the default.
     ensures first { IfOk result (λ kind. IsFirst (placed both.now)
         base.now default.entry.now (kinds_of kinds.now) kind.now) }
 {

@@ -1,7 +1,8 @@
 //! Lookup over an index of a database, which is made once and lent to each lookup.
 //!
 //! It answers as [`crate::look_up_plain`] does over the database, which tries every rule. Here most rules are
-//! skipped by one number each: of the last bytes of the names that they match. Read `endings` first.
+//! skipped by one number each, of the last bytes of the names that they match, and the places of aliases and subclass
+//! pairs are known. Read `endings` first.
 
 pub mod candidates;
 pub mod choice;
@@ -9,6 +10,7 @@ pub mod endings;
 pub mod kept;
 pub mod look_up;
 pub mod rule_key;
+pub mod sniff;
 
 ghost use Rattle.std.specs.Prelude.{◌≡◌, IfOk};
 ghost use Rattle.std.specs.List.{All};
@@ -16,6 +18,8 @@ ghost use Rattle.mime_base.specs.Kept.{FitsRank};
 
 use crate::indexed::endings::keys_of;
 use crate::indexed::rule_key::RuleKey;
+use crate::lists::front_limit;
+use crate::places::{PlacedPairs, places_of};
 use mime_base::{Database, OutOfMemory, database_keeps_limits};
 use std::alloc::Global;
 use std::marker::Model;
@@ -32,12 +36,16 @@ pub struct IndexedDatabase<'a> {
     database: &'a Database,
     /// The key of each of its rules.
     keys: Vec<RuleKey>,
+    /// The places of its aliases and of its subclass pairs.
+    pairs: PlacedPairs<'a>,
+    /// How much of a content is read at most.
+    limit: usize,
 }
 
 impl<'a> Model for IndexedDatabase<'a> {
     ghost use Rattle.mime_base.specs.declared.database.Database.{Database};
     ghost use Rattle.mime_base.specs.contracts.magic.matchlet.Matchlet as line;
-    ghost use Rattle.mime_lookup.specs.Endings.{AreKeys};
+    ghost use Rattle.mime_lookup.specs.Indexed.{IsIndexOf};
     ghost use Rattle.std.specs.Coded.{codes};
 
     ghost Value = { Database };
@@ -46,17 +54,24 @@ impl<'a> Model for IndexedDatabase<'a> {
 
     ghost view = { λ index. index.database.now };
 
-    ghost invariant = { λ index. AreKeys index.keys.items index.database.now.rules.items };
+    ghost invariant = { λ index. IsIndexOf index.database.now index.keys.items index.pairs index.limit };
 }
 
 impl<'a> IndexedDatabase<'a> {
-    /// The index of a database. Its time and memory grow with the rules.
+    /// The index of a database. Its time and memory grow with its rules, aliases and subclass pairs.
     pub fn new(alloc: Global, database: &'a Database) -> Result<IndexedDatabase<'a>, OutOfMemory>
         // It is an index of this database.
         ensures { IfOk result (λ index. index ≡ database.entry.now) }
     {
         let keys = keys_of(alloc, &database.rules)?;
-        Ok(IndexedDatabase { database, keys })
+        let aliases = places_of(alloc, &database.aliases)?;
+        let parents = places_of(alloc, &database.parents)?;
+        Ok(IndexedDatabase {
+            database,
+            keys,
+            pairs: PlacedPairs { aliases, parents },
+            limit: front_limit(database),
+        })
     }
 
     /// The rules keep their limits, as those of every database do.

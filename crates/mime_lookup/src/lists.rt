@@ -168,16 +168,14 @@ pub fn are_one_type(kinds: &[&[u8]]) -> bool
 
 /// What was sniffed where there is no type, else the first of these that is it or a subclass of it,
 /// else the first.
-pub fn choose<'a>(
+fn choose<'a>(
     alloc: Global,
     database: &'a Database,
     kinds: &[&'a [u8]],
     sniffed: &'a [u8],
     meter: &mut Meter,
 ) -> Result<&'a [u8], OutOfMemory>
-    // No record of a cache is visited.
     ensures nodes { meter.new.nodes ≡ meter.old.nodes }
-    // It is the one that is chosen among them.
     ensures chosen { IfOk result (λ kind. ChoosesAmong (pairs_of (plain_database database.entry.now))
         (kinds_of kinds.now) sniffed.entry.now kind.now) }
 {
@@ -189,7 +187,7 @@ pub fn choose<'a>(
 
 /// What a content is sniffed as, by its front: as much of it as magic can look at.
 #[tactic(auto, unfolding(crate::specs::Sniffing::sniffed, crate::specs::CheckingOrder::before_globs))]
-pub fn sniff_content<'a, R: Content>(
+fn sniff_content<'a, R: Content>(
     alloc: Global,
     database: &'a Database,
     content: &mut Option<R>,
@@ -198,20 +196,14 @@ pub fn sniff_content<'a, R: Content>(
     meter: &mut Meter,
 ) -> Result<Sniffed<'a>, Cause>
     requires none { read.old ≡ 0 }
-    // It is what the content is sniffed as.
     ensures sniffed { IfOk result (λ found. IfSome (known_content R.remaining content.old)
         (λ known. IsSniffed (plain_database database.entry.now) known host found)) }
-    // As much is read as magic can look at.
     ensures read { OnOk result (IfSome (known_content R.remaining content.old)
         (λ known. read.new ≡ front_size (plain_database database.entry.now) known)) }
-    // It stops only for a read or for memory.
     ensures causes { IfErr result IsReadOrMemory }
-    // It takes no more of its reader than that, and gives up only where a read failed.
     ensures reader { Reads R.remaining R.tally R.health (read_limit (plain_database database.entry.now))
         content.old content.new read.new result }
-    // It asks its reader.
     ensures asks { AsksUnless R.health false content.old content.new result }
-    // No record of a cache is visited.
     ensures nodes { meter.new.nodes ≡ meter.old.nodes }
 {
     match content {
@@ -230,8 +222,10 @@ pub fn sniff_content<'a, R: Content>(
 
 /// How much of a content is read at most.
 #[tactic(auto, unfolding(crate::specs::CheckingOrder::read_limit))]
-fn front_limit(database: &Database) -> usize
+pub fn front_limit(database: &Database) -> usize
+    // It is the greater of 128 bytes and the database's extent.
     ensures limit { result ≡ read_limit (plain_database database.now) }
+    // Something is read.
     ensures some { 0 < result }
 {
     u64::from(TEXTUAL_FRONT).max(extent(database)) as usize

@@ -11,7 +11,7 @@ use crate::candidates::by_rank;
 use crate::indexed::IndexedDatabase;
 use crate::indexed::endings::{endings_of, next_unrefused};
 use crate::indexed::rule_key::RuleKey;
-use crate::pairs::unalias;
+use crate::places::unalias_at;
 use mime_base::{GlobRule, Meter, OutOfMemory, glob_matches};
 use std::alloc::Global;
 
@@ -53,11 +53,10 @@ pub fn candidate_kinds<'a>(
     // No record of a cache is visited.
     ensures nodes { meter.new.nodes ≡ meter.old.nodes }
 {
-    let database = index.database;
-    let rules = candidate_rules(alloc, &database.rules, &index.keys, name, meter)?;
+    let rules = candidate_rules(alloc, &index.database.rules, &index.keys, name, meter)?;
     let mut kinds = Vec::new(alloc);
     for rule in &rules {
-        kinds.push(unalias(&database.aliases, rule.kind.bytes()))?;
+        kinds.push(unalias_at(&index.pairs.aliases, rule.kind.bytes()))?;
     }
     Ok(kinds)
 }

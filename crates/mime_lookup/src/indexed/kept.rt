@@ -10,7 +10,7 @@ ghost use Rattle.mime_lookup.specs.Endings.{AreKeys};
 use crate::indexed::IndexedDatabase;
 use crate::indexed::endings::{endings_of, next_unrefused};
 use crate::indexed::rule_key::RuleKey;
-use crate::pairs::unalias;
+use crate::places::unalias_at;
 use mime_base::{Best, GlobRule, Meter, OutOfMemory, glob_matches, rank_of_rule};
 use std::alloc::Global;
 
@@ -52,11 +52,10 @@ pub fn kept_kinds<'a>(
     // No record of a cache is visited.
     ensures nodes { meter.new.nodes ≡ meter.old.nodes }
 {
-    let database = index.database;
-    let rules = kept_rules(alloc, &database.rules, &index.keys, name, meter)?;
+    let rules = kept_rules(alloc, &index.database.rules, &index.keys, name, meter)?;
     let mut kinds = Vec::new(alloc);
     for rule in &rules {
-        kinds.push(unalias(&database.aliases, rule.kind.bytes()))?;
+        kinds.push(unalias_at(&index.pairs.aliases, rule.kind.bytes()))?;
     }
     Ok(kinds)
 }
