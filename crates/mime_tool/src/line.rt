@@ -38,7 +38,7 @@ pub(crate) enum Outcome<'a> {
 /// Prints the lines of the files in order, each by the name of its text.
 pub(crate) fn print_lines<D: Desk>(
     desk: &mut D,
-    lookup: Lookup<'_>,
+    lookup: Lookup<'_, '_>,
     files: &[&str],
     raws: &[RawWord<'_>],
 ) -> Result<u8, Stop>
@@ -53,7 +53,11 @@ pub(crate) fn print_lines<D: Desk>(
 }
 
 /// Prints the line of one file, or says why there is none.
-pub(crate) fn print_line<D: Desk>(desk: &mut D, lookup: Lookup<'_>, file: &[u8]) -> Result<u8, Stop>
+pub(crate) fn print_line<D: Desk>(
+    desk: &mut D,
+    lookup: Lookup<'_, '_>,
+    file: &[u8],
+) -> Result<u8, Stop>
     ensures { Works (Ends (λ _. IsTypeLine (plain_lookup lookup.entry) (D.state desk.old).stored file.now) [])
         (D.state desk.old) (D.state desk.new) result }
 {
@@ -64,7 +68,7 @@ pub(crate) fn print_line<D: Desk>(desk: &mut D, lookup: Lookup<'_>, file: &[u8])
 // What a file comes to: by its kind, where that is asked for and it is no regular file, or looked up.
 fn outcome_of<'a, D: Desk>(
     desk: &mut D,
-    lookup: Lookup<'a>,
+    lookup: Lookup<'_, 'a>,
     file: &[u8],
 ) -> Result<Outcome<'a>, Stop>
     ensures { Works (ComesTo (plain_lookup lookup.entry) ((D.state desk.old).stored file.now) file.now)
@@ -100,7 +104,7 @@ fn inode_name<'a>(kind: Inode) -> &'a [u8]
 // What a file that is looked up comes to. It is opened first, unless its name alone is asked for.
 fn file_outcome<'a, D: Desk>(
     desk: &mut D,
-    lookup: Lookup<'a>,
+    lookup: Lookup<'_, 'a>,
     file: &[u8],
 ) -> Result<Outcome<'a>, Stop>
     ensures { Works (LooksUpHere (plain_lookup lookup.entry) ((D.state desk.old).stored file.now) file.now)

@@ -1,8 +1,9 @@
 //! The command `plain`: the types of files, from the text files of data directories.
 
+ghost use Rattle.mime_base.specs.Database.{plain_database};
 ghost use Rattle.mime_request.specs.Request.{plain_directories, plain_subjects};
 ghost use Rattle.mime_tool.specs.Desk.{Ends, Works};
-ghost use Rattle.mime_tool.specs.Plain.{IsPlain};
+ghost use Rattle.mime_tool.specs.Plain.{AreTypeLines, IsPlain};
 ghost use Rattle.mime_tool.specs.Process.{given_by, known_process};
 ghost use Rattle.mime_tool.specs.Subjects.{names_in};
 ghost use Rattle.mime_tool.specs.Words.{named_subjects};
@@ -14,7 +15,8 @@ use crate::process::Process;
 use crate::stop::Stop;
 use crate::subjects::print_subjects;
 use crate::words::RawWord;
-use mime_lookup::Content;
+use mime_base::Database;
+use mime_lookup::{Content, IndexedDatabase};
 use mime_request::{Directories, Options, Subjects};
 
 /// Prints a line `FILE: TYPE` for each name that is looked up, by the data of the directories, and gives the status.
@@ -35,8 +37,26 @@ pub(crate) fn print_types<D: Desk, I: Content + Drop>(
 {
     let Process { environment, input } = process;
     let database = load(desk, environment, directories)?;
+    print_over(desk, &database, options, subjects, raws, input)
+}
+
+// Prints the lines over a database, of which the index is made once, for however many names there are.
+fn print_over<D: Desk, I: Content + Drop>(
+    desk: &mut D,
+    database: &Database,
+    options: Options,
+    subjects: &Subjects<'_>,
+    raws: &[RawWord<'_>],
+    input: I,
+) -> Result<u8, Stop>
+    ensures { Works (Ends (AreTypeLines (named_subjects raws.now (plain_subjects subjects.now)) (D.state desk.old).stored
+        (given_by (I.remaining input) (I.health input)) options (plain_database database.now))
+        (names_in (named_subjects raws.now (plain_subjects subjects.now)) (D.state desk.old).stored
+        (given_by (I.remaining input) (I.health input)))) (D.state desk.old) (D.state desk.new) result }
+{
+    let index = IndexedDatabase::new(desk.alloc(), database)?;
     let lookup = Lookup {
-        by: Data::Database(&database),
+        by: Data::Database(&index),
         name_only: options.name_only,
         inode: options.inode,
         order: asked_order(options),

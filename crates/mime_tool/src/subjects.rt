@@ -25,7 +25,7 @@ use std::alloc::Global;
 /// input, or of the FILEs of a list. Gives the status.
 pub(crate) fn print_subjects<D: Desk, I: Content + Drop>(
     desk: &mut D,
-    lookup: Lookup<'_>,
+    lookup: Lookup<'_, '_>,
     subjects: &Subjects<'_>,
     raws: &[RawWord<'_>],
     input: I,
@@ -46,7 +46,7 @@ pub(crate) fn print_subjects<D: Desk, I: Content + Drop>(
 // Prints the line of standard input under this name.
 fn print_input<D: Desk, I: Content + Drop>(
     desk: &mut D,
-    lookup: Lookup<'_>,
+    lookup: Lookup<'_, '_>,
     name: &[u8],
     input: I,
 ) -> Result<u8, Stop>
@@ -60,7 +60,7 @@ fn print_input<D: Desk, I: Content + Drop>(
 // What standard input comes to. It isn't read where its name alone is asked for.
 fn input_outcome<'a, I: Content + Drop>(
     alloc: Global,
-    lookup: Lookup<'a>,
+    lookup: Lookup<'_, 'a>,
     name: &[u8],
     input: I,
 ) -> Result<Outcome<'a>, Stop>
@@ -73,7 +73,7 @@ fn input_outcome<'a, I: Content + Drop>(
 // Prints the lines of the FILEs of a list, which is the file of this path, or standard input where that is a hyphen.
 fn print_list<D: Desk, I: Content + Drop>(
     desk: &mut D,
-    lookup: Lookup<'_>,
+    lookup: Lookup<'_, '_>,
     path: &str,
     input: I,
 ) -> Result<u8, Stop>
@@ -93,7 +93,7 @@ fn print_list<D: Desk, I: Content + Drop>(
 // Prints the line of each name that the reader of a list gives, as it comes.
 fn print_names<D: Desk, R: Content + Drop>(
     desk: &mut D,
-    lookup: Lookup<'_>,
+    lookup: Lookup<'_, '_>,
     list: &str,
     reader: R,
 ) -> Result<u8, Stop>
@@ -116,7 +116,7 @@ fn print_names<D: Desk, R: Content + Drop>(
 // Prints the line of the name of this number, or says that it is empty.
 fn print_name<D: Desk>(
     desk: &mut D,
-    lookup: Lookup<'_>,
+    lookup: Lookup<'_, '_>,
     list: &str,
     number: u64,
     name: &[u8],

@@ -1,4 +1,4 @@
-//! How a FILE is looked up: by a database, or by the bytes of a cache.
+//! How a FILE is looked up: by the index of a database, or by the bytes of a cache.
 
 ghost use Rattle.std.specs.Prelude.{◌≡◌, Bool};
 ghost use Rattle.mime_base.specs.Database.{plain_database};
@@ -11,15 +11,15 @@ ghost use Rattle.mime_tool.specs.Types.{cost_tail, lookup_by};
 use super::{Outcome, base_name};
 use crate::cache::faulty;
 use crate::stop::Stop;
-use mime_base::{Counted, Database, Host, Meter};
-use mime_lookup::{Cause, Content, Order, look_up, look_up_plain};
+use mime_base::{Counted, Host, Meter};
+use mime_lookup::{Cause, Content, IndexedDatabase, Order, look_up, look_up_indexed};
 use mime_request::{Options, Output};
 use std::alloc::Global;
 
 /// What FILEs are looked up in.
 #[derive(Clone, Copy)]
-pub(crate) enum Data<'a> {
-    Database(&'a Database),
+pub(crate) enum Data<'i, 'a> {
+    Database(&'i IndexedDatabase<'a>),
     Cache {
         path: &'a str,
         bytes: &'a [u8],
@@ -30,8 +30,8 @@ pub(crate) enum Data<'a> {
 
 /// How FILEs are looked up.
 #[derive(Clone, Copy)]
-pub(crate) struct Lookup<'a> {
-    pub(crate) by: Data<'a>,
+pub(crate) struct Lookup<'i, 'a> {
+    pub(crate) by: Data<'i, 'a>,
     /// Whether by their names alone: then none is opened.
     pub(crate) name_only: bool,
     /// Whether what is no regular file has a type of its own.
@@ -66,7 +66,7 @@ pub(crate) fn asked_order(options: Options) -> Order
 /// What a file comes to by its name and its content, which is read as far as it is needed.
 pub(crate) fn find<'a, R: Content + Drop>(
     alloc: Global,
-    lookup: Lookup<'a>,
+    lookup: Lookup<'_, 'a>,
     file: &[u8],
     content: Option<R>,
 ) -> Result<Outcome<'a>, Stop>
@@ -81,7 +81,7 @@ pub(crate) fn find<'a, R: Content + Drop>(
         output: _,
     } = lookup;
     match by {
-        Data::Database(database) => find_in_database(alloc, database, order, file, content),
+        Data::Database(index) => find_in_database(alloc, index, order, file, content),
         Data::Cache { path, bytes, cost } => {
             find_in_cache(alloc, path, bytes, cost, order, file, content)
         }
@@ -90,16 +90,16 @@ pub(crate) fn find<'a, R: Content + Drop>(
 
 fn find_in_database<'a, R: Content + Drop>(
     alloc: Global,
-    database: &'a Database,
+    index: &IndexedDatabase<'a>,
     order: Order,
     file: &[u8],
     mut content: Option<R>,
 ) -> Result<Outcome<'a>, Stop>
     ensures { (stored : Stored) (name_only : Bool) (output : Output) → IsContent R.remaining R.health name_only stored content
-        → LooksUp (lookup_over name_only output order (plain_database database.entry.now)) stored file.now result }
+        → LooksUp (lookup_over name_only output order (plain_database index.now)) stored file.now result }
 {
     let name = name_for(order, file);
-    match look_up_plain(alloc, database, name, &mut content, Host::Little, order) {
+    match look_up_indexed(alloc, index, name, &mut content, Host::Little, order) {
         Ok(answer) => Ok(Outcome::Typed(answer.kind, None)),
         Err(stopped) => match stopped.cause {
             Cause::NameTooLong => Ok(Outcome::NameTooLong),
@@ -136,7 +136,7 @@ fn find_in_cache<'a, R: Content + Drop>(
 }
 
 /// What an answer cost for which nothing was looked at, where that is told.
-pub(super) fn free(lookup: Lookup<'_>) -> Option<Cost>
+pub(super) fn free(lookup: Lookup<'_, '_>) -> Option<Cost>
     ensures { tail_of result ≡ (plain_lookup lookup.entry).free }
 {
     match lookup.by {

@@ -31,8 +31,8 @@ returns-in_err-database g c =
 pub returns : goal.returns
 returns g c =
     let load = c.in_ok-database.ensures in
-    let lines = c.print_subjects.ensures in
-    let here = rw (load.same_files, c.asked_order.ensures) at lines in
+    let lines = c.print_over.ensures in
+    let here = rw load.same_files at lines in
     let stored = (g.D.Desk.state c.args.desk.now).stored in
     let input = c.args.process.input in
     let subjects = named_subjects c.args.raws.now (plain_subjects c.args.subjects.now) in
