@@ -3,3 +3,4 @@ pub mod EndingNumbers
 pub mod RuleEndings
 pub mod SkippedRules
 pub mod Indexes
+pub mod LineHeads

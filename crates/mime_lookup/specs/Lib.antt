@@ -28,4 +28,5 @@ pub mod Wanted
 pub mod NameAlone
 pub mod ContentAlone
 pub mod Endings
+pub mod Heads
 pub mod Indexed

@@ -7,7 +7,10 @@
 pub mod candidates;
 pub mod choice;
 pub mod endings;
+pub mod first_places;
+pub mod heads;
 pub mod kept;
+pub mod line_head;
 pub mod look_up;
 pub mod rule_key;
 pub mod sniff;
@@ -17,6 +20,7 @@ ghost use Rattle.std.specs.List.{All};
 ghost use Rattle.mime_base.specs.Kept.{FitsRank};
 
 use crate::indexed::endings::keys_of;
+use crate::indexed::heads::{Heads, heads_of};
 use crate::indexed::rule_key::RuleKey;
 use crate::lists::front_limit;
 use crate::places::{PlacedPairs, places_of};
@@ -38,6 +42,8 @@ pub struct IndexedDatabase<'a> {
     keys: Vec<RuleKey>,
     /// The places of its aliases and of its subclass pairs.
     pairs: PlacedPairs<'a>,
+    /// The heads of the top lines of its sections.
+    heads: Heads,
     /// How much of a content is read at most.
     limit: usize,
 }
@@ -54,11 +60,11 @@ impl<'a> Model for IndexedDatabase<'a> {
 
     ghost view = { λ index. index.database.now };
 
-    ghost invariant = { λ index. IsIndexOf index.database.now index.keys.items index.pairs index.limit };
+    ghost invariant = { λ index. IsIndexOf index.database.now index.keys.items index.pairs index.heads index.limit };
 }
 
 impl<'a> IndexedDatabase<'a> {
-    /// The index of a database. Its time and memory grow with its rules, aliases and subclass pairs.
+    /// The index of a database. Its time and memory grow with its rules, aliases, subclass pairs and lines.
     pub fn new(alloc: Global, database: &'a Database) -> Result<IndexedDatabase<'a>, OutOfMemory>
         // It is an index of this database.
         ensures { IfOk result (λ index. index ≡ database.entry.now) }
@@ -66,10 +72,12 @@ impl<'a> IndexedDatabase<'a> {
         let keys = keys_of(alloc, &database.rules)?;
         let aliases = places_of(alloc, &database.aliases)?;
         let parents = places_of(alloc, &database.parents)?;
+        let heads = heads_of(alloc, &database.sections)?;
         Ok(IndexedDatabase {
             database,
             keys,
             pairs: PlacedPairs { aliases, parents },
+            heads,
             limit: front_limit(database),
         })
     }

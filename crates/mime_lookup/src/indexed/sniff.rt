@@ -1,18 +1,24 @@
 //! What a content is sniffed as, over an index.
 
-ghost use Rattle.std.specs.Prelude.{◌≡◌, false, IfErr, IfOk, IfSome, OnOk};
+ghost use Rattle.std.specs.Prelude.{◌≡◌, false, IfErr, IfOk, IfSome, OnOk, Some, option_map};
 ghost use Rattle.mime_base.specs.Database.{plain_database};
+ghost use Rattle.mime_base.specs.Magic.Holds.{first_magic};
+ghost use Rattle.mime_base.specs.Magic.{plain_sections};
 ghost use Rattle.mime_lookup.specs.CheckingOrder.{IsSniffed, front_size, read_limit};
 ghost use Rattle.mime_lookup.specs.Content.{known_content};
+ghost use Rattle.mime_lookup.specs.Heads.{AreHeads};
 ghost use Rattle.mime_lookup.specs.Reads.{AsksUnless, IsReadOrMemory, Reads};
 
 use crate::content::Content;
 use crate::fixed::OCTET_STREAM;
 use crate::indexed::IndexedDatabase;
+use crate::indexed::first_places::FirstPlaces;
+use crate::indexed::heads::{Heads, some_line_holds};
+use crate::places::unalias_at;
 use crate::reading::read_front;
-use crate::sniff::{Sniffed, sniff};
+use crate::sniff::{HIGH_PRIORITY, Sniffed, by_bytes};
 use crate::stopped::Cause;
-use mime_base::{Host, Meter};
+use mime_base::{Host, Meter, Section};
 use std::alloc::Global;
 
 /// What a content is sniffed as, by its front: as much of it as magic can look at.
@@ -44,7 +50,7 @@ pub fn sniff_content<'a, R: Content>(
     match content {
         Some(reader) => {
             let front = read_front(alloc, reader, index.limit, read)?;
-            Ok(sniff(index.database, &front, host, meter))
+            Ok(sniff(index, &front, host, meter))
         }
         None => Ok(Sniffed {
             kind: OCTET_STREAM,
@@ -52,4 +58,58 @@ pub fn sniff_content<'a, R: Content>(
             by_magic: false,
         }),
     }
+}
+
+/// What a content is sniffed as: the type of the first section with a line that holds, after one
+/// alias step, else a type by the bytes alone.
+#[tactic(auto, unfolding(crate::specs::Sniffing::sniffed, crate::specs::CheckingOrder::before_globs))]
+fn sniff<'a>(
+    index: &IndexedDatabase<'a>,
+    content: &[u8],
+    host: Host,
+    meter: &mut Meter,
+) -> Sniffed<'a>
+    ensures sniffed { IsSniffed (plain_database index.now) (Some content.now) host result }
+    ensures nodes { meter.new.nodes ≡ meter.old.nodes }
+{
+    match first_section(&index.database.sections, &index.heads, content, host, meter) {
+        Some(section) => Sniffed {
+            kind: unalias_at(&index.pairs.aliases, section.kind.bytes()),
+            is_high: section.priority >= HIGH_PRIORITY,
+            by_magic: true,
+        },
+        None => Sniffed {
+            kind: by_bytes(content),
+            is_high: false,
+            by_magic: false,
+        },
+    }
+}
+
+/// The first section with a line of indent 0 that holds.
+// As `crate::sniff::first_section`, but a line whose head refuses the content is skipped.
+fn first_section<'a>(
+    sections: &'a [Section],
+    heads: &Heads,
+    content: &[u8],
+    host: Host,
+    meter: &mut Meter,
+) -> Option<&'a Section>
+    requires headed { AreHeads heads.now.lines.items heads.now.sizes.items sections.now }
+    ensures first { option_map (λ section. (section.now.kind, section.now.priority)) result
+        ≡ first_magic (plain_sections sections.entry.now) content.now host }
+    ensures nodes { meter.new.nodes ≡ meter.old.nodes }
+{
+    let noted = FirstPlaces::new(content);
+    let mut left = heads.lines.as_slice();
+    let sizes = heads.sizes.as_slice();
+    for place in 0..sections.len() {
+        let section = &sections[place];
+        let (own, after) = left.split_at(sizes[place]);
+        if some_line_holds(section, own, &noted, host, meter) {
+            return Some(section);
+        }
+        left = after;
+    }
+    None
 }

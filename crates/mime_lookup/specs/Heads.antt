@@ -1,0 +1,44 @@
+-- Heads of lines of magic: how the windows of a line's range begin that may equal its value.
+use Rattle.std.specs.Prelude.{◌≡◌, ℕ, ◌+◌, ◌<◌, ◌≤◌, false, List, [], ◌∷◌, drop, length, slice_index, take}
+use Rattle.mime_base.specs.Magic.Holds.{equals_from, line_holds}
+use Rattle.mime_base.specs.Magic.{PlainLine, plain_matchlet}
+use Rattle.mime_base.specs.declared.magic.Section.{Section}
+use Rattle.mime_base.specs.declared.magic.host.Host.{Host}
+use Rattle.mime_base.specs.declared.magic.matchlet.Matchlet.{Matchlet}
+use Rattle.mime_lookup.specs.declared.indexed.line_head.LineHead.{LineHead}
+
+-- each is the number of a byte
+abbrev pub AreBytes : List ℕ → Type 0
+AreBytes content = (place : ℕ) → slice_index content place < 256
+
+-- a head that says how windows begin refuses a content: none of those of its range that lie in the content begins so
+pub record Refuses (head : LineHead) (content : List ℕ) : Type 0 where
+  pub known : 0 < head.size
+  pub bytes : AreBytes content
+  pub lacks : (place : ℕ) → head.start ≤ place → place < head.start + head.range → place + head.size ≤ length content
+      → slice_index content place ≡ head.first → ⊥
+
+-- a content that a head refuses has no window that equals a line's value
+abbrev pub IsHead : LineHead → PlainLine → Type 0
+IsHead head own = (content : List ℕ) (host : Host) → Refuses head content
+    → equals_from own host content own.start own.range ≡ false
+
+-- so the line doesn't hold
+abbrev pub IsHeadOf : LineHead → Matchlet → Type 0
+IsHeadOf head line = (content : List ℕ) (host : Host) → Refuses head content
+    → line_holds (plain_matchlet line) content host ≡ false
+
+-- each line has its head, in their order
+abbrev pub AreLineHeads : List LineHead → List Matchlet → Type 0
+AreLineHeads [] [] = Unit {0}
+AreLineHeads [] (line ∷ lines) = ⊥
+AreLineHeads (head ∷ heads) [] = ⊥
+AreLineHeads (head ∷ heads) (line ∷ lines) = IsHeadOf head line × AreLineHeads heads lines
+
+-- each section has as many heads as it has lines of indent 0, one after another
+abbrev pub AreHeads : List LineHead → List ℕ → List Section → Type 0
+AreHeads heads [] [] = heads ≡ []
+AreHeads heads [] (section ∷ sections) = ⊥
+AreHeads heads (size ∷ sizes) [] = ⊥
+AreHeads heads (size ∷ sizes) (section ∷ sections) =
+    (size ≤ length heads) × AreLineHeads (take size heads) section.lines.items × AreHeads (drop size heads) sizes sections
