@@ -1,6 +1,6 @@
 -- Bytes of a name, sixteen at a time: what vectors of them tell, and what is left after those.
-use Rattle.std.proofs.Common.{◌≡◌, ℕ, zero, suc, ◌+◌, ◌*◌, ◌==◌, leb, Bool, true, false, cond, not, ◌&&◌, List, [], ◌∷◌}
-use Rattle.std.proofs.Common.{length, take, drop, map, replicate, refl, sym, ap, ◌∙◌, arith, ⊎_elim}
+use Rattle.std.proofs.Common.{◌≡◌, ℕ, zero, suc, ◌+◌, ◌-◌, ◌*◌, ◌==◌, ◌≤◌, leb, Bool, true, false, cond, not, ◌&&◌, List, [], ◌∷◌}
+use Rattle.std.proofs.Common.{length, take, drop, map, replicate, refl, sym, ap, ◌∙◌, arith, ⊎_elim, drop-drop}
 use Rattle.std.specs.Prelude.{nat_lt}
 use Rattle.std.specs.List.{list_all}
 use Rattle.std.specs.Simd.Lanes.{mask_l, top, zip2}
@@ -14,6 +14,28 @@ use Rattle.mime_base.specs.Names.{is_name_byte}
 pub names-passed : (n : ℕ) (xs : List ℕ) →
     list_all is_name_byte xs ≡ (list_all is_name_byte (take n xs) && list_all is_name_byte (drop n xs))
 names-passed n xs = ap (list_all is_name_byte) (sym (take-append-drop n xs)) ∙ list_all-append is_name_byte (take n xs) (drop n xs)
+
+-- of two facts joined, of which the second is one more joined with a third, where the third alone tells them all
+overlap : (whole later first second both : Bool) → whole ≡ (first && both) → both ≡ (second && later) → later ≡ whole → both ≡ whole
+overlap whole later first second true w b same = third second b
+  where
+    third : (second : Bool) → true ≡ (second && later) → true ≡ whole
+    third true b = b ∙ same
+    third false b = cc
+overlap whole later first second false w b same = sym (w ∙ none first)
+  where
+    none : (first : Bool) → (first && false) ≡ false
+    none true = refl
+    none false = refl
+
+-- all bytes from a place on are those of a name exactly where all are, if that is so of a later place
+pub names-overlap : (m n : ℕ) (xs : List ℕ) → m ≤ n → list_all is_name_byte (drop n xs) ≡ list_all is_name_byte xs →
+    list_all is_name_byte (drop m xs) ≡ list_all is_name_byte xs
+names-overlap m n xs le same =
+    let place : m + (n - m) ≡ n = omega arith in
+    let later : drop (n - m) (drop m xs) ≡ drop n xs = drop-drop (n - m) m xs ∙ ap (λ k. drop k xs) place in
+    overlap _ _ _ _ _ (names-passed m xs)
+    (names-passed (n - m) (drop m xs) ∙ ap (λ l. list_all is_name_byte (take (n - m) (drop m xs)) && list_all is_name_byte l) later) same
 
 -- the lanes that are at most a space (32), or a colon (58)
 abbrev pub wrong_lanes : ℕ → List ℕ → List Bool

@@ -199,22 +199,39 @@ impl IconName {
     }
 }
 
+/// Whether all bytes may stand in a type name. The last vector may begin before the one before it ends, so that no bytes are
+/// left over.
 fn are_name_bytes(bytes: &[u8]) -> bool
     ensures { result ≡ list_all is_name_byte bytes.now }
 {
-    let mut rest = bytes;
-    while 16 <= rest.len() {
-        if !are_sixteen_name_bytes(rest) {
-            return false;
-        }
-        rest = &rest[16..];
+    if 16 <= bytes.len() {
+        return are_many_name_bytes(bytes);
     }
-    are_last_name_bytes(rest)
+    if 8 <= bytes.len() {
+        return are_eight_name_bytes(bytes) && are_eight_name_bytes(&bytes[bytes.len() - 8..]);
+    }
+    are_few_name_bytes(bytes)
 }
 
-/// The same of the last bytes, one at a time.
+/// The same of sixteen bytes and more.
+fn are_many_name_bytes(bytes: &[u8]) -> bool
+    requires { 16 ≤ length bytes.now }
+    ensures { result ≡ list_all is_name_byte bytes.now }
+{
+    let last = bytes.len() - 16;
+    let mut at = 0;
+    while at < last {
+        if !are_sixteen_name_bytes(&bytes[at..]) {
+            return false;
+        }
+        at += 16;
+    }
+    are_sixteen_name_bytes(&bytes[last..])
+}
+
+/// The same of few bytes, one at a time.
 #[inline]
-fn are_last_name_bytes(bytes: &[u8]) -> bool
+fn are_few_name_bytes(bytes: &[u8]) -> bool
     ensures { result ≡ list_all is_name_byte bytes.now }
 {
     bytes.iter().all(|byte| *byte > b' ' && *byte != b':')
@@ -228,6 +245,17 @@ fn are_sixteen_name_bytes(bytes: &[u8]) -> bool
 {
     let front = u8x16::from_slice(bytes);
     let wrong = front.simd_le(u8x16::splat(b' ')) | front.simd_eq(u8x16::splat(b':'));
+    wrong.to_bitmask() == 0
+}
+
+/// Whether the first eight bytes may stand in a type name.
+#[inline]
+fn are_eight_name_bytes(bytes: &[u8]) -> bool
+    requires { 8 ≤ length bytes.now }
+    ensures { result ≡ list_all is_name_byte (take 8 bytes.now) }
+{
+    let front = u8x8::from_slice(bytes);
+    let wrong = front.simd_le(u8x8::splat(b' ')) | front.simd_eq(u8x8::splat(b':'));
     wrong.to_bitmask() == 0
 }
 

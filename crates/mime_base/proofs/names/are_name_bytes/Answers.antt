@@ -1,21 +1,19 @@
-use Rattle.std.proofs.Common.{length, ◌∙◌, sym, arith}
-use Rattle.std.proofs.lemmas.Slice.{between_to_end}
-use Rattle.mime_base.proofs.NameLemmas.{names-passed}
+-- The first eight bytes, and the last eight.
+use Rattle.std.proofs.Common.{◌≡◌, ◌-◌, true, ◌&&◌, drop, take, length, ap, ◌∙◌, sym, arith, take_all, length-drop}
+use Rattle.std.specs.List.{list_all}
+use Rattle.std.proofs.lemmas.List.{take_rest}
+use Rattle.mime_base.specs.Names.{is_name_byte}
+use Rattle.mime_base.proofs.NameLemmas.{names-overlap, names-passed}
 use Rattle.mime_base.proofs.names.are_name_bytes.Goals as goal
 
-pub loop-rest-preserved : goal.loop-rest-preserved
-loop-rest-preserved c =
-    let rest = c.loop-rest.rest.now in
-    let passed = names-passed 16 rest in
-    let after = between_to_end rest 16 (length rest) (omega arith) in
-    let right = rw (sym c.are_sixteen_name_bytes.ensures, c.if-not-are_sixteen_name_bytes.false) at passed in
-    rw after (sym right ∙ c.loop-rest.invariant)
-
-pub returns-then-not-are_sixteen_name_bytes : goal.returns-then-not-are_sixteen_name_bytes
-returns-then-not-are_sixteen_name_bytes c =
-    let passed = names-passed 16 c.loop-rest.rest.now in
-    let wrong = rw (sym c.are_sixteen_name_bytes.ensures, c.if-not-are_sixteen_name_bytes.true) at passed in
-    sym wrong ∙ c.loop-rest.invariant
-
-pub returns : goal.returns
-returns c = c.are_last_name_bytes.ensures ∙ c.loop-rest.invariant
+pub returns-then-are_eight_name_bytes : goal.returns-then-are_eight_name_bytes
+returns-then-are_eight_name_bytes c =
+    let xs = c.args.bytes.now in
+    let last = length xs - 8 in
+    let front : list_all is_name_byte (take 8 xs) ≡ true = sym c.are_eight_name_bytes.ensures ∙ c.if-are_eight_name_bytes.true in
+    let passed : list_all is_name_byte (drop 8 xs) ≡ list_all is_name_byte xs =
+    sym (names-passed 8 xs ∙ ap (λ b. b && list_all is_name_byte (drop 8 xs)) front) in
+    c.are_eight_name_bytes-then-are_eight_name_bytes.ensures
+    ∙ ap (λ l. list_all is_name_byte (take 8 l)) (take_rest xs last)
+    ∙ ap (list_all is_name_byte) (take_all 8 (drop last xs) (omega (arith, length-drop last xs)))
+    ∙ names-overlap last 8 xs (omega arith) passed
