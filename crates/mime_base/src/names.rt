@@ -18,7 +18,7 @@ use thiserror::Error;
 const LONGEST: usize = 255;
 
 /// Type names and icon names of at most that many bytes need no allocation.
-const SHORT_NAME: usize = 24;
+const SHORT_NAME: usize = 32;
 
 /// Patterns of at most that many bytes need no allocation.
 const SHORT_PATTERN: usize = 16;
