@@ -9,10 +9,9 @@ pub mod icons;
 mod names;
 pub mod pairs;
 
-ghost use Rattle.std.specs.Prelude.{◌≡◌, ◌<◌, ◌∷◌, length, slice_index};
+ghost use Rattle.std.specs.Prelude.{◌≡◌, ◌<◌, [], ◌∷◌, length, MatchOption};
 ghost use Rattle.mime_text.specs.Lines.{line_fields, is_passed, lines};
 
-use bstr::{ByteSlice, Split};
 use memchr::memchr;
 use std::marker::Model;
 
@@ -82,12 +81,72 @@ pub fn is_passed(line: &[u8]) -> bool
     }
 }
 
-/// The fields of a line, which stand between the separators.
-pub fn fields<'a, 's>(line: &'a [u8], separator: &'s [u8]) -> Split<'a, 's>
-    // The separator is one byte.
-    requires { length separator.now ≡ 1 }
-    // The fields are what is between the separators, in their order.
-    ensures { result ≡ line_fields (slice_index separator.now 0) line.now }
+/// The fields of a line that are left, first to last. Each is sought by its end alone, and none is copied.
+#[derive(Drop)]
+pub struct Fields<'a> {
+    separator: u8,
+    rest: &'a [u8],
+    /// Whether a field is left, which may be empty.
+    goes_on: bool,
+}
+
+impl<'a> Model for Fields<'a> {
+    ghost use Rattle.std.specs.Prelude.{ℕ, List, [], if◌then◌else◌};
+    ghost use Rattle.mime_text.specs.Lines.{line_fields};
+
+    ghost Value = { List (List ℕ) };
+
+    ghost view = { λ s. if s.goes_on then line_fields s.separator s.rest.now else [] };
+}
+
+impl<'a> Fields<'a> {
+    /// The fields of a line, which stand between the separators.
+    pub fn new(line: &'a [u8], separator: u8) -> Fields<'a>
+        // The fields are what is between the separators, in their order.
+        ensures { result ≡ line_fields separator line.now }
+    {
+        Fields {
+            separator,
+            rest: line,
+            goes_on: true,
+        }
+    }
+}
+
+impl<'a> Iterator for Fields<'a> {
+    ghost use Rattle.std.specs.Iterator.{YieldsFirstRef, item_count};
+
+    type Item = &'a [u8];
+
+    ghost next_gives = { YieldsFirstRef (λ left. left) };
+
+    ghost remaining = { item_count (λ left. left) };
+
+    fn next(&mut self) -> Option<&'a [u8]> {
+        if !self.goes_on {
+            return None;
+        }
+        match cut_field(self.rest, self.separator) {
+            Some((field, rest)) => {
+                self.rest = rest;
+                Some(field)
+            }
+            None => {
+                self.goes_on = false;
+                Some(self.rest)
+            }
+        }
+    }
+}
+
+/// The bytes before the first separator and those after it.
+pub fn cut_field(line: &[u8], separator: u8) -> Option<(&[u8], &[u8])>
+    // They are the first field and the bytes of the others, or none where the line is one field.
+    ensures { MatchOption result (line_fields separator line.now ≡ line.now ∷ [])
+        (λ parts. line_fields separator line.now ≡ parts.0.now ∷ line_fields separator parts.1.now) }
 {
-    line.split_str(separator)
+    match memchr(separator, line) {
+        Some(end) => Some((&line[..end], &line[end + 1..])),
+        None => None,
+    }
 }

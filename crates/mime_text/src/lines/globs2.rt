@@ -12,7 +12,7 @@ ghost use Rattle.std.specs.Option.{option_to_list};
 ghost use Rattle.mime_text.specs.Lines.{HasJust, skipped_of};
 ghost use Rattle.mime_text.specs.Lines.Globs2.{as_marker, as_rule, entry, has_cs, is_malformed_rule, markers_of, rules_of, weight_of};
 
-use super::fields;
+use super::Fields;
 use super::file::{LineEntry, LineFile, read_lines};
 use super::names::{pattern_of, type_name_of};
 use mime_base::{GlobRule, OutOfMemory, TypeName};
@@ -99,7 +99,7 @@ impl LineEntry for GlobEntry {
 
     #[tactic(auto, unfolding(crate::specs::Lines::Globs2::entry_of))]
     fn read(alloc: Global, line: &[u8]) -> Result<Option<GlobEntry>, OutOfMemory> {
-        let mut fields = fields(line, b":");
+        let mut fields = Fields::new(line, b':');
         let (Some(weight), Some(kind), Some(pattern)) = (
             fields.next(),
             fields.next(),
@@ -168,5 +168,5 @@ fn weight_of(field: &[u8]) -> Option<u8>
 fn has_cs(flags: &[u8]) -> bool
     ensures { result ≡ has_cs flags.now }
 {
-    fields(flags, b",").any(|flag| flag == CASED)
+    Fields::new(flags, b',').any(|flag| flag == CASED)
 }

@@ -6,7 +6,7 @@ ghost use Rattle.std.specs.Prelude.{◌≡◌, IfOk};
 ghost use Rattle.mime_text.specs.Lines.{skipped_of};
 ghost use Rattle.mime_text.specs.Lines.Pairs.{is_malformed_pair, pair_of, pairs_in};
 
-use super::fields;
+use super::Fields;
 use super::file::{LineEntry, LineFile, read_lines};
 use super::names::type_name_of;
 use mime_base::{OutOfMemory, Pair};
@@ -44,7 +44,7 @@ impl LineEntry for Pair {
 
     #[tactic(auto, unfolding(crate::specs::Lines::Pairs::pair_of))]
     fn read(alloc: Global, line: &[u8]) -> Result<Option<Pair>, OutOfMemory> {
-        let mut fields = fields(line, b" ");
+        let mut fields = Fields::new(line, b' ');
         let (Some(name), Some(target), None) = (fields.next(), fields.next(), fields.next()) else {
             return Ok(None);
         };

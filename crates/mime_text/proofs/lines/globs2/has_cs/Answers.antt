@@ -10,5 +10,5 @@ pub returns : goal.returns
 unfolding has_cs
 returns c =
     any_from_yields_List (λ flag. bytes_eq flag (codes "cs")) _ _ _ c.any.ensures.ran
-    (YieldsList-from_first (λ x. x.now) (λ rest. rest) (line_fields 44 c.args.flags.now) c.fields.ensures)
+    (YieldsList-from_first (λ x. x.now) (λ rest. rest) (line_fields 44 c.args.flags.now) c.new.ensures)
     (λ x b q k. search (rules, tests))
