@@ -11,3 +11,5 @@ pub mod Nodes
 pub mod Counts
 pub mod Rooted
 pub mod EntryRooms
+pub mod Starts
+pub mod Alone

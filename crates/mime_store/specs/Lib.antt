@@ -5,5 +5,6 @@ pub mod Lines
 pub mod Lists
 pub mod SuffixTree
 pub mod Texts
+pub mod Fronts
 pub mod Runs
 pub mod Parts

@@ -1,6 +1,7 @@
 -- Endings of rules as paths, the tree's siblings one by one, and how many nodes sorted endings take.
 use Rattle.std.specs.Prelude.{◌≡◌, ◌<◌, ◌≤◌, ◌⊎◌, ℕ, ◌+◌, ◌*◌, ◌-◌, ◌==◌, if◌then◌else◌, List, [], ◌∷◌, ◌++◌, length, drop, map}
-use Rattle.std.specs.Prelude.{sum_by, bytes_eq}
+use Rattle.std.specs.Prelude.{sum_by, bytes_eq, Option, None, Some}
+use Rattle.std.specs.Borrow.{Bor}
 use Rattle.mime_base.specs.Format.Records.{CardsAt, Standing, TextAt}
 use Rattle.mime_base.specs.Format.Room.{text_room}
 use Rattle.mime_base.specs.Format.Sorted.{with_key}
@@ -16,13 +17,22 @@ use Rattle.mime_store.specs.declared.ending.Ending.{Ending}
 abbrev pub ending_rule : Ending → GlobRule
 ending_rule ending = ending.rule.now
 
+-- the path of an ending
+unfoldable pub ending_path : Ending → List ℕ
+ending_path ending = reversed_ending ending.rule.now
+
+-- the path of the ending before, or an empty one where there is none
+abbrev pub path_before : Option (Bor Ending) → List ℕ
+path_before None = []
+path_before (Some ending) = ending_path ending.now
+
 -- a path, and the rule at its end
 abbrev pub PathRule : Type 0
 PathRule = List ℕ × GlobRule
 
 -- what is left of an ending at a depth
 abbrev pub ending_entry : ℕ → Ending → PathRule
-ending_entry depth ending = (drop depth ending.path.items, ending.rule.now)
+ending_entry depth ending = (drop depth (ending_path ending), ending.rule.now)
 
 -- the rules of the entries with this path, in their order
 abbrev pub pick : List ℕ → List PathRule → List GlobRule

@@ -29,6 +29,24 @@ pub fn append_numbers(out: &mut Vec<u8>, numbers: &[u32]) -> Result<u32, OutOfMe
     Ok(at)
 }
 
+/// The three numbers of a record; returns the offset of the first. Their bytes are laid ready first, and appended at once.
+pub fn append_row(out: &mut Vec<u8>, row: [u32; 3]) -> Result<u32, OutOfMemory>
+    // The bytes stay within what a number of 32 bits can point to.
+    requires room { length out.old.items + 12 < 2 ^ 32 }
+    // The header has its place.
+    requires begun { 40 ≤ length out.old.items }
+    // The bytes grow by the three numbers, and what was there stays.
+    ensures grew { OnOk result (Grew out.old.items out.new.items 12) }
+    // The numbers stand, big-endian, at the offset that is returned.
+    ensures stand { IfOk result (λ at. CardsAt (Written out.new.items) at row) }
+{
+    let at = place_of(out);
+    let mut bytes = [0; 12];
+    overwrite(&mut bytes, &row);
+    out.extend_from_slice(&bytes)?;
+    Ok(at)
+}
+
 /// A count, and the numbers of that many records after it; returns the offset of the count.
 pub fn append_list(out: &mut Vec<u8>, count: u32, numbers: &[u32]) -> Result<u32, OutOfMemory>
     // The bytes stay within what a number of 32 bits can point to.

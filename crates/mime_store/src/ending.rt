@@ -1,21 +1,20 @@
 //! The ending of a suffix rule, as the path to its leaf.
 
-ghost use Rattle.std.specs.Prelude.{◌≡◌, ◌<◌, true, length};
+ghost use Rattle.std.specs.Prelude.{◌≡◌, ◌<◌, ℕ, true, length, slice_index};
 ghost use Rattle.mime_base.specs.Format.Stored.{reversed_ending};
+ghost use Rattle.mime_store.specs.Fronts.{front, start_number};
 ghost use Rattle.mime_store.specs.Texts.{has_no_zero};
 
 use mime_base::GlobRule;
-use smallvec::SmallVec;
 
-/// Paths of at most that many bytes need no allocation.
-pub const SHORT_PATH: usize = 16;
-
-/// A suffix rule, and its ending from the last byte to the first.
+/// A suffix rule, and the start of its path: of the bytes of its ending from the last to the first. The path itself is not copied.
 #[derive(Drop)]
 pub struct Ending<'a> {
-    pub path: SmallVec<u8, SHORT_PATH>,
+    /// The first eight bytes of the path as a number, with zeros for those that it lacks.
+    pub start: u64,
     pub rule: &'a GlobRule,
-    pub ghost is_reversed: { path.items ≡ reversed_ending rule.now },
-    pub ghost short: { length path.items < 256 },
-    pub ghost no_zero: { has_no_zero path.items ≡ true },
+    pub ghost starts: { start ≡ start_number (reversed_ending rule.now) },
+    pub ghost bytes: { (k : ℕ) → slice_index (front 8 (reversed_ending rule.now)) k < 256 },
+    pub ghost short: { length (reversed_ending rule.now) < 256 },
+    pub ghost no_zero: { has_no_zero (reversed_ending rule.now) ≡ true },
 }

@@ -24,6 +24,7 @@ mod magic;
 mod pairs;
 mod parents;
 mod parts;
+mod paths;
 mod room;
 mod rules;
 mod run;

@@ -4,7 +4,7 @@ ghost use Rattle.std.specs.Prelude.{◌≡◌, ◌+◌, ◌-◌, ◌^◌, ◌<�
 ghost use Rattle.std.specs.List.{common_prefix_len};
 ghost use Rattle.mime_base.specs.Format.Room.{lines_room, mask_room, padded, text_room};
 ghost use Rattle.mime_base.specs.Magic.{forest_of, mask_bytes, plain_matchlet, plain_matchlets};
-ghost use Rattle.mime_store.specs.SuffixTree.{common, ending_room, entries_room, ending_entry};
+ghost use Rattle.mime_store.specs.SuffixTree.{common, ending_entry, ending_path, ending_room, entries_room, path_before};
 ghost use Rattle.mime_store.specs.Lines.{matchlet_parts_room};
 
 use crate::bytes::padding;
@@ -84,43 +84,46 @@ pub fn take_tree(left: usize, endings: &[Ending<'_>]) -> Option<usize>
         (λ rest. rest + entries_room (map (ending_entry 0) endings.now) ≡ left) }
 {
     let mut rest = left;
-    let mut before: &[u8] = &[];
+    let mut before = None;
     for ending in endings {
         rest = take_ending(rest, before, ending)?;
-        before = ending.path.as_slice();
+        before = Some(ending);
     }
     Some(rest)
 }
 
 /// Room for a leaf, its type, and a node for each byte past what its path shares with the one before.
-fn take_ending(left: usize, before: &[u8], ending: &Ending<'_>) -> Option<usize>
+fn take_ending(left: usize, before: Option<&Ending<'_>>, ending: &Ending<'_>) -> Option<usize>
     requires { left < 2 ^ 32 }
-    ensures { MatchOption result (left < ending_room before.now (ending_entry 0 ending.now))
-        (λ rest. rest + ending_room before.now (ending_entry 0 ending.now) ≡ left) }
+    ensures { MatchOption result (left < ending_room (path_before before.entry) (ending_entry 0 ending.now))
+        (λ rest. rest + ending_room (path_before before.entry) (ending_entry 0 ending.now) ≡ left) }
 {
     let left = left.checked_sub(12 * nodes_of(before, ending))?;
     take_text(left, ending.rule.kind.bytes())
 }
 
 /// How many nodes an ending adds to the one before it, its leaf included.
-fn nodes_of(before: &[u8], ending: &Ending<'_>) -> usize
-    ensures nodes { result ≡ length ending.now.path.items - common before.now ending.now.path.items + 1 }
+fn nodes_of(before: Option<&Ending<'_>>, ending: &Ending<'_>) -> usize
+    ensures nodes { result ≡ length (ending_path ending.now)
+        - common (path_before before.entry) (ending_path ending.now) + 1 }
     ensures few { result ≤ 256 }
 {
-    let path = ending.path.as_slice();
-    path.len() - agreeing_length(before, path) + 1
+    let shared = match before {
+        Some(before) => agreeing_length(before, ending),
+        None => 0,
+    };
+    ending.length() - shared + 1
 }
 
 /// How many bytes two paths share from the front.
-fn agreeing_length(left: &[u8], right: &[u8]) -> usize
-    ensures common { result ≡ common_prefix_len nat_eq left.now right.now }
-    ensures left { result ≤ length left.now }
-    ensures right { result ≤ length right.now }
+fn agreeing_length(left: &Ending<'_>, right: &Ending<'_>) -> usize
+    ensures common { result ≡ common_prefix_len nat_eq (ending_path left.now) (ending_path right.now) }
+    ensures right { result ≤ length (ending_path right.now) }
 {
-    let room = left.len().min(right.len());
-    for i in 0..room {
-        if left[i] != right[i] {
-            return i;
+    let room = left.length().min(right.length());
+    for depth in 0..room {
+        if left.byte(depth) != right.byte(depth) {
+            return depth;
         }
     }
     room

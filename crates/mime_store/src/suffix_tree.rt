@@ -5,17 +5,16 @@
 //! bottom: over endings that are sorted, a sibling is an ending that ends here, or the run of those that go
 //! on with one byte.
 
-ghost use Rattle.std.specs.Prelude.{◌≡◌, ◌+◌, ◌^◌, ◌<◌, ◌≤◌, [], true, length, map, take, drop, OnOk, IfOk};
-ghost use Rattle.mime_base.specs.Format.Stored.{reversed_ending, tree_rules};
+ghost use Rattle.std.specs.Prelude.{◌≡◌, ◌+◌, ◌^◌, ◌<◌, ◌≤◌, [], ◌∷◌, length, map, take, drop, OnOk, IfOk};
+ghost use Rattle.mime_base.specs.Format.Stored.{tree_rules};
 ghost use Rattle.mime_store.specs.SuffixTree.{AreEndings, ClearOf, IsBlock, Rises, StartAll, TreeOf, WritesSibling, ending_rule, entries_room};
 ghost use Rattle.mime_store.specs.SuffixTree.{ending_entry};
-ghost use Rattle.mime_store.specs.Texts.{has_no_zero};
 ghost use Rattle.mime_store.specs.Written.{Grew, Written};
 
-use crate::bytes::{append_numbers, append_text};
-use crate::ending::{Ending, SHORT_PATH};
+use crate::bytes::{append_numbers, append_row, append_text};
+use crate::ending::Ending;
 use crate::rules::{is_in_tree, weight_and_flags};
-use mime_base::{GlobRule, OutOfMemory, as_compared};
+use mime_base::{GlobRule, OutOfMemory};
 use smallvec::SmallVec;
 use std::alloc::Global;
 
@@ -45,7 +44,7 @@ pub fn endings(alloc: Global, rules: &[GlobRule]) -> Result<Vec<Ending<'_>>, Out
     let mut found = Vec::new(alloc);
     for rule in rules {
         if is_in_tree(rule) {
-            found.push(ending_of(alloc, rule)?)?;
+            found.push(Ending::new(rule))?;
         }
     }
     Ok(found)
@@ -56,7 +55,7 @@ pub fn sort_endings(endings: &mut Vec<Ending<'_>>) -> Result<(), OutOfMemory>
     // They are the same rules by rising paths, and those of one path stay in merged order.
     ensures { OnOk result (AreEndings (map (ending_entry 0) endings.new.items) (map ending_rule endings.old.items)) }
 {
-    endings.sort_by(|left, right| left.path.cmp(&right.path))?;
+    endings.sort_by(|left, right| left.compare(right))?;
     Ok(())
 }
 
@@ -97,6 +96,9 @@ fn write_siblings(
     ensures stands { IfOk result
         (λ block. IsBlock (Written out.new.items) block.count block.first (map (ending_entry depth) endings.now)) }
 {
+    if endings.len() == 1 {
+        return write_alone(out, &endings[0], depth);
+    }
     let mut records: SmallVec<u32, SHORT_BLOCK> = SmallVec::new(alloc);
     let mut count = 0;
     let mut at = 0;
@@ -108,6 +110,26 @@ fn write_siblings(
     }
     let first = append_numbers(out, records.as_slice())?;
     Ok(Block { count, first })
+}
+
+/// An ending that goes on alone: its type and its leaf, then a node for each byte of its path up to the depth, from the last to
+/// the first.
+#[tactic(auto, using(crate::proofs::RulesLemmas::Fits::type_fits))]
+fn write_alone(out: &mut Vec<u8>, ending: &Ending<'_>, depth: usize) -> Result<Block, OutOfMemory>
+    requires room { length out.old.items + entries_room (ending_entry depth ending.now ∷ []) < 2 ^ 32 }
+    requires begun { 40 ≤ length out.old.items }
+    ensures grew { OnOk result (Grew out.old.items out.new.items (entries_room (ending_entry depth ending.now ∷ []))) }
+    ensures stands { IfOk result
+        (λ block. IsBlock (Written out.new.items) block.count block.first (ending_entry depth ending.now ∷ [])) }
+{
+    let kind = append_text(out, ending.rule.kind.bytes())?;
+    let mut first = append_row(out, [0, kind, weight_and_flags(ending.rule)])?;
+    let mut at = ending.length();
+    while depth < at {
+        at -= 1;
+        first = append_row(out, [u32::from(ending.byte(at)), 1, first])?;
+    }
+    Ok(Block { count: 1, first })
 }
 
 /// What belongs to the first sibling.
@@ -127,15 +149,14 @@ fn write_sibling(
         WritesSibling out.old.items out.new.items sibling.row sibling.taken (map (ending_entry depth) endings.now)) }
 {
     let first = &endings[0];
-    let path = first.path.as_slice();
-    if path.len() <= depth {
+    if first.length() <= depth {
         let kind = append_text(out, first.rule.kind.bytes())?;
         return Ok(Sibling {
             row: [0, kind, weight_and_flags(first.rule)],
             taken: 1,
         });
     }
-    let byte = path[depth];
+    let byte = first.byte(depth);
     let taken = run_length(&endings[1..], depth, byte) + 1;
     let below = write_siblings(alloc, out, &endings[..taken], depth + 1)?;
     Ok(Sibling {
@@ -152,36 +173,14 @@ fn run_length(endings: &[Ending<'_>], depth: usize, byte: u8) -> usize
 {
     let mut count = 0;
     for ending in endings {
-        let path = ending.path.as_slice();
-        if path.len() <= depth {
+        if ending.length() <= depth {
             return count;
         }
-        let next = path[depth];
+        let next = ending.byte(depth);
         if next != byte {
             return count;
         }
         count += 1;
     }
     count
-}
-
-fn ending_of(alloc: Global, rule: &GlobRule) -> Result<Ending<'_>, OutOfMemory>
-    ensures { IfOk result (λ ending. ending_rule ending ≡ rule.now) }
-{
-    let path = path_of(alloc, rule)?;
-    Ok(Ending { path, rule })
-}
-
-/// The stored ending of a rule, from the last byte to the first.
-#[tactic(auto, using(crate::proofs::RulesLemmas::Texts::some_pattern))]
-fn path_of(alloc: Global, rule: &GlobRule) -> Result<SmallVec<u8, SHORT_PATH>, OutOfMemory>
-    ensures { IfOk result (λ path. (path.items ≡ reversed_ending rule.now) × (length path.items < 256)
-        × (has_no_zero path.items ≡ true)) }
-{
-    let pattern = rule.pattern.bytes();
-    let mut path = SmallVec::new(alloc);
-    for byte in pattern[1..].iter().rev() {
-        path.push(as_compared(rule.cased, *byte))?;
-    }
-    Ok(path)
 }

@@ -1,9 +1,9 @@
 -- Stored texts and endings: they have no zero byte, and as many bytes as their patterns.
 use Rattle.std.proofs.Common.{◌≡◌, ℕ, zero, suc, ◌+◌, ◌<◌, ◌≤◌, Bool, true, false, not, ◌&&◌, cond, eqb, List, [], ◌∷◌, ◌++◌}
-use Rattle.std.proofs.Common.{length, map, drop, reverse, refl, sym, ap, subst, ◌∙◌, arith, nat_le, nat_lt}
+use Rattle.std.proofs.Common.{length, drop, reverse, get_or, ◌-◌, refl, sym, ap, subst, ◌∙◌, arith, nat_le, nat_lt}
 use Rattle.std.specs.List.{list_all}
 use Rattle.std.proofs.lemmas.Bool.{and_parts, leb-true, lt-ltb, ltb-true}
-use Rattle.std.proofs.lemmas.List.{drop-map, map-append, length-drop, length-map, length-reverse, reverse-append}
+use Rattle.std.proofs.lemmas.List.{get_or-drop, get_or-map, get_or-reverse, length-drop, length-map, length-reverse, reverse-append}
 use Rattle.mime_base.specs.Matching.Folding.{compared, compared_byte}
 use Rattle.mime_base.specs.Names.{is_pattern, is_pattern_byte}
 use Rattle.mime_base.specs.Format.Stored.{reversed_ending}
@@ -69,28 +69,34 @@ pub has_no_zero-from : (xs : List ℕ) → NoZero xs → has_no_zero xs ≡ true
 has_no_zero-from [] h = refl
 has_no_zero-from (x ∷ xs) h = rw (lt-ltb 0 x h.0) (has_no_zero-from xs h.1)
 
--- bytes that are changed one by one, backwards
-map-reverse : (f : ℕ → ℕ) (xs : List ℕ) → map f (reverse xs) ≡ reverse (map f xs)
-map-reverse f [] = refl
-map-reverse f (x ∷ xs) =
-    ap (map f) (reverse-append (x ∷ []) xs)
-    ∙ map-append f (reverse xs) (x ∷ [])
-    ∙ ap (λ ys. ys ++ f x ∷ []) (map-reverse f xs)
-    ∙ sym (reverse-append (f x ∷ []) (map f xs))
-
--- the path of a rule, from its pattern after the first byte
-pub path_fits : (rule : GlobRule) (part path : List ℕ) → is_pattern rule.pattern ≡ true → part ≡ drop 1 rule.pattern
-    → path ≡ map (compared_byte rule.cased) (reverse part)
-    → (path ≡ reversed_ending rule) × (length path < 256) × (has_no_zero path ≡ true)
-path_fits rule part path is from turned =
-    let limits = compared_pattern rule.cased rule.pattern is in
+-- a byte of the path of a rule
+pub path_at : (rule : GlobRule) (depth : ℕ) → depth < length (reversed_ending rule)
+    → get_or (reversed_ending rule) depth 0 ≡ compared_byte rule.cased (get_or rule.pattern (length rule.pattern - 1 - depth) 0)
+path_at rule depth inside =
     let text = compared rule.cased rule.pattern in
-    let same : path ≡ reverse (drop 1 text) =
-    turned ∙ map-reverse (compared_byte rule.cased) part
-    ∙ ap reverse (ap (compared rule.cased) from ∙ sym (drop-map (compared_byte rule.cased) 1 rule.pattern)) in (
-      same,
-      rw same (omega (arith, length-reverse (drop 1 text), length-drop 1 text, limits.0, limits.1)),
-      rw same (has_no_zero-from (reverse (drop 1 text)) (NoZero-reverse (drop 1 text) (NoZero-drop 1 text limits.2))),
+    let ending = drop 1 text in
+    let long = length-reverse ending in
+    let size = length-drop 1 text in
+    let whole = length-map rule.pattern (compared_byte rule.cased) in
+    get_or-reverse ending depth 0 (omega (arith, inside, long))
+    ∙ get_or-drop 1 text (length ending - 1 - depth) 0
+    ∙ ap (λ (i : ℕ). get_or text i 0) (omega (arith, inside, long, size, whole))
+    ∙ get_or-map (compared_byte rule.cased) rule.pattern (length rule.pattern - 1 - depth) 0 0 (omega (arith, inside, long, size, whole))
+
+-- how long the path of a rule is
+pub path_long : (rule : GlobRule) → length (reversed_ending rule) ≡ length rule.pattern - 1
+path_long rule =
+    let text = compared rule.cased rule.pattern in
+    omega (arith, length-reverse (drop 1 text), length-drop 1 text, length-map rule.pattern (compared_byte rule.cased))
+
+-- the path of a rule is short and has no zero byte
+pub path_keeps : (rule : GlobRule) → is_pattern rule.pattern ≡ true
+    → (length (reversed_ending rule) < 256) × (has_no_zero (reversed_ending rule) ≡ true)
+path_keeps rule is =
+    let limits = compared_pattern rule.cased rule.pattern is in
+    let text = compared rule.cased rule.pattern in (
+      omega (arith, length-reverse (drop 1 text), length-drop 1 text, limits.0, limits.1),
+      has_no_zero-from (reverse (drop 1 text)) (NoZero-reverse (drop 1 text) (NoZero-drop 1 text limits.2)),
     )
 
 -- a pattern has a byte

@@ -5,7 +5,7 @@ use Rattle.std.specs.List.{common_prefix_len}
 use Rattle.std.proofs.lemmas.List.{map-append, take-append-drop}
 use Rattle.std.proofs.lemmas.List.Sums.{sum_by-append, sum_by-cons}
 use Rattle.mime_base.specs.Format.Room.{text_room}
-use Rattle.mime_store.specs.SuffixTree.{PathRule, common, ending_room, entries_room, ending_entry}
+use Rattle.mime_store.specs.SuffixTree.{PathRule, common, ending_room, entries_room, ending_entry, ending_path}
 use Rattle.mime_store.specs.declared.ending.Ending.{Ending}
 use Rattle.mime_store.proofs.ListLemmas.Loops.{views_more}
 use Rattle.mime_store.proofs.SuffixTreeLemmas.Paths.{last_path, nodes-append}
@@ -48,7 +48,7 @@ entries_more endings i x lt e =
 
 -- the last path after one ending more
 pub last_more : (endings : List Ending) (i : ℕ) (x : Ending) → i < length endings → x ≡ get_or endings i x
-    → last_path [] (map (ending_entry 0) (take (i + 1) endings)) ≡ x.path.items
+    → last_path [] (map (ending_entry 0) (take (i + 1) endings)) ≡ (ending_path x)
 last_more endings i x lt e =
     ap (last_path []) (views_more (ending_entry 0) endings i x lt e)
     ∙ last_path-push [] (map (ending_entry 0) (take i endings)) (ending_entry 0 x)

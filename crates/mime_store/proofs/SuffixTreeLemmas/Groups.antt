@@ -4,7 +4,7 @@ use Rattle.std.proofs.Common.{subst, ◌∙◌, arith, add-one}
 use Rattle.std.proofs.lemmas.List.{drop_more, drop_all, drop-drop, take-map, drop-map, length-map, length-take-le, take-append-drop}
 use Rattle.std.proofs.lemmas.List.{take_rest}
 use Rattle.mime_store.specs.Written.{Grew, Written}
-use Rattle.mime_store.specs.SuffixTree.{PathRule, ClearOf, IsBlock, StartAll, WritesSibling, entries_room, ending_entry, kinds_room, nodes}
+use Rattle.mime_store.specs.SuffixTree.{PathRule, ClearOf, IsBlock, StartAll, WritesSibling, entries_room, ending_entry, kinds_room, nodes, ending_path}
 use Rattle.mime_base.specs.Format.Room.{text_room}
 use Rattle.mime_base.specs.Format.Stored.{weight_and_flags}
 use Rattle.mime_base.specs.Format.Records.{TextAt}
@@ -19,20 +19,20 @@ start_push b [] e h s = (s.0, s.1, tt)
 start_push b (x ∷ xs) e h s = (h.0, h.1, start_push b xs e h.2 s)
 
 -- an ending with this byte at the depth
-pub starts : (depth : ℕ) (e : Ending) (b : ℕ) → depth < length e.path.items → get_or e.path.items depth 0 ≡ b
+pub starts : (depth : ℕ) (e : Ending) (b : ℕ) → depth < length (ending_path e) → get_or (ending_path e) depth 0 ≡ b
     → (k : List ℕ) × ((ending_entry depth e).0 ≡ b ∷ k)
 starts depth e b lt at =
-    (drop (depth + 1) e.path.items, drop_more e.path.items depth 0 lt ∙ ap (λ (x : ℕ). x ∷ drop (depth + 1) e.path.items) at)
+    (drop (depth + 1) (ending_path e), drop_more (ending_path e) depth 0 lt ∙ ap (λ (x : ℕ). x ∷ drop (depth + 1) (ending_path e)) at)
 
 -- an ending that is at its end
-pub ends : (depth : ℕ) (e : Ending) → length e.path.items ≤ depth → (ending_entry depth e).0 ≡ []
-ends depth e le = drop_all depth e.path.items le
+pub ends : (depth : ℕ) (e : Ending) → length (ending_path e) ≤ depth → (ending_entry depth e).0 ≡ []
+ends depth e le = drop_all depth (ending_path e) le
 
 -- one byte deeper
 pub deeper : (depth : ℕ) (es : List Ending) → map (ending_entry (depth + 1)) es ≡ map tail_of (map (ending_entry depth) es)
 deeper depth [] = refl
 deeper depth (e ∷ es) =
-    ap (λ (k : List ℕ). (k, e.rule.now) ∷ map (ending_entry (depth + 1)) es) (sym (drop-drop 1 depth e.path.items))
+    ap (λ (k : List ℕ). (k, e.rule.now) ∷ map (ending_entry (depth + 1)) es) (sym (drop-drop 1 depth (ending_path e)))
     ∙ ap (λ (l : List PathRule). tail_of (ending_entry depth e) ∷ l) (deeper depth es)
 
 -- the first of a list, and as many more
@@ -79,11 +79,11 @@ group_room depth b r endings g =
 
 -- an ending that ends here was written as a leaf
 pub first_leaf : (depth kind : ℕ) (old new : List ℕ) (endings : List Ending) (e : Ending) (rest : List Ending)
-    → endings ≡ e ∷ rest → length e.path.items ≤ depth → Grew old new (text_room e.rule.now.kind)
+    → endings ≡ e ∷ rest → length (ending_path e) ≤ depth → Grew old new (text_room e.rule.now.kind)
     → TextAt (Written new) kind e.rule.now.kind
     → WritesSibling old new (0 ∷ kind ∷ weight_and_flags e.rule.now ∷ []) 1 (map (ending_entry depth) endings)
 first_leaf depth kind old new endings e rest is le g w =
-    rw is (leaf_sibling old new (drop depth e.path.items) kind e.rule.now (map (ending_entry depth) rest) (ends depth e le) g w)
+    rw is (leaf_sibling old new (drop depth (ending_path e)) kind e.rule.now (map (ending_entry depth) rest) (ends depth e le) g w)
 
 -- a group was written as a node, after its block
 pub first_group : (depth b r count first : ℕ) (old new : List ℕ) (endings : List Ending) → Group depth b r endings

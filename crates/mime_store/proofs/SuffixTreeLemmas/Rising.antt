@@ -4,7 +4,7 @@ use Rattle.std.proofs.Common.{arith, Bool}
 use Rattle.std.specs.List.Sorted.{IsSortedBy}
 use Rattle.std.proofs.lemmas.Bool.{cases_order, eq-eqb, lt-ltb, le-ltb}
 use Rattle.mime_base.specs.Format.Sorted.{text_lt}
-use Rattle.mime_store.specs.SuffixTree.{PathLe, Rises, ending_entry}
+use Rattle.mime_store.specs.SuffixTree.{PathLe, Rises, ending_entry, ending_path}
 use Rattle.mime_store.proofs.RulesLemmas.Texts.{NoZero-from_test}
 use Rattle.mime_store.specs.declared.ending.Ending.{Ending}
 
@@ -29,17 +29,18 @@ sorted_tail lt x xs s k d low within =
     subst (λ (n : ℕ). lt (get_or (x ∷ xs) n d) (get_or xs k d) ≡ false) e (s (suc k) d (omega arith) (omega (arith, within)))
 
 -- sorted endings rise from one before them
-rises_from : (before : List ℕ) (xs : List Ending) → ((d : Ending) → 0 < length xs → PathLe before (get_or xs 0 d).path.items)
-    → IsSortedBy (λ a b. text_lt a.path.items b.path.items) xs → Rises before (map (ending_entry 0) xs)
+rises_from : (before : List ℕ) (xs : List Ending) → ((d : Ending) → 0 < length xs → PathLe before (ending_path (get_or xs 0 d)))
+    → IsSortedBy (λ a b. text_lt (ending_path a) (ending_path b)) xs → Rises before (map (ending_entry 0) xs)
+unfolding ending_path
 rises_from before [] h s = tt
 rises_from before (x ∷ xs) h s =
-    let next : (d : Ending) → 0 < length xs → PathLe x.path.items (get_or xs 0 d).path.items =
-    λ d lt. path_le x.path.items (get_or xs 0 d).path.items (s 0 d (omega arith) (omega (arith, lt))) in (
+    let next : (d : Ending) → 0 < length xs → PathLe (ending_path x) (ending_path (get_or xs 0 d)) =
+    λ d lt. path_le (ending_path x) (ending_path (get_or xs 0 d)) (s 0 d (omega arith) (omega (arith, lt))) in (
       h x (omega arith),
-      NoZero-from_test x.path.items x.no_zero,
-      rises_from x.path.items xs next (sorted_tail (λ a b. text_lt a.path.items b.path.items) x xs s),
+      NoZero-from_test (ending_path x) x.no_zero,
+      rises_from (ending_path x) xs next (sorted_tail (λ a b. text_lt (ending_path a) (ending_path b)) x xs s),
     )
 
 -- sorted endings rise
-pub sorted_rises : (xs : List Ending) → IsSortedBy (λ a b. text_lt a.path.items b.path.items) xs → Rises [] (map (ending_entry 0) xs)
+pub sorted_rises : (xs : List Ending) → IsSortedBy (λ a b. text_lt (ending_path a) (ending_path b)) xs → Rises [] (map (ending_entry 0) xs)
 sorted_rises xs s = rises_from [] xs (λ d lt. tt) s

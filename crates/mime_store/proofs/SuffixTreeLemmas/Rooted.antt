@@ -10,7 +10,7 @@ use Rattle.mime_base.specs.Format.Sorted.{text_lt, with_key}
 use Rattle.mime_base.specs.Format.Stored.{reversed_ending}
 use Rattle.mime_base.specs.Format.SuffixTree.{front_count}
 use Rattle.mime_base.specs.declared.database.rule.GlobRule.{GlobRule}
-use Rattle.mime_store.specs.SuffixTree.{AreEndings, PathRule, ending_rule, ending_entry, kinds_room, pick}
+use Rattle.mime_store.specs.SuffixTree.{AreEndings, PathRule, ending_rule, ending_entry, kinds_room, pick, ending_path}
 use Rattle.mime_store.specs.declared.ending.Ending.{Ending}
 use Rattle.mime_store.proofs.SuffixTreeLemmas.Counts.{front_count-permuted}
 use Rattle.mime_store.proofs.SuffixTreeLemmas.Nodes.{nodes_are}
@@ -20,31 +20,31 @@ use Rattle.mime_store.proofs.RulesLemmas.Sorting.{ties_stay}
 
 -- what is picked of endings are the rules with that ending
 pick-endings : (path : List ℕ) (es : List Ending) → pick path (map (ending_entry 0) es)
-    ≡ map ending_rule (with_key (λ e. e.path.items) path es)
+    ≡ map ending_rule (with_key ending_path path es)
 pick-endings path [] = refl
 pick-endings path (e ∷ es) =
-    rw (pick-endings path es) (elim (bytes_eq e.path.items path) as (λ t.
-    cond t (ending_rule e ∷ []) [] ++ map ending_rule (with_key (λ e. e.path.items) path es)
-    ≡ map ending_rule (cond t (e ∷ with_key (λ e. e.path.items) path es) (with_key (λ e. e.path.items) path es)))
+    rw (pick-endings path es) (elim (bytes_eq (ending_path e) path) as (λ t.
+    cond t (ending_rule e ∷ []) [] ++ map ending_rule (with_key ending_path path es)
+    ≡ map ending_rule (cond t (e ∷ with_key ending_path path es) (with_key ending_path path es)))
     [ true ↦ refl | false ↦ refl ])
 
 -- by their own paths or by those of their rules
 with_key-rules : (path : List ℕ) (es : List Ending)
-    → map ending_rule (with_key (λ e. e.path.items) path es) ≡ with_key reversed_ending path (map ending_rule es)
+    → map ending_rule (with_key ending_path path es) ≡ with_key reversed_ending path (map ending_rule es)
+unfolding ending_path
 with_key-rules path [] = refl
 with_key-rules path (e ∷ es) =
-    rw (← with_key-rules path es, ← e.is_reversed) (elim (bytes_eq e.path.items path) as (λ t.
-    map ending_rule (cond t (e ∷ with_key (λ e. e.path.items) path es) (with_key (λ e. e.path.items) path es))
-    ≡ cond t (ending_rule e ∷ map ending_rule (with_key (λ e. e.path.items) path es))
-    (map ending_rule (with_key (λ e. e.path.items) path es)))
+    rw (← with_key-rules path es) (elim (bytes_eq (ending_path e) path) as (λ t.
+    map ending_rule (cond t (e ∷ with_key ending_path path es) (with_key ending_path path es))
+    ≡ cond t (ending_rule e ∷ map ending_rule (with_key ending_path path es))
+    (map ending_rule (with_key ending_path path es)))
     [ true ↦ refl | false ↦ refl ])
 
 -- the paths of endings are those of their rules
 paths-rules : (es : List Ending) → paths (map (ending_entry 0) es) ≡ map reversed_ending (map ending_rule es)
+unfolding ending_path
 paths-rules [] = refl
-paths-rules (e ∷ es) =
-    ap (λ path. path ∷ paths (map (ending_entry 0) es)) e.is_reversed
-    ∙ ap (λ ps. reversed_ending e.rule.now ∷ ps) (paths-rules es)
+paths-rules (e ∷ es) = ap (λ ps. reversed_ending e.rule.now ∷ ps) (paths-rules es)
 
 -- the types of endings take what those of their rules take
 kinds-rules : (es : List Ending) → kinds_room (map (ending_entry 0) es) ≡ sum_by (λ rule. text_room rule.kind) (map ending_rule es)
@@ -59,7 +59,7 @@ kinds-rules (e ∷ es) =
 
 -- endings that were sorted stably are those of their rules
 pub sorted_endings : (xs ys : List Ending) → IsPermutation xs ys
-    → IsSortedBy (λ a b. text_lt a.path.items b.path.items) ys → IsStableBy (λ a b. text_lt a.path.items b.path.items) xs ys
+    → IsSortedBy (λ a b. text_lt (ending_path a) (ending_path b)) ys → IsStableBy (λ a b. text_lt (ending_path a) (ending_path b)) xs ys
     → AreEndings (map (ending_entry 0) ys) (map ending_rule xs)
 sorted_endings xs ys permuted sorted stable =
     let rises = sorted_rises ys sorted in
@@ -68,7 +68,7 @@ sorted_endings xs ys permuted sorted stable =
     let long = nodes_are (map (ending_entry 0) ys) rises in
     record {
       rises = rises;
-      leaves = λ path. pick-endings path ys ∙ ap (map ending_rule) (ties_stay (λ (e : Ending). e.path.items) xs ys stable path)
+      leaves = λ path. pick-endings path ys ∙ ap (map ending_rule) (ties_stay ending_path xs ys stable path)
           ∙ with_key-rules path xs;
       size = omega (
         arith,

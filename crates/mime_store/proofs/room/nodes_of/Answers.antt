@@ -1,17 +1,20 @@
-use Rattle.std.proofs.Common.{arith, length, ap}
+use Rattle.std.proofs.Common.{arith, ap}
+use Rattle.mime_store.specs.SuffixTree.{common, ending_path, path_before}
 use Rattle.mime_store.proofs.SuffixTreeLemmas.EntryRooms.{common-is}
 use Rattle.mime_store.proofs.room.nodes_of.Goals as goal
+use Rattle.mime_store.proofs.room.nodes_of.Goals.{in-Some, in-None}
 
 pub returns-clause-nodes : goal.returns-clause-nodes
 returns-clause-nodes c =
-    omega (
-      arith,
-      rw c.as_slice-path.ensures at c.agreeing_length.ensures.common,
-      ap length c.as_slice-path.ensures,
-      common-is c.args.before.now c.args.ending.now.path.items,
-    )
-
-pub returns-clause-few : goal.returns-clause-few
-returns-clause-few c =
-    let short = c.args.ending.now.short in
-    omega (arith, short, ap length c.as_slice-path.ensures)
+    let path = ending_path c.args.ending.now in
+    elim c.match-before.branch [
+      | in-Some w ↦ omega (
+        arith,
+        c.length.ensures.length,
+        w.shared-is,
+        w.agreeing_length-shared.ensures.common,
+        common-is (ending_path w.in-Some.before.now) path,
+        ap (λ before. common (path_before before) path) w.in-Some.is,
+      )
+      | in-None w ↦ omega (arith, c.length.ensures.length, w.shared-is, ap (λ before. common (path_before before) path) w.in-None.is)
+    ]

@@ -1,4 +1,4 @@
-use Rattle.std.proofs.Common.{arith, sym, ◌∙◌, ◌+◌}
+use Rattle.std.proofs.Common.{arith, sym, ◌+◌}
 use Rattle.mime_store.proofs.SuffixTreeLemmas.EntryRooms.{entries_more, entries_within, last_more}
 use Rattle.mime_store.proofs.room.take_tree.Goals as goal
 
@@ -13,7 +13,7 @@ loop-ending-preserved c =
         c.loop-ending.invariant.taken,
         entries_more xs i c.ending-item.result c.loop-ending-test.true c.ending-item.is,
       );
-      last = c.as_slice-before.ensures ∙ sym (last_more xs i c.ending-item.result c.loop-ending-test.true c.ending-item.is);
+      last = sym (last_more xs i c.ending-item.result c.loop-ending-test.true c.ending-item.is);
     }
 
 pub returns-in_err-rest : goal.returns-in_err-rest

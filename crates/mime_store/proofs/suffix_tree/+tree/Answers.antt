@@ -1,8 +1,8 @@
-use Rattle.std.proofs.Common.{arith, map, length, get_or, drop, List, [], ◌∷◌, ◌<◌, ◌≡◌, sym, ap, ◌∙◌, subst}
+use Rattle.std.proofs.Common.{arith, map, length, drop, List, [], ◌∷◌, ◌<◌, ◌≡◌, sym, ap, ◌∙◌, subst}
 use Rattle.std.specs.List.{between}
 use Rattle.std.proofs.lemmas.List.{length-map, drop-drop, drop_all, take_rest, length-drop}
 use Rattle.std.proofs.lemmas.Slice.{first_rest}
-use Rattle.mime_store.specs.SuffixTree.{PathRule, WritesSibling, entries_room, ending_entry}
+use Rattle.mime_store.specs.SuffixTree.{PathRule, WritesSibling, entries_room, ending_entry, ending_path}
 use Rattle.mime_store.specs.declared.ending.Ending.{Ending}
 use Rattle.mime_store.proofs.SuffixTreeLemmas.Groups.{a_group, first_fits, first_group, first_leaf, group_room, rest_is, starts}
 use Rattle.mime_store.proofs.SuffixTreeLemmas.SoFar.{sofar_all, sofar_grew, sofar_more, sofar_none}
@@ -16,13 +16,13 @@ write_sibling-append_text-requires-clause-room t c =
     let is = first_rest c.args.endings.now e c.requires.some ∙ ap (λ (x : Ending). x ∷ rest) (sym c.index-endings-0.is) in
     rw c.bytes.ensures.text (omega (arith, c.requires.room, first_fits c.args.depth c.args.endings.now e rest is))
 
-pub write_sibling-returns-then-path-depth : goal.write_sibling-returns-then-path-depth
-write_sibling-returns-then-path-depth t c =
+pub write_sibling-returns-then-length-depth : goal.write_sibling-returns-then-length-depth
+write_sibling-returns-then-length-depth t c =
     let e = c.index-endings-0.result in
     let rest = between 1 (length c.args.endings.now) c.args.endings.now in
     rw c.weight_and_flags.ensures (first_leaf c.args.depth _ c.args.out.now.items _ c.args.endings.now e rest
     (first_rest c.args.endings.now e c.requires.some
-    ∙ ap (λ (x : Ending). x ∷ rest) (sym c.index-endings-0.is)) (omega (arith, ap length c.as_slice-path.ensures))
+    ∙ ap (λ (x : Ending). x ∷ rest) (sym c.index-endings-0.is)) (omega (arith, c.length.ensures.length))
     (rw c.bytes.ensures.text at c.in_ok-kind.ensures.grew) (rw c.bytes.ensures.text at c.in_ok-kind.ensures.stands))
 
 pub write_sibling-write_siblings-requires : goal.write_sibling-write_siblings-requires
@@ -30,23 +30,22 @@ write_sibling-write_siblings-requires t c =
     let e = c.index-endings-0.result in
     let rest = between 1 (length c.args.endings.now) c.args.endings.now in
     let is = first_rest c.args.endings.now e c.requires.some ∙ ap (λ (x : Ending). x ∷ rest) (sym c.index-endings-0.is) in
-    let lt : c.args.depth < length e.path.items = omega (arith, ap length c.as_slice-path.ensures) in
-    let byte = get_or c.as_slice-path.result.now c.args.depth 0 in
-    let here = starts c.args.depth e byte lt (ap (λ path. get_or path c.args.depth 0) (sym c.as_slice-path.ensures)) in
+    let lt : c.args.depth < length (ending_path e) = omega (arith, c.length.ensures.length) in
+    let byte = c.byte-byte.result in
+    let here = starts c.args.depth e byte lt (sym c.byte-byte.ensures) in
     let g = a_group c.args.depth byte c.run_length-taken.result c.args.endings.now e rest is
     c.run_length-taken.ensures.within here c.run_length-taken.ensures.all c.run_length-taken.ensures.clear in
     let less = group_room _ _ _ _ g in
-    let short = e.short in
-    (omega arith, (omega (arith, c.requires.room), (c.requires.begun, omega arith)))
+    (omega (arith, c.length.ensures.length, c.length.ensures.few), (omega (arith, c.requires.room), (c.requires.begun, omega arith)))
 
 pub write_sibling-returns : goal.write_sibling-returns
 write_sibling-returns t c =
     let e = c.index-endings-0.result in
     let rest = between 1 (length c.args.endings.now) c.args.endings.now in
     let is = first_rest c.args.endings.now e c.requires.some ∙ ap (λ (x : Ending). x ∷ rest) (sym c.index-endings-0.is) in
-    let lt : c.args.depth < length e.path.items = omega (arith, ap length c.as_slice-path.ensures) in
-    let byte = get_or c.as_slice-path.result.now c.args.depth 0 in
-    let here = starts c.args.depth e byte lt (ap (λ path. get_or path c.args.depth 0) (sym c.as_slice-path.ensures)) in
+    let lt : c.args.depth < length (ending_path e) = omega (arith, c.length.ensures.length) in
+    let byte = c.byte-byte.result in
+    let here = starts c.args.depth e byte lt (sym c.byte-byte.ensures) in
     let g = a_group c.args.depth byte c.run_length-taken.result c.args.endings.now e rest is
     c.run_length-taken.ensures.within here c.run_length-taken.ensures.all c.run_length-taken.ensures.clear in
     rw c.from.ensures (first_group _ _ _ _ _ _ _ c.args.endings.now g c.in_ok-below.ensures.grew c.in_ok-below.ensures.stands)

@@ -1,5 +1,5 @@
-use Rattle.std.proofs.Common.{arith, sym, ap, ◌∙◌, ◌+◌, ◌<◌, length, get_or}
-use Rattle.mime_store.specs.SuffixTree.{ending_entry}
+use Rattle.std.proofs.Common.{arith, sym, ap, ◌∙◌, ◌+◌, ◌<◌, length}
+use Rattle.mime_store.specs.SuffixTree.{ending_entry, ending_path}
 use Rattle.mime_store.proofs.ListLemmas.Loops.{views_more}
 use Rattle.mime_store.proofs.SuffixTreeLemmas.Groups.{start_push, starts}
 use Rattle.mime_store.proofs.suffix_tree.run_length.Goals as goal
@@ -7,7 +7,7 @@ use Rattle.mime_store.proofs.suffix_tree.run_length.Goals as goal
 pub loop-ending-preserved : goal.loop-ending-preserved
 loop-ending-preserved c =
     let e = c.ending-item.result in
-    let lt : c.args.depth < length e.path.items = omega (arith, ap length c.as_slice-path.ensures) in
+    let lt : c.args.depth < length (ending_path e) = omega (arith, c.length.ensures.length) in
     record {
       place = ap (λ n. n + 1) c.loop-ending.invariant.place;
       all = rw (views_more
@@ -15,5 +15,5 @@ loop-ending-preserved c =
           c.loop-ending-test.true c.ending-item.is)
           (start_push _ _ _ c.loop-ending.invariant.all
           (starts c.args.depth c.ending-item.result c.args.byte lt
-          (ap (λ path. get_or path c.args.depth 0) (sym c.as_slice-path.ensures) ∙ c.if-next-byte.false)));
+          (sym c.byte-next.ensures ∙ c.if-next-byte.false)));
     }
