@@ -10,3 +10,4 @@ pub mod Spelled
 pub mod Twins
 pub mod TwinKeys
 pub mod Known
+pub mod Buckets

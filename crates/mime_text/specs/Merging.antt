@@ -2,6 +2,7 @@ pub mod Rows
 pub mod Gathering
 pub mod Hiding
 pub mod TwinKeys
+pub mod Buckets
 -- What merged data directories say, the most preferred first.
 use Rattle.std.specs.Prelude.{ℕ, ◌≡◌, ◌-◌, nat_lt, Bool, not, List, [], ◌∷◌, ◌++◌, map, filter, bytes_eq, if◌then◌else◌, length, drop}
 use Rattle.std.specs.Borrow.{Bor}

@@ -1,13 +1,15 @@
 //! The first entry of each key.
 //!
 //! Marks are found first, with keys that borrow from the entries; then the entries are moved. So no
-//! text is copied. The keys are held in a tree, so that no choice of keys makes it slow; they stand there by
+//! text is copied. Each key has a place in a table, and most keys are alone at theirs: such a key is the first, and
+//! no other asks for it. The others are held in a tree, so that no choice of keys makes it slow; they stand there by
 //! the ends of their names, where names differ more than in front.
 
-ghost use Rattle.std.specs.Prelude.{◌≡◌, ◌∷◌, [], IfOk, OnOk, List, ℕ, length, map, not};
+ghost use Rattle.std.specs.Prelude.{◌≡◌, ◌<◌, ◌+◌, ◌==◌, ◌||◌, ◌∷◌, [], IfOk, OnOk, List, ℕ, if◌then◌else◌, length, map, min, not, slice_index};
 ghost use Rattle.std.specs.List.{list_all, list_any};
 ghost use Rattle.mime_base.specs.Database.PlainPairs.{is_same_pair};
 ghost use Rattle.mime_text.specs.Merging.{has_same_key, marks, once, picked, tail_of};
+ghost use Rattle.mime_text.specs.Merging.Buckets.{AreCounts, bucket, is_alone};
 
 use super::key::Key;
 use mime_base::OutOfMemory;
@@ -82,12 +84,78 @@ pub fn first_of_each<T: Drop, K: Key<T>>(
 fn first_marks<T: Drop, K: Key<T>>(alloc: Global, entries: &[T]) -> Result<Vec<bool>, OutOfMemory>
     ensures { IfOk result (λ firsts. firsts.items ≡ marks [] (map K.key_of entries.now)) }
 {
+    let counts = counts_of::<T, K>(alloc, entries)?;
     let mut keys = Keys::new(alloc);
     let mut firsts = Vec::with_capacity(alloc, entries.len())?;
     for entry in entries {
-        firsts.push(keys.add(K::of(entry))?)?;
+        firsts.push(is_first(&mut keys, counts.as_slice(), K::of(entry))?)?;
     }
     Ok(firsts)
+}
+
+/// How many keys have each place of a table: none, one, or more. There are eight places for each entry.
+fn counts_of<T: Drop, K: Key<T>>(alloc: Global, entries: &[T]) -> Result<Vec<u8>, OutOfMemory>
+    ensures some { IfOk result (λ counts. 0 < length counts.items) }
+    ensures counts { IfOk result (λ counts. AreCounts counts.items (map K.key_of entries.now)) }
+{
+    let size = entries.len().saturating_mul(8).saturating_add(1);
+    let mut counts = Vec::new(alloc);
+    counts.resize(size, 0)?;
+    for entry in entries {
+        let (name, _) = K::of(entry);
+        raise(&mut counts, bucket_of(name, size));
+    }
+    Ok(counts)
+}
+
+/// Counts one more at a place, up to two.
+fn raise(counts: &mut [u8], place: usize)
+    ensures long { length counts.new ≡ length counts.old }
+    ensures each { (other : ℕ) → other < length counts.old → slice_index counts.new other
+        ≡ (if place == other then min 2 (slice_index counts.old other + 1) else slice_index counts.old other) }
+{
+    if place < counts.len() {
+        counts[place] = counts[place].saturating_add(1).min(2);
+    }
+}
+
+/// The place of a name in a table of this size.
+#[tactic(auto, unfolding(crate::specs::Merging::Buckets::bucket))]
+fn bucket_of(name: &[u8], size: usize) -> usize
+    requires { 0 < size }
+    ensures { result ≡ bucket size name.now }
+{
+    (tail_of(name).wrapping_add(name.len() as u64) % size as u64) as usize
+}
+
+/// Whether a key is the first of its kind. One that is alone at its place is, and no other key is the same, so that it isn't kept.
+fn is_first<'a>(
+    keys: &mut Keys<'a>,
+    counts: &[u8],
+    key: (&'a [u8], &'a [u8]),
+) -> Result<bool, OutOfMemory>
+    requires { 0 < length counts.now }
+    ensures first { IfOk result (λ first. first ≡ (is_alone counts.now key.entry.0.now
+        || not (list_any (is_same_pair (key.entry.0.now, key.entry.1.now)) keys.old))) }
+    ensures keys { OnOk result ((other : List ℕ × List ℕ) → list_any (is_same_pair other) keys.new
+        ≡ list_any (is_same_pair other) (if is_alone counts.now key.entry.0.now then keys.old
+        else (key.entry.0.now, key.entry.1.now) ∷ keys.old)) }
+{
+    if is_alone(counts, key.0) {
+        return Ok(true);
+    }
+    keys.add(key)
+}
+
+/// Whether just one key has the place of this name.
+fn is_alone(counts: &[u8], name: &[u8]) -> bool
+    requires { 0 < length counts.now }
+    ensures { result ≡ is_alone counts.now name.now }
+{
+    match counts.get(bucket_of(name, counts.len())) {
+        Some(count) => *count == 1,
+        None => false,
+    }
 }
 
 /// The entries that are marked, in their order.
