@@ -2,7 +2,7 @@
 //!
 //! The entries are taken from the last to the first. A stack holds those of them that are no deeper
 //! than any before, the nearest on top, and an entry takes the deeper ones off it as its children.
-//! So the work is linear, no byte is copied, and nothing recurses.
+//! So the work is linear, no byte is copied, and nothing recurses. All sections of a text use one stack.
 
 ghost use Rattle.std.specs.Prelude.{◌≡◌, ◌∷◌, [], IfOk, MatchOption, OnOk, nat_lt, true};
 ghost use Rattle.mime_base.specs.Magic.{forest_of, plain_matchlets};
@@ -88,12 +88,12 @@ fn root_over(entry: MagicEntry, children: Vec<Matchlet>) -> Root
     }
 }
 
-/// The matchlets of all roots.
-fn matchlets(alloc: Global, roots: Vec<Root>) -> Result<Vec<Matchlet>, AllocError>
-    ensures { IfOk result (λ v. plain_matchlets v.items ≡ kept_matchlets (stack roots.items)) }
+/// Takes all roots off the stack, and gives their matchlets.
+fn matchlets(alloc: Global, roots: &mut Vec<Root>) -> Result<Vec<Matchlet>, AllocError>
+    ensures taken { IfOk result (λ v. plain_matchlets v.items ≡ kept_matchlets (stack roots.old.items)) }
+    ensures left { OnOk result (roots.new.items ≡ []) }
 {
-    let mut roots = roots;
-    let mut matchlets = Vec::new(alloc);
+    let mut matchlets = Vec::with_capacity(alloc, roots.len())?;
     while let Some(root) = roots.pop() {
         if let Some(matchlet) = root.matchlet {
             matchlets.push(matchlet)?;
@@ -102,16 +102,23 @@ fn matchlets(alloc: Global, roots: Vec<Root>) -> Result<Vec<Matchlet>, AllocErro
     Ok(matchlets)
 }
 
-/// The forest of the entries.
+/// The forest of the entries. The stack is handed in empty, and is empty after it, so that the sections of a text share one.
 #[tactic(auto, unfolding(crate::specs::Magic::Forest::forest))]
-pub fn grow(alloc: Global, entries: Vec<MagicEntry>) -> Result<Vec<Matchlet>, AllocError>
+pub fn grow(
+    alloc: Global,
+    roots: &mut Vec<Root>,
+    entries: Vec<MagicEntry>,
+) -> Result<Vec<Matchlet>, AllocError>
+    // No root of other entries is on the stack.
+    requires { roots.old.items ≡ [] }
     // Each entry has the run of deeper entries after it as its children.
-    ensures { IfOk result (λ v. forest_of (plain_matchlets v.items) ≡ forest (plain_entries entries.items)) }
+    ensures grown { IfOk result (λ v. forest_of (plain_matchlets v.items) ≡ forest (plain_entries entries.items)) }
+    // No root is left on the stack.
+    ensures left { OnOk result (roots.new.items ≡ []) }
 {
     let mut entries = entries;
-    let mut roots = Vec::new(alloc);
     while let Some(entry) = entries.pop() {
-        let children = take_deeper(alloc, &mut roots, entry.indent)?;
+        let children = take_deeper(alloc, roots, entry.indent)?;
         roots.push(root_over(entry, children))?;
     }
     matchlets(alloc, roots)

@@ -1,6 +1,6 @@
 //! The reader of `magic`.
 
-ghost use Rattle.std.specs.Prelude.{◌≡◌, IfErr, IfOk, List, MatchResult, length, nat_lt};
+ghost use Rattle.std.specs.Prelude.{◌≡◌, [], IfErr, IfOk, List, MatchResult, OnOk, length, nat_lt};
 ghost use Rattle.std.specs.List.{list_any};
 ghost use Rattle.mime_base.specs.Magic.{plain_section, plain_sections};
 ghost use Rattle.mime_text.specs.Magic.Entries.{PlainFlatSection, plain_flat_section, plain_flat_sections, plain_role};
@@ -11,7 +11,7 @@ ghost use Rattle.mime_text.specs.Magic.Text.{MagicText};
 use super::entry::{FlatSection, MagicEntry, Role};
 use super::fault::{MagicFault, ReadError};
 use super::file::MagicFile;
-use super::forest::grow;
+use super::forest::{Root, grow};
 use super::text::flat_sections;
 use mime_base::{Section, TypeName};
 use std::alloc::{AllocError, Global};
@@ -46,11 +46,13 @@ fn deleted(alloc: Global, flat_sections: &[FlatSection]) -> Result<Vec<TypeName>
     Ok(kinds)
 }
 
-/// A section with its lines as a forest.
-fn grown(alloc: Global, spelled: FlatSection) -> Result<Section, AllocError>
-    ensures { IfOk result (λ section. plain_section section ≡ with_forest (plain_flat_section spelled)) }
+/// A section with its lines as a forest, by a stack that is empty before and after it.
+fn grown(alloc: Global, roots: &mut Vec<Root>, spelled: FlatSection) -> Result<Section, AllocError>
+    requires { roots.old.items ≡ [] }
+    ensures grown { IfOk result (λ section. plain_section section ≡ with_forest (plain_flat_section spelled)) }
+    ensures left { OnOk result (roots.new.items ≡ []) }
 {
-    let lines = grow(alloc, spelled.entries)?;
+    let lines = grow(alloc, roots, spelled.entries)?;
     Ok(Section {
         priority: spelled.priority,
         kind: spelled.kind,
@@ -68,9 +70,10 @@ fn has_lines(section: &Section) -> bool
 fn kept(alloc: Global, flat_sections: Vec<FlatSection>) -> Result<Vec<Section>, AllocError>
     ensures { IfOk result (λ v. plain_sections v.items ≡ kept_sections (plain_flat_sections flat_sections.items)) }
 {
+    let mut roots = Vec::new(alloc);
     let mut sections = Vec::new(alloc);
     for flat in flat_sections {
-        let section = grown(alloc, flat)?;
+        let section = grown(alloc, &mut roots, flat)?;
         if has_lines(&section) {
             sections.push(section)?;
         }

@@ -6,7 +6,7 @@ use Rattle.mime_text.proofs.MagicLemmas.Stack.{grows_from, grows_on, made_of}
 use Rattle.mime_text.proofs.magic.forest.grow.Goals as goal
 
 pub loop-entry-init : goal.loop-entry-init
-loop-entry-init c = grows_from _ _ (ap stack c.new-roots.ensures.items)
+loop-entry-init c = grows_from _ _ (ap stack c.requires)
 
 pub loop-entry-preserved : goal.loop-entry-preserved
 loop-entry-preserved c =

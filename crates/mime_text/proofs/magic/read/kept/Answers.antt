@@ -6,9 +6,15 @@ use Rattle.mime_text.proofs.magic.read.kept.Goals as goal
 pub loop-flat-preserved-in-Continue-branch-2 : goal.loop-flat-preserved-in-Continue-branch-2
 loop-flat-preserved-in-Continue-branch-2 c =
     let some = ltb-true _ _ (sym c.has_lines.ensures ∙ c.if-has_lines.true) in
-    keeps _ _ _ _ _ c.loop-flat.invariant c.in_ok-section.ensures some c.in_ok-push.ensures.items
+    record {
+      kept = keeps _ _ _ _ _ c.loop-flat.invariant.kept c.in_ok-section.ensures.grown some c.in_ok-push.ensures.items;
+      roots = c.in_ok-section.ensures.left;
+    }
 
 pub loop-flat-preserved : goal.loop-flat-preserved
 loop-flat-preserved c =
     let none = ltb-false _ _ (sym c.has_lines.ensures ∙ c.if-has_lines.false) in
-    leaves _ _ _ c.in_ok-section.section c.loop-flat.invariant c.in_ok-section.ensures none
+    record {
+      kept = leaves _ _ _ c.in_ok-section.section c.loop-flat.invariant.kept c.in_ok-section.ensures.grown none;
+      roots = c.in_ok-section.ensures.left;
+    }
