@@ -4,3 +4,4 @@ pub mod Records
 pub mod Lists
 pub mod Header
 pub mod Ends
+pub mod Orders

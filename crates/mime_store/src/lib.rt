@@ -31,6 +31,7 @@ mod run;
 mod stored_rule;
 mod suffix_tree;
 mod text_pair;
+mod texts;
 
 pub use cache::write_cache;
 pub use fault::StoreFault;

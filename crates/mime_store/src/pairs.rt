@@ -9,6 +9,7 @@ use crate::bytes::append_text;
 use crate::list::Entry;
 use crate::room::take_text;
 use crate::text_pair::TextPair;
+use crate::texts::compare_texts;
 use mime_base::{Icon, OutOfMemory, Pair};
 use std::alloc::Global;
 
@@ -49,7 +50,7 @@ pub fn sort_pairs(pairs: &mut Vec<TextPair<'_>>) -> Result<(), OutOfMemory>
     // They are the same pairs by rising first texts, and those of one first text keep their order.
     ensures { OnOk result (IsSortedByText first_text (map pair_texts pairs.old.items) (map pair_texts pairs.new.items)) }
 {
-    pairs.sort_by(|left, right| left.first.cmp(right.first))?;
+    pairs.sort_by(|left, right| compare_texts(left.first, right.first))?;
     Ok(())
 }
 

@@ -1,63 +1,13 @@
 -- The order of paths, by the numbers of their first eight bytes.
-use Rattle.std.proofs.Common.{◌≡◌, ℕ, zero, suc, ◌+◌, ◌*◌, ◌^◌, ◌<◌, ◌≤◌, min, List, [], ◌∷◌, length, get_or, drop, refl, sym, ap, ap₂, ◌∙◌}
-use Rattle.std.proofs.Common.{Ordering, Less, Equal, Greater, arith, ⊎_elim}
+use Rattle.std.proofs.Common.{◌≡◌, ℕ, zero, suc, ◌<◌, List, [], ◌∷◌, length, get_or, sym, ap, ap₂, ◌∙◌, refl}
+use Rattle.std.proofs.Common.{Ordering, Less, Equal, Greater, arith}
 use Rattle.std.specs.Ordering.{nat_cmp, ordering_then}
 use Rattle.std.specs.Cmp.Lexicographic.{slice_cmp}
-use Rattle.std.proofs.Math.Nat.{mul-le-mul_right}
-use Rattle.std.proofs.Math.Seq.{drop-cons}
-use Rattle.std.proofs.lemmas.Bool.{cases_order}
-use Rattle.std.proofs.lemmas.Bool.Decides.{nat_tests}
 use Rattle.std.proofs.lemmas.List.{drop_all}
 use Rattle.byteorder.specs.Endian.{big_from}
 use Rattle.mime_store.specs.Fronts.{front, start_number}
 use Rattle.mime_store.specs.Texts.{NoZero}
-
--- ---- what a comparison of numbers says
-
-less : (x y : ℕ) → x < y → nat_cmp x y ≡ Less
-less x y h = grind (arith, nat_tests)
-
-equal : (x y : ℕ) → x ≡ y → nat_cmp x y ≡ Equal
-equal x y h = grind (arith, nat_tests)
-
-greater : (x y : ℕ) → y < x → nat_cmp x y ≡ Greater
-greater x y h = grind (arith, nat_tests)
-
--- ---- numbers of bytes
-
--- the bytes from a place on make a number below this power
-big_from-below : (i n : ℕ) (xs : List ℕ) → ((k : ℕ) → get_or xs k 0 < 256) → big_from i n xs < 256 ^ n
-big_from-below i zero xs small = omega arith
-big_from-below i (suc n) xs small =
-    let high : get_or xs i 0 * 256 ^ n ≤ 255 * 256 ^ n = mul-le-mul_right (256 ^ n) (omega (arith, small i)) in
-    omega (arith, high, big_from-below (suc i) n xs small)
-
--- the higher bytes decide, and the lower ones where those are equal
-high_first : (x y p q power : ℕ) → p < power → q < power → nat_cmp (x * power + p) (y * power + q) ≡ ordering_then (nat_cmp x y) (nat_cmp p q)
-high_first x y p q power below below' = ⊎_elim
-    (λ (e : x ≡ y). rw (equal x y e) (nat_cmp_on (x * power) (y * power) p q (ap (λ (z : ℕ). z * power) e)))
-    (λ o. ⊎_elim
-    (λ (lt : x < y). let more : suc x * power ≤ y * power = mul-le-mul_right power lt in rw (less x y lt) (less (x * power + p) (y * power + q) (omega (arith, more))))
-    (λ (gt : y < x). let more : suc y * power ≤ x * power = mul-le-mul_right power gt in rw (greater x y gt) (greater (x * power + p) (y * power + q) (omega (arith, more))))
-    o)
-    (cases_order x y)
-  where
-    nat_cmp_on : (a b p q : ℕ) → a ≡ b → nat_cmp (a + p) (b + q) ≡ nat_cmp p q
-    nat_cmp_on a b p q e = grind (arith, nat_tests)
-
--- bytes from a place on are ordered as their numbers
-ordered : (i n : ℕ) (xs ys : List ℕ) → i + n ≡ length xs → i + n ≡ length ys
-    → ((k : ℕ) → get_or xs k 0 < 256) → ((k : ℕ) → get_or ys k 0 < 256)
-    → nat_cmp (big_from i n xs) (big_from i n ys) ≡ slice_cmp nat_cmp (drop i xs) (drop i ys)
-ordered i zero xs ys long long' small small' = rw (drop_all i xs (omega (arith, long)), drop_all i ys (omega (arith, long'))) refl
-ordered i (suc n) xs ys long long' small small' =
-    rw (drop-cons xs i 0 (omega (arith, long)), drop-cons ys i 0 (omega (arith, long')))
-    (high_first (get_or xs i 0) (get_or ys i 0) (big_from (suc i) n xs) (big_from (suc i) n ys) (256 ^ n)
-    (big_from-below (suc i) n xs small) (big_from-below (suc i) n ys small')
-    ∙ ap (ordering_then (nat_cmp (get_or xs i 0) (get_or ys i 0)))
-    (ordered (suc i) n xs ys (omega (arith, long)) (omega (arith, long')) small small'))
-
--- ---- first bytes
+use Rattle.mime_store.proofs.BytesLemmas.Orders.{greater, less, ordered, then_equal, unequal}
 
 -- there are as many
 length-front : (n : ℕ) (path : List ℕ) → length (front n path) ≡ n
@@ -103,43 +53,14 @@ pub starts-order : (s t : ℕ) (xs ys : List ℕ) → s ≡ start_number xs → 
     → (s ≡ t → ⊥) → nat_cmp s t ≡ slice_cmp nat_cmp xs ys
 unfolding start_number
 starts-order s t xs ys is is' small small' some some' differ =
-    let fronts : nat_cmp s t ≡ slice_cmp nat_cmp (front 8 xs) (front 8 ys) =
-    ap₂ nat_cmp is is' ∙ ordered 0 8 (front 8 xs) (front 8 ys) (sym (length-front 8 xs)) (sym (length-front 8 ys)) small small' in
+    let xs' = front 8 xs in
+    let ys' = front 8 ys in
+    let over = length-front 8 xs in
+    let over' = length-front 8 ys in
+    let fronts : nat_cmp s t ≡ slice_cmp nat_cmp xs' ys' =
+    ap₂ nat_cmp is is'
+    ∙ sym (ordered 0 8 xs' ys' (omega (arith, over)) (omega (arith, over')) small small'
+    ∙ ap₂ (λ rest rest'. ordering_then (nat_cmp (big_from 0 8 xs') (big_from 0 8 ys')) (slice_cmp nat_cmp rest rest'))
+    (drop_all 8 xs' (omega (arith, over))) (drop_all 8 ys' (omega (arith, over')))
+    ∙ then_equal (nat_cmp (big_from 0 8 xs') (big_from 0 8 ys'))) in
     fronts ∙ front-order 8 xs ys some some' (λ e. unequal s t differ (fronts ∙ e))
-  where
-    unequal : (s t : ℕ) → (s ≡ t → ⊥) → nat_cmp s t ≡ Equal → ⊥
-    unequal s t differ e = ⊎_elim (λ (e' : s ≡ t). differ e')
-        (λ o. ⊎_elim (λ (lt : s < t). let bad : Less ≡ Equal = sym (less s t lt) ∙ e in absurd (cc))
-        (λ (gt : t < s). let bad : Greater ≡ Equal = sym (greater s t gt) ∙ e in absurd (cc)) o) (cases_order s t)
-
--- ---- byte by byte
-
--- one byte more that both paths have
-pub order-on : (xs ys : List ℕ) (i : ℕ) → i < length xs → i < length ys → get_or xs i 0 ≡ get_or ys i 0
-    → slice_cmp nat_cmp (drop i xs) (drop i ys) ≡ slice_cmp nat_cmp (drop (i + 1) xs) (drop (i + 1) ys)
-order-on xs ys i lt lt' same =
-    let next : i + 1 ≡ suc i = omega arith in
-    rw (next, drop-cons xs i 0 lt, drop-cons ys i 0 lt', equal (get_or xs i 0) (get_or ys i 0) same) refl
-
--- the first bytes that differ decide
-pub order-at : (xs ys : List ℕ) (i : ℕ) → i < length xs → i < length ys → (get_or xs i 0 ≡ get_or ys i 0 → ⊥)
-    → slice_cmp nat_cmp (drop i xs) (drop i ys) ≡ nat_cmp (get_or xs i 0) (get_or ys i 0)
-order-at xs ys i lt lt' differ =
-    rw (drop-cons xs i 0 lt, drop-cons ys i 0 lt') (⊎_elim (λ (e : get_or xs i 0 ≡ get_or ys i 0). absurd (differ e))
-    (λ o. ⊎_elim (λ (l : get_or xs i 0 < get_or ys i 0). rw (less _ _ l) refl) (λ (g : get_or ys i 0 < get_or xs i 0). rw (greater _ _ g) refl) o)
-    (cases_order (get_or xs i 0) (get_or ys i 0)))
-
--- numbers that are both one more
-more : (m n : ℕ) → nat_cmp m n ≡ nat_cmp (suc m) (suc n)
-more m n = grind (arith, nat_tests)
-
--- where one of them has ended, their lengths decide
-pub order-ended : (xs ys : List ℕ) (i : ℕ) → i ≡ min (length xs) (length ys)
-    → slice_cmp nat_cmp (drop i xs) (drop i ys) ≡ nat_cmp (length xs) (length ys)
-order-ended [] [] zero is = refl
-order-ended [] (y ∷ ys) zero is = sym (less 0 (suc (length ys)) (omega arith))
-order-ended (x ∷ xs) [] zero is = sym (greater (suc (length xs)) 0 (omega arith))
-order-ended (x ∷ xs) (y ∷ ys) zero is = absurd (omega arith)
-order-ended [] ys (suc i) is = absurd (omega arith)
-order-ended (x ∷ xs) [] (suc i) is = absurd (omega arith)
-order-ended (x ∷ xs) (y ∷ ys) (suc i) is = order-ended xs ys i (omega arith) ∙ more (length xs) (length ys)

@@ -2,7 +2,7 @@
 use Rattle.std.proofs.Common.{ap₂, sym, ◌∙◌, arith}
 use Rattle.std.specs.Ordering.{nat_cmp}
 use Rattle.mime_store.specs.SuffixTree.{ending_path}
-use Rattle.mime_store.proofs.SuffixTreeLemmas.Starts.{order-ended}
+use Rattle.mime_store.proofs.BytesLemmas.Orders.{order-ended}
 use Rattle.mime_store.proofs.paths.compare_paths.Goals as goal
 
 pub returns : goal.returns
