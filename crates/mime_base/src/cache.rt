@@ -10,7 +10,7 @@ pub mod comparing;
 pub mod key;
 pub mod stated_value;
 
-ghost use Rattle.std.specs.Prelude.{◌≡◌, true, false, ℕ, ◌+◌, ◌*◌, ◌<◌, ◌≤◌, List, length, take, drop, min, Ok, Err};
+ghost use Rattle.std.specs.Prelude.{◌≡◌, true, false, ℕ, ◌+◌, ◌*◌, ◌<◌, ◌≤◌, List, length, slice_index, take, drop, min, Ok, Err};
 ghost use Rattle.std.specs.Prelude.{if◌then◌else◌, IfOk, IfErr, IfSome, IsOkAnd, OnOk, OnErr, MatchOption};
 ghost use Rattle.std.specs.Prelude.{MatchResult};
 ghost use Rattle.std.specs.Ordering.{nat_cmp};
@@ -78,6 +78,15 @@ impl<'a> Counted<'a> {
         Counted { bytes }
     }
 
+    /// The same cache once more, for what keeps one of its own.
+    #[inline]
+    pub fn again(&self) -> Counted<'a>
+        // It has just these bytes.
+        ensures { result ≡ self.now }
+    {
+        Counted { bytes: self.bytes }
+    }
+
     /// How many bytes the cache has. It adds nothing.
     #[inline]
     pub fn length(&self) -> u64
@@ -135,6 +144,28 @@ impl<'a> Counted<'a> {
         let mut numbers = [0; N];
         BigEndian::read_u32_into(&self.bytes[start..start + 4 * N], &mut numbers);
         numbers
+    }
+
+    /// The byte at `at`, or [`ByteFault::OutOfRange`] where the cache ends before it. It adds one byte, also
+    /// before a fault.
+    #[inline]
+    pub fn byte_at(&self, at: u64, meter: &mut Meter) -> Result<u8, ByteFault>
+        // An answer means that the byte lies in the cache, and is that byte.
+        ensures byte { IfOk result (λ byte. (at < length self.now) × (byte ≡ slice_index self.now at)) }
+        // A fault means that the cache ends before it; it names the offset that was asked for.
+        ensures fault { IfErr result (λ fault. (length self.now ≤ at) × (fault ≡ ByteFault.OutOfRange at)) }
+        // No record is counted.
+        ensures nodes { meter.new.nodes ≡ meter.old.nodes }
+        // One byte is counted, also before a fault.
+        ensures bytes { meter.new.bytes ≡ raised meter.old.bytes 1 }
+        // The count of bytes never falls, since it stops at the greatest number.
+        ensures rises { meter.old.bytes ≤ meter.new.bytes }
+    {
+        meter.add_bytes(1);
+        if self.length() <= at {
+            return Err(ByteFault::OutOfRange(at));
+        }
+        Ok(self.bytes[at as usize])
     }
 
     /// The text at `at`, without its zero.

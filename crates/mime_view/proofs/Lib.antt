@@ -9,3 +9,4 @@ pub mod GlobLemmas
 pub mod SuffixTreeLemmas
 pub mod LiteralLemmas
 pub mod ListingLemmas
+pub mod HeadsLemmas

@@ -15,3 +15,4 @@ pub mod SuffixTree
 pub mod NameHits
 pub mod RuleHits
 pub mod Listing
+pub mod Heads

@@ -1,8 +1,8 @@
 //! A cache whose header was read ("The mime.cache files").
 
 ghost use Rattle.std.specs.Prelude.{◌≡◌, true, false, ℕ, ◌+◌, ◌*◌, ◌≤◌, List, All, length, map, ⊤};
-ghost use Rattle.std.specs.Prelude.{IfErr, IfOk, IsOkAnd, MatchResult, OnOk};
-ghost use Rattle.mime_base.specs.Cache.Bytes.{Stands, field};
+ghost use Rattle.std.specs.Prelude.{IfErr, IfOk, IfSome, IsOkAnd, MatchResult, OnOk};
+ghost use Rattle.mime_base.specs.Cache.Bytes.{Stands, field, fields};
 ghost use Rattle.mime_base.specs.Database.Limits.{KeepsLimits};
 ghost use Rattle.mime_base.specs.Database.Subclass.{resolved};
 ghost use Rattle.mime_base.specs.Format.Header.{HeaderAt, Offsets};
@@ -26,8 +26,9 @@ ghost use Rattle.mime_view.specs.Listing.Faults.{IsListingFault};
 
 use crate::budget::Budget;
 use crate::fault::CacheFault;
+use crate::heads::MagicHeads;
 use crate::hits::Case;
-use crate::magic::{MagicQuery, sniff};
+use crate::magic::{MagicQuery, sniff_known};
 use crate::marks::Marks;
 use crate::name::{RuleLists, glob_hits, rule_hits};
 use crate::name_hits::{NameHits, Which};
@@ -37,7 +38,7 @@ use crate::query::Query;
 use crate::rule_hits::RuleHits;
 use crate::rules::{Listed, ListingSource, list_rules};
 use crate::spending::Spending;
-use mime_base::{Content, Counted, Host, LARGEST_CACHE, Meter};
+use mime_base::{Content, Counted, Host, LARGEST_CACHE, Meter, OutOfMemory};
 use std::alloc::Global;
 use std::marker::Model;
 
@@ -58,10 +59,12 @@ const HEADER: u64 = 40;
 pub struct Cache<'a> {
     counted: Counted<'a>,
     header: [u32; 10],
+    /// What was learnt of its magic list, where it was.
+    heads: Option<&'a MagicHeads<'a>>,
 }
 
 impl<'a> Model for Cache<'a> {
-    ghost use Rattle.std.specs.Prelude.{◌≡◌, ℕ, List};
+    ghost use Rattle.std.specs.Prelude.{◌≡◌, ℕ, List, IfSome};
     ghost use Rattle.mime_base.specs.Cache.Bytes.{fields};
     ghost use Rattle.mime_view.specs.Opening.{Opens};
 
@@ -69,7 +72,8 @@ impl<'a> Model for Cache<'a> {
 
     ghost view = { λ cache. cache.counted };
 
-    ghost invariant = { λ cache. (cache.header ≡ fields cache.counted 0 10) × Opens cache.counted };
+    ghost invariant = { λ cache. (cache.header ≡ fields cache.counted 0 10) × Opens cache.counted
+        × IfSome cache.heads (λ heads. heads.now ≡ cache.counted) };
 }
 
 impl<'a> Cache<'a> {
@@ -94,21 +98,54 @@ impl<'a> Cache<'a> {
         // It compares nothing.
         ensures bytes { meter.new.bytes ≡ meter.old.bytes }
     {
-        let length = counted.length();
-        if length < HEADER {
-            return Err(CacheFault::Truncated);
-        }
-        let header = counted.cards::<10>(0, meter)?;
-        let [version, ..] = header;
-        let major = (version / 65_536) as u16;
-        let minor = (version % 65_536) as u16;
-        if (major, minor) != (1, 2) {
-            return Err(CacheFault::Version(major, minor));
-        }
-        if length > LARGEST_CACHE as u64 {
-            return Err(CacheFault::TooLarge);
-        }
-        Ok(Cache { counted, header })
+        let header = read_header(&counted, meter)?;
+        Ok(Cache {
+            counted,
+            header,
+            heads: None,
+        })
+    }
+
+    /// The same of the cache that something was learnt of: contents are sniffed by that.
+    ///
+    /// Each call answers, refuses and counts what it does without.
+    pub fn open_learnt(
+        heads: &'a MagicHeads<'a>,
+        meter: &mut Meter,
+    ) -> Result<Cache<'a>, CacheFault>
+        // It opens the cache; else the first thing that is wrong is the fault.
+        ensures opened { MatchResult result
+            (λ cache. (cache ≡ heads.now) × Opens heads.now) (IsOpenFault heads.now) }
+        // For an answer the header is counted as one record.
+        ensures counted { OnOk result (meter.new.nodes ≡ raised meter.old.nodes 1) }
+        // Before a fault it is counted at most once.
+        ensures nodes { meter.new.nodes ≤ meter.old.nodes + 1 }
+        // The count of records never falls.
+        ensures rises { meter.old.nodes ≤ meter.new.nodes }
+        // It compares nothing.
+        ensures bytes { meter.new.bytes ≡ meter.old.bytes }
+    {
+        let counted = heads.cache();
+        let header = read_header(&counted, meter)?;
+        Ok(Cache {
+            counted,
+            header,
+            heads: Some(heads),
+        })
+    }
+
+    /// Learns what the top lines of the magic list look at, for many contents; nothing where the list can't be gone through so.
+    ///
+    /// It takes nothing of a budget, and memory for each section and each of these lines, no more than the cache has itself.
+    pub fn learn_heads(
+        &self,
+        alloc: Global,
+        meter: &mut Meter,
+    ) -> Result<Option<MagicHeads<'a>>, OutOfMemory>
+        // What is learnt is of the cache.
+        ensures { IfOk result (λ learnt. IfSome learnt (λ heads. heads ≡ self.now)) }
+    {
+        MagicHeads::learn(alloc, self.counted.again(), self.header[6], meter)
     }
 
     /// How many bytes the cache has. It adds nothing.
@@ -371,7 +408,7 @@ impl<'a> Cache<'a> {
             meter: *meter,
             budget: *budget,
         };
-        let found = sniff(&query, self.header[6], &mut spending);
+        let found = sniff_known(&query, self.header[6], self.heads, &mut spending);
         *meter = spending.meter;
         *budget = spending.budget;
         found
@@ -445,4 +482,30 @@ impl<'a> Cache<'a> {
         *budget = spending.budget;
         rules
     }
+}
+
+/// The header of a cache.
+fn read_header(counted: &Counted<'_>, meter: &mut Meter) -> Result<[u32; 10], CacheFault>
+    ensures opened { MatchResult result
+        (λ header. (header ≡ fields counted.now 0 10) × Opens counted.now) (IsOpenFault counted.now) }
+    ensures counted { OnOk result (meter.new.nodes ≡ raised meter.old.nodes 1) }
+    ensures nodes { meter.new.nodes ≤ meter.old.nodes + 1 }
+    ensures rises { meter.old.nodes ≤ meter.new.nodes }
+    ensures bytes { meter.new.bytes ≡ meter.old.bytes }
+{
+    let length = counted.length();
+    if length < HEADER {
+        return Err(CacheFault::Truncated);
+    }
+    let header = counted.cards::<10>(0, meter)?;
+    let [version, ..] = header;
+    let major = (version / 65_536) as u16;
+    let minor = (version % 65_536) as u16;
+    if (major, minor) != (1, 2) {
+        return Err(CacheFault::Version(major, minor));
+    }
+    if length > LARGEST_CACHE as u64 {
+        return Err(CacheFault::TooLarge);
+    }
+    Ok(header)
 }

@@ -12,14 +12,18 @@
 //! one piece of code that skips them, with the meter and the budget in registers; a line that may equal its value is
 //! looked at by a call of its own, with a copy of both.
 
-ghost use Rattle.std.specs.Prelude.{◌≡◌, ℕ, ◌+◌, ◌*◌, ◌^◌, ◌<◌, ◌≤◌, List, [], ◌∷◌, length, true, false, Ok, IfErr, IfOk, OnOk};
+ghost use Rattle.std.specs.Prelude.{◌≡◌, ℕ, ◌+◌, ◌*◌, ◌^◌, ◌<◌, ◌≤◌, List, [], ◌∷◌, length, true, false, Ok, IfErr, IfOk, IfSome, OnOk};
+ghost use Rattle.mime_base.specs.Cache.Bytes.{field};
 ghost use Rattle.mime_base.specs.Magic.{PlainLine, PlainSection};
 ghost use Rattle.mime_view.specs.Magic.{AnswersLine, AnswersLineAt, AnswersLinesAt, AnswersMagicAt, AnswersSections, Ends};
 ghost use Rattle.mime_view.specs.Magic.{IsBlockFault, IsLineFault, IsLinesFault, IsMagicFault, IsSectionFault, IsSeenFault};
-ghost use Rattle.mime_view.specs.Magic.{LiesBlock, NamesChildren, NamesText, ReadsLine, ReadsSection, line_price, magic_price};
+ghost use Rattle.mime_view.specs.Magic.{LiesBlock, NamesChildren, NamesText, ReadsLine, ReadsSection, ReadsSections, line_price, magic_price};
+ghost use Rattle.mime_base.specs.Meter.{raised};
+ghost use Rattle.mime_view.specs.Heads.{AreHeads, IsSectionsFault, PassesFrom, Rises, Skips, TellsSections, before_at};
 ghost use Rattle.mime_view.specs.Spending.{Spends};
 
 use crate::fault::CacheFault;
+use crate::heads::{Learnt, MagicHeads, SectionList, next_open};
 use crate::spending::Spending;
 use mime_base::{Content, Counted, Host, StatedValue};
 
@@ -54,6 +58,174 @@ pub fn sniff<'a>(
 {
     let mut own = *spending;
     let result = sniff_sections(query, at, &mut own);
+    *spending = own;
+    result
+}
+
+/// The same, by what was learnt of the list where that is there.
+pub fn sniff_known<'a>(
+    query: &MagicQuery<'_, 'a>,
+    at: u32,
+    heads: Option<&MagicHeads<'_>>,
+    spending: &mut Spending,
+) -> Result<Option<(&'a [u8], u32)>, CacheFault>
+    requires at { at ≡ field query.now.counted.now 0 6 }
+    requires heads { IfSome heads (λ it. it.now ≡ query.now.counted.now) }
+    // Where a list stands, it answers of its sections.
+    ensures sections { AnswersMagicAt query.now at spending.old spending.new result }
+    // A type that is given is a text of the cache.
+    ensures text { IfOk result (NamesText query.now.counted.now) }
+    // On any bytes: why there is no answer, and what the call costs.
+    ensures ends { Ends (IsMagicFault query.now.counted.now at) (magic_price (length query.now.content)) 1 spending.old spending.new result }
+{
+    match heads {
+        Some(heads) => sniff_learnt(query, at, heads.learnt(), spending),
+        None => sniff(query, at, spending),
+    }
+}
+
+/// The same by what was learnt.
+// In code of its own, as the search without.
+#[inline(never)]
+fn sniff_learnt<'a>(
+    query: &MagicQuery<'_, 'a>,
+    at: u32,
+    learnt: &Learnt,
+    spending: &mut Spending,
+) -> Result<Option<(&'a [u8], u32)>, CacheFault>
+    requires heads { AreHeads query.now.counted.now at learnt.now.before.items learnt.now.heads.items }
+    // Where a list stands, it answers of its sections.
+    ensures sections { AnswersMagicAt query.now at spending.old spending.new result }
+    // A type that is given is a text of the cache.
+    ensures text { IfOk result (NamesText query.now.counted.now) }
+    // On any bytes: why there is no answer, and what the call costs.
+    ensures ends { Ends (IsMagicFault query.now.counted.now at) (magic_price (length query.now.content)) 1 spending.old spending.new result }
+{
+    let counted = query.counted;
+    let [count, _, first] = counted.cards::<3>(u64::from(at), &mut spending.meter)?;
+    check_block(counted, u64::from(first), 16, u64::from(count))?;
+    sniff_open(query, SectionList { first, count }, learnt, spending)
+}
+
+/// The type and the priority of the first section that holds.
+// The loop over the sections that may.
+#[inline(always)]
+fn sniff_open<'a>(
+    query: &MagicQuery<'_, 'a>,
+    list: SectionList,
+    learnt: &Learnt,
+    spending: &mut Spending,
+) -> Result<Option<(&'a [u8], u32)>, CacheFault>
+    requires block { LiesBlock query.now.counted.now list.first 16 list.count }
+    requires heads { TellsSections query.now.counted.now list.first list.count learnt.now.before.items learnt.now.heads.items }
+    // Where sections stand, it answers of them.
+    ensures sections { (sections : List PlainSection) → length sections ≡ list.count
+        → ReadsSections query.now.counted.now list.first sections → AnswersSections query.now sections spending.old spending.new result }
+    // A type that is given is a text of the cache.
+    ensures text { IfOk result (NamesText query.now.counted.now) }
+    // On any bytes: why there is no answer, and what the call costs.
+    ensures ends { Ends (IsSectionsFault query.now.counted.now list.first list.count) (magic_price (length query.now.content)) 0
+        spending.old spending.new result }
+{
+    let mut i = 0;
+    let mut next = 0;
+    while i < list.count {
+        next = still_open(query, list, learnt, next, i);
+        i = skip_sections(learnt, i, next, spending);
+        if i < list.count {
+            match take_section_apart(query, u64::from(list.first) + 16 * u64::from(i), spending)? {
+                Some(found) => return Ok(Some(found)),
+                None => {}
+            }
+            i += 1;
+        }
+    }
+    Ok(None)
+}
+
+/// The first section from the i-th on of which a line may hold: the one that was found before, if it is no earlier.
+#[inline(always)]
+fn still_open(
+    query: &MagicQuery<'_, '_>,
+    list: SectionList,
+    learnt: &Learnt,
+    next: u32,
+    i: u32,
+) -> u32
+    requires heads { TellsSections query.now.counted.now list.first list.count learnt.now.before.items learnt.now.heads.items }
+    requires within { i < list.count }
+    requires most { next ≤ list.count }
+    requires passed { PassesFrom query.now.counted.now list.first learnt.now.before.items query.now.content i next }
+    // It is none before.
+    ensures low { i ≤ result }
+    // It is one of them, or their number.
+    ensures high { result ≤ list.count }
+    // A content passes those before it.
+    ensures passes { PassesFrom query.now.counted.now list.first learnt.now.before.items query.now.content i result }
+{
+    if i < next {
+        return next;
+    }
+    next_open(query, list, learnt, i)
+}
+
+/// Skips the sections from one up to another, where as much is left as they take: each of their lines and each section takes a
+/// record and adds a node, and each place that a line was refused at adds a byte.
+#[inline(always)]
+fn skip_sections(learnt: &Learnt, from: u32, to: u32, spending: &mut Spending) -> u32
+    requires order { from ≤ to }
+    requires sections { to < length learnt.now.before.items }
+    requires rises { Rises (before_at learnt.now.before.items from) (before_at learnt.now.before.items to) }
+    // They are skipped all, or none is.
+    ensures low { from ≤ result }
+    ensures high { result ≤ to }
+    // What those that are skipped take.
+    ensures skips { Skips from result (before_at learnt.now.before.items from) (before_at learnt.now.before.items result)
+        spending.old spending.new }
+{
+    let (low, high) = (&learnt.before[from as usize], &learnt.before[to as usize]);
+    let Some(records) = ((high.heads - low.heads) as u64).checked_add(u64::from(to - from)) else {
+        return from;
+    };
+    let value_bytes = high.value_bytes - low.value_bytes;
+    if spending.budget.records < records || spending.budget.value_bytes < value_bytes {
+        return from;
+    }
+    spending.budget.records -= records;
+    spending.budget.value_bytes -= value_bytes;
+    spending.meter.nodes = raised(spending.meter.nodes, records);
+    spending.meter.bytes = raised(spending.meter.bytes, high.windows - low.windows);
+    to
+}
+
+/// The sum of a count and more, which stops at the greatest number.
+#[inline(always)]
+fn raised(count: u64, more: u64) -> u64
+    ensures sum { result ≡ raised count more }
+    ensures rises { count ≤ result }
+{
+    count.saturating_add(more)
+}
+
+/// A section that is looked at.
+// In code of its own: the loop over heads has the registers.
+#[inline(never)]
+fn take_section_apart<'a>(
+    query: &MagicQuery<'_, 'a>,
+    at: u64,
+    spending: &mut Spending,
+) -> Result<Option<(&'a [u8], u32)>, CacheFault>
+    requires inside { at + 16 ≤ length query.now.counted.now }
+    // A section that stands answers as a list of it alone does.
+    ensures section { (section : PlainSection) → ReadsSection query.now.counted.now at section →
+        AnswersSections query.now (section ∷ []) spending.old spending.new result }
+    // A type that is given is a text of the cache.
+    ensures text { IfOk result (NamesText query.now.counted.now) }
+    // On any bytes: why there is no answer, and what the step costs.
+    ensures ends { Ends (IsSectionFault query.now.counted.now at) (magic_price (length query.now.content)) 0 spending.old spending.new result }
+{
+    let mut own = *spending;
+    let result = take_section(query, at, &mut own);
     *spending = own;
     result
 }

@@ -58,7 +58,7 @@ module _ (value : List ℕ) (word : ℕ) (host : Host) (content : List ℕ) (two
       size = length-take-le (length value) (drop at content) (omega (arith, length-drop at content))
 
       head : get_or bytes 0 0 ≡ get_or content at 0
-      head = first_byte value word host content (omega arith) single value_bytes content_bytes at
+      head = first_byte value word host content (omega arith) single (value_bytes 0) content_bytes at
 
       step : (test : Bool) → is_first (get_or content at 0) ≡ test
           → (window_cost own host content at ≡ 1 + cond test 1 0) × (window_equals value [] word host bytes ≡ false)
@@ -69,7 +69,7 @@ module _ (value : List ℕ) (word : ℕ) (host : Host) (content : List ℕ) (two
           (omega (arith, told.0), told.1)
       step false e =
           let small : get_or bytes 0 0 < 256 = rw head (content_bytes at) in
-          let told = differs value word host content (omega arith) single value_bytes content_bytes bytes size small
+          let told = differs value word host content (omega arith) single (value_bytes 0) content_bytes bytes size small
           (λ is. eqb-false (get_or content at 0) (get_or value 0 0) e (sym head ∙ is)) in
           (omega (arith, told.0), told.1)
 

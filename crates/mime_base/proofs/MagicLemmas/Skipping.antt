@@ -31,7 +31,7 @@ passed-differs first bytes (Some k) is =
 
 module _ (value : List ℕ) (word : ℕ) (host : Host) (content : List ℕ) (some : 0 < length value)
     (single : group_of word host (length value) ≡ 1)
-    (value_bytes : (i : ℕ) → get_or value i 0 < 256) (content_bytes : (i : ℕ) → get_or content i 0 < 256) where
+    (small_first : get_or value 0 0 < 256) (content_bytes : (i : ℕ) → get_or content i 0 < 256) where
   -- the line, with what is in its value
   abbrev own : PlainLine
   own = line_from 0 0 word value (Some [])
@@ -43,7 +43,7 @@ module _ (value : List ℕ) (word : ℕ) (host : Host) (content : List ℕ) (som
   differs bytes same small other =
       let place_is : 0 ≡ mirrored (group_of word host (length value)) 0 = sym (ap (λ (g : ℕ). mirrored g 0) single) in
       let none = stops value [] word host bytes same 0 0 255 (omega arith) place_is refl
-      (λ e. other (sym (whole_byte _ small) ∙ e ∙ whole_byte _ (value_bytes 0))) in
+      (λ e. other (sym (whole_byte _ small) ∙ e ∙ whole_byte _ small_first)) in
       let told = counted value [] word host bytes same 0 (sym none) in
       (sym told.0, sym told.1 ∙ ne_eqb 0 (length bytes) (λ e. omega arith))
 

@@ -61,7 +61,7 @@ impl<'c> Content<'c> {
     /// Whether a byte stands at no place before `end`, as far as that is noted.
     // Two tests of numbers that the caller has at hand.
     #[inline(always)]
-    pub(super) fn lacks(&self, byte: u8, end: usize) -> bool
+    pub fn lacks(&self, byte: u8, end: usize) -> bool
         // Then the byte stands at none of these places.
         ensures { result ≡ true → (place : ℕ) → place < end → place < length self.now → slice_index self.now place ≡ byte → ⊥ }
     {

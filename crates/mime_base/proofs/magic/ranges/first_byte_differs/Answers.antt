@@ -9,7 +9,7 @@ returns-clause-equal c = λ differ host.
     let some : length c.args.value.now ≡ 0 → ⊥ = eqb-false _ _ (sym c.is_empty-else-not-is_empty.ensures ∙ c.if-is_empty.false) in
     rw none (other_byte c.args.value.now c.args.word host c.args.content.now (omega (arith, some))
     (word_of_one c.args.word host (length c.args.value.now) (omega arith))
-    (λ i. omega (arith, c.type_inv.value i))
+    (omega (arith, c.type_inv.value 0))
     (λ i. omega (arith, c.type_inv.content i)) c.args.at c.requires.inside (λ e. absurd (grind (arith, e, differ)))).0
 
 pub returns-clause-counted : goal.returns-clause-counted
@@ -18,5 +18,5 @@ returns-clause-counted c = λ differ host.
     let some : length c.args.value.now ≡ 0 → ⊥ = eqb-false _ _ (sym c.is_empty-else-not-is_empty.ensures ∙ c.if-is_empty.false) in
     rw none (other_byte c.args.value.now c.args.word host c.args.content.now (omega (arith, some))
     (word_of_one c.args.word host (length c.args.value.now) (omega arith))
-    (λ i. omega (arith, c.type_inv.value i))
+    (omega (arith, c.type_inv.value 0))
     (λ i. omega (arith, c.type_inv.content i)) c.args.at c.requires.inside (λ e. absurd (grind (arith, e, differ)))).1

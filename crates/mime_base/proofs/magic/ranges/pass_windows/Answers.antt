@@ -9,7 +9,7 @@ returns-then-value-eq1-clause-equal c = λ word host single.
     let bytes = take (c.args.end - c.args.at) (drop c.args.at c.args.content.now) in
     let told = passed-differs (get_or c.args.value.now 0 0) bytes c.memchr.result c.memchr.ensures in
     (passed_over-before c.args.value.now word host c.args.content.now c.requires.some single
-    (λ i. omega (arith, c.type_inv.value i)) (λ i. omega (arith, c.type_inv.content i)) c.args.at c.args.end
+    (omega (arith, c.type_inv.value 0)) (λ i. omega (arith, c.type_inv.content i)) c.args.at c.args.end
     c.unwrap_or-length.result c.requires.order c.requires.inside (omega (arith, told.0, c.unwrap_or-length.ensures))
     (λ i below. told.1 i (omega (arith, c.unwrap_or-length.ensures)))).0
 
@@ -18,7 +18,7 @@ returns-then-value-eq1-clause-counted c = λ word host single.
     let bytes = take (c.args.end - c.args.at) (drop c.args.at c.args.content.now) in
     let told = passed-differs (get_or c.args.value.now 0 0) bytes c.memchr.result c.memchr.ensures in
     let passed = passed_over-before c.args.value.now word host c.args.content.now c.requires.some single
-    (λ i. omega (arith, c.type_inv.value i)) (λ i. omega (arith, c.type_inv.content i)) c.args.at c.args.end
+    (omega (arith, c.type_inv.value 0)) (λ i. omega (arith, c.type_inv.content i)) c.args.at c.args.end
     c.unwrap_or-length.result c.requires.order c.requires.inside (omega (arith, told.0, c.unwrap_or-length.ensures))
     (λ i below. told.1 i (omega (arith, c.unwrap_or-length.ensures))) in
     omega (arith, passed.1)

@@ -14,7 +14,7 @@ one_differs c host =
     let one : c.args.range ≡ 1 = omega (arith, c.if-range-eq1.true) in
     let same = ap (λ (bytes : List ℕ). get_or bytes c.args.start 0) c.bytes-bytes.ensures.same in
     rw one (other_byte c.args.value.now 1 host c.args.content.now c.requires.some (word_of_one 1 host (length c.args.value.now) (omega arith))
-    (λ i. omega (arith, c.type_inv.value i))
+    (omega (arith, c.type_inv.value 0))
     (λ i. omega (arith, c.bytes-bytes.ensures.bytes i, ap (λ (bytes : List ℕ). get_or bytes i 0) c.bytes-bytes.ensures.same))
     c.args.start (omega arith) (λ e. c.if-bytes-start.false (same ∙ e)))
 
@@ -27,7 +27,7 @@ noted_differ c host =
     let n : ℕ = c.min-end.result - c.args.start in
     let same = ap length c.bytes-bytes.ensures.same in
     all_differ c.args.value.now 1 host c.args.content.now c.requires.some (word_of_one 1 host (length c.args.value.now) (omega arith))
-    (λ i. omega (arith, c.type_inv.value i))
+    (omega (arith, c.type_inv.value 0))
     (λ i. omega (arith, c.bytes-bytes.ensures.bytes i, ap (λ (bytes : List ℕ). get_or bytes i 0) c.bytes-bytes.ensures.same))
     c.args.start n c.args.range (omega (arith, same, c.min-end.ensures)) (λ fewer. omega (arith, same, c.min-end.ensures))
     (omega (arith, same, c.min-end.ensures))

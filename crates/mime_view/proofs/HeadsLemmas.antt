@@ -1,0 +1,5 @@
+-- Lemmas on what was learnt of the top lines of a magic list.
+pub mod RefusedLines
+pub mod PassedSections
+pub mod LearntLines
+pub mod LearntSections

@@ -1,0 +1,200 @@
+-- What sections answer that a content passes.
+use Rattle.std.proofs.Common.{◌≡◌, ℕ, zero, suc, ◌+◌, ◌-◌, ◌*◌, ◌<◌, ◌≤◌, List, [], ◌∷◌, length, None, refl, sym, ap, subst, arith}
+use Rattle.std.specs.Prelude.{Ok}
+use Rattle.mime_base.specs.Cache.Bytes.{field}
+use Rattle.mime_base.specs.Format.Magic.{width}
+use Rattle.mime_base.specs.Magic.{PlainSection}
+use Rattle.mime_view.specs.Heads.{PassesFrom, PassesSection, Rises, Skips, TellsSections, before_at, value_bytes_from}
+use Rattle.mime_view.specs.Magic.{AnswersSections, ReadsSection, magic_price}
+use Rattle.mime_view.specs.Spending.{Spends}
+use Rattle.mime_view.specs.declared.heads.Before.{Before}
+use Rattle.mime_view.specs.declared.heads.Head.{Head}
+use Rattle.mime_view.specs.declared.magic.MagicQuery.{MagicQuery}
+use Rattle.mime_view.specs.declared.spending.Spending.{Spending}
+use Rattle.mime_view.proofs.CostLemmas.Costs.{spends_then}
+use Rattle.mime_view.proofs.HeadsLemmas.RefusedLines.{none_holds, value_bytes-least, width-least}
+use Rattle.mime_view.proofs.MagicLemmas.SectionParts.{section_passes}
+use Rattle.mime_view.proofs.MagicLemmas.SectionsLeft.{Left, next}
+
+-- a section that a content passes gives nothing, and has as much as is taken
+pub passed : (query : MagicQuery) (at : ℕ) (from to : Before) (section : PlainSection) (old new : Spending)
+    → PassesSection query.counted.now at query.content from to → ReadsSection query.counted.now at section
+    → old.budget.records + from.heads ≤ new.budget.records + 1 + to.heads
+    → old.budget.value_bytes + from.value_bytes ≤ new.budget.value_bytes + to.value_bytes
+    → 1 ≤ old.budget.records → AnswersSections query (section ∷ []) old new (Ok None)
+passed query at from to section old new is reads records values one =
+    let c : List ℕ = query.counted.now in
+    let count : width section.lines ≡ field c at 2 = sym reads.count in
+    let same : value_bytes_from c (field c at 3) (width section.lines) ≡ value_bytes_from c (field c at 3) (field c at 2) =
+    ap (value_bytes_from c (field c at 3)) count in
+    let mid : Spending = record { meter = old.meter; budget = record { records = old.budget.records - 1; value_bytes = old.budget.value_bytes } } in
+    section_passes query section old mid new (record { record_taken = omega (arith, one); value_bytes = refl }) (record {
+      answer = sym (none_holds c query.content query.host section.lines (field c at 3) reads.lines
+          (λ j below. is.refused j (omega (arith, count))));
+      need = λ allowed enough bytes. refl;
+      takes = record {
+        most_records = omega (arith, width-least section.lines, count, records, one, is.count);
+        most_value_bytes = omega (arith, value_bytes-least c section.lines (field c at 3) reads.lines, same, values, is.values);
+      };
+    })
+
+-- the same is left, where as much is
+same_left : (query : MagicQuery) (first count : ℕ) (sections : List PlainSection) (old now new : Spending) (i : ℕ)
+    → new.budget.records ≡ now.budget.records → new.budget.value_bytes ≡ now.budget.value_bytes
+    → Left query first count sections old i now → Left query first count sections old i new
+same_left query first count sections old now new i records values is = record {
+  left = is.left;
+  size = is.size;
+  reads = is.reads;
+  whole = λ last result later. is.whole last result (record {
+    answer = later.answer;
+    need = λ allowed enough bytes. later.need allowed (omega (arith, records)) (omega (arith, values));
+    takes = record {
+      most_records = omega (arith, records, later.takes.most_records);
+      most_value_bytes = omega (arith, values, later.takes.most_value_bytes);
+    };
+  });
+}
+
+module _ (query : MagicQuery) (first count : ℕ) (before : List Before) (sections : List PlainSection) (old : Spending) (i : ℕ)
+    (now : Spending) where
+  -- sections that a content passes are skipped, where as much is left as they take
+  pub skipped : (d : ℕ) (new : Spending) → PassesFrom query.counted.now first before query.content i (i + d) → i + d ≤ count
+      → new.budget.records + d + (before_at before (i + d)).heads ≡ now.budget.records + (before_at before i).heads
+      → new.budget.value_bytes + (before_at before (i + d)).value_bytes ≡ now.budget.value_bytes + (before_at before i).value_bytes
+      → Left query first count sections old i now → Left query first count sections old (i + d) new
+  skipped zero new passes within records values is =
+      let here : i + 0 ≡ i = omega arith in
+      let at : before_at before (i + 0) ≡ before_at before i = ap (before_at before) here in
+      rw here (same_left query first count sections old now new i
+      (omega (arith, records, ap (λ (b : Before). b.heads) at))
+      (omega (arith, values, ap (λ (b : Before). b.value_bytes) at)) is)
+  skipped (suc d) new passes within records values is =
+      let m : ℕ = i + d in
+      let next_is : i + suc d ≡ m + 1 = omega arith in
+      let at : before_at before (i + suc d) ≡ before_at before (m + 1) = ap (before_at before) next_is in
+      let here = passes m (omega arith) (omega arith) in
+      let more : (before_at before (m + 1)).heads ≡ (before_at before m).heads + field query.counted.now (first + 16 * m) 2 = here.count in
+      let lines : ℕ = field query.counted.now (first + 16 * m) 2 in
+      let bytes : ℕ = value_bytes_from query.counted.now (field query.counted.now (first + 16 * m) 3) lines in
+      let longer : (before_at before (m + 1)).value_bytes ≡ (before_at before m).value_bytes + bytes = here.values in
+      let heads_at = ap (λ (b : Before). b.heads) at in
+      let bytes_at = ap (λ (b : Before). b.value_bytes) at in
+      let mid : Spending = record {
+        meter = new.meter;
+        budget = record { records = new.budget.records + 1 + lines; value_bytes = new.budget.value_bytes + bytes };
+      } in
+      let before_it = skipped d mid (λ k low high. passes k low (omega arith)) (omega (arith, within))
+      (omega (arith, records, heads_at, more)) (omega (arith, values, bytes_at, longer)) is in
+      let n = next before_it (omega (arith, within)) in
+      rw next_is (n.later new (passed query (first + 16 * m) (before_at before m) (before_at before (m + 1)) n.section mid new here n.reads
+      (omega (arith, more)) (omega (arith, longer)) (omega arith)))
+
+-- before later sections no less is
+pub rises_between : (before : List Before) (count : ℕ) → ((k : ℕ) → k < count → Rises (before_at before k) (before_at before (k + 1)))
+    → (i d : ℕ) → i + d ≤ count → Rises (before_at before i) (before_at before (i + d))
+rises_between before count each i zero within =
+    let here : i + 0 ≡ i = omega arith in
+    rw here (record { more_heads = omega arith; more_value_bytes = omega arith; more_windows = omega arith })
+rises_between before count each i (suc d) within =
+    let next_is : i + suc d ≡ i + d + 1 = omega arith in
+    let first = rises_between before count each i d (omega (arith, within)) in
+    let last = each (i + d) (omega (arith, within)) in
+    rw next_is (record {
+      more_heads = omega (arith, first.more_heads, last.more_heads);
+      more_value_bytes = omega (arith, first.more_value_bytes, last.more_value_bytes);
+      more_windows = omega (arith, first.more_windows, last.more_windows);
+    })
+
+-- the same of one that is not before another
+pub rises_to : (before : List Before) (count : ℕ) → ((k : ℕ) → k < count → Rises (before_at before k) (before_at before (k + 1)))
+    → (i j : ℕ) → i ≤ j → j ≤ count → Rises (before_at before i) (before_at before j)
+rises_to before count each i j order within =
+    let is : i + (j - i) ≡ j = omega arith in
+    rw is at (rises_between before count each i (j - i) (omega arith))
+
+-- what skipped sections may cost
+module _ (c : List ℕ) (first : ℕ) (before : List Before) (content : List ℕ) (i : ℕ) where
+  -- the places are no more than their value bytes may cost
+  pub few_windows : (d : ℕ) → PassesFrom c first before content i (i + d)
+      → (before_at before (i + d)).windows + (length content + 1) * (before_at before i).value_bytes
+      ≤ (before_at before i).windows + (length content + 1) * (before_at before (i + d)).value_bytes
+  few_windows zero passes =
+      let here : i + 0 ≡ i = omega arith in
+      rw here (omega arith)
+  few_windows (suc d) passes =
+      let next_is : i + suc d ≡ i + d + 1 = omega arith in
+      let one = passes (i + d) (omega arith) (omega arith) in
+      rw next_is (omega (arith, few_windows d (λ k low high. passes k low (omega arith)), one.few))
+
+-- what skipped sections cost
+pub skips_cost : (query : MagicQuery) (from to : ℕ) (low high : Before) (old new : Spending) → from ≤ to → Rises low high
+    → high.windows + (length query.content + 1) * low.value_bytes ≤ low.windows + (length query.content + 1) * high.value_bytes
+    → Skips from to low high old new → Spends (magic_price (length query.content)) 0 0 old new
+skips_cost query from to low high old new order rises few is =
+    let e : ℕ = length query.content + 1 in
+    let left = ap (λ (n : ℕ). e * n) is.value_bytes in
+    record {
+      records = omega (arith, is.records, rises.more_heads, order);
+      value_bytes = omega (arith, is.value_bytes, rises.more_value_bytes);
+      untouched = λ free. absurd (omega arith);
+      rises = is.rises;
+      bytes_rise = is.bytes_rise;
+      most_nodes = omega (arith, is.most_nodes, is.records, rises.more_heads, order);
+      most_bytes = omega (arith, is.most_bytes, is.records, rises.more_heads, rises.more_windows, order, few, left);
+      fair = omega (arith, is.nodes, is.records, rises.more_heads, order);
+    }
+
+module _ (query : MagicQuery) (first count : ℕ) (before : List Before) (i m : ℕ) (now new : Spending) (order : i ≤ m)
+    (passes : PassesFrom query.counted.now first before query.content i m) (skips : Skips i m (before_at before i) (before_at before m) now new) where
+  -- what is left after sections that were skipped
+  pub skipped_to : (sections : List PlainSection) (old : Spending) → m ≤ count → Left query first count sections old i now
+      → Left query first count sections old m new
+  skipped_to sections old most is =
+      let there : i + (m - i) ≡ m = omega (arith, order) in
+      let at : before_at before (i + (m - i)) ≡ before_at before m = ap (before_at before) there in
+      let some = subst (PassesFrom query.counted.now first before query.content i) (sym there) passes in
+      rw there at (skipped query first count before sections old i now (m - i) new some (omega (arith, there, most))
+      (omega (arith, skips.records, order, ap (λ (b : Before). b.heads) at))
+      (omega (arith, skips.value_bytes, ap (λ (b : Before). b.value_bytes) at)) is)
+
+  -- what they cost
+  pub cost_to : Rises (before_at before i) (before_at before m) → Spends (magic_price (length query.content)) 0 0 now new
+  cost_to rises =
+      let there : i + (m - i) ≡ m = omega (arith, order) in
+      let some = subst (PassesFrom query.counted.now first before query.content i) (sym there) passes in
+      skips_cost query i m (before_at before i) (before_at before m) now new order rises
+      (rw there at (few_windows query.counted.now first before query.content i (m - i) some)) skips
+
+-- no section is skipped
+pub skips_none : (i : ℕ) (here : Before) (now : Spending) → Skips i i here here now now
+skips_none i here now = record {
+  records = refl;
+  value_bytes = refl;
+  nodes = omega arith;
+  most_nodes = omega arith;
+  rises = omega arith;
+  most_bytes = omega arith;
+  bytes_rise = omega arith;
+}
+
+module _ {first count : ℕ} {before : List Before} {heads : List Head} {i m : ℕ} {now new : Spending} (query : MagicQuery) (open_one : ℕ)
+    (is : TellsSections query.counted.now first count before heads) (passes : PassesFrom query.counted.now first before query.content i open_one)
+    (low : i ≤ m) (high : m ≤ open_one) (most : open_one ≤ count) (skips : Skips i m (before_at before i) (before_at before m) now new) where
+  -- those that are skipped pass the content
+  some_pass : PassesFrom query.counted.now first before query.content i m
+  some_pass k above below = passes k above (omega (arith, below, high))
+
+  -- what is left after them
+  pub left_after : {sections : List PlainSection} {old : Spending} → Left query first count sections old i now
+      → Left query first count sections old m new
+  left_after {sections} {old} left =
+      skipped_to query first count before i m now new low some_pass skips sections old (omega (arith, high, most)) left
+
+  -- what was spent after them
+  pub cost_after : {old : Spending} → Spends (magic_price (length query.content)) 0 0 old now
+      → Spends (magic_price (length query.content)) 0 0 old new
+  cost_after {old} cost =
+      spends_then (magic_price (length query.content)) 0 0 0 0 old now new cost
+      (cost_to query first count before i m now new low some_pass skips
+      (rises_to before count (λ k below. (is.sections k below).rises) i m low (omega (arith, high, most))))

@@ -1,0 +1,5 @@
+use Rattle.mime_view.proofs.HeadsLemmas.LearntLines.{SoFar}
+use Rattle.mime_view.proofs.heads.learning.learn_lines.Given as goal
+
+abbrev pub invariant-loop-j : goal.invariant-loop-j
+invariant-loop-j l = SoFar l.counted l.first l.section l.fn.all l.fn.heads.items l.heads.items l.j l.all

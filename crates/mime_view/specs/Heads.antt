@@ -1,0 +1,182 @@
+-- What was learnt of the top lines of a magic list, and the contents that it refuses.
+use Rattle.std.specs.Prelude.{◌≡◌, ℕ, zero, suc, ◌+◌, ◌-◌, ◌*◌, ◌<◌, ◌≤◌, true, false, List, length, slice_index, get_or}
+use Rattle.mime_base.specs.Cache.Bytes.{field}
+use Rattle.mime_base.specs.Magic.{PlainLine}
+use Rattle.mime_base.specs.Magic.Holds.{equals_from}
+use Rattle.mime_base.specs.declared.magic.host.Host.{Host}
+use Rattle.mime_view.specs.Magic.{IsSectionFault, ReadsLine}
+use Rattle.mime_view.specs.declared.budget.Budget.{Budget}
+use Rattle.mime_view.specs.declared.fault.CacheFault.{CacheFault}
+use Rattle.mime_base.specs.Meter.{raised}
+use Rattle.mime_view.specs.declared.heads.Before.{Before}
+use Rattle.mime_view.specs.declared.heads.Head.{Head}
+use Rattle.mime_view.specs.declared.heads.learning.Looks.{Looks}
+use Rattle.mime_view.specs.declared.spending.Spending.{Spending}
+
+-- a head, for the places past the last one
+abbrev pub no_head : Head
+no_head = record { first = 0; single = false; end = 0; reach = 0; section = 0 }
+
+-- a head that refuses nothing: no content is so long that all of its places lie in it
+abbrev pub open_head : ℕ → Head
+open_head section = record { first = 0; single = false; end = 4294967295; reach = 4294967295; section = section }
+
+-- what no sections have
+abbrev pub no_sections : Before
+no_sections = record { heads = 0; value_bytes = 0; windows = 0 }
+
+-- What the line that stands at r looks at, where it has no mask, one byte a word, and its value in the cache.
+pub record IsHeadOf (c : List ℕ) (r : ℕ) (head : Head) : Type 0 where
+  pub word : field c r 2 ≡ 1
+  pub mask : field c r 5 ≡ 0
+  -- It has a value, and a place for it.
+  pub some : 0 < field c r 3
+  pub range : 0 < field c r 1
+  -- After the last of its places.
+  pub end : head.end ≡ field c r 0 + field c r 1
+  -- The last byte at which its value may end.
+  pub reach : head.reach + 1 ≡ head.end + field c r 3
+  -- Its value lies in the cache.
+  pub inside : field c r 4 + field c r 3 ≤ length c
+  -- The first byte of that.
+  pub first : head.first ≡ slice_index c (field c r 4)
+  pub byte : head.first < 256
+  -- It has one place alone.
+  pub single : head.single ≡ true → field c r 1 ≡ 1
+
+-- A content is refused by what a line looks at.
+pub record Refuses (content : List ℕ) (head : Head) : Type 0 where
+  -- Each place of the line's range is one where its value lies in the content.
+  pub long : head.reach ≤ length content
+  -- It is what a line looks at.
+  pub of_line : head.reach < 4294967295
+  -- At none of these places the first byte of the value stands.
+  pub differ : (place : ℕ) → place < head.end → place < length content → (head.single ≡ true → place + 1 ≡ head.end) → slice_index content place ≡ head.first → ⊥
+
+-- each byte of a content is below 256
+abbrev pub AreBytes : List ℕ → Type 0
+AreBytes content = (place : ℕ) → slice_index content place < 256
+
+-- the line that stands at r equals its value at no offset of its range
+abbrev pub IsRefused : List ℕ → ℕ → List ℕ → Type 0
+IsRefused c r content =
+    (own : PlainLine) (host : Host) → ReadsLine c r own → equals_from own host content own.start own.range ≡ false
+
+-- how many value bytes that many lines have, one after another from r on
+abbrev pub value_bytes_from : List ℕ → ℕ → ℕ → ℕ
+value_bytes_from c r zero = 0
+value_bytes_from c r (suc lines) = value_bytes_from c r lines + field c (r + 32 * lines) 3
+
+-- A content is refused by that many lines, the first at `first`, which have these heads.
+pub record PassesLines (c : List ℕ) (first lines : ℕ) (content : List ℕ) (low high : ℕ) (from to : Before) : Type 0 where
+  pub count : high ≡ low + lines
+  pub refused : (j : ℕ) → j < lines → IsRefused c (first + 32 * j) content
+  pub values : to.value_bytes ≡ from.value_bytes + value_bytes_from c first lines
+  pub few : to.windows + (length content + 1) * from.value_bytes ≤ from.windows + (length content + 1) * to.value_bytes
+
+-- A content passes the section at `at`, of which these are what is before it, and what is before the next.
+pub record PassesSection (c : List ℕ) (at : ℕ) (content : List ℕ) (from to : Before) : Type 0 where
+  -- Each of its lines has a head.
+  pub count : to.heads ≡ from.heads + field c at 2
+  -- None of them holds.
+  pub refused : (j : ℕ) → j < field c at 2 → IsRefused c (field c at 3 + 32 * j) content
+  -- The value bytes are theirs.
+  pub values : to.value_bytes ≡ from.value_bytes + value_bytes_from c (field c at 3) (field c at 2)
+  -- So are the places, no more than such lines may cost.
+  pub few : to.windows + (length content + 1) * from.value_bytes ≤ from.windows + (length content + 1) * to.value_bytes
+
+-- no less is before a section than before one that is not after it
+pub record Rises (from to : Before) : Type 0 where
+  pub more_heads : from.heads ≤ to.heads
+  pub more_value_bytes : from.value_bytes ≤ to.value_bytes
+  pub more_windows : from.windows ≤ to.windows
+
+-- What is known of the section at `at`, of which these are what is before it, and what is before the next.
+pub record TellsSection (c : List ℕ) (at : ℕ) (heads : List Head) (from to : Before) : Type 0 where
+  -- It is no less before the next.
+  pub rises : Rises from to
+  -- A content that all its heads refuse passes it.
+  pub passes : (content : List ℕ) → AreBytes content
+      → ((j : ℕ) → from.heads ≤ j → j < to.heads → Refuses content (get_or heads j no_head)) → PassesSection c at content from to
+
+-- what is before a section
+abbrev pub before_at : List Before → ℕ → Before
+before_at before i = get_or before i no_sections
+
+-- which section a head is of
+abbrev pub section_at : List Head → ℕ → ℕ
+section_at heads j = (get_or heads j no_head).section
+
+-- What is known of that many sections, the first at `first`.
+pub record TellsSections (c : List ℕ) (first count : ℕ) (before : List Before) (heads : List Head) : Type 0 where
+  -- There is an entry for each, and one more.
+  pub size : length before ≡ count + 1
+  -- No head is past the last.
+  pub all : (before_at before count).heads ≡ length heads
+  -- Each is known.
+  pub sections : (i : ℕ) → i < count → TellsSection c (first + 16 * i) heads (before_at before i) (before_at before (i + 1))
+  -- Each head is of one of them.
+  pub within : (j : ℕ) → j < length heads → section_at heads j < count
+  -- It is none of those before its section.
+  pub low : (j : ℕ) → j < length heads → (before_at before (section_at heads j)).heads ≤ j
+  -- Nor of those after it.
+  pub high : (j : ℕ) → j < length heads → j < (before_at before (section_at heads j + 1)).heads
+
+-- what is known of the magic list at `at`
+abbrev pub AreHeads : List ℕ → ℕ → List Before → List Head → Type 0
+AreHeads c at before heads = TellsSections c (field c at 2) (field c at 0) before heads
+
+-- the sections from one up to another pass a content
+abbrev pub PassesFrom : List ℕ → ℕ → List Before → List ℕ → ℕ → ℕ → Type 0
+PassesFrom c first before content from to =
+    (i : ℕ) → from ≤ i → i < to → PassesSection c (first + 16 * i) content (before_at before i) (before_at before (i + 1))
+
+-- What was learnt of a section: its heads came to the others.
+pub record LearnsSection (c : List ℕ) (at section : ℕ) (from to : Before) (old new : List Head) : Type 0 where
+  -- What is before the next section counts them.
+  pub size : to.heads ≡ length new
+  -- The others stay.
+  pub longer : length old ≤ length new
+  pub kept : (j : ℕ) → j < length old → get_or new j no_head ≡ get_or old j no_head
+  -- Each names the section.
+  pub own : (j : ℕ) → length old ≤ j → j < length new → section_at new j ≡ section
+  -- They tell of the section.
+  pub tells : TellsSection c at new from to
+
+-- What was learnt of that many lines, the first at `first`: their heads came to the others, or one that refuses nothing.
+pub record LearnsLines (c : List ℕ) (first count section : ℕ) (from to : Before) (old new : List Head) : Type 0 where
+  pub size : to.heads ≡ length new
+  pub longer : length old ≤ length new
+  pub kept : (j : ℕ) → j < length old → get_or new j no_head ≡ get_or old j no_head
+  pub own : (j : ℕ) → length old ≤ j → j < length new → section_at new j ≡ section
+  pub more_value_bytes : from.value_bytes ≤ to.value_bytes
+  pub more_windows : from.windows ≤ to.windows
+  -- A content that all these refuse is refused by each line.
+  pub passes : (content : List ℕ) → AreBytes content
+      → ((j : ℕ) → length old ≤ j → j < length new → Refuses content (get_or new j no_head)) → PassesLines c first count content (length old)
+      (length new) from to
+
+-- what a line looks at, and what is before the next line
+pub record LooksAtLine (c : List ℕ) (r section : ℕ) (from : Before) (looks : Looks) : Type 0 where
+  pub is : IsHeadOf c r looks.head
+  pub section_is : looks.head.section ≡ section
+  pub values : looks.value_bytes ≡ from.value_bytes + field c r 3
+  pub places : looks.windows ≡ from.windows + field c r 1
+
+-- What the sections from one up to another take, of which these are what is before the first, and before the one after the last.
+pub record Skips (from to : ℕ) (low high : Before) (old new : Spending) : Type 0 where
+  -- A record for each section and each line.
+  pub records : new.budget.records + to + high.heads ≡ old.budget.records + from + low.heads
+  -- Their value bytes.
+  pub value_bytes : new.budget.value_bytes + high.value_bytes ≡ old.budget.value_bytes + low.value_bytes
+  -- A node for each record, until the sum stops.
+  pub nodes : raised old.meter.nodes (old.budget.records - new.budget.records) ≤ new.meter.nodes
+  pub most_nodes : new.meter.nodes ≤ old.meter.nodes + (old.budget.records - new.budget.records)
+  pub rises : old.meter.nodes ≤ new.meter.nodes
+  -- A byte for each place at most.
+  pub most_bytes : new.meter.bytes + low.windows ≤ old.meter.bytes + high.windows
+  pub bytes_rise : old.meter.bytes ≤ new.meter.bytes
+
+-- one of that many sections, the first at `first`, gives no answer
+abbrev pub IsSectionsFault : List ℕ → ℕ → ℕ → Budget → CacheFault → Type 0
+IsSectionsFault c first count after e = (i : ℕ) × (i < count) × IsSectionFault c (first + 16 * i) after e

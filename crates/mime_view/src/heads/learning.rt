@@ -1,0 +1,186 @@
+//! Learning what the top lines of a magic list look at.
+
+ghost use Rattle.std.specs.Prelude.{◌≡◌, ◌+◌, ◌≤◌, [], ◌∷◌, ◌++◌, length, IfOk, IfSome, OnOk};
+ghost use Rattle.mime_view.specs.Heads.{AreHeads, LearnsLines, LearnsSection, LooksAtLine, TellsSections, open_head};
+ghost use Rattle.mime_view.specs.Magic.{LiesBlock};
+
+use crate::heads::{Before, Head, Learnt};
+use crate::magic::check_block;
+use mime_base::{Counted, Meter, OutOfMemory};
+use std::alloc::Global;
+
+/// What a line looks at, and what value bytes and places there are up to and including its own.
+#[derive(Clone, Copy)]
+struct Looks {
+    head: Head,
+    value_bytes: u64,
+    windows: u64,
+}
+
+/// What the top lines of the magic list at `at` look at, or nothing where not all of its sections lie in the cache, or
+/// they have more lines than the cache has room for.
+pub fn learn(
+    alloc: Global,
+    counted: &Counted<'_>,
+    at: u32,
+    meter: &mut Meter,
+) -> Result<Option<Learnt>, OutOfMemory>
+    // What is learnt is of the list.
+    ensures { IfOk result (λ learnt. IfSome learnt (λ it. AreHeads counted.now at it.before.items it.heads.items)) }
+{
+    let [count, _, first] = match counted.cards::<3>(u64::from(at), meter) {
+        Ok(numbers) => numbers,
+        Err(_) => return Ok(None),
+    };
+    let Ok(()) = check_block(counted, u64::from(first), 16, u64::from(count)) else {
+        return Ok(None);
+    };
+    learn_sections(alloc, counted, first, count, meter)
+}
+
+/// The same of that many sections, the first at `first`.
+fn learn_sections(
+    alloc: Global,
+    counted: &Counted<'_>,
+    first: u32,
+    count: u32,
+    meter: &mut Meter,
+) -> Result<Option<Learnt>, OutOfMemory>
+    requires block { LiesBlock counted.now first 16 count }
+    ensures { IfOk result (λ learnt. IfSome learnt (λ it. TellsSections counted.now first count it.before.items it.heads.items)) }
+{
+    let mut before = Vec::new(alloc);
+    let mut heads = Vec::new(alloc);
+    let mut all = Before {
+        heads: 0,
+        value_bytes: 0,
+        windows: 0,
+    };
+    before.push(all)?;
+    for i in 0..count {
+        let at = u64::from(first) + 16 * u64::from(i);
+        let Some(after) = learn_section(counted, at, i, all, &mut heads, meter)? else {
+            return Ok(None);
+        };
+        before.push(after)?;
+        all = after;
+    }
+    Ok(Some(Learnt { before, heads }))
+}
+
+/// The heads of the section at `at` come to those of the sections before it. Nothing is given where the cache has no room
+/// for so many lines.
+fn learn_section(
+    counted: &Counted<'_>,
+    at: u64,
+    section: u32,
+    all: Before,
+    heads: &mut Vec<Head>,
+    meter: &mut Meter,
+) -> Result<Option<Before>, OutOfMemory>
+    requires inside { at + 16 ≤ length counted.now }
+    requires all { all.heads ≡ length heads.old.items }
+    ensures { IfOk result (λ after. IfSome after (λ to. LearnsSection counted.now at section all to heads.old.items heads.new.items)) }
+{
+    let [_, _, count, first] = counted.cards_within::<4>(at, meter);
+    if counted.length() / 16 < heads.len() as u64 + u64::from(count) {
+        return Ok(None);
+    }
+    let Ok(()) = check_block(counted, u64::from(first), 32, u64::from(count)) else {
+        let after = end_open(all, section, heads)?;
+        return Ok(Some(after));
+    };
+    let after = learn_lines(counted, first, count, section, all, heads, meter)?;
+    Ok(Some(after))
+}
+
+/// The heads of that many lines, the first at `first`, come to the others, up to a line that may not be refused by one look.
+fn learn_lines(
+    counted: &Counted<'_>,
+    first: u32,
+    count: u32,
+    section: u32,
+    all: Before,
+    heads: &mut Vec<Head>,
+    meter: &mut Meter,
+) -> Result<Before, OutOfMemory>
+    requires block { LiesBlock counted.now first 32 count }
+    requires all { all.heads ≡ length heads.old.items }
+    ensures { IfOk result (λ to. LearnsLines counted.now first count section all to heads.old.items heads.new.items) }
+{
+    let mut all = all;
+    for j in 0..count {
+        let at = u64::from(first) + 32 * u64::from(j);
+        let Some(looks) = looks_of(counted, at, section, all, meter) else {
+            let after = end_open(all, section, heads)?;
+            return Ok(after);
+        };
+        heads.push(looks.head)?;
+        all = Before {
+            heads: heads.len(),
+            value_bytes: looks.value_bytes,
+            windows: looks.windows,
+        };
+    }
+    Ok(all)
+}
+
+/// A head that refuses nothing comes to the others, so that its section is always looked at.
+fn end_open(all: Before, section: u32, heads: &mut Vec<Head>) -> Result<Before, OutOfMemory>
+    // It is the last one.
+    ensures heads { OnOk result (heads.new.items ≡ heads.old.items ++ (open_head section ∷ [])) }
+    // It has no value bytes and no places.
+    ensures all { IfOk result (λ to. to ≡ record all { heads = length heads.new.items }) }
+{
+    heads.push(Head {
+        first: 0,
+        single: false,
+        end: u32::MAX,
+        reach: u32::MAX,
+        section,
+    })?;
+    Ok(Before {
+        heads: heads.len(),
+        value_bytes: all.value_bytes,
+        windows: all.windows,
+    })
+}
+
+/// What the line at `at` looks at, if one look may refuse it.
+fn looks_of(
+    counted: &Counted<'_>,
+    at: u64,
+    section: u32,
+    all: Before,
+    meter: &mut Meter,
+) -> Option<Looks>
+    requires inside { at + 32 ≤ length counted.now }
+    ensures { IfSome result (LooksAtLine counted.now at section all) }
+{
+    let [start, range, word, size, value, mask, _, _] = counted.cards_within::<8>(at, meter);
+    if mask != 0 || word != 1 || size == 0 || range == 0 {
+        return None;
+    }
+    if counted.length() < u64::from(value) + u64::from(size) {
+        return None;
+    }
+    let end = start.checked_add(range)?;
+    let beyond = end.checked_add(size)?;
+    let value_bytes = all.value_bytes.checked_add(u64::from(size))?;
+    let windows = all.windows.checked_add(u64::from(range))?;
+    let Ok(first) = counted.byte_at(u64::from(value), meter) else {
+        return None;
+    };
+    let head = Head {
+        first,
+        single: range == 1,
+        end,
+        reach: beyond - 1,
+        section,
+    };
+    Some(Looks {
+        head,
+        value_bytes,
+        windows,
+    })
+}
