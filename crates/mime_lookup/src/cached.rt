@@ -1,6 +1,6 @@
 //! Lookup over the bytes of a cache, whatever they are.
 
-ghost use Rattle.std.specs.Prelude.{◌≡◌, ◌+◌, ◌<◌, IfErr, IfOk, None, OnOk, false, length, max, option_map};
+ghost use Rattle.std.specs.Prelude.{◌≡◌, ◌+◌, ◌<◌, ◌≤◌, IfErr, IfOk, IfSome, MatchResult, None, OnOk, false, length, max, option_map};
 ghost use Rattle.mime_base.specs.Database.{PlainDatabase};
 ghost use Rattle.mime_lookup.specs.Affords.{Affords};
 ghost use Rattle.mime_lookup.specs.Bounds.{stated_extent};
@@ -13,7 +13,9 @@ ghost use Rattle.mime_lookup.specs.Reads.{AsksUnless, Reads};
 ghost use Rattle.mime_lookup.specs.Spelling.{SpellsGlobs};
 ghost use Rattle.mime_lookup.specs.Spent.{IsUsedUp, UsesUp};
 ghost use Rattle.mime_lookup.specs.Steps.{IsPacked, Stops, SufficesForContent};
+ghost use Rattle.mime_base.specs.Meter.{raised};
 ghost use Rattle.mime_view.specs.Hits.{near};
+ghost use Rattle.mime_view.specs.Opening.{IsOpenFault, Opens};
 
 mod ancestry;
 mod by_content;
@@ -21,6 +23,7 @@ mod by_name;
 mod by_name_alone;
 mod content_alone;
 mod icons;
+mod learnt;
 mod name_types;
 mod sniff;
 mod subclass;
@@ -37,8 +40,9 @@ use crate::stopped::{Cause, Stopped};
 pub use by_name_alone::look_up_name;
 pub use content_alone::{SniffedContent, sniff_alone};
 pub use icons::{Icons, icon_of};
+pub use learnt::look_up_learnt;
 use mime_base::{Counted, Host, Meter, TEXTUAL_FRONT};
-use mime_view::{Budget, Cache, CacheFault, Spending};
+use mime_view::{Budget, Cache, CacheFault, MagicHeads, Spending};
 use std::alloc::Global;
 pub use subclass::is_a;
 
@@ -88,7 +92,9 @@ pub fn look_up<'a, R: Content>(
         return Err(Stopped { cause, read, meter });
     }
     let question = Question { name, host, order };
-    match open_and_find(alloc, cache, &question, content, &mut read, &mut meter) {
+    match open_and_find(
+        alloc, cache, None, &question, content, &mut read, &mut meter,
+    ) {
         Ok(kind) => Ok(Answer { kind, read, meter }),
         Err(cause) => Err(Stopped { cause, read, meter }),
     }
@@ -99,11 +105,13 @@ pub fn look_up<'a, R: Content>(
 fn open_and_find<'a, R: Content>(
     alloc: Global,
     cache: Counted<'a>,
+    heads: Option<&'a MagicHeads<'a>>,
     question: &Question<'_>,
     content: &mut Option<R>,
     read: &mut u64,
     meter: &mut Meter,
 ) -> Result<&'a [u8], Cause>
+    requires heads { IfSome heads (λ it. it.now ≡ cache) }
     requires none { read.old ≡ 0 }
     requires fresh { meter.old ≡ record { nodes = 0; bytes = 0 } }
     ensures answers { IfOk result (λ kind. AnswersQuestion R.remaining cache.entry question.now content.old kind.now) }
@@ -114,7 +122,7 @@ fn open_and_find<'a, R: Content>(
         content.old content.new read.new result }
     ensures costs { CostsQuestion cache.entry question.now content.old read.new meter.new result }
 {
-    let cache = Cache::open(cache, meter)?;
+    let cache = open_known(cache, heads, meter)?;
     let budget = Budget::of(&cache);
     let mut spending = Spending {
         meter: *meter,
@@ -123,6 +131,26 @@ fn open_and_find<'a, R: Content>(
     let kind = find(alloc, &cache, question, content, read, &mut spending);
     *meter = spending.meter;
     kind
+}
+
+/// Opens a cache, with what was learnt of it where that is there.
+fn open_known<'a>(
+    cache: Counted<'a>,
+    heads: Option<&'a MagicHeads<'a>>,
+    meter: &mut Meter,
+) -> Result<Cache<'a>, CacheFault>
+    requires heads { IfSome heads (λ it. it.now ≡ cache) }
+    ensures opened { MatchResult result
+        (λ opened. (opened ≡ cache.entry) × Opens cache.entry) (IsOpenFault cache.entry) }
+    ensures counted { OnOk result (meter.new.nodes ≡ raised meter.old.nodes 1) }
+    ensures nodes { meter.new.nodes ≤ meter.old.nodes + 1 }
+    ensures rises { meter.old.nodes ≤ meter.new.nodes }
+    ensures bytes { meter.new.bytes ≡ meter.old.bytes }
+{
+    match heads {
+        Some(heads) => Cache::open_learnt(heads, meter),
+        None => Cache::open(cache, meter),
+    }
 }
 
 /// The lookup over an opened cache: the name, and where that leaves a choice the front of the content.

@@ -43,8 +43,8 @@ returns-in_err-cache-clause-costs g c =
     let bytes : Meter → ℕ = λ meter. meter.bytes in
     record {
       bounds = record {
-        nodes = omega (arith, c.open.ensures.nodes, ap nodes c.requires.fresh);
-        bytes = omega (arith, c.open.ensures.bytes, ap bytes c.requires.fresh);
+        nodes = omega (arith, c.open_known.ensures.nodes, ap nodes c.requires.fresh);
+        bytes = omega (arith, c.open_known.ensures.bytes, ap bytes c.requires.fresh);
       };
       counted = not_ok _ _ c.from_residual.result passed;
       near = λ b globs decide. not_ok _ _ c.from_residual.result passed;
@@ -86,7 +86,7 @@ returns-clause-costs g c =
     let bytes = ap (λ (meter : Meter). meter.bytes) c.requires.fresh in
     record {
       bounds = keeps_bounds (length c.args.question.now.name.now) c.find-kind.new.read c.args.cache
-          (spending_of c.open.new.meter c.of-budget.result) c.find-kind.new.spending (rw same at c.of-budget.ensures.records)
+          (spending_of c.open_known.new.meter c.of-budget.result) c.find-kind.new.spending (rw same at c.of-budget.ensures.records)
           (rw same at c.of-budget.ensures.value_bytes) (omega (arith, c.in_ok-cache.ensures.nodes, nodes))
           (omega (arith, c.in_ok-cache.ensures.bytes, bytes)) c.find-kind.ensures.cost;
       counted = on_ok c.find-kind.result (omega (arith, c.in_ok-cache.ensures.counted, c.find-kind.ensures.cost.rises));
