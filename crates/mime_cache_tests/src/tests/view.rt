@@ -1,6 +1,7 @@
 //! Caches that are opened and asked for names, as they were made and damaged.
 
 mod hits;
+mod learnt;
 mod parents;
 mod rules;
 mod sniffing;
