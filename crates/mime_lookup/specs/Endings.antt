@@ -19,8 +19,8 @@ abbrev pub AreEndings : List ℕ → List ℕ → Type 0
 AreEndings endings name = (size : ℕ) → size ≤ 4 → slice_index endings size ≡ ending_number size name
 
 -- a name whose last bytes spell these numbers is refused
-abbrev pub Refuses : List ℕ → RuleKey → Type 0
-Refuses endings key = slice_index endings key.size ≢ key.ending
+abbrev pub RefusesName : List ℕ → RuleKey → Type 0
+RefusesName endings key = slice_index endings key.size ≢ key.ending
 
 -- the last bytes of each name that a rule matches spell this number
 abbrev pub IsKeyOf : RuleKey → GlobRule → Type 0

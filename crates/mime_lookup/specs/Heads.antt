@@ -12,7 +12,7 @@ abbrev pub AreBytes : List ℕ → Type 0
 AreBytes content = (place : ℕ) → slice_index content place < 256
 
 -- a head that says how windows begin refuses a content: none of those of its range that lie in the content begins so
-pub record Refuses (head : LineHead) (content : List ℕ) : Type 0 where
+pub record RefusesContent (head : LineHead) (content : List ℕ) : Type 0 where
   pub known : 0 < head.size
   pub bytes : AreBytes content
   pub lacks : (place : ℕ) → head.start ≤ place → place < head.start + head.range → place + head.size ≤ length content
@@ -20,12 +20,12 @@ pub record Refuses (head : LineHead) (content : List ℕ) : Type 0 where
 
 -- a content that a head refuses has no window that equals a line's value
 abbrev pub IsHead : LineHead → PlainLine → Type 0
-IsHead head own = (content : List ℕ) (host : Host) → Refuses head content
+IsHead head own = (content : List ℕ) (host : Host) → RefusesContent head content
     → equals_from own host content own.start own.range ≡ false
 
 -- so the line doesn't hold
 abbrev pub IsHeadOf : LineHead → Matchlet → Type 0
-IsHeadOf head line = (content : List ℕ) (host : Host) → Refuses head content
+IsHeadOf head line = (content : List ℕ) (host : Host) → RefusesContent head content
     → line_holds (plain_matchlet line) content host ≡ false
 
 -- each line has its head, in their order

@@ -6,6 +6,7 @@ mod by_name;
 mod cached;
 mod globs;
 mod health;
+mod indexed;
 mod limits;
 mod magic;
 mod pieces;
@@ -17,7 +18,9 @@ use crate::tests::lookup::cached::look_up_in;
 use crate::tests::lookup::pieces::{is_answered_in_pieces, is_interrupted, is_refused_by_failures};
 use crate::tests::texts::{Texts, merged};
 use mime_base::{Database, Host};
-use mime_lookup::{Answer, Cause, Content, Order, Stopped, look_up_plain};
+use mime_lookup::{
+    Answer, Cause, Content, IndexedDatabase, Order, Stopped, look_up_indexed, look_up_plain,
+};
 use mime_store::write_cache;
 use mime_tool::answer;
 use std::alloc::Global;
@@ -118,10 +121,33 @@ fn is_answered(rt: &impl Abort, alloc: Global, row: &Row) -> Result<(), Fail> {
         outcome: Ok((row.kind, row.read)),
     };
     are_answered_alike(rt, alloc, &database, &asked, (row.content, row.content))?;
+    is_answered_by_index(rt, alloc, &database, &asked, row.content)?;
     match row.content {
         Some(content) => is_answered_by_reads(rt, alloc, &database, &asked, content),
         None => Ok(()),
     }
+}
+
+/// The index of a database has the outcome too.
+fn is_answered_by_index(
+    rt: &impl Abort,
+    alloc: Global,
+    database: &Database,
+    asked: &Asked<'_>,
+    content: Option<&[u8]>,
+) -> Result<(), Fail> {
+    let Asked {
+        name,
+        file,
+        host,
+        order,
+        outcome,
+    } = *asked;
+    let index = IndexedDatabase::new(alloc, database)?;
+    let mut content = content;
+    let found = outcome_of(look_up_indexed(alloc, &index, file, &mut content, host, order));
+    is_outcome(rt, name, "by the index", found, outcome);
+    Ok(())
 }
 
 /// The content comes in pieces, with interruptions and failures.

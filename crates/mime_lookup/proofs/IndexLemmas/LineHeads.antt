@@ -1,11 +1,11 @@
 -- Heads of lines: a content that a head refuses has no window that equals the line's value, so the line doesn't hold; and heads of
 -- sections one after another.
-use Rattle.std.proofs.Common.{◌≡◌, ℕ, zero, suc, ◌+◌, ◌-◌, ◌<◌, ◌≤◌, ◌⊎◌, inl, inr, ◌||◌, Bool, false, List, [], ◌∷◌, ◌++◌, length, get_or, min}
+use Rattle.std.proofs.Common.{◌≡◌, ℕ, zero, suc, ◌+◌, ◌-◌, ◌<◌, ◌≤◌, inl, inr, ◌||◌, Bool, false, List, [], ◌∷◌, ◌++◌, length, get_or, min}
 use Rattle.std.proofs.Common.{take, take_all, drop, None, Some, refl, sym, ap, subst, ◌∙◌, arith, length-drop}
 use Rattle.std.proofs.lemmas.Bool.{cases_lt}
 use Rattle.std.proofs.lemmas.List.{drop_all, drop_more}
-use Rattle.mime_base.specs.Magic.Holds.{equals_from, line_holds, some_holds}
-use Rattle.mime_base.specs.Magic.{forest_of, line_from, mask_bytes, plain_matchlet, plain_matchlets}
+use Rattle.mime_base.specs.Magic.Holds.{equals_from, some_holds}
+use Rattle.mime_base.specs.Magic.{forest_of, line_from, plain_matchlet, plain_matchlets}
 use Rattle.mime_base.specs.declared.magic.Section.{Section}
 use Rattle.mime_base.specs.declared.magic.host.Host.{Host}
 use Rattle.mime_base.specs.declared.magic.matchlet.Matchlet.{Matchlet}
@@ -15,7 +15,7 @@ use Rattle.mime_base.proofs.MagicLemmas.HoldingLines.{some_holds-from}
 use Rattle.mime_base.proofs.MagicLemmas.Ranges.{equals_from-anywhere}
 use Rattle.mime_base.proofs.MagicLemmas.Skipping.{all_differ, word_of_one}
 use Rattle.mime_lookup.proofs.AncestryLemmas.PairSteps.{items_from}
-use Rattle.mime_lookup.specs.Heads.{AreBytes, AreHeads, AreLineHeads, IsHead, IsHeadOf, Refuses}
+use Rattle.mime_lookup.specs.Heads.{AreBytes, AreHeads, AreLineHeads, IsHead, IsHeadOf, RefusesContent}
 use Rattle.mime_lookup.specs.declared.indexed.line_head.LineHead.{LineHead}
 
 -- no window of a range begins as the value does
@@ -63,7 +63,7 @@ module _ (content : List ℕ) (host : Host) where
 
   -- a line that is refused
   refused-line : (i : ℕ) (heads : List LineHead) (lines : List Matchlet) (d : LineHead) → AreLineHeads heads lines → i < length heads →
-      Refuses (get_or heads i d) content → holds_from i lines ≡ holds_from (suc i) lines
+      RefusesContent (get_or heads i d) content → holds_from i lines ≡ holds_from (suc i) lines
   refused-line i [] lines d are within refuses = absurd (omega arith)
   refused-line i (h ∷ heads) [] d are within refuses = absurd are
   refused-line zero (h ∷ heads) (l ∷ lines) d are within refuses =
@@ -74,7 +74,7 @@ module _ (content : List ℕ) (host : Host) where
 
   -- is skipped
   pub refused-skipped : (i : ℕ) (heads : List LineHead) (lines : List Matchlet) (d : LineHead) → AreLineHeads heads lines → i < length heads →
-      Refuses (get_or heads i d) content → holds_from i lines ≡ holds_from (i + 1) lines
+      RefusesContent (get_or heads i d) content → holds_from i lines ≡ holds_from (i + 1) lines
   refused-skipped i heads lines d are within refuses =
       refused-line i heads lines d are within refuses ∙ ap (λ k. holds_from k lines) {x = suc i} {y = i + 1} (omega arith)
 

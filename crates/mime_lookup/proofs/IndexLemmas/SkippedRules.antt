@@ -1,12 +1,12 @@
 -- Rules and their keys: a rule whose key refuses a name doesn't match it, and rules that are skipped are no hits.
-use Rattle.std.proofs.Common.{◌≡◌, ℕ, zero, suc, ◌+◌, ◌<◌, ◌≤◌, true, false, cond, List, [], ◌∷◌, ◌++◌, length, take, get_or, refl, sym, ap}
+use Rattle.std.proofs.Common.{◌≡◌, ℕ, zero, suc, ◌≤◌, false, cond, List, [], ◌∷◌, ◌++◌, length, take, refl, ap}
 use Rattle.std.proofs.Common.{◌∙◌, arith}
 use Rattle.std.specs.List.{AllWithin}
 use Rattle.std.proofs.lemmas.Bool.{false_from_ne_true}
 use Rattle.mime_base.specs.Kept.{hits}
 use Rattle.mime_base.specs.Matching.Matches.{rule_matches}
 use Rattle.mime_base.specs.declared.database.rule.GlobRule.{GlobRule}
-use Rattle.mime_lookup.specs.Endings.{AreEndings, AreKeys, IsKeyOf, Refuses}
+use Rattle.mime_lookup.specs.Endings.{AreEndings, AreKeys, IsKeyOf, RefusesName}
 use Rattle.mime_lookup.specs.declared.indexed.rule_key.RuleKey.{RuleKey}
 
 -- a key and a rule more
@@ -26,13 +26,13 @@ keys-length (k ∷ keys) (r ∷ rules) are = ap suc (keys-length keys rules are.
 
 module _ (endings name : List ℕ) (of_name : AreEndings endings name) where
   -- a rule whose key refuses the name doesn't match it
-  refused-unmatched : (key : RuleKey) (rule : GlobRule) → IsKeyOf key rule → Refuses endings key →
+  refused-unmatched : (key : RuleKey) (rule : GlobRule) → IsKeyOf key rule → RefusesName endings key →
       rule_matches rule.pattern rule.cased name ≡ false
   refused-unmatched key rule is refuses =
       false_from_ne_true _ (λ matched. refuses (of_name key.size key.small ∙ is name matched))
 
   -- rules that are skipped from the first on
-  skipped-none : (until : ℕ) (keys : List RuleKey) (rules : List GlobRule) → AreKeys keys rules → AllWithin (Refuses endings) keys 0 until →
+  skipped-none : (until : ℕ) (keys : List RuleKey) (rules : List GlobRule) → AreKeys keys rules → AllWithin (RefusesName endings) keys 0 until →
       hits (take until rules) name ≡ []
   skipped-none zero keys rules are refused = refl
   skipped-none (suc until) [] [] are refused = refl
@@ -45,7 +45,7 @@ module _ (endings name : List ℕ) (of_name : AreEndings endings name) where
 
   -- rules that are skipped are no hits
   pub skipped : (from until : ℕ) (keys : List RuleKey) (rules : List GlobRule) → from ≤ until → AreKeys keys rules →
-      AllWithin (Refuses endings) keys from until → hits (take until rules) name ≡ hits (take from rules) name
+      AllWithin (RefusesName endings) keys from until → hits (take until rules) name ≡ hits (take from rules) name
   skipped zero until keys rules within are refused = skipped-none until keys rules are refused
   skipped (suc from) zero keys rules within are refused = absurd (omega arith)
   skipped (suc from) (suc until) [] [] within are refused = refl

@@ -7,7 +7,7 @@
 
 ghost use Rattle.std.specs.Prelude.{◌≡◌, ◌≤◌, length, IfOk};
 ghost use Rattle.std.specs.List.{AllWithin};
-ghost use Rattle.mime_lookup.specs.Endings.{AreEndings, AreKeys, IsKeyOf, Refuses, ending_number};
+ghost use Rattle.mime_lookup.specs.Endings.{AreEndings, AreKeys, IsKeyOf, RefusesName, ending_number};
 
 use crate::indexed::rule_key::RuleKey;
 use mime_base::{Class, GlobRule, Meter, OutOfMemory, as_compared, class_of_bytes};
@@ -85,7 +85,7 @@ pub fn next_unrefused(keys: &[RuleKey], endings: &Endings, from: usize, meter: &
     // It is a place of a key, or the first after the last one.
     ensures within { result ≤ length keys.now }
     // Each key before it refuses the name.
-    ensures refused { AllWithin (Refuses endings.now) keys.now from result }
+    ensures refused { AllWithin (RefusesName endings.now) keys.now from result }
     // No record of a cache is visited.
     ensures nodes { meter.new.nodes ≡ meter.old.nodes }
 {

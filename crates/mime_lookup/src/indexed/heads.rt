@@ -7,7 +7,7 @@
 ghost use Rattle.std.specs.Prelude.{◌≡◌, ◌++◌, true, List, IfOk, OnOk};
 ghost use Rattle.mime_base.specs.Magic.Holds.{some_holds};
 ghost use Rattle.mime_base.specs.Magic.{forest_of, line_from, plain_matchlets};
-ghost use Rattle.mime_lookup.specs.Heads.{AreHeads, AreLineHeads, IsHead, IsHeadOf, Refuses};
+ghost use Rattle.mime_lookup.specs.Heads.{AreHeads, AreLineHeads, IsHead, IsHeadOf, RefusesContent};
 ghost use Rattle.mime_lookup.specs.declared.indexed.line_head.LineHead.{LineHead};
 
 use crate::indexed::first_places::FirstPlaces;
@@ -87,7 +87,7 @@ fn head_from(start: u32, range: u32, word: u32, value: &[u8]) -> LineHead
 /// Whether a line's head refuses a content.
 #[inline]
 fn refuses(head: &LineHead, content: &FirstPlaces<'_>) -> bool
-    ensures { result ≡ true → Refuses head.now content.now }
+    ensures { result ≡ true → RefusesContent head.now content.now }
 {
     let bytes = content.bytes();
     let size = usize::from(head.size);

@@ -1,9 +1,8 @@
-use Rattle.std.proofs.Common.{◌≡◌, List, ℕ, length, ◌<◌, subst, arith}
+use Rattle.std.proofs.Common.{List, ℕ, length, ◌<◌, subst, arith}
 use Rattle.std.specs.Prelude.{IfOk}
 use Rattle.std.proofs.lemmas.Bool.{eqb-false}
 use Rattle.std.proofs.lemmas.Result.{IfOk-weaker}
 use denote.Bor.{Bor}
-use Rattle.mime_base.specs.Database.{pairs_of, plain_database}
 use Rattle.mime_lookup.specs.Ancestry.{kinds_of}
 use Rattle.mime_lookup.specs.Choice.{ChoosesAmong}
 use Rattle.mime_lookup.specs.Places.{placed}

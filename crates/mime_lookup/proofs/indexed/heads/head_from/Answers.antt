@@ -1,5 +1,4 @@
-use Rattle.std.proofs.Common.{length, ◌<◌, sym, ◌∙◌, arith}
-use Rattle.std.proofs.lemmas.Bool.{eqb-false}
+use Rattle.std.proofs.Common.{arith}
 use Rattle.mime_lookup.proofs.IndexLemmas.LineHeads.{none_equals}
 use Rattle.mime_lookup.proofs.indexed.heads.head_from.Goals as goal
 

@@ -1,4 +1,4 @@
-use Rattle.std.proofs.Common.{◌≡◌, ◌+◌, drop}
+use Rattle.std.proofs.Common.{◌≡◌, drop}
 use Rattle.mime_base.specs.Magic.Holds.{some_holds}
 use Rattle.mime_base.specs.Magic.{forest_of, plain_matchlets}
 use Rattle.mime_lookup.proofs.indexed.heads.some_line_holds.Given as goal

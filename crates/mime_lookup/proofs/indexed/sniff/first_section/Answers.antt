@@ -1,4 +1,4 @@
-use Rattle.std.proofs.Common.{◌≡◌, ap, sym, ◌∙◌}
+use Rattle.std.proofs.Common.{ap, sym, ◌∙◌}
 use Rattle.mime_base.specs.Magic.Holds.{some_holds}
 use Rattle.mime_base.specs.Magic.{forest_of, plain_matchlets}
 use Rattle.mime_lookup.proofs.IndexLemmas.LineHeads.{next-fits, next-heads, sizes-within}
