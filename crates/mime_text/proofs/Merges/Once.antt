@@ -1,6 +1,6 @@
 -- The first entries of each key: marks, plain pairs, and that no key stands twice.
 use Rattle.std.proofs.Common.{◌≡◌, ℕ, suc, ◌+◌, ◌<◌, Bool, true, false, not, ◌&&◌, ◌||◌, cond, List, [], ◌∷◌, ◌++◌, length, map, ap, ap₂, ◌∙◌, refl}
-use Rattle.std.proofs.Common.{sym, append_assoc, drop, get_or}
+use Rattle.std.proofs.Common.{sym, append_assoc, arith, drop, get_or}
 use Rattle.std.proofs.lemmas.Bool.{and_from, and_parts, not-true, not_from_false}
 use Rattle.std.proofs.lemmas.Cmp.{nat_list_eq_equiv}
 use Rattle.std.proofs.lemmas.List.{drop_more}
@@ -51,6 +51,12 @@ module _ {A : Type 0} (key_of : A → List ℕ × List ℕ) where
   pub length-marks : (seen : List (List ℕ × List ℕ)) (entries : List A) → length (marks seen (map key_of entries)) ≡ length entries
   length-marks seen [] = refl
   length-marks seen (entry ∷ entries) = ap suc (length-marks (key_of entry ∷ seen) entries)
+
+-- of fewer than two entries each is the first
+pub once-few : {A : Type 0} (same : A → A → Bool) (entries : List A) → length entries < 2 → entries ≡ once same entries
+once-few same [] few = refl
+once-few same (entry ∷ []) few = refl
+once-few same (entry ∷ other ∷ entries) few = absurd (omega arith)
 
 -- keys that find alike mark alike
 pub marks-alike : (seen others : List (List ℕ × List ℕ))

@@ -93,7 +93,7 @@ fn matchlets(alloc: Global, roots: &mut Vec<Root>) -> Result<Vec<Matchlet>, Allo
     ensures taken { IfOk result (λ v. plain_matchlets v.items ≡ kept_matchlets (stack roots.old.items)) }
     ensures left { OnOk result (roots.new.items ≡ []) }
 {
-    let mut matchlets = Vec::with_capacity(alloc, roots.len())?;
+    let mut matchlets = Vec::new(alloc);
     while let Some(root) = roots.pop() {
         if let Some(matchlet) = root.matchlet {
             matchlets.push(matchlet)?;

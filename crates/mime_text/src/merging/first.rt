@@ -76,6 +76,9 @@ pub fn first_of_each<T: Drop, K: Key<T>>(
     // Of the entries of one key the first is kept, and the kept ones stay in their order.
     ensures { IfOk result (λ kept. kept.items ≡ once (has_same_key K.key_of) entries.items) }
 {
+    if entries.len() < 2 {
+        return Ok(entries);
+    }
     let marks = first_marks::<T, K>(alloc, &entries)?;
     marked(alloc, entries, marks)
 }
