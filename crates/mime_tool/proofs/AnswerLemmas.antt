@@ -1,4 +1,5 @@
 -- Lemmas on answers, and on the lines of files.
+pub mod AlikeLookups
 pub mod CachedLines
 pub mod CachedStops
 pub mod Kinds

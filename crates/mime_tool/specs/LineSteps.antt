@@ -1,6 +1,7 @@
 -- What the parts of a line give.
-use Rattle.std.specs.Prelude.{◌≡◌, ℕ, Bool, true, false, List, [], Option, Some, None, Result, Ok, Err, string_bytes}
+use Rattle.std.specs.Prelude.{◌≡◌, ℕ, Bool, true, false, List, [], Option, Some, None, IfSome, Result, Ok, Err, string_bytes}
 use Rattle.mime_base.specs.Database.{plain_database}
+use Rattle.mime_base.specs.declared.database.Database.{Database}
 use Rattle.mime_lookup.specs.Content.{Health}
 use Rattle.mime_request.specs.declared.request.Output.{Output}
 use Rattle.mime_tool.specs.Files.{IsReaderOf, Stored}
@@ -16,6 +17,7 @@ use Rattle.mime_tool.specs.declared.line.lookup.Cost.{Cost}
 use Rattle.mime_tool.specs.declared.line.lookup.Lookup.{Lookup}
 use Rattle.mime_tool.specs.declared.line.lookup.Data.{Data}
 use Rattle.mime_tool.specs.declared.line.lookup.Data.TheVariants as data_of
+use Rattle.mime_tool.specs.declared.learning.Learning.{Learning}
 use Rattle.mime_tool.specs.declared.stop.Stop.{Stop}
 use Rattle.mime_tool.specs.declared.stop.Stop.TheVariants as stop
 
@@ -23,6 +25,36 @@ use Rattle.mime_tool.specs.declared.stop.Stop.TheVariants as stop
 abbrev pub lookup_in : Data → Lookup → PlainLookup
 lookup_in (data_of.Database database) lookup = lookup_over lookup.name_only lookup.output lookup.order (plain_database database.now)
 lookup_in (data_of.Cache path bytes cost) lookup = lookup_by path.now lookup.name_only cost lookup.output lookup.order bytes.now
+lookup_in (data_of.Learnt path heads cost) lookup = lookup_by path.now lookup.name_only cost lookup.output lookup.order heads.now
+
+-- what FILEs are looked up in: a database, or the path and the bytes of a cache, whose cost is told or not
+pub data Source : Type 0 where
+  whole : Database → Source
+  cached : List ℕ → List ℕ → Bool → Source
+
+-- of data, whether something was learnt of it or not
+abbrev pub source_of : Data → Source
+source_of (data_of.Database database) = whole database.now
+source_of (data_of.Cache path bytes cost) = cached path.now bytes.now cost
+source_of (data_of.Learnt path heads cost) = cached path.now heads.now cost
+
+-- the bytes of the cache in which FILEs are looked up
+abbrev pub bytes_in : Data → List ℕ
+bytes_in (data_of.Database database) = []
+bytes_in (data_of.Cache path bytes cost) = bytes.now
+bytes_in (data_of.Learnt path heads cost) = heads.now
+
+-- what was learnt is of the cache in which FILEs are looked up
+abbrev pub IsOfCache : Learning → Type 0
+IsOfCache learning = IfSome learning.heads (λ heads. heads ≡ bytes_in learning.lookup.by)
+
+-- Two lookups that are the same but for what was learnt.
+pub record LooksAlike (a b : Lookup) : Type 0 where
+  pub source : source_of a.by ≡ source_of b.by
+  pub name_only : a.name_only ≡ b.name_only
+  pub inode : a.inode ≡ b.inode
+  pub order : a.order ≡ b.order
+  pub output : a.output ≡ b.output
 
 -- the plain value of a lookup
 abbrev pub plain_lookup : Lookup → PlainLookup

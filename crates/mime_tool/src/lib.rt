@@ -28,6 +28,7 @@ mod files;
 mod from_texts;
 mod icon;
 mod is_a;
+mod learning;
 mod line;
 mod list;
 mod names;

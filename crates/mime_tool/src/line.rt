@@ -11,10 +11,12 @@ ghost use Rattle.mime_tool.specs.Types.{cost_text};
 ghost use Rattle.mime_tool.specs.Words.{names_of};
 
 mod escape;
+mod learnt;
 mod lookup;
 
 use crate::desk::{Desk, Opened, report};
 use crate::files::Inode;
+use crate::learning::Learning;
 use crate::status::{ANSWERED, NOT_ANSWERED};
 use crate::stop::Stop;
 use crate::words::{RawWord, name_of};
@@ -46,7 +48,10 @@ pub(crate) fn print_lines<D: Desk>(
         (names_of raws.now (texts files.now))) (D.state desk.old) (D.state desk.new) result }
 {
     let mut status = ANSWERED;
+    let mut learning = Learning::new(lookup);
     for file in files {
+        learning.count_file(desk.alloc());
+        let lookup = learning.lookup();
         status = status.max(print_line(desk, lookup, name_of(raws, file))?);
     }
     Ok(status)

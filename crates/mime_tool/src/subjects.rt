@@ -12,6 +12,7 @@ ghost use Rattle.mime_tool.specs.Subjects.{AreRuns, list_at, names_in};
 ghost use Rattle.mime_tool.specs.Words.{named_subjects};
 
 use crate::desk::Desk;
+use crate::learning::Learning;
 use crate::line::{Lookup, Outcome, find, print_line, print_lines, print_outcome, refuse};
 use crate::names::{Names, next_name};
 use crate::status::ANSWERED;
@@ -103,10 +104,13 @@ fn print_names<D: Desk, R: Content + Drop>(
 {
     let mut names = Names::new(desk.alloc(), reader);
     let mut status = ANSWERED;
+    let mut learning = Learning::new(lookup);
     for number in 1..u64::MAX {
         let Some(name) = next_name(desk, &mut names, list)? else {
             return Ok(status);
         };
+        learning.count_file(desk.alloc());
+        let lookup = learning.lookup();
         status = status.max(print_name(desk, lookup, list, number, name.as_slice())?);
     }
     // There is no number for one more name.

@@ -15,7 +15,7 @@ use mime_base::{Host, Meter};
 use mime_view::MagicHeads;
 use std::alloc::Global;
 
-/// [`look_up`](crate::look_up) over a cache that something was learnt of, which makes it quicker where a content has to be sniffed.
+/// The lookup of [`crate::look_up`] over a cache that something was learnt of, which makes it quicker where a content has to be sniffed.
 ///
 /// ```text
 /// let cache = Cache::open(Counted::new(bytes), &mut meter)?;

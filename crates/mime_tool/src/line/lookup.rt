@@ -8,12 +8,14 @@ ghost use Rattle.mime_tool.specs.LineSteps.{IsContent, LooksUp, plain_lookup, ta
 ghost use Rattle.mime_tool.specs.Plain.{lookup_over};
 ghost use Rattle.mime_tool.specs.Types.{cost_tail, lookup_by};
 
+use super::learnt::find_in_learnt;
 use super::{Outcome, base_name};
 use crate::cache::faulty;
 use crate::stop::Stop;
 use mime_base::{Counted, Host, Meter};
 use mime_lookup::{Cause, Content, IndexedDatabase, Order, look_up, look_up_indexed};
 use mime_request::{Options, Output};
+use mime_view::MagicHeads;
 use std::alloc::Global;
 
 /// What FILEs are looked up in.
@@ -24,6 +26,12 @@ pub(crate) enum Data<'i, 'a> {
         path: &'a str,
         bytes: &'a [u8],
         /// Whether the cost of each answer is told.
+        cost: bool,
+    },
+    /// A cache that something was learnt of.
+    Learnt {
+        path: &'a str,
+        heads: &'a MagicHeads<'a>,
         cost: bool,
     },
 }
@@ -85,6 +93,9 @@ pub(crate) fn find<'a, R: Content + Drop>(
         Data::Cache { path, bytes, cost } => {
             find_in_cache(alloc, path, bytes, cost, order, file, content)
         }
+        Data::Learnt { path, heads, cost } => {
+            find_in_learnt(alloc, path, heads, cost, order, file, content)
+        }
     }
 }
 
@@ -142,11 +153,12 @@ pub(super) fn free(lookup: Lookup<'_, '_>) -> Option<Cost>
     match lookup.by {
         Data::Database(_) => None,
         Data::Cache { cost, .. } => cost_of(cost, Meter { nodes: 0, bytes: 0 }, 0),
+        Data::Learnt { cost, .. } => cost_of(cost, Meter { nodes: 0, bytes: 0 }, 0),
     }
 }
 
 // What an answer cost, where that is told.
-fn cost_of(is_told: bool, meter: Meter, read: u64) -> Option<Cost>
+pub(super) fn cost_of(is_told: bool, meter: Meter, read: u64) -> Option<Cost>
     ensures { tail_of result ≡ cost_tail is_told meter read }
 {
     if is_told {
@@ -157,7 +169,7 @@ fn cost_of(is_told: bool, meter: Meter, read: u64) -> Option<Cost>
 }
 
 // What is looked up of a file: its name, but nothing where the content alone is asked.
-fn name_for(order: Order, file: &[u8]) -> &[u8]
+pub(super) fn name_for(order: Order, file: &[u8]) -> &[u8]
     ensures { result.now ≡ name_for order file.entry.now }
 {
     match order {

@@ -106,6 +106,7 @@ module _ (c : List ℕ) (first : ℕ) (before : List Before) (heads : List Head)
       (is.sections k below)))
       (rw (stays i (omega arith), last, is.here) learnt.tells)
 
+  -- so one more section is known
   pub one_more_section : SectionsSoFar c first (before ++ to ∷ []) more (i + 1) to
   unfolding Known
   one_more_section = record {

@@ -1,4 +1,4 @@
-use Rattle.std.proofs.Common.{◌∙◌, ℕ, Err, inl, Ok, Result, subst}
+use Rattle.std.proofs.Common.{◌∙◌, ℕ, Err, ap, inl, Ok, Result, subst}
 use Rattle.std.proofs.Math.Nat.{max-zero}
 use Rattle.std.proofs.lemmas.Result.{err_from_is_err_and}
 use Rattle.mime_tool.specs.Files.{Stored}
@@ -7,6 +7,7 @@ use Rattle.mime_tool.specs.LineSteps.{plain_lookup}
 use Rattle.mime_tool.specs.Names.{left_in}
 use Rattle.mime_tool.specs.declared.stop.Stop.{Stop}
 use Rattle.mime_tool.specs.declared.stop.Stop.TheVariants as stop
+use Rattle.mime_tool.proofs.AnswerLemmas.AlikeLookups.{looked_up_alike}
 use Rattle.mime_tool.proofs.AnswerLemmas.ListedNames.{EndsListed, listed_ended, named_more, named_stopped}
 use Rattle.mime_tool.proofs.AnswerLemmas.UnreadLists.{listed_unnamed}
 use Rattle.mime_tool.proofs.RunLemmas.Ends.{writes_nothing}
@@ -52,7 +53,9 @@ returns-in_err-print_name g c =
     let before = c.loop-number.invariant in
     let named = rw c.in-Some.is at c.in_ok-name.ensures in
     let same = named.same_files ∙ before.same_files in
-    let line = rw (same, c.as_slice.ensures.value) at c.in_err-print_name.ensures in
+    let known = looked_up_alike c.lookup-lookup.result c.count_file.new.self.lookup c.lookup-lookup.ensures
+    ∙ ap plain_lookup (c.count_file.ensures.lookup ∙ before.known) in
+    let line = rw (known, same, c.as_slice.ensures.value) at c.in_err-print_name.ensures in
     let a = (g.D.Desk.state c.args.desk.now).sinks in
     let d = (g.D.Desk.state c.print_name.new.desk).sinks in
     let IsOne = IsTypeLine (plain_lookup c.args.lookup) (g.D.Desk.state c.args.desk.now).stored in
@@ -71,10 +74,14 @@ loop-number-preserved g c =
     let before = c.loop-number.invariant in
     let named = rw c.in-Some.is at c.in_ok-name.ensures in
     let same = named.same_files ∙ before.same_files in
-    let line = rw (same, c.as_slice.ensures.value) at c.in_ok-print_name.ensures in
+    let known = looked_up_alike c.lookup-lookup.result c.count_file.new.self.lookup c.lookup-lookup.ensures
+    ∙ ap plain_lookup (c.count_file.ensures.lookup ∙ before.known) in
+    let line = rw (known, same, c.as_slice.ensures.value) at c.in_ok-print_name.ensures in
     let a = (g.D.Desk.state c.args.desk.now).sinks in
     let IsOne = IsTypeLine (plain_lookup c.args.lookup) (g.D.Desk.state c.args.desk.now).stored in
     rw c.max-status.ensures (record {
+      known = c.count_file.ensures.lookup ∙ before.known;
+      learnt = c.count_file.ensures.learnt;
       same_files = line.same_files ∙ same;
       same_setting = line.same_setting ∙ (named.same_setting ∙ before.same_setting);
       rest = λ r after p.
