@@ -17,16 +17,16 @@ const FEW: u32 = 8;
 
 /// How the FILEs of a run are looked up, with what was learnt meanwhile.
 #[derive(Drop)]
-pub(crate) struct Learning<'a> {
-    lookup: Lookup<'a>,
+pub(crate) struct Learning<'i, 'a> {
+    lookup: Lookup<'i, 'a>,
     heads: Option<MagicHeads<'a>>,
     /// How many FILEs there were, as far as that matters.
     files: u32,
 }
 
-impl<'a> Learning<'a> {
+impl<'i, 'a> Learning<'i, 'a> {
     /// Nothing is learnt yet.
-    pub(crate) fn new(lookup: Lookup<'a>) -> Learning<'a>
+    pub(crate) fn new(lookup: Lookup<'i, 'a>) -> Learning<'i, 'a>
         // FILEs are looked up so.
         ensures lookup { result.lookup ≡ lookup.entry }
         ensures learnt { IsOfCache result }
@@ -55,7 +55,7 @@ impl<'a> Learning<'a> {
     }
 
     /// How a FILE is looked up.
-    pub(crate) fn lookup(&self) -> Lookup<'_>
+    pub(crate) fn lookup(&self) -> Lookup<'_, '_>
         requires { IsOfCache self.now }
         // As without what was learnt.
         ensures { LooksAlike result self.now.lookup }
@@ -78,7 +78,7 @@ impl<'a> Learning<'a> {
 }
 
 /// What is learnt of a cache, if something is.
-fn learn(alloc: Global, by: Data<'_>) -> Option<MagicHeads<'_>>
+fn learn<'a>(alloc: Global, by: Data<'_, 'a>) -> Option<MagicHeads<'a>>
     ensures { IfSome result (λ heads. heads ≡ bytes_in by.entry) }
 {
     let Data::Cache { bytes, .. } = by else {
@@ -95,7 +95,10 @@ fn learn(alloc: Global, by: Data<'_>) -> Option<MagicHeads<'_>>
 }
 
 /// The data with what was learnt of it.
-fn data_with<'a>(by: Data<'a>, heads: Option<&'a MagicHeads<'a>>) -> Data<'a>
+fn data_with<'i, 'a>(
+    by: Data<'i, 'a>,
+    heads: Option<&'a MagicHeads<'a>>,
+) -> Data<'i, 'a>
     requires { IfSome heads (λ it. it.now ≡ bytes_in by) }
     // It is looked up in as without.
     ensures { source_of result ≡ source_of by.entry }

@@ -29,7 +29,7 @@ none_equals start range word value content host one some value_bytes content_byt
       | inr long ↦ (let n : ℕ = min range (length content + 1 - (start + length value)) in
           sym (equals_from-mask start range word value None host content start range)
           ∙ equals_from-anywhere start range word value (Some []) host content start range
-          ∙ (all_differ value word host content some (word_of_one word host (length value) one) value_bytes content_bytes start n range
+          ∙ (all_differ value word host content some (word_of_one word host (length value) one) (value_bytes 0) content_bytes start n range
           (omega arith) (λ fewer. omega (arith, fewer)) (omega (arith, long))
           (λ i below e. lacks (start + i) (omega arith) (omega (arith, below)) (omega (arith, below, long)) e)).0)
     ]
