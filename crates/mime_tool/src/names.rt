@@ -1,7 +1,8 @@
 //! The names that a list gives, each ended by a zero byte. This project's own.
 //!
 //! A list is read block by block, as it comes, and what is kept of it is a block and the name that is
-//! being read: it may be longer than memory, and its writer may still be at work.
+//! being read: it may be longer than memory, and its writer may still be at work. A name that was printed gives its memory to the
+//! next.
 
 ghost use Rattle.std.specs.Prelude.{◌≡◌, ◌≤◌, IfOk, IsErr, IsOk, Ok, [], drop, false, length};
 ghost use Rattle.std.specs.Io.KnownBytes.{ReadConsumes};
@@ -15,6 +16,7 @@ use crate::stop::{Stop, unreadable};
 use memchr::memchr;
 use mime_lookup::{Content, ReadFault};
 use std::alloc::{AllocError, Global};
+use std::mem;
 
 /// How many bytes are asked for at once.
 const BLOCK: usize = 4_096;
@@ -30,6 +32,8 @@ pub(crate) struct Names<R: Drop> {
     block: Vec<u8>,
     /// How much of it was given.
     given: usize,
+    /// Memory for the next name.
+    spare: Vec<u8>,
 }
 
 impl<R: Content + Drop> Names<R> {
@@ -42,7 +46,28 @@ impl<R: Content + Drop> Names<R> {
             reader,
             block: Vec::new(alloc),
             given: 0,
+            spare: Vec::new(alloc),
         }
+    }
+
+    /// Takes back the memory of a name that was given, for the next one, unless it is more than a block's.
+    pub(crate) fn take_back(&mut self, name: Vec<u8>)
+        // What is left of the list stays.
+        ensures { left_in R.remaining R.health self.new ≡ left_in R.remaining R.health self.old }
+    {
+        if name.capacity() <= BLOCK {
+            self.spare = name;
+        }
+    }
+
+    // A name of no bytes, in the memory of an earlier one where there is some.
+    fn empty_name(&mut self, alloc: Global) -> Vec<u8>
+        ensures empty { result.items ≡ [] }
+        ensures stays { left_in R.remaining R.health self.new ≡ left_in R.remaining R.health self.old }
+    {
+        let mut name = mem::replace(&mut self.spare, Vec::new(alloc));
+        name.clear();
+        name
     }
 
     // Adds to a name what the block has of it, and says whether that ends it.
@@ -121,7 +146,7 @@ pub(crate) fn next_name<D: Desk, R: Content + Drop>(
     ensures { Works (GivesName list.now (left_in R.remaining R.health names.old) (left_in R.remaining R.health names.new))
         (D.state desk.old) (D.state desk.new) result }
 {
-    let mut name = Vec::new(desk.alloc());
+    let mut name = names.empty_name(desk.alloc());
     for _ in 0..u64::MAX {
         if names.add_to(&mut name)? {
             return Ok(Some(name));

@@ -112,6 +112,7 @@ fn print_names<D: Desk, R: Content + Drop>(
         learning.count_file(desk.alloc());
         let lookup = learning.lookup();
         status = status.max(print_name(desk, lookup, list, number, name.as_slice())?);
+        names.take_back(name);
     }
     // There is no number for one more name.
     Err(Stop::OutOfMemory)

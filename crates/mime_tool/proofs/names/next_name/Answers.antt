@@ -9,18 +9,20 @@ use Rattle.mime_tool.proofs.names.next_name.Goals as goal
 pub returns-then-branch : goal.returns-then-branch
 returns-then-branch g c =
     let before = c.loop.invariant in
+    let taken = rw (c.empty_name-name.ensures.stays) at before.taken in
     let piece = rw (c.if-branch.true) at c.in_ok-add_to.ensures.piece in
     record {
       same_files = before.same_files;
       same_setting = before.same_setting;
-      sinks = (before.handed_on, name_ended _ _ _ c.loop.name.items c.add_to.new.name.items before.free before.taken piece);
+      sinks = (before.handed_on, name_ended _ _ _ c.loop.name.items c.add_to.new.name.items before.free taken piece);
     }
 
 pub returns-then-not-branch : goal.returns-then-not-branch
 returns-then-not-branch g c =
     let before = c.loop.invariant in
+    let taken = rw (c.empty_name-name.ensures.stays) at before.taken in
     let piece = rw (c.if-branch.false) at c.in_ok-add_to.ensures.piece in
-    let grown = name_grown _ _ _ c.loop.name.items c.add_to.new.name.items before.free before.taken piece in
+    let grown = name_grown _ _ _ c.loop.name.items c.add_to.new.name.items before.free taken piece in
     let handed = c.in_ok-hand_on.ensures in
     let read = rw (c.if-not-branch.true) at c.in_ok-read.ensures in
     let kept = writes_kept _ _ _ silent before.handed_on handed.sinks in

@@ -85,10 +85,11 @@ loop-number-preserved g c =
       same_files = line.same_files ∙ same;
       same_setting = line.same_setting ∙ (named.same_setting ∙ before.same_setting);
       rest = λ r after p.
+          let left = rw (c.take_back.ensures) at p in
           let more = named_more IsOne c.args.list.now (left_in g.R.Read.remaining g.R.Content.health c.loop-number.names)
           (left_in g.R.Read.remaining g.R.Content.health c.next_name.new.names) c.loop-number.number c.in-Some.name.items
           (g.D.Desk.state c.loop-number.desk).sinks (g.D.Desk.state c.next_name.new.desk).sinks (g.D.Desk.state c.print_name.new.desk).sinks after
-          c.in_ok-print_name.field-0 r named.sinks line.sinks p in
+          c.in_ok-print_name.field-0 r named.sinks line.sinks left in
           subst (λ (s : Result ℕ Stop). EndsListed IsOne c.args.list.now
           (left_in g.R.Read.remaining g.R.Content.health c.new-names.result) 1 a after s)
           (raised-raised c.loop-number.status c.in_ok-print_name.field-0 r)
