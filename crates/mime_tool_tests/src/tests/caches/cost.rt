@@ -16,7 +16,7 @@ struct Row {
 
 /// The header, and what each list says of its length: literals and tree (twice where the name has capitals), globs, then
 /// the extent and magic. No text is compared, since there is none. For contents alone no rule is asked.
-static ROWS: [Row; 5] = [
+static ROWS: [Row; 6] = [
     Row {
         words: &["type", "-c", "/c", "--name-only", "--cost", "a"],
         printed: "a: application/octet-stream nodes=4 bytes=0 read=0\n",
@@ -36,6 +36,28 @@ static ROWS: [Row; 5] = [
     Row {
         words: &["type", "-c", "/c", "--content-only", "--cost", "/HELLO"],
         printed: "/HELLO: text/plain nodes=3 bytes=0 read=5\n",
+    },
+    // The last of so many FILEs are looked up by what was learnt of the cache.
+    Row {
+        words: &[
+            "type",
+            "-c",
+            "/c",
+            "--content-only",
+            "--cost",
+            "/hello",
+            "/hello",
+            "/hello",
+            "/hello",
+            "/hello",
+            "/hello",
+            "/hello",
+            "/hello",
+            "/hello",
+            "/hello",
+            "/hello",
+        ],
+        printed: "/hello: text/plain nodes=3 bytes=0 read=5\n/hello: text/plain nodes=3 bytes=0 read=5\n/hello: text/plain nodes=3 bytes=0 read=5\n/hello: text/plain nodes=3 bytes=0 read=5\n/hello: text/plain nodes=3 bytes=0 read=5\n/hello: text/plain nodes=3 bytes=0 read=5\n/hello: text/plain nodes=3 bytes=0 read=5\n/hello: text/plain nodes=3 bytes=0 read=5\n/hello: text/plain nodes=3 bytes=0 read=5\n/hello: text/plain nodes=3 bytes=0 read=5\n/hello: text/plain nodes=3 bytes=0 read=5\n",
     },
 ];
 

@@ -6,7 +6,7 @@ use crate::Entry;
 use crate::tests::ran::{Said, says_over};
 use std::test::Fail;
 
-static FILES: [Row; 2] = [
+static FILES: [Row; 3] = [
     Row {
         name: "files without an answer are skipped",
         words: &["type", "-c", "/c", "/missing", "/x", "/folder", "/mk"],
@@ -24,6 +24,31 @@ static FILES: [Row; 2] = [
         },
         status: 3,
         err: "mimelook: /missing: cannot open\nmimelook: /c: truncated\n",
+        ..ROW
+    },
+    // The last of so many are looked up by what was learnt of the cache.
+    Row {
+        name: "many files by their contents",
+        words: &[
+            "type",
+            "-c",
+            "/c",
+            "--content-only",
+            "--brief",
+            "/x",
+            "/mk",
+            "/x",
+            "/mk",
+            "/x",
+            "/mk",
+            "/x",
+            "/mk",
+            "/x",
+            "/mk",
+            "/c",
+            "/x",
+        ],
+        out: "t/g\nt/g\nt/g\nt/g\nt/g\nt/g\nt/g\nt/g\nt/g\nt/g\napplication/octet-stream\nt/g\n",
         ..ROW
     },
 ];
