@@ -101,6 +101,8 @@ pub fn look_up<'a, R: Content>(
 }
 
 /// The type of a name and a content by the bytes of a cache, and how many bytes of the content were read.
+// Part of each of its two callers: whether something was learnt is known there.
+#[inline(always)]
 #[tactic(auto, using(crate::proofs::StopLemmas::OpenFaults::opens_without_fault))]
 fn open_and_find<'a, R: Content>(
     alloc: Global,
@@ -134,6 +136,8 @@ fn open_and_find<'a, R: Content>(
 }
 
 /// Opens a cache, with what was learnt of it where that is there.
+// Always inlined, as its caller is.
+#[inline(always)]
 fn open_known<'a>(
     cache: Counted<'a>,
     heads: Option<&'a MagicHeads<'a>>,
