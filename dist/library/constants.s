@@ -48,29 +48,11 @@
 	.ascii	"application/x-zerosize"
 	.size	.L74bbd0aeee0d, 22
 
-	.type	.L9b770efd7ae0,@object
-	.section	.rodata,"a",@progbits
-.L9b770efd7ae0:
-	.byte	32
-	.size	.L9b770efd7ae0, 1
-
 	.type	.Laafe98300121,@object
 	.section	.rodata,"a",@progbits
 .Laafe98300121:
 	.ascii	"text/plain"
 	.size	.Laafe98300121, 10
-
-	.type	.Ldf9cb663b0ee,@object
-	.section	.rodata,"a",@progbits
-.Ldf9cb663b0ee:
-	.byte	44
-	.size	.Ldf9cb663b0ee, 1
-
-	.type	.Lf1c38b9a8d70,@object
-	.section	.rodata,"a",@progbits
-.Lf1c38b9a8d70:
-	.byte	58
-	.size	.Lf1c38b9a8d70, 1
 
 	.type	.Lfd004d2b9c93,@object
 	.section	.rodata,"a",@progbits

@@ -388,12 +388,32 @@
 	.section	.rodata.cst16,"aM",@progbits,16
 	.p2align	4, 0x0
 1:
-	.zero	16,32
+	.byte	33,33,33,33,33,33,33,33
+	.zero	1
+	.zero	1
+	.zero	1
+	.zero	1
+	.zero	1
+	.zero	1
+	.zero	1
+	.zero	1
 2:
-	.zero	16,58
+	.byte	58,58,58,58,58,58,58,58
+	.zero	1
+	.zero	1
+	.zero	1
+	.zero	1
+	.zero	1
+	.zero	1
+	.zero	1
+	.zero	1
 3:
-	.zero	16,47
+	.zero	16,32
 4:
+	.zero	16,58
+5:
+	.zero	16,47
+6:
 	.byte	47,47,47,47,47,47,47,47
 	.zero	1
 	.zero	1
@@ -409,70 +429,102 @@
 "mime_base::names::is_type_name":
 	leaq	-3(%rsi), %rax
 	cmpq	$252, %rax
-	ja	21f
-	movq	%rdi, %rdx
-	movq	%rsi, %rcx
+	ja	23f
 	cmpq	$16, %rsi
-	jb	6f
-	movq	%rsi, %rcx
-	movq	%rdi, %rdx
+	jb	9f
+	movq	%rsi, %rax
+	addq	$-16, %rax
+	je	8f
+	xorl	%ecx, %ecx
 	.p2align	4
-5:
-	movdqu	(%rdx), %xmm0
-	movdqa	1b(%rip), %xmm1
+7:
+	movdqu	(%rdi,%rcx), %xmm0
+	movdqa	3b(%rip), %xmm1
 	pminub	%xmm0, %xmm1
 	pcmpeqb	%xmm0, %xmm1
-	pcmpeqb	2b(%rip), %xmm0
+	pcmpeqb	4b(%rip), %xmm0
+	por	%xmm1, %xmm0
+	pmovmskb	%xmm0, %edx
+	testl	%edx, %edx
+	jne	23f
+	addq	$16, %rcx
+	cmpq	%rax, %rcx
+	jb	7b
+8:
+	movdqu	(%rdi,%rax), %xmm0
+	movdqa	3b(%rip), %xmm1
+	pminub	%xmm0, %xmm1
+	pcmpeqb	%xmm0, %xmm1
+	pcmpeqb	4b(%rip), %xmm0
 	por	%xmm1, %xmm0
 	pmovmskb	%xmm0, %eax
 	testl	%eax, %eax
-	jne	21f
-	addq	$16, %rdx
-	addq	$-16, %rcx
-	cmpq	$15, %rcx
-	ja	5b
-6:
-	xorl	%r8d, %r8d
-	.p2align	4
-7:
-	cmpq	%r8, %rcx
-	je	9f
-	movzbl	(%rdx,%r8), %r9d
-	xorl	%eax, %eax
-	cmpb	$33, %r9b
-	jb	8f
-	incq	%r8
-	cmpb	$58, %r9b
-	jne	7b
-8:
-	retq
+	jne	23f
+	jmp	11f
 9:
-	cmpq	$3, %rsi
-	ja	10f
+	cmpq	$8, %rsi
+	jb	10f
+	movq	(%rdi), %xmm1
+	movdqa	1b(%rip), %xmm2
+	pmaxub	%xmm1, %xmm2
+	pcmpeqb	%xmm1, %xmm2
+	pcmpeqd	%xmm0, %xmm0
+	pcmpeqb	2b(%rip), %xmm1
+	pxor	%xmm0, %xmm2
+	por	%xmm2, %xmm1
+	pmovmskb	%xmm1, %eax
+	testb	%al, %al
+	jne	23f
+	movq	-8(%rdi,%rsi), %xmm1
+	movdqa	1b(%rip), %xmm2
+	pmaxub	%xmm1, %xmm2
+	pcmpeqb	%xmm1, %xmm2
+	pcmpeqb	2b(%rip), %xmm1
+	pxor	%xmm0, %xmm2
+	por	%xmm2, %xmm1
+	pmovmskb	%xmm1, %eax
+	testb	%al, %al
+	jne	23f
+	jmp	12f
+10:
 	testq	%rsi, %rsi
-	je	21f
+	je	11f
+	movzbl	(%rdi), %eax
+	cmpb	$33, %al
+	setb	%cl
+	cmpb	$58, %al
+	sete	%al
+	orb	%cl, %al
+	jne	23f
+	cmpq	$1, %rsi
+	jne	15f
+11:
+	cmpq	$3, %rsi
+	ja	12f
+	testq	%rsi, %rsi
+	je	23f
 	cmpb	$47, (%rdi)
-	je	20f
+	je	22f
 	movq	%rsi, %rax
 	shrq	%rax
 	cmpb	$47, (%rdi,%rax)
-	je	20f
+	je	22f
 	cmpb	$47, -1(%rdi,%rsi)
-	jne	21f
-	jmp	20f
-10:
+	jne	23f
+	jmp	22f
+12:
 	cmpq	$8, %rsi
-	ja	11f
+	ja	13f
 	movd	(%rdi), %xmm0
 	pinsrd	$1, -4(%rdi,%rsi), %xmm0
-	pcmpeqb	4b(%rip), %xmm0
+	pcmpeqb	6b(%rip), %xmm0
 	pmovmskb	%xmm0, %eax
 	testb	%al, %al
-	jne	20f
-	jmp	21f
-11:
+	jne	22f
+	jmp	23f
+13:
 	cmpq	$32, %rsi
-	ja	12f
+	ja	14f
 	leaq	-8(%rsi), %rax
 	cmpq	$8, %rax
 	movl	$8, %ecx
@@ -486,39 +538,99 @@
 	movq	(%rdi,%rdx), %xmm0
 	movq	-8(%rdi,%rsi), %xmm2
 	punpcklqdq	%xmm2, %xmm0
-	movdqa	3b(%rip), %xmm2
+	movdqa	5b(%rip), %xmm2
 	pcmpeqb	%xmm2, %xmm0
 	pcmpeqb	%xmm2, %xmm1
-	jmp	13f
-12:
+	por	%xmm0, %xmm1
+	pmovmskb	%xmm1, %eax
+	testl	%eax, %eax
+	jne	22f
+	jmp	23f
+14:
 	cmpq	$65, %rsi
-	jae	14f
+	jae	16f
 	movdqu	(%rdi), %xmm0
 	movdqu	16(%rdi), %xmm1
 	movdqu	-32(%rdi,%rsi), %xmm2
 	movdqu	-16(%rdi,%rsi), %xmm3
-	movdqa	3b(%rip), %xmm4
+	movdqa	5b(%rip), %xmm4
 	pcmpeqb	%xmm4, %xmm2
 	pcmpeqb	%xmm4, %xmm0
 	por	%xmm2, %xmm0
 	pcmpeqb	%xmm4, %xmm3
 	pcmpeqb	%xmm4, %xmm1
 	por	%xmm3, %xmm1
-13:
 	por	%xmm0, %xmm1
 	pmovmskb	%xmm1, %eax
 	testl	%eax, %eax
-	jne	20f
-	jmp	21f
-14:
+	jne	22f
+	jmp	23f
+15:
+	movzbl	1(%rdi), %eax
+	cmpb	$33, %al
+	setb	%cl
+	cmpb	$58, %al
+	sete	%al
+	orb	%cl, %al
+	jne	23f
+	cmpq	$2, %rsi
+	je	11b
+	movzbl	2(%rdi), %eax
+	cmpb	$33, %al
+	setb	%cl
+	cmpb	$58, %al
+	sete	%al
+	orb	%cl, %al
+	jne	23f
+	cmpq	$3, %rsi
+	je	11b
+	movzbl	3(%rdi), %eax
+	cmpb	$33, %al
+	setb	%cl
+	cmpb	$58, %al
+	sete	%al
+	orb	%cl, %al
+	jne	23f
+	cmpq	$4, %rsi
+	je	11b
+	movzbl	4(%rdi), %eax
+	cmpb	$33, %al
+	setb	%cl
+	cmpb	$58, %al
+	sete	%al
+	orb	%cl, %al
+	jne	23f
+	cmpq	$5, %rsi
+	je	11b
+	movzbl	5(%rdi), %eax
+	cmpb	$33, %al
+	setb	%cl
+	cmpb	$58, %al
+	sete	%al
+	orb	%cl, %al
+	jne	23f
+	cmpq	$6, %rsi
+	je	11b
+	movzbl	6(%rdi), %eax
+	cmpb	$33, %al
+	setae	%cl
+	cmpb	$58, %al
+	setne	%al
+	andb	%cl, %al
+	cmpq	$7, %rsi
+	sete	%cl
+	testb	%cl, %al
+	je	23f
+	jmp	11b
+16:
 	xorl	%eax, %eax
 	movq	%rsi, %rcx
-15:
+17:
 	movdqu	(%rdi,%rax), %xmm1
 	movdqu	16(%rdi,%rax), %xmm2
 	movdqu	32(%rdi,%rax), %xmm3
 	movdqu	48(%rdi,%rax), %xmm4
-	movdqa	3b(%rip), %xmm0
+	movdqa	5b(%rip), %xmm0
 	pcmpeqb	%xmm0, %xmm3
 	pcmpeqb	%xmm0, %xmm1
 	por	%xmm3, %xmm1
@@ -528,18 +640,18 @@
 	por	%xmm1, %xmm2
 	pmovmskb	%xmm2, %edx
 	testl	%edx, %edx
-	jne	16f
+	jne	18f
 	addq	$64, %rax
 	addq	$-64, %rcx
 	cmpq	$63, %rcx
-	ja	15b
-16:
+	ja	17b
+18:
 	cmpq	$32, %rcx
-	jb	19f
+	jb	21f
 	movq	%rsi, %rcx
 	subq	%rax, %rcx
 	addq	%rdi, %rax
-17:
+19:
 	movdqu	(%rax), %xmm1
 	movdqu	16(%rax), %xmm2
 	pcmpeqb	%xmm0, %xmm2
@@ -547,16 +659,16 @@
 	por	%xmm2, %xmm1
 	pmovmskb	%xmm1, %edx
 	testl	%edx, %edx
-	jne	18f
+	jne	20f
 	addq	$-32, %rcx
 	addq	$32, %rax
 	cmpq	$31, %rcx
-	ja	17b
-	jmp	19f
-18:
+	ja	19b
+	jmp	21f
+20:
 	cmpq	$31, %rcx
-	ja	20f
-19:
+	ja	22f
+21:
 	movdqu	-32(%rdi,%rsi), %xmm1
 	movdqu	-16(%rdi,%rsi), %xmm2
 	pcmpeqb	%xmm0, %xmm2
@@ -564,16 +676,16 @@
 	por	%xmm2, %xmm1
 	pmovmskb	%xmm1, %eax
 	testl	%eax, %eax
-	je	21f
-20:
+	je	23f
+22:
 	cmpb	$47, (%rdi)
-	jne	22f
-21:
+	jne	24f
+23:
 	xorl	%eax, %eax
 	retq
-22:
+24:
 	cmpb	$47, -1(%rdi,%rsi)
 	setne	%al
 	retq
-23:
-	.size	"mime_base::names::is_type_name", 23b-"mime_base::names::is_type_name"
+25:
+	.size	"mime_base::names::is_type_name", 25b-"mime_base::names::is_type_name"

@@ -1614,25 +1614,22 @@
 	pushq	%r13
 	pushq	%r12
 	pushq	%rbx
-	subq	$1160, %rsp
+	subq	$1144, %rsp
 	movq	%rdi, %rbx
 	cmpb	$1, (%rdx)
 	jne	3f
 	movq	%r8, %r14
+	movl	%ecx, %ebp
 	movq	%rsi, %r15
-	movl	%ecx, 12(%rsp)
 	movq	8(%rdx), %r12
 	movq	16(%rdx), %r13
-	movq	$0, 1152(%rsp)
-	xorps	%xmm0, %xmm0
-	movaps	%xmm0, 16(%rsp)
-	movaps	%xmm0, 32(%rsp)
-	movq	$0, 48(%rsp)
-	leaq	96(%rsp), %rdi
+	movq	$0, 1136(%rsp)
+	leaq	80(%rsp), %rdi
 	movl	$512, %edx
 	xorl	%esi, %esi
 	callq	memset@PLT
 	movaps	1b(%rip), %xmm0
+	movaps	%xmm0, 80(%rsp)
 	movaps	%xmm0, 96(%rsp)
 	movaps	%xmm0, 112(%rsp)
 	movaps	%xmm0, 128(%rsp)
@@ -1664,8 +1661,8 @@
 	movaps	%xmm0, 544(%rsp)
 	movaps	%xmm0, 560(%rsp)
 	movaps	%xmm0, 576(%rsp)
-	movaps	%xmm0, 592(%rsp)
-	leaq	16(%r14), %rbp
+	leaq	16(%r14), %rax
+	movq	%rax, 40(%rsp)
 	testq	%r13, %r13
 	je	7f
 	cmpq	$288, %r13
@@ -1679,7 +1676,7 @@
 	leaq	-1(%rcx), %rax
 	movzbl	-1(%r12,%rcx), %esi
 	decl	%ecx
-	movw	%cx, 96(%rsp,%rsi,2)
+	movw	%cx, 80(%rsp,%rsi,2)
 	movq	%rax, %rcx
 	decq	%rdx
 	jne	2b
@@ -1693,7 +1690,7 @@
 	leaq	.L67248b46a1a0(%rip), %rax
 	movq	%rax, 16(%rbx)
 	movq	$24, 24(%rbx)
-	jmp	8f
+	jmp	10f
 4:
 	movq	%rcx, %rax
 	cmpq	$4, %r13
@@ -1707,58 +1704,78 @@
 	movzbl	(%rcx,%rax), %edi
 	leal	(%rax,%rdx), %r8d
 	addl	$3, %r8d
-	movw	%r8w, 96(%rsp,%rdi,2)
+	movw	%r8w, 80(%rsp,%rdi,2)
 	movzbl	-1(%rcx,%rax), %edi
 	leal	2(%rax,%rdx), %r8d
-	movw	%r8w, 96(%rsp,%rdi,2)
+	movw	%r8w, 80(%rsp,%rdi,2)
 	movzbl	-2(%rcx,%rax), %edi
 	leal	1(%rax,%rdx), %r8d
-	movw	%r8w, 96(%rsp,%rdi,2)
+	movw	%r8w, 80(%rsp,%rdi,2)
 	leal	(%rax,%rdx), %edi
 	movzbl	-3(%rcx,%rax), %r8d
-	movw	%di, 96(%rsp,%r8,2)
+	movw	%di, 80(%rsp,%r8,2)
 	addq	$4, %rsi
 	addq	$-4, %rcx
 	addq	$-4, %rdx
 	cmpq	%rsi, %rax
 	jne	6b
 7:
-	movq	%r15, 616(%rsp)
-	movq	%r12, 624(%rsp)
-	movq	%r13, 632(%rsp)
-	leaq	640(%rsp), %rdi
-	leaq	96(%rsp), %rsi
+	movq	%r15, 600(%rsp)
+	movq	%r12, 608(%rsp)
+	movq	%r13, 616(%rsp)
+	leaq	624(%rsp), %rdi
+	leaq	80(%rsp), %rsi
 	movl	$512, %edx
 	callq	memcpy@PLT
-	movl	12(%rsp), %eax
-	movb	%al, 1152(%rsp)
+	movb	%bpl, 1136(%rsp)
 	movups	(%r14), %xmm0
+	movaps	%xmm0, 48(%rsp)
+	leaq	64(%rsp), %rbp
+	leaq	16(%r14), %rax
+	movups	(%rax), %xmm0
 	movaps	%xmm0, 64(%rsp)
-	movups	(%rbp), %xmm0
-	movaps	%xmm0, 80(%rsp)
 	movl	40(%r15), %edx
-	leaq	16(%rsp), %rdi
-	leaq	616(%rsp), %rsi
-	leaq	64(%rsp), %rcx
+	movzbl	56(%r15), %eax
+	movq	64(%r15), %rcx
+	xorps	%xmm0, %xmm0
+	movaps	%xmm0, 16(%rsp)
+	movaps	%xmm0, (%rsp)
+	movq	$0, 32(%rsp)
+	cmpb	$1, %al
+	jne	8f
+	addq	$16, %rcx
+	movq	%rsp, %rdi
+	leaq	600(%rsp), %rsi
+	leaq	48(%rsp), %r8
+	callq	"mime_view::magic::sniff_learnt"
+	jmp	9f
+8:
+	movq	%rsp, %rdi
+	leaq	600(%rsp), %rsi
+	leaq	48(%rsp), %rcx
 	callq	"mime_view::magic::sniff"
-	movaps	64(%rsp), %xmm0
-	movups	%xmm0, (%r14)
-	movaps	80(%rsp), %xmm0
-	movups	%xmm0, (%rbp)
-	movzbl	24(%rsp), %eax
-	movq	32(%rsp), %rcx
-	cmpb	$0, 16(%rsp)
-	je	10f
-	movss	26(%rsp), %xmm0
+9:
+	movzbl	8(%rsp), %edi
+	movss	10(%rsp), %xmm0
+	movq	16(%rsp), %rcx
+	movq	24(%rsp), %rdx
+	movl	32(%rsp), %esi
+	cmpb	$0, (%rsp)
+	movaps	48(%rsp), %xmm1
+	movups	%xmm1, (%r14)
+	movups	(%rbp), %xmm1
+	movq	40(%rsp), %rax
+	movups	%xmm1, (%rax)
+	je	12f
 	movq	$1, (%rbx)
-	movw	%ax, 8(%rbx)
+	movw	%di, 8(%rbx)
 	movss	%xmm0, 10(%rbx)
 	movq	%rcx, 16(%rbx)
 	movq	$0, 24(%rbx)
-8:
+10:
 	movl	$0, 32(%rbx)
-9:
-	addq	$1160, %rsp
+11:
+	addq	$1144, %rsp
 	popq	%rbx
 	popq	%r12
 	popq	%r13
@@ -1766,59 +1783,55 @@
 	popq	%r15
 	popq	%rbp
 	retq
-10:
-	xorl	%edx, %edx
-	cmpb	$1, %al
-	jne	11f
-	movq	40(%rsp), %rsi
-	movl	48(%rsp), %edx
+12:
 	xorl	%eax, %eax
-	jmp	16f
-11:
+	cmpb	$1, %dil
+	je	17f
 	movw	$1, %ax
 	testq	%r13, %r13
-	je	15f
+	je	16f
 	cmpq	$128, %r13
 	movl	$128, %edi
 	cmovbq	%r13, %rdi
 	xorl	%r8d, %r8d
-	jmp	13f
+	jmp	14f
 	.p2align	4
-12:
+13:
 	incq	%r8
 	cmpq	%r8, %rdi
-	je	14f
-13:
+	je	15f
+14:
 	movzbl	(%r12,%r8), %r9d
 	cmpl	$31, %r9d
-	ja	12b
-	xorl	%edx, %edx
-	movl	$24, %esi
+	ja	13b
+	xorl	%esi, %esi
+	movl	$24, %edx
 	leaq	.L67248b46a1a0(%rip), %rcx
 	cmpl	$13, %r9d
-	ja	16f
+	ja	17f
 	movl	$9728, %r10d
 	btl	%r9d, %r10d
-	jb	12b
-	jmp	16f
-14:
-	xorl	%edx, %edx
-	movl	$10, %esi
-	leaq	.Laafe98300121(%rip), %rcx
-	jmp	16f
+	jb	13b
+	jmp	17f
 15:
-	movl	$22, %esi
-	leaq	.L74bbd0aeee0d(%rip), %rcx
+	xorl	%esi, %esi
+	movl	$10, %edx
+	leaq	.Laafe98300121(%rip), %rcx
+	jmp	17f
 16:
+	movl	$22, %edx
+	leaq	.L74bbd0aeee0d(%rip), %rcx
+	xorl	%esi, %esi
+17:
 	movq	$0, (%rbx)
 	movw	%ax, 8(%rbx)
 	movl	$0, 10(%rbx)
 	movq	%rcx, 16(%rbx)
-	movq	%rsi, 24(%rbx)
-	movl	%edx, 32(%rbx)
-	jmp	9b
-17:
-	.size	"mime_lookup::cached::sniff::sniff_front", 17b-"mime_lookup::cached::sniff::sniff_front"
+	movq	%rdx, 24(%rbx)
+	movl	%esi, 32(%rbx)
+	jmp	11b
+18:
+	.size	"mime_lookup::cached::sniff::sniff_front", 18b-"mime_lookup::cached::sniff::sniff_front"
 
 	.text
 	.p2align	4

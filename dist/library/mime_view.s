@@ -4604,6 +4604,231 @@
 
 	.text
 	.p2align	4
+	.type	"mime_view::magic::sniff_learnt",@function
+"mime_view::magic::sniff_learnt":
+	pushq	%rbp
+	pushq	%r15
+	pushq	%r14
+	pushq	%r13
+	pushq	%r12
+	pushq	%rbx
+	subq	$104, %rsp
+	movq	%r8, %r10
+	movq	%rsi, %r12
+	movq	(%rsi), %rax
+	movl	%edx, %r9d
+	movq	8(%rax), %rdx
+	subq	%r9, %rdx
+	setb	%sil
+	cmpq	$12, %rdx
+	setb	%dl
+	orb	%sil, %dl
+	movq	(%r8), %rsi
+	incq	%rsi
+	movq	$-1, %r8
+	cmovneq	%rsi, %r8
+	movq	%r8, (%r10)
+	testb	%dl, %dl
+	je	1f
+	movq	$1, (%rdi)
+	movl	$3, 8(%rdi)
+	movw	$0, 12(%rdi)
+	movq	%r9, 16(%rdi)
+	jmp	2f
+1:
+	movq	(%rax), %rdx
+	movl	(%rdx,%r9), %ebx
+	testl	%ebx, %ebx
+	je	3f
+	movl	8(%rdx,%r9), %esi
+	bswapl	%ebx
+	bswapl	%esi
+	movl	%ebx, %edx
+	shlq	$4, %rdx
+	addq	%rsi, %rdx
+	cmpq	%rdx, 8(%rax)
+	jae	7f
+	movq	$1, (%rdi)
+	movl	$3, 8(%rdi)
+	movw	$0, 12(%rdi)
+	movq	%rsi, 16(%rdi)
+2:
+	xorps	%xmm0, %xmm0
+	movups	%xmm0, 24(%rdi)
+	jmp	6f
+3:
+	movq	%rdi, 24(%rsp)
+	xorps	%xmm0, %xmm0
+	movaps	%xmm0, 48(%rsp)
+	movaps	%xmm0, 32(%rsp)
+	movq	$0, 64(%rsp)
+4:
+	xorps	%xmm0, %xmm0
+	movaps	%xmm0, 80(%rsp)
+	xorl	%edx, %edx
+	xorl	%ecx, %ecx
+	xorl	%eax, %eax
+5:
+	movq	24(%rsp), %rsi
+	movq	%rdx, (%rsi)
+	movw	%cx, 8(%rsi)
+	movss	%xmm0, 10(%rsi)
+	movq	%rax, 16(%rsi)
+	movaps	80(%rsp), %xmm0
+	movups	%xmm0, 24(%rsi)
+6:
+	addq	$104, %rsp
+	popq	%rbx
+	popq	%r12
+	popq	%r13
+	popq	%r14
+	popq	%r15
+	popq	%rbp
+	retq
+7:
+	movq	%rsi, 96(%rsp)
+	movq	%rdi, 24(%rsp)
+	xorps	%xmm0, %xmm0
+	movaps	%xmm0, 48(%rsp)
+	movaps	%xmm0, 32(%rsp)
+	movq	$0, 64(%rsp)
+	xorl	%r13d, %r13d
+	xorl	%ebp, %ebp
+	movq	%rcx, 16(%rsp)
+	movq	%r10, 8(%rsp)
+	jmp	10f
+	.p2align	4
+8:
+	incl	%r13d
+	movq	8(%rsp), %r10
+9:
+	cmpl	%ebx, %r13d
+	jae	4b
+10:
+	movq	(%rcx), %rax
+	movl	%r13d, %esi
+	cmpl	%ebp, %r13d
+	jae	11f
+	shlq	$3, %rsi
+	leaq	(%rsi,%rsi,2), %r14
+	jmp	19f
+	.p2align	4
+11:
+	movq	32(%rcx), %rdx
+	shlq	$3, %rsi
+	leaq	(%rsi,%rsi,2), %r14
+	movq	(%rax,%r14), %rsi
+	movq	16(%r12), %rdi
+	movl	$4294967294, %r8d
+	cmpq	%r8, %rdi
+	cmovbq	%rdi, %r8
+	subq	%rsi, %rdx
+	jbe	16f
+	movq	8(%r12), %r9
+	shlq	$4, %rsi
+	addq	24(%rcx), %rsi
+	jmp	13f
+	.p2align	4
+12:
+	addq	$16, %rsi
+	decq	%rdx
+	je	17f
+13:
+	cmpl	%r8d, 8(%rsi)
+	ja	15f
+	movzbl	(%rsi), %r10d
+	movzbl	1(%rsi), %ebp
+	movl	4(%rsi), %r11d
+	cmpl	$288, %r11d
+	ja	14f
+	movzwl	24(%r12,%r10,2), %r15d
+	cmpl	%r15d, %r11d
+	jbe	12b
+14:
+	testb	$1, %bpl
+	je	15f
+	cmpq	%r11, %rdi
+	jb	15f
+	cmpb	%r10b, -1(%r9,%r11)
+	jne	12b
+15:
+	movl	12(%rsi), %ebp
+	jmp	18f
+	.p2align	4
+16:
+	movl	%ebx, %ebp
+	jmp	19f
+17:
+	movl	%ebx, %ebp
+18:
+	movq	16(%rsp), %rcx
+	movq	8(%rsp), %r10
+19:
+	movl	%ebp, %edx
+	shlq	$3, %rdx
+	leaq	(%rdx,%rdx,2), %rdx
+	movq	(%rax,%rdx), %rdi
+	subq	(%rax,%r14), %rdi
+	movl	%ebp, %esi
+	subl	%r13d, %esi
+	addq	%rdi, %rsi
+	jb	20f
+	movq	16(%r10), %rdi
+	subq	%rsi, %rdi
+	jb	20f
+	movq	8(%rax,%rdx), %r9
+	subq	8(%rax,%r14), %r9
+	movq	24(%r10), %r8
+	subq	%r9, %r8
+	jb	20f
+	movq	%rdi, 16(%r10)
+	movq	%r8, 24(%r10)
+	addq	(%r10), %rsi
+	movq	$-1, %rdi
+	cmovbq	%rdi, %rsi
+	movq	%rsi, (%r10)
+	movq	16(%rax,%rdx), %rdx
+	subq	16(%rax,%r14), %rdx
+	addq	8(%r10), %rdx
+	cmovbq	%rdi, %rdx
+	movq	%rdx, 8(%r10)
+	movl	%ebp, %r13d
+	.p2align	4
+20:
+	cmpl	%ebx, %r13d
+	jae	9b
+	movl	%r13d, %edx
+	shlq	$4, %rdx
+	addq	96(%rsp), %rdx
+	leaq	32(%rsp), %rdi
+	movq	%r12, %rsi
+	movq	%r10, %rcx
+	callq	"mime_view::magic::take_section_apart"
+	movzbl	40(%rsp), %ecx
+	movq	48(%rsp), %rax
+	cmpb	$0, 32(%rsp)
+	jne	21f
+	cmpb	$1, %cl
+	movq	16(%rsp), %rcx
+	jne	8b
+	leaq	56(%rsp), %rcx
+	movups	(%rcx), %xmm0
+	movaps	%xmm0, 80(%rsp)
+	xorps	%xmm0, %xmm0
+	movw	$1, %cx
+	xorl	%edx, %edx
+	jmp	5b
+21:
+	movss	42(%rsp), %xmm0
+	xorps	%xmm1, %xmm1
+	movaps	%xmm1, 80(%rsp)
+	movl	$1, %edx
+	jmp	5b
+22:
+	.size	"mime_view::magic::sniff_learnt", 22b-"mime_view::magic::sniff_learnt"
+
+	.text
+	.p2align	4
 	.type	"mime_view::magic::some_child_holds",@function
 "mime_view::magic::some_child_holds":
 	pushq	%rbp
@@ -4759,6 +4984,300 @@
 	retq
 10:
 	.size	"mime_view::magic::some_child_holds", 10b-"mime_view::magic::some_child_holds"
+
+	.text
+	.p2align	4
+	.type	"mime_view::magic::take_section_apart",@function
+"mime_view::magic::take_section_apart":
+	pushq	%rbp
+	pushq	%r15
+	pushq	%r14
+	pushq	%r13
+	pushq	%r12
+	pushq	%rbx
+	subq	$136, %rsp
+	movq	(%rcx), %r14
+	movq	8(%rcx), %r11
+	movq	16(%rcx), %rbx
+	movq	24(%rcx), %r12
+	pxor	%xmm0, %xmm0
+	movdqa	%xmm0, 112(%rsp)
+	movl	$1, %r8d
+	testq	%rbx, %rbx
+	je	2f
+	decq	%rbx
+	movq	%r14, %rax
+	incq	%rax
+	movq	$-1, %r14
+	cmovneq	%rax, %r14
+	movq	(%rsi), %r8
+	movq	(%r8), %rax
+	movl	8(%rax,%rdx), %ebp
+	testl	%ebp, %ebp
+	je	3f
+	movq	%rcx, 8(%rsp)
+	movq	%rdi, 16(%rsp)
+	bswapl	%ebp
+	movl	12(%rax,%rdx), %r15d
+	bswapl	%r15d
+	movq	%rbp, %rcx
+	shlq	$5, %rcx
+	addq	%r15, %rcx
+	cmpq	%rcx, 8(%r8)
+	jae	4f
+1:
+	xorl	%r13d, %r13d
+	xorl	%edx, %edx
+	movq	16(%rsp), %rdi
+	movq	8(%rsp), %rcx
+	movl	$1, %r8d
+	movb	$3, %al
+	jmp	18f
+2:
+	movb	$5, %al
+	xorl	%r15d, %r15d
+	xorl	%r13d, %r13d
+	xorl	%edx, %edx
+	xorl	%ebx, %ebx
+	jmp	18f
+3:
+	xorl	%r15d, %r15d
+	xorl	%r13d, %r13d
+	xorl	%edx, %edx
+	xorl	%r8d, %r8d
+	xorl	%eax, %eax
+	jmp	18f
+4:
+	movq	%r8, 32(%rsp)
+	movq	%rsi, (%rsp)
+	movl	(%rax,%rdx), %ecx
+	movl	4(%rax,%rdx), %eax
+	bswapl	%ecx
+	movl	%ecx, 44(%rsp)
+	bswapl	%eax
+	movl	%eax, 24(%rsp)
+	.p2align	4
+5:
+	testq	%rbx, %rbx
+	je	6f
+	movq	(%rsp), %rax
+	movq	(%rax), %r9
+	movq	%r14, %rcx
+	incq	%rcx
+	movq	$-1, %rax
+	cmovneq	%rcx, %rax
+	movq	(%r9), %rdx
+	movl	12(%rdx,%r15), %esi
+	movl	%esi, %r8d
+	bswapl	%r8d
+	movq	%r12, %rcx
+	subq	%r8, %rcx
+	jae	7f
+6:
+	pxor	%xmm0, %xmm0
+	movdqa	%xmm0, 48(%rsp)
+	movq	$0, 64(%rsp)
+	movq	%r14, 80(%rsp)
+	movq	%r11, 88(%rsp)
+	movq	%rbx, 96(%rsp)
+	movq	%r12, 104(%rsp)
+	leaq	48(%rsp), %rdi
+	xorl	%r13d, %r13d
+	leaq	80(%rsp), %r8
+	movq	(%rsp), %rsi
+	movq	%r15, %rdx
+	xorl	%ecx, %ecx
+	callq	"mime_view::magic::whole_line_holds"
+	movq	80(%rsp), %r14
+	movq	88(%rsp), %r11
+	movq	96(%rsp), %rbx
+	movq	104(%rsp), %r12
+	cmpb	$0, 48(%rsp)
+	jne	11f
+	testb	$1, 49(%rsp)
+	jne	13f
+	addq	$32, %r15
+	decq	%rbp
+	jne	5b
+	jmp	10f
+	.p2align	4
+7:
+	testl	%esi, %esi
+	je	6b
+	cmpl	$0, 20(%rdx,%r15)
+	jne	6b
+	cmpl	$16777216, 8(%rdx,%r15)
+	jne	6b
+	movl	(%rdx,%r15), %edi
+	bswapl	%edi
+	movq	(%rsp), %rsi
+	movq	16(%rsi), %rsi
+	leaq	(%rdi,%r8), %r10
+	cmpq	%r10, %rsi
+	jb	6b
+	movq	%r11, %r13
+	movl	16(%rdx,%r15), %r11d
+	bswapl	%r11d
+	movq	8(%r9), %r10
+	movl	%r11d, %r9d
+	movq	%r13, %r11
+	subq	%r9, %r10
+	jb	6b
+	cmpq	%r8, %r10
+	jb	6b
+	movl	4(%rdx,%r15), %r10d
+	cmpl	$16777216, %r10d
+	jne	8f
+	movq	(%rsp), %rsi
+	movq	8(%rsi), %rsi
+	movzbl	(%rsi,%rdi), %edi
+	movl	$1, %esi
+	cmpb	(%rdx,%r9), %dil
+	je	6b
+	jmp	9f
+8:
+	bswapl	%r10d
+	movl	%r10d, %r10d
+	addq	%rdi, %r10
+	subq	%r8, %rsi
+	incq	%rsi
+	cmpq	%r10, %rsi
+	cmovaeq	%r10, %rsi
+	cmpq	$288, %rsi
+	ja	6b
+	movzbl	(%rdx,%r9), %edx
+	movq	(%rsp), %r8
+	movzwl	24(%r8,%rdx,2), %edx
+	cmpq	%rdx, %rsi
+	ja	6b
+	subq	%rdi, %rsi
+	je	6b
+9:
+	decq	%rbx
+	addq	%r11, %rsi
+	movq	$-1, %r11
+	cmovaeq	%rsi, %r11
+	movq	%rax, %r14
+	movq	%rcx, %r12
+	addq	$32, %r15
+	decq	%rbp
+	jne	5b
+10:
+	xorl	%r15d, %r15d
+	xorl	%r13d, %r13d
+	xorl	%edx, %edx
+	xorl	%r8d, %r8d
+	xorl	%eax, %eax
+	movq	16(%rsp), %rdi
+	movq	8(%rsp), %rcx
+	jmp	18f
+11:
+	movzbl	56(%rsp), %eax
+	movss	58(%rsp), %xmm0
+	movaps	%xmm0, 112(%rsp)
+	movq	64(%rsp), %r15
+12:
+	xorl	%edx, %edx
+	movq	16(%rsp), %rdi
+	movq	8(%rsp), %rcx
+	movl	$1, %r8d
+	jmp	18f
+13:
+	movl	24(%rsp), %r15d
+	movq	32(%rsp), %rax
+	movq	8(%rax), %rbp
+	pxor	%xmm0, %xmm0
+	movdqa	%xmm0, 112(%rsp)
+	subq	%r15, %rbp
+	jbe	1b
+	movq	(%rax), %rsi
+	addq	%r15, %rsi
+	cmpq	$32, %rbp
+	jae	15f
+14:
+	movq	%r11, (%rsp)
+	cmpq	$256, %rbp
+	movl	$256, %edx
+	cmovbq	%rbp, %rdx
+	xorl	%edi, %edi
+	movq	%rsi, 32(%rsp)
+	movq	%rdx, 24(%rsp)
+	callq	"memchr::bytes::memchr"
+	cmpb	$1, %al
+	jne	19f
+	movq	%rdx, %r13
+	movq	%rdx, %rax
+	incq	%rax
+	addq	(%rsp), %rax
+	movq	$-1, %r11
+	cmovaeq	%rax, %r11
+	movq	16(%rsp), %rdi
+	movq	8(%rsp), %rcx
+	movq	32(%rsp), %rsi
+	jmp	17f
+15:
+	movdqu	(%rsi), %xmm1
+	pcmpeqb	%xmm0, %xmm1
+	pmovmskb	%xmm1, %ecx
+	movl	$64, %eax
+	movl	$64, %r13d
+	rep		bsfq	%rcx, %r13
+	cmpq	$16, %r13
+	jb	16f
+	movdqu	16(%rsi), %xmm1
+	pcmpeqb	%xmm0, %xmm1
+	pmovmskb	%xmm1, %ecx
+	rep		bsfq	%rcx, %rax
+	cmpq	$15, %rax
+	ja	14b
+	orq	$16, %rax
+	movq	%rax, %r13
+16:
+	leaq	1(%r13), %rax
+	addq	%r11, %rax
+	movq	$-1, %r11
+	cmovaeq	%rax, %r11
+	movq	16(%rsp), %rdi
+	movq	8(%rsp), %rcx
+17:
+	movb	$1, %al
+	xorl	%r8d, %r8d
+	movq	%rsi, %r15
+	movl	44(%rsp), %edx
+18:
+	movq	%r14, (%rcx)
+	movq	%r11, 8(%rcx)
+	movq	%rbx, 16(%rcx)
+	movq	%r12, 24(%rcx)
+	movzbl	%al, %eax
+	movq	%r8, (%rdi)
+	movw	%ax, 8(%rdi)
+	movaps	112(%rsp), %xmm0
+	movss	%xmm0, 10(%rdi)
+	movq	%r15, 16(%rdi)
+	movq	%r13, 24(%rdi)
+	movl	%edx, 32(%rdi)
+	movl	$0, 36(%rdi)
+	addq	$136, %rsp
+	popq	%rbx
+	popq	%r12
+	popq	%r13
+	popq	%r14
+	popq	%r15
+	popq	%rbp
+	retq
+19:
+	movq	24(%rsp), %rax
+	addq	(%rsp), %rax
+	movq	$-1, %r11
+	cmovaeq	%rax, %r11
+	cmpq	$256, %rbp
+	movb	$4, %al
+	sbbb	$0, %al
+	xorl	%r13d, %r13d
+	jmp	12b
+20:
+	.size	"mime_view::magic::take_section_apart", 20b-"mime_view::magic::take_section_apart"
 
 	.text
 	.p2align	4

@@ -403,20 +403,22 @@
 
 	.text
 	.p2align	4
-	.type	"smallvec::small_vec::SmallVec::from_slice::<#2ed0ce7c3eafb947>",@function
-"smallvec::small_vec::SmallVec::from_slice::<#2ed0ce7c3eafb947>":
+	.type	"smallvec::small_vec::SmallVec::from_slice::<#940dc9c6c8ede164>",@function
+"smallvec::small_vec::SmallVec::from_slice::<#940dc9c6c8ede164>":
 	pushq	%r15
 	pushq	%r14
 	pushq	%r13
 	pushq	%r12
 	pushq	%rbx
-	subq	$48, %rsp
+	subq	$80, %rsp
 	movq	%rdx, %r14
 	movq	%rdi, %rbx
+	xorps	%xmm0, %xmm0
+	movaps	%xmm0, 48(%rsp)
 	xorl	%edx, %edx
 	movl	$0, %eax
 	movl	$0, %r15d
-	cmpq	$25, %r14
+	cmpq	$33, %r14
 	jb	1f
 	testq	%r14, %r14
 	js	2f
@@ -428,115 +430,77 @@
 	testb	$1, %al
 	je	2f
 	movq	%r12, %rsi
+	xorps	%xmm0, %xmm0
+	movaps	%xmm0, 48(%rsp)
 	movq	%r14, %rax
 1:
-	movq	%r15, 8(%rsp)
-	leaq	16(%rsp), %r15
-	movq	%rdx, 16(%rsp)
-	movq	$0, 24(%rsp)
-	movq	%rax, 32(%rsp)
-	movq	$0, 40(%rsp)
-	cmpq	$24, %r14
+	movaps	48(%rsp), %xmm0
+	movaps	%xmm0, 64(%rsp)
+	movq	%r15, (%rsp)
+	leaq	8(%rsp), %r15
+	movq	%rdx, 8(%rsp)
+	movq	$0, 16(%rsp)
+	movq	%rax, 24(%rsp)
+	movups	%xmm0, 32(%rsp)
+	cmpq	$32, %r14
 	ja	3f
 	movq	40(%rsp), %r12
-	movl	$24, %eax
+	movl	$32, %eax
 	subq	%r12, %rax
 	cmpq	%r14, %rax
-	jb	19f
+	jb	18f
 	leaq	(%r15,%r12), %rdi
 	movq	%r14, %rdx
 	callq	memcpy@PLT
 	addq	%r14, %r12
 	movq	%r12, 40(%rsp)
-	jmp	16f
+	jmp	11f
 2:
 	movb	$1, (%rbx)
 	xorps	%xmm0, %xmm0
 	movups	%xmm0, 8(%rbx)
 	movups	%xmm0, 24(%rbx)
-	movq	$0, 40(%rbx)
-	jmp	17f
+	movups	%xmm0, 40(%rbx)
+	jmp	12f
 3:
-	movq	24(%rsp), %rax
-	movq	32(%rsp), %r12
+	movq	16(%rsp), %rax
+	movq	24(%rsp), %r12
 	movq	%r12, %rcx
 	subq	%rax, %rcx
 	cmpq	%rcx, %r14
-	ja	18f
+	ja	16f
 4:
 	leaq	(%rax,%r14), %r13
-	movq	16(%rsp), %rcx
+	movq	8(%rsp), %rcx
 	leaq	(%rcx,%rax), %rdi
 	movq	%rdi, %rdx
 	subq	%rsi, %rdx
 	cmpq	%r14, %rdx
-	jae	5f
+	jae	9f
 	cmpq	$32, %rdx
-	jae	6f
+	jae	13f
 	xorl	%edx, %edx
-	jmp	11f
 5:
-	movq	%r14, %rdx
-	callq	memmove@PLT
-	jmp	15f
-6:
-	cmpq	$32, %r14
-	jae	7f
-	xorl	%edx, %edx
-	jmp	9f
-7:
-	movq	%r14, %rdx
-	andq	$-32, %rdx
-	leaq	(%rax,%rcx), %r8
-	addq	$16, %r8
-	xorl	%r9d, %r9d
-	.p2align	4
-8:
-	movups	(%rsi,%r9), %xmm0
-	movups	16(%rsi,%r9), %xmm1
-	movups	%xmm0, -16(%r8,%r9)
-	movups	%xmm1, (%r8,%r9)
-	addq	$32, %r9
-	cmpq	%r9, %rdx
-	jne	8b
-	cmpq	%rdx, %r14
-	je	15f
-	testb	$28, %r14b
-	je	11f
-9:
-	movq	%rdx, %r8
-	movq	%r14, %rdx
-	andq	$-4, %rdx
-	.p2align	4
-10:
-	movl	(%rsi,%r8), %r9d
-	movl	%r9d, (%rdi,%r8)
-	addq	$4, %r8
-	cmpq	%r8, %rdx
-	jne	10b
-	cmpq	%rdx, %r14
-	je	15f
-11:
 	movq	%r14, %r9
 	movq	%rdx, %r8
 	andq	$3, %r9
-	je	13f
+	je	7f
 	movq	%rdx, %r8
 	.p2align	4
-12:
+6:
 	movzbl	(%rsi,%r8), %r10d
 	movb	%r10b, (%rdi,%r8)
 	incq	%r8
 	decq	%r9
-	jne	12b
-13:
+	jne	6b
+7:
 	subq	%r14, %rdx
 	cmpq	$-4, %rdx
-	ja	15f
+	ja	10f
 	addq	%rcx, %rax
 	addq	$3, %rax
 	.p2align	4
-14:
+8:
 	movzbl	(%rsi,%r8), %ecx
 	movb	%cl, -3(%rax,%r8)
 	movzbl	1(%rsi,%r8), %ecx
@@ -547,41 +511,81 @@
 	movb	%cl, (%rax,%r8)
 	addq	$4, %r8
 	cmpq	%r8, %r14
-	jne	14b
-15:
-	movq	%r13, 24(%rsp)
-	movq	%r12, 32(%rsp)
-16:
-	movzbl	8(%rsp), %eax
+	jne	8b
+	jmp	10f
+9:
+	movq	%r14, %rdx
+	callq	memmove@PLT
+10:
+	movq	%r13, 16(%rsp)
+	movq	%r12, 24(%rsp)
+11:
+	movzbl	(%rsp), %eax
 	movb	$0, (%rbx)
 	movq	%rax, 8(%rbx)
 	movups	(%r15), %xmm0
 	movups	16(%r15), %xmm1
 	movups	%xmm0, 16(%rbx)
 	movups	%xmm1, 32(%rbx)
-17:
-	addq	$48, %rsp
+	movq	32(%r15), %rax
+	movq	%rax, 48(%rbx)
+12:
+	addq	$80, %rsp
 	popq	%rbx
 	popq	%r12
 	popq	%r13
 	popq	%r14
 	popq	%r15
 	retq
-18:
+13:
+	movq	%r14, %r8
+	andq	$-32, %r8
+	leaq	(%rax,%rcx), %rdx
+	addq	$16, %rdx
+	xorl	%r9d, %r9d
+	.p2align	4
+14:
+	movups	(%rsi,%r9), %xmm0
+	movups	16(%rsi,%r9), %xmm1
+	movups	%xmm0, -16(%rdx,%r9)
+	movups	%xmm1, (%rdx,%r9)
+	addq	$32, %r9
+	cmpq	%r9, %r8
+	jne	14b
+	cmpq	%r8, %r14
+	je	10b
+	testb	$28, %r14b
+	je	17f
+	movq	%r14, %rdx
+	andq	$-4, %rdx
+	.p2align	4
+15:
+	movl	(%rsi,%r8), %r9d
+	movl	%r9d, (%rdi,%r8)
+	addq	$4, %r8
+	cmpq	%r8, %rdx
+	jne	15b
+	cmpq	%rdx, %r14
+	jne	5b
+	jmp	10b
+16:
 	movq	%rsi, %r13
-	leaq	16(%rsp), %rdi
+	leaq	8(%rsp), %rdi
 	movq	%r14, %rsi
 	callq	"std_alloc::vec::Vec::grow_amortized::<#f7f783c9c62e5f91>"
 	testb	%al, %al
-	je	19f
-	movq	24(%rsp), %rax
-	movq	32(%rsp), %r12
+	je	18f
+	movq	16(%rsp), %rax
+	movq	24(%rsp), %r12
 	movq	%r13, %rsi
 	jmp	4b
-19:
+17:
+	movq	%r8, %rdx
+	jmp	5b
+18:
 	ud2
-20:
-	.size	"smallvec::small_vec::SmallVec::from_slice::<#2ed0ce7c3eafb947>", 20b-"smallvec::small_vec::SmallVec::from_slice::<#2ed0ce7c3eafb947>"
+19:
+	.size	"smallvec::small_vec::SmallVec::from_slice::<#940dc9c6c8ede164>", 19b-"smallvec::small_vec::SmallVec::from_slice::<#940dc9c6c8ede164>"
 
 	.text
 	.p2align	4
@@ -1264,311 +1268,3 @@
 	jmp	11b
 25:
 	.size	"smallvec::small_vec::SmallVec::reserve_one::<#c56eefbaea896dc3>", 25b-"smallvec::small_vec::SmallVec::reserve_one::<#c56eefbaea896dc3>"
-
-	.section	.text.unlikely,"ax",@progbits
-	.p2align	4
-	.type	"smallvec::small_vec::SmallVec::reserve_one::<#eefa06e28924e2ee>",@function
-"smallvec::small_vec::SmallVec::reserve_one::<#eefa06e28924e2ee>":
-	movzbl	(%rdi), %edx
-	xorl	%eax, %eax
-	testb	%dl, %dl
-	sete	%al
-	movq	16(%rdi,%rax,8), %rsi
-	je	1f
-	movq	24(%rdi), %rax
-	jmp	2f
-1:
-	movl	$16, %eax
-2:
-	pushq	%r15
-	pushq	%r14
-	pushq	%r12
-	pushq	%rbx
-	subq	$72, %rsp
-	cmpq	%rsi, %rax
-	jne	11f
-	movb	$1, %al
-	testq	%rsi, %rsi
-	js	12f
-	je	3f
-	bsrq	%rsi, %r8
-	xorq	$63, %r8
-	movl	%r8d, %ecx
-	negb	%cl
-	movl	$1, %ebx
-	shlq	%cl, %rbx
-	movq	%rbx, %r15
-	subq	%rsi, %r15
-	jb	11f
-	cmpq	$15, %rsi
-	ja	4f
-3:
-	cmpb	$1, %dl
-	jne	11f
-	movq	8(%rdi), %rax
-	movq	16(%rdi), %r8
-	movq	24(%rdi), %rcx
-	leaq	15(%rsp), %rdx
-	movq	%rdx, 8(%rdi)
-	xorps	%xmm0, %xmm0
-	movups	%xmm0, 16(%rdi)
-	movaps	%xmm0, 16(%rsp)
-	movq	$0, 32(%rsp)
-	testq	%r8, %r8
-	je	9f
-	movl	%r8d, %edx
-	andl	$3, %edx
-	cmpq	$4, %r8
-	jae	5f
-	xorl	%esi, %esi
-	jmp	7f
-4:
-	leaq	8(%rdi), %r14
-	testb	%dl, %dl
-	je	13f
-	movq	24(%rdi), %rcx
-	cmpq	%rcx, %rbx
-	jae	21f
-	movq	16(%rdi), %rsi
-	cmpq	%rbx, %rsi
-	cmovaq	%rsi, %rbx
-	cmpq	%rcx, %rsi
-	jae	11f
-	movq	%rdi, %r15
-	movq	(%r14), %rdi
-	movl	$1, %ecx
-	movq	%rbx, %rdx
-	callq	rattle_realloc@PLT
-	testb	$1, %al
-	je	11f
-	movq	%rdx, 8(%r15)
-	movq	%rbx, 24(%r15)
-	jmp	11f
-5:
-	andq	$-4, %r8
-	negq	%r8
-	movl	$2, %esi
-	.p2align	4
-6:
-	leaq	-1(%rsi), %r9
-	movzbl	-2(%rax,%rsi), %r10d
-	movb	%r10b, 14(%rsp,%rsi)
-	movq	%r9, 32(%rsp)
-	movzbl	-1(%rax,%rsi), %r9d
-	movb	%r9b, 15(%rsp,%rsi)
-	movq	%rsi, 32(%rsp)
-	leaq	1(%rsi), %r9
-	movzbl	(%rax,%rsi), %r10d
-	movb	%r10b, 16(%rsp,%rsi)
-	movq	%r9, 32(%rsp)
-	leaq	2(%rsi), %r9
-	movzbl	1(%rax,%rsi), %r10d
-	movb	%r10b, 17(%rsp,%rsi)
-	movq	%r9, 32(%rsp)
-	leaq	(%r8,%rsi), %r9
-	addq	$4, %r9
-	addq	$4, %rsi
-	cmpq	$2, %r9
-	jne	6b
-	testq	%rdx, %rdx
-	je	9f
-	addq	$-2, %rsi
-7:
-	incq	%rsi
-	.p2align	4
-8:
-	movzbl	-1(%rax,%rsi), %r8d
-	movb	%r8b, 15(%rsp,%rsi)
-	movq	%rsi, 32(%rsp)
-	incq	%rsi
-	decq	%rdx
-	jne	8b
-9:
-	leaq	8(%rdi), %rbx
-	testq	%rcx, %rcx
-	je	10f
-	movq	%rdi, %r14
-	movq	%rax, %rdi
-	callq	rattle_dealloc@PLT
-	movq	8(%r14), %rdi
-	movq	24(%r14), %rax
-	cmpb	$0, (%r14)
-	movq	32(%rsp), %rcx
-	movq	%rcx, 64(%rsp)
-	movaps	16(%rsp), %xmm0
-	movaps	%xmm0, 48(%rsp)
-	movq	$0, (%r14)
-	movq	64(%rsp), %rcx
-	movq	%rcx, 16(%rbx)
-	movaps	48(%rsp), %xmm0
-	movups	%xmm0, (%rbx)
-	je	11f
-	testq	%rax, %rax
-	je	11f
-	callq	rattle_dealloc@PLT
-	jmp	11f
-10:
-	movq	32(%rsp), %rax
-	movq	%rax, 64(%rsp)
-	movaps	16(%rsp), %xmm0
-	movaps	%xmm0, 48(%rsp)
-	movq	$0, (%rdi)
-	movq	64(%rsp), %rax
-	movq	%rax, 16(%rbx)
-	movaps	48(%rsp), %xmm0
-	movups	%xmm0, (%rbx)
-11:
-	xorl	%eax, %eax
-12:
-	addq	$72, %rsp
-	popq	%rbx
-	popq	%r12
-	popq	%r14
-	popq	%r15
-	retq
-13:
-	cmpl	$1, %r8d
-	je	12b
-	movq	%rdi, %r15
-	movl	$1, %esi
-	movq	%rbx, %rdi
-	callq	rattle_alloc@PLT
-	movq	%rax, %rcx
-	movb	$1, %al
-	testb	$1, %cl
-	je	12b
-	movq	%r15, %rcx
-	movq	24(%r15), %r12
-	testq	%r12, %r12
-	je	20f
-	cmpq	$8, %r12
-	jb	14f
-	leaq	(%rcx,%r12), %rax
-	addq	$8, %rax
-	leaq	(%rdx,%r12), %rsi
-	cmpq	%rsi, %r14
-	setb	%sil
-	cmpq	%rdx, %rax
-	seta	%al
-	testb	%al, %sil
-	je	24f
-14:
-	xorl	%eax, %eax
-15:
-	movq	%r12, %rdi
-	movq	%rax, %rsi
-	andq	$3, %rdi
-	je	17f
-	movq	%rax, %rsi
-16:
-	movzbl	(%r14,%rsi), %r8d
-	movb	$0, (%r14,%rsi)
-	movb	%r8b, (%rdx,%rsi)
-	incq	%rsi
-	decq	%rdi
-	jne	16b
-17:
-	subq	%r12, %rax
-	cmpq	$-4, %rax
-	ja	19f
-18:
-	movzbl	8(%rcx,%rsi), %eax
-	movb	$0, 8(%rcx,%rsi)
-	movb	%al, (%rdx,%rsi)
-	movzbl	9(%rcx,%rsi), %eax
-	movb	$0, 9(%rcx,%rsi)
-	movb	%al, 1(%rdx,%rsi)
-	movzbl	10(%rcx,%rsi), %eax
-	movb	$0, 10(%rcx,%rsi)
-	movb	%al, 2(%rdx,%rsi)
-	movzbl	11(%rcx,%rsi), %eax
-	movb	$0, 11(%rcx,%rsi)
-	movb	%al, 3(%rdx,%rsi)
-	addq	$4, %rsi
-	cmpq	%rsi, %r12
-	jne	18b
-19:
-	movq	24(%rcx), %rax
-	testq	%rax, %rax
-	je	20f
-	movq	%r14, %rdi
-	xorl	%esi, %esi
-	movq	%rdx, %r14
-	movq	%rax, %rdx
-	callq	memset@PLT
-	movq	%r14, %rdx
-	movq	%r15, %rcx
-20:
-	movq	$1, (%rcx)
-	movq	%rdx, 8(%rcx)
-	movq	%r12, 16(%rcx)
-	movq	%rbx, 24(%rcx)
-	jmp	11b
-21:
-	movq	16(%rdi), %rsi
-	movq	%rcx, %rdx
-	subq	%rsi, %rdx
-	cmpq	%rdx, %r15
-	jbe	11b
-	addq	%rsi, %r15
-	jb	12b
-	js	12b
-	movq	%rdi, %rbx
-	testq	%rcx, %rcx
-	je	22f
-	movq	(%r14), %rdi
-	movl	$1, %ecx
-	movq	%r15, %rdx
-	callq	rattle_realloc@PLT
-	jmp	23f
-22:
-	movl	$1, %esi
-	movq	%r15, %rdi
-	callq	rattle_alloc@PLT
-23:
-	testb	$1, %al
-	movb	$1, %al
-	je	12b
-	movq	%rdx, 8(%rbx)
-	movq	%r15, 24(%rbx)
-	jmp	11b
-24:
-	cmpq	$32, %r12
-	jae	25f
-	xorl	%eax, %eax
-	jmp	27f
-25:
-	movq	%r12, %rax
-	andq	$-32, %rax
-	xorl	%esi, %esi
-26:
-	movups	8(%rcx,%rsi), %xmm0
-	movups	24(%rcx,%rsi), %xmm1
-	xorps	%xmm2, %xmm2
-	movups	%xmm2, 8(%rcx,%rsi)
-	movups	%xmm2, 24(%rcx,%rsi)
-	movups	%xmm0, (%rdx,%rsi)
-	movups	%xmm1, 16(%rdx,%rsi)
-	addq	$32, %rsi
-	cmpq	%rsi, %rax
-	jne	26b
-	cmpq	%rax, %r12
-	je	19b
-	testb	$24, %r12b
-	je	15b
-27:
-	movq	%rax, %rsi
-	movq	%r12, %rax
-	andq	$-8, %rax
-28:
-	movq	(%r14,%rsi), %rdi
-	movq	$0, (%r14,%rsi)
-	movq	%rdi, (%rdx,%rsi)
-	addq	$8, %rsi
-	cmpq	%rsi, %rax
-	jne	28b
-	cmpq	%rax, %r12
-	je	19b
-	jmp	15b
-29:
-	.size	"smallvec::small_vec::SmallVec::reserve_one::<#eefa06e28924e2ee>", 29b-"smallvec::small_vec::SmallVec::reserve_one::<#eefa06e28924e2ee>"

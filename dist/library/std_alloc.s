@@ -26,11 +26,12 @@
 	cmpq	8(%rsp), %r13
 	je	6f
 2:
-	leaq	(,%r13,8), %rax
-	leaq	(%rax,%rax,8), %rax
-	movq	48(%rbx,%rax), %r12
-	movq	56(%rbx,%rax), %r15
-	movq	64(%rbx,%rax), %rbp
+	movq	%r13, %rax
+	shlq	$4, %rax
+	leaq	(%rax,%rax,4), %rax
+	movq	56(%rbx,%rax), %r12
+	movq	64(%rbx,%rax), %r15
+	movq	72(%rbx,%rax), %rbp
 	cmpb	$0, 8(%rbx,%rax)
 	je	3f
 	cmpq	$0, 32(%rbx,%rax)
@@ -107,22 +108,22 @@
 	movq	%rax, (%rsp)
 	testq	%r12, %r12
 	je	4f
-	leaq	64(%rbx), %r13
+	movq	%rbx, %r13
 	jmp	2f
 	.p2align	4
 1:
-	addq	$80, %r13
+	addq	$96, %r13
 	decq	%r12
 	je	4f
 2:
-	movzbl	-24(%r13), %r15d
-	movq	-16(%r13), %r14
-	movq	(%r13), %rbp
-	cmpb	$0, -64(%r13)
+	movzbl	48(%r13), %r15d
+	movq	56(%r13), %r14
+	movq	72(%r13), %rbp
+	cmpb	$0, (%r13)
 	je	3f
-	cmpq	$0, -40(%r13)
+	cmpq	$0, 24(%r13)
 	je	3f
-	movq	-56(%r13), %rdi
+	movq	8(%r13), %rdi
 	callq	rattle_dealloc@PLT
 3:
 	testb	%r15b, %r15b
@@ -179,7 +180,7 @@
 1:
 	callq	rattle_dealloc@PLT
 2:
-	addq	$96, %r13
+	addq	$104, %r13
 	decq	%r12
 	je	6f
 3:
@@ -193,9 +194,9 @@
 	jmp	2b
 	.p2align	4
 4:
-	movzbl	56(%r13), %r15d
-	movq	64(%r13), %r14
-	movq	80(%r13), %rbp
+	movzbl	64(%r13), %r15d
+	movq	72(%r13), %r14
+	movq	88(%r13), %rbp
 	testb	%dil, %dil
 	je	5f
 	cmpq	$0, 40(%r13)
@@ -282,55 +283,6 @@
 
 	.text
 	.p2align	4
-	.type	"std_alloc::vec::Vec::drop::<#b75285eeea4a2d4d>",@function
-"std_alloc::vec::Vec::drop::<#b75285eeea4a2d4d>":
-	pushq	%r15
-	pushq	%r14
-	pushq	%r12
-	pushq	%rbx
-	pushq	%rax
-	movq	(%rdi), %rbx
-	movq	8(%rdi), %r15
-	movq	16(%rdi), %r14
-	testq	%r15, %r15
-	je	3f
-	movq	%rbx, %r12
-	jmp	2f
-	.p2align	4
-1:
-	addq	$40, %r12
-	decq	%r15
-	je	3f
-2:
-	cmpb	$0, (%r12)
-	je	1b
-	cmpq	$0, 24(%r12)
-	je	1b
-	movq	8(%r12), %rdi
-	callq	rattle_dealloc@PLT
-	jmp	1b
-3:
-	testq	%r14, %r14
-	je	4f
-	movq	%rbx, %rdi
-	addq	$8, %rsp
-	popq	%rbx
-	popq	%r12
-	popq	%r14
-	popq	%r15
-	jmp	rattle_dealloc@PLT
-4:
-	addq	$8, %rsp
-	popq	%rbx
-	popq	%r12
-	popq	%r14
-	popq	%r15
-	retq
-5:
-	.size	"std_alloc::vec::Vec::drop::<#b75285eeea4a2d4d>", 5b-"std_alloc::vec::Vec::drop::<#b75285eeea4a2d4d>"
-
-	.text
-	.p2align	4
 	.type	"std_alloc::vec::Vec::drop::<#c11c0a2adfc4198f>",@function
 "std_alloc::vec::Vec::drop::<#c11c0a2adfc4198f>":
 	pushq	%r15
@@ -347,7 +299,7 @@
 	jmp	2f
 	.p2align	4
 1:
-	addq	$40, %r12
+	addq	$48, %r12
 	decq	%r15
 	je	3f
 2:
@@ -395,22 +347,22 @@
 	movq	%rax, (%rsp)
 	testq	%r12, %r12
 	je	4f
-	leaq	64(%rbx), %r13
+	movq	%rbx, %r13
 	jmp	2f
 	.p2align	4
 1:
-	addq	$80, %r13
+	addq	$96, %r13
 	decq	%r12
 	je	4f
 2:
-	movzbl	-24(%r13), %r15d
-	movq	-16(%r13), %r14
-	movq	(%r13), %rbp
-	cmpb	$0, -64(%r13)
+	movzbl	48(%r13), %r15d
+	movq	56(%r13), %r14
+	movq	72(%r13), %rbp
+	cmpb	$0, (%r13)
 	je	3f
-	cmpq	$0, -40(%r13)
+	cmpq	$0, 24(%r13)
 	je	3f
-	movq	-56(%r13), %rdi
+	movq	8(%r13), %rdi
 	callq	rattle_dealloc@PLT
 3:
 	testb	%r15b, %r15b
@@ -461,22 +413,22 @@
 	movq	%rax, (%rsp)
 	testq	%r12, %r12
 	je	4f
-	leaq	72(%rbx), %r13
+	leaq	80(%rbx), %r13
 	jmp	2f
 	.p2align	4
 1:
-	addq	$88, %r13
+	addq	$96, %r13
 	decq	%r12
 	je	4f
 2:
 	movzbl	-24(%r13), %r15d
 	movq	-16(%r13), %r14
 	movq	(%r13), %rbp
-	cmpb	$0, -64(%r13)
+	cmpb	$0, -72(%r13)
 	je	3f
-	cmpq	$0, -40(%r13)
+	cmpq	$0, -48(%r13)
 	je	3f
-	movq	-56(%r13), %rdi
+	movq	-64(%r13), %rdi
 	callq	rattle_dealloc@PLT
 3:
 	testb	%r15b, %r15b
@@ -652,17 +604,18 @@
 	cmovaq	%rbx, %rdx
 	testq	%rsi, %rsi
 	cmoveq	%rdx, %rbx
-	movabsq	$128102389400760775, %rsi
+	movabsq	$115292150460684697, %rsi
 	cmpq	%rsi, %rbx
 	ja	4f
 	testq	%rcx, %rcx
 	je	3f
 	movq	%rdi, %r14
 	movq	(%rdi), %rdi
-	shlq	$3, %rax
-	leaq	(%rax,%rax,8), %rsi
-	leaq	(,%rbx,8), %rax
-	leaq	(%rax,%rax,8), %rdx
+	shlq	$4, %rax
+	leaq	(%rax,%rax,4), %rsi
+	movq	%rbx, %rax
+	shlq	$4, %rax
+	leaq	(%rax,%rax,4), %rdx
 	movl	$8, %ecx
 	callq	rattle_realloc@PLT
 	testb	$1, %al
@@ -680,8 +633,8 @@
 	retq
 3:
 	movq	%rdi, %r14
-	shlq	$3, %rdx
-	leaq	(%rdx,%rdx,8), %rdi
+	shlq	$4, %rdx
+	leaq	(%rdx,%rdx,4), %rdi
 	movl	$8, %esi
 	callq	rattle_alloc@PLT
 	testb	$1, %al
@@ -1091,17 +1044,18 @@
 	cmovaq	%rbx, %rdx
 	testq	%rsi, %rsi
 	cmoveq	%rdx, %rbx
-	movabsq	$230584300921369395, %rsi
+	movabsq	$192153584101141162, %rsi
 	cmpq	%rsi, %rbx
 	ja	4f
 	testq	%rcx, %rcx
 	je	3f
 	movq	%rdi, %r14
 	movq	(%rdi), %rdi
-	shlq	$3, %rax
-	leaq	(%rax,%rax,4), %rsi
-	leaq	(,%rbx,8), %rax
-	leaq	(%rax,%rax,4), %rdx
+	shlq	$4, %rax
+	leaq	(%rax,%rax,2), %rsi
+	movq	%rbx, %rax
+	shlq	$4, %rax
+	leaq	(%rax,%rax,2), %rdx
 	movl	$8, %ecx
 	callq	rattle_realloc@PLT
 	testb	$1, %al
@@ -1119,8 +1073,8 @@
 	retq
 3:
 	movq	%rdi, %r14
-	shlq	$3, %rdx
-	leaq	(%rdx,%rdx,4), %rdi
+	shlq	$4, %rdx
+	leaq	(%rdx,%rdx,2), %rdi
 	movl	$8, %esi
 	callq	rattle_alloc@PLT
 	testb	$1, %al
@@ -1138,35 +1092,34 @@
 	.p2align	4
 	.type	"std_alloc::vec::Vec::grow_amortized::<#88a06660b488da62>",@function
 "std_alloc::vec::Vec::grow_amortized::<#88a06660b488da62>":
-	movq	8(%rdi), %rax
-	cmpq	$-1, %rax
+	movq	8(%rdi), %rsi
+	cmpq	$-1, %rsi
 	je	2f
 	pushq	%r14
 	pushq	%rbx
 	pushq	%rax
 	movq	16(%rdi), %rcx
-	cmpq	$4, %rax
+	cmpq	$4, %rsi
 	movl	$3, %ebx
-	cmovaeq	%rax, %rbx
+	cmovaeq	%rsi, %rbx
 	incq	%rbx
-	movq	%rcx, %rsi
-	shrq	$62, %rsi
-	leaq	(%rcx,%rcx), %rdx
-	cmpq	%rdx, %rbx
-	cmovaq	%rbx, %rdx
-	testq	%rsi, %rsi
-	cmoveq	%rdx, %rbx
-	movabsq	$230584300921369395, %rsi
-	cmpq	%rsi, %rbx
-	ja	4f
+	movq	%rcx, %rdx
+	shrq	$62, %rdx
+	leaq	(%rcx,%rcx), %rax
+	cmpq	%rax, %rbx
+	cmovaq	%rbx, %rax
+	testq	%rdx, %rdx
+	cmoveq	%rax, %rbx
+	movq	%rbx, %rdx
+	shrq	$59, %rdx
+	jne	4f
 	testq	%rcx, %rcx
 	je	3f
 	movq	%rdi, %r14
 	movq	(%rdi), %rdi
-	shlq	$3, %rax
-	leaq	(%rax,%rax,4), %rsi
-	leaq	(,%rbx,8), %rax
-	leaq	(%rax,%rax,4), %rdx
+	shlq	$4, %rsi
+	movq	%rbx, %rdx
+	shlq	$4, %rdx
 	movl	$8, %ecx
 	callq	rattle_realloc@PLT
 	testb	$1, %al
@@ -1184,9 +1137,9 @@
 	retq
 3:
 	movq	%rdi, %r14
-	shlq	$3, %rdx
-	leaq	(%rdx,%rdx,4), %rdi
+	shlq	$4, %rax
 	movl	$8, %esi
+	movq	%rax, %rdi
 	callq	rattle_alloc@PLT
 	testb	$1, %al
 	jne	1b
@@ -1283,15 +1236,18 @@
 	cmovaq	%rbx, %rdx
 	testq	%rsi, %rsi
 	cmoveq	%rdx, %rbx
-	movabsq	$104811045873349725, %rsi
+	movabsq	$96076792050570581, %rsi
 	cmpq	%rsi, %rbx
 	ja	4f
 	testq	%rcx, %rcx
 	je	3f
 	movq	%rdi, %r14
 	movq	(%rdi), %rdi
-	imulq	$88, %rax, %rsi
-	imulq	$88, %rbx, %rdx
+	shlq	$5, %rax
+	leaq	(%rax,%rax,2), %rsi
+	movq	%rbx, %rax
+	shlq	$5, %rax
+	leaq	(%rax,%rax,2), %rdx
 	movl	$8, %ecx
 	callq	rattle_realloc@PLT
 	testb	$1, %al
@@ -1309,7 +1265,8 @@
 	retq
 3:
 	movq	%rdi, %r14
-	imulq	$88, %rdx, %rdi
+	shlq	$5, %rdx
+	leaq	(%rdx,%rdx,2), %rdi
 	movl	$8, %esi
 	callq	rattle_alloc@PLT
 	testb	$1, %al
@@ -1472,17 +1429,18 @@
 	cmovaq	%rbx, %rdx
 	testq	%rsi, %rsi
 	cmoveq	%rdx, %rbx
-	movabsq	$128102389400760775, %rsi
+	movabsq	$115292150460684697, %rsi
 	cmpq	%rsi, %rbx
 	ja	4f
 	testq	%rcx, %rcx
 	je	3f
 	movq	%rdi, %r14
 	movq	(%rdi), %rdi
-	shlq	$3, %rax
-	leaq	(%rax,%rax,8), %rsi
-	leaq	(,%rbx,8), %rax
-	leaq	(%rax,%rax,8), %rdx
+	shlq	$4, %rax
+	leaq	(%rax,%rax,4), %rsi
+	movq	%rbx, %rax
+	shlq	$4, %rax
+	leaq	(%rax,%rax,4), %rdx
 	movl	$8, %ecx
 	callq	rattle_realloc@PLT
 	testb	$1, %al
@@ -1500,8 +1458,8 @@
 	retq
 3:
 	movq	%rdi, %r14
-	shlq	$3, %rdx
-	leaq	(%rdx,%rdx,8), %rdi
+	shlq	$4, %rdx
+	leaq	(%rdx,%rdx,4), %rdi
 	movl	$8, %esi
 	callq	rattle_alloc@PLT
 	testb	$1, %al
@@ -1539,18 +1497,18 @@
 	cmovaq	%rbx, %rdx
 	testq	%rsi, %rsi
 	cmoveq	%rdx, %rbx
-	movabsq	$115292150460684697, %rsi
+	movabsq	$96076792050570581, %rsi
 	cmpq	%rsi, %rbx
 	ja	4f
 	testq	%rcx, %rcx
 	je	3f
 	movq	%rdi, %r14
 	movq	(%rdi), %rdi
-	shlq	$4, %rax
-	leaq	(%rax,%rax,4), %rsi
+	shlq	$5, %rax
+	leaq	(%rax,%rax,2), %rsi
 	movq	%rbx, %rax
-	shlq	$4, %rax
-	leaq	(%rax,%rax,4), %rdx
+	shlq	$5, %rax
+	leaq	(%rax,%rax,2), %rdx
 	movl	$8, %ecx
 	callq	rattle_realloc@PLT
 	testb	$1, %al
@@ -1565,8 +1523,8 @@
 	retq
 3:
 	movq	%rdi, %r14
-	shlq	$4, %rdx
-	leaq	(%rdx,%rdx,4), %rdi
+	shlq	$5, %rdx
+	leaq	(%rdx,%rdx,2), %rdi
 	movl	$8, %esi
 	callq	rattle_alloc@PLT
 	testb	$1, %al
@@ -1666,18 +1624,15 @@
 	cmovaq	%rbx, %rdx
 	testq	%rsi, %rsi
 	cmoveq	%rdx, %rbx
-	movabsq	$96076792050570581, %rsi
+	movabsq	$88686269585142075, %rsi
 	cmpq	%rsi, %rbx
 	ja	4f
 	testq	%rcx, %rcx
 	je	3f
 	movq	%rdi, %r14
 	movq	(%rdi), %rdi
-	shlq	$5, %rax
-	leaq	(%rax,%rax,2), %rsi
-	movq	%rbx, %rax
-	shlq	$5, %rax
-	leaq	(%rax,%rax,2), %rdx
+	imulq	$104, %rax, %rsi
+	imulq	$104, %rbx, %rdx
 	movl	$8, %ecx
 	callq	rattle_realloc@PLT
 	testb	$1, %al
@@ -1695,8 +1650,7 @@
 	retq
 3:
 	movq	%rdi, %r14
-	shlq	$5, %rdx
-	leaq	(%rdx,%rdx,2), %rdi
+	imulq	$104, %rdx, %rdi
 	movl	$8, %esi
 	callq	rattle_alloc@PLT
 	testb	$1, %al
@@ -1771,6 +1725,66 @@
 	retq
 5:
 	.size	"std_alloc::vec::Vec::grow_amortized::<#b5570d1ab3d10a20>", 5b-"std_alloc::vec::Vec::grow_amortized::<#b5570d1ab3d10a20>"
+
+	.section	.text.unlikely,"ax",@progbits
+	.p2align	4
+	.type	"std_alloc::vec::Vec::grow_amortized::<#ba2bc337b3219e73>",@function
+"std_alloc::vec::Vec::grow_amortized::<#ba2bc337b3219e73>":
+	movq	%rsi, %rax
+	movq	8(%rdi), %rsi
+	addq	%rsi, %rax
+	jae	1f
+	xorl	%eax, %eax
+	retq
+1:
+	pushq	%r14
+	pushq	%rbx
+	pushq	%rax
+	cmpq	$9, %rax
+	movl	$8, %ebx
+	cmovaeq	%rax, %rbx
+	movq	16(%rdi), %rcx
+	movq	%rcx, %rdx
+	shrq	$62, %rdx
+	leaq	(%rcx,%rcx), %rax
+	cmpq	%rax, %rbx
+	cmovaq	%rbx, %rax
+	testq	%rdx, %rdx
+	cmoveq	%rax, %rbx
+	testq	%rbx, %rbx
+	js	4f
+	testq	%rcx, %rcx
+	je	3f
+	movq	%rdi, %r14
+	movq	(%rdi), %rdi
+	movl	$1, %ecx
+	movq	%rbx, %rdx
+	callq	rattle_realloc@PLT
+	testb	$1, %al
+	je	4f
+2:
+	movq	%rdx, (%r14)
+	movq	%rbx, 16(%r14)
+	movb	$1, %al
+	addq	$8, %rsp
+	popq	%rbx
+	popq	%r14
+	retq
+3:
+	movq	%rdi, %r14
+	movl	$1, %esi
+	movq	%rax, %rdi
+	callq	rattle_alloc@PLT
+	testb	$1, %al
+	jne	2b
+4:
+	xorl	%eax, %eax
+	addq	$8, %rsp
+	popq	%rbx
+	popq	%r14
+	retq
+5:
+	.size	"std_alloc::vec::Vec::grow_amortized::<#ba2bc337b3219e73>", 5b-"std_alloc::vec::Vec::grow_amortized::<#ba2bc337b3219e73>"
 
 	.section	.text.unlikely,"ax",@progbits
 	.p2align	4
@@ -1924,18 +1938,18 @@
 	cmovaq	%rbx, %rdx
 	testq	%rsi, %rsi
 	cmoveq	%rdx, %rbx
-	movabsq	$115292150460684697, %rsi
+	movabsq	$96076792050570581, %rsi
 	cmpq	%rsi, %rbx
 	ja	4f
 	testq	%rcx, %rcx
 	je	3f
 	movq	%rdi, %r14
 	movq	(%rdi), %rdi
-	shlq	$4, %rax
-	leaq	(%rax,%rax,4), %rsi
+	shlq	$5, %rax
+	leaq	(%rax,%rax,2), %rsi
 	movq	%rbx, %rax
-	shlq	$4, %rax
-	leaq	(%rax,%rax,4), %rdx
+	shlq	$5, %rax
+	leaq	(%rax,%rax,2), %rdx
 	movl	$8, %ecx
 	callq	rattle_realloc@PLT
 	testb	$1, %al
@@ -1950,8 +1964,8 @@
 	retq
 3:
 	movq	%rdi, %r14
-	shlq	$4, %rdx
-	leaq	(%rdx,%rdx,4), %rdi
+	shlq	$5, %rdx
+	leaq	(%rdx,%rdx,2), %rdi
 	movl	$8, %esi
 	callq	rattle_alloc@PLT
 	testb	$1, %al
@@ -3032,11 +3046,12 @@
 	cmpq	%rcx, %rbp
 	je	6f
 2:
-	leaq	(,%rbp,8), %rax
-	leaq	(%rax,%rax,8), %rax
-	movq	48(%rbx,%rax), %r13
-	movq	56(%rbx,%rax), %r12
-	movq	64(%rbx,%rax), %r15
+	movq	%rbp, %rax
+	shlq	$4, %rax
+	leaq	(%rax,%rax,4), %rax
+	movq	56(%rbx,%rax), %r13
+	movq	64(%rbx,%rax), %r12
+	movq	72(%rbx,%rax), %r15
 	cmpb	$0, 8(%rbx,%rax)
 	je	3f
 	cmpq	$0, 32(%rbx,%rax)
@@ -3083,11 +3098,12 @@
 	cmpq	8(%rsp), %r13
 	je	12f
 8:
-	leaq	(,%r13,8), %rax
-	leaq	(%rax,%rax,8), %rax
-	movq	48(%rbx,%rax), %r14
-	movq	56(%rbx,%rax), %r12
-	movq	64(%rbx,%rax), %r15
+	movq	%r13, %rax
+	shlq	$4, %rax
+	leaq	(%rax,%rax,4), %rax
+	movq	56(%rbx,%rax), %r14
+	movq	64(%rbx,%rax), %r12
+	movq	72(%rbx,%rax), %r15
 	cmpb	$0, 8(%rbx,%rax)
 	je	9f
 	cmpq	$0, 32(%rbx,%rax)
@@ -3171,8 +3187,7 @@
 	leaq	(%rax,%r13), %rcx
 	cmpq	%rcx, %rax
 	jae	7f
-	leaq	(%rax,%rax,2), %rbp
-	shlq	$5, %rbp
+	imulq	$104, %rax, %rbp
 	addq	8(%rsp), %rbp
 	jmp	4f
 1:
@@ -3180,7 +3195,7 @@
 2:
 	callq	rattle_dealloc@PLT
 3:
-	addq	$96, %rbp
+	addq	$104, %rbp
 	decq	%r13
 	je	7f
 4:
@@ -3194,9 +3209,9 @@
 	jmp	3b
 	.p2align	4
 5:
-	movzbl	56(%rbp), %ebx
-	movq	64(%rbp), %r14
-	movq	80(%rbp), %r15
+	movzbl	64(%rbp), %ebx
+	movq	72(%rbp), %r14
+	movq	88(%rbp), %r15
 	testb	%dil, %dil
 	je	6f
 	cmpq	$0, 40(%rbp)
@@ -3219,7 +3234,7 @@
 8:
 	callq	rattle_dealloc@PLT
 9:
-	addq	$96, %r13
+	addq	$104, %r13
 	decq	%r12
 	je	13f
 10:
@@ -3233,9 +3248,9 @@
 	jmp	9b
 	.p2align	4
 11:
-	movzbl	56(%r13), %ebx
-	movq	64(%r13), %r14
-	movq	80(%r13), %r15
+	movzbl	64(%r13), %ebx
+	movq	72(%r13), %r14
+	movq	88(%r13), %r15
 	testb	%dil, %dil
 	je	12f
 	cmpq	$0, 40(%r13)
@@ -3297,25 +3312,26 @@
 	leaq	(%rax,%r13), %rcx
 	cmpq	%rcx, %rax
 	jae	4f
-	imulq	$88, %rax, %rax
+	leaq	(%rax,%rax,2), %rax
+	shlq	$5, %rax
 	movq	8(%rsp), %rcx
 	leaq	(%rax,%rcx), %rbp
-	addq	$72, %rbp
+	addq	$80, %rbp
 	jmp	2f
 	.p2align	4
 1:
-	addq	$88, %rbp
+	addq	$96, %rbp
 	decq	%r13
 	je	4f
 2:
 	movzbl	-24(%rbp), %ebx
 	movq	-16(%rbp), %r14
 	movq	(%rbp), %r15
-	cmpb	$0, -64(%rbp)
+	cmpb	$0, -72(%rbp)
 	je	3f
-	cmpq	$0, -40(%rbp)
+	cmpq	$0, -48(%rbp)
 	je	3f
-	movq	-56(%rbp), %rdi
+	movq	-64(%rbp), %rdi
 	callq	rattle_dealloc@PLT
 3:
 	testb	%bl, %bl
@@ -3329,22 +3345,22 @@
 	testq	%r12, %r12
 	movq	8(%rsp), %rbp
 	je	8f
-	leaq	72(%rbp), %r13
+	leaq	80(%rbp), %r13
 	jmp	6f
 	.p2align	4
 5:
-	addq	$88, %r13
+	addq	$96, %r13
 	decq	%r12
 	je	8f
 6:
 	movzbl	-24(%r13), %ebx
 	movq	-16(%r13), %r14
 	movq	(%r13), %r15
-	cmpb	$0, -64(%r13)
+	cmpb	$0, -72(%r13)
 	je	7f
-	cmpq	$0, -40(%r13)
+	cmpq	$0, -48(%r13)
 	je	7f
-	movq	-56(%r13), %rdi
+	movq	-64(%r13), %rdi
 	callq	rattle_dealloc@PLT
 7:
 	testb	%bl, %bl
@@ -5080,12 +5096,13 @@
 	movq	16(%rsp), %r15
 	je	8f
 2:
-	leaq	(,%r14,8), %rax
-	leaq	(%rax,%rax,8), %rax
-	movq	48(%r15,%rax), %rcx
+	movq	%r14, %rax
+	shlq	$4, %rax
+	leaq	(%rax,%rax,4), %rax
+	movq	56(%r15,%rax), %rcx
 	movq	%rcx, 8(%rsp)
-	movq	56(%r15,%rax), %rbx
-	movq	64(%r15,%rax), %rcx
+	movq	64(%r15,%rax), %rbx
+	movq	72(%r15,%rax), %rcx
 	movq	%rcx, 32(%rsp)
 	cmpb	$0, 8(%r15,%rax)
 	je	3f

@@ -8699,7 +8699,7 @@
 	shll	$3, %r9d
 	leaq	".Lswitch.table.clap::builder::command::building::build_levels"(%rip), %r10
 	movq	(%r9,%r10), %r10
-	leaq	".Lswitch.table.clap::builder::command::building::build_levels.2129"(%rip), %r11
+	leaq	".Lswitch.table.clap::builder::command::building::build_levels.2185"(%rip), %r11
 	movq	(%r9,%r11), %r9
 	movq	$1, -83(%rdi,%rsi)
 	movq	%r10, -75(%rdi,%rsi)
@@ -24344,7 +24344,7 @@
 14:
 	movq	%rax, %r14
 	movq	%rdi, %r12
-	callq	"std_alloc::vec::Vec::grow_amortized::<#973b4a116d082bbd>"
+	callq	"std_alloc::vec::Vec::grow_amortized::<#0de042945cfeb279>"
 	testb	%al, %al
 	je	15f
 	movq	%r12, %rdi
@@ -24972,7 +24972,7 @@
 	movdqa	%xmm0, 160(%rsp)
 	movq	(%r15), %r14
 	leaq	96(%rsp), %rdi
-	callq	"std_alloc::vec::Vec::grow_amortized::<#973b4a116d082bbd>"
+	callq	"std_alloc::vec::Vec::grow_amortized::<#0de042945cfeb279>"
 	testb	%al, %al
 	je	63f
 	movq	104(%rsp), %rax
@@ -25024,7 +25024,7 @@
 	movq	%rsi, 160(%rsp)
 	movq	(%r15), %r14
 	leaq	96(%rsp), %rdi
-	callq	"std_alloc::vec::Vec::grow_amortized::<#973b4a116d082bbd>"
+	callq	"std_alloc::vec::Vec::grow_amortized::<#0de042945cfeb279>"
 	testb	%al, %al
 	jne	42b
 	leaq	1(%rbp), %r15
@@ -34020,7 +34020,7 @@
 	shll	$3, %eax
 	leaq	".Lswitch.table.clap::parser::parse::Parser::check_value"(%rip), %rcx
 	movq	(%rax,%rcx), %rdx
-	leaq	".Lswitch.table.clap::parser::parse::Parser::check_value.2130"(%rip), %rcx
+	leaq	".Lswitch.table.clap::parser::parse::Parser::check_value.2186"(%rip), %rcx
 	movq	(%rax,%rcx), %rsi
 	cmpq	$0, 288(%rsp)
 	jne	240f
@@ -45156,7 +45156,7 @@
 	movups	40(%rsp), %xmm0
 	movaps	%xmm0, 400(%rsp)
 	leaq	160(%rsp), %rdi
-	callq	"std_alloc::vec::Vec::grow_amortized::<#973b4a116d082bbd>"
+	callq	"std_alloc::vec::Vec::grow_amortized::<#0de042945cfeb279>"
 	testb	%al, %al
 	je	33f
 	movq	160(%rsp), %r8
@@ -45873,7 +45873,7 @@
 	movaps	%xmm0, 192(%rsp)
 	movq	96(%rsp), %r14
 	leaq	16(%rsp), %rdi
-	callq	"std_alloc::vec::Vec::grow_amortized::<#973b4a116d082bbd>"
+	callq	"std_alloc::vec::Vec::grow_amortized::<#0de042945cfeb279>"
 	testb	%al, %al
 	je	13f
 	movq	16(%rsp), %r14
@@ -46896,7 +46896,7 @@
 	jne	37b
 	movq	%r8, 104(%rsp)
 	leaq	40(%rsp), %rdi
-	callq	"std_alloc::vec::Vec::grow_amortized::<#3e74848cb5369e83>"
+	callq	"std_alloc::vec::Vec::grow_amortized::<#383af2bc39eacab1>"
 	testb	%al, %al
 	je	61f
 	movq	40(%rsp), %rsi
@@ -46944,7 +46944,7 @@
 	movq	%rbp, 96(%rsp)
 	movq	%r11, %rbp
 	leaq	40(%rsp), %rdi
-	callq	"std_alloc::vec::Vec::grow_amortized::<#3e74848cb5369e83>"
+	callq	"std_alloc::vec::Vec::grow_amortized::<#383af2bc39eacab1>"
 	testb	%al, %al
 	jne	43b
 	cmpq	$0, 56(%rsp)
@@ -46998,7 +46998,7 @@
 53:
 	movq	%r13, %rdi
 	movq	%rsi, %rbx
-	callq	"std_alloc::vec::Vec::grow_amortized::<#973b4a116d082bbd>"
+	callq	"std_alloc::vec::Vec::grow_amortized::<#0de042945cfeb279>"
 	movq	%rbx, %rsi
 	testb	%al, %al
 	je	14b
@@ -51180,7 +51180,7 @@
 	movdqa	%xmm0, 224(%rsp)
 	movq	144(%rsp), %rbx
 	leaq	288(%rsp), %rdi
-	callq	"std_alloc::vec::Vec::grow_amortized::<#973b4a116d082bbd>"
+	callq	"std_alloc::vec::Vec::grow_amortized::<#0de042945cfeb279>"
 	testb	%al, %al
 	jne	199b
 	testq	%rbx, %rbx

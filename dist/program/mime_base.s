@@ -47,74 +47,72 @@
 
 	.text
 	.p2align	4
-	.type	"mime_base::magic::holding::some_line_matches",@function
-"mime_base::magic::holding::some_line_matches":
+	.type	"mime_base::magic::holding::line_matches",@function
+"mime_base::magic::holding::line_matches":
 	pushq	%rbp
 	pushq	%r15
 	pushq	%r14
 	pushq	%r13
 	pushq	%r12
 	pushq	%rbx
-	subq	$56, %rsp
-	movq	%r9, 48(%rsp)
-	movl	%r8d, 44(%rsp)
-	testq	%rsi, %rsi
-	je	5f
-	movq	%rcx, %r14
-	movq	%rdx, %r15
-	movq	%rsi, %r12
-	movq	%rdi, %r13
+	subq	$40, %rsp
+	movq	%r8, %rbx
+	movq	%rdx, %r14
+	movq	%rsi, %r15
+	movq	%rdi, %r12
+	movq	16(%rdi), %rdi
+	movq	24(%r12), %rsi
+	cmpb	$1, 40(%r12)
+	jne	1f
+	movq	48(%r12), %rdx
+	movq	56(%r12), %rax
 	jmp	2f
-	.p2align	4
 1:
-	addq	$96, %r13
-	decq	%r12
-	je	5f
-2:
-	cmpb	$1, 40(%r13)
-	jne	3f
-	movq	48(%r13), %rdx
-	movq	56(%r13), %rcx
-	jmp	4f
-	.p2align	4
-3:
 	leaq	.L22d5119de29e(%rip), %rdx
-	xorl	%ecx, %ecx
-4:
-	movq	16(%r13), %rdi
-	movq	24(%r13), %rsi
-	movl	8(%r13), %r8d
-	movl	(%r13), %eax
-	movl	4(%r13), %r9d
-	movq	48(%rsp), %r10
-	movq	%r10, 32(%rsp)
-	movq	%r9, 24(%rsp)
-	movq	%rax, 16(%rsp)
+	xorl	%eax, %eax
+2:
+	movl	8(%r12), %r8d
+	movl	(%r12), %r9d
+	movl	4(%r12), %r10d
+	movq	%rbx, 32(%rsp)
+	movq	%r10, 24(%rsp)
+	movq	%r9, 16(%rsp)
 	movq	%r14, 8(%rsp)
 	movq	%r15, (%rsp)
-	movzbl	44(%rsp), %ebx
-	movl	%ebx, %r9d
+	movzbl	%cl, %ebp
+	movq	%rax, %rcx
+	movl	%ebp, %r9d
 	callq	"mime_base::magic::ranges::value_in_range"
 	testb	%al, %al
-	je	1b
-	movq	80(%r13), %rsi
-	movb	$1, %bpl
-	testq	%rsi, %rsi
-	je	6f
-	movq	72(%r13), %rdi
-	movq	%r15, %rdx
-	movq	%r14, %rcx
-	movl	%ebx, %r8d
-	movq	48(%rsp), %r9
-	callq	"mime_base::magic::holding::some_line_matches"
+	je	4f
+	movq	80(%r12), %r13
+	testq	%r13, %r13
+	je	5f
+	movq	72(%r12), %r12
+	decq	%r13
+	.p2align	4
+3:
+	movq	%r12, %rdi
+	movq	%r15, %rsi
+	movq	%r14, %rdx
+	movl	%ebp, %ecx
+	movq	%rbx, %r8
+	callq	"mime_base::magic::holding::line_matches"
+	subq	$1, %r13
+	setb	%cl
 	testb	%al, %al
-	je	1b
+	jne	6f
+	addq	$96, %r12
+	testb	%cl, %cl
+	je	3b
+	jmp	6f
+4:
+	xorl	%eax, %eax
 	jmp	6f
 5:
-	xorl	%ebp, %ebp
+	movb	$1, %al
 6:
-	movl	%ebp, %eax
-	addq	$56, %rsp
+	addq	$40, %rsp
 	popq	%rbx
 	popq	%r12
 	popq	%r13
@@ -123,7 +121,7 @@
 	popq	%rbp
 	retq
 7:
-	.size	"mime_base::magic::holding::some_line_matches", 7b-"mime_base::magic::holding::some_line_matches"
+	.size	"mime_base::magic::holding::line_matches", 7b-"mime_base::magic::holding::line_matches"
 
 	.text
 	.p2align	4
@@ -1596,12 +1594,32 @@
 	.section	.rodata.cst16,"aM",@progbits,16
 	.p2align	4, 0x0
 1:
-	.zero	16,32
+	.byte	33,33,33,33,33,33,33,33
+	.zero	1
+	.zero	1
+	.zero	1
+	.zero	1
+	.zero	1
+	.zero	1
+	.zero	1
+	.zero	1
 2:
-	.zero	16,58
+	.byte	58,58,58,58,58,58,58,58
+	.zero	1
+	.zero	1
+	.zero	1
+	.zero	1
+	.zero	1
+	.zero	1
+	.zero	1
+	.zero	1
 3:
-	.zero	16,47
+	.zero	16,32
 4:
+	.zero	16,58
+5:
+	.zero	16,47
+6:
 	.byte	47,47,47,47,47,47,47,47
 	.zero	1
 	.zero	1
@@ -1616,77 +1634,113 @@
 	.type	"mime_base::names::TypeName::new",@function
 "mime_base::names::TypeName::new":
 	pushq	%rbx
-	subq	$80, %rsp
+	subq	$112, %rsp
 	xorps	%xmm0, %xmm0
+	movaps	%xmm0, 80(%rsp)
 	movaps	%xmm0, 64(%rsp)
 	movaps	%xmm0, 48(%rsp)
-	movaps	%xmm0, 32(%rsp)
+	movq	$0, 96(%rsp)
 	movaps	%xmm0, (%rsp)
 	movaps	%xmm0, 16(%rsp)
+	movq	$0, 32(%rsp)
 	leaq	-3(%rdx), %rax
 	cmpq	$252, %rax
-	ja	20f
-	movq	%rsi, %rax
-	movq	%rdx, %rcx
+	ja	24f
 	cmpq	$16, %rdx
-	jb	6f
-	movq	%rdx, %rcx
-	movq	%rsi, %rax
+	jb	9f
+	movq	%rdx, %rax
+	addq	$-16, %rax
+	je	8f
+	xorl	%ecx, %ecx
 	.p2align	4
-5:
-	movdqu	(%rax), %xmm1
-	movdqa	1b(%rip), %xmm2
+7:
+	movdqu	(%rsi,%rcx), %xmm1
+	movdqa	3b(%rip), %xmm2
 	pminub	%xmm1, %xmm2
 	pcmpeqb	%xmm1, %xmm2
-	pcmpeqb	2b(%rip), %xmm1
+	pcmpeqb	4b(%rip), %xmm1
 	por	%xmm2, %xmm1
 	pmovmskb	%xmm1, %r8d
 	testl	%r8d, %r8d
-	jne	20f
-	addq	$16, %rax
-	addq	$-16, %rcx
-	cmpq	$15, %rcx
-	ja	5b
-6:
-	xorl	%r8d, %r8d
-	.p2align	4
-7:
-	cmpq	%r8, %rcx
-	je	8f
-	movzbl	(%rax,%r8), %r9d
-	cmpb	$33, %r9b
-	jb	20f
-	incq	%r8
-	cmpb	$58, %r9b
-	jne	7b
-	jmp	20f
+	jne	24f
+	addq	$16, %rcx
+	cmpq	%rax, %rcx
+	jb	7b
 8:
-	cmpq	$3, %rdx
-	ja	9f
+	movdqu	(%rsi,%rax), %xmm1
+	movdqa	3b(%rip), %xmm2
+	pminub	%xmm1, %xmm2
+	pcmpeqb	%xmm1, %xmm2
+	pcmpeqb	4b(%rip), %xmm1
+	por	%xmm2, %xmm1
+	pmovmskb	%xmm1, %eax
+	testl	%eax, %eax
+	jne	24f
+	jmp	11f
+9:
+	cmpq	$8, %rdx
+	jb	10f
+	movq	(%rsi), %xmm2
+	movdqa	1b(%rip), %xmm3
+	pmaxub	%xmm2, %xmm3
+	pcmpeqb	%xmm2, %xmm3
+	pcmpeqd	%xmm1, %xmm1
+	pcmpeqb	2b(%rip), %xmm2
+	pxor	%xmm1, %xmm3
+	por	%xmm3, %xmm2
+	pmovmskb	%xmm2, %eax
+	testb	%al, %al
+	jne	24f
+	movq	-8(%rsi,%rdx), %xmm2
+	movdqa	1b(%rip), %xmm3
+	pmaxub	%xmm2, %xmm3
+	pcmpeqb	%xmm2, %xmm3
+	pcmpeqb	2b(%rip), %xmm2
+	pxor	%xmm1, %xmm3
+	por	%xmm3, %xmm2
+	pmovmskb	%xmm2, %eax
+	testb	%al, %al
+	jne	24f
+	jmp	12f
+10:
 	testq	%rdx, %rdx
-	je	20f
+	je	11f
+	movzbl	(%rsi), %eax
+	cmpb	$33, %al
+	setb	%cl
+	cmpb	$58, %al
+	sete	%al
+	orb	%cl, %al
+	jne	24f
+	cmpq	$1, %rdx
+	jne	16f
+11:
+	cmpq	$3, %rdx
+	ja	12f
+	testq	%rdx, %rdx
+	je	24f
 	cmpb	$47, (%rsi)
-	je	19f
+	je	23f
 	movq	%rdx, %rax
 	shrq	%rax
 	cmpb	$47, (%rsi,%rax)
-	je	19f
+	je	23f
 	cmpb	$47, -1(%rsi,%rdx)
-	jne	20f
-	jmp	19f
-9:
+	jne	24f
+	jmp	23f
+12:
 	cmpq	$8, %rdx
-	ja	10f
+	ja	13f
 	movd	(%rsi), %xmm1
 	pinsrd	$1, -4(%rsi,%rdx), %xmm1
-	pcmpeqb	4b(%rip), %xmm1
+	pcmpeqb	6b(%rip), %xmm1
 	pmovmskb	%xmm1, %eax
 	testb	%al, %al
-	jne	19f
-	jmp	20f
-10:
+	jne	23f
+	jmp	24f
+13:
 	cmpq	$32, %rdx
-	ja	11f
+	ja	14f
 	leaq	-8(%rdx), %rax
 	cmpq	$8, %rax
 	movl	$8, %ecx
@@ -1700,39 +1754,96 @@
 	movq	(%rsi,%r8), %xmm1
 	movq	-8(%rsi,%rdx), %xmm3
 	punpcklqdq	%xmm3, %xmm1
-	movdqa	3b(%rip), %xmm3
+	movdqa	5b(%rip), %xmm3
 	pcmpeqb	%xmm3, %xmm1
 	pcmpeqb	%xmm3, %xmm2
-	jmp	12f
-11:
+	jmp	15f
+14:
 	cmpq	$65, %rdx
-	jae	13f
+	jae	17f
 	movdqu	(%rsi), %xmm1
 	movdqu	16(%rsi), %xmm2
 	movdqu	-32(%rsi,%rdx), %xmm3
 	movdqu	-16(%rsi,%rdx), %xmm4
-	movdqa	3b(%rip), %xmm5
+	movdqa	5b(%rip), %xmm5
 	pcmpeqb	%xmm5, %xmm3
 	pcmpeqb	%xmm5, %xmm1
 	por	%xmm3, %xmm1
 	pcmpeqb	%xmm5, %xmm4
 	pcmpeqb	%xmm5, %xmm2
 	por	%xmm4, %xmm2
-12:
+15:
 	por	%xmm1, %xmm2
 	pmovmskb	%xmm2, %eax
 	testl	%eax, %eax
-	jne	19f
-	jmp	20f
-13:
+	jne	23f
+	jmp	24f
+16:
+	movzbl	1(%rsi), %eax
+	cmpb	$33, %al
+	setb	%cl
+	cmpb	$58, %al
+	sete	%al
+	orb	%cl, %al
+	jne	24f
+	cmpq	$2, %rdx
+	je	11b
+	movzbl	2(%rsi), %eax
+	cmpb	$33, %al
+	setb	%cl
+	cmpb	$58, %al
+	sete	%al
+	orb	%cl, %al
+	jne	24f
+	cmpq	$3, %rdx
+	je	11b
+	movzbl	3(%rsi), %eax
+	cmpb	$33, %al
+	setb	%cl
+	cmpb	$58, %al
+	sete	%al
+	orb	%cl, %al
+	jne	24f
+	cmpq	$4, %rdx
+	je	11b
+	movzbl	4(%rsi), %eax
+	cmpb	$33, %al
+	setb	%cl
+	cmpb	$58, %al
+	sete	%al
+	orb	%cl, %al
+	jne	24f
+	cmpq	$5, %rdx
+	je	11b
+	movzbl	5(%rsi), %eax
+	cmpb	$33, %al
+	setb	%cl
+	cmpb	$58, %al
+	sete	%al
+	orb	%cl, %al
+	jne	24f
+	cmpq	$6, %rdx
+	je	11b
+	movzbl	6(%rsi), %eax
+	cmpb	$33, %al
+	setae	%cl
+	cmpb	$58, %al
+	setne	%al
+	andb	%cl, %al
+	cmpq	$7, %rdx
+	sete	%cl
+	testb	%cl, %al
+	jne	11b
+	jmp	24f
+17:
 	xorl	%eax, %eax
 	movq	%rdx, %rcx
-14:
+18:
 	movdqu	(%rsi,%rax), %xmm2
 	movdqu	16(%rsi,%rax), %xmm3
 	movdqu	32(%rsi,%rax), %xmm4
 	movdqu	48(%rsi,%rax), %xmm5
-	movdqa	3b(%rip), %xmm1
+	movdqa	5b(%rip), %xmm1
 	pcmpeqb	%xmm1, %xmm4
 	pcmpeqb	%xmm1, %xmm2
 	por	%xmm4, %xmm2
@@ -1742,18 +1853,18 @@
 	por	%xmm2, %xmm3
 	pmovmskb	%xmm3, %r8d
 	testl	%r8d, %r8d
-	jne	15f
+	jne	19f
 	addq	$64, %rax
 	addq	$-64, %rcx
 	cmpq	$63, %rcx
-	ja	14b
-15:
+	ja	18b
+19:
 	cmpq	$32, %rcx
-	jb	18f
+	jb	22f
 	movq	%rdx, %rcx
 	subq	%rax, %rcx
 	addq	%rsi, %rax
-16:
+20:
 	movdqu	(%rax), %xmm2
 	movdqu	16(%rax), %xmm3
 	pcmpeqb	%xmm1, %xmm3
@@ -1761,16 +1872,16 @@
 	por	%xmm3, %xmm2
 	pmovmskb	%xmm2, %r8d
 	testl	%r8d, %r8d
-	jne	17f
+	jne	21f
 	addq	$-32, %rcx
 	addq	$32, %rax
 	cmpq	$32, %rcx
-	jae	16b
-	jmp	18f
-17:
+	jae	20b
+	jmp	22f
+21:
 	cmpq	$31, %rcx
-	ja	19f
-18:
+	ja	23f
+22:
 	movdqu	-32(%rsi,%rdx), %xmm2
 	movdqu	-16(%rsi,%rdx), %xmm3
 	pcmpeqb	%xmm1, %xmm3
@@ -1778,38 +1889,40 @@
 	por	%xmm3, %xmm2
 	pmovmskb	%xmm2, %eax
 	testl	%eax, %eax
-	je	20f
-19:
+	je	24f
+23:
 	cmpb	$47, (%rsi)
-	je	20f
+	je	24f
 	cmpb	$47, -1(%rsi,%rdx)
-	jne	21f
-20:
+	jne	25f
+24:
 	movw	$1, (%rdi)
 	movups	%xmm0, 8(%rdi)
 	movups	%xmm0, 24(%rdi)
-	movq	$0, 40(%rdi)
-	addq	$80, %rsp
+	movups	%xmm0, 40(%rdi)
+	addq	$112, %rsp
 	popq	%rbx
 	retq
-21:
+25:
 	movq	%rdi, %rbx
-	leaq	32(%rsp), %rdi
-	callq	"smallvec::small_vec::SmallVec::from_slice::<#2ed0ce7c3eafb947>"
-	movzbl	32(%rsp), %eax
+	leaq	48(%rsp), %rdi
+	callq	"smallvec::small_vec::SmallVec::from_slice::<#940dc9c6c8ede164>"
+	movzbl	48(%rsp), %eax
 	testb	%al, %al
-	je	22f
+	je	26f
 	movb	$2, %dl
 	xorl	%ecx, %ecx
-	jmp	23f
-22:
-	movzbl	40(%rsp), %ecx
-	movaps	48(%rsp), %xmm0
-	movdqa	64(%rsp), %xmm1
+	jmp	27f
+26:
+	movzbl	56(%rsp), %ecx
+	movaps	64(%rsp), %xmm0
+	movdqa	80(%rsp), %xmm1
 	movaps	%xmm0, (%rsp)
 	movdqa	%xmm1, 16(%rsp)
+	movq	96(%rsp), %rdx
+	movq	%rdx, 32(%rsp)
 	xorl	%edx, %edx
-23:
+27:
 	movb	%al, (%rbx)
 	movb	%dl, 1(%rbx)
 	movq	%rcx, 8(%rbx)
@@ -1817,8 +1930,10 @@
 	movaps	16(%rsp), %xmm1
 	movups	%xmm0, 16(%rbx)
 	movups	%xmm1, 32(%rbx)
-	addq	$80, %rsp
+	movq	32(%rsp), %rax
+	movq	%rax, 48(%rbx)
+	addq	$112, %rsp
 	popq	%rbx
 	retq
-24:
-	.size	"mime_base::names::TypeName::new", 24b-"mime_base::names::TypeName::new"
+28:
+	.size	"mime_base::names::TypeName::new", 28b-"mime_base::names::TypeName::new"

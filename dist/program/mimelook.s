@@ -501,7 +501,7 @@
 	movq	%rbx, %r12
 	movq	%rdi, %rbx
 	leaq	1472(%rsp), %rdi
-	callq	"std_alloc::vec::Vec::grow_amortized::<#973b4a116d082bbd>"
+	callq	"std_alloc::vec::Vec::grow_amortized::<#0de042945cfeb279>"
 	testb	%al, %al
 	je	151f
 	movq	1480(%rsp), %rax
@@ -586,7 +586,7 @@
 	jmp	52f
 47:
 	leaq	1472(%rsp), %rdi
-	callq	"std_alloc::vec::Vec::grow_amortized::<#973b4a116d082bbd>"
+	callq	"std_alloc::vec::Vec::grow_amortized::<#0de042945cfeb279>"
 	testb	%al, %al
 	je	152f
 	movq	1480(%rsp), %rax
@@ -677,7 +677,7 @@
 	jne	54b
 	movq	%rsi, 144(%rsp)
 	leaq	384(%rsp), %rdi
-	callq	"std_alloc::vec::Vec::grow_amortized::<#88a06660b488da62>"
+	callq	"std_alloc::vec::Vec::grow_amortized::<#e1d7cf8aa0e10052>"
 	testb	%al, %al
 	jne	53b
 	cmpq	$0, 400(%rsp)

@@ -950,7 +950,7 @@
 	leaq	8(%rbx), %rdi
 	addq	%rdi, %rsi
 	movq	%r12, %rdx
-	callq	"core::slice::edits::mirror::<3'&[](*,i64,)>"
+	callq	"core::slice::edits::mirror::<26'mime_store::ending::Ending>"
 	leaq	(%r14,%r13,2), %rsi
 	movq	%r14, %rdi
 	movq	%r12, %rdx

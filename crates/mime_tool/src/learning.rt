@@ -95,10 +95,7 @@ fn learn<'a>(alloc: Global, by: Data<'_, 'a>) -> Option<MagicHeads<'a>>
 }
 
 /// The data with what was learnt of it.
-fn data_with<'i, 'a>(
-    by: Data<'i, 'a>,
-    heads: Option<&'a MagicHeads<'a>>,
-) -> Data<'i, 'a>
+fn data_with<'i, 'a>(by: Data<'i, 'a>, heads: Option<&'a MagicHeads<'a>>) -> Data<'i, 'a>
     requires { IfSome heads (λ it. it.now ≡ bytes_in by) }
     // It is looked up in as without.
     ensures { source_of result ≡ source_of by.entry }
