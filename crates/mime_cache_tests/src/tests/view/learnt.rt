@@ -180,7 +180,8 @@ fn long_contents(rt: HostRuntime) -> Result<(), CacheFault> {
         let mut content = [b'.'; 330];
         content[place] = b'#';
         for &length in &[288, 300, 309, 310, 311, 330] {
-            sniff_both(&rt, rt.alloc(), &MADE, &content[..length], PLENTY)?;
+            let front = content.get(..length).unwrap_or(&content);
+            sniff_both(&rt, rt.alloc(), &MADE, front, PLENTY)?;
         }
     }
     Ok(())
