@@ -1,6 +1,8 @@
 -- Where pairs stand: the first place of each name, and after each place the next of the same name.
-use Rattle.std.specs.Prelude.{◌≡◌, ℕ, ◌+◌, ◌<◌, ◌≤◌, List, [], length, get_or, drop, Option, None, Some, bytes_eq}
-use Rattle.std.specs.HashMap.{HashMap, get_by}
+use Rattle.std.specs.Prelude.{◌≡◌, ℕ, ◌+◌, ◌<◌, ◌≤◌, List, [], length, get_or, drop, Option, None, Some}
+use Rattle.std.specs.BTreeMap.{BTreeMap, get_by}
+use Rattle.std.specs.Cmp.Lexicographic.{slice_cmp}
+use Rattle.std.specs.Ordering.{nat_cmp}
 use Rattle.std.specs.Borrow.{Bor}
 use Rattle.mime_base.specs.Database.PlainPairs.{plain_pairs}
 use Rattle.mime_base.specs.Database.Subclass.{Pairs, parents}
@@ -13,8 +15,8 @@ abbrev pub pairs_at : List Pair → List Pair → Pairs
 pairs_at alias_pairs parent_pairs = record { aliases = plain_pairs alias_pairs; parents = plain_pairs parent_pairs }
 
 -- the place that a map has for a name
-abbrev pub place_in : {S : Type 0} → HashMap (Bor (List ℕ)) ℕ S → List ℕ → Option ℕ
-place_in map name = get_by (λ key. bytes_eq name key.now) map
+abbrev pub place_in : BTreeMap (Bor (List ℕ)) ℕ → List ℕ → Option ℕ
+place_in map name = get_by (λ key. slice_cmp nat_cmp name key.now) map
 
 -- of the pairs from `low` on the first of a name stands here, or there is none
 abbrev pub IsNext : List Pair → List ℕ → ℕ → Option ℕ → Type 0

@@ -8,9 +8,9 @@ ghost use Rattle.mime_base.specs.Database.Subclass.{resolved};
 ghost use Rattle.mime_lookup.specs.Places.{ArePlaced, IsPlaced, placed};
 
 use crate::queue::Queue;
-use indexmap::IndexMap;
 use mime_base::{OutOfMemory, Pair};
 use std::alloc::Global;
+use std::collections::BTreeMap;
 
 /// Some pairs, with the place of each by its name.
 #[derive(Drop)]
@@ -18,7 +18,7 @@ pub struct Places<'a> {
     /// The pairs.
     pub pairs: &'a [Pair],
     /// The first place of each name.
-    pub first: IndexMap<&'a [u8], usize>,
+    pub first: BTreeMap<&'a [u8], usize>,
     /// From the last place to the first, the next place of its name.
     pub next: Vec<Option<usize>>,
 }
@@ -39,7 +39,7 @@ pub fn places_of<'a>(alloc: Global, pairs: &'a [Pair]) -> Result<Places<'a>, Out
     // Each name has its first place, and each place the next of its name.
     ensures indexed { IfOk result IsPlaced }
 {
-    let mut first = IndexMap::new(alloc);
+    let mut first = BTreeMap::new(alloc);
     let mut next = Vec::new(alloc);
     let mut place = pairs.len();
     while place > 0 {
