@@ -8,12 +8,12 @@ use Rattle.mime_lookup.specs.Endings.{ending_number, spelled}
 ending_number-equal : (size : ℕ) (xs ys : List ℕ) →
     compared false (drop (length xs - size) xs) ≡ compared false (drop (length ys - size) ys) → ending_number size xs ≡ ending_number size ys
 unfolding ending_number
-ending_number-equal size xs ys same = ap (spelled 0) same
+ending_number-equal size xs ys same = ap (spelled 1) same
 
--- no bytes spell 0
-pub ending_number-none : (xs : List ℕ) → ending_number 0 xs ≡ 0
+-- no bytes spell 1
+pub ending_number-none : (xs : List ℕ) → ending_number 0 xs ≡ 1
 unfolding ending_number
-ending_number-none xs = ap (λ rest. spelled 0 (compared false rest)) (drop_all (length xs - 0) xs (omega arith))
+ending_number-none xs = ap (λ rest. spelled 1 (compared false rest)) (drop_all (length xs - 0) xs (omega arith))
 
 -- texts that are compared as equal are equal folded
 folded-equal : (cased : Bool) (xs ys : List ℕ) → compared cased xs ≡ compared cased ys → compared false xs ≡ compared false ys

@@ -8,8 +8,9 @@ ghost use Rattle.mime_lookup.specs.Choice.{kept};
 ghost use Rattle.mime_lookup.specs.Endings.{AreKeys};
 
 use crate::indexed::IndexedDatabase;
-use crate::indexed::endings::{endings_of, next_unrefused};
+use crate::indexed::endings::endings_of;
 use crate::indexed::rule_key::RuleKey;
+use crate::indexed::unrefused::{next_unrefused, runs_of};
 use crate::places::unalias_at;
 use mime_base::{Best, GlobRule, Meter, OutOfMemory, glob_matches, rank_of_rule};
 use std::alloc::Global;
@@ -28,14 +29,15 @@ fn kept_rules<'a>(
     ensures nodes { meter.new.nodes ≡ meter.old.nodes }
 {
     let endings = endings_of(name);
+    let mut runs = runs_of(keys, &endings, meter);
     let mut best = Best::new(alloc);
-    let mut place = next_unrefused(keys, &endings, 0, meter);
+    let mut place = next_unrefused(keys, &endings, &mut runs, 0, meter);
     while place < rules.len() {
         let rule = &rules[place];
         if glob_matches(rule.pattern.bytes(), rule.cased, name, meter) {
             best.offer(rank_of_rule(rule), rule)?;
         }
-        place = next_unrefused(keys, &endings, place + 1, meter);
+        place = next_unrefused(keys, &endings, &mut runs, place + 1, meter);
     }
     Ok(best.into_items())
 }

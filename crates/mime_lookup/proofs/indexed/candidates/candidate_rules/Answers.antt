@@ -7,7 +7,7 @@ use Rattle.mime_base.specs.Kept.{candidate_rules, hits, rank_of_rule}
 use Rattle.mime_base.specs.Matching.Matches.{rule_matches}
 use Rattle.mime_base.specs.declared.database.rule.GlobRule.{GlobRule}
 use Rattle.mime_base.proofs.FallingLemmas.Order.{falling-map}
-use Rattle.mime_lookup.proofs.IndexLemmas.SkippedRules.{keys-length, skipped}
+use Rattle.mime_lookup.proofs.IndexLemmas.SkippedRules.{skipped}
 use Rattle.mime_lookup.proofs.OrderLemmas.Hits.{hit_more, miss_more}
 use Rattle.mime_lookup.proofs.indexed.candidates.candidate_rules.Goals as goal
 use Rattle.mime_lookup.proofs.indexed.candidates.candidate_rules.Goals.{then-glob_matches+in_ok-push, else-glob_matches}
@@ -18,17 +18,18 @@ loop-place-init c =
     record {
       found =
           rw (
-            skipped c.endings_of-endings.result c.args.name.now c.endings_of-endings.ensures 0 next.result c.args.keys.now
-                c.args.rules.now next.ensures.onward c.requires.keyed next.ensures.refused,
+            skipped c.endings_of-endings.result c.args.name.now c.endings_of-endings.ensures 0 next.result c.args.keys.now c.args.rules.now
+                c.requires.keyed next.ensures.passes next.ensures.onward (omega (arith, next.ensures.within, c.requires.keyed.many)),
             c.new-found.ensures.items,
           ) refl;
       within = next.ensures.within;
+      runs = next.ensures.runs;
       nodes = refl;
     }
 
 pub next_unrefused-place-requires-in-loop-place : goal.next_unrefused-place-requires-in-loop-place
 next_unrefused-place-requires-in-loop-place c =
-    omega (arith, keys-length c.args.keys.now c.args.rules.now c.requires.keyed)
+    record { rise = c.requires.keyed.rise; runs = c.loop-place.invariant.runs; within = omega (arith, c.requires.keyed.many, c.loop-place-test.true) }
 
 pub loop-place-preserved : goal.loop-place-preserved
 loop-place-preserved c =
@@ -38,8 +39,8 @@ loop-place-preserved c =
     let i = c.loop-place.place in
     let next = c.next_unrefused-place-in-loop-place in
     let passed : hits (take next.result rules) name ≡ hits (take (i + 1) rules) name =
-    skipped c.endings_of-endings.result name c.endings_of-endings.ensures (i + 1) next.result c.args.keys.now rules
-    next.ensures.onward c.requires.keyed next.ensures.refused in
+    skipped c.endings_of-endings.result name c.endings_of-endings.ensures (i + 1) next.result c.args.keys.now rules c.requires.keyed
+    next.ensures.passes next.ensures.onward (omega (arith, next.ensures.within, c.requires.keyed.many)) in
     record {
       found = elim c.if-glob_matches.branch [
         | then-glob_matches+in_ok-push w ↦
@@ -53,6 +54,7 @@ loop-place-preserved c =
             rw (passed, miss_more rules name i rule c.loop-place-test.true c.index-rules-place.is miss, w.found-is) c.loop-place.invariant.found)
       ];
       within = next.ensures.within;
+      runs = next.ensures.runs;
       nodes = next.ensures.nodes ∙ c.glob_matches.ensures.nodes ∙ c.loop-place.invariant.nodes;
     }
 

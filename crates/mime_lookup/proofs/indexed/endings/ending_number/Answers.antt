@@ -12,6 +12,6 @@ returns c =
     let items = take (length text - from) (drop from text) in
     let whole : items ≡ drop from text = take_all (length text - from) (drop from text) (omega (arith, length-drop from text)) in
     let start : drop from text ≡ drop (length text - c.args.size) text = ap (λ n. drop n text) c.saturating_sub.ensures in
-    sym (ap (λ bytes. spelled 0 (compared false bytes)) (sym (whole ∙ start))
+    sym (ap (λ bytes. spelled 1 (compared false bytes)) (sym (whole ∙ start))
     ∙ c.loop-byte.invariant
     ∙ ap (λ bytes. spelled c.loop-byte.number (compared false bytes)) (drop_all c.loop-byte.byte-index items c.loop-byte-test.false))

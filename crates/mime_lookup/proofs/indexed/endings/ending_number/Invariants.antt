@@ -5,4 +5,4 @@ use Rattle.mime_lookup.proofs.indexed.endings.ending_number.Given as goal
 
 abbrev pub invariant-loop-byte : goal.invariant-loop-byte
 invariant-loop-byte l =
-    spelled 0 (compared false l.byte-items) ≡ spelled l.number (compared false (drop l.byte-index l.byte-items))
+    spelled 1 (compared false l.byte-items) ≡ spelled l.number (compared false (drop l.byte-index l.byte-items))

@@ -1,13 +1,12 @@
-use Rattle.std.proofs.Common.{◌≡◌, [], ◌∷◌, ◌++◌, ◌+◌, take, sym, ap, ◌∙◌}
-use Rattle.std.proofs.lemmas.List.{take_more}
-use Rattle.mime_lookup.proofs.IndexLemmas.SkippedRules.{keys-more}
+use Rattle.std.proofs.Common.{rules}
+use Rattle.std.proofs.lemmas.List.Sorted.{IsNonDecreasingBy-from_sort_by_key, answers_always}
+use Rattle.mime_lookup.proofs.IndexLemmas.SortedKeys.{keys_sorted}
+use Rattle.mime_lookup.specs.declared.indexed.rule_key.RuleKey.{RuleKey}
 use Rattle.mime_lookup.proofs.indexed.endings.keys_of.Goals as goal
 
-pub loop-rule-preserved : goal.loop-rule-preserved
-loop-rule-preserved c =
-    let rules = c.args.rules.now in
-    let rule = c.rule-item.result in
-    let i = c.loop-rule.rule-index in
-    let more : take (i + 1) rules ≡ take i rules ++ rule ∷ [] =
-    take_more rules i rule c.loop-rule-test.true ∙ ap (λ r. take i rules ++ r ∷ []) (sym c.rule-item.is) in
-    rw (c.in_ok-push.ensures.items, more) (keys-more c.loop-rule.keys.items (take i rules) c.key_of.result rule c.loop-rule.invariant c.key_of.ensures)
+pub returns : goal.returns
+returns c =
+    let sorted = c.in_ok-sort_by_key.ensures in
+    keys_sorted _ _ c.args.rules.now c.in_ok-keys.ensures sorted.permutation
+    (IsNonDecreasingBy-from_sort_by_key (λ (key : RuleKey). key.ending) _ sorted.sorted (λ a r q k. search rules))
+    (sorted.stable (λ (key : RuleKey). key.ending) (answers_always _ _ _ (λ f a r g h. search rules)))

@@ -1,7 +1,7 @@
 use Rattle.std.proofs.Common.{◌≡◌, ◌+◌, take, take_all, true, false, refl, sym, ◌∙◌, arith}
 use Rattle.mime_base.specs.Kept.{hits}
 use Rattle.mime_base.specs.Matching.Matches.{rule_matches}
-use Rattle.mime_lookup.proofs.IndexLemmas.SkippedRules.{keys-length, skipped}
+use Rattle.mime_lookup.proofs.IndexLemmas.SkippedRules.{skipped}
 use Rattle.mime_lookup.proofs.OrderLemmas.Hits.{keeps_all, keeps_more, keeps_none, hit_more, miss_more}
 use Rattle.mime_lookup.proofs.indexed.kept.kept_rules.Goals as goal
 use Rattle.mime_lookup.proofs.indexed.kept.kept_rules.Goals.{then-glob_matches+in_ok-offer, else-glob_matches}
@@ -13,15 +13,16 @@ loop-place-init c =
     let next = c.next_unrefused-place in
     record {
       kept =
-          rw (skipped c.endings_of-endings.result name c.endings_of-endings.ensures 0 next.result c.args.keys.now rules
-          next.ensures.onward c.requires.keyed next.ensures.refused) (keeps_none c.new-best.result c.new-best.ensures);
+          rw (skipped c.endings_of-endings.result name c.endings_of-endings.ensures 0 next.result c.args.keys.now rules c.requires.keyed
+          next.ensures.passes next.ensures.onward (omega (arith, next.ensures.within, c.requires.keyed.many))) (keeps_none c.new-best.result c.new-best.ensures);
       within = next.ensures.within;
+      runs = next.ensures.runs;
       nodes = refl;
     }
 
 pub next_unrefused-place-requires-in-loop-place : goal.next_unrefused-place-requires-in-loop-place
 next_unrefused-place-requires-in-loop-place c =
-    omega (arith, keys-length c.args.keys.now c.args.rules.now c.requires.keyed)
+    record { rise = c.requires.keyed.rise; runs = c.loop-place.invariant.runs; within = omega (arith, c.requires.keyed.many, c.loop-place-test.true) }
 
 pub loop-place-preserved : goal.loop-place-preserved
 loop-place-preserved c =
@@ -31,8 +32,8 @@ loop-place-preserved c =
     let i = c.loop-place.place in
     let next = c.next_unrefused-place-in-loop-place in
     let passed : hits (take next.result rules) name ≡ hits (take (i + 1) rules) name =
-    skipped c.endings_of-endings.result name c.endings_of-endings.ensures (i + 1) next.result c.args.keys.now rules
-    next.ensures.onward c.requires.keyed next.ensures.refused in
+    skipped c.endings_of-endings.result name c.endings_of-endings.ensures (i + 1) next.result c.args.keys.now rules c.requires.keyed
+    next.ensures.passes next.ensures.onward (omega (arith, next.ensures.within, c.requires.keyed.many)) in
     record {
       kept = elim c.if-glob_matches.branch [
         | then-glob_matches+in_ok-offer w ↦
@@ -47,6 +48,7 @@ loop-place-preserved c =
             rw (passed, miss_more rules name i rule c.loop-place-test.true c.index-rules-place.is miss, w.best-is) c.loop-place.invariant.kept)
       ];
       within = next.ensures.within;
+      runs = next.ensures.runs;
       nodes = next.ensures.nodes ∙ c.glob_matches.ensures.nodes ∙ c.loop-place.invariant.nodes;
     }
 
