@@ -1,11 +1,13 @@
 -- Heads of lines of magic: how the windows of a line's range begin that may equal its value.
-use Rattle.std.specs.Prelude.{◌≡◌, ℕ, ◌+◌, ◌<◌, ◌≤◌, false, List, [], ◌∷◌, drop, length, slice_index, take}
+use Rattle.std.specs.Prelude.{◌≡◌, ℕ, ◌+◌, ◌<◌, ◌≤◌, false, List, [], ◌∷◌, length, map, slice_index}
+use Rattle.std.specs.List.{flat_map}
 use Rattle.mime_base.specs.Magic.Holds.{equals_from, line_holds}
 use Rattle.mime_base.specs.Magic.{PlainLine, plain_matchlet}
 use Rattle.mime_base.specs.declared.magic.Section.{Section}
 use Rattle.mime_base.specs.declared.magic.host.Host.{Host}
 use Rattle.mime_base.specs.declared.magic.matchlet.Matchlet.{Matchlet}
 use Rattle.mime_lookup.specs.declared.indexed.line_head.LineHead.{LineHead}
+use Rattle.mime_lookup.specs.declared.indexed.top_line.TopLine.{TopLine}
 
 -- each is the number of a byte
 abbrev pub AreBytes : List ℕ → Type 0
@@ -35,10 +37,15 @@ AreLineHeads [] (line ∷ lines) = ⊥
 AreLineHeads (head ∷ heads) [] = ⊥
 AreLineHeads (head ∷ heads) (line ∷ lines) = IsHeadOf head line × AreLineHeads heads lines
 
--- each section has as many heads as it has lines of indent 0, one after another
-abbrev pub AreHeads : List LineHead → List ℕ → List Section → Type 0
-AreHeads heads [] [] = heads ≡ []
-AreHeads heads [] (section ∷ sections) = ⊥
-AreHeads heads (size ∷ sizes) [] = ⊥
-AreHeads heads (size ∷ sizes) (section ∷ sections) =
-    (size ≤ length heads) × AreLineHeads (take size heads) section.lines.items × AreHeads (drop size heads) sizes sections
+-- a line of indent 0 with its section
+abbrev pub plain_top : TopLine → Section × Matchlet
+plain_top top = (top.section.now, top.line.now)
+
+-- the lines of indent 0 of a section, each with it
+abbrev pub tops_of : Section → List (Section × Matchlet)
+tops_of section = map (λ line. (section, line)) section.lines.items
+
+-- Each line of indent 0 is kept with its section, in their order, and has its head.
+pub record AreHeads (heads : List LineHead) (tops : List TopLine) (sections : List Section) : Type 0 where
+  pub headed : AreLineHeads heads (map (λ top. top.line.now) tops)
+  pub whole : map plain_top tops ≡ flat_map tops_of sections

@@ -16,6 +16,6 @@ pub record IsIndexOf (database : Database) (keys : List RuleKey) (pairs : Placed
   pub placed : ArePlaced pairs
   pub aliases : pairs.aliases.pairs.now ≡ database.aliases.items
   pub parents : pairs.parents.pairs.now ≡ database.parents.items
-  pub headed : AreHeads heads.lines.items heads.sizes.items database.sections.items
+  pub headed : AreHeads heads.lines.items heads.tops.items database.sections.items
   pub limits : limit ≡ read_limit (plain_database database)
   pub some : 0 < limit

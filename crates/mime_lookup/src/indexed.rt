@@ -1,19 +1,21 @@
 //! Lookup over an index of a database, which is made once and lent to each lookup.
 //!
-//! It answers as [`crate::look_up_plain`] does over the database, which tries every rule. Here most rules are
-//! skipped by one number each, of the last bytes of the names that they match, and the places of aliases and subclass
-//! pairs are known. Read `endings` first.
+//! It answers as [`crate::look_up_plain`] does over the database, which tries every rule. Here rules are sorted by one
+//! number each, of the last bytes of the names that they match, so that those that a name may match stand together, and the
+//! places of aliases and subclass pairs are known. Read `endings` first, and then `unrefused`.
 
 pub mod candidates;
 pub mod choice;
 pub mod endings;
-pub mod first_places;
 pub mod heads;
 pub mod kept;
 pub mod line_head;
 pub mod look_up;
 pub mod rule_key;
+pub mod run;
 pub mod sniff;
+pub mod top_line;
+pub mod unrefused;
 
 ghost use Rattle.std.specs.Prelude.{◌≡◌, IfOk};
 ghost use Rattle.std.specs.List.{All};
@@ -38,12 +40,12 @@ use std::marker::Model;
 pub struct IndexedDatabase<'a> {
     /// The database.
     database: &'a Database,
-    /// The key of each of its rules.
+    /// The key of each of its rules, sorted.
     keys: Vec<RuleKey>,
     /// The places of its aliases and of its subclass pairs.
     pairs: PlacedPairs<'a>,
     /// The heads of the top lines of its sections.
-    heads: Heads,
+    heads: Heads<'a>,
     /// How much of a content is read at most.
     limit: usize,
 }

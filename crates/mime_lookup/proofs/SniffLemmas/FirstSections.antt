@@ -10,14 +10,14 @@ use Rattle.mime_lookup.proofs.AncestryLemmas.PairSteps.{items_from}
 
 module _ (content : List ℕ) (host : Host) where
   -- the first section gives its type where one of its lines holds
-  first_magic-section : (section : PlainSection) (sections : List PlainSection) →
+  pub first_magic-section : (section : PlainSection) (sections : List PlainSection) →
       first_magic (section ∷ sections) content host
       ≡ cond (some_holds section.lines content host) (Some (section.kind, section.priority)) (first_magic sections content host)
   unfolding first_magic
   first_magic-section section sections = refl
 
   -- without sections there is none
-  first_magic-nil : first_magic [] content host ≡ None
+  pub first_magic-nil : first_magic [] content host ≡ None
   unfolding first_magic
   first_magic-nil = refl
 

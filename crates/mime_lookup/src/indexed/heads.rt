@@ -1,27 +1,26 @@
 //! Heads of lines of magic, by which most lines are refused without a look at them.
 //!
 //! A line without a mask, whose value is of single bytes, holds for no content in which the value's first byte stands at none of its
-//! offsets. So the offsets, the size and the first byte of each top line stand together, section by section. Any other line
-//! has a head that refuses nothing, and is tried.
+//! offsets. So the offsets, the size and the first byte of each top line stand together, in the order of the lines, and those of
+//! all sections are gone through as one list. Any other line has a head that refuses nothing, and is tried.
 
-ghost use Rattle.std.specs.Prelude.{◌≡◌, ◌++◌, true, List, IfOk, OnOk};
-ghost use Rattle.mime_base.specs.Magic.Holds.{some_holds};
-ghost use Rattle.mime_base.specs.Magic.{forest_of, line_from, plain_matchlets};
-ghost use Rattle.mime_lookup.specs.Heads.{AreHeads, AreLineHeads, IsHead, IsHeadOf, RefusesContent};
-ghost use Rattle.mime_lookup.specs.declared.indexed.line_head.LineHead.{LineHead};
+ghost use Rattle.std.specs.Prelude.{◌≡◌, ◌++◌, ◌≤◌, true, length, map, IfOk, OnOk};
+ghost use Rattle.std.specs.List.{AllWithin, flat_map};
+ghost use Rattle.mime_base.specs.Magic.{line_from};
+ghost use Rattle.mime_lookup.specs.Heads.{AreHeads, IsHead, IsHeadOf, RefusesContent, plain_top, tops_of};
 
-use crate::indexed::first_places::FirstPlaces;
 use crate::indexed::line_head::LineHead;
-use mime_base::{Host, Matchlet, Meter, OutOfMemory, Section, line_matches};
+use crate::indexed::top_line::TopLine;
+use mime_base::{Content, Matchlet, Meter, OutOfMemory, Section};
 use std::alloc::Global;
 
-/// The heads of all top lines of some sections.
+/// The top lines of some sections, and their heads.
 #[derive(Drop)]
-pub struct Heads {
-    /// The heads, section by section.
+pub struct Heads<'a> {
+    /// The head of each line.
     pub lines: Vec<LineHead>,
-    /// How many each section has.
-    pub sizes: Vec<usize>,
+    /// The lines, section by section.
+    pub tops: Vec<TopLine<'a>>,
 }
 
 /// The longest value of which a head tells the size.
@@ -35,26 +34,36 @@ const UNKNOWN: LineHead = LineHead {
     first: 0,
 };
 
-/// The heads of some sections.
-pub fn heads_of(alloc: Global, sections: &[Section]) -> Result<Heads, OutOfMemory>
-    // Each top line has its head, in their order.
-    ensures { IfOk result (λ heads. AreHeads heads.lines.items heads.sizes.items sections.now) }
+/// The top lines of some sections with their heads.
+pub fn heads_of<'a>(alloc: Global, sections: &'a [Section]) -> Result<Heads<'a>, OutOfMemory>
+    // Each top line is there, in their order, and has its head.
+    ensures { IfOk result (λ heads. AreHeads heads.lines.items heads.tops.items sections.entry.now) }
 {
-    let mut lines = Vec::new(alloc);
-    let mut sizes = Vec::with_capacity(alloc, sections.len())?;
-    for section in sections {
-        push_heads(&mut lines, &section.lines)?;
-        sizes.push(section.lines.len())?;
+    let tops = tops_of(alloc, sections)?;
+    let mut lines = Vec::with_capacity(alloc, tops.len())?;
+    for top in &tops {
+        lines.push(head_of(top.line))?;
     }
-    Ok(Heads { lines, sizes })
+    Ok(Heads { lines, tops })
 }
 
-/// Adds the heads of some lines.
-fn push_heads(heads: &mut Vec<LineHead>, lines: &[Matchlet]) -> Result<(), OutOfMemory>
-    ensures { OnOk result ((added : List LineHead) × (heads.new.items ≡ heads.old.items ++ added) × AreLineHeads added lines.now) }
+/// The top lines of some sections.
+fn tops_of<'a>(alloc: Global, sections: &'a [Section]) -> Result<Vec<TopLine<'a>>, OutOfMemory>
+    ensures { IfOk result (λ tops. map plain_top tops.items ≡ flat_map tops_of sections.entry.now) }
 {
-    for line in lines {
-        heads.push(head_of(line))?;
+    let mut tops = Vec::new(alloc);
+    for section in sections {
+        push_tops(&mut tops, section)?;
+    }
+    Ok(tops)
+}
+
+/// Adds the top lines of a section.
+fn push_tops<'a>(tops: &mut Vec<TopLine<'a>>, section: &'a Section) -> Result<(), OutOfMemory>
+    ensures { OnOk result (map plain_top tops.new.items ≡ map plain_top tops.old.items ++ tops_of section.entry.now) }
+{
+    for line in &section.lines {
+        tops.push(TopLine { section, line })?;
     }
     Ok(())
 }
@@ -86,7 +95,7 @@ fn head_from(start: u32, range: u32, word: u32, value: &[u8]) -> LineHead
 
 /// Whether a line's head refuses a content.
 #[inline]
-fn refuses(head: &LineHead, content: &FirstPlaces<'_>) -> bool
+fn refuses(head: &LineHead, content: &Content<'_>) -> bool
     ensures { result ≡ true → RefusesContent head.now content.now }
 {
     let bytes = content.bytes();
@@ -105,35 +114,29 @@ fn refuses(head: &LineHead, content: &FirstPlaces<'_>) -> bool
     content.lacks(head.first, end)
 }
 
-/// Whether a line of indent 0 of a section holds, of those whose heads don't refuse the content.
+/// The first head from `from` on that doesn't refuse a content, else the number of heads.
 ///
 /// The meter counts each head that is looked at as a byte.
 #[inline]
-pub fn some_line_holds(
-    section: &Section,
-    heads: &[LineHead],
-    content: &FirstPlaces<'_>,
-    host: Host,
-    meter: &mut Meter,
-) -> bool
-    requires { AreLineHeads heads.now section.now.lines.items }
-    // It says whether one of all its lines holds.
-    ensures holds { result ≡ some_holds (forest_of (plain_matchlets section.now.lines.items)) content.now host }
+pub fn next_open(heads: &[LineHead], content: &Content<'_>, from: usize, meter: &mut Meter) -> usize
+    requires { from ≤ length heads.now }
+    // It is none before that.
+    ensures onward { from ≤ result }
+    // It is the place of a head, or the first after the last one.
+    ensures within { result ≤ length heads.now }
+    // Each head between them refuses the content.
+    ensures refused { AllWithin (λ head. RefusesContent head content.now) heads.now from result }
     // No record of a cache is visited.
     ensures nodes { meter.new.nodes ≡ meter.old.nodes }
 {
     let mut compared: u64 = 0;
-    for place in 0..heads.len() {
+    for place in from..heads.len() {
         compared += 1;
-        let head = &heads[place];
-        if refuses(head, content) {
-            continue;
-        }
-        if line_matches(&section.lines[place], content.bytes(), host, meter) {
+        if !refuses(&heads[place], content) {
             meter.add_bytes(compared);
-            return true;
+            return place;
         }
     }
     meter.add_bytes(compared);
-    false
+    heads.len()
 }

@@ -1,24 +1,25 @@
 //! What a content is sniffed as, over an index.
 
-ghost use Rattle.std.specs.Prelude.{◌≡◌, false, IfErr, IfOk, IfSome, OnOk, Some, option_map};
+ghost use Rattle.std.specs.Prelude.{◌≡◌, false, List, map, IfErr, IfOk, IfSome, OnOk, Some, option_map};
+ghost use Rattle.std.specs.List.{flat_map};
 ghost use Rattle.mime_base.specs.Database.{plain_database};
 ghost use Rattle.mime_base.specs.Magic.Holds.{first_magic};
 ghost use Rattle.mime_base.specs.Magic.{plain_sections};
+ghost use Rattle.mime_base.specs.declared.magic.Section.{Section};
 ghost use Rattle.mime_lookup.specs.CheckingOrder.{IsSniffed, front_size, read_limit};
 ghost use Rattle.mime_lookup.specs.Content.{known_content};
-ghost use Rattle.mime_lookup.specs.Heads.{AreHeads};
+ghost use Rattle.mime_lookup.specs.Heads.{AreLineHeads, plain_top, tops_of};
 ghost use Rattle.mime_lookup.specs.Reads.{AsksUnless, IsReadOrMemory, Reads};
 
 use crate::content::Content;
 use crate::fixed::OCTET_STREAM;
 use crate::indexed::IndexedDatabase;
-use crate::indexed::first_places::FirstPlaces;
-use crate::indexed::heads::{Heads, some_line_holds};
+use crate::indexed::heads::{Heads, next_open};
 use crate::places::unalias_at;
 use crate::reading::read_front;
 use crate::sniff::{HIGH_PRIORITY, Sniffed, by_bytes};
 use crate::stopped::Cause;
-use mime_base::{Host, Meter, Section};
+use mime_base::{Host, Meter, Section, line_matches};
 use std::alloc::Global;
 
 /// What a content is sniffed as, by its front: as much of it as magic can look at.
@@ -72,7 +73,7 @@ fn sniff<'a>(
     ensures sniffed { IsSniffed (plain_database index.now) (Some content.now) host result }
     ensures nodes { meter.new.nodes ≡ meter.old.nodes }
 {
-    match first_section(&index.database.sections, &index.heads, content, host, meter) {
+    match first_section(&index.heads, content, host, meter) {
         Some(section) => Sniffed {
             kind: unalias_at(&index.pairs.aliases, section.kind.bytes()),
             is_high: section.priority >= HIGH_PRIORITY,
@@ -87,29 +88,28 @@ fn sniff<'a>(
 }
 
 /// The first section with a line of indent 0 that holds.
-// As `crate::sniff::first_section`, but a line whose head refuses the content is skipped.
+// As `crate::sniff::first_section`, but line by line, and a line whose head refuses the content is skipped.
 fn first_section<'a>(
-    sections: &'a [Section],
-    heads: &Heads,
+    heads: &Heads<'a>,
     content: &[u8],
     host: Host,
     meter: &mut Meter,
 ) -> Option<&'a Section>
-    requires headed { AreHeads heads.now.lines.items heads.now.sizes.items sections.now }
-    ensures first { option_map (λ section. (section.now.kind, section.now.priority)) result
-        ≡ first_magic (plain_sections sections.entry.now) content.now host }
+    requires headed { AreLineHeads heads.now.lines.items (map (λ top. top.line.now) heads.now.tops.items) }
+    ensures first { (sections : List Section) → map plain_top heads.now.tops.items ≡ flat_map tops_of sections
+        → option_map (λ section. (section.now.kind, section.now.priority)) result ≡ first_magic (plain_sections sections) content.now host }
     ensures nodes { meter.new.nodes ≡ meter.old.nodes }
 {
-    let noted = FirstPlaces::new(content);
-    let mut left = heads.lines.as_slice();
-    let sizes = heads.sizes.as_slice();
-    for place in 0..sections.len() {
-        let section = &sections[place];
-        let (own, after) = left.split_at(sizes[place]);
-        if some_line_holds(section, own, &noted, host, meter) {
-            return Some(section);
+    let noted = mime_base::Content::new(content);
+    let lines = heads.lines.as_slice();
+    let tops = heads.tops.as_slice();
+    let mut place = next_open(lines, &noted, 0, meter);
+    while place < lines.len() {
+        let top = &tops[place];
+        if line_matches(top.line, content, host, meter) {
+            return Some(top.section);
         }
-        left = after;
+        place = next_open(lines, &noted, place + 1, meter);
     }
     None
 }

@@ -1,19 +1,16 @@
-use Rattle.std.proofs.Common.{◌≡◌, ◌+◌, [], ◌∷◌, ◌++◌, length, take, sym, ap, ◌∙◌, arith}
-use Rattle.std.proofs.lemmas.List.{take_more}
-use Rattle.mime_lookup.specs.Heads.{AreLineHeads}
-use Rattle.mime_lookup.proofs.IndexLemmas.LineHeads.{heads-more, line_heads-length}
+use Rattle.std.proofs.Common.{◌≡◌, ◌+◌, [], ◌∷◌, ◌++◌, map, take, sym, ap, ◌∙◌}
+use Rattle.std.proofs.lemmas.List.{map_more}
+use Rattle.mime_lookup.specs.declared.indexed.top_line.TopLine.{TopLine}
+use Rattle.mime_lookup.proofs.IndexLemmas.LineHeads.{line_heads-more}
 use Rattle.mime_lookup.proofs.indexed.heads.heads_of.Goals as goal
 
-pub loop-section-preserved : goal.loop-section-preserved
-loop-section-preserved c =
-    let sections = c.args.sections.now in
-    let section = c.section-item.result in
-    let i = c.loop-section.section-index in
-    let added = c.in_ok-push_heads.ensures in
-    let are : AreLineHeads added.0 section.lines.items = rw c.deref.ensures.value at added.2 in
-    let many : c.len.result ≡ length added.0 = omega (arith, c.len.ensures, line_heads-length added.0 section.lines.items are, section.lines.ok.0) in
-    let more : take (i + 1) sections ≡ take i sections ++ section ∷ [] =
-    take_more sections i section c.loop-section-test.true ∙ ap (λ s. take i sections ++ s ∷ []) (sym c.section-item.is) in
-    rw (added.1, c.in_ok-push.ensures.items, more)
-    (heads-more c.loop-section.lines.items added.0 c.loop-section.sizes.items c.len.result (take i sections) section c.loop-section.invariant
-    are many)
+pub loop-top-preserved : goal.loop-top-preserved
+loop-top-preserved c =
+    let line_of = λ (top : TopLine). top.line.now in
+    let tops = c.deref-top-items.result.now in
+    let top = c.top-item.result in
+    let i = c.loop-top.top-index in
+    let more : map line_of (take (i + 1) tops) ≡ map line_of (take i tops) ++ line_of top ∷ [] =
+    map_more line_of tops i top c.loop-top-test.true ∙ ap (λ t. map line_of (take i tops) ++ line_of t ∷ []) (sym c.top-item.is) in
+    rw (c.in_ok-push.ensures.items, more)
+    (line_heads-more c.loop-top.lines.items (map line_of (take i tops)) c.head_of.result (line_of top) c.loop-top.invariant c.head_of.ensures)

@@ -1,6 +1,6 @@
-use Rattle.std.proofs.Common.{take}
-use Rattle.mime_lookup.specs.Heads.{AreHeads}
+use Rattle.std.proofs.Common.{map, take}
+use Rattle.mime_lookup.specs.Heads.{AreLineHeads}
 use Rattle.mime_lookup.proofs.indexed.heads.heads_of.Given as goal
 
-abbrev pub invariant-loop-section : goal.invariant-loop-section
-invariant-loop-section l = AreHeads l.lines.items l.sizes.items (take l.section-index l.sections)
+abbrev pub invariant-loop-top : goal.invariant-loop-top
+invariant-loop-top l = AreLineHeads l.lines.items (map (λ top. top.line.now) (take l.top-index l.top-items))

@@ -1,51 +1,75 @@
-use Rattle.std.proofs.Common.{ap, sym, ◌∙◌}
-use Rattle.mime_base.specs.Magic.Holds.{some_holds}
-use Rattle.mime_base.specs.Magic.{forest_of, plain_matchlets}
-use Rattle.mime_lookup.proofs.IndexLemmas.LineHeads.{next-fits, next-heads, sizes-within}
-use Rattle.mime_lookup.proofs.SniffLemmas.FirstSections.{first_magic-here, first_magic-none, first_magic-past}
+use Rattle.std.proofs.Common.{◌+◌, ◌<◌, length, map, refl, sym, ap, ◌∙◌, arith}
+use Rattle.std.proofs.lemmas.Bool.{cond-false, cond-true}
+use Rattle.std.proofs.lemmas.List.{drop_all}
+use Rattle.mime_lookup.specs.Heads.{AreLineHeads, plain_top}
+use Rattle.mime_lookup.specs.declared.indexed.top_line.TopLine.{TopLine}
+use Rattle.mime_lookup.proofs.IndexLemmas.TopLines.{first_of_tops, first_top, skipped-tops, tops-length, tops_from}
 use Rattle.mime_lookup.proofs.indexed.sniff.first_section.Goals as goal
 
-pub bounds-sizes-place : goal.bounds-sizes-place
-bounds-sizes-place c =
-    sizes-within c.loop-place.left.now c.as_slice-sizes.result.now c.args.sections.now c.loop-place.place c.loop-place-test.true
-    c.loop-place.invariant.headed
+pub loop-place-init : goal.loop-place-init
+loop-place-init c =
+    let lines = c.as_slice-lines.result.now in
+    let tops = c.as_slice-tops.result.now in
+    let next = c.next_open-place in
+    let headed : AreLineHeads lines (map (λ (top : TopLine). top.line.now) tops) =
+    rw (c.as_slice-lines.ensures.value, c.as_slice-tops.ensures.value) c.requires.headed in
+    record {
+      first =
+          skipped-tops c.args.content.now c.args.host 0 next.result lines tops next.ensures.onward next.ensures.within headed
+          (rw c.new-noted.ensures at next.ensures.refused);
+      within = next.ensures.within;
+      nodes = refl;
+    }
 
-pub split_at-requires : goal.split_at-requires
-split_at-requires c =
-    next-fits c.loop-place.left.now c.as_slice-sizes.result.now c.args.sections.now c.loop-place.place c.loop-place-test.true
-    c.loop-place.invariant.headed
+pub bounds-tops-place : goal.bounds-tops-place
+bounds-tops-place c =
+    let lines = c.as_slice-lines.result.now in
+    let tops = c.as_slice-tops.result.now in
+    let headed : AreLineHeads lines (map (λ (top : TopLine). top.line.now) tops) =
+    rw (c.as_slice-lines.ensures.value, c.as_slice-tops.ensures.value) c.requires.headed in
+    omega (arith, tops-length lines tops headed, c.loop-place-test.true)
 
-pub some_line_holds-requires : goal.some_line_holds-requires
-some_line_holds-requires c =
-    let next = next-heads c.loop-place.left.now c.as_slice-sizes.result.now c.args.sections.now c.loop-place.place c.loop-place-test.true
-    c.loop-place.invariant.headed c.index-sections-place.result c.index-sections-place.is in
-    rw c.split_at.ensures.front next.0
-
-pub returns-then-some_line_holds-clause-first : goal.returns-then-some_line_holds-clause-first
-returns-then-some_line_holds-clause-first c =
-    sym (c.loop-place.invariant.first
-    ∙ first_magic-here c.args.content.now c.args.host c.args.sections.now c.loop-place.place c.index-sections-place.result
-    c.loop-place-test.true c.index-sections-place.is
-    (ap (λ content. some_holds (forest_of (plain_matchlets c.index-sections-place.result.lines.items)) content c.args.host) (sym c.new-noted.ensures)
-    ∙ sym c.some_line_holds.ensures.holds ∙ c.if-some_line_holds.true))
+pub returns-then-line_matches-clause-first : goal.returns-then-line_matches-clause-first
+returns-then-line_matches-clause-first c = λ sections whole.
+    let lines = c.as_slice-lines.result.now in
+    let tops = c.as_slice-tops.result.now in
+    let content = c.args.content.now in
+    let headed : AreLineHeads lines (map (λ (top : TopLine). top.line.now) tops) =
+    rw (c.as_slice-lines.ensures.value, c.as_slice-tops.ensures.value) c.requires.headed in
+    let inside : c.loop-place.place < length tops = omega (arith, tops-length lines tops headed, c.loop-place-test.true) in
+    sym (first_of_tops content c.args.host tops sections (rw c.as_slice-tops.ensures.value whole)
+    ∙ c.loop-place.invariant.first
+    ∙ tops_from content c.args.host tops c.loop-place.place c.index-tops-place.result inside c.index-tops-place.is
+    ∙ cond-true _ _ _ (sym c.line_matches.ensures.holds ∙ c.if-line_matches.true))
 
 pub loop-place-preserved : goal.loop-place-preserved
 loop-place-preserved c =
-    let section = c.index-sections-place.result in
-    let next = next-heads c.loop-place.left.now c.as_slice-sizes.result.now c.args.sections.now c.loop-place.place c.loop-place-test.true
-    c.loop-place.invariant.headed section c.index-sections-place.is in
+    let lines = c.as_slice-lines.result.now in
+    let tops = c.as_slice-tops.result.now in
+    let content = c.args.content.now in
+    let next = c.next_open-place-in-loop-place in
+    let headed : AreLineHeads lines (map (λ (top : TopLine). top.line.now) tops) =
+    rw (c.as_slice-lines.ensures.value, c.as_slice-tops.ensures.value) c.requires.headed in
+    let inside : c.loop-place.place < length tops = omega (arith, tops-length lines tops headed, c.loop-place-test.true) in
     record {
       first =
           c.loop-place.invariant.first
-          ∙ first_magic-past c.args.content.now c.args.host c.args.sections.now c.loop-place.place section
-          c.loop-place-test.true c.index-sections-place.is
-          (ap (λ content. some_holds (forest_of (plain_matchlets section.lines.items)) content c.args.host) (sym c.new-noted.ensures)
-          ∙ sym c.some_line_holds.ensures.holds ∙ c.if-some_line_holds.false);
-      headed = rw c.split_at.ensures.back next.1;
-      nodes = c.some_line_holds.ensures.nodes ∙ c.loop-place.invariant.nodes;
+          ∙ tops_from content c.args.host tops c.loop-place.place c.index-tops-place.result inside c.index-tops-place.is
+          ∙ cond-false _ _ _ (sym c.line_matches.ensures.holds ∙ c.if-line_matches.false)
+          ∙ skipped-tops content c.args.host (c.loop-place.place + 1) next.result lines tops next.ensures.onward next.ensures.within headed
+          (rw c.new-noted.ensures at next.ensures.refused);
+      within = next.ensures.within;
+      nodes = next.ensures.nodes ∙ c.line_matches.ensures.nodes ∙ c.loop-place.invariant.nodes;
     }
 
 pub returns-clause-first : goal.returns-clause-first
-returns-clause-first c =
-    sym (c.loop-place.invariant.first
-    ∙ first_magic-none c.args.content.now c.args.host c.args.sections.now c.loop-place.place c.loop-place-test.false)
+returns-clause-first c = λ sections whole.
+    let lines = c.as_slice-lines.result.now in
+    let tops = c.as_slice-tops.result.now in
+    let content = c.args.content.now in
+    let headed : AreLineHeads lines (map (λ (top : TopLine). top.line.now) tops) =
+    rw (c.as_slice-lines.ensures.value, c.as_slice-tops.ensures.value) c.requires.headed in
+    let none = drop_all c.loop-place.place tops (omega (arith, tops-length lines tops headed, c.loop-place-test.false)) in
+    sym (first_of_tops content c.args.host tops sections (rw c.as_slice-tops.ensures.value whole)
+    ∙ c.loop-place.invariant.first
+    ∙ ap (λ ts. first_top content c.args.host (map plain_top ts)) none)
