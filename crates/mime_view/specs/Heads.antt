@@ -1,5 +1,6 @@
 -- What was learnt of the top lines of a magic list, and the contents that it refuses.
-use Rattle.std.specs.Prelude.{◌≡◌, ℕ, zero, suc, ◌+◌, ◌-◌, ◌*◌, ◌<◌, ◌≤◌, true, false, List, length, slice_index, get_or}
+pub mod Lanes
+use Rattle.std.specs.Prelude.{◌≡◌, ℕ, zero, suc, ◌+◌, ◌-◌, ◌*◌, ◌<◌, ◌≤◌, Bool, true, false, List, length, slice_index, get_or}
 use Rattle.mime_base.specs.Cache.Bytes.{field}
 use Rattle.mime_base.specs.Magic.{PlainLine}
 use Rattle.mime_base.specs.Magic.Holds.{equals_from}
@@ -15,20 +16,41 @@ use Rattle.mime_view.specs.declared.spending.Spending.{Spending}
 
 -- a head, for the places past the last one
 abbrev pub no_head : Head
-no_head = record { first = 0; single = false; end = 0; reach = 0; section = 0 }
+no_head = record { first = 0; second = 0; paired = false; range = 0; end = 0; reach = 0; section = 0 }
 
--- a head that refuses nothing: no content is so long that all of its places lie in it
+-- a head that refuses nothing: it says of no line how far it reaches
 abbrev pub open_head : ℕ → Head
-open_head section = record { first = 0; single = false; end = 4294967295; reach = 4294967295; section = section }
+open_head section = record {
+  first = 0;
+  second = 0;
+  paired = false;
+  range = 4294967295;
+  end = 4294967295;
+  reach = 4294967295;
+  section = section;
+}
 
 -- what no sections have
 abbrev pub no_sections : Before
 no_sections = record { heads = 0; value_bytes = 0; windows = 0 }
 
--- What the line that stands at r looks at, where it has no mask, one byte a word, and its value in the cache.
+-- All bits of the first byte of a value count: it has no mask, or one in the cache that begins with these bits.
+pub record KeepsFirst (c : List ℕ) (mask size : ℕ) : Type 0 where
+  pub inside : 0 < mask → mask + size ≤ length c
+  pub first : 0 < mask → slice_index c mask ≡ 255
+
+-- The second byte of a value, and whether it has one of which all bits count.
+pub record IsSecond (c : List ℕ) (value mask size second : ℕ) (paired : Bool) : Type 0 where
+  pub some : paired ≡ true → 1 < size
+  pub second_is : paired ≡ true → second ≡ slice_index c (value + 1)
+  pub kept : paired ≡ true → 0 < mask → slice_index c (mask + 1) ≡ 255
+  pub byte : second < 256
+
+-- What the line that stands at r looks at, where it has one byte a word, and its value and its mask in the cache.
 pub record IsHeadOf (c : List ℕ) (r : ℕ) (head : Head) : Type 0 where
   pub word : field c r 2 ≡ 1
-  pub mask : field c r 5 ≡ 0
+  -- Its mask, if it has one, keeps the first byte of the value.
+  pub mask : KeepsFirst c (field c r 5) (field c r 3)
   -- It has a value, and a place for it.
   pub some : 0 < field c r 3
   pub range : 0 < field c r 1
@@ -41,17 +63,28 @@ pub record IsHeadOf (c : List ℕ) (r : ℕ) (head : Head) : Type 0 where
   -- The first byte of that.
   pub first : head.first ≡ slice_index c (field c r 4)
   pub byte : head.first < 256
-  -- It has one place alone.
-  pub single : head.single ≡ true → field c r 1 ≡ 1
+  -- How many places it has.
+  pub places : head.range ≡ field c r 1
+  -- The second byte of its value, if that is looked at.
+  pub pair : IsSecond c (field c r 4) (field c r 5) (field c r 3) head.second head.paired
+
+-- at a place of a content there are not both bytes that a head looks at
+abbrev pub DiffersAt : List ℕ → Head → ℕ → Type 0
+DiffersAt content head place =
+    slice_index content place ≡ head.first → (head.paired ≡ true) × (slice_index content (place + 1) ≡ head.second → ⊥)
+
+-- at so many places of a content there are not
+abbrev pub IsAlone : List ℕ → Head → ℕ → ℕ → Type 0
+IsAlone content head start windows =
+    (place : ℕ) → start ≤ place → place < start + windows → place < length content → DiffersAt content head place
 
 -- A content is refused by what a line looks at.
 pub record Refuses (content : List ℕ) (head : Head) : Type 0 where
-  -- Each place of the line's range is one where its value lies in the content.
-  pub long : head.reach ≤ length content
   -- It is what a line looks at.
   pub of_line : head.reach < 4294967295
-  -- At none of these places the first byte of the value stands.
-  pub differ : (place : ℕ) → place < head.end → place < length content → (head.single ≡ true → place + 1 ≡ head.end) → slice_index content place ≡ head.first → ⊥
+  -- At none of its places where its value lies in the content its first bytes are.
+  pub differ : (place : ℕ) → place < head.end → head.end ≤ place + head.range → place < length content
+      → place + head.reach < length content + head.end → DiffersAt content head place
 
 -- each byte of a content is below 256
 abbrev pub AreBytes : List ℕ → Type 0
@@ -72,7 +105,6 @@ pub record PassesLines (c : List ℕ) (first lines : ℕ) (content : List ℕ) (
   pub count : high ≡ low + lines
   pub refused : (j : ℕ) → j < lines → IsRefused c (first + 32 * j) content
   pub values : to.value_bytes ≡ from.value_bytes + value_bytes_from c first lines
-  pub few : to.windows + (length content + 1) * from.value_bytes ≤ from.windows + (length content + 1) * to.value_bytes
 
 -- A content passes the section at `at`, of which these are what is before it, and what is before the next.
 pub record PassesSection (c : List ℕ) (at : ℕ) (content : List ℕ) (from to : Before) : Type 0 where
@@ -82,8 +114,6 @@ pub record PassesSection (c : List ℕ) (at : ℕ) (content : List ℕ) (from to
   pub refused : (j : ℕ) → j < field c at 2 → IsRefused c (field c at 3 + 32 * j) content
   -- The value bytes are theirs.
   pub values : to.value_bytes ≡ from.value_bytes + value_bytes_from c (field c at 3) (field c at 2)
-  -- So are the places, no more than such lines may cost.
-  pub few : to.windows + (length content + 1) * from.value_bytes ≤ from.windows + (length content + 1) * to.value_bytes
 
 -- no less is before a section than before one that is not after it
 pub record Rises (from to : Before) : Type 0 where
@@ -163,8 +193,8 @@ pub record LooksAtLine (c : List ℕ) (r section : ℕ) (from : Before) (looks :
   pub values : looks.value_bytes ≡ from.value_bytes + field c r 3
   pub places : looks.windows ≡ from.windows + field c r 1
 
--- What the sections from one up to another take, of which these are what is before the first, and before the one after the last.
-pub record Skips (from to : ℕ) (low high : Before) (old new : Spending) : Type 0 where
+-- What the sections from one up to another take of a content of that length: these are what is before the first, and after the last.
+pub record Skips (long from to : ℕ) (low high : Before) (old new : Spending) : Type 0 where
   -- A record for each section and each line.
   pub records : new.budget.records + to + high.heads ≡ old.budget.records + from + low.heads
   -- Their value bytes.
@@ -173,8 +203,8 @@ pub record Skips (from to : ℕ) (low high : Before) (old new : Spending) : Type
   pub nodes : raised old.meter.nodes (old.budget.records - new.budget.records) ≤ new.meter.nodes
   pub most_nodes : new.meter.nodes ≤ old.meter.nodes + (old.budget.records - new.budget.records)
   pub rises : old.meter.nodes ≤ new.meter.nodes
-  -- A byte for each place at most.
-  pub most_bytes : new.meter.bytes + low.windows ≤ old.meter.bytes + high.windows
+  -- No more bytes than the content has, and one, for each value byte.
+  pub most_bytes : new.meter.bytes + (long + 1) * low.value_bytes ≤ old.meter.bytes + (long + 1) * high.value_bytes
   pub bytes_rise : old.meter.bytes ≤ new.meter.bytes
 
 -- one of that many sections, the first at `first`, gives no answer

@@ -1,19 +1,28 @@
 //! What the top lines of a magic list look at, learnt once for the many contents that are looked up in one cache.
 //!
-//! Most lines are refused by the first byte of their value, which stands at none of the places where the value may begin. So of
-//! each top line that byte and these places are kept side by side, in the order of sections, and a content goes through them
+//! Most lines are refused by the first bytes of their value, which stand at none of the places where the value may begin. So of
+//! each top line two bytes and these places are kept side by side, in the order of sections, and a content goes through them
 //! alone: sections of which no line may hold are skipped together, and take of the budget and add to the meter what their lines
-//! do one by one. A section with another line, as one with a mask, ends in a head that refuses no content, and is always looked at.
+//! do one by one. A section with another line, as one in words of two bytes, ends in a head that refuses no content, and is always
+//! looked at.
 //!
 //! What is kept says nothing new of a cache: with it a content has the answers, the faults and the costs that it has without.
 
 ghost use Rattle.std.specs.Prelude.{◌≡◌, ◌+◌, ◌<◌, ◌≤◌, ℕ, get_or, length, slice_index, true, IfOk, IfSome};
 ghost use Rattle.mime_base.specs.Cache.Bytes.{field};
-ghost use Rattle.mime_view.specs.Heads.{AreBytes, AreHeads, PassesFrom, Refuses, TellsSections, no_head};
+ghost use Rattle.mime_view.specs.Globs.{AreLearnt};
+ghost use Rattle.mime_view.specs.Heads.{AreBytes, AreHeads, PassesFrom, Refuses, TellsSections, before_at, no_head};
+ghost use Rattle.mime_view.specs.Heads.Lanes.{AreLanes};
 
+pub mod lanes;
 pub mod learning;
+pub mod refusing;
 
+use crate::globs::learning::learn_globs;
+use crate::globs::learnt::LearntGlob;
+use crate::heads::lanes::{Lanes, pass_blocks};
 use crate::heads::learning::learn;
+use crate::heads::refusing::refuses;
 use crate::magic::MagicQuery;
 use mime_base::{Content, Counted, Meter, OutOfMemory};
 use std::alloc::Global;
@@ -24,9 +33,13 @@ use std::marker::Model;
 pub struct Head {
     /// The first byte of its value.
     pub first: u8,
-    /// Whether its value may begin at one place alone.
-    pub single: bool,
-    /// The place after the last at which its value may begin.
+    /// The byte after it, if that is looked at too.
+    pub second: u8,
+    /// Whether it is.
+    pub paired: bool,
+    /// At how many places its value may begin.
+    pub range: u32,
+    /// The place after the last of them.
     pub end: u32,
     /// The length of the shortest content in which the value lies at each of these places.
     pub reach: u32,
@@ -45,6 +58,15 @@ pub struct Before {
     pub windows: u64,
 }
 
+/// The first section of some of which a line may hold.
+#[derive(Clone, Copy)]
+pub struct NextOpen {
+    /// Which it is, or how many there are.
+    pub section: u32,
+    /// How many bytes the lines of those before it compare, beside one at each of their places: a number that wraps.
+    pub beside: u64,
+}
+
 /// Where the sections of a magic list stand.
 #[derive(Clone, Copy)]
 pub struct SectionList {
@@ -61,25 +83,32 @@ pub struct Learnt {
     pub before: Vec<Before>,
     /// What the top lines look at.
     pub heads: Vec<Head>,
+    /// The same side by side.
+    pub lanes: Lanes,
 }
 
-/// What the top lines of a cache's magic list look at. This project's own.
+/// What the top lines of a cache's magic list look at, and the entries of its glob list. This project's own.
 #[derive(Drop)]
 pub struct MagicHeads<'a> {
     counted: Counted<'a>,
-    learnt: Learnt,
+    learnt: Option<Learnt>,
+    globs: Vec<LearntGlob>,
 }
 
 impl<'a> Model for MagicHeads<'a> {
-    ghost use Rattle.std.specs.Prelude.{ℕ, List};
+    ghost use Rattle.std.specs.Prelude.{ℕ, List, IfSome};
     ghost use Rattle.mime_base.specs.Cache.Bytes.{field};
+    ghost use Rattle.mime_view.specs.Globs.{AreLearnt};
     ghost use Rattle.mime_view.specs.Heads.{AreHeads};
+    ghost use Rattle.mime_view.specs.Heads.Lanes.{AreLanes};
 
     ghost Value = { List ℕ };
 
     ghost view = { λ it. it.counted };
 
-    ghost invariant = { λ it. AreHeads it.counted (field it.counted 0 6) it.learnt.before.items it.learnt.heads.items };
+    ghost invariant = { λ it. IfSome it.learnt (λ learnt. AreHeads it.counted (field it.counted 0 6) learnt.before.items learnt.heads.items)
+        × IfSome it.learnt (λ learnt. AreLanes learnt.heads.items learnt.lanes.firsts.items learnt.lanes.places.items)
+        × AreLearnt it.counted (field it.counted 0 5) it.globs.items };
 }
 
 impl<'a> MagicHeads<'a> {
@@ -88,16 +117,45 @@ impl<'a> MagicHeads<'a> {
         alloc: Global,
         counted: Counted<'a>,
         at: u32,
+        globs_at: u32,
         meter: &mut Meter,
     ) -> Result<Option<MagicHeads<'a>>, OutOfMemory>
         requires at { at ≡ field counted 0 6 }
+        requires globs { globs_at ≡ field counted 0 5 }
         // What is learnt is of the cache.
         ensures { IfOk result (λ learnt. IfSome learnt (λ heads. heads ≡ counted.entry)) }
     {
-        match learn(alloc, &counted, at, meter)? {
-            Some(learnt) => Ok(Some(MagicHeads { counted, learnt })),
-            None => Ok(None),
+        let Some(learnt) = learn(alloc, &counted, at, meter)? else {
+            return Ok(None);
+        };
+        let globs = learn_globs(alloc, &counted, globs_at, meter)?;
+        Ok(Some(MagicHeads {
+            counted,
+            learnt: Some(learnt),
+            globs,
+        }))
+    }
+
+    /// Learns of a cache what the entries of its glob list say, or nothing where there is none.
+    pub(crate) fn learn_globs(
+        alloc: Global,
+        counted: Counted<'a>,
+        at: u32,
+        meter: &mut Meter,
+    ) -> Result<Option<MagicHeads<'a>>, OutOfMemory>
+        requires at { at ≡ field counted 0 5 }
+        // What is learnt is of the cache.
+        ensures { IfOk result (λ learnt. IfSome learnt (λ heads. heads ≡ counted.entry)) }
+    {
+        let globs = learn_globs(alloc, &counted, at, meter)?;
+        if globs.is_empty() {
+            return Ok(None);
         }
+        Ok(Some(MagicHeads {
+            counted,
+            learnt: None,
+            globs,
+        }))
     }
 
     /// The cache that something was learnt of.
@@ -108,83 +166,149 @@ impl<'a> MagicHeads<'a> {
         self.counted.again()
     }
 
-    /// What was learnt.
+    /// What was learnt of the magic list, where it was.
     #[inline(always)]
-    pub(crate) fn learnt(&self) -> &Learnt
+    pub(crate) fn learnt(&self) -> Option<&Learnt>
         // It is of the cache's magic list.
-        ensures { AreHeads self.now (field self.now 0 6) result.now.before.items result.now.heads.items }
+        ensures heads { IfSome result (λ learnt. AreHeads self.now (field self.now 0 6) learnt.now.before.items learnt.now.heads.items) }
+        // So are the lanes.
+        ensures lanes { IfSome result
+            (λ learnt. AreLanes learnt.now.heads.items learnt.now.lanes.firsts.items learnt.now.lanes.places.items) }
     {
-        &self.learnt
+        self.learnt.as_ref()
+    }
+
+    /// What was learnt of the glob list.
+    #[inline(always)]
+    pub(crate) fn globs(&self) -> &[LearntGlob]
+        // It is of the cache's glob list.
+        ensures { AreLearnt self.now (field self.now 0 5) result.now }
+    {
+        &self.globs
     }
 }
 
-/// The first section from one on of which a line may hold for a content, or how many sections there are.
+/// The first section from one on of which a line may hold, or how many sections there are.
+///
+/// So many heads are looked at at most: where these refuse the content, it is the section of the head after them.
 // Part of the loop over sections.
 #[inline(always)]
-pub fn next_open(query: &MagicQuery<'_, '_>, list: SectionList, learnt: &Learnt, from: u32) -> u32
+pub fn next_open(
+    query: &MagicQuery<'_, '_>,
+    list: SectionList,
+    learnt: &Learnt,
+    from: u32,
+    most: usize,
+) -> NextOpen
     requires heads { TellsSections query.now.counted.now list.first list.count learnt.now.before.items learnt.now.heads.items }
+    requires lanes { AreLanes learnt.now.heads.items learnt.now.lanes.firsts.items learnt.now.lanes.places.items }
     requires from { from < list.count }
     // It is none before.
-    ensures low { from ≤ result }
+    ensures low { from ≤ result.section }
     // It is one of them, or their number.
-    ensures high { result ≤ list.count }
+    ensures high { result.section ≤ list.count }
     // A content passes those before it.
-    ensures passes { PassesFrom query.now.counted.now list.first learnt.now.before.items query.now.content from result }
+    ensures passes { PassesFrom query.now.counted.now list.first learnt.now.before.items query.now.content from result.section }
 {
-    let heads = learnt.heads.as_slice();
-    let at = first_open(heads, &query.content, learnt.before[from as usize].heads);
-    if at < heads.len() {
-        heads[at].section
-    } else {
-        list.count
+    let mut beside = 0;
+    let first = learnt.before[from as usize].heads;
+    let end = first.saturating_add(most).min(learnt.heads.len());
+    let at = first_open(learnt, &query.content, first, end, &mut beside);
+    if at < learnt.heads.len() {
+        let section = learnt.heads[at].section;
+        let own = beside_before(learnt, &query.content, section, at);
+        return NextOpen {
+            section,
+            beside: beside.wrapping_sub(own),
+        };
+    }
+    NextOpen {
+        section: list.count,
+        beside,
     }
 }
 
-/// The first head from one on that doesn't refuse a content, or how many heads there are.
-// The loop over heads.
+/// What the lines of a section before that of a head compare, beside one byte at each of their places.
+// Most heads are the first of their section.
 #[inline(always)]
-fn first_open(heads: &[Head], content: &Content<'_>, from: usize) -> usize
-    requires from { from ≤ length heads.now }
+fn beside_before(learnt: &Learnt, content: &Content<'_>, section: u32, at: usize) -> u64
+    requires section { section < length learnt.now.before.items }
+    requires order { (before_at learnt.now.before.items section).heads ≤ at }
+    requires within { at ≤ length learnt.now.heads.items }
+{
+    let mut own = 0;
+    let first = learnt.before[section as usize].heads;
+    pass_rest(
+        &learnt.heads,
+        content,
+        length_of(content),
+        first,
+        at,
+        &mut own,
+    );
+    own
+}
+
+/// The first head from one on that doesn't refuse a content, or the end of those that are looked at.
+#[inline(always)]
+fn first_open(
+    learnt: &Learnt,
+    content: &Content<'_>,
+    from: usize,
+    end: usize,
+    beside: &mut u64,
+) -> usize
+    requires lanes { AreLanes learnt.now.heads.items learnt.now.lanes.firsts.items learnt.now.lanes.places.items }
+    requires from { from ≤ end }
+    requires end { end ≤ length learnt.now.heads.items }
     ensures low { from ≤ result }
-    ensures high { result ≤ length heads.now }
+    ensures high { result ≤ end }
     // Each byte of the content is less than 256.
     ensures bytes { AreBytes content.now }
     // Those before it refuse the content.
+    ensures refuse { (j : ℕ) → from ≤ j → j < result → Refuses content.now (get_or learnt.now.heads.items j no_head) }
+{
+    let long = length_of(content);
+    let passed = pass_blocks(learnt, content, long, from, end, beside);
+    pass_rest(&learnt.heads, content, long, passed, end, beside)
+}
+
+/// The length of a content, as far as a head may reach.
+#[inline(always)]
+fn length_of(content: &Content<'_>) -> u32
+    ensures length { result ≤ length content.now }
+    ensures below { result < 4294967295 }
+    // Each byte of the content is less than 256.
+    ensures bytes { AreBytes content.now }
+{
+    content.bytes().len().min(u32::MAX as usize - 1) as u32
+}
+
+/// The same, head by head.
+// The loop over heads.
+#[inline(always)]
+fn pass_rest(
+    heads: &[Head],
+    content: &Content<'_>,
+    long: u32,
+    from: usize,
+    end: usize,
+    beside: &mut u64,
+) -> usize
+    requires from { from ≤ end }
+    requires end { end ≤ length heads.now }
+    requires long { long ≤ length content.now }
+    requires below { long < 4294967295 }
+    ensures low { from ≤ result }
+    ensures high { result ≤ end }
     ensures refuse { (j : ℕ) → from ≤ j → j < result → Refuses content.now (get_or heads.now j no_head) }
 {
-    let long = content.bytes().len().min(u32::MAX as usize - 1) as u32;
     let mut at = from;
-    while at < heads.len() {
-        if !refuses(heads[at], content, long) {
+    while at < end {
+        if !refuses(heads[at], content, long, beside) {
             return at;
         }
         at += 1;
     }
     at
-}
-
-/// Whether a content of at least that length is refused by what a line looks at.
-// The body of the loop over heads.
-#[inline(always)]
-fn refuses(head: Head, content: &Content<'_>, long: u32) -> bool
-    requires long { long ≤ length content.now }
-    requires below { long < 4294967295 }
-    // Then none of the places of its range has the first byte of the value.
-    ensures { result ≡ true → Refuses content.now head }
-{
-    if long < head.reach {
-        return false;
-    }
-    content.lacks(head.first, head.end as usize) || has_another(head, content)
-}
-
-/// Whether the one place at which a value may begin has another byte than its first.
-#[inline(always)]
-fn has_another(head: Head, content: &Content<'_>) -> bool
-    ensures single { result ≡ true → head.single ≡ true }
-    ensures differs { result ≡ true → (place : ℕ) → place + 1 ≡ head.end → slice_index content.now place ≡ head.first → ⊥ }
-{
-    let bytes = content.bytes();
-    let end = head.end as usize;
-    head.single && 0 < end && end <= bytes.len() && bytes[end - 1] != head.first
 }

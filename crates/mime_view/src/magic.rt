@@ -19,11 +19,12 @@ ghost use Rattle.mime_view.specs.Magic.{AnswersLine, AnswersLineAt, AnswersLines
 ghost use Rattle.mime_view.specs.Magic.{IsBlockFault, IsLineFault, IsLinesFault, IsMagicFault, IsSectionFault, IsSeenFault};
 ghost use Rattle.mime_view.specs.Magic.{LiesBlock, NamesChildren, NamesText, ReadsLine, ReadsSection, ReadsSections, line_price, magic_price};
 ghost use Rattle.mime_base.specs.Meter.{raised};
+ghost use Rattle.mime_view.specs.Heads.Lanes.{AreLanes};
 ghost use Rattle.mime_view.specs.Heads.{AreHeads, IsSectionsFault, PassesFrom, Rises, Skips, TellsSections, before_at};
 ghost use Rattle.mime_view.specs.Spending.{Spends};
 
 use crate::fault::CacheFault;
-use crate::heads::{Learnt, MagicHeads, SectionList, next_open};
+use crate::heads::{Learnt, MagicHeads, NextOpen, SectionList, next_open};
 use crate::spending::Spending;
 use mime_base::{Content, Counted, Host, StatedValue};
 
@@ -78,10 +79,12 @@ pub fn sniff_known<'a>(
     // On any bytes: why there is no answer, and what the call costs.
     ensures ends { Ends (IsMagicFault query.now.counted.now at) (magic_price (length query.now.content)) 1 spending.old spending.new result }
 {
-    match heads {
-        Some(heads) => sniff_learnt(query, at, heads.learnt(), spending),
-        None => sniff(query, at, spending),
+    if let Some(heads) = heads
+        && let Some(learnt) = heads.learnt()
+    {
+        return sniff_learnt(query, at, learnt, spending);
     }
+    sniff(query, at, spending)
 }
 
 /// The same by what was learnt.
@@ -94,6 +97,7 @@ fn sniff_learnt<'a>(
     spending: &mut Spending,
 ) -> Result<Option<(&'a [u8], u32)>, CacheFault>
     requires heads { AreHeads query.now.counted.now at learnt.now.before.items learnt.now.heads.items }
+    requires lanes { AreLanes learnt.now.heads.items learnt.now.lanes.firsts.items learnt.now.lanes.places.items }
     // Where a list stands, it answers of its sections.
     ensures sections { AnswersMagicAt query.now at spending.old spending.new result }
     // A type that is given is a text of the cache.
@@ -118,6 +122,7 @@ fn sniff_open<'a>(
 ) -> Result<Option<(&'a [u8], u32)>, CacheFault>
     requires block { LiesBlock query.now.counted.now list.first 16 list.count }
     requires heads { TellsSections query.now.counted.now list.first list.count learnt.now.before.items learnt.now.heads.items }
+    requires lanes { AreLanes learnt.now.heads.items learnt.now.lanes.firsts.items learnt.now.lanes.places.items }
     // Where sections stand, it answers of them.
     ensures sections { (sections : List PlainSection) → length sections ≡ list.count
         → ReadsSections query.now.counted.now list.first sections → AnswersSections query.now sections spending.old spending.new result }
@@ -130,8 +135,7 @@ fn sniff_open<'a>(
     let mut i = 0;
     let mut next = 0;
     while i < list.count {
-        next = still_open(query, list, learnt, next, i);
-        i = skip_sections(learnt, i, next, spending);
+        i = skip_refused(query, list, learnt, &mut next, i, spending);
         if i < list.count {
             match take_section_apart(query, u64::from(list.first) + 16 * u64::from(i), spending)? {
                 Some(found) => return Ok(Some(found)),
@@ -143,59 +147,86 @@ fn sniff_open<'a>(
     Ok(None)
 }
 
-/// The first section from the i-th on of which a line may hold: the one that was found before, if it is no earlier.
+/// Skips the sections before the next one of which a line may hold. Where less is left than they take, none is skipped up to that one.
 #[inline(always)]
-fn still_open(
+fn skip_refused(
     query: &MagicQuery<'_, '_>,
     list: SectionList,
     learnt: &Learnt,
-    next: u32,
+    next: &mut u32,
     i: u32,
+    spending: &mut Spending,
 ) -> u32
     requires heads { TellsSections query.now.counted.now list.first list.count learnt.now.before.items learnt.now.heads.items }
+    requires lanes { AreLanes learnt.now.heads.items learnt.now.lanes.firsts.items learnt.now.lanes.places.items }
     requires within { i < list.count }
-    requires most { next ≤ list.count }
-    requires passed { PassesFrom query.now.counted.now list.first learnt.now.before.items query.now.content i next }
-    // It is none before.
     ensures low { i ≤ result }
-    // It is one of them, or their number.
     ensures high { result ≤ list.count }
-    // A content passes those before it.
+    // A content passes those that are skipped.
     ensures passes { PassesFrom query.now.counted.now list.first learnt.now.before.items query.now.content i result }
+    // What they take.
+    ensures skips { Skips (length query.now.content) i result (before_at learnt.now.before.items i) (before_at learnt.now.before.items result)
+        spending.old spending.new }
 {
-    if i < next {
-        return next;
+    if i < *next {
+        return i;
     }
-    next_open(query, list, learnt, i)
+    // Each line takes a record and a value byte.
+    let most = spending.budget.records.min(spending.budget.value_bytes);
+    let found = next_open(query, list, learnt, i, most as usize);
+    *next = found.section;
+    skip_sections(learnt, &query.content, i, found, spending)
 }
 
 /// Skips the sections from one up to another, where as much is left as they take: each of their lines and each section takes a
-/// record and adds a node, and each place that a line was refused at adds a byte.
+/// record and adds a node, and each place that a line was refused at adds a byte, or two.
 #[inline(always)]
-fn skip_sections(learnt: &Learnt, from: u32, to: u32, spending: &mut Spending) -> u32
-    requires order { from ≤ to }
-    requires sections { to < length learnt.now.before.items }
-    requires rises { Rises (before_at learnt.now.before.items from) (before_at learnt.now.before.items to) }
+fn skip_sections(
+    learnt: &Learnt,
+    content: &Content<'_>,
+    from: u32,
+    next: NextOpen,
+    spending: &mut Spending,
+) -> u32
+    requires order { from ≤ next.section }
+    requires sections { next.section < length learnt.now.before.items }
+    requires rises { Rises (before_at learnt.now.before.items from) (before_at learnt.now.before.items next.section) }
     // They are skipped all, or none is.
     ensures low { from ≤ result }
-    ensures high { result ≤ to }
+    ensures high { result ≤ next.section }
     // What those that are skipped take.
-    ensures skips { Skips from result (before_at learnt.now.before.items from) (before_at learnt.now.before.items result)
+    ensures skips { Skips (length content.now) from result (before_at learnt.now.before.items from) (before_at learnt.now.before.items result)
         spending.old spending.new }
 {
+    let to = next.section;
     let (low, high) = (&learnt.before[from as usize], &learnt.before[to as usize]);
     let Some(records) = ((high.heads - low.heads) as u64).checked_add(u64::from(to - from)) else {
         return from;
     };
     let value_bytes = high.value_bytes - low.value_bytes;
-    if spending.budget.records < records || spending.budget.value_bytes < value_bytes {
+    let bytes = (high.windows - low.windows).wrapping_add(next.beside);
+    let budget = spending.budget;
+    if budget.records < records
+        || budget.value_bytes < value_bytes
+        || most_bytes(content, value_bytes) < bytes
+    {
         return from;
     }
     spending.budget.records -= records;
     spending.budget.value_bytes -= value_bytes;
     spending.meter.nodes = raised(spending.meter.nodes, records);
-    spending.meter.bytes = raised(spending.meter.bytes, high.windows - low.windows);
+    spending.meter.bytes = raised(spending.meter.bytes, bytes);
     to
+}
+
+/// How many bytes lines with so many value bytes compare at most.
+#[inline(always)]
+fn most_bytes(content: &Content<'_>, value_bytes: u64) -> u64
+    ensures { result ≤ (length content.now + 1) * value_bytes }
+{
+    (content.bytes().len() as u64)
+        .saturating_add(1)
+        .saturating_mul(value_bytes)
 }
 
 /// The sum of a count and more, which stops at the greatest number.

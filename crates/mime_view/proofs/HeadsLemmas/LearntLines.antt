@@ -1,6 +1,5 @@
 -- What was learnt of some lines, and of one more.
 use Rattle.std.proofs.Common.{◌≡◌, ℕ, suc, ◌+◌, ◌*◌, ◌<◌, ◌≤◌, ◌++◌, List, [], ◌∷◌, length, get_or, refl, sym, ap, subst, ◌∙◌, arith, below_more}
-use Rattle.std.proofs.Math.Nat.{le-mul_of_pos_right}
 use Rattle.std.proofs.Math.Seq.{get_or-append_seam}
 use Rattle.std.proofs.lemmas.List.{get_or_append_left, length-append}
 use Rattle.mime_base.specs.Cache.Bytes.{field}
@@ -20,8 +19,6 @@ pub record SoFar (c : List ℕ) (first section : ℕ) (from : Before) (old new :
   pub more_windows : from.windows ≤ to.windows
   pub are : (k : ℕ) → k < j → IsHeadOf c (first + 32 * k) (get_or new (length old + k) no_head)
   pub values : to.value_bytes ≡ from.value_bytes + value_bytes_from c first j
-  pub few : (content : List ℕ) → ((k : ℕ) → k < j → (get_or new (length old + k) no_head).reach ≤ length content)
-      → to.windows + (length content + 1) * from.value_bytes ≤ from.windows + (length content + 1) * to.value_bytes
 
 -- no line
 pub no_line : (c : List ℕ) (first section : ℕ) (from : Before) (old : List Head) → from.heads ≡ length old
@@ -35,7 +32,6 @@ no_line c first section from old size = record {
   more_windows = omega arith;
   are = λ k below. absurd (omega arith);
   values = omega arith;
-  few = λ content reach. omega arith;
 }
 
 -- heads, and one more
@@ -83,14 +79,6 @@ one_more c first section from old heads j all looks to is line size bytes window
           (λ k below. subst (IsHeadOf c (first + 32 * k)) (sym (before k below)) (is.are k below))
           (subst (IsHeadOf c (first + 32 * j)) (sym last) line.is);
       values = rw next (omega (arith, is.values, bytes, line.values));
-      few = λ content reach.
-          let e : ℕ = length content + 1 in
-          let others_reach = is.few content (λ k below. omega (arith, reach k (omega arith), ap (λ (h : Head). h.reach) (before k below))) in
-          let own_reach : head.reach ≤ length content = omega (arith, reach j (omega arith), ap (λ (h : Head). h.reach) last) in
-          let more : to.value_bytes ≡ all.value_bytes + field c (first + 32 * j) 3 = bytes ∙ line.values in
-          let product = ap (λ (n : ℕ). e * n) more in
-          let dear : e ≤ e * field c (first + 32 * j) 3 = le-mul_of_pos_right e line.is.some in
-          omega (arith, others_reach, own_reach, product, dear, windows, line.places, line.is.reach, line.is.end, line.is.some);
     }
 
 -- all lines have their heads
@@ -110,7 +98,6 @@ all_lines c first section from old new count to is = record {
         count = is.count;
         refused = λ k below. refused_line c (first + 32 * k) (get_or new (length old + k) no_head) content (is.are k below) bytes (refused k below);
         values = is.values;
-        few = is.few content (λ k below. (refused k below).long);
       };
 }
 
@@ -154,7 +141,6 @@ section_learnt c at section from to old new size is = record {
           count = omega (arith, lines.count, is.size, size);
           refused = lines.refused;
           values = lines.values;
-          few = lines.few;
         };
   };
 }

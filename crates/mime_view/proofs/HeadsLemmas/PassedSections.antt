@@ -12,7 +12,7 @@ use Rattle.mime_view.specs.declared.heads.Head.{Head}
 use Rattle.mime_view.specs.declared.magic.MagicQuery.{MagicQuery}
 use Rattle.mime_view.specs.declared.spending.Spending.{Spending}
 use Rattle.mime_view.proofs.CostLemmas.Costs.{spends_then}
-use Rattle.mime_view.proofs.HeadsLemmas.RefusedLines.{none_holds, value_bytes-least, width-least}
+use Rattle.mime_view.proofs.HeadsLemmas.RefusedSections.{none_holds, value_bytes-least, width-least}
 use Rattle.mime_view.proofs.MagicLemmas.SectionParts.{section_passes}
 use Rattle.mime_view.proofs.MagicLemmas.SectionsLeft.{Left, next}
 
@@ -113,25 +113,10 @@ rises_to before count each i j order within =
     let is : i + (j - i) ≡ j = omega arith in
     rw is at (rises_between before count each i (j - i) (omega arith))
 
--- what skipped sections may cost
-module _ (c : List ℕ) (first : ℕ) (before : List Before) (content : List ℕ) (i : ℕ) where
-  -- the places are no more than their value bytes may cost
-  pub few_windows : (d : ℕ) → PassesFrom c first before content i (i + d)
-      → (before_at before (i + d)).windows + (length content + 1) * (before_at before i).value_bytes
-      ≤ (before_at before i).windows + (length content + 1) * (before_at before (i + d)).value_bytes
-  few_windows zero passes =
-      let here : i + 0 ≡ i = omega arith in
-      rw here (omega arith)
-  few_windows (suc d) passes =
-      let next_is : i + suc d ≡ i + d + 1 = omega arith in
-      let one = passes (i + d) (omega arith) (omega arith) in
-      rw next_is (omega (arith, few_windows d (λ k low high. passes k low (omega arith)), one.few))
-
 -- what skipped sections cost
 pub skips_cost : (query : MagicQuery) (from to : ℕ) (low high : Before) (old new : Spending) → from ≤ to → Rises low high
-    → high.windows + (length query.content + 1) * low.value_bytes ≤ low.windows + (length query.content + 1) * high.value_bytes
-    → Skips from to low high old new → Spends (magic_price (length query.content)) 0 0 old new
-skips_cost query from to low high old new order rises few is =
+    → Skips (length query.content) from to low high old new → Spends (magic_price (length query.content)) 0 0 old new
+skips_cost query from to low high old new order rises is =
     let e : ℕ = length query.content + 1 in
     let left = ap (λ (n : ℕ). e * n) is.value_bytes in
     record {
@@ -141,12 +126,12 @@ skips_cost query from to low high old new order rises few is =
       rises = is.rises;
       bytes_rise = is.bytes_rise;
       most_nodes = omega (arith, is.most_nodes, is.records, rises.more_heads, order);
-      most_bytes = omega (arith, is.most_bytes, is.records, rises.more_heads, rises.more_windows, order, few, left);
+      most_bytes = omega (arith, is.most_bytes, is.records, rises.more_heads, order, left);
       fair = omega (arith, is.nodes, is.records, rises.more_heads, order);
     }
 
 module _ (query : MagicQuery) (first count : ℕ) (before : List Before) (i m : ℕ) (now new : Spending) (order : i ≤ m)
-    (passes : PassesFrom query.counted.now first before query.content i m) (skips : Skips i m (before_at before i) (before_at before m) now new) where
+    (passes : PassesFrom query.counted.now first before query.content i m) (skips : Skips (length query.content) i m (before_at before i) (before_at before m) now new) where
   -- what is left after sections that were skipped
   pub skipped_to : (sections : List PlainSection) (old : Spending) → m ≤ count → Left query first count sections old i now
       → Left query first count sections old m new
@@ -158,17 +143,9 @@ module _ (query : MagicQuery) (first count : ℕ) (before : List Before) (i m : 
       (omega (arith, skips.records, order, ap (λ (b : Before). b.heads) at))
       (omega (arith, skips.value_bytes, ap (λ (b : Before). b.value_bytes) at)) is)
 
-  -- what they cost
-  pub cost_to : Rises (before_at before i) (before_at before m) → Spends (magic_price (length query.content)) 0 0 now new
-  cost_to rises =
-      let there : i + (m - i) ≡ m = omega (arith, order) in
-      let some = subst (PassesFrom query.counted.now first before query.content i) (sym there) passes in
-      skips_cost query i m (before_at before i) (before_at before m) now new order rises
-      (rw there at (few_windows query.counted.now first before query.content i (m - i) some)) skips
-
 -- no section is skipped
-pub skips_none : (i : ℕ) (here : Before) (now : Spending) → Skips i i here here now now
-skips_none i here now = record {
+pub skips_none : (long i : ℕ) (here : Before) (now : Spending) → Skips long i i here here now now
+skips_none long i here now = record {
   records = refl;
   value_bytes = refl;
   nodes = omega arith;
@@ -178,23 +155,18 @@ skips_none i here now = record {
   bytes_rise = omega arith;
 }
 
-module _ {first count : ℕ} {before : List Before} {heads : List Head} {i m : ℕ} {now new : Spending} (query : MagicQuery) (open_one : ℕ)
-    (is : TellsSections query.counted.now first count before heads) (passes : PassesFrom query.counted.now first before query.content i open_one)
-    (low : i ≤ m) (high : m ≤ open_one) (most : open_one ≤ count) (skips : Skips i m (before_at before i) (before_at before m) now new) where
-  -- those that are skipped pass the content
-  some_pass : PassesFrom query.counted.now first before query.content i m
-  some_pass k above below = passes k above (omega (arith, below, high))
-
-  -- what is left after them
+module _ {first count : ℕ} {before : List Before} {heads : List Head} {i m : ℕ} {now new : Spending} (query : MagicQuery)
+    (is : TellsSections query.counted.now first count before heads) (passes : PassesFrom query.counted.now first before query.content i m)
+    (low : i ≤ m) (most : m ≤ count) (skips : Skips (length query.content) i m (before_at before i) (before_at before m) now new) where
+  -- what is left after sections that were skipped
   pub left_after : {sections : List PlainSection} {old : Spending} → Left query first count sections old i now
       → Left query first count sections old m new
-  left_after {sections} {old} left =
-      skipped_to query first count before i m now new low some_pass skips sections old (omega (arith, high, most)) left
+  left_after {sections} {old} left = skipped_to query first count before i m now new low passes skips sections old most left
 
   -- what was spent after them
   pub cost_after : {old : Spending} → Spends (magic_price (length query.content)) 0 0 old now
       → Spends (magic_price (length query.content)) 0 0 old new
   cost_after {old} cost =
       spends_then (magic_price (length query.content)) 0 0 0 0 old now new cost
-      (cost_to query first count before i m now new low some_pass skips
-      (rises_to before count (λ k below. (is.sections k below).rises) i m low (omega (arith, high, most))))
+      (skips_cost query i m (before_at before i) (before_at before m) now new low
+      (rises_to before count (λ k below. (is.sections k below).rises) i m low most) skips)

@@ -1,89 +1,156 @@
--- Lines that a content is refused by, and the section that has them.
-use Rattle.std.proofs.Common.{◌≡◌, ℕ, zero, suc, ◌+◌, ◌*◌, ◌<◌, ◌≤◌, false, true, List, [], length, get_or, drop}
-use Rattle.std.proofs.Common.{Some, refl, sym, ap, ◌∙◌, arith}
-use Rattle.std.proofs.lemmas.List.{get_or-drop, get_or-take}
+-- A content that is refused by what a line looks at is refused by the line.
+use Rattle.std.proofs.Common.{◌≡◌, ℕ, zero, suc, ◌+◌, ◌<◌, ◌≤◌, Bool, false, true, if◌then◌else◌, List, [], length, get_or, drop}
+use Rattle.std.proofs.Common.{bit_and, inl, inr, subst, sym, ap, ◌∙◌, arith, length-drop, slice_index, take}
+use Rattle.std.proofs.lemmas.Bool.{cases_eq, cases_lt, ne_eqb}
+use Rattle.std.proofs.lemmas.List.{get_or-drop, get_or-take, get_or_default, get_or_past, length-take-le}
 use Rattle.mime_base.specs.Cache.Bytes.{field, optional_mask}
-use Rattle.mime_base.specs.Format.Magic.{line_count, width}
-use Rattle.mime_base.specs.Format.Packed.{forest_value_length}
-use Rattle.mime_base.specs.Magic.{Forest, PlainLine, bare, line, line_from}
-use Rattle.mime_base.specs.Magic.Holds.{bytes_of_mask, equals_from, some_holds}
+use Rattle.mime_base.specs.Magic.{PlainLine}
+use Rattle.mime_base.specs.Magic.Holds.{bytes_of_mask, equals_from}
 use Rattle.mime_base.specs.declared.magic.host.Host.{Host}
-use Rattle.mime_base.proofs.MagicLemmas.HoldingLines.{equals_from-mask}
-use Rattle.mime_base.proofs.MagicLemmas.Ranges.{equals_from-anywhere}
-use Rattle.mime_base.proofs.MagicLemmas.Skipping.{all_differ, word_of_one}
-use Rattle.mime_view.specs.Heads.{AreBytes, IsHeadOf, IsRefused, Refuses, value_bytes_from}
-use Rattle.mime_view.specs.Magic.{ReadsLine, ReadsLines}
+use Rattle.mime_base.specs.Magic.Masking.{group_of, window_equals}
+use Rattle.mime_base.specs.Magic.Mirrored.{mirrored}
+use Rattle.mime_base.proofs.MagicLemmas.HoldingLines.{equals_from-none, equals_from-outside, equals_from-passed}
+use Rattle.mime_base.proofs.MagicLemmas.Skipping.{whole_byte, word_of_one}
+use Rattle.mime_base.proofs.MagicLemmas.Windows.{counted, goes_on, stops}
+use Rattle.mime_view.specs.Heads.{AreBytes, DiffersAt, IsHeadOf, IsRefused, Refuses}
+use Rattle.mime_view.specs.Magic.{ReadsLine}
 use Rattle.mime_view.specs.declared.heads.Head.{Head}
 
--- the first byte of the value of a line is that of what it looks at
-first_is : (c : List ℕ) (r : ℕ) (head : Head) (own : PlainLine) → IsHeadOf c r head → ReadsLine c r own → get_or own.value 0 0 ≡ head.first
-first_is c r head own is reads =
-    let size : 0 < length own.value = omega (arith, is.some, reads.size) in
-    let place : field c r 4 + 0 ≡ field c r 4 = omega arith in
-    ap (λ (bytes : List ℕ). get_or bytes 0 0) (sym reads.value)
-    ∙ get_or-take (length own.value) (drop (field c r 4) c) 0 0 size
-    ∙ get_or-drop (field c r 4) c 0 0
-    ∙ ap (λ (k : ℕ). get_or c k 0) place
-    ∙ sym is.first
+-- a byte of the value of a line
+value_byte : (c : List ℕ) (r i : ℕ) (own : PlainLine) → i < length own.value → ReadsLine c r own
+    → get_or own.value i 0 ≡ slice_index c (field c r 4 + i)
+value_byte c r i own below reads =
+    ap (λ (bytes : List ℕ). get_or bytes i 0) (sym reads.value)
+    ∙ get_or-take (length own.value) (drop (field c r 4) c) i 0 below
+    ∙ get_or-drop (field c r 4) c i 0
 
--- a line has no mask where its record names none
-no_mask : (c : List ℕ) (r : ℕ) (own : PlainLine) → field c r 5 ≡ 0 → ReadsLine c r own → bytes_of_mask own.mask ≡ []
-no_mask c r own none reads = sym reads.mask ∙ ap (λ (m : ℕ). optional_mask c m (length own.value)) none
+-- a byte of a mask that has all bits counts whole
+mask_byte : (c : List ℕ) (mask size i : ℕ) → i < size → (0 < mask → mask + size ≤ length c) → (0 < mask → slice_index c (mask + i) ≡ 255)
+    → get_or (optional_mask c mask size) i 255 ≡ 255
+mask_byte c zero size i below inside whole = get_or_past [] i 255 (omega arith)
+mask_byte c (suc mask) size i below inside whole =
+    ap (λ (none : Bool). get_or (if none then [] else take size (drop (suc mask) c)) i 255) (ne_eqb (suc mask) 0 (λ e. omega (arith, e)))
+    ∙ get_or-take size (drop (suc mask) c) i 255 below
+    ∙ get_or-drop (suc mask) c i 255
+    ∙ get_or_default c (suc mask + i) 255 0 (omega (arith, inside (omega arith), below))
+    ∙ whole (omega arith)
+
+-- What a head says of the value of a line.
+record Shows (own : PlainLine) (head : Head) : Type 0 where
+  some : 0 < length own.value
+  word : own.word ≡ 1
+  first_kept : get_or (bytes_of_mask own.mask) 0 255 ≡ 255
+  first : get_or own.value 0 0 ≡ head.first
+  first_byte : head.first < 256
+  longer : head.paired ≡ true → 1 < length own.value
+  second_kept : head.paired ≡ true → get_or (bytes_of_mask own.mask) 1 255 ≡ 255
+  second : head.paired ≡ true → get_or own.value 1 0 ≡ head.second
+  second_byte : head.second < 256
+
+-- a head says it of the line that it is of
+shows : (c : List ℕ) (r : ℕ) (head : Head) (own : PlainLine) → IsHeadOf c r head → ReadsLine c r own → Shows own head
+shows c r head own is reads =
+    let some : 0 < length own.value = omega (arith, is.some, reads.size) in
+    let here : field c r 4 + 0 ≡ field c r 4 = omega arith in
+    let mask_here : field c r 5 + 0 ≡ field c r 5 = omega arith in
+    let inside : 0 < field c r 5 → field c r 5 + length own.value ≤ length c = λ there. omega (arith, is.mask.inside there, reads.size) in
+    let longer : head.paired ≡ true → 1 < length own.value = λ paired. omega (arith, is.pair.some paired, reads.size) in
+    record {
+      some = some;
+      word = sym reads.word ∙ is.word;
+      first_kept = ap (λ (mask : List ℕ). get_or mask 0 255) (sym reads.mask)
+          ∙ mask_byte c (field c r 5) (length own.value) 0 some inside
+          (λ there. ap (λ (k : ℕ). get_or c k 0) mask_here ∙ is.mask.first there);
+      first = value_byte c r 0 own some reads ∙ ap (λ (k : ℕ). get_or c k 0) here ∙ sym is.first;
+      first_byte = is.byte;
+      longer = longer;
+      second_kept = λ paired. ap (λ (mask : List ℕ). get_or mask 1 255) (sym reads.mask)
+          ∙ mask_byte c (field c r 5) (length own.value) 1 (longer paired) inside (is.pair.kept paired);
+      second = λ paired. value_byte c r 1 own (longer paired) reads ∙ sym (is.pair.second_is paired);
+      second_byte = is.pair.byte;
+    }
+
+-- A line, what its head says of it, and a content.
+module _ (own : PlainLine) (host : Host) (content : List ℕ) (head : Head) (is : Shows own head) (bytes : AreBytes content) where
+  module _ (at : ℕ) (inside : at + length own.value ≤ length content) where
+    -- the window at an offset
+    abbrev window : List ℕ
+    window = take (length own.value) (drop at content)
+
+    -- it is as long as the value
+    as_long : length window ≡ length own.value
+    as_long = length-take-le (length own.value) (drop at content) (omega (arith, length-drop at content, inside))
+
+    -- a byte of it
+    window_byte : (i : ℕ) → i < length own.value → get_or window i 0 ≡ get_or content (at + i) 0
+    window_byte i below = get_or-take (length own.value) (drop at content) i 0 below ∙ get_or-drop at content i 0
+
+    -- that is less than 256
+    small : (i : ℕ) → i < length own.value → get_or window i 0 < 256
+    small i below = rw (window_byte i below) (bytes (at + i))
+
+    -- a byte stays in its place
+    stays : (i : ℕ) → i ≡ mirrored (group_of own.word host (length own.value)) i
+    stays i = sym (ap (λ (g : ℕ). mirrored g i) (word_of_one own.word host (length own.value) is.word))
+
+    -- what begins with another byte is not the value
+    other_first : (get_or content at 0 ≡ head.first → ⊥)
+        → window_equals own.value (bytes_of_mask own.mask) own.word host window ≡ false
+    other_first other =
+        let place : at + 0 ≡ at = omega arith in
+        let first : get_or window 0 0 ≡ get_or content at 0 = window_byte 0 is.some ∙ ap (λ (k : ℕ). get_or content k 0) place in
+        let none = stops own.value (bytes_of_mask own.mask) own.word host window as_long 0 0 255 (omega (arith, as_long, is.some)) (stays 0)
+        (sym is.first_kept)
+        (λ e. other (sym first ∙ sym (whole_byte _ (small 0 is.some)) ∙ e ∙ whole_byte _ (omega (arith, is.first, is.first_byte)) ∙ is.first)) in
+        sym (counted own.value (bytes_of_mask own.mask) own.word host window as_long 0 (sym none)).1
+        ∙ ne_eqb 0 (length window) (λ e. omega (arith, e, as_long, is.some))
+
+    -- nor is what begins with its first byte and then another
+    other_second : get_or content at 0 ≡ head.first → head.paired ≡ true → (get_or content (at + 1) 0 ≡ head.second → ⊥)
+        → window_equals own.value (bytes_of_mask own.mask) own.word host window ≡ false
+    other_second same paired other =
+        let place : at + 0 ≡ at = omega arith in
+        let longer = is.longer paired in
+        let first : get_or window 0 0 ≡ get_or own.value 0 0 =
+        window_byte 0 is.some ∙ ap (λ (k : ℕ). get_or content k 0) place ∙ same ∙ sym is.first in
+        let one = goes_on own.value (bytes_of_mask own.mask) own.word host window as_long 0 0 255 (omega (arith, as_long, is.some)) (stays 0)
+        (sym is.first_kept) (ap (λ (b : ℕ). bit_and b 255) first) in
+        let none = stops own.value (bytes_of_mask own.mask) own.word host window as_long 1 1 255 (omega (arith, as_long, longer)) (stays 1)
+        (sym (is.second_kept paired))
+        (λ e. other (sym (window_byte 1 longer) ∙ sym (whole_byte _ (small 1 longer)) ∙ e
+        ∙ whole_byte _ (omega (arith, is.second paired, is.second_byte)) ∙ is.second paired)) in
+        sym (counted own.value (bytes_of_mask own.mask) own.word host window as_long 1 (sym (one ∙ ap (λ (n : ℕ). 1 + n) none))).1
+        ∙ ne_eqb 1 (length window) (λ e. omega (arith, e, as_long, longer))
+
+    -- so a window that differs from what the head looks at is not the value
+    other_window : DiffersAt content head at → window_equals own.value (bytes_of_mask own.mask) own.word host window ≡ false
+    other_window differs = elim (cases_eq (get_or content at 0) head.first) [
+      | inl same ↦ other_second same (differs same).0 (differs same).1
+      | inr other ↦ other_first other
+    ]
+
+  -- nor are those of a range, each of which differs or does not lie in the content
+  none_equals : (range at : ℕ) → ((i : ℕ) → i < range → at + i + length own.value ≤ length content → DiffersAt content head (at + i))
+      → equals_from own host content at range ≡ false
+  none_equals zero at others = equals_from-none own host content at
+  none_equals (suc range) at others = elim (cases_lt (length content) (at + length own.value)) [
+    | inl beyond ↦ equals_from-outside own host content at (suc range) beyond
+    | inr inside ↦
+        let here : at + 0 ≡ at = omega arith in
+        let differs : DiffersAt content head at = subst (DiffersAt content head) here (others 0 (omega arith) (omega (arith, inside))) in
+        equals_from-passed own host content at range (suc range) (omega arith) (other_window at inside differs)
+        ∙ none_equals range (at + 1) (λ i below fits.
+        let later : at + (i + 1) ≡ at + 1 + i = omega arith in
+        subst (DiffersAt content head) later (others (i + 1) (omega (arith, below)) (omega (arith, fits))))
+  ]
 
 -- a content that is refused by what a line looks at is refused by the line
 pub refused_line : (c : List ℕ) (r : ℕ) (head : Head) (content : List ℕ) → IsHeadOf c r head → AreBytes content → Refuses content head
     → IsRefused c r content
 refused_line c r head content is bytes refuses = λ own host reads.
-    let word : own.word ≡ 1 = sym reads.word ∙ is.word in
-    let first = first_is c r head own is reads in
     let end : own.start + own.range ≡ head.end = omega (arith, is.end, reads.start, reads.range) in
     let reach : head.reach + 1 ≡ head.end + length own.value = omega (arith, is.reach, reads.size) in
-    let one : head.single ≡ true → own.range ≡ 1 = λ single. omega (arith, is.single single, reads.range) in
-    sym (equals_from-mask own.start own.range own.word own.value own.mask host content own.start own.range)
-    ∙ equals_from-anywhere own.start own.range own.word own.value (Some (bytes_of_mask own.mask)) host content own.start own.range
-    ∙ ap (λ (mask : List ℕ). equals_from (line_from 0 0 own.word own.value (Some mask)) host content own.start own.range)
-    (no_mask c r own is.mask reads)
-    ∙ (all_differ own.value own.word host content (omega (arith, is.some, reads.size)) (word_of_one own.word host (length own.value) word)
-    (omega (arith, first, is.byte)) bytes own.start own.range own.range (omega arith) (λ fewer. absurd (omega arith))
-    (omega (arith, end, reach, refuses.long))
-    (λ i below e. refuses.differ (own.start + i) (omega (arith, end)) (omega (arith, end, reach, refuses.long, is.some, reads.size)) (λ single. omega (arith, one single, end)) (e ∙ first))).0
-
--- a line that equals its value at no offset, and those after it
-some_holds-later : (own : PlainLine) (children rest : Forest) (content : List ℕ) (host : Host)
-    → equals_from own host content own.start own.range ≡ false
-    → some_holds (line own children rest) content host ≡ some_holds rest content host
-unfolding some_holds
-some_holds-later own children rest content host differs = rw differs refl
-
--- where no line holds, none does
-pub none_holds : (c : List ℕ) (content : List ℕ) (host : Host) (lines : Forest) (r : ℕ) → ReadsLines c r lines
-    → ((j : ℕ) → j < width lines → IsRefused c (r + 32 * j) content) → some_holds lines content host ≡ false
-unfolding some_holds
-none_holds c content host bare r reads refused = refl
-none_holds c content host (line own children rest) r reads refused =
-    let here : r + 32 * 0 ≡ r = omega arith in
-    let differs : equals_from own host content own.start own.range ≡ false =
-    rw here at (refused 0 (omega arith)) own host reads.0 in
-    some_holds-later own children rest content host differs
-    ∙ none_holds c content host rest (r + 32) reads.4
-    (λ j below. let next : r + 32 * (j + 1) ≡ r + 32 + 32 * j = omega arith in rw next at (refused (j + 1) (omega arith)))
-
--- no more lines are side by side than there are
-pub width-least : (lines : Forest) → width lines ≤ line_count lines
-width-least bare = omega arith
-width-least (line own children rest) = omega (arith, width-least rest)
-
--- the value bytes of a line, and of those after it
-value_bytes-front : (c : List ℕ) (r lines : ℕ) → value_bytes_from c r (suc lines) ≡ field c r 3 + value_bytes_from c (r + 32) lines
-value_bytes-front c r zero = let here : r + 32 * 0 ≡ r = omega arith in rw here (omega arith)
-value_bytes-front c r (suc lines) =
-    let last : r + 32 * suc lines ≡ r + 32 + 32 * lines = omega arith in
-    rw last (omega (arith, value_bytes-front c r lines))
-
--- no more value bytes are side by side than there are
-pub value_bytes-least : (c : List ℕ) (lines : Forest) (r : ℕ) → ReadsLines c r lines
-    → value_bytes_from c r (width lines) ≤ forest_value_length lines
-value_bytes-least c bare r reads = omega arith
-value_bytes-least c (line own children rest) r reads =
-    let one : 1 + width rest ≡ suc (width rest) = omega arith in
-    rw one (omega (arith, value_bytes-front c r (width rest), reads.0.size, value_bytes-least c rest (r + 32) reads.4))
+    let range : head.range ≡ own.range = omega (arith, is.places, reads.range) in
+    none_equals own host content head (shows c r head own is reads) bytes own.range own.start
+    (λ i below fits. refuses.differ (own.start + i) (omega (arith, end, below)) (omega (arith, end, range))
+    (omega (arith, fits, is.some, reads.size)) (omega (arith, fits, reach, end)))

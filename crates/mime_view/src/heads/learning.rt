@@ -1,13 +1,18 @@
 //! Learning what the top lines of a magic list look at.
 
-ghost use Rattle.std.specs.Prelude.{◌≡◌, ◌+◌, ◌≤◌, [], ◌∷◌, ◌++◌, length, IfOk, IfSome, OnOk};
-ghost use Rattle.mime_view.specs.Heads.{AreHeads, LearnsLines, LearnsSection, LooksAtLine, TellsSections, open_head};
+ghost use Rattle.std.specs.Prelude.{◌≡◌, ◌+◌, ◌≤◌, [], ◌∷◌, ◌++◌, length, slice_index, true, IfOk, IfSome, OnOk};
+ghost use Rattle.mime_view.specs.Heads.{AreHeads, IsSecond, KeepsFirst, LearnsLines, LearnsSection, LooksAtLine, TellsSections, open_head};
+ghost use Rattle.mime_view.specs.Heads.Lanes.{AreLanes};
 ghost use Rattle.mime_view.specs.Magic.{LiesBlock};
 
+use crate::heads::lanes::lanes_of;
 use crate::heads::{Before, Head, Learnt};
 use crate::magic::check_block;
 use mime_base::{Counted, Meter, OutOfMemory};
 use std::alloc::Global;
+
+/// Of no more sections, and of no more lines, is anything learnt than the cache has times so many bytes.
+const ROOM: u64 = 32;
 
 /// What a line looks at, and what value bytes and places there are up to and including its own.
 #[derive(Clone, Copy)]
@@ -26,7 +31,9 @@ pub fn learn(
     meter: &mut Meter,
 ) -> Result<Option<Learnt>, OutOfMemory>
     // What is learnt is of the list.
-    ensures { IfOk result (λ learnt. IfSome learnt (λ it. AreHeads counted.now at it.before.items it.heads.items)) }
+    ensures heads { IfOk result (λ learnt. IfSome learnt (λ it. AreHeads counted.now at it.before.items it.heads.items)) }
+    // So are the lanes.
+    ensures lanes { IfOk result (λ learnt. IfSome learnt (λ it. AreLanes it.heads.items it.lanes.firsts.items it.lanes.places.items)) }
 {
     let [count, _, first] = match counted.cards::<3>(u64::from(at), meter) {
         Ok(numbers) => numbers,
@@ -35,6 +42,9 @@ pub fn learn(
     let Ok(()) = check_block(counted, u64::from(first), 16, u64::from(count)) else {
         return Ok(None);
     };
+    if counted.length() / ROOM < u64::from(count) {
+        return Ok(None);
+    }
     learn_sections(alloc, counted, first, count, meter)
 }
 
@@ -47,7 +57,8 @@ fn learn_sections(
     meter: &mut Meter,
 ) -> Result<Option<Learnt>, OutOfMemory>
     requires block { LiesBlock counted.now first 16 count }
-    ensures { IfOk result (λ learnt. IfSome learnt (λ it. TellsSections counted.now first count it.before.items it.heads.items)) }
+    ensures heads { IfOk result (λ learnt. IfSome learnt (λ it. TellsSections counted.now first count it.before.items it.heads.items)) }
+    ensures lanes { IfOk result (λ learnt. IfSome learnt (λ it. AreLanes it.heads.items it.lanes.firsts.items it.lanes.places.items)) }
 {
     let mut before = Vec::new(alloc);
     let mut heads = Vec::new(alloc);
@@ -65,7 +76,12 @@ fn learn_sections(
         before.push(after)?;
         all = after;
     }
-    Ok(Some(Learnt { before, heads }))
+    let lanes = lanes_of(alloc, &heads)?;
+    Ok(Some(Learnt {
+        before,
+        heads,
+        lanes,
+    }))
 }
 
 /// The heads of the section at `at` come to those of the sections before it. Nothing is given where the cache has no room
@@ -83,7 +99,7 @@ fn learn_section(
     ensures { IfOk result (λ after. IfSome after (λ to. LearnsSection counted.now at section all to heads.old.items heads.new.items)) }
 {
     let [_, _, count, first] = counted.cards_within::<4>(at, meter);
-    if counted.length() / 16 < heads.len() as u64 + u64::from(count) {
+    if counted.length() / ROOM < heads.len() as u64 + u64::from(count) {
         return Ok(None);
     }
     let Ok(()) = check_block(counted, u64::from(first), 32, u64::from(count)) else {
@@ -134,7 +150,9 @@ fn end_open(all: Before, section: u32, heads: &mut Vec<Head>) -> Result<Before, 
 {
     heads.push(Head {
         first: 0,
-        single: false,
+        second: 0,
+        paired: false,
+        range: u32::MAX,
         end: u32::MAX,
         reach: u32::MAX,
         section,
@@ -158,7 +176,7 @@ fn looks_of(
     ensures { IfSome result (LooksAtLine counted.now at section all) }
 {
     let [start, range, word, size, value, mask, _, _] = counted.cards_within::<8>(at, meter);
-    if mask != 0 || word != 1 || size == 0 || range == 0 {
+    if word != 1 || size == 0 || range == 0 || !keeps_first(counted, mask, size, meter) {
         return None;
     }
     if counted.length() < u64::from(value) + u64::from(size) {
@@ -171,9 +189,12 @@ fn looks_of(
     let Ok(first) = counted.byte_at(u64::from(value), meter) else {
         return None;
     };
+    let (second, paired) = second_of(counted, value, mask, size, meter);
     let head = Head {
         first,
-        single: range == 1,
+        second,
+        paired,
+        range,
         end,
         reach: beyond - 1,
         section,
@@ -183,4 +204,46 @@ fn looks_of(
         value_bytes,
         windows,
     })
+}
+
+/// The second byte of a value, and whether it has one of which all bits count.
+fn second_of(
+    counted: &Counted<'_>,
+    value: u32,
+    mask: u32,
+    size: u32,
+    meter: &mut Meter,
+) -> (u8, bool)
+    ensures { IsSecond counted.now value mask size result.0 result.1 }
+{
+    if size < 2 || (mask != 0 && !is_whole(counted, u64::from(mask) + 1, meter)) {
+        return (0, false);
+    }
+    match counted.byte_at(u64::from(value) + 1, meter) {
+        Ok(second) => (second, true),
+        Err(_) => (0, false),
+    }
+}
+
+/// Whether the byte at `at` has all bits.
+fn is_whole(counted: &Counted<'_>, at: u64, meter: &mut Meter) -> bool
+    ensures { result ≡ true → slice_index counted.now at ≡ 255 }
+{
+    match counted.byte_at(at, meter) {
+        Ok(bits) => bits == u8::MAX,
+        Err(_) => false,
+    }
+}
+
+/// Whether all bits of the first byte of a value count: it has no mask, or one in the cache that begins with these bits.
+fn keeps_first(counted: &Counted<'_>, mask: u32, size: u32, meter: &mut Meter) -> bool
+    ensures { result ≡ true → KeepsFirst counted.now mask size }
+{
+    if mask == 0 {
+        return true;
+    }
+    if counted.length() < u64::from(mask) + u64::from(size) {
+        return false;
+    }
+    is_whole(counted, u64::from(mask), meter)
 }

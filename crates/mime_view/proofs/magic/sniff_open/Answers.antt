@@ -2,102 +2,87 @@ use Rattle.std.proofs.Common.{◌≡◌, ℕ, ◌+◌, ◌*◌, length, arith, s
 use Rattle.std.proofs.lemmas.Result.{err_from_is_err_and}
 use Rattle.mime_view.specs.Magic.{IsSectionFault, ReadsSection, magic_price}
 use Rattle.mime_view.proofs.CostLemmas.Costs.{spends_then}
-use Rattle.mime_view.proofs.HeadsLemmas.PassedSections.{cost_after, left_after, rises_to}
+use Rattle.mime_view.proofs.HeadsLemmas.PassedSections.{cost_after, left_after}
 use Rattle.mime_view.proofs.MagicLemmas.SectionsLeft.{ended, next}
 use Rattle.mime_view.proofs.magic.sniff_open.Goals as goal
 
-pub skip_sections-i-requires-clause-rises : goal.skip_sections-i-requires-clause-rises
-skip_sections-i-requires-clause-rises c =
-    rises_to c.args.learnt.now.before.items c.args.list.count (λ k below. (c.requires.heads.sections k below).rises) c.loop-i.i c.still_open-next.result
-    c.still_open-next.ensures.low c.still_open-next.ensures.high
-
 pub returns-in_err-found-clause-sections : goal.returns-in_err-found-clause-sections
 returns-in_err-found-clause-sections c = λ sections size reads.
-    let next_is = c.still_open-next.ensures in
-    let skip = c.skip_sections-i.ensures in
-    let left = left_after c.args.query.now c.still_open-next.result c.requires.heads next_is.passes skip.low skip.high next_is.high skip.skips
+    let skip = c.skip_refused-i.ensures in
+    let left = left_after c.args.query.now c.requires.heads skip.passes skip.low skip.high skip.skips
     (c.loop-i.invariant.left sections size reads) in
     let n = next left c.if-i-list.true in
-    let at : c.args.list.first + 16 * c.skip_sections-i.result ≡ c.from.result + 16 * c.from-then-i-list.result =
+    let at : c.args.list.first + 16 * c.skip_refused-i.result ≡ c.from.result + 16 * c.from-then-i-list.result =
     omega (arith, c.from.ensures, c.from-then-i-list.ensures) in
     n.stops c.take_section_apart.new.spending _ c.from_residual.result c.from_residual.ensures.1
     (c.in_err-found.ensures.section n.section (subst (λ (r : ℕ). ReadsSection c.args.query.now.counted.now r n.section) at n.reads))
 
 pub returns-in_err-found-clause-ends : goal.returns-in_err-found-clause-ends
 returns-in_err-found-clause-ends c =
-    let next_is = c.still_open-next.ensures in
-    let skip = c.skip_sections-i.ensures in
+    let skip = c.skip_refused-i.ensures in
     let p = err_from_is_err_and c.from_residual.result c.from_residual.ensures.1 in
-    let at : c.from.result + 16 * c.from-then-i-list.result ≡ c.args.list.first + 16 * c.skip_sections-i.result =
+    let at : c.from.result + 16 * c.from-then-i-list.result ≡ c.args.list.first + 16 * c.skip_refused-i.result =
     omega (arith, c.from.ensures, c.from-then-i-list.ensures) in
     let section = subst (λ (r : ℕ). IsSectionFault c.args.query.now.counted.now r c.take_section_apart.new.spending.budget c.in_err-found.field-0.0)
     at c.in_err-found.ensures.ends.fault in
     rw (p.1, p.2) (record {
-      fault = (c.skip_sections-i.result, c.if-i-list.true, section);
-      cost = spends_then (magic_price (length c.args.query.now.content)) 0 0 0 0 c.args.spending.now c.skip_sections-i.new.spending
+      fault = (c.skip_refused-i.result, c.if-i-list.true, section);
+      cost = spends_then (magic_price (length c.args.query.now.content)) 0 0 0 0 c.args.spending.now c.skip_refused-i.new.spending
           c.take_section_apart.new.spending
-          (cost_after c.args.query.now c.still_open-next.result c.requires.heads next_is.passes skip.low skip.high next_is.high skip.skips
+          (cost_after c.args.query.now c.requires.heads skip.passes skip.low skip.high skip.skips
           c.loop-i.invariant.cost) c.in_err-found.ensures.ends.cost;
     })
 
 pub returns-in-Some-clause-sections : goal.returns-in-Some-clause-sections
 returns-in-Some-clause-sections c = λ sections size reads.
-    let next_is = c.still_open-next.ensures in
-    let skip = c.skip_sections-i.ensures in
-    let left = left_after c.args.query.now c.still_open-next.result c.requires.heads next_is.passes skip.low skip.high next_is.high skip.skips
+    let skip = c.skip_refused-i.ensures in
+    let left = left_after c.args.query.now c.requires.heads skip.passes skip.low skip.high skip.skips
     (c.loop-i.invariant.left sections size reads) in
     let n = next left c.if-i-list.true in
-    let at : c.args.list.first + 16 * c.skip_sections-i.result ≡ c.from.result + 16 * c.from-then-i-list.result =
+    let at : c.args.list.first + 16 * c.skip_refused-i.result ≡ c.from.result + 16 * c.from-then-i-list.result =
     omega (arith, c.from.ensures, c.from-then-i-list.ensures) in
     n.found c.take_section_apart.new.spending c.in-Some.found (rw c.in-Some.is at
     (c.in_ok-found.ensures.section n.section (subst (λ (r : ℕ). ReadsSection c.args.query.now.counted.now r n.section) at n.reads)))
 
 pub returns-in-Some-clause-ends : goal.returns-in-Some-clause-ends
 returns-in-Some-clause-ends c =
-    let next_is = c.still_open-next.ensures in
-    let skip = c.skip_sections-i.ensures in
+    let skip = c.skip_refused-i.ensures in
     record {
       fault = tt;
-      cost = spends_then (magic_price (length c.args.query.now.content)) 0 0 0 0 c.args.spending.now c.skip_sections-i.new.spending
+      cost = spends_then (magic_price (length c.args.query.now.content)) 0 0 0 0 c.args.spending.now c.skip_refused-i.new.spending
           c.take_section_apart.new.spending
-          (cost_after c.args.query.now c.still_open-next.result c.requires.heads next_is.passes skip.low skip.high next_is.high skip.skips
+          (cost_after c.args.query.now c.requires.heads skip.passes skip.low skip.high skip.skips
           c.loop-i.invariant.cost) c.in_ok-found.ensures.ends.cost;
     }
 
 pub loop-i-preserved-then-i-list : goal.loop-i-preserved-then-i-list
 loop-i-preserved-then-i-list c =
-    let next_is = c.still_open-next.ensures in
-    let skip = c.skip_sections-i.ensures in
-    let at : c.args.list.first + 16 * c.skip_sections-i.result ≡ c.from.result + 16 * c.from-then-i-list.result =
+    let skip = c.skip_refused-i.ensures in
+    let at : c.args.list.first + 16 * c.skip_refused-i.result ≡ c.from.result + 16 * c.from-then-i-list.result =
     omega (arith, c.from.ensures, c.from-then-i-list.ensures) in
     record {
       within = omega (arith, c.if-i-list.true);
-      most = next_is.high;
-      passes = λ k low high. next_is.passes k (omega (arith, low, skip.low)) high;
       left = λ sections size reads.
-          let left = left_after c.args.query.now c.still_open-next.result c.requires.heads next_is.passes skip.low skip.high next_is.high skip.skips
+          let left = left_after c.args.query.now c.requires.heads skip.passes skip.low skip.high skip.skips
           (c.loop-i.invariant.left sections size reads) in
           let n = next left c.if-i-list.true in
           n.later c.take_section_apart.new.spending (rw c.in-None.is at
           (c.in_ok-found.ensures.section n.section (subst (λ (r : ℕ). ReadsSection c.args.query.now.counted.now r n.section) at n.reads)));
-      cost = spends_then (magic_price (length c.args.query.now.content)) 0 0 0 0 c.args.spending.now c.skip_sections-i.new.spending
+      cost = spends_then (magic_price (length c.args.query.now.content)) 0 0 0 0 c.args.spending.now c.skip_refused-i.new.spending
           c.take_section_apart.new.spending
-          (cost_after c.args.query.now c.still_open-next.result c.requires.heads next_is.passes skip.low skip.high next_is.high skip.skips
+          (cost_after c.args.query.now c.requires.heads skip.passes skip.low skip.high skip.skips
           c.loop-i.invariant.cost) c.in_ok-found.ensures.ends.cost;
     }
 
 pub loop-i-preserved : goal.loop-i-preserved
 loop-i-preserved c =
-    let next_is = c.still_open-next.ensures in
-    let skip = c.skip_sections-i.ensures in
+    let skip = c.skip_refused-i.ensures in
     record {
-      within = omega (arith, skip.high, next_is.high);
-      most = next_is.high;
-      passes = λ k low high. next_is.passes k (omega (arith, low, skip.low)) high;
+      within = omega (arith, skip.high);
       left = λ sections size reads.
-          left_after c.args.query.now c.still_open-next.result c.requires.heads next_is.passes skip.low skip.high next_is.high skip.skips
+          left_after c.args.query.now c.requires.heads skip.passes skip.low skip.high skip.skips
           (c.loop-i.invariant.left sections size reads);
-      cost = cost_after c.args.query.now c.still_open-next.result c.requires.heads next_is.passes skip.low skip.high next_is.high skip.skips
+      cost = cost_after c.args.query.now c.requires.heads skip.passes skip.low skip.high skip.skips
           c.loop-i.invariant.cost;
     }
 

@@ -1,0 +1,7 @@
+use Rattle.mime_view.proofs.HeadsLemmas.PassedSections.{rises_to}
+use Rattle.mime_view.proofs.magic.skip_refused.Goals as goal
+
+pub skip_sections-requires-clause-rises : goal.skip_sections-requires-clause-rises
+skip_sections-requires-clause-rises c =
+    rises_to c.args.learnt.now.before.items c.args.list.count (λ k below. (c.requires.heads.sections k below).rises) c.args.i
+    c.next_open-found.result.section c.next_open-found.ensures.low c.next_open-found.ensures.high
