@@ -1,3 +1,4 @@
 -- Lemmas on the glob list.
 pub mod GlobEntries
 pub mod GlobLists
+pub mod LearntGlobs

@@ -12,6 +12,7 @@ ghost use Rattle.mime_base.specs.Format.Parents.{ParentsAt};
 ghost use Rattle.mime_base.specs.Meter.{raised};
 ghost use Rattle.mime_base.specs.Magic.{PlainSection, are_allowed_sections};
 ghost use Rattle.mime_base.specs.declared.database.rule.GlobRule.{GlobRule};
+ghost use Rattle.mime_view.specs.Globs.{AreLearnt};
 ghost use Rattle.mime_view.specs.Magic.{AnswersMagic, IsMagicFault, NamesText, magic_price};
 ghost use Rattle.mime_base.specs.Magic.Extent.{sections_extent};
 ghost use Rattle.mime_view.specs.Lists.{IsHeadFault};
@@ -26,6 +27,7 @@ ghost use Rattle.mime_view.specs.Listing.Faults.{IsListingFault};
 
 use crate::budget::Budget;
 use crate::fault::CacheFault;
+use crate::globs::learnt::LearntGlob;
 use crate::heads::MagicHeads;
 use crate::hits::Case;
 use crate::magic::{MagicQuery, sniff_known};
@@ -59,7 +61,7 @@ const HEADER: u64 = 40;
 pub struct Cache<'a> {
     counted: Counted<'a>,
     header: [u32; 10],
-    /// What was learnt of its magic list, where it was.
+    /// What was learnt of its magic list and its glob list, where it was.
     heads: Option<&'a MagicHeads<'a>>,
 }
 
@@ -106,7 +108,7 @@ impl<'a> Cache<'a> {
         })
     }
 
-    /// The same of the cache that something was learnt of: contents are sniffed by that.
+    /// The same of the cache that something was learnt of: contents are sniffed by that, and names looked up.
     ///
     /// Each call answers, refuses and counts what it does without.
     pub fn open_learnt(
@@ -134,9 +136,11 @@ impl<'a> Cache<'a> {
         })
     }
 
-    /// Learns what the top lines of the magic list look at, for many contents; nothing where the list can't be gone through so.
+    /// Learns what the top lines of the magic list look at, for many contents, and what the entries of the glob list say, for
+    /// their names; nothing where the magic list can't be gone through so.
     ///
-    /// It takes nothing of a budget, and memory for each section and each of these lines, no more than the cache has itself.
+    /// It takes nothing of a budget. It takes memory for each section and each of these lines, at most for one of either for each 32
+    /// bytes of the cache, and for the patterns of entries, at most as much as the cache has bytes.
     pub fn learn_heads(
         &self,
         alloc: Global,
@@ -145,7 +149,27 @@ impl<'a> Cache<'a> {
         // What is learnt is of the cache.
         ensures { IfOk result (λ learnt. IfSome learnt (λ heads. heads ≡ self.now)) }
     {
-        MagicHeads::learn(alloc, self.counted.again(), self.header[6], meter)
+        MagicHeads::learn(
+            alloc,
+            self.counted.again(),
+            self.header[6],
+            self.header[5],
+            meter,
+        )
+    }
+
+    /// Learns what the entries of the glob list say alone, for many names; nothing where there is none.
+    ///
+    /// It takes nothing of a budget. It takes memory for the patterns of these entries, at most as much as the cache has bytes.
+    pub fn learn_globs(
+        &self,
+        alloc: Global,
+        meter: &mut Meter,
+    ) -> Result<Option<MagicHeads<'a>>, OutOfMemory>
+        // What is learnt is of the cache.
+        ensures { IfOk result (λ learnt. IfSome learnt (λ heads. heads ≡ self.now)) }
+    {
+        MagicHeads::learn_globs(alloc, self.counted.again(), self.header[5], meter)
     }
 
     /// How many bytes the cache has. It adds nothing.
@@ -191,6 +215,7 @@ impl<'a> Cache<'a> {
             counted: &self.counted,
             key: name,
             case: Case::Both,
+            learnt: self.learnt_globs(),
         };
         let mut spending = Spending {
             meter: *meter,
@@ -230,6 +255,7 @@ impl<'a> Cache<'a> {
             counted: &self.counted,
             key: name,
             case: Case::Both,
+            learnt: self.learnt_globs(),
         };
         let mut spending = Spending {
             meter: *meter,
@@ -250,6 +276,17 @@ impl<'a> Cache<'a> {
             literals: self.header[3],
             tree: self.header[4],
             globs: self.header[5],
+        }
+    }
+
+    /// What was learnt of the glob list; nothing where nothing was.
+    fn learnt_globs(&self) -> &[LearntGlob]
+        // It is of the list that the header names.
+        ensures { AreLearnt self.now (lists_of self.now).globs result.now }
+    {
+        match self.heads {
+            Some(heads) => heads.globs(),
+            None => &[],
         }
     }
 

@@ -6,12 +6,16 @@ ghost use Rattle.mime_base.specs.Format.Rules.{GlobsAt};
 ghost use Rattle.mime_base.specs.Format.Stored.{glob_rules};
 ghost use Rattle.mime_base.specs.Kept.{FitsRank, class_of, hits as matching, rank};
 ghost use Rattle.mime_base.specs.declared.database.rule.GlobRule.{GlobRule};
-ghost use Rattle.mime_view.specs.Globs.{ReadsGlob};
+ghost use Rattle.mime_view.specs.Globs.{AreLearnt, ReadsGlob};
 ghost use Rattle.mime_view.specs.Hits.{glob_list_hits};
 ghost use Rattle.mime_view.specs.Steps.{FindsAt, FindsRules, Searches, entry_part, list_part, progress_of};
 
+pub mod learning;
+pub mod learnt;
+
 use crate::fault::CacheFault;
 use crate::flags::weight_and_case;
+use crate::globs::learnt::learnt_hits;
 use crate::hits::Hits;
 use crate::list::count_at;
 use crate::query::{Progress, Query};
@@ -26,6 +30,8 @@ pub fn glob_list_hits(
     at: u32,
     progress: &mut Progress,
 ) -> Result<(), CacheFault>
+    // What was learnt is of the list.
+    requires learnt { AreLearnt query.now.counted.now at query.now.learnt.now }
     // Of the rules that stand in the list, it offers those that match.
     ensures finds { FindsAt query.now GlobsAt at (glob_list_hits query.now.key.now)
         (λ rules. length (glob_rules rules)) progress.old progress.new result }
@@ -39,7 +45,14 @@ pub fn glob_list_hits(
     // Copies, which stay in registers from entry to entry.
     let asked = *query;
     let mut spending = progress.spending;
-    for i in 0..count {
+    match learnt_hits(&asked, &mut progress.hits, &mut spending) {
+        Ok(()) => {}
+        Err(fault) => {
+            progress.spending = spending;
+            return Err(fault);
+        }
+    }
+    for i in asked.learnt.len() as u64..count {
         let at = first + 12 * i;
         match take_glob(&asked, at, &mut progress.hits, &mut spending) {
             Ok(()) => {}
@@ -98,7 +111,7 @@ fn take_glob(
 /// The rank of a rule of the glob list with this pattern, weight and flag.
 // Called at two places of a loop.
 #[inline]
-fn rank_of_entry(pattern: &[u8], flags: u32) -> u32
+pub fn rank_of_entry(pattern: &[u8], flags: u32) -> u32
     // The pattern's length has 16 bits.
     requires short { length pattern.now < 65536 }
     // Its class, weight, length and flag, in this order.

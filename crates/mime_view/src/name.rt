@@ -11,6 +11,7 @@ ghost use Rattle.mime_base.specs.Kept.{FitsRank};
 ghost use Rattle.mime_base.specs.Matching.Folding.{compared};
 ghost use Rattle.mime_base.specs.declared.database.rule.GlobRule.{GlobRule};
 ghost use Rattle.mime_view.specs.Gathered.{HoldsRules};
+ghost use Rattle.mime_view.specs.Globs.{AreLearnt};
 ghost use Rattle.mime_view.specs.Hits.{hit_visits, literal_visits_twice, literals_twice, offered_once, offered_twice};
 ghost use Rattle.mime_view.specs.Hits.{tree_twice, tree_visits_twice};
 ghost use Rattle.mime_view.specs.NameHits.{AreHits, FindsInLists, GivesTexts, IsHitsFault, RulesAt, SearchesLists, lists_part, walks_part};
@@ -50,6 +51,8 @@ pub fn glob_hits<'a>(
     lists: RuleLists,
     spending: &mut Spending,
 ) -> Result<NameHits<'a>, CacheFault>
+    // What was learnt is of the glob list.
+    requires learnt { AreLearnt query.now.counted.now lists.globs query.now.learnt.now }
     // Of the rules that stand in the lists, it gives the types of those that are asked for.
     ensures found { FindsInLists (AreHits which) query.now lists spending.old spending.new result }
     // Whatever the bytes are, it gives texts of the cache.
@@ -70,6 +73,8 @@ pub fn rule_hits<'a>(
     lists: RuleLists,
     spending: &mut Spending,
 ) -> Result<RuleHits<'a>, CacheFault>
+    // What was learnt is of the glob list.
+    requires learnt { AreLearnt query.now.counted.now lists.globs query.now.learnt.now }
     // Of the rules that stand in the lists, it gives those that match, and how many are kept.
     ensures found { FindsInLists AreRuleHits query.now lists spending.old spending.new result }
     // Whatever the bytes are, their types are texts of the cache.
@@ -93,6 +98,8 @@ fn hits_of(
     lists: RuleLists,
     spending: &mut Spending,
 ) -> Result<Hits, CacheFault>
+    // What was learnt is of the glob list.
+    requires learnt { AreLearnt query.now.counted.now lists.globs query.now.learnt.now }
     // Of the rules that stand in the lists, it holds those that are asked for.
     ensures found { FindsInLists (HoldsRules query.now.counted.now which) query.now lists spending.old spending.new result }
     // Whatever the bytes are, those that are asked for are held.
@@ -123,6 +130,8 @@ fn gather_hits(
     lists: RuleLists,
     progress: &mut Progress,
 ) -> Result<(), CacheFault>
+    // What was learnt is of the glob list.
+    requires learnt { AreLearnt query.now.counted.now lists.globs query.now.learnt.now }
     // Nothing was offered before.
     requires none { progress.now.hits.offers ≡ [] }
     // The hits are of the rules that are asked for.
@@ -148,6 +157,8 @@ fn offer_once(
     lists: RuleLists,
     progress: &mut Progress,
 ) -> Result<(), CacheFault>
+    // What was learnt is of the glob list.
+    requires learnt { AreLearnt query.now.counted.now lists.globs query.now.learnt.now }
     // The name is its own folded name.
     requires alone { compared false query.now.key.now ≡ query.now.key.now }
     // Of the rules that stand in the lists, it offers those that match, each once.
@@ -160,6 +171,7 @@ fn offer_once(
         counted: query.counted,
         key: query.key,
         case: Case::Both,
+        learnt: query.learnt,
     };
     literal_hits(&both, lists.literals, progress)?;
     tree_hits(&both, lists.tree, progress)?;
@@ -173,6 +185,8 @@ fn offer_twice(
     lists: RuleLists,
     progress: &mut Progress,
 ) -> Result<(), CacheFault>
+    // What was learnt is of the glob list.
+    requires learnt { AreLearnt query.now.counted.now lists.globs query.now.learnt.now }
     // The other text is the folded name.
     requires folded { folded.now ≡ compared false query.now.key.now }
     // Of the rules that stand in the lists, it offers those that match.
@@ -205,11 +219,13 @@ fn search_twice(
         counted: query.counted,
         key: query.key,
         case: Case::Exact,
+        learnt: query.learnt,
     };
     let other = Query {
         counted: query.counted,
         key: folded,
         case: Case::Folded,
+        learnt: query.learnt,
     };
     literal_hits(&exact, at, progress)?;
     literal_hits(&other, at, progress)
@@ -235,11 +251,13 @@ fn walk_twice(
         counted: query.counted,
         key: query.key,
         case: Case::Exact,
+        learnt: query.learnt,
     };
     let other = Query {
         counted: query.counted,
         key: folded,
         case: Case::Folded,
+        learnt: query.learnt,
     };
     tree_hits(&exact, at, progress)?;
     tree_hits(&other, at, progress)
