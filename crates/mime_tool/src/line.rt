@@ -71,11 +71,11 @@ pub(crate) fn print_line<D: Desk>(
 }
 
 // What a file comes to: by its kind, where that is asked for and it is no regular file, or looked up.
-fn outcome_of<'a, D: Desk>(
+fn outcome_of<'i, D: Desk>(
     desk: &mut D,
-    lookup: Lookup<'_, 'a>,
+    lookup: Lookup<'i, '_>,
     file: &[u8],
-) -> Result<Outcome<'a>, Stop>
+) -> Result<Outcome<'i>, Stop>
     ensures { Works (ComesTo (plain_lookup lookup.entry) ((D.state desk.old).stored file.now) file.now)
         (D.state desk.old) (D.state desk.new) result }
 {
@@ -107,11 +107,11 @@ fn inode_name<'a>(kind: Inode) -> &'a [u8]
 }
 
 // What a file that is looked up comes to. It is opened first, unless its name alone is asked for.
-fn file_outcome<'a, D: Desk>(
+fn file_outcome<'i, D: Desk>(
     desk: &mut D,
-    lookup: Lookup<'_, 'a>,
+    lookup: Lookup<'i, '_>,
     file: &[u8],
-) -> Result<Outcome<'a>, Stop>
+) -> Result<Outcome<'i>, Stop>
     ensures { Works (LooksUpHere (plain_lookup lookup.entry) ((D.state desk.old).stored file.now) file.now)
         (D.state desk.old) (D.state desk.new) result }
 {

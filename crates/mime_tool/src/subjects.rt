@@ -59,12 +59,12 @@ fn print_input<D: Desk, I: Content + Drop>(
 }
 
 // What standard input comes to. It isn't read where its name alone is asked for.
-fn input_outcome<'a, I: Content + Drop>(
+fn input_outcome<'i, I: Content + Drop>(
     alloc: Global,
-    lookup: Lookup<'_, 'a>,
+    lookup: Lookup<'i, '_>,
     name: &[u8],
     input: I,
-) -> Result<Outcome<'a>, Stop>
+) -> Result<Outcome<'i>, Stop>
     ensures { LooksUp (plain_lookup lookup.entry) (given_by (I.remaining input) (I.health input)) name.now result }
 {
     let content = if lookup.name_only { None } else { Some(input) };

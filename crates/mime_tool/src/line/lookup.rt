@@ -31,7 +31,7 @@ pub(crate) enum Data<'i, 'a> {
     /// A cache that something was learnt of.
     Learnt {
         path: &'a str,
-        heads: &'a MagicHeads<'a>,
+        heads: &'i MagicHeads<'a>,
         cost: bool,
     },
 }
@@ -72,12 +72,12 @@ pub(crate) fn asked_order(options: Options) -> Order
 }
 
 /// What a file comes to by its name and its content, which is read as far as it is needed.
-pub(crate) fn find<'a, R: Content + Drop>(
+pub(crate) fn find<'i, R: Content + Drop>(
     alloc: Global,
-    lookup: Lookup<'_, 'a>,
+    lookup: Lookup<'i, '_>,
     file: &[u8],
     content: Option<R>,
-) -> Result<Outcome<'a>, Stop>
+) -> Result<Outcome<'i>, Stop>
     ensures { (stored : Stored) → IsContent R.remaining R.health lookup.entry.name_only stored content
         → LooksUp (plain_lookup lookup.entry) stored file.now result }
 {
