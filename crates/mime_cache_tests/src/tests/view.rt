@@ -2,6 +2,8 @@
 
 mod hits;
 mod learnt;
+mod learnt_names;
+mod many_heads;
 mod parents;
 mod rules;
 mod sniffing;

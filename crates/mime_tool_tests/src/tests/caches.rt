@@ -5,6 +5,7 @@ mod cost;
 mod failing;
 mod faults;
 mod files;
+mod learnt;
 mod output;
 mod sample;
 

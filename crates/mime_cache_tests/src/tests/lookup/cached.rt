@@ -4,6 +4,7 @@
 mod counts;
 mod cut;
 mod hostile;
+mod learnt;
 mod many;
 mod name_alone;
 mod names;

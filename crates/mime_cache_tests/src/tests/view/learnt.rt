@@ -93,6 +93,18 @@ fn sniff_both(
         return Ok(false);
     };
     let learnt = Cache::open_learnt(&heads, &mut Meter::new())?;
+    sniff_alike(rt, &walked, &learnt, content, budget);
+    Ok(true)
+}
+
+/// A content is sniffed alike by two readers of one cache, with such a budget.
+pub fn sniff_alike(
+    rt: &impl Abort,
+    walked: &Cache<'_>,
+    learnt: &Cache<'_>,
+    content: &[u8],
+    budget: Budget,
+) {
     let (mut meter, mut left) = (Meter::new(), budget);
     let found = walked.sniff(content, Host::Little, &mut meter, &mut left);
     let (mut other_meter, mut other_left) = (Meter::new(), budget);
@@ -100,7 +112,6 @@ fn sniff_both(
     alike(rt, "found", other, found);
     alike(rt, "counted", other_meter, meter);
     alike(rt, "left", other_left, left);
-    Ok(true)
 }
 
 /// Sniffs each content both ways with such a budget, and says whether something was learnt.
@@ -167,6 +178,19 @@ fn damaged_caches(rt: HostRuntime) -> Result<(), CacheFault> {
     for &number in &[0, 1, 2, 40, 300, 1_000, u32::MAX] {
         for place in 10..146 {
             let bytes = changed(MADE, 4 * place, number);
+            sniff_all(&rt, rt.alloc(), &bytes, PLENTY)?;
+        }
+    }
+    Ok(())
+}
+
+/// The mask of the third section's line keeps the first byte, lies at the end of the cache or ends after it.
+#[test]
+fn masks_of_a_first_byte(rt: HostRuntime) -> Result<(), CacheFault> {
+    let whole = changed(MADE, 576, 0xff21_5556);
+    for &number in &[0, 1, 576, 582, 583, 584, u32::MAX] {
+        for place in 77..85 {
+            let bytes = changed(whole, 4 * place, number);
             sniff_all(&rt, rt.alloc(), &bytes, PLENTY)?;
         }
     }

@@ -4,6 +4,7 @@ use crate::tests::ran::{alike, ran};
 use crate::{Entry, Shelf};
 use mime_base::Database;
 use mime_store::write_cache;
+use mime_text::read_globs2;
 use std::alloc::Global;
 use std::process::Abort;
 use std::test::Fail;
@@ -88,5 +89,42 @@ fn tells_the_cost(rt: HostRuntime) -> Result<(), Fail> {
     for row in &ROWS {
         prints(&rt, rt.alloc(), &cache, row);
     }
+    Ok(())
+}
+
+/// Names that one or both of two rules match, and others.
+static NAMES: [&str; 12] = [
+    "m", "mx", "ax", "a", "M", "mk", "xx", "b", "axe", "MX", "AX", "c",
+];
+
+/// The cache of two rules that stand in the glob list.
+fn of_general_rules(alloc: Global) -> Result<Vec<u8>, Fail> {
+    let file = read_globs2(alloc, b"50:t/m:m*\n60:t/x:?x*:cs\n")?;
+    let database = Database::of_rules(alloc, file.rules);
+    Ok(write_cache(alloc, &database, usize::MAX)?)
+}
+
+/// Of many names the last are looked up by what was learnt of the cache: each has the line that it has in a run of its own.
+#[test]
+fn many_names_cost_alike(rt: HostRuntime) -> Result<(), Fail> {
+    let alloc = rt.alloc();
+    let cache = of_general_rules(alloc)?;
+    let entries = [("/c", Entry::Bytes(&cache))];
+    let mut files = Shelf { entries: &entries };
+    let (mut apart, mut out, mut err) = (Vec::new(alloc), Vec::new(alloc), Vec::new(alloc));
+    let mut words = Vec::new(alloc);
+    for word in ["type", "-c", "/c", "--name-only", "--cost"] {
+        words.push(word)?;
+    }
+    for &name in &NAMES {
+        let alone = ["type", "-c", "/c", "--name-only", "--cost", name];
+        let status = ran(alloc, &alone, &mut files, &mut apart, &mut err);
+        alike(&rt, "status", status, 0);
+        words.push(name)?;
+    }
+    let status = ran(alloc, &words, &mut files, &mut out, &mut err);
+    alike(&rt, "status", status, 0);
+    alike(&rt, "said", err.as_slice(), b"");
+    alike(&rt, "printed", out.as_slice(), apart.as_slice());
     Ok(())
 }
