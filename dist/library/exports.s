@@ -2568,7 +2568,7 @@ mimelook_hits:
 	pushq	%r13
 	pushq	%r12
 	pushq	%rbx
-	subq	$440, %rsp
+	subq	$456, %rsp
 	movq	%rdi, %rax
 	xorl	%r10d, %r10d
 	testq	%rsi, %rsi
@@ -2650,22 +2650,25 @@ mimelook_hits:
 	bswapl	%eax
 	movdqu	4(%rsi), %xmm2
 	pshufb	%xmm1, %xmm2
-	movq	%rsi, 368(%rsp)
-	movq	%rdx, 376(%rsp)
-	movl	%r10d, 384(%rsp)
-	movdqu	%xmm2, 388(%rsp)
-	movdqu	%xmm0, 404(%rsp)
-	movl	%eax, 420(%rsp)
+	movq	%rsi, 384(%rsp)
+	movq	%rdx, 392(%rsp)
+	movl	%r10d, 400(%rsp)
+	movdqu	%xmm2, 404(%rsp)
+	movdqu	%xmm0, 420(%rsp)
+	movl	%eax, 436(%rsp)
+	pxor	%xmm1, %xmm1
+	movdqu	%xmm1, 440(%rsp)
+	movq	$2, 360(%rsp)
 	movq	%rdx, %rax
 	shrq	$2, %rax
-	pxor	%xmm1, %xmm1
-	movdqu	%xmm1, 424(%rsp)
-	movq	$2, 312(%rsp)
-	leaq	368(%rsp), %rsi
-	movq	%rsi, 288(%rsp)
-	movq	%rcx, 296(%rsp)
+	leaq	384(%rsp), %rsi
+	movq	%rsi, 336(%rsp)
+	movq	%rcx, 344(%rsp)
+	movq	%r8, 352(%rsp)
+	leaq	24(%rsp), %r12
+	movq	%r12, 368(%rsp)
 	pextrq	$1, %xmm2, 224(%rsp)
-	movq	%r8, 304(%rsp)
+	movq	$0, 376(%rsp)
 	movd	%xmm0, 232(%rsp)
 	movdqu	%xmm1, 144(%rsp)
 	movdqa	%xmm1, 32(%rsp)
@@ -2678,7 +2681,7 @@ mimelook_hits:
 	movq	%rax, 208(%rsp)
 	movq	%rdx, 216(%rsp)
 	leaq	32(%rsp), %rdi
-	leaq	288(%rsp), %rsi
+	leaq	336(%rsp), %rsi
 	leaq	224(%rsp), %rdx
 	leaq	136(%rsp), %rcx
 	callq	"mime_view::name::gather_hits"
@@ -2712,20 +2715,20 @@ mimelook_hits:
 	movzbl	144(%rsp), %eax
 	movups	(%r14), %xmm0
 	movups	16(%r14), %xmm1
-	movaps	%xmm0, 320(%rsp)
-	movaps	%xmm1, 336(%rsp)
+	movaps	%xmm0, 288(%rsp)
+	movaps	%xmm1, 304(%rsp)
 	movq	32(%r14), %rcx
-	movq	%rcx, 352(%rsp)
+	movq	%rcx, 320(%rsp)
 	cmpb	$0, 136(%rsp)
 	je	24f
 	xorps	%xmm0, %xmm0
 	movaps	%xmm0, 224(%rsp)
 	movq	$0, 240(%rsp)
-	movdqa	320(%rsp), %xmm0
-	movdqa	336(%rsp), %xmm1
+	movdqa	288(%rsp), %xmm0
+	movdqa	304(%rsp), %xmm1
 	movdqu	%xmm0, 144(%rsp)
 	movdqu	%xmm1, 160(%rsp)
-	movq	352(%rsp), %rcx
+	movq	320(%rsp), %rcx
 	movq	%rcx, 176(%rsp)
 	movq	%rax, 136(%rsp)
 	leaq	224(%rsp), %rdi
@@ -2798,18 +2801,17 @@ mimelook_hits:
 	jmp	25f
 14:
 	movq	%r15, 16(%rsp)
-	leaq	24(%rsp), %r15
-	movl	%r15d, %r13d
-	shrl	$16, %r13d
-	movq	%r15, %r9
+	movl	%r12d, %r15d
+	shrl	$16, %r15d
+	movq	%r12, %r9
 	shrq	$32, %r9
-	movq	%r15, %rdi
+	movq	%r12, %rdi
 	shrq	$48, %rdi
 	movb	$1, 56(%rsp)
 	xorl	%r14d, %r14d
 	xorl	%r8d, %r8d
 	movq	64(%rsp), %rcx
-	movq	496(%rsp), %r12
+	movq	512(%rsp), %r13
 	cmpb	$1, %dl
 	jne	16f
 15:
@@ -2826,26 +2828,27 @@ mimelook_hits:
 	movq	64(%rsp), %rcx
 	movq	8(%rsp), %rax
 16:
-	movq	504(%rsp), %rdx
-	movzwl	%r15w, %esi
-	shll	$16, %r13d
-	orq	%rsi, %r13
+	movq	520(%rsp), %rdx
+	movzwl	%r12w, %esi
+	shll	$16, %r15d
+	orq	%rsi, %r15
 	movzwl	%r9w, %esi
 	shlq	$32, %rsi
-	orq	%r13, %rsi
+	orq	%r15, %rsi
 	movzwl	%di, %edi
 	shlq	$48, %rdi
 	orq	%rsi, %rdi
-	cmpq	%r8, %r12
-	cmovaeq	%r8, %r12
-	testq	%r12, %r12
+	cmpq	%r8, %r13
+	cmovaeq	%r8, %r13
+	testq	%r13, %r13
 	movq	16(%rsp), %r15
-	movl	$0, %r13d
 	je	22f
-	movb	%bl, %r13b
-	shll	$12, %r13d
-	cmpq	$1, %r12
+	xorl	%esi, %esi
+	movb	%bl, %sil
+	shll	$12, %esi
+	cmpq	$1, %r13
 	jne	19f
+	movq	%rsi, %r12
 	xorl	%esi, %esi
 	jmp	21f
 17:
@@ -2881,10 +2884,11 @@ mimelook_hits:
 19:
 	movq	%r8, %rdx
 	movq	%rbp, %r15
-	movq	%r12, %r8
+	movq	%r13, %r8
 	andq	$-2, %r8
 	leaq	41(%rdi), %r9
-	leaq	(%rcx,%r13), %r10
+	movq	%rsi, %r12
+	leaq	(%rsi,%rcx), %r10
 	addq	$64, %r10
 	xorl	%esi, %esi
 20:
@@ -2917,15 +2921,15 @@ mimelook_hits:
 	addq	$80, %r10
 	cmpq	%r8, %rsi
 	jne	20b
-	testb	$1, %r12b
+	testb	$1, %r13b
 	movq	%r15, %rbp
 	movq	16(%rsp), %r15
 	movq	%rdx, %r8
-	movq	504(%rsp), %rdx
+	movq	520(%rsp), %rdx
 	movq	64(%rsp), %rcx
 	je	22f
 21:
-	addq	%r13, %rcx
+	addq	%r12, %rcx
 	movq	%rdx, %rbx
 	movq	%r8, %rdx
 	leaq	(%rsi,%rsi,2), %r8
@@ -2993,10 +2997,10 @@ mimelook_hits:
 	movq	%r12, 248(%rsp)
 27:
 	movl	4(%r13,%r11,8), %r12d
-	movq	376(%rsp), %rbp
+	movq	392(%rsp), %rbp
 	subq	%r12, %rbp
 	jbe	37f
-	movq	368(%rsp), %rsi
+	movq	384(%rsp), %rsi
 	addq	%r12, %rsi
 	cmpq	$32, %rbp
 	movq	%rsi, 56(%rsp)
@@ -3115,8 +3119,8 @@ mimelook_hits:
 	jmp	40f
 38:
 	movq	%r15, 16(%rsp)
-	movzwl	32(%rsp), %r15d
-	movzwl	34(%rsp), %r13d
+	movzwl	32(%rsp), %r12d
+	movzwl	34(%rsp), %r15d
 	movzwl	36(%rsp), %r9d
 	movzwl	38(%rsp), %edi
 	movzbl	136(%rsp), %edx
@@ -3124,7 +3128,7 @@ mimelook_hits:
 	sete	56(%rsp)
 	movq	104(%rsp), %rbp
 	movq	64(%rsp), %rcx
-	movq	496(%rsp), %r12
+	movq	512(%rsp), %r13
 	cmpb	$1, %dl
 	je	15b
 	jmp	16b
@@ -3222,7 +3226,7 @@ mimelook_hits:
 	movq	272(%rsp), %rcx
 	movq	%rcx, 56(%rax)
 55:
-	addq	$440, %rsp
+	addq	$456, %rsp
 	popq	%rbx
 	popq	%r12
 	popq	%r13

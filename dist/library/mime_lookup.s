@@ -1743,7 +1743,9 @@
 	movq	$0, 32(%rsp)
 	cmpb	$1, %al
 	jne	8f
-	addq	$16, %rcx
+	cmpb	$1, 16(%rcx)
+	jne	8f
+	addq	$24, %rcx
 	movq	%rsp, %rdi
 	leaq	600(%rsp), %rsi
 	leaq	48(%rsp), %r8
@@ -1757,20 +1759,21 @@
 9:
 	movzbl	8(%rsp), %edi
 	movss	10(%rsp), %xmm0
-	movq	16(%rsp), %rcx
-	movq	24(%rsp), %rdx
+	movq	16(%rsp), %rax
+	movq	24(%rsp), %rcx
 	movl	32(%rsp), %esi
 	cmpb	$0, (%rsp)
 	movaps	48(%rsp), %xmm1
 	movups	%xmm1, (%r14)
 	movups	(%rbp), %xmm1
-	movq	40(%rsp), %rax
-	movups	%xmm1, (%rax)
+	movq	40(%rsp), %rdx
+	movups	%xmm1, (%rdx)
 	je	12f
+	movzbl	%dil, %ecx
 	movq	$1, (%rbx)
-	movw	%di, 8(%rbx)
+	movw	%cx, 8(%rbx)
 	movss	%xmm0, 10(%rbx)
-	movq	%rcx, 16(%rbx)
+	movq	%rax, 16(%rbx)
 	movq	$0, 24(%rbx)
 10:
 	movl	$0, 32(%rbx)
@@ -1784,10 +1787,10 @@
 	popq	%rbp
 	retq
 12:
-	xorl	%eax, %eax
+	xorl	%edx, %edx
 	cmpb	$1, %dil
 	je	17f
-	movw	$1, %ax
+	movw	$1, %dx
 	testq	%r13, %r13
 	je	16f
 	cmpq	$128, %r13
@@ -1805,8 +1808,8 @@
 	cmpl	$31, %r9d
 	ja	13b
 	xorl	%esi, %esi
-	movl	$24, %edx
-	leaq	.L67248b46a1a0(%rip), %rcx
+	movl	$24, %ecx
+	leaq	.L67248b46a1a0(%rip), %rax
 	cmpl	$13, %r9d
 	ja	17f
 	movl	$9728, %r10d
@@ -1815,19 +1818,19 @@
 	jmp	17f
 15:
 	xorl	%esi, %esi
-	movl	$10, %edx
-	leaq	.Laafe98300121(%rip), %rcx
+	movl	$10, %ecx
+	leaq	.Laafe98300121(%rip), %rax
 	jmp	17f
 16:
-	movl	$22, %edx
-	leaq	.L74bbd0aeee0d(%rip), %rcx
+	movl	$22, %ecx
+	leaq	.L74bbd0aeee0d(%rip), %rax
 	xorl	%esi, %esi
 17:
 	movq	$0, (%rbx)
-	movw	%ax, 8(%rbx)
+	movw	%dx, 8(%rbx)
 	movl	$0, 10(%rbx)
-	movq	%rcx, 16(%rbx)
-	movq	%rdx, 24(%rbx)
+	movq	%rax, 16(%rbx)
+	movq	%rcx, 24(%rbx)
 	movl	%esi, 32(%rbx)
 	jmp	11b
 18:

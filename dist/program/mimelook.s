@@ -677,7 +677,7 @@
 	jne	54b
 	movq	%rsi, 144(%rsp)
 	leaq	384(%rsp), %rdi
-	callq	"std_alloc::vec::Vec::grow_amortized::<#e1d7cf8aa0e10052>"
+	callq	"std_alloc::vec::Vec::grow_amortized::<#5891117f51584d69>"
 	testb	%al, %al
 	jne	53b
 	cmpq	$0, 400(%rsp)

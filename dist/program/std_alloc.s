@@ -9090,34 +9090,35 @@
 	.p2align	4
 	.type	"std_alloc::vec::Vec::grow_amortized::<#07da775b90cbd342>",@function
 "std_alloc::vec::Vec::grow_amortized::<#07da775b90cbd342>":
-	movq	8(%rdi), %rsi
-	cmpq	$-1, %rsi
+	movq	8(%rdi), %rax
+	cmpq	$-1, %rax
 	je	2f
 	pushq	%r14
 	pushq	%rbx
 	pushq	%rax
 	movq	16(%rdi), %rcx
-	cmpq	$4, %rsi
+	cmpq	$4, %rax
 	movl	$3, %ebx
-	cmovaeq	%rsi, %rbx
+	cmovaeq	%rax, %rbx
 	incq	%rbx
-	movq	%rcx, %rdx
-	shrq	$62, %rdx
-	leaq	(%rcx,%rcx), %rax
-	cmpq	%rax, %rbx
-	cmovaq	%rbx, %rax
-	testq	%rdx, %rdx
-	cmoveq	%rax, %rbx
-	movq	%rbx, %rdx
-	shrq	$59, %rdx
-	jne	4f
+	movq	%rcx, %rsi
+	shrq	$62, %rsi
+	leaq	(%rcx,%rcx), %rdx
+	cmpq	%rdx, %rbx
+	cmovaq	%rbx, %rdx
+	testq	%rsi, %rsi
+	cmoveq	%rdx, %rbx
+	movabsq	$461168601842738790, %rsi
+	cmpq	%rsi, %rbx
+	ja	4f
 	testq	%rcx, %rcx
 	je	3f
 	movq	%rdi, %r14
 	movq	(%rdi), %rdi
-	shlq	$4, %rsi
-	movq	%rbx, %rdx
-	shlq	$4, %rdx
+	shlq	$2, %rax
+	leaq	(%rax,%rax,4), %rsi
+	leaq	(,%rbx,4), %rax
+	leaq	(%rax,%rax,4), %rdx
 	movl	$4, %ecx
 	callq	rattle_realloc@PLT
 	testb	$1, %al
@@ -9135,9 +9136,9 @@
 	retq
 3:
 	movq	%rdi, %r14
-	shlq	$4, %rax
+	shlq	$2, %rdx
+	leaq	(%rdx,%rdx,4), %rdi
 	movl	$4, %esi
-	movq	%rax, %rdi
 	callq	rattle_alloc@PLT
 	testb	$1, %al
 	jne	1b
@@ -9535,69 +9536,6 @@
 
 	.section	.text.unlikely,"ax",@progbits
 	.p2align	4
-	.type	"std_alloc::vec::Vec::grow_amortized::<#383af2bc39eacab1>",@function
-"std_alloc::vec::Vec::grow_amortized::<#383af2bc39eacab1>":
-	movq	8(%rdi), %rsi
-	cmpq	$-1, %rsi
-	je	2f
-	pushq	%r14
-	pushq	%rbx
-	pushq	%rax
-	movq	16(%rdi), %rcx
-	cmpq	$4, %rsi
-	movl	$3, %ebx
-	cmovaeq	%rsi, %rbx
-	incq	%rbx
-	movq	%rcx, %rdx
-	shrq	$62, %rdx
-	leaq	(%rcx,%rcx), %rax
-	cmpq	%rax, %rbx
-	cmovaq	%rbx, %rax
-	testq	%rdx, %rdx
-	cmoveq	%rax, %rbx
-	movq	%rbx, %rdx
-	shrq	$60, %rdx
-	jne	4f
-	testq	%rcx, %rcx
-	je	3f
-	movq	%rdi, %r14
-	movq	(%rdi), %rdi
-	shlq	$3, %rsi
-	leaq	(,%rbx,8), %rdx
-	movl	$8, %ecx
-	callq	rattle_realloc@PLT
-	testb	$1, %al
-	je	4f
-1:
-	movq	%rdx, (%r14)
-	movq	%rbx, 16(%r14)
-	movb	$1, %al
-	addq	$8, %rsp
-	popq	%rbx
-	popq	%r14
-	retq
-2:
-	xorl	%eax, %eax
-	retq
-3:
-	movq	%rdi, %r14
-	shlq	$3, %rax
-	movl	$8, %esi
-	movq	%rax, %rdi
-	callq	rattle_alloc@PLT
-	testb	$1, %al
-	jne	1b
-4:
-	xorl	%eax, %eax
-	addq	$8, %rsp
-	popq	%rbx
-	popq	%r14
-	retq
-5:
-	.size	"std_alloc::vec::Vec::grow_amortized::<#383af2bc39eacab1>", 5b-"std_alloc::vec::Vec::grow_amortized::<#383af2bc39eacab1>"
-
-	.section	.text.unlikely,"ax",@progbits
-	.p2align	4
 	.type	"std_alloc::vec::Vec::grow_amortized::<#3af3ba23e56e6a09>",@function
 "std_alloc::vec::Vec::grow_amortized::<#3af3ba23e56e6a09>":
 	movq	%rsi, %rax
@@ -9721,6 +9659,69 @@
 	retq
 5:
 	.size	"std_alloc::vec::Vec::grow_amortized::<#3b6d026ce996fc29>", 5b-"std_alloc::vec::Vec::grow_amortized::<#3b6d026ce996fc29>"
+
+	.section	.text.unlikely,"ax",@progbits
+	.p2align	4
+	.type	"std_alloc::vec::Vec::grow_amortized::<#3e74848cb5369e83>",@function
+"std_alloc::vec::Vec::grow_amortized::<#3e74848cb5369e83>":
+	movq	8(%rdi), %rsi
+	cmpq	$-1, %rsi
+	je	2f
+	pushq	%r14
+	pushq	%rbx
+	pushq	%rax
+	movq	16(%rdi), %rcx
+	cmpq	$4, %rsi
+	movl	$3, %ebx
+	cmovaeq	%rsi, %rbx
+	incq	%rbx
+	movq	%rcx, %rdx
+	shrq	$62, %rdx
+	leaq	(%rcx,%rcx), %rax
+	cmpq	%rax, %rbx
+	cmovaq	%rbx, %rax
+	testq	%rdx, %rdx
+	cmoveq	%rax, %rbx
+	movq	%rbx, %rdx
+	shrq	$60, %rdx
+	jne	4f
+	testq	%rcx, %rcx
+	je	3f
+	movq	%rdi, %r14
+	movq	(%rdi), %rdi
+	shlq	$3, %rsi
+	leaq	(,%rbx,8), %rdx
+	movl	$8, %ecx
+	callq	rattle_realloc@PLT
+	testb	$1, %al
+	je	4f
+1:
+	movq	%rdx, (%r14)
+	movq	%rbx, 16(%r14)
+	movb	$1, %al
+	addq	$8, %rsp
+	popq	%rbx
+	popq	%r14
+	retq
+2:
+	xorl	%eax, %eax
+	retq
+3:
+	movq	%rdi, %r14
+	shlq	$3, %rax
+	movl	$8, %esi
+	movq	%rax, %rdi
+	callq	rattle_alloc@PLT
+	testb	$1, %al
+	jne	1b
+4:
+	xorl	%eax, %eax
+	addq	$8, %rsp
+	popq	%rbx
+	popq	%r14
+	retq
+5:
+	.size	"std_alloc::vec::Vec::grow_amortized::<#3e74848cb5369e83>", 5b-"std_alloc::vec::Vec::grow_amortized::<#3e74848cb5369e83>"
 
 	.section	.text.unlikely,"ax",@progbits
 	.p2align	4
@@ -9848,6 +9849,71 @@
 	retq
 5:
 	.size	"std_alloc::vec::Vec::grow_amortized::<#52d1c8244e310953>", 5b-"std_alloc::vec::Vec::grow_amortized::<#52d1c8244e310953>"
+
+	.section	.text.unlikely,"ax",@progbits
+	.p2align	4
+	.type	"std_alloc::vec::Vec::grow_amortized::<#5891117f51584d69>",@function
+"std_alloc::vec::Vec::grow_amortized::<#5891117f51584d69>":
+	movq	8(%rdi), %rax
+	cmpq	$-1, %rax
+	je	2f
+	pushq	%r14
+	pushq	%rbx
+	pushq	%rax
+	movq	16(%rdi), %rcx
+	cmpq	$4, %rax
+	movl	$3, %ebx
+	cmovaeq	%rax, %rbx
+	incq	%rbx
+	movq	%rcx, %rsi
+	shrq	$62, %rsi
+	leaq	(%rcx,%rcx), %rdx
+	cmpq	%rdx, %rbx
+	cmovaq	%rbx, %rdx
+	testq	%rsi, %rsi
+	cmoveq	%rdx, %rbx
+	movabsq	$230584300921369395, %rsi
+	cmpq	%rsi, %rbx
+	ja	4f
+	testq	%rcx, %rcx
+	je	3f
+	movq	%rdi, %r14
+	movq	(%rdi), %rdi
+	shlq	$3, %rax
+	leaq	(%rax,%rax,4), %rsi
+	leaq	(,%rbx,8), %rax
+	leaq	(%rax,%rax,4), %rdx
+	movl	$8, %ecx
+	callq	rattle_realloc@PLT
+	testb	$1, %al
+	je	4f
+1:
+	movq	%rdx, (%r14)
+	movq	%rbx, 16(%r14)
+	movb	$1, %al
+	addq	$8, %rsp
+	popq	%rbx
+	popq	%r14
+	retq
+2:
+	xorl	%eax, %eax
+	retq
+3:
+	movq	%rdi, %r14
+	shlq	$3, %rdx
+	leaq	(%rdx,%rdx,4), %rdi
+	movl	$8, %esi
+	callq	rattle_alloc@PLT
+	testb	$1, %al
+	jne	1b
+4:
+	xorl	%eax, %eax
+	addq	$8, %rsp
+	popq	%rbx
+	popq	%r14
+	retq
+5:
+	.size	"std_alloc::vec::Vec::grow_amortized::<#5891117f51584d69>", 5b-"std_alloc::vec::Vec::grow_amortized::<#5891117f51584d69>"
 
 	.section	.text.unlikely,"ax",@progbits
 	.p2align	4
@@ -10293,69 +10359,6 @@
 	retq
 5:
 	.size	"std_alloc::vec::Vec::grow_amortized::<#9f351709e7e1a03a>", 5b-"std_alloc::vec::Vec::grow_amortized::<#9f351709e7e1a03a>"
-
-	.section	.text.unlikely,"ax",@progbits
-	.p2align	4
-	.type	"std_alloc::vec::Vec::grow_amortized::<#a508210abf573dc6>",@function
-"std_alloc::vec::Vec::grow_amortized::<#a508210abf573dc6>":
-	movq	8(%rdi), %rsi
-	cmpq	$-1, %rsi
-	je	2f
-	pushq	%r14
-	pushq	%rbx
-	pushq	%rax
-	movq	16(%rdi), %rcx
-	cmpq	$4, %rsi
-	movl	$3, %ebx
-	cmovaeq	%rsi, %rbx
-	incq	%rbx
-	movq	%rcx, %rdx
-	shrq	$62, %rdx
-	leaq	(%rcx,%rcx), %rax
-	cmpq	%rax, %rbx
-	cmovaq	%rbx, %rax
-	testq	%rdx, %rdx
-	cmoveq	%rax, %rbx
-	movq	%rbx, %rdx
-	shrq	$60, %rdx
-	jne	4f
-	testq	%rcx, %rcx
-	je	3f
-	movq	%rdi, %r14
-	movq	(%rdi), %rdi
-	shlq	$3, %rsi
-	leaq	(,%rbx,8), %rdx
-	movl	$4, %ecx
-	callq	rattle_realloc@PLT
-	testb	$1, %al
-	je	4f
-1:
-	movq	%rdx, (%r14)
-	movq	%rbx, 16(%r14)
-	movb	$1, %al
-	addq	$8, %rsp
-	popq	%rbx
-	popq	%r14
-	retq
-2:
-	xorl	%eax, %eax
-	retq
-3:
-	movq	%rdi, %r14
-	shlq	$3, %rax
-	movl	$4, %esi
-	movq	%rax, %rdi
-	callq	rattle_alloc@PLT
-	testb	$1, %al
-	jne	1b
-4:
-	xorl	%eax, %eax
-	addq	$8, %rsp
-	popq	%rbx
-	popq	%r14
-	retq
-5:
-	.size	"std_alloc::vec::Vec::grow_amortized::<#a508210abf573dc6>", 5b-"std_alloc::vec::Vec::grow_amortized::<#a508210abf573dc6>"
 
 	.section	.text.unlikely,"ax",@progbits
 	.p2align	4
@@ -10861,71 +10864,6 @@
 	retq
 5:
 	.size	"std_alloc::vec::Vec::grow_amortized::<#db6731f0a815ca15>", 5b-"std_alloc::vec::Vec::grow_amortized::<#db6731f0a815ca15>"
-
-	.section	.text.unlikely,"ax",@progbits
-	.p2align	4
-	.type	"std_alloc::vec::Vec::grow_amortized::<#e1d7cf8aa0e10052>",@function
-"std_alloc::vec::Vec::grow_amortized::<#e1d7cf8aa0e10052>":
-	movq	8(%rdi), %rax
-	cmpq	$-1, %rax
-	je	2f
-	pushq	%r14
-	pushq	%rbx
-	pushq	%rax
-	movq	16(%rdi), %rcx
-	cmpq	$4, %rax
-	movl	$3, %ebx
-	cmovaeq	%rax, %rbx
-	incq	%rbx
-	movq	%rcx, %rsi
-	shrq	$62, %rsi
-	leaq	(%rcx,%rcx), %rdx
-	cmpq	%rdx, %rbx
-	cmovaq	%rbx, %rdx
-	testq	%rsi, %rsi
-	cmoveq	%rdx, %rbx
-	movabsq	$230584300921369395, %rsi
-	cmpq	%rsi, %rbx
-	ja	4f
-	testq	%rcx, %rcx
-	je	3f
-	movq	%rdi, %r14
-	movq	(%rdi), %rdi
-	shlq	$3, %rax
-	leaq	(%rax,%rax,4), %rsi
-	leaq	(,%rbx,8), %rax
-	leaq	(%rax,%rax,4), %rdx
-	movl	$8, %ecx
-	callq	rattle_realloc@PLT
-	testb	$1, %al
-	je	4f
-1:
-	movq	%rdx, (%r14)
-	movq	%rbx, 16(%r14)
-	movb	$1, %al
-	addq	$8, %rsp
-	popq	%rbx
-	popq	%r14
-	retq
-2:
-	xorl	%eax, %eax
-	retq
-3:
-	movq	%rdi, %r14
-	shlq	$3, %rdx
-	leaq	(%rdx,%rdx,4), %rdi
-	movl	$8, %esi
-	callq	rattle_alloc@PLT
-	testb	$1, %al
-	jne	1b
-4:
-	xorl	%eax, %eax
-	addq	$8, %rsp
-	popq	%rbx
-	popq	%r14
-	retq
-5:
-	.size	"std_alloc::vec::Vec::grow_amortized::<#e1d7cf8aa0e10052>", 5b-"std_alloc::vec::Vec::grow_amortized::<#e1d7cf8aa0e10052>"
 
 	.section	.text.unlikely,"ax",@progbits
 	.p2align	4

@@ -167,6 +167,357 @@
 
 	.text
 	.p2align	4
+	.type	"std_collections::btree::node::Node::destroy::<#3595b6039920087b>",@function
+"std_collections::btree::node::Node::destroy::<#3595b6039920087b>":
+	pushq	%rbp
+	pushq	%r15
+	pushq	%r14
+	pushq	%r13
+	pushq	%r12
+	pushq	%rbx
+	subq	$88, %rsp
+	movq	%rdi, %rbx
+	movzwl	(%rdi), %r15d
+	movzwl	2(%rdi), %eax
+	xorl	%ecx, %ecx
+	testw	%ax, %ax
+	setne	%cl
+	leaq	1(%r15), %r13
+	shll	$4, %ecx
+	leaq	368(%rdi), %r12
+	leaq	248(%rdi), %rsi
+	addq	$8, %rdi
+	xorl	%edx, %edx
+	testw	%ax, %ax
+	cmovneq	%r13, %rdx
+	movq	%rdi, 8(%rsp)
+	movq	%r15, 16(%rsp)
+	movq	$15, 24(%rsp)
+	movq	%rsi, 32(%rsp)
+	movq	%r15, 40(%rsp)
+	movq	$15, 48(%rsp)
+	movq	%r12, 56(%rsp)
+	movq	%rdx, 64(%rsp)
+	movq	%rcx, 72(%rsp)
+	movq	%rbx, 80(%rsp)
+	je	35f
+	testq	%r15, %r15
+	jne	7f
+	movq	(%r12), %r14
+	cmpq	$257, %r15
+	jb	34f
+1:
+	leaq	424(%rbx), %rcx
+	xorl	%eax, %eax
+	.p2align	4
+2:
+	xorl	%edx, %edx
+	.p2align	4
+3:
+	movups	-48(%rcx,%rdx,8), %xmm0
+	movups	-32(%rcx,%rdx,8), %xmm1
+	movups	-16(%rcx,%rdx,8), %xmm2
+	movups	(%rcx,%rdx,8), %xmm3
+	movups	%xmm0, -56(%rcx,%rdx,8)
+	movups	%xmm1, -40(%rcx,%rdx,8)
+	movups	%xmm2, -24(%rcx,%rdx,8)
+	movups	%xmm3, -8(%rcx,%rdx,8)
+	addq	$8, %rdx
+	cmpq	$256, %rdx
+	jne	3b
+	addq	$256, %rax
+	movq	%r15, %rdx
+	subq	%rax, %rdx
+	addq	$2048, %rcx
+	cmpq	$256, %rdx
+	ja	2b
+	cmpq	%rax, %r15
+	je	5f
+4:
+	leaq	(%r12,%rax,8), %rdi
+	leaq	(%r12,%rax,8), %rsi
+	addq	$8, %rsi
+	shlq	$3, %rdx
+	callq	memmove@PLT
+5:
+	movq	%r14, %rdi
+	callq	"std_collections::btree::node::Node::destroy::<#3595b6039920087b>"
+	jmp	36f
+	.p2align	4
+6:
+	testq	%r15, %r15
+	je	33f
+7:
+	movq	%r13, %rbp
+	movq	(%r12), %r14
+	decq	%r13
+	xorl	%eax, %eax
+	cmpq	$257, %r13
+	jb	14f
+	leaq	424(%rbx), %rcx
+	.p2align	4
+8:
+	xorl	%edx, %edx
+	.p2align	4
+9:
+	movups	-48(%rcx,%rdx,8), %xmm0
+	movups	-32(%rcx,%rdx,8), %xmm1
+	movups	-16(%rcx,%rdx,8), %xmm2
+	movups	(%rcx,%rdx,8), %xmm3
+	movups	%xmm0, -56(%rcx,%rdx,8)
+	movups	%xmm1, -40(%rcx,%rdx,8)
+	movups	%xmm2, -24(%rcx,%rdx,8)
+	movups	%xmm3, -8(%rcx,%rdx,8)
+	addq	$8, %rdx
+	cmpq	$256, %rdx
+	jne	9b
+	addq	$256, %rax
+	movq	%r13, %rdx
+	subq	%rax, %rdx
+	addq	$2048, %rcx
+	cmpq	$256, %rdx
+	ja	8b
+	cmpq	%rax, %r13
+	je	11f
+10:
+	leaq	(%r12,%rax,8), %rdi
+	leaq	(%r12,%rax,8), %rsi
+	addq	$8, %rsi
+	shlq	$3, %rdx
+	callq	memmove@PLT
+11:
+	movq	%r14, %rdi
+	callq	"std_collections::btree::node::Node::destroy::<#3595b6039920087b>"
+	decq	%r15
+	cmpq	$129, %r15
+	jb	15f
+	xorl	%ecx, %ecx
+	leaq	72(%rbx), %rax
+	.p2align	4
+12:
+	xorl	%edx, %edx
+	.p2align	4
+13:
+	movups	-48(%rax,%rdx), %xmm0
+	movups	-32(%rax,%rdx), %xmm1
+	movups	-16(%rax,%rdx), %xmm2
+	movups	(%rax,%rdx), %xmm3
+	movups	%xmm0, -64(%rax,%rdx)
+	movups	%xmm1, -48(%rax,%rdx)
+	movups	%xmm2, -32(%rax,%rdx)
+	movups	%xmm3, -16(%rax,%rdx)
+	addq	$64, %rdx
+	cmpq	$2048, %rdx
+	jne	13b
+	subq	$-128, %rcx
+	movq	%r15, %rsi
+	subq	%rcx, %rsi
+	addq	$2048, %rax
+	cmpq	$128, %rsi
+	ja	12b
+	movq	%rcx, %rax
+	shlq	$4, %rax
+	leaq	8(%rbx), %rdx
+	addq	%rax, %rdx
+	cmpq	%rcx, %r15
+	jne	16f
+	jmp	21f
+	.p2align	4
+14:
+	movq	%r13, %rdx
+	cmpq	%rax, %r13
+	jne	10b
+	jmp	11b
+	.p2align	4
+15:
+	xorl	%eax, %eax
+	leaq	8(%rbx), %rdx
+	movq	%r15, %rsi
+	xorl	%ecx, %ecx
+	cmpq	%rcx, %r15
+	je	21f
+16:
+	leaq	-1(%rsi), %rdi
+	movl	%esi, %ecx
+	andl	$3, %ecx
+	cmpq	$3, %rdi
+	jae	17f
+	xorl	%edi, %edi
+	jmp	19f
+	.p2align	4
+17:
+	andl	$252, %esi
+	leaq	56(%rbx), %rdi
+	leaq	(%rdi,%rax), %r8
+	leaq	64(%rdx), %r9
+	xorl	%edi, %edi
+	xorl	%r10d, %r10d
+	.p2align	4
+18:
+	movups	-48(%r9,%r10), %xmm0
+	movups	%xmm0, -48(%r8,%r10)
+	movups	-32(%r9,%r10), %xmm0
+	movups	%xmm0, -32(%r8,%r10)
+	movups	-16(%r9,%r10), %xmm0
+	movups	%xmm0, -16(%r8,%r10)
+	movups	(%r9,%r10), %xmm0
+	movups	%xmm0, (%r8,%r10)
+	addq	$4, %rdi
+	addq	$64, %r10
+	cmpq	%rdi, %rsi
+	jne	18b
+	testq	%rcx, %rcx
+	je	21f
+19:
+	shlq	$4, %rdi
+	addq	%rdi, %rdx
+	addq	$16, %rdx
+	leaq	8(%rbx), %rsi
+	addq	%rsi, %rax
+	addq	%rdi, %rax
+	shll	$4, %ecx
+	xorl	%esi, %esi
+	.p2align	4
+20:
+	movups	(%rdx,%rsi), %xmm0
+	movups	%xmm0, (%rax,%rsi)
+	addq	$16, %rsi
+	cmpq	%rsi, %rcx
+	jne	20b
+21:
+	cmpq	$257, %r15
+	jb	24f
+	xorl	%esi, %esi
+	leaq	304(%rbx), %rcx
+	.p2align	4
+22:
+	xorl	%eax, %eax
+	.p2align	4
+23:
+	movups	-48(%rcx,%rax,8), %xmm0
+	movups	-32(%rcx,%rax,8), %xmm1
+	movups	-16(%rcx,%rax,8), %xmm2
+	movups	(%rcx,%rax,8), %xmm3
+	movups	%xmm0, -56(%rcx,%rax,8)
+	movups	%xmm1, -40(%rcx,%rax,8)
+	movups	%xmm2, -24(%rcx,%rax,8)
+	movups	%xmm3, -8(%rcx,%rax,8)
+	addq	$8, %rax
+	cmpq	$256, %rax
+	jne	23b
+	addq	$256, %rsi
+	movq	%r15, %rax
+	subq	%rsi, %rax
+	addq	$2048, %rcx
+	cmpq	$256, %rax
+	ja	22b
+	leaq	(,%rsi,8), %rcx
+	leaq	248(%rbx), %rdx
+	leaq	(%rdx,%rsi,8), %rdx
+	cmpq	%rsi, %r15
+	je	6b
+	jmp	25f
+	.p2align	4
+24:
+	xorl	%ecx, %ecx
+	leaq	248(%rbx), %rdx
+	movq	%r15, %rax
+	xorl	%esi, %esi
+	cmpq	%rsi, %r15
+	je	6b
+25:
+	cmpq	$4, %rax
+	jb	26f
+	leaq	240(%rbx), %rsi
+	addq	%rcx, %rsi
+	subq	%rdx, %rsi
+	cmpq	$32, %rsi
+	jae	31f
+26:
+	xorl	%esi, %esi
+27:
+	movq	%rax, %r8
+	movq	%rsi, %rdi
+	andq	$3, %r8
+	je	29f
+	leaq	248(%rbx), %rdi
+	leaq	(%rdi,%rcx), %r9
+	movq	%rsi, %rdi
+	.p2align	4
+28:
+	movq	8(%rdx,%rdi,8), %r10
+	movq	%r10, (%r9,%rdi,8)
+	incq	%rdi
+	decq	%r8
+	jne	28b
+29:
+	subq	%rax, %rsi
+	cmpq	$-4, %rsi
+	ja	6b
+	leaq	272(%rbx), %rsi
+	addq	%rsi, %rcx
+	.p2align	4
+30:
+	movq	8(%rdx,%rdi,8), %rsi
+	movq	%rsi, -24(%rcx,%rdi,8)
+	movq	16(%rdx,%rdi,8), %rsi
+	movq	%rsi, -16(%rcx,%rdi,8)
+	movq	24(%rdx,%rdi,8), %rsi
+	movq	%rsi, -8(%rcx,%rdi,8)
+	movq	32(%rdx,%rdi,8), %rsi
+	movq	%rsi, (%rcx,%rdi,8)
+	addq	$4, %rdi
+	cmpq	%rdi, %rax
+	jne	30b
+	jmp	6b
+31:
+	movl	%eax, %esi
+	andl	$508, %esi
+	leaq	264(%rbx), %rdi
+	addq	%rcx, %rdi
+	xorl	%r8d, %r8d
+	.p2align	4
+32:
+	movups	8(%rdx,%r8,8), %xmm0
+	movups	24(%rdx,%r8,8), %xmm1
+	movups	%xmm0, -16(%rdi,%r8,8)
+	movups	%xmm1, (%rdi,%r8,8)
+	addq	$4, %r8
+	cmpq	%r8, %rsi
+	jne	32b
+	cmpq	%rsi, %rax
+	je	6b
+	jmp	27b
+33:
+	addq	$-2, %rbp
+	movq	%rbp, %r15
+	movq	(%r12), %r14
+	cmpq	$257, %r15
+	jae	1b
+34:
+	xorl	%eax, %eax
+	movq	%r15, %rdx
+	cmpq	%rax, %r15
+	jne	4b
+	jmp	5b
+35:
+	leaq	8(%rsp), %rdi
+	callq	"std_collections::btree::row::Row::reverse::<3'&[](*,i64,),i64>"
+36:
+	movq	%rbx, %rdi
+	addq	$88, %rsp
+	popq	%rbx
+	popq	%r12
+	popq	%r13
+	popq	%r14
+	popq	%r15
+	popq	%rbp
+	jmp	rattle_dealloc@PLT
+37:
+	.size	"std_collections::btree::node::Node::destroy::<#3595b6039920087b>", 37b-"std_collections::btree::node::Node::destroy::<#3595b6039920087b>"
+
+	.text
+	.p2align	4
 	.type	"std_collections::btree::node::Node::destroy::<#45aa1b6c98681d8c>",@function
 "std_collections::btree::node::Node::destroy::<#45aa1b6c98681d8c>":
 	pushq	%r15
@@ -3079,6 +3430,434 @@
 	jmp	rattle_dealloc@PLT
 50:
 	.size	"std_collections::btree::node::Node::destroy::<#f262a4084ccbf4f6>", 50b-"std_collections::btree::node::Node::destroy::<#f262a4084ccbf4f6>"
+
+	.text
+	.p2align	4
+	.type	"std_collections::btree::row::Row::reverse::<3'&[](*,i64,),i64>",@function
+"std_collections::btree::row::Row::reverse::<3'&[](*,i64,),i64>":
+	pushq	%rbx
+	subq	$16, %rsp
+	movq	%rdi, %rbx
+	movq	(%rdi), %rdi
+	movq	8(%rbx), %rsi
+	cmpq	$15, %rsi
+	jbe	1f
+	movq	%rsi, %rdx
+	shrq	%rdx
+	subq	%rdx, %rsi
+	shlq	$4, %rsi
+	addq	%rdi, %rsi
+	callq	"core::slice::edits::mirror::<26'mime_store::ending::Ending>"
+	jmp	14f
+1:
+	cmpq	$2, %rsi
+	jb	14f
+	leaq	-2(%rsi), %rcx
+	movq	%rcx, %rax
+	shrq	%rax
+	movq	%rsi, %rdx
+	decq	%rdx
+	je	2f
+	shlq	$4, %rdx
+	movups	(%rdi), %xmm0
+	movaps	%xmm0, (%rsp)
+	movups	(%rdi,%rdx), %xmm0
+	movups	%xmm0, (%rdi)
+	movaps	(%rsp), %xmm0
+	movups	%xmm0, (%rdi,%rdx)
+2:
+	testq	%rax, %rax
+	je	14f
+	cmpq	$1, %rcx
+	jbe	3f
+	shlq	$4, %rcx
+	movups	16(%rdi), %xmm0
+	movaps	%xmm0, (%rsp)
+	movups	(%rdi,%rcx), %xmm0
+	movups	%xmm0, 16(%rdi)
+	movaps	(%rsp), %xmm0
+	movups	%xmm0, (%rdi,%rcx)
+	jmp	4f
+3:
+	testq	%rcx, %rcx
+	jne	4f
+	movups	(%rdi), %xmm0
+	movaps	%xmm0, (%rsp)
+	movups	16(%rdi), %xmm0
+	movups	%xmm0, (%rdi)
+	movaps	(%rsp), %xmm0
+	movups	%xmm0, 16(%rdi)
+4:
+	cmpq	$1, %rax
+	je	14f
+	leaq	-3(%rsi), %rcx
+	cmpq	$2, %rcx
+	jbe	5f
+	shlq	$4, %rcx
+	movups	32(%rdi), %xmm0
+	movaps	%xmm0, (%rsp)
+	movups	(%rdi,%rcx), %xmm0
+	movups	%xmm0, 32(%rdi)
+	movaps	(%rsp), %xmm0
+	movups	%xmm0, (%rdi,%rcx)
+	jmp	6f
+5:
+	je	6f
+	shlq	$4, %rcx
+	movups	(%rdi,%rcx), %xmm0
+	movaps	%xmm0, (%rsp)
+	movups	32(%rdi), %xmm0
+	movups	%xmm0, (%rdi,%rcx)
+	movaps	(%rsp), %xmm0
+	movups	%xmm0, 32(%rdi)
+6:
+	cmpq	$2, %rax
+	je	14f
+	leaq	-4(%rsi), %rcx
+	cmpq	$3, %rcx
+	jbe	7f
+	shlq	$4, %rcx
+	movups	48(%rdi), %xmm0
+	movaps	%xmm0, (%rsp)
+	movups	(%rdi,%rcx), %xmm0
+	movups	%xmm0, 48(%rdi)
+	movaps	(%rsp), %xmm0
+	movups	%xmm0, (%rdi,%rcx)
+	jmp	8f
+7:
+	je	8f
+	shlq	$4, %rcx
+	movups	(%rdi,%rcx), %xmm0
+	movaps	%xmm0, (%rsp)
+	movups	48(%rdi), %xmm0
+	movups	%xmm0, (%rdi,%rcx)
+	movaps	(%rsp), %xmm0
+	movups	%xmm0, 48(%rdi)
+8:
+	cmpq	$3, %rax
+	je	14f
+	leaq	-5(%rsi), %rcx
+	cmpq	$4, %rcx
+	jbe	9f
+	shlq	$4, %rcx
+	movups	64(%rdi), %xmm0
+	movaps	%xmm0, (%rsp)
+	movups	(%rdi,%rcx), %xmm0
+	movups	%xmm0, 64(%rdi)
+	movaps	(%rsp), %xmm0
+	movups	%xmm0, (%rdi,%rcx)
+	jmp	10f
+9:
+	je	10f
+	shlq	$4, %rcx
+	movups	(%rdi,%rcx), %xmm0
+	movaps	%xmm0, (%rsp)
+	movups	64(%rdi), %xmm0
+	movups	%xmm0, (%rdi,%rcx)
+	movaps	(%rsp), %xmm0
+	movups	%xmm0, 64(%rdi)
+10:
+	cmpq	$4, %rax
+	je	14f
+	leaq	-6(%rsi), %rcx
+	cmpq	$5, %rcx
+	jbe	11f
+	shlq	$4, %rcx
+	movups	80(%rdi), %xmm0
+	movaps	%xmm0, (%rsp)
+	movups	(%rdi,%rcx), %xmm0
+	movups	%xmm0, 80(%rdi)
+	movaps	(%rsp), %xmm0
+	movups	%xmm0, (%rdi,%rcx)
+	jmp	12f
+11:
+	je	12f
+	shlq	$4, %rcx
+	movups	(%rdi,%rcx), %xmm0
+	movaps	%xmm0, (%rsp)
+	movups	80(%rdi), %xmm0
+	movups	%xmm0, (%rdi,%rcx)
+	movaps	(%rsp), %xmm0
+	movups	%xmm0, 80(%rdi)
+12:
+	cmpq	$5, %rax
+	je	14f
+	addq	$-7, %rsi
+	cmpq	$6, %rsi
+	jbe	13f
+	shlq	$4, %rsi
+	movups	96(%rdi), %xmm0
+	movaps	%xmm0, (%rsp)
+	movups	(%rdi,%rsi), %xmm0
+	movups	%xmm0, 96(%rdi)
+	movaps	(%rsp), %xmm0
+	movups	%xmm0, (%rdi,%rsi)
+	jmp	14f
+13:
+	je	14f
+	shlq	$4, %rsi
+	movups	(%rdi,%rsi), %xmm0
+	movaps	%xmm0, (%rsp)
+	movups	96(%rdi), %xmm0
+	movups	%xmm0, (%rdi,%rsi)
+	movaps	(%rsp), %xmm0
+	movups	%xmm0, 96(%rdi)
+14:
+	movq	24(%rbx), %rdi
+	movq	32(%rbx), %rax
+	cmpq	$15, %rax
+	jbe	15f
+	movq	%rax, %rdx
+	shrq	%rdx
+	subq	%rdx, %rax
+	leaq	(%rdi,%rax,8), %rsi
+	addq	$16, %rsp
+	popq	%rbx
+	jmp	"core::slice::edits::mirror::<*>"
+15:
+	cmpq	$2, %rax
+	jb	28f
+	leaq	-2(%rax), %rdx
+	movq	%rdx, %rcx
+	shrq	%rcx
+	cmpq	$1, %rax
+	je	16f
+	movq	(%rdi), %rsi
+	movq	-8(%rdi,%rax,8), %r8
+	movq	%r8, (%rdi)
+	movq	%rsi, -8(%rdi,%rax,8)
+16:
+	testq	%rcx, %rcx
+	je	28f
+	cmpq	$1, %rdx
+	jbe	17f
+	movq	8(%rdi), %rdx
+	movq	-16(%rdi,%rax,8), %rsi
+	movq	%rsi, 8(%rdi)
+	movq	%rdx, -16(%rdi,%rax,8)
+	jmp	18f
+17:
+	testq	%rdx, %rdx
+	jne	18f
+	movq	(%rdi), %rdx
+	movq	8(%rdi), %rsi
+	movq	%rsi, (%rdi)
+	movq	%rdx, 8(%rdi)
+18:
+	cmpq	$1, %rcx
+	je	28f
+	leaq	-3(%rax), %rdx
+	cmpq	$2, %rdx
+	jbe	19f
+	movq	16(%rdi), %rdx
+	movq	-24(%rdi,%rax,8), %rsi
+	movq	%rsi, 16(%rdi)
+	movq	%rdx, -24(%rdi,%rax,8)
+	jmp	20f
+19:
+	je	20f
+	movq	-24(%rdi,%rax,8), %rdx
+	movq	16(%rdi), %rsi
+	movq	%rsi, -24(%rdi,%rax,8)
+	movq	%rdx, 16(%rdi)
+20:
+	cmpq	$2, %rcx
+	je	28f
+	leaq	-4(%rax), %rdx
+	cmpq	$3, %rdx
+	jbe	21f
+	movq	24(%rdi), %rdx
+	movq	-32(%rdi,%rax,8), %rsi
+	movq	%rsi, 24(%rdi)
+	movq	%rdx, -32(%rdi,%rax,8)
+	jmp	22f
+21:
+	je	22f
+	movq	-32(%rdi,%rax,8), %rdx
+	movq	24(%rdi), %rsi
+	movq	%rsi, -32(%rdi,%rax,8)
+	movq	%rdx, 24(%rdi)
+22:
+	cmpq	$3, %rcx
+	je	28f
+	leaq	-5(%rax), %rdx
+	cmpq	$4, %rdx
+	jbe	23f
+	movq	32(%rdi), %rdx
+	movq	-40(%rdi,%rax,8), %rsi
+	movq	%rsi, 32(%rdi)
+	movq	%rdx, -40(%rdi,%rax,8)
+	jmp	24f
+23:
+	je	24f
+	movq	-40(%rdi,%rax,8), %rdx
+	movq	32(%rdi), %rsi
+	movq	%rsi, -40(%rdi,%rax,8)
+	movq	%rdx, 32(%rdi)
+24:
+	cmpq	$4, %rcx
+	je	28f
+	leaq	-6(%rax), %rdx
+	cmpq	$5, %rdx
+	jbe	25f
+	movq	40(%rdi), %rdx
+	movq	-48(%rdi,%rax,8), %rsi
+	movq	%rsi, 40(%rdi)
+	movq	%rdx, -48(%rdi,%rax,8)
+	jmp	26f
+25:
+	je	26f
+	movq	-48(%rdi,%rax,8), %rdx
+	movq	40(%rdi), %rsi
+	movq	%rsi, -48(%rdi,%rax,8)
+	movq	%rdx, 40(%rdi)
+26:
+	cmpq	$5, %rcx
+	je	28f
+	leaq	-7(%rax), %rcx
+	cmpq	$6, %rcx
+	jbe	27f
+	movq	48(%rdi), %rcx
+	movq	-56(%rdi,%rax,8), %rdx
+	movq	%rdx, 48(%rdi)
+	movq	%rcx, -56(%rdi,%rax,8)
+	addq	$16, %rsp
+	popq	%rbx
+	retq
+27:
+	je	28f
+	movq	-56(%rdi,%rax,8), %rcx
+	movq	48(%rdi), %rdx
+	movq	%rdx, -56(%rdi,%rax,8)
+	movq	%rcx, 48(%rdi)
+28:
+	addq	$16, %rsp
+	popq	%rbx
+	retq
+29:
+	.size	"std_collections::btree::row::Row::reverse::<3'&[](*,i64,),i64>", 29b-"std_collections::btree::row::Row::reverse::<3'&[](*,i64,),i64>"
+
+	.text
+	.p2align	4
+	.type	"std_collections::btree_map::BTreeMap::get::<#fee6ac8b1d5edcbc>",@function
+"std_collections::btree_map::BTreeMap::get::<#fee6ac8b1d5edcbc>":
+	cmpb	$1, (%rdi)
+	jne	13f
+	pushq	%rbp
+	pushq	%r14
+	pushq	%rbx
+	addq	$8, %rdi
+1:
+	movq	(%rdi), %rax
+	movzwl	(%rax), %edi
+	xorl	%ecx, %ecx
+	testq	%rdi, %rdi
+	je	11f
+	.p2align	4
+2:
+	movq	%rcx, %r8
+	shlq	$4, %r8
+	movq	8(%rax,%r8), %r9
+	movq	16(%rax,%r8), %r8
+	cmpq	%rdx, %r8
+	movq	%rdx, %r10
+	cmovbq	%r8, %r10
+	xorl	%r11d, %r11d
+	cmpq	$64, %r10
+	jb	4f
+	movq	%r10, %rbx
+	.p2align	4
+3:
+	movdqu	(%rsi,%r11), %xmm0
+	movdqu	16(%rsi,%r11), %xmm1
+	movdqu	32(%rsi,%r11), %xmm2
+	movdqu	48(%rsi,%r11), %xmm3
+	movdqu	(%r9,%r11), %xmm4
+	pcmpeqb	%xmm0, %xmm4
+	movdqu	16(%r9,%r11), %xmm0
+	pcmpeqb	%xmm1, %xmm0
+	movdqu	32(%r9,%r11), %xmm1
+	pcmpeqb	%xmm2, %xmm1
+	pand	%xmm4, %xmm1
+	movdqu	48(%r9,%r11), %xmm2
+	pcmpeqb	%xmm3, %xmm2
+	pand	%xmm0, %xmm2
+	pand	%xmm1, %xmm2
+	pmovmskb	%xmm2, %ebp
+	cmpl	$65535, %ebp
+	jne	4f
+	addq	$64, %r11
+	addq	$-64, %rbx
+	cmpq	$63, %rbx
+	ja	3b
+4:
+	movq	%r10, %rbx
+	subq	%r11, %rbx
+	cmpq	$8, %rbx
+	jb	6f
+	.p2align	4
+5:
+	movq	(%rsi,%r11), %r14
+	cmpq	(%r9,%r11), %r14
+	jne	6f
+	addq	$8, %r11
+	addq	$-8, %rbx
+	cmpq	$7, %rbx
+	ja	5b
+6:
+	cmpq	%r10, %r11
+	jae	8f
+	.p2align	4
+7:
+	movzbl	(%r9,%r11), %ebx
+	cmpb	%bl, (%rsi,%r11)
+	jne	9f
+	incq	%r11
+	cmpq	%r11, %r10
+	jne	7b
+8:
+	cmpq	%r8, %rdx
+	je	14f
+9:
+	jb	10f
+	incq	%rcx
+	cmpq	%rdi, %rcx
+	jne	2b
+	movq	%rdi, %rcx
+10:
+	shlq	$3, %rcx
+	cmpw	$0, 2(%rax)
+	jne	12f
+	jmp	15f
+	.p2align	4
+11:
+	cmpw	$0, 2(%rax)
+	je	15f
+12:
+	leaq	(%rax,%rcx), %rdi
+	addq	$368, %rdi
+	jmp	1b
+13:
+	xorl	%edx, %edx
+	xorl	%eax, %eax
+	retq
+14:
+	leaq	(%rax,%rcx,8), %rdx
+	addq	$248, %rdx
+	movb	$1, %al
+	popq	%rbx
+	popq	%r14
+	popq	%rbp
+	retq
+15:
+	xorl	%edx, %edx
+	xorl	%eax, %eax
+	popq	%rbx
+	popq	%r14
+	popq	%rbp
+	retq
+16:
+	.size	"std_collections::btree_map::BTreeMap::get::<#fee6ac8b1d5edcbc>", 16b-"std_collections::btree_map::BTreeMap::get::<#fee6ac8b1d5edcbc>"
 
 	.text
 	.p2align	4
