@@ -5,12 +5,12 @@ ghost use Rattle.mime_base.specs.Database.PlainPairs.{plain_pairs};
 ghost use Rattle.mime_base.specs.Database.Subclass as above;
 ghost use Rattle.mime_base.specs.declared.database.pair.Pair as plain;
 ghost use Rattle.mime_base.specs.Database.Subclass.{resolved};
-ghost use Rattle.mime_lookup.specs.Places.{ArePlaced, IsPlaced, placed};
+ghost use Rattle.mime_lookup.specs.Places.{ArePlaced, HasNone, IsPlaced, placed};
 
+use crate::first_places::FirstPlaces;
 use crate::queue::Queue;
 use mime_base::{OutOfMemory, Pair};
 use std::alloc::Global;
-use std::collections::BTreeMap;
 
 /// Some pairs, with the place of each by its name.
 #[derive(Drop)]
@@ -18,7 +18,7 @@ pub struct Places<'a> {
     /// The pairs.
     pub pairs: &'a [Pair],
     /// The first place of each name.
-    pub first: BTreeMap<&'a [u8], usize>,
+    pub first: FirstPlaces<'a>,
     /// From the last place to the first, the next place of its name.
     pub next: Vec<Option<usize>>,
 }
@@ -32,14 +32,18 @@ pub struct PlacedPairs<'a> {
     pub parents: Places<'a>,
 }
 
-/// The places of some pairs.
-pub fn places_of<'a>(alloc: Global, pairs: &'a [Pair]) -> Result<Places<'a>, OutOfMemory>
+/// The places of some pairs, the first ones in a hash or a tree that has no name yet.
+pub fn places_of<'a>(
+    alloc: Global,
+    pairs: &'a [Pair],
+    mut first: FirstPlaces<'a>,
+) -> Result<Places<'a>, OutOfMemory>
+    requires none { HasNone first }
     // The places are of these pairs.
     ensures pairs { IfOk result (λ places. places.pairs.now ≡ pairs.entry.now) }
     // Each name has its first place, and each place the next of its name.
     ensures indexed { IfOk result IsPlaced }
 {
-    let mut first = BTreeMap::new(alloc);
     let mut next = Vec::new(alloc);
     let mut place = pairs.len();
     while place > 0 {
@@ -57,7 +61,7 @@ pub fn unalias_at<'a>(aliases: &Places<'a>, kind: &'a [u8]) -> &'a [u8]
     // It is the type after one alias step.
     ensures { result.now ≡ resolved (plain_pairs aliases.now.pairs.now) kind.entry.now }
 {
-    match aliases.first.get(kind).copied() {
+    match aliases.first.get(kind) {
         Some(place) => target_at(aliases.pairs, place),
         None => kind,
     }
@@ -87,7 +91,7 @@ pub fn push_parents<'a>(
 {
     let parents = &both.parents;
     let pairs = parents.pairs;
-    let mut place = parents.first.get(kind).copied();
+    let mut place = parents.first.get(kind);
     while let Some(here) = place {
         let pair = &pairs[here];
         queue.push_back(unalias_at(&both.aliases, pair.target.bytes()))?;

@@ -1,8 +1,5 @@
 use Rattle.std.proofs.Common.{◌≡◌, ◌+◌, ◌-◌, ◌<◌, ◌∙◌, length, Some, refl, ap, subst, arith, bytes_eq}
-use Rattle.std.specs.Cmp.Lexicographic.{slice_cmp}
-use Rattle.std.specs.Map.{lookup, update}
-use Rattle.std.specs.Ordering.{is_eq, nat_cmp}
-use Rattle.std.proofs.lemmas.Map.Text.{btree_map_updates_str}
+use Rattle.std.specs.Map.{update}
 use Rattle.mime_lookup.specs.Places.{IsIndexed, place_in}
 use Rattle.mime_lookup.proofs.AncestryLemmas.Places.{indexed-more, indexed-none}
 use Rattle.mime_lookup.proofs.places.places_of.Goals as goal
@@ -12,8 +9,7 @@ loop-place-init c = record {
   within = omega arith;
   so_far =
       rw c.new-next.ensures.items
-      (indexed-none c.args.pairs.now (length c.args.pairs.now) (place_in c.new-first.result) refl
-      (λ name. ap (lookup (λ key. is_eq (slice_cmp nat_cmp name key.now))) c.new-first.ensures.empty));
+      (indexed-none c.args.pairs.now (length c.args.pairs.now) (place_in c.args.first) refl c.requires.none);
 }
 
 pub loop-place-preserved : goal.loop-place-preserved
@@ -31,7 +27,7 @@ loop-place-preserved c =
           (indexed-more pairs low pair within c.index-pairs-place.is before (place_in c.insert.new.self) c.loop-place.next.items
           c.in_ok-later.later (subst (λ n. IsIndexed pairs n before c.loop-place.next.items) here c.loop-place.invariant.so_far)
           (λ name.
-          btree_map_updates_str c.bytes.result.now c.loop-place.first c.insert.new.self _ c.in_ok-later.ensures.updates name
+          c.in_ok-later.ensures.updates name
           ∙ ap (λ bytes. update bytes_eq before bytes (Some low) name) c.bytes.ensures.text)
           (c.in_ok-later.ensures.old ∙ ap before c.bytes.ensures.text));
     }
