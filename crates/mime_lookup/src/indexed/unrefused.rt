@@ -40,7 +40,7 @@ fn whole_run(keys: &[RuleKey], ending: u64, meter: &mut Meter) -> Run
     ensures nodes { meter.new.nodes ≡ meter.old.nodes }
 {
     let at = first_not_less(keys, ending, meter);
-    run_from(keys, ending, at)
+    run_from(keys, ending, at, meter)
 }
 
 /// How many keys have less than a number.
@@ -117,21 +117,25 @@ fn next_in_run(keys: &[RuleKey], ending: u64, run: Run, from: usize, meter: &mut
         return run;
     }
     let at = passed(keys, ending, run.at, from, meter);
-    run_from(keys, ending, at)
+    run_from(keys, ending, at, meter)
 }
 
 /// The run that goes on at a key.
-fn run_from(keys: &[RuleKey], ending: u64, at: usize) -> Run
+fn run_from(keys: &[RuleKey], ending: u64, at: usize, meter: &mut Meter) -> Run
     requires { Rise keys.now }
     ensures at { result.at ≡ at }
     ensures bound { (from : ℕ) → IsRun keys.now ending from at → IsBound keys.now ending from result.place }
     ensures onward { (from : ℕ) → from ≤ length keys.now → GoesOnFrom keys.now ending from at → from ≤ result.place }
+    ensures nodes { meter.new.nodes ≡ meter.old.nodes }
 {
-    let place = if at < keys.len() && keys[at].ending == ending {
-        keys[at].place
-    } else {
-        keys.len()
-    };
+    let mut place = keys.len();
+    if at < keys.len() {
+        meter.add_bytes(1);
+        let key = &keys[at];
+        if key.ending == ending {
+            place = key.place;
+        }
+    }
     Run { at, place }
 }
 
