@@ -1,4 +1,4 @@
-//! Lookup over a cache that something was learnt of, for many contents.
+//! Lookup over a cache that something was learnt of, for many names and contents.
 
 ghost use Rattle.std.specs.Prelude.{IfOk};
 ghost use Rattle.mime_lookup.specs.Headline.{IsHeadline};
@@ -15,7 +15,8 @@ use mime_base::{Host, Meter};
 use mime_view::MagicHeads;
 use std::alloc::Global;
 
-/// The lookup of [`crate::look_up`] over a cache that something was learnt of, which makes it quicker where a content has to be sniffed.
+/// The lookup of [`crate::look_up`] over a cache that something was learnt of. A name is looked up quicker where the glob list was
+/// learnt, and a content is sniffed quicker where the magic list was.
 ///
 /// ```text
 /// let cache = Cache::open(Counted::new(bytes), &mut meter)?;
