@@ -8,10 +8,7 @@ use Rattle.mime_base.specs.declared.magic.host.Host.{Host}
 use Rattle.mime_base.specs.declared.magic.matchlet.Matchlet.{Matchlet}
 use Rattle.mime_lookup.specs.declared.indexed.line_head.LineHead.{LineHead}
 use Rattle.mime_lookup.specs.declared.indexed.top_line.TopLine.{TopLine}
-
--- each is the number of a byte
-abbrev pub AreBytes : List ℕ → Type 0
-AreBytes content = (place : ℕ) → slice_index content place < 256
+use Rattle.mime_view.specs.Heads.{AreBytes}
 
 -- a head that says how windows begin refuses a content: none of those of its range that lie in the content begins so
 pub record RefusesContent (head : LineHead) (content : List ℕ) : Type 0 where

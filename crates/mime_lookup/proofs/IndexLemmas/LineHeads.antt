@@ -10,8 +10,9 @@ use Rattle.mime_base.specs.declared.magic.matchlet.Matchlet.TheViews.{out-Matchl
 use Rattle.mime_base.proofs.MagicLemmas.HoldingLines.{equals_from-mask, equals_from-outside, line_holds-differs, plain_matchlet-out}
 use Rattle.mime_base.proofs.MagicLemmas.Ranges.{equals_from-anywhere}
 use Rattle.mime_base.proofs.MagicLemmas.Skipping.{all_differ, word_of_one}
-use Rattle.mime_lookup.specs.Heads.{AreBytes, AreLineHeads, IsHead, IsHeadOf}
+use Rattle.mime_lookup.specs.Heads.{AreLineHeads, IsHead, IsHeadOf}
 use Rattle.mime_lookup.specs.declared.indexed.line_head.LineHead.{LineHead}
+use Rattle.mime_view.specs.Heads.{AreBytes}
 
 -- no window of a range begins as the value does
 pub none_equals : (start range word : ℕ) (value content : List ℕ) (host : Host) → word ≡ 1 → 0 < length value → AreBytes value →
