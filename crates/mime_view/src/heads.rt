@@ -189,8 +189,6 @@ impl<'a> MagicHeads<'a> {
 }
 
 /// The first section from one on of which a line may hold, or how many sections there are.
-///
-/// So many heads are looked at at most: where these refuse the content, it is the section of the head after them.
 // Part of the loop over sections.
 #[inline(always)]
 pub fn next_open(
@@ -198,7 +196,6 @@ pub fn next_open(
     list: SectionList,
     learnt: &Learnt,
     from: u32,
-    most: usize,
 ) -> NextOpen
     requires heads { TellsSections query.now.counted.now list.first list.count learnt.now.before.items learnt.now.heads.items }
     requires lanes { AreLanes learnt.now.heads.items learnt.now.lanes.firsts.items learnt.now.lanes.places.items }
@@ -212,8 +209,7 @@ pub fn next_open(
 {
     let mut beside = 0;
     let first = learnt.before[from as usize].heads;
-    let end = first.saturating_add(most).min(learnt.heads.len());
-    let at = first_open(learnt, &query.content, first, end, &mut beside);
+    let at = first_open(learnt, &query.content, first, &mut beside);
     if at < learnt.heads.len() {
         let section = learnt.heads[at].section;
         let own = beside_before(learnt, &query.content, section, at);
@@ -249,27 +245,21 @@ fn beside_before(learnt: &Learnt, content: &Content<'_>, section: u32, at: usize
     own
 }
 
-/// The first head from one on that doesn't refuse a content, or the end of those that are looked at.
+/// The first head from one on that doesn't refuse a content, or how many heads there are.
 #[inline(always)]
-fn first_open(
-    learnt: &Learnt,
-    content: &Content<'_>,
-    from: usize,
-    end: usize,
-    beside: &mut u64,
-) -> usize
+fn first_open(learnt: &Learnt, content: &Content<'_>, from: usize, beside: &mut u64) -> usize
     requires lanes { AreLanes learnt.now.heads.items learnt.now.lanes.firsts.items learnt.now.lanes.places.items }
-    requires from { from ≤ end }
-    requires end { end ≤ length learnt.now.heads.items }
+    requires from { from ≤ length learnt.now.heads.items }
     ensures low { from ≤ result }
-    ensures high { result ≤ end }
+    ensures high { result ≤ length learnt.now.heads.items }
     // Each byte of the content is less than 256.
     ensures bytes { AreBytes content.now }
     // Those before it refuse the content.
     ensures refuse { (j : ℕ) → from ≤ j → j < result → Refuses content.now (get_or learnt.now.heads.items j no_head) }
 {
     let long = length_of(content);
-    let passed = pass_blocks(learnt, content, long, from, end, beside);
+    let passed = pass_blocks(learnt, content, long, from, beside);
+    let end = learnt.heads.len();
     pass_rest(&learnt.heads, content, long, passed, end, beside)
 }
 

@@ -23,6 +23,7 @@ ghost use Rattle.mime_view.specs.Heads.Lanes.{AreLanes};
 ghost use Rattle.mime_view.specs.Heads.{AreHeads, IsSectionsFault, PassesFrom, Rises, Skips, TellsSections, before_at};
 ghost use Rattle.mime_view.specs.Spending.{Spends};
 
+use crate::budget::Budget;
 use crate::fault::CacheFault;
 use crate::heads::{Learnt, MagicHeads, NextOpen, SectionList, next_open};
 use crate::spending::Spending;
@@ -147,7 +148,8 @@ fn sniff_open<'a>(
     Ok(None)
 }
 
-/// Skips the sections before the next one of which a line may hold. Where less is left than they take, none is skipped up to that one.
+/// Skips the sections before the next one of which a line may hold. Where less is left than all take from this one on, none is
+/// skipped any more: each is looked at, until the budget is spent.
 #[inline(always)]
 fn skip_refused(
     query: &MagicQuery<'_, '_>,
@@ -171,15 +173,54 @@ fn skip_refused(
     if i < *next {
         return i;
     }
-    // Each line takes a record and a value byte.
-    let most = spending.budget.records.min(spending.budget.value_bytes);
-    let found = next_open(query, list, learnt, i, most as usize);
+    if !covers_rest(learnt, i, list.count, spending.budget) {
+        *next = list.count;
+        return i;
+    }
+    let found = next_open(query, list, learnt, i);
     *next = found.section;
     skip_sections(learnt, &query.content, i, found, spending)
 }
 
-/// Skips the sections from one up to another, where as much is left as they take: each of their lines and each section takes a
-/// record and adds a node, and each place that a line was refused at adds a byte, or two.
+/// Whether as much is left as the sections from one on take, with all their lines that were learnt.
+// Else looking for an open section could be more work than what is left pays for.
+#[inline(always)]
+fn covers_rest(learnt: &Learnt, from: u32, count: u32, budget: Budget) -> bool
+    requires order { from ≤ count }
+    requires sections { count < length learnt.now.before.items }
+    requires rises { Rises (before_at learnt.now.before.items from) (before_at learnt.now.before.items count) }
+{
+    match taken_between(learnt, from, count) {
+        Some(taken) => {
+            taken.records <= budget.records && taken.value_bytes <= budget.value_bytes
+        }
+        None => false,
+    }
+}
+
+/// What the sections from one up to another take of a budget: a record for each of them and of their lines, and the value bytes
+/// of these. Nothing is given where that is too great a number.
+#[inline(always)]
+fn taken_between(learnt: &Learnt, from: u32, to: u32) -> Option<Budget>
+    requires order { from ≤ to }
+    requires sections { to < length learnt.now.before.items }
+    requires rises { Rises (before_at learnt.now.before.items from) (before_at learnt.now.before.items to) }
+    ensures records { IfSome result (λ taken. taken.records + from + (before_at learnt.now.before.items from).heads
+        ≡ to + (before_at learnt.now.before.items to).heads) }
+    ensures value_bytes { IfSome result (λ taken. taken.value_bytes + (before_at learnt.now.before.items from).value_bytes
+        ≡ (before_at learnt.now.before.items to).value_bytes) }
+{
+    let (low, high) = (&learnt.before[from as usize], &learnt.before[to as usize]);
+    let records = ((high.heads - low.heads) as u64).checked_add(u64::from(to - from))?;
+    let value_bytes = high.value_bytes - low.value_bytes;
+    Some(Budget {
+        records,
+        value_bytes,
+    })
+}
+
+/// Skips the sections from one up to another, where as much is left as they take: each record adds a node, and each place that a
+/// line was refused at adds a byte, or two.
 #[inline(always)]
 fn skip_sections(
     learnt: &Learnt,
@@ -199,22 +240,21 @@ fn skip_sections(
         spending.old spending.new }
 {
     let to = next.section;
-    let (low, high) = (&learnt.before[from as usize], &learnt.before[to as usize]);
-    let Some(records) = ((high.heads - low.heads) as u64).checked_add(u64::from(to - from)) else {
+    let Some(taken) = taken_between(learnt, from, to) else {
         return from;
     };
-    let value_bytes = high.value_bytes - low.value_bytes;
-    let bytes = (high.windows - low.windows).wrapping_add(next.beside);
+    let windows = learnt.before[to as usize].windows - learnt.before[from as usize].windows;
+    let bytes = windows.wrapping_add(next.beside);
     let budget = spending.budget;
-    if budget.records < records
-        || budget.value_bytes < value_bytes
-        || most_bytes(content, value_bytes) < bytes
+    if budget.records < taken.records
+        || budget.value_bytes < taken.value_bytes
+        || most_bytes(content, taken.value_bytes) < bytes
     {
         return from;
     }
-    spending.budget.records -= records;
-    spending.budget.value_bytes -= value_bytes;
-    spending.meter.nodes = raised(spending.meter.nodes, records);
+    spending.budget.records -= taken.records;
+    spending.budget.value_bytes -= taken.value_bytes;
+    spending.meter.nodes = raised(spending.meter.nodes, taken.records);
     spending.meter.bytes = raised(spending.meter.bytes, bytes);
     to
 }

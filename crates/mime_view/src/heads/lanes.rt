@@ -71,7 +71,7 @@ fn lane_of(head: Head) -> Lane
     }
 }
 
-/// A head from one on, before which each refuses a content: one that doesn't, or one from which on fewer than sixteen are looked at.
+/// A head from one on, before which each refuses a content: one that doesn't, or one from which on there are fewer than sixteen.
 // The loop over blocks of heads.
 #[inline(always)]
 pub fn pass_blocks(
@@ -79,16 +79,14 @@ pub fn pass_blocks(
     content: &Content<'_>,
     long: u32,
     from: usize,
-    end: usize,
     beside: &mut u64,
 ) -> usize
     requires lanes { AreLanes learnt.now.heads.items learnt.now.lanes.firsts.items learnt.now.lanes.places.items }
-    requires from { from ≤ end }
-    requires end { end ≤ length learnt.now.heads.items }
+    requires from { from ≤ length learnt.now.heads.items }
     requires long { long ≤ length content.now }
     requires below { long < 4294967295 }
     ensures low { from ≤ result }
-    ensures high { result ≤ end }
+    ensures high { result ≤ length learnt.now.heads.items }
     ensures refuse { (j : ℕ) → from ≤ j → j < result → Refuses content.now (get_or learnt.now.heads.items j no_head) }
 {
     if long < FRONT {
@@ -96,7 +94,7 @@ pub fn pass_blocks(
     }
     let heads = learnt.heads.as_slice();
     let mut at = from;
-    while LANES <= end - at {
+    while LANES <= heads.len() - at {
         let asked = open_lanes(learnt, content, at);
         let passed = pass_block(heads, content, long, at, asked, beside);
         at += passed;

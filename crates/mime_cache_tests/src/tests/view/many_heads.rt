@@ -51,6 +51,19 @@ const TEXTS: Texts<'static> = Texts {
     ..EMPTY
 };
 
+/// Six sections of values that are long beside their heads: lines of one place, of a range and in words, and a short one. Heads are of
+/// 241 value bytes; the line in words is of 40 more.
+const LONG: Texts<'static> = Texts {
+    magic: b"MIME-Magic\0\n\
+    [80:t/a]\n>0=\0\x28A......................................!\n\
+    [79:t/b]\n>0=\0\x28B......................................!\n>3=\0\x28C......................................!\n\
+    [78:t/c]\n>0=\0\x28GGGGGGGGGGGGGGGGGGGGGGGGGGGGGGGGGGGGGGGG~2\n\
+    [77:t/d]\n>0=\0\x28D......................................!\n>1=\0\x28E......................................!+5\n\
+    [76:t/e]\n>2=\0\x28F......................................!\n\
+    [75:t/f]\n>0=\0\x01z\n",
+    ..EMPTY
+};
+
 /// The bytes that values begin with, and two others.
 static FIRSTS: [u8; 45] = *b"ABCDEFGHIJKLMNOPQRSTUVWXYZhijklmnopqrstuvwxyz";
 
@@ -153,4 +166,46 @@ fn more_bytes_than_one(rt: HostRuntime) -> Result<(), Fail> {
     sniff_lengths(&rt, rt.alloc(), &others, &[16, 20, 70], PLENTY)?;
     let pairs = [b'a'; 320];
     sniff_lengths(&rt, rt.alloc(), &pairs, &[3, 40, 309, 310, 311], PLENTY)
+}
+
+/// Sniffs a content both ways with each budget up to one that is more than all lines take.
+fn each_budget(rt: &impl Abort, walked: &Cache<'_>, learnt: &Cache<'_>, content: &[u8]) {
+    for records in 0..20 {
+        let value_bytes = 1_000;
+        let budget = Budget {
+            records,
+            value_bytes,
+        };
+        sniff_alike(rt, walked, learnt, content, budget);
+    }
+    for value_bytes in 0..290 {
+        let records = 1_000;
+        let budget = Budget {
+            records,
+            value_bytes,
+        };
+        sniff_alike(rt, walked, learnt, content, budget);
+    }
+}
+
+/// What is left covers all that heads are of, and all that those after an open section are of, or misses it by one, or by more.
+#[test]
+fn budgets_about_long_values(rt: HostRuntime) -> Result<(), Fail> {
+    let alloc = rt.alloc();
+    let database = merged(alloc, &[LONG])?;
+    let bytes = write_cache(alloc, &database, LARGEST_CACHE)?;
+    let walked = Cache::open(Counted::new(&bytes), &mut Meter::new())?;
+    let heads = walked.learn_heads(alloc, &mut Meter::new())?;
+    alike(&rt, "learnt", heads.is_some(), true);
+    if let Some(heads) = &heads {
+        let learnt = Cache::open_learnt(heads, &mut Meter::new())?;
+        for &first in b"ABCDEFGz." {
+            for place in 0..4 {
+                let mut content = [b'.'; 70];
+                content[place] = first;
+                each_budget(&rt, &walked, &learnt, &content);
+            }
+        }
+    }
+    Ok(())
 }

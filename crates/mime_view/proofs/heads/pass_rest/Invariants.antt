@@ -1,4 +1,4 @@
-use Rattle.std.proofs.Common.{length, ◌-◌, ◌<◌, ◌≤◌, ℕ, get_or}
+use Rattle.std.proofs.Common.{◌-◌, ◌<◌, ◌≤◌, ℕ, get_or}
 use Rattle.mime_view.specs.Heads.{Refuses, no_head}
 use Rattle.mime_view.proofs.heads.pass_rest.Given as goal
 

@@ -1,5 +1,11 @@
+use Rattle.std.proofs.Common.{arith}
 use Rattle.mime_view.proofs.HeadsLemmas.PassedSections.{rises_to}
 use Rattle.mime_view.proofs.magic.skip_refused.Goals as goal
+
+pub covers_rest-requires-clause-rises : goal.covers_rest-requires-clause-rises
+covers_rest-requires-clause-rises c =
+    rises_to c.args.learnt.now.before.items c.args.list.count (λ k below. (c.requires.heads.sections k below).rises) c.args.i
+    c.args.list.count (omega (arith, c.requires.within)) (omega arith)
 
 pub skip_sections-requires-clause-rises : goal.skip_sections-requires-clause-rises
 skip_sections-requires-clause-rises c =
