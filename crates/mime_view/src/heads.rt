@@ -22,7 +22,7 @@ use crate::globs::learning::learn_globs;
 use crate::globs::learnt::LearntGlob;
 use crate::heads::lanes::{Lanes, pass_blocks};
 use crate::heads::learning::learn;
-use crate::heads::refusing::refuses;
+use crate::heads::refusing::{Beside, refuses};
 use crate::magic::MagicQuery;
 use mime_base::{Content, Counted, Meter, OutOfMemory};
 use std::alloc::Global;
@@ -207,47 +207,25 @@ pub fn next_open(
     // A content passes those before it.
     ensures passes { PassesFrom query.now.counted.now list.first learnt.now.before.items query.now.content from result.section }
 {
-    let mut beside = 0;
+    let mut beside = Beside::none(from);
     let first = learnt.before[from as usize].heads;
     let at = first_open(learnt, &query.content, first, &mut beside);
     if at < learnt.heads.len() {
         let section = learnt.heads[at].section;
-        let own = beside_before(learnt, &query.content, section, at);
         return NextOpen {
             section,
-            beside: beside.wrapping_sub(own),
+            beside: beside.before_section(section),
         };
     }
     NextOpen {
         section: list.count,
-        beside,
+        beside: beside.all(),
     }
-}
-
-/// What the lines of a section before that of a head compare, beside one byte at each of their places.
-// Most heads are the first of their section.
-#[inline(always)]
-fn beside_before(learnt: &Learnt, content: &Content<'_>, section: u32, at: usize) -> u64
-    requires section { section < length learnt.now.before.items }
-    requires order { (before_at learnt.now.before.items section).heads ≤ at }
-    requires within { at ≤ length learnt.now.heads.items }
-{
-    let mut own = 0;
-    let first = learnt.before[section as usize].heads;
-    pass_rest(
-        &learnt.heads,
-        content,
-        length_of(content),
-        first,
-        at,
-        &mut own,
-    );
-    own
 }
 
 /// The first head from one on that doesn't refuse a content, or how many heads there are.
 #[inline(always)]
-fn first_open(learnt: &Learnt, content: &Content<'_>, from: usize, beside: &mut u64) -> usize
+fn first_open(learnt: &Learnt, content: &Content<'_>, from: usize, beside: &mut Beside) -> usize
     requires lanes { AreLanes learnt.now.heads.items learnt.now.lanes.firsts.items learnt.now.lanes.places.items }
     requires from { from ≤ length learnt.now.heads.items }
     ensures low { from ≤ result }
@@ -259,8 +237,7 @@ fn first_open(learnt: &Learnt, content: &Content<'_>, from: usize, beside: &mut 
 {
     let long = length_of(content);
     let passed = pass_blocks(learnt, content, long, from, beside);
-    let end = learnt.heads.len();
-    pass_rest(&learnt.heads, content, long, passed, end, beside)
+    pass_rest(&learnt.heads, content, long, passed, beside)
 }
 
 /// The length of a content, as far as a head may reach.
@@ -282,20 +259,18 @@ fn pass_rest(
     content: &Content<'_>,
     long: u32,
     from: usize,
-    end: usize,
-    beside: &mut u64,
+    beside: &mut Beside,
 ) -> usize
-    requires from { from ≤ end }
-    requires end { end ≤ length heads.now }
+    requires from { from ≤ length heads.now }
     requires long { long ≤ length content.now }
     requires below { long < 4294967295 }
     ensures low { from ≤ result }
-    ensures high { result ≤ end }
+    ensures high { result ≤ length heads.now }
     ensures refuse { (j : ℕ) → from ≤ j → j < result → Refuses content.now (get_or heads.now j no_head) }
 {
     let mut at = from;
-    while at < end {
-        if !refuses(heads[at], content, long, beside) {
+    while at < heads.len() {
+        if !refuses(&heads[at], content, long, beside) {
             return at;
         }
         at += 1;

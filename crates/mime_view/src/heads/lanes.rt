@@ -9,7 +9,7 @@ ghost use Rattle.std.specs.Int.{bit_at};
 ghost use Rattle.mime_view.specs.Heads.{AreBytes, Refuses, no_head};
 ghost use Rattle.mime_view.specs.Heads.Lanes.{AreLanes, Differs, IsLane, IsRoom};
 
-use crate::heads::refusing::refuses;
+use crate::heads::refusing::{Beside, refuses};
 use crate::heads::{Head, Learnt};
 use mime_base::{Content, OutOfMemory};
 use std::alloc::Global;
@@ -79,7 +79,7 @@ pub fn pass_blocks(
     content: &Content<'_>,
     long: u32,
     from: usize,
-    beside: &mut u64,
+    beside: &mut Beside,
 ) -> usize
     requires lanes { AreLanes learnt.now.heads.items learnt.now.lanes.firsts.items learnt.now.lanes.places.items }
     requires from { from ≤ length learnt.now.heads.items }
@@ -147,7 +147,7 @@ fn pass_block(
     long: u32,
     at: usize,
     asked: u64,
-    beside: &mut u64,
+    beside: &mut Beside,
 ) -> usize
     requires block { at + 16 ≤ length heads.now }
     requires few { asked < 65536 }
@@ -160,7 +160,7 @@ fn pass_block(
     let mut asked = asked;
     while asked != 0 {
         let lane = asked.trailing_zeros() as usize;
-        if !refuses(heads[at + lane], content, long, beside) {
+        if !refuses(&heads[at + lane], content, long, beside) {
             return lane;
         }
         asked &= !(1 << lane);

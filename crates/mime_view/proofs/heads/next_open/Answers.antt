@@ -19,33 +19,36 @@ first_open-at-requires-clause-from c =
 
 -- the entry that is read
 entry_at : (c : After-index-then-at-len) → c.index.result.now ≡ before_at c.args.learnt.now.before.items c.args.from
-entry_at c = entry_is c.args.learnt.now.before.items c.args.from c.index.result.now c.index.ensures (omega (arith, c.requires.heads.size, c.requires.from))
+entry_at c =
+    entry_is c.args.learnt.now.before.items c.args.from c.index.result.now c.index.ensures
+    (omega (arith, c.requires.heads.size, c.requires.from))
 
 -- the section of the head that is read
-section_is : (c : After-index-then-at-len) → c.index-then-at-len.result.now.section ≡ section_at c.args.learnt.now.heads.items c.first_open-at.result
+section_is : (c : After-index-then-at-len) → c.index-then-at-len.result.now.section
+    ≡ section_at c.args.learnt.now.heads.items c.first_open-at.result
 section_is c =
     ap (λ (h : Head). h.section) (c.index-then-at-len.ensures
-    ∙ get_or_default c.args.learnt.now.heads.items c.first_open-at.result c.index-then-at-len.result.now no_head (omega (arith, c.if-at-len.true)))
-
-pub beside_before-own-requires-clause-order : goal.beside_before-own-requires-clause-order
-beside_before-own-requires-clause-order c =
-    rw (section_is c) (c.requires.heads.low c.first_open-at.result (omega (arith, c.if-at-len.true)))
+    ∙ get_or_default c.args.learnt.now.heads.items c.first_open-at.result c.index-then-at-len.result.now no_head
+    (omega (arith, c.if-at-len.true)))
 
 pub returns-then-at-len-clause-low : goal.returns-then-at-len-clause-low
 returns-then-at-len-clause-low c =
-    rw (section_is c.before) (section_low c.args.query.now.counted.now c.args.list.first c.args.list.count c.args.learnt.now.before.items c.args.learnt.now.heads.items
+    rw (section_is c.before.before) (section_low c.args.query.now.counted.now c.args.list.first c.args.list.count
+    c.args.learnt.now.before.items c.args.learnt.now.heads.items
     c.args.query.now.content c.first_open-at.ensures.bytes c.requires.heads c.args.from c.first_open-at.result c.requires.from
-    (λ j low high. c.first_open-at.ensures.refuse j (omega (arith, low, ap (λ (b : Before). b.heads) (entry_at c.before))) high)
-    (omega (arith, c.if-at-len.true)) (omega (arith, c.first_open-at.ensures.low, ap (λ (b : Before). b.heads) (entry_at c.before))))
+    (λ j low high. c.first_open-at.ensures.refuse j (omega (arith, low, ap (λ (b : Before). b.heads) (entry_at c.before.before))) high)
+    (omega (arith, c.if-at-len.true)) (omega (arith, c.first_open-at.ensures.low, ap (λ (b : Before). b.heads) (entry_at c.before.before))))
 
 pub returns-then-at-len-clause-passes : goal.returns-then-at-len-clause-passes
 returns-then-at-len-clause-passes c =
     let is = c.requires.heads in
-    rw (section_is c.before) (passes_to c.args.query.now.counted.now c.args.list.first c.args.list.count c.args.learnt.now.before.items c.args.learnt.now.heads.items
+    rw (section_is c.before.before) (passes_to c.args.query.now.counted.now c.args.list.first c.args.list.count
+    c.args.learnt.now.before.items c.args.learnt.now.heads.items
     c.args.query.now.content c.first_open-at.ensures.bytes is c.args.from c.first_open-at.result c.requires.from
-    (λ j low high. c.first_open-at.ensures.refuse j (omega (arith, low, ap (λ (b : Before). b.heads) (entry_at c.before))) high)
+    (λ j low high. c.first_open-at.ensures.refuse j (omega (arith, low, ap (λ (b : Before). b.heads) (entry_at c.before.before))) high)
     (section_at c.args.learnt.now.heads.items c.first_open-at.result)
-    (omega (arith, is.within c.first_open-at.result (omega (arith, c.if-at-len.true)))) (is.low c.first_open-at.result (omega (arith, c.if-at-len.true))))
+    (omega (arith, is.within c.first_open-at.result (omega (arith, c.if-at-len.true))))
+    (is.low c.first_open-at.result (omega (arith, c.if-at-len.true))))
 
 pub returns-clause-passes : goal.returns-clause-passes
 returns-clause-passes c =

@@ -1,5 +1,4 @@
 use Rattle.std.proofs.Common.{◌≡◌, ◌+◌, ◌-◌, ℕ, get_or, drop, ap, ◌∙◌, arith}
-use Rattle.std.proofs.lemmas.Bool.{not-false}
 use Rattle.std.proofs.lemmas.List.{get_or-drop, take_rest}
 use Rattle.mime_view.proofs.heads.refusing.firsts_alone.Goals as goal
 
@@ -15,4 +14,4 @@ returns c = λ place low high within first.
     let after : get_or (drop c.args.start c.bytes-bytes.result.now) (i + 1) 0 ≡ get_or c.args.content.now (place + 1) 0 =
     get_or-drop c.args.start c.bytes-bytes.result.now (i + 1) 0 ∙ ap (λ k. get_or c.bytes-bytes.result.now k 0) next
     ∙ ap (λ bytes. get_or bytes (place + 1) 0) c.bytes-bytes.ensures.same in
-    (not-false c.args.head.paired c.if-not-head.false, λ second. passes.none i (omega (arith, low, high, c.if-passed-windows.false)) (byte ∙ first) (after ∙ second))
+    (c.if-not-head.false, λ second. passes.none i (omega (arith, low, high, c.if-passed-windows.false)) (byte ∙ first) (after ∙ second))
