@@ -16,3 +16,4 @@ pub mod NameHits
 pub mod RuleHits
 pub mod Listing
 pub mod Heads
+pub mod Learning

@@ -1,6 +1,6 @@
 //! A cache whose header was read ("The mime.cache files").
 
-ghost use Rattle.std.specs.Prelude.{◌≡◌, true, false, ℕ, ◌+◌, ◌*◌, ◌≤◌, List, All, length, map, ⊤};
+ghost use Rattle.std.specs.Prelude.{◌≡◌, true, false, ℕ, ◌+◌, ◌*◌, ◌/◌, ◌≤◌, List, All, length, map, ⊤};
 ghost use Rattle.std.specs.Prelude.{IfErr, IfOk, IfSome, IsOkAnd, MatchResult, OnOk};
 ghost use Rattle.mime_base.specs.Cache.Bytes.{Stands, field, fields};
 ghost use Rattle.mime_base.specs.Database.Limits.{KeepsLimits};
@@ -147,7 +147,9 @@ impl<'a> Cache<'a> {
         meter: &mut Meter,
     ) -> Result<Option<MagicHeads<'a>>, OutOfMemory>
         // What is learnt is of the cache.
-        ensures { IfOk result (λ learnt. IfSome learnt (λ heads. heads ≡ self.now)) }
+        ensures cache { IfOk result (λ learnt. IfSome learnt (λ heads. heads ≡ self.now)) }
+        // It adds at most a node for each 12 bytes of the cache, and two bytes for each; three nodes and 256 bytes come besides.
+        ensures cost { Looks (3 + length self.now / 12) (256 + 2 * length self.now) meter.old meter.new }
     {
         MagicHeads::learn(
             alloc,
@@ -167,7 +169,9 @@ impl<'a> Cache<'a> {
         meter: &mut Meter,
     ) -> Result<Option<MagicHeads<'a>>, OutOfMemory>
         // What is learnt is of the cache.
-        ensures { IfOk result (λ learnt. IfSome learnt (λ heads. heads ≡ self.now)) }
+        ensures cache { IfOk result (λ learnt. IfSome learnt (λ heads. heads ≡ self.now)) }
+        // It adds at most a node for each 64 bytes of the cache, and a byte for each; two nodes and 256 bytes come besides.
+        ensures cost { Looks (2 + length self.now / 64) (256 + length self.now) meter.old meter.new }
     {
         MagicHeads::learn_globs(alloc, self.counted.again(), self.header[5], meter)
     }

@@ -8,11 +8,13 @@
 //!
 //! What is kept says nothing new of a cache: with it a content has the answers, the faults and the costs that it has without.
 
-ghost use Rattle.std.specs.Prelude.{◌≡◌, ◌+◌, ◌<◌, ◌≤◌, ℕ, get_or, length, slice_index, true, IfOk, IfSome};
+ghost use Rattle.std.specs.Prelude.{◌≡◌, ◌+◌, ◌*◌, ◌/◌, ◌<◌, ◌≤◌, ℕ, get_or, length, slice_index, true, IfOk, IfSome};
 ghost use Rattle.mime_base.specs.Cache.Bytes.{field};
 ghost use Rattle.mime_view.specs.Globs.{AreLearnt};
 ghost use Rattle.mime_view.specs.Heads.{AreBytes, AreHeads, PassesFrom, Refuses, TellsSections, before_at, no_head};
 ghost use Rattle.mime_view.specs.Heads.Lanes.{AreLanes};
+ghost use Rattle.mime_view.specs.Learning.{AddsGlobs};
+ghost use Rattle.mime_view.specs.Spending.{Looks};
 
 pub mod lanes;
 pub mod learning;
@@ -123,7 +125,9 @@ impl<'a> MagicHeads<'a> {
         requires at { at ≡ field counted 0 6 }
         requires globs { globs_at ≡ field counted 0 5 }
         // What is learnt is of the cache.
-        ensures { IfOk result (λ learnt. IfSome learnt (λ heads. heads ≡ counted.entry)) }
+        ensures cache { IfOk result (λ learnt. IfSome learnt (λ heads. heads ≡ counted.entry)) }
+        // What it costs.
+        ensures cost { Looks (3 + length counted.entry / 12) (256 + 2 * length counted.entry) meter.old meter.new }
     {
         let Some(learnt) = learn(alloc, &counted, at, meter)? else {
             return Ok(None);
@@ -145,7 +149,9 @@ impl<'a> MagicHeads<'a> {
     ) -> Result<Option<MagicHeads<'a>>, OutOfMemory>
         requires at { at ≡ field counted 0 5 }
         // What is learnt is of the cache.
-        ensures { IfOk result (λ learnt. IfSome learnt (λ heads. heads ≡ counted.entry)) }
+        ensures cache { IfOk result (λ learnt. IfSome learnt (λ heads. heads ≡ counted.entry)) }
+        // What it costs.
+        ensures cost { AddsGlobs counted.entry meter.old meter.new }
     {
         let globs = learn_globs(alloc, &counted, at, meter)?;
         if globs.is_empty() {

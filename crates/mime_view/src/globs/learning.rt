@@ -2,6 +2,8 @@
 
 ghost use Rattle.std.specs.Prelude.{◌+◌, ◌≤◌, length, IfOk, IfSome};
 ghost use Rattle.mime_view.specs.Globs.{AreLearnt, IsLearnt};
+ghost use Rattle.mime_view.specs.Learning.{AddsGlobs};
+ghost use Rattle.mime_view.specs.Spending.{Looks};
 
 use crate::flags::weight_and_case;
 use crate::globs::learnt::LearntGlob;
@@ -19,7 +21,9 @@ pub fn learn_globs(
     meter: &mut Meter,
 ) -> Result<Vec<LearntGlob>, OutOfMemory>
     // What is learnt is of the list.
-    ensures { IfOk result (λ globs. AreLearnt counted.now at globs.items) }
+    ensures globs { IfOk result (λ globs. AreLearnt counted.now at globs.items) }
+    // What it costs.
+    ensures cost { AddsGlobs counted.now meter.old meter.new }
 {
     let at = u64::from(at);
     let mut globs = Vec::new(alloc);
@@ -48,7 +52,11 @@ fn learn_glob(
     meter: &mut Meter,
 ) -> Result<Option<LearntGlob>, OutOfMemory>
     requires inside { at + 12 ≤ length counted.now }
-    ensures { IfOk result (λ learnt. IfSome learnt (IsLearnt counted.now at)) }
+    ensures glob { IfOk result (λ learnt. IfSome learnt (IsLearnt counted.now at)) }
+    // The text is read, of which a pattern has all but one byte.
+    ensures paid { IfOk result (λ learnt. IfSome learnt (λ glob. meter.new.bytes ≤ meter.old.bytes + length glob.pattern.items + 1)) }
+    // It reads an entry and its text.
+    ensures cost { Looks 1 256 meter.old meter.new }
 {
     let [text, kind, flags] = counted.cards_within::<3>(at, meter);
     let Ok(pattern) = counted.text_at(u64::from(text), meter) else {

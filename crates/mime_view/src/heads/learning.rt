@@ -1,9 +1,11 @@
 //! Learning what the top lines of a magic list look at.
 
-ghost use Rattle.std.specs.Prelude.{◌≡◌, ◌+◌, ◌≤◌, [], ◌∷◌, ◌++◌, length, slice_index, true, IfOk, IfSome, OnOk};
+ghost use Rattle.std.specs.Prelude.{◌≡◌, ◌+◌, ◌-◌, ◌*◌, ◌≤◌, [], ◌∷◌, ◌++◌, length, slice_index, true, IfOk, IfSome, OnOk};
 ghost use Rattle.mime_view.specs.Heads.{AreHeads, IsSecond, KeepsFirst, LearnsLines, LearnsSection, LooksAtLine, TellsSections, open_head};
 ghost use Rattle.mime_view.specs.Heads.Lanes.{AreLanes};
+ghost use Rattle.mime_view.specs.Learning.{AddsMagic, AddsSections, magic_room};
 ghost use Rattle.mime_view.specs.Magic.{LiesBlock};
+ghost use Rattle.mime_view.specs.Spending.{Looks as Counts};
 
 use crate::heads::lanes::lanes_of;
 use crate::heads::{Before, Head, Learnt};
@@ -34,6 +36,8 @@ pub fn learn(
     ensures heads { IfOk result (λ learnt. IfSome learnt (λ it. AreHeads counted.now at it.before.items it.heads.items)) }
     // So are the lanes.
     ensures lanes { IfOk result (λ learnt. IfSome learnt (λ it. AreLanes it.heads.items it.lanes.firsts.items it.lanes.places.items)) }
+    // What it costs.
+    ensures cost { AddsMagic counted.now meter.old meter.new }
 {
     let [count, _, first] = match counted.cards::<3>(u64::from(at), meter) {
         Ok(numbers) => numbers,
@@ -59,6 +63,8 @@ fn learn_sections(
     requires block { LiesBlock counted.now first 16 count }
     ensures heads { IfOk result (λ learnt. IfSome learnt (λ it. TellsSections counted.now first count it.before.items it.heads.items)) }
     ensures lanes { IfOk result (λ learnt. IfSome learnt (λ it. AreLanes it.heads.items it.lanes.firsts.items it.lanes.places.items)) }
+    // It reads the sections, and no more lines than there is room for.
+    ensures cost { AddsSections count (magic_room counted.now) meter.old meter.new }
 {
     let mut before = Vec::new(alloc);
     let mut heads = Vec::new(alloc);
@@ -96,7 +102,15 @@ fn learn_section(
 ) -> Result<Option<Before>, OutOfMemory>
     requires inside { at + 16 ≤ length counted.now }
     requires all { all.heads ≡ length heads.old.items }
-    ensures { IfOk result (λ after. IfSome after (λ to. LearnsSection counted.now at section all to heads.old.items heads.new.items)) }
+    ensures section { IfOk result (λ after. IfSome after
+        (λ to. LearnsSection counted.now at section all to heads.old.items heads.new.items)) }
+    // There is room for them.
+    ensures room { IfOk result (λ after. IfSome after (λ _. length heads.new.items ≤ magic_room counted.now)) }
+    // It reads the section, and no more lines than came.
+    ensures paid { IfOk result (λ after. IfSome after
+        (λ _. AddsSections 1 (length heads.new.items - length heads.old.items) meter.old meter.new)) }
+    // Where nothing is given it reads no more lines than there is room for.
+    ensures cost { AddsSections 1 (magic_room counted.now - length heads.old.items) meter.old meter.new }
 {
     let [_, _, count, first] = counted.cards_within::<4>(at, meter);
     if counted.length() / ROOM < heads.len() as u64 + u64::from(count) {
@@ -122,7 +136,13 @@ fn learn_lines(
 ) -> Result<Before, OutOfMemory>
     requires block { LiesBlock counted.now first 32 count }
     requires all { all.heads ≡ length heads.old.items }
-    ensures { IfOk result (λ to. LearnsLines counted.now first count section all to heads.old.items heads.new.items) }
+    ensures lines { IfOk result (λ to. LearnsLines counted.now first count section all to heads.old.items heads.new.items) }
+    // There are no more heads than lines.
+    ensures few { OnOk result (length heads.new.items ≤ length heads.old.items + count) }
+    // It reads no more lines than heads came.
+    ensures paid { OnOk result (AddsSections 0 (length heads.new.items - length heads.old.items) meter.old meter.new) }
+    // Out of memory, it reads no more than there are.
+    ensures cost { AddsSections 0 count meter.old meter.new }
 {
     let mut all = all;
     for j in 0..count {
@@ -173,7 +193,9 @@ fn looks_of(
     meter: &mut Meter,
 ) -> Option<Looks>
     requires inside { at + 32 ≤ length counted.now }
-    ensures { IfSome result (LooksAtLine counted.now at section all) }
+    ensures line { IfSome result (LooksAtLine counted.now at section all) }
+    // It reads the line.
+    ensures cost { AddsSections 0 1 meter.old meter.new }
 {
     let [start, range, word, size, value, mask, _, _] = counted.cards_within::<8>(at, meter);
     if word != 1 || size == 0 || range == 0 || !keeps_first(counted, mask, size, meter) {
@@ -214,7 +236,9 @@ fn second_of(
     size: u32,
     meter: &mut Meter,
 ) -> (u8, bool)
-    ensures { IsSecond counted.now value mask size result.0 result.1 }
+    ensures second { IsSecond counted.now value mask size result.0 result.1 }
+    // It reads two bytes at most.
+    ensures cost { Counts 0 2 meter.old meter.new }
 {
     if size < 2 || (mask != 0 && !is_whole(counted, u64::from(mask) + 1, meter)) {
         return (0, false);
@@ -227,7 +251,9 @@ fn second_of(
 
 /// Whether the byte at `at` has all bits.
 fn is_whole(counted: &Counted<'_>, at: u64, meter: &mut Meter) -> bool
-    ensures { result ≡ true → slice_index counted.now at ≡ 255 }
+    ensures whole { result ≡ true → slice_index counted.now at ≡ 255 }
+    // It reads a byte at most.
+    ensures cost { Counts 0 1 meter.old meter.new }
 {
     match counted.byte_at(at, meter) {
         Ok(bits) => bits == u8::MAX,
@@ -237,7 +263,9 @@ fn is_whole(counted: &Counted<'_>, at: u64, meter: &mut Meter) -> bool
 
 /// Whether all bits of the first byte of a value count: it has no mask, or one in the cache that begins with these bits.
 fn keeps_first(counted: &Counted<'_>, mask: u32, size: u32, meter: &mut Meter) -> bool
-    ensures { result ≡ true → KeepsFirst counted.now mask size }
+    ensures first { result ≡ true → KeepsFirst counted.now mask size }
+    // It reads a byte at most.
+    ensures cost { Counts 0 1 meter.old meter.new }
 {
     if mask == 0 {
         return true;

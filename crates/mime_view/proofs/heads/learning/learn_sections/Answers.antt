@@ -10,9 +10,22 @@ loop-i-preserved c =
     let at : c.from.result + 16 * c.from-in-loop-i.result ≡ c.args.first + 16 * c.loop-i.i =
     omega (arith, c.from.ensures, c.from-in-loop-i.ensures) in
     let learnt = subst (λ (r : ℕ). LearnsSection c.args.counted.now r c.loop-i.i c.loop-i.all c.in-Some.after c.loop-i.heads.items
-    c.learn_section.new.heads.items) at (rw c.in-Some.is at c.in_ok-after.ensures) in
-    subst
-    (λ (before : List Before). SectionsSoFar c.args.counted.now c.args.first before c.learn_section.new.heads.items (c.loop-i.i + 1) c.in-Some.after)
-    (sym is)
-    (one_more_section c.args.counted.now c.args.first c.loop-i.before.items c.loop-i.heads.items c.loop-i.i c.loop-i.all
-    c.learn_section.new.heads.items c.in-Some.after c.loop-i.invariant learnt)
+    c.learn_section.new.heads.items) at (rw c.in-Some.is at c.in_ok-after.ensures.section) in
+    let cost = c.loop-i.invariant.cost in
+    let paid = rw c.in-Some.is at c.in_ok-after.ensures.paid in
+    let room = rw c.in-Some.is at c.in_ok-after.ensures.room in
+    record {
+      sections = subst
+          (λ (before : List Before). SectionsSoFar c.args.counted.now c.args.first before c.learn_section.new.heads.items
+          (c.loop-i.i + 1) c.in-Some.after)
+          (sym is)
+          (one_more_section c.args.counted.now c.args.first c.loop-i.before.items c.loop-i.heads.items c.loop-i.i c.loop-i.all
+          c.learn_section.new.heads.items c.in-Some.after c.loop-i.invariant.sections learnt);
+      room = room;
+      cost = record {
+        rises = omega (arith, cost.rises, paid.rises);
+        bytes_rise = omega (arith, cost.bytes_rise, paid.bytes_rise);
+        most_nodes = omega (arith, cost.most_nodes, paid.most_nodes, learnt.longer);
+        most_bytes = omega (arith, cost.most_bytes, paid.most_bytes, learnt.longer);
+      };
+    }
