@@ -136,11 +136,11 @@ impl<'a> Cache<'a> {
         })
     }
 
-    /// Learns what the top lines of the magic list look at, for many contents, and what the entries of the glob list say, for
-    /// their names; nothing where the magic list can't be gone through so.
+    /// Learns what the top lines of the magic list look at, for many contents, and what the entries of the glob list say, for many
+    /// names; nothing of either where the magic list can't be gone through so.
     ///
-    /// It takes nothing of a budget. It takes memory for each section and each of these lines, at most for one of either for each 32
-    /// bytes of the cache, and for the patterns of entries, at most as much as the cache has bytes.
+    /// It takes nothing of a budget. It takes memory for each section and each of these lines, at most for one of each for each 32
+    /// bytes of the cache, and for entries as [`Cache::learn_globs`] does.
     pub fn learn_heads(
         &self,
         alloc: Global,
@@ -162,7 +162,9 @@ impl<'a> Cache<'a> {
 
     /// Learns what the entries of the glob list say alone, for many names; nothing where there is none.
     ///
-    /// It takes nothing of a budget. It takes memory for the patterns of these entries, at most as much as the cache has bytes.
+    /// It takes nothing of a budget. It takes an allocation for the pattern of each entry, and some 40 bytes of a list that doubles
+    /// where it is full. Of each entry 64 bytes and its pattern's are charged against the cache's length: the first ones are learnt,
+    /// as many as that is enough for.
     pub fn learn_globs(
         &self,
         alloc: Global,

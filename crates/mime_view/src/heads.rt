@@ -8,10 +8,10 @@
 //!
 //! What is kept says nothing new of a cache: with it a content has the answers, the faults and the costs that it has without.
 
-ghost use Rattle.std.specs.Prelude.{◌≡◌, ◌+◌, ◌*◌, ◌/◌, ◌<◌, ◌≤◌, ℕ, get_or, length, slice_index, true, IfOk, IfSome};
+ghost use Rattle.std.specs.Prelude.{◌≡◌, ◌+◌, ◌*◌, ◌/◌, ◌<◌, ◌≤◌, ℕ, get_or, length, IfOk, IfSome};
 ghost use Rattle.mime_base.specs.Cache.Bytes.{field};
 ghost use Rattle.mime_view.specs.Globs.{AreLearnt};
-ghost use Rattle.mime_view.specs.Heads.{AreBytes, AreHeads, PassesFrom, Refuses, TellsSections, before_at, no_head};
+ghost use Rattle.mime_view.specs.Heads.{AreBytes, AreHeads, PassesFrom, Refuses, TellsSections, no_head};
 ghost use Rattle.mime_view.specs.Heads.Lanes.{AreLanes};
 ghost use Rattle.mime_view.specs.Learning.{AddsGlobs};
 ghost use Rattle.mime_view.specs.Spending.{Looks};

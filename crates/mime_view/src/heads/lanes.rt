@@ -6,7 +6,7 @@
 
 ghost use Rattle.std.specs.Prelude.{◌≡◌, ◌+◌, ◌<◌, ◌≤◌, ℕ, get_or, length, IfOk};
 ghost use Rattle.std.specs.Int.{bit_at};
-ghost use Rattle.mime_view.specs.Heads.{AreBytes, Refuses, no_head};
+ghost use Rattle.mime_view.specs.Heads.{Refuses, no_head};
 ghost use Rattle.mime_view.specs.Heads.Lanes.{AreLanes, Differs, IsLane, IsRoom};
 
 use crate::heads::refusing::{Beside, refuses};
