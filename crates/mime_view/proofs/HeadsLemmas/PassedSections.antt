@@ -1,17 +1,14 @@
 -- What sections answer that a content passes.
-use Rattle.std.proofs.Common.{◌≡◌, ℕ, zero, suc, ◌+◌, ◌-◌, ◌*◌, ◌<◌, ◌≤◌, List, [], ◌∷◌, length, None, refl, sym, ap, subst, arith}
+use Rattle.std.proofs.Common.{◌≡◌, ℕ, zero, suc, ◌+◌, ◌-◌, ◌*◌, ◌≤◌, List, [], ◌∷◌, None, refl, sym, ap, arith}
 use Rattle.std.specs.Prelude.{Ok}
 use Rattle.mime_base.specs.Cache.Bytes.{field}
 use Rattle.mime_base.specs.Format.Magic.{width}
 use Rattle.mime_base.specs.Magic.{PlainSection}
-use Rattle.mime_view.specs.Heads.{PassesFrom, PassesSection, Rises, Skips, TellsSections, before_at, value_bytes_from}
-use Rattle.mime_view.specs.Magic.{AnswersSections, ReadsSection, magic_price}
-use Rattle.mime_view.specs.Spending.{Spends}
+use Rattle.mime_view.specs.Heads.{PassesFrom, PassesSection, before_at, value_bytes_from}
+use Rattle.mime_view.specs.Magic.{AnswersSections, ReadsSection}
 use Rattle.mime_view.specs.declared.heads.Before.{Before}
-use Rattle.mime_view.specs.declared.heads.Head.{Head}
 use Rattle.mime_view.specs.declared.magic.MagicQuery.{MagicQuery}
 use Rattle.mime_view.specs.declared.spending.Spending.{Spending}
-use Rattle.mime_view.proofs.CostLemmas.Costs.{spends_then}
 use Rattle.mime_view.proofs.HeadsLemmas.RefusedSections.{none_holds, value_bytes-least, width-least}
 use Rattle.mime_view.proofs.MagicLemmas.SectionParts.{section_passes}
 use Rattle.mime_view.proofs.MagicLemmas.SectionsLeft.{Left, next}
@@ -89,84 +86,3 @@ module _ (query : MagicQuery) (first count : ℕ) (before : List Before) (sectio
       let n = next before_it (omega (arith, within)) in
       rw next_is (n.later new (passed query (first + 16 * m) (before_at before m) (before_at before (m + 1)) n.section mid new here n.reads
       (omega (arith, more)) (omega (arith, longer)) (omega arith)))
-
--- before later sections no less is
-pub rises_between : (before : List Before) (count : ℕ) → ((k : ℕ) → k < count → Rises (before_at before k) (before_at before (k + 1)))
-    → (i d : ℕ) → i + d ≤ count → Rises (before_at before i) (before_at before (i + d))
-rises_between before count each i zero within =
-    let here : i + 0 ≡ i = omega arith in
-    rw here (record { more_heads = omega arith; more_value_bytes = omega arith; more_windows = omega arith })
-rises_between before count each i (suc d) within =
-    let next_is : i + suc d ≡ i + d + 1 = omega arith in
-    let first = rises_between before count each i d (omega (arith, within)) in
-    let last = each (i + d) (omega (arith, within)) in
-    rw next_is (record {
-      more_heads = omega (arith, first.more_heads, last.more_heads);
-      more_value_bytes = omega (arith, first.more_value_bytes, last.more_value_bytes);
-      more_windows = omega (arith, first.more_windows, last.more_windows);
-    })
-
--- the same of one that is not before another
-pub rises_to : (before : List Before) (count : ℕ) → ((k : ℕ) → k < count → Rises (before_at before k) (before_at before (k + 1)))
-    → (i j : ℕ) → i ≤ j → j ≤ count → Rises (before_at before i) (before_at before j)
-rises_to before count each i j order within =
-    let is : i + (j - i) ≡ j = omega arith in
-    rw is at (rises_between before count each i (j - i) (omega arith))
-
--- what skipped sections cost
-pub skips_cost : (query : MagicQuery) (from to : ℕ) (low high : Before) (old new : Spending) → from ≤ to → Rises low high
-    → Skips (length query.content) from to low high old new → Spends (magic_price (length query.content)) 0 0 old new
-skips_cost query from to low high old new order rises is =
-    let e : ℕ = length query.content + 1 in
-    let left = ap (λ (n : ℕ). e * n) is.value_bytes in
-    record {
-      records = omega (arith, is.records, rises.more_heads, order);
-      value_bytes = omega (arith, is.value_bytes, rises.more_value_bytes);
-      untouched = λ free. absurd (omega arith);
-      rises = is.rises;
-      bytes_rise = is.bytes_rise;
-      most_nodes = omega (arith, is.most_nodes, is.records, rises.more_heads, order);
-      most_bytes = omega (arith, is.most_bytes, is.records, rises.more_heads, order, left);
-      fair = omega (arith, is.nodes, is.records, rises.more_heads, order);
-    }
-
-module _ (query : MagicQuery) (first count : ℕ) (before : List Before) (i m : ℕ) (now new : Spending) (order : i ≤ m)
-    (passes : PassesFrom query.counted.now first before query.content i m) (skips : Skips (length query.content) i m (before_at before i) (before_at before m) now new) where
-  -- what is left after sections that were skipped
-  pub skipped_to : (sections : List PlainSection) (old : Spending) → m ≤ count → Left query first count sections old i now
-      → Left query first count sections old m new
-  skipped_to sections old most is =
-      let there : i + (m - i) ≡ m = omega (arith, order) in
-      let at : before_at before (i + (m - i)) ≡ before_at before m = ap (before_at before) there in
-      let some = subst (PassesFrom query.counted.now first before query.content i) (sym there) passes in
-      rw there at (skipped query first count before sections old i now (m - i) new some (omega (arith, there, most))
-      (omega (arith, skips.records, order, ap (λ (b : Before). b.heads) at))
-      (omega (arith, skips.value_bytes, ap (λ (b : Before). b.value_bytes) at)) is)
-
--- no section is skipped
-pub skips_none : (long i : ℕ) (here : Before) (now : Spending) → Skips long i i here here now now
-skips_none long i here now = record {
-  records = refl;
-  value_bytes = refl;
-  nodes = omega arith;
-  most_nodes = omega arith;
-  rises = omega arith;
-  most_bytes = omega arith;
-  bytes_rise = omega arith;
-}
-
-module _ {first count : ℕ} {before : List Before} {heads : List Head} {i m : ℕ} {now new : Spending} (query : MagicQuery)
-    (is : TellsSections query.counted.now first count before heads) (passes : PassesFrom query.counted.now first before query.content i m)
-    (low : i ≤ m) (most : m ≤ count) (skips : Skips (length query.content) i m (before_at before i) (before_at before m) now new) where
-  -- what is left after sections that were skipped
-  pub left_after : {sections : List PlainSection} {old : Spending} → Left query first count sections old i now
-      → Left query first count sections old m new
-  left_after {sections} {old} left = skipped_to query first count before i m now new low passes skips sections old most left
-
-  -- what was spent after them
-  pub cost_after : {old : Spending} → Spends (magic_price (length query.content)) 0 0 old now
-      → Spends (magic_price (length query.content)) 0 0 old new
-  cost_after {old} cost =
-      spends_then (magic_price (length query.content)) 0 0 0 0 old now new cost
-      (skips_cost query i m (before_at before i) (before_at before m) now new low
-      (rises_to before count (λ k below. (is.sections k below).rises) i m low most) skips)

@@ -3,8 +3,8 @@ use Rattle.std.proofs.lemmas.List.{get_or_default}
 use Rattle.mime_view.specs.Heads.{before_at, no_head, section_at}
 use Rattle.mime_view.specs.declared.heads.Before.{Before}
 use Rattle.mime_view.specs.declared.heads.Head.{Head}
-use Rattle.mime_view.proofs.HeadsLemmas.LearntSections.{entry_is, passes_to, section_low}
-use Rattle.mime_view.proofs.HeadsLemmas.PassedSections.{rises_to}
+use Rattle.mime_view.proofs.HeadsLemmas.OpenSections.{entry_is, passes_to, section_low}
+use Rattle.mime_view.proofs.HeadsLemmas.RisingSections.{rises_to}
 use Rattle.mime_view.proofs.heads.next_open.Goals.{After-index-then-at-len}
 use Rattle.mime_view.proofs.heads.next_open.Goals as goal
 

@@ -1,5 +1,5 @@
 use Rattle.std.proofs.Common.{arith}
-use Rattle.mime_view.proofs.HeadsLemmas.PassedSections.{rises_to}
+use Rattle.mime_view.proofs.HeadsLemmas.RisingSections.{rises_to}
 use Rattle.mime_view.proofs.magic.skip_refused.Goals as goal
 
 pub covers_rest-requires-clause-rises : goal.covers_rest-requires-clause-rises

@@ -2,7 +2,7 @@ use Rattle.std.proofs.Common.{◌≡◌, ℕ, ◌+◌, ◌*◌, length, arith, s
 use Rattle.std.proofs.lemmas.Result.{err_from_is_err_and}
 use Rattle.mime_view.specs.Magic.{IsSectionFault, ReadsSection, magic_price}
 use Rattle.mime_view.proofs.CostLemmas.Costs.{spends_then}
-use Rattle.mime_view.proofs.HeadsLemmas.PassedSections.{cost_after, left_after}
+use Rattle.mime_view.proofs.HeadsLemmas.SkippedSections.{cost_after, left_after}
 use Rattle.mime_view.proofs.MagicLemmas.SectionsLeft.{ended, next}
 use Rattle.mime_view.proofs.magic.sniff_open.Goals as goal
 
