@@ -6,6 +6,7 @@ pub mod HoldingLines
 pub mod Ranges
 pub mod Lanes
 pub mod PassedPairs
+pub mod StoppedPairs
 pub mod Skipping
 pub mod SecondBytes
 pub mod MostCompared

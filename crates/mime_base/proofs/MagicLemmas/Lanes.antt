@@ -1,16 +1,17 @@
 -- The places of a byte as the bits of a number.
 use Rattle.std.proofs.Common.{◌≡◌, ℕ, zero, suc, ◌+◌, ◌-◌, ◌*◌, ◌/◌, ◌%◌, ◌^◌, ◌<◌, ◌==◌, min, Bool, true, false, cond}
-use Rattle.std.proofs.Common.{List, [], ◌∷◌, length, get_or, map, take, bit_and, ap, ap₂, ◌∙◌, arith, w64}
+use Rattle.std.proofs.Common.{List, [], ◌∷◌, length, get_or, map, take, bit_and, refl, sym, ap, ap₂, ◌∙◌, arith, w64}
 use Rattle.std.specs.Int.{bit_at, trailing_zeros}
+use Rattle.std.specs.Int.Count.{trailing_of_zero}
 use Rattle.std.specs.Int.RustNames.{count_ones}
 use Rattle.std.specs.List.{count_by}
 use Rattle.std.specs.Simd.Lanes.{mask_l}
 use Rattle.std.proofs.Math.Arith.{mod-mul}
 use Rattle.std.proofs.Math.Nat.{pow-suc}
-use Rattle.std.proofs.lemmas.Bool.{eq-eqb}
+use Rattle.std.proofs.lemmas.Bool.{eq-eqb, eqb-true}
 use Rattle.std.proofs.lemmas.List.{get_or-map, take-map}
 use Rattle.std.proofs.lemmas.Nat.{and_mask, one_shl, pow_pos}
-use Rattle.std.proofs.lemmas.Nat.Bits.{bit_at-trailing_zeros, bit_at-zero, bit_at_and}
+use Rattle.std.proofs.lemmas.Nat.Bits.{bit_at-lt, bit_at-trailing_zeros, bit_at-zero, bit_at_and}
 use Rattle.std.proofs.lemmas.Simd.{bit_mask_l, ones-mask_l}
 
 -- the places of a byte, bit by bit
@@ -30,6 +31,31 @@ both_set b c xs ys i in_xs in_ys is_b is_c =
     let first = place_set b xs i in_xs is_b in
     let second = place_set c ys i in_ys is_c in
     bit_at_and (places b xs) (places c ys) i ∙ ap₂ (λ (m n : ℕ). min m n) first second
+
+-- where its bit is set the byte stands
+pub place_stands : (b : ℕ) (xs : List ℕ) (i : ℕ) → i < length xs → bit_at (places b xs) i ≡ 1 → get_or xs i 0 ≡ b
+place_stands b xs i below set = is_test (get_or xs i 0 == b) refl
+  where
+    is_test : (test : Bool) → (get_or xs i 0 == b) ≡ test → get_or xs i 0 ≡ b
+    is_test true e = eqb-true (get_or xs i 0) b e
+    is_test false e =
+        let lane = get_or-map (λ x. x == b) xs i 0 false below ∙ e in
+        let clear = bit_mask_l (map (λ x. x == b) xs) i ∙ ap (λ (m : Bool). cond m 1 0) lane in
+        absurd (omega (arith, set, clear))
+
+-- where the bit is set in both numbers, so do both
+pub both_stand : (b c : ℕ) (xs ys : List ℕ) (i : ℕ) → i < length xs → i < length ys
+    → bit_at (bit_and (places b xs) (places c ys)) i ≡ 1 → (get_or xs i 0 ≡ b) × (get_or ys i 0 ≡ c)
+both_stand b c xs ys i in_xs in_ys set =
+    let least = sym (bit_at_and (places b xs) (places c ys) i) ∙ set in
+    let few = bit_at-lt (places b xs) i in
+    let few_too = bit_at-lt (places c ys) i in
+    (place_stands b xs i in_xs (omega (arith, least, few, few_too)), place_stands c ys i in_ys (omega (arith, least, few, few_too)))
+
+-- the lowest is set, if one is
+pub lowest_set : (n : ℕ) → n < 2 ^ 64 → trailing_zeros w64 n < 64 → bit_at n (trailing_zeros w64 n) ≡ 1
+lowest_set zero small below = absurd (omega (arith, trailing_of_zero 64))
+lowest_set (suc n) small below = (bit_at-trailing_zeros w64 (suc n) (omega arith) small).1
 
 -- no bit is set before the lowest
 pub none_before : (n i : ℕ) → n < 2 ^ 64 → i < trailing_zeros w64 n → bit_at n i ≡ 0

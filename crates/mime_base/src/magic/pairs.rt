@@ -3,10 +3,10 @@
 //! Of most values that are sought in a range already the first byte is rare, and of the others the first two. So places are
 //! looked at 32 at once: one comparison for the first byte and, only where it is there, one for the second at the place after.
 
-ghost use Rattle.std.specs.Prelude.{◌≡◌, ◌+◌, ◌-◌, ◌<◌, ◌≤◌, ◌==◌, length, map, take, drop, IfSome};
+ghost use Rattle.std.specs.Prelude.{◌≡◌, ◌+◌, ◌-◌, ◌<◌, ◌≤◌, ◌==◌, ℕ, length, map, take, drop, IfSome, IsNone};
 ghost use Rattle.std.specs.List.{count_by};
 ghost use Rattle.std.specs.Simd.Lanes.{mask_l};
-ghost use Rattle.mime_base.specs.Magic.Pairs.{PassesPairs};
+ghost use Rattle.mime_base.specs.Magic.Pairs.{PassesPairs, StopsAtPair};
 
 use std::simd::prelude::*;
 
@@ -34,6 +34,8 @@ pub fn pass_pairs(first: u8, second: u8, bytes: &[u8], count: usize) -> Passed
     ensures passed { PassesPairs first second bytes.now result.length result.firsts }
     // They are among the places.
     ensures limit { result.length ≤ count }
+    // Where they are fewer than `count`, both stand at the next place.
+    ensures stops { StopsAtPair first second bytes.now count result.length }
 {
     let blocks = pass_blocks(first, second, bytes, count);
     let rest = pass_rest(
@@ -54,6 +56,8 @@ fn pass_blocks(first: u8, second: u8, bytes: &[u8], count: usize) -> Passed
     requires { count < length bytes.now }
     ensures passed { PassesPairs first second bytes.now result.length result.firsts }
     ensures limit { result.length ≤ count }
+    // A whole block that is left cannot be passed, since both stand at a place of it.
+    ensures stops { result.length + 32 ≤ count → (firsts : ℕ) → PassesPairs first second (drop result.length bytes.now) 32 firsts → ⊥ }
 {
     let (mut length, mut firsts) = (0, 0);
     while LANES <= count - length {
@@ -72,7 +76,9 @@ fn pass_blocks(first: u8, second: u8, bytes: &[u8], count: usize) -> Passed
 #[inline]
 fn firsts_of_block(first: u8, second: u8, bytes: &[u8]) -> Option<usize>
     requires { 32 < length bytes.now }
-    ensures { IfSome result (λ firsts. PassesPairs first second bytes.now 32 firsts) }
+    ensures some { IfSome result (λ firsts. PassesPairs first second bytes.now 32 firsts) }
+    // Else they cannot be passed, since both stand at one of them.
+    ensures none { IsNone result → (firsts : ℕ) → PassesPairs first second bytes.now 32 firsts → ⊥ }
 {
     let firsts = places_of(first, bytes);
     if firsts == 0 {
@@ -90,6 +96,8 @@ fn pass_rest(first: u8, second: u8, bytes: &[u8], count: usize) -> Passed
     requires { count < length bytes.now }
     ensures passed { PassesPairs first second bytes.now result.length result.firsts }
     ensures limit { result.length ≤ count }
+    // Before place 32 it stops only where both stand.
+    ensures stops { result.length < 32 → StopsAtPair first second bytes.now count result.length }
 {
     if count < FEW || bytes.len() <= LANES {
         return pass_one_by_one(first, second, bytes, count);
@@ -104,6 +112,7 @@ fn pass_lanes(first: u8, second: u8, bytes: &[u8], count: usize) -> Passed
     requires few { count ≤ 32 }
     ensures passed { PassesPairs first second bytes.now result.length result.firsts }
     ensures limit { result.length ≤ count }
+    ensures stops { StopsAtPair first second bytes.now count result.length }
 {
     let firsts = places_of(first, bytes);
     let pairs = firsts & places_of(second, &bytes[1..]);
@@ -132,6 +141,7 @@ fn pass_one_by_one(first: u8, second: u8, bytes: &[u8], count: usize) -> Passed
     requires { count < length bytes.now }
     ensures passed { PassesPairs first second bytes.now result.length result.firsts }
     ensures limit { result.length ≤ count }
+    ensures stops { StopsAtPair first second bytes.now count result.length }
 {
     let mut firsts = 0;
     for length in 0..count {
