@@ -10,7 +10,7 @@ use Rattle.mime_tool.specs.Line.{IsLineOf, IsLineOfKind, PlainLookup, cannot_ope
 use Rattle.mime_tool.specs.Output.{answer_of, written}
 use Rattle.mime_tool.specs.Plain.{lookup_over}
 use Rattle.mime_tool.specs.Run.{Run, cannot_read, printed, silent, stopped, unanswered}
-use Rattle.mime_tool.specs.Types.{cost_text, lookup_by}
+use Rattle.mime_tool.specs.Types.{cost_tail, lookup_by}
 use Rattle.mime_tool.specs.declared.line.Outcome.{Outcome}
 use Rattle.mime_tool.specs.declared.line.Outcome.TheVariants as outcome
 use Rattle.mime_tool.specs.declared.line.lookup.Cost.{Cost}
@@ -61,9 +61,8 @@ abbrev pub plain_lookup : Lookup → PlainLookup
 plain_lookup lookup = with_inode lookup.inode (lookup_in lookup.by lookup)
 
 -- what is told of a cost
-abbrev pub tail_of : Option Cost → List ℕ
-tail_of None = []
-tail_of (Some cost) = cost_text cost.meter cost.read
+abbrev pub tail_of : Cost → List ℕ
+tail_of cost = cost_tail cost.is_told cost.meter cost.read
 
 -- what is written of a file that comes to this, where its name is written so
 abbrev pub run_of : Output → List ℕ → Outcome → Run

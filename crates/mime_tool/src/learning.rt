@@ -1,19 +1,46 @@
 //! What is learnt of a cache in a run that looks up many FILEs.
 //!
-//! Learning takes about as long as a lookup by content, which it makes quicker then; where FILEs are looked up by their names alone,
-//! only what makes these lookups quicker is learnt, which takes less. So the first few FILEs of a run are looked up without: a run
-//! over one doesn't get dearer. Where memory is refused, or the cache isn't one that this can be learnt of, all are.
+//! The first few FILEs of a run are looked up without: a run over one doesn't get dearer. Then the glob list is learnt, which takes
+//! little, and makes lookups of names quicker. To learn the magic list takes about as long as a lookup by content, which it makes
+//! quicker: that is done only once a few contents were read, so never where the names decide or are all that is asked for. Where
+//! memory is refused, or the cache isn't one that this can be learnt of, FILEs are looked up by what was learnt before.
 
 ghost use Rattle.std.specs.Prelude.{◌≡◌, IfSome};
 ghost use Rattle.mime_tool.specs.LineSteps.{IsOfCache, LooksAlike, bytes_in, source_of};
 
-use crate::line::{Data, Lookup};
+use crate::line::{Data, Lookup, Outcome};
 use mime_base::{Counted, Meter};
 use mime_view::{Cache, MagicHeads};
 use std::alloc::Global;
 
-/// Before the FILE of this number something is learnt.
+/// Before the FILE of this number the glob list is learnt, and after so many contents the magic list.
 const FEW: u32 = 8;
+
+/// What is learnt at once.
+#[derive(Clone, Copy)]
+enum Part {
+    Globs,
+    GlobsAndMagic,
+}
+
+/// How many contents were read in a run.
+#[derive(Clone, Copy)]
+pub(crate) struct ContentsRead(u32);
+
+impl ContentsRead {
+    /// None was read yet.
+    pub(crate) fn none() -> ContentsRead {
+        ContentsRead(0)
+    }
+
+    /// Counts the content of a FILE that came to this, if it was read.
+    #[inline]
+    pub(crate) fn count(&mut self, outcome: &Outcome<'_>) {
+        if let Outcome::Typed(_, cost) = outcome {
+            self.0 = self.0.saturating_add(u32::from(0 < cost.read));
+        }
+    }
+}
 
 /// How the FILEs of a run are looked up, with what was learnt meanwhile.
 #[derive(Drop)]
@@ -22,6 +49,8 @@ pub(crate) struct Learning<'i, 'a> {
     heads: Option<MagicHeads<'a>>,
     /// How many FILEs there were, as far as that matters.
     files: u32,
+    /// Whether all was learnt that is to be, or couldn't be.
+    is_done: bool,
 }
 
 impl<'i, 'a> Learning<'i, 'a> {
@@ -35,23 +64,57 @@ impl<'i, 'a> Learning<'i, 'a> {
             lookup,
             heads: None,
             files: 0,
+            is_done: false,
         }
     }
 
-    /// Counts a FILE that is to be looked up, and learns at the last of the few.
-    pub(crate) fn count_file(&mut self, alloc: Global)
+    /// Counts a FILE that is to be looked up after so many contents were read, and learns what is to be learnt before it.
+    // Always inlined: before most FILEs nothing is.
+    #[inline(always)]
+    pub(crate) fn count_file(&mut self, alloc: Global, read: ContentsRead)
         requires { IsOfCache self.old }
         // FILEs are looked up as before.
         ensures lookup { self.new.lookup ≡ self.old.lookup }
         ensures learnt { IsOfCache self.new }
     {
-        if FEW <= self.files {
-            return;
+        if let Some(part) = self.next_part(read) {
+            self.learn_part(alloc, part);
         }
-        self.files += 1;
-        if self.files == FEW {
-            self.heads = learn(alloc, self.lookup.by, self.lookup.name_only);
+    }
+
+    // Learns this. Where that can't be done, what was learnt before stays.
+    // Never inlined: a run comes here twice at most.
+    #[inline(never)]
+    fn learn_part(&mut self, alloc: Global, part: Part)
+        requires { IsOfCache self.old }
+        ensures lookup { self.new.lookup ≡ self.old.lookup }
+        ensures learnt { IsOfCache self.new }
+    {
+        if let Some(heads) = learn(alloc, self.lookup.by, part) {
+            self.heads = Some(heads);
         }
+    }
+
+    // Counts a FILE, and says what is to be learnt before it.
+    // Always inlined, as its caller is.
+    #[inline(always)]
+    fn next_part(&mut self, read: ContentsRead) -> Option<Part>
+        ensures lookup { self.new.lookup ≡ self.old.lookup }
+        ensures heads { self.new.heads ≡ self.old.heads }
+    {
+        if self.files < FEW {
+            self.files += 1;
+            return if self.files == FEW {
+                Some(Part::Globs)
+            } else {
+                None
+            };
+        }
+        if self.is_done || read.0 < FEW {
+            return None;
+        }
+        self.is_done = true;
+        Some(Part::GlobsAndMagic)
     }
 
     /// How a FILE is looked up.
@@ -77,8 +140,8 @@ impl<'i, 'a> Learning<'i, 'a> {
     }
 }
 
-/// What is learnt of a cache, if something is: for names alone, or for contents too.
-fn learn<'a>(alloc: Global, by: Data<'_, 'a>, name_only: bool) -> Option<MagicHeads<'a>>
+/// What is learnt of a cache, if something is.
+fn learn<'a>(alloc: Global, by: Data<'_, 'a>, part: Part) -> Option<MagicHeads<'a>>
     ensures { IfSome result (λ heads. heads ≡ bytes_in by.entry) }
 {
     let Data::Cache { bytes, .. } = by else {
@@ -88,10 +151,9 @@ fn learn<'a>(alloc: Global, by: Data<'_, 'a>, name_only: bool) -> Option<MagicHe
     let Ok(cache) = Cache::open(Counted::new(bytes), &mut meter) else {
         return None;
     };
-    let learnt = if name_only {
-        cache.learn_globs(alloc, &mut meter)
-    } else {
-        cache.learn_heads(alloc, &mut meter)
+    let learnt = match part {
+        Part::Globs => cache.learn_globs(alloc, &mut meter),
+        Part::GlobsAndMagic => cache.learn_heads(alloc, &mut meter),
     };
     match learnt {
         Ok(heads) => heads,

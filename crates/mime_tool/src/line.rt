@@ -16,7 +16,7 @@ mod lookup;
 
 use crate::desk::{Desk, Opened, report};
 use crate::files::Inode;
-use crate::learning::Learning;
+use crate::learning::{ContentsRead, Learning};
 use crate::status::{ANSWERED, NOT_ANSWERED};
 use crate::stop::Stop;
 use crate::words::{RawWord, name_of};
@@ -30,8 +30,8 @@ use std::alloc::{AllocError, Global};
 /// What a FILE comes to.
 #[derive(Clone, Copy)]
 pub(crate) enum Outcome<'a> {
-    /// It has this type, at this cost if that is told.
-    Typed(&'a [u8], Option<Cost>),
+    /// It has this type, at this cost.
+    Typed(&'a [u8], Cost),
     CannotOpen,
     NameTooLong,
     CannotRead,
@@ -49,24 +49,27 @@ pub(crate) fn print_lines<D: Desk>(
 {
     let mut status = ANSWERED;
     let mut learning = Learning::new(lookup);
+    let mut read = ContentsRead::none();
     for file in files {
-        learning.count_file(desk.alloc());
+        learning.count_file(desk.alloc(), read);
         let lookup = learning.lookup();
-        status = status.max(print_line(desk, lookup, name_of(raws, file))?);
+        status = status.max(print_line(desk, lookup, &mut read, name_of(raws, file))?);
     }
     Ok(status)
 }
 
-/// Prints the line of one file, or says why there is none.
+/// Prints the line of one file, or says why there is none, and counts its content if that was read.
 pub(crate) fn print_line<D: Desk>(
     desk: &mut D,
     lookup: Lookup<'_, '_>,
+    read: &mut ContentsRead,
     file: &[u8],
 ) -> Result<u8, Stop>
     ensures { Works (Ends (λ _. IsTypeLine (plain_lookup lookup.entry) (D.state desk.old).stored file.now) [])
         (D.state desk.old) (D.state desk.new) result }
 {
     let outcome = outcome_of(desk, lookup, file)?;
+    read.count(&outcome);
     print_outcome(desk, lookup.output, file, outcome)
 }
 
@@ -173,7 +176,7 @@ fn print_type<D: Desk>(
     output: Output,
     name: &[u8],
     kind: &[u8],
-    cost: Option<Cost>,
+    cost: Cost,
 ) -> Result<u8, Stop>
     ensures { Works (Ends (λ _ run. run ≡ printed (answer_of output name.now (written output kind.now) (tail_of cost))) [])
         (D.state desk.old) (D.state desk.new) result }
@@ -189,7 +192,7 @@ fn print_kind<D: Desk>(
     output: Output,
     name: &[u8],
     kind: &[u8],
-    cost: Option<Cost>,
+    cost: Cost,
 ) -> Result<(), Stop>
     ensures { Works (Does (printed (answer_of output name.now (written output kind.now) (tail_of cost))))
         (D.state desk.old) (D.state desk.new) result }
@@ -210,24 +213,27 @@ fn print_told<D: Desk>(
     output: Output,
     name: &[u8],
     kind: &[u8],
-    cost: Option<Cost>,
+    cost: Cost,
 ) -> Result<(), Stop>
     ensures { Works (Does (printed (answer_of output name.now kind.now (tail_of cost))))
         (D.state desk.old) (D.state desk.new) result }
 {
-    match cost {
-        None => print_pieces(desk, output, name, kind, b""),
-        Some(cost) => {
-            let tail = told(desk.alloc(), cost)?;
-            print_pieces(desk, output, name, kind, tail.as_bytes())
-        }
+    if cost.is_told {
+        let tail = told(desk.alloc(), cost)?;
+        print_pieces(desk, output, name, kind, tail.as_bytes())
+    } else {
+        print_pieces(desk, output, name, kind, b"")
     }
 }
 
 fn told(alloc: Global, cost: Cost) -> Result<String, AllocError>
     ensures { IfOk result (λ text. string_bytes text ≡ cost_text cost.meter cost.read) }
 {
-    let Cost { meter, read } = cost;
+    let Cost {
+        is_told: _,
+        meter,
+        read,
+    } = cost;
     let (nodes, bytes) = (meter.nodes, meter.bytes);
     format!(in alloc; " nodes={nodes} bytes={bytes} read={read}")
 }

@@ -12,7 +12,7 @@ ghost use Rattle.mime_tool.specs.Subjects.{AreRuns, list_at, names_in};
 ghost use Rattle.mime_tool.specs.Words.{named_subjects};
 
 use crate::desk::Desk;
-use crate::learning::Learning;
+use crate::learning::{ContentsRead, Learning};
 use crate::line::{Lookup, Outcome, find, print_line, print_lines, print_outcome, refuse};
 use crate::names::{Names, next_name};
 use crate::status::ANSWERED;
@@ -105,13 +105,14 @@ fn print_names<D: Desk, R: Content + Drop>(
     let mut names = Names::new(desk.alloc(), reader);
     let mut status = ANSWERED;
     let mut learning = Learning::new(lookup);
+    let mut read = ContentsRead::none();
     for number in 1..u64::MAX {
         let Some(name) = next_name(desk, &mut names, list)? else {
             return Ok(status);
         };
-        learning.count_file(desk.alloc());
+        learning.count_file(desk.alloc(), read);
         let lookup = learning.lookup();
-        status = status.max(print_name(desk, lookup, list, number, name.as_slice())?);
+        status = status.max(print_name(desk, lookup, &mut read, list, number, name.as_slice())?);
         names.take_back(name);
     }
     // There is no number for one more name.
@@ -122,6 +123,7 @@ fn print_names<D: Desk, R: Content + Drop>(
 fn print_name<D: Desk>(
     desk: &mut D,
     lookup: Lookup<'_, '_>,
+    read: &mut ContentsRead,
     list: &str,
     number: u64,
     name: &[u8],
@@ -132,7 +134,7 @@ fn print_name<D: Desk>(
     if name.is_empty() {
         refuse_empty(desk, list, number)
     } else {
-        print_line(desk, lookup, name)
+        print_line(desk, lookup, read, name)
     }
 }
 

@@ -52,6 +52,8 @@ pub(crate) struct Lookup<'i, 'a> {
 /// What an answer cost: what was looked at, and how many bytes of the content were read.
 #[derive(Clone, Copy)]
 pub(crate) struct Cost {
+    /// Whether it is told.
+    pub(crate) is_told: bool,
     pub(crate) meter: Meter,
     pub(crate) read: u64,
 }
@@ -111,7 +113,7 @@ fn find_in_database<'a, R: Content + Drop>(
 {
     let name = name_for(order, file);
     match look_up_indexed(alloc, index, name, &mut content, Host::Little, order) {
-        Ok(answer) => Ok(Outcome::Typed(answer.kind, None)),
+        Ok(answer) => Ok(Outcome::Typed(answer.kind, cost_of(false, answer.meter, answer.read))),
         Err(stopped) => match stopped.cause {
             Cause::NameTooLong => Ok(Outcome::NameTooLong),
             Cause::Read => Ok(Outcome::CannotRead),
@@ -146,25 +148,25 @@ fn find_in_cache<'a, R: Content + Drop>(
     }
 }
 
-/// What an answer cost for which nothing was looked at, where that is told.
-pub(super) fn free(lookup: Lookup<'_, '_>) -> Option<Cost>
+/// What an answer cost for which nothing was looked at.
+pub(super) fn free(lookup: Lookup<'_, '_>) -> Cost
     ensures { tail_of result ≡ (plain_lookup lookup.entry).free }
 {
     match lookup.by {
-        Data::Database(_) => None,
+        Data::Database(_) => cost_of(false, Meter { nodes: 0, bytes: 0 }, 0),
         Data::Cache { cost, .. } => cost_of(cost, Meter { nodes: 0, bytes: 0 }, 0),
         Data::Learnt { cost, .. } => cost_of(cost, Meter { nodes: 0, bytes: 0 }, 0),
     }
 }
 
-// What an answer cost, where that is told.
-pub(super) fn cost_of(is_told: bool, meter: Meter, read: u64) -> Option<Cost>
+// What an answer cost, and whether that is told.
+pub(super) fn cost_of(is_told: bool, meter: Meter, read: u64) -> Cost
     ensures { tail_of result ≡ cost_tail is_told meter read }
 {
-    if is_told {
-        Some(Cost { meter, read })
-    } else {
-        None
+    Cost {
+        is_told,
+        meter,
+        read,
     }
 }
 

@@ -6,8 +6,8 @@ use Rattle.mime_tool.specs.Run.{printed}
 use Rattle.mime_tool.proofs.DeskLemmas.Desks.{does_nothing}
 use Rattle.mime_tool.proofs.line.print_told.Goals as goal
 
-pub returns-in_err-tail-in-Some : goal.returns-in_err-tail-in-Some
-returns-in_err-tail-in-Some g c =
+pub returns-in_err-tail : goal.returns-in_err-tail
+returns-in_err-tail g c =
     let e = err_from_is_err_and c.from_residual.result c.from_residual.ensures.1 in
     rw (e.1, e.2) (record {
       same_files = refl;
