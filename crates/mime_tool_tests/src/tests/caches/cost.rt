@@ -93,23 +93,27 @@ fn tells_the_cost(rt: HostRuntime) -> Result<(), Fail> {
 }
 
 /// Names that one or both of two rules match, and others.
-static NAMES: [&str; 12] = [
-    "m", "mx", "ax", "a", "M", "mk", "xx", "b", "axe", "MX", "AX", "c",
+static NAMES: [&str; 14] = [
+    "m", "mx", "ax", "a", "M", "mk", "xx", "b", "axe", "MX", "AX", "c", "readme", "makefile",
 ];
 
-/// The cache of two rules that stand in the glob list.
-fn of_general_rules(alloc: Global) -> Result<Vec<u8>, Fail> {
-    let file = read_globs2(alloc, b"50:t/m:m*\n60:t/x:?x*:cs\n")?;
+/// Two rules that stand in the glob list. Learning takes 64 bytes and the pattern's of each, and no more than the cache has: of
+/// these the first alone is learnt.
+const FEW_RULES: &[u8] = b"50:t/m:m*\n60:t/x:?x*:cs\n";
+
+/// With what stands elsewhere beside them both are.
+const MORE_RULES: &[u8] = b"50:t/m:m*\n60:t/x:?x*:cs\n50:t/r:readme\n50:t/r:makefile\n";
+
+/// The cache of these rules.
+fn of_rules(alloc: Global, globs2: &[u8]) -> Result<Vec<u8>, Fail> {
+    let file = read_globs2(alloc, globs2)?;
     let database = Database::of_rules(alloc, file.rules);
     Ok(write_cache(alloc, &database, usize::MAX)?)
 }
 
 /// Of many names the last are looked up by what was learnt of the cache: each has the line that it has in a run of its own.
-#[test]
-fn many_names_cost_alike(rt: HostRuntime) -> Result<(), Fail> {
-    let alloc = rt.alloc();
-    let cache = of_general_rules(alloc)?;
-    let entries = [("/c", Entry::Bytes(&cache))];
+fn cost_alike(rt: &impl Abort, alloc: Global, cache: &[u8]) -> Result<(), Fail> {
+    let entries = [("/c", Entry::Bytes(cache))];
     let mut files = Shelf { entries: &entries };
     let (mut apart, mut out, mut err) = (Vec::new(alloc), Vec::new(alloc), Vec::new(alloc));
     let mut words = Vec::new(alloc);
@@ -119,12 +123,23 @@ fn many_names_cost_alike(rt: HostRuntime) -> Result<(), Fail> {
     for &name in &NAMES {
         let alone = ["type", "-c", "/c", "--name-only", "--cost", name];
         let status = ran(alloc, &alone, &mut files, &mut apart, &mut err);
-        alike(&rt, "status", status, 0);
+        alike(rt, "status", status, 0);
         words.push(name)?;
     }
     let status = ran(alloc, &words, &mut files, &mut out, &mut err);
-    alike(&rt, "status", status, 0);
-    alike(&rt, "said", err.as_slice(), b"");
-    alike(&rt, "printed", out.as_slice(), apart.as_slice());
+    alike(rt, "status", status, 0);
+    alike(rt, "said", err.as_slice(), b"");
+    alike(rt, "printed", out.as_slice(), apart.as_slice());
     Ok(())
+}
+
+#[test]
+fn many_names_cost_alike(rt: HostRuntime) -> Result<(), Fail> {
+    let alloc = rt.alloc();
+    let few = of_rules(alloc, FEW_RULES)?;
+    alike(&rt, "no room", few.len() < 64 + 2 + 64 + 3, true);
+    cost_alike(&rt, alloc, &few)?;
+    let more = of_rules(alloc, MORE_RULES)?;
+    alike(&rt, "room", 64 + 2 + 64 + 3 <= more.len(), true);
+    cost_alike(&rt, alloc, &more)
 }

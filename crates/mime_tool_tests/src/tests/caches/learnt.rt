@@ -3,80 +3,182 @@
 use super::sample::SAMPLE;
 use crate::tests::ran::{alike, ran};
 use crate::{Entry, Shelf};
+use mime_store::write_cache;
+use mime_text::{DirTexts, merge, read_dirs};
 use std::alloc::Global;
 use std::process::Abort;
 use std::test::Fail;
 
-const FILES: [&str; 12] = [
-    "/text", "/gz", "/near", "/empty", "/one", "/mk", "/x.gz", "/text", "/gz", "/near", "/empty",
-    "/mk",
+/// Two rules that stand in a glob list, and a section beside them.
+const GENERAL: [DirTexts<'static>; 1] = [DirTexts {
+    globs2: b"50:t/m:m*\n60:t/x:?x*:cs\n50:t/g:*.gz\n50:t/r:readme\n",
+    magic: b"MIME-Magic\0\n[40:t/g]\n>0=\0\x02\x1f\x8b\n",
+    aliases: b"",
+    subclasses: b"",
+    icons: b"",
+    generic_icons: b"",
+}];
+
+/// The default order, in which a content is read where the name doesn't decide, and what else can be asked for.
+const ASKED: [&[&str]; 5] = [
+    &[],
+    &["--content-only"],
+    &["--magic-first"],
+    &["--all-globs"],
+    &["--name-only"],
 ];
 
-const ENTRIES: [(&str, Entry<'static>); 9] = [
-    ("/c", Entry::Bytes(&SAMPLE)),
-    ("/text", Entry::Bytes(b"hello")),
-    ("/gz", Entry::Bytes(&[0x1f, 0x8b, 8])),
-    ("/near", Entry::Bytes(&[0x1f, 0x8c, 8])),
-    ("/empty", Entry::Bytes(b"")),
-    ("/one", Entry::Bytes(&[0x1f])),
-    ("/mk", Entry::Bytes(b"all:\n")),
-    ("/x.gz", Entry::Bytes(b"none")),
-    (
-        "/list",
-        Entry::Bytes(
-            b"/text\0/gz\0/near\0/empty\0/one\0/mk\0/x.gz\0/text\0/gz\0/near\0/empty\0/mk\0",
-        ),
-    ),
+/// Names that decide in both caches, in one or in none, of contents of all kinds.
+const MIXED: [&str; 20] = [
+    "/text", "/gz", "/near", "/empty", "/one", "/mk", "/x.gz", "/ax", "/MX", "/text", "/gz",
+    "/near", "/empty", "/one", "/mk", "/x.gz", "/ax", "/MX", "/gz", "/text",
 ];
 
-/// What a run over the shelf prints; it says nothing.
-fn printed(rt: &impl Abort, alloc: Global, words: &[&str]) -> Vec<u8> {
+/// No name decides: the magic list is learnt before the ninth FILE.
+const READ_FROM_THE_FIRST: [&str; 18] = [
+    "/text", "/gz", "/near", "/one", "/text", "/gz", "/near", "/one", "/text", "/gz", "/near",
+    "/one", "/text", "/gz", "/near", "/one", "/text", "/gz",
+];
+
+/// In the default order the contents of the ninth to the twentieth are read: the magic list is learnt before the seventeenth.
+const READ_FROM_THE_NINTH: [&str; 22] = [
+    "/mk", "/x.gz", "/mk", "/x.gz", "/mk", "/x.gz", "/mk", "/x.gz", "/text", "/gz", "/near",
+    "/one", "/text", "/gz", "/near", "/one", "/text", "/gz", "/near", "/one", "/mk", "/x.gz",
+];
+
+/// The cache, the list and the files.
+fn stored<'a>(cache: &'a [u8], list: &'a [u8]) -> [(&'a str, Entry<'a>); 11] {
+    [
+        ("/c", Entry::Bytes(cache)),
+        ("/list", Entry::Bytes(list)),
+        ("/text", Entry::Bytes(b"hello")),
+        ("/gz", Entry::Bytes(&[0x1f, 0x8b, 8])),
+        ("/near", Entry::Bytes(&[0x1f, 0x8c, 8])),
+        ("/empty", Entry::Bytes(b"")),
+        ("/one", Entry::Bytes(&[0x1f])),
+        ("/mk", Entry::Bytes(b"all:\n")),
+        ("/x.gz", Entry::Bytes(b"none")),
+        ("/ax", Entry::Bytes(&[0x1f, 0x8b])),
+        ("/MX", Entry::Bytes(b"all:\n")),
+    ]
+}
+
+/// What a run prints; it says nothing.
+fn printed(
+    rt: &impl Abort,
+    alloc: Global,
+    entries: &[(&str, Entry<'_>)],
+    words: &[&str],
+) -> Vec<u8> {
     let (mut out, mut err) = (Vec::new(alloc), Vec::new(alloc));
-    let status = ran(
-        alloc,
-        words,
-        &mut Shelf { entries: &ENTRIES },
-        &mut out,
-        &mut err,
-    );
+    let status = ran(alloc, words, &mut Shelf { entries }, &mut out, &mut err);
     alike(rt, "status", status, 0);
     alike(rt, "said", err.as_slice(), b"");
     out
 }
 
+/// The words of a run with what is asked, over this.
+fn words_of(
+    alloc: Global,
+    asked: &[&'static str],
+    over: &[&'static str],
+) -> Result<Vec<&'static str>, Fail> {
+    let mut words = Vec::from_slice(alloc, &["type", "-c", "/c", "--cost"])?;
+    words.extend_from_slice(asked)?;
+    words.extend_from_slice(over)?;
+    Ok(words)
+}
+
 /// The lines of runs over each FILE alone.
-fn printed_alone(rt: &impl Abort, alloc: Global, options: [&str; 2]) -> Result<Vec<u8>, Fail> {
-    let [how, cost] = options;
+fn printed_alone(
+    rt: &impl Abort,
+    alloc: Global,
+    entries: &[(&str, Entry<'_>)],
+    asked: &[&'static str],
+    files: &[&'static str],
+) -> Result<Vec<u8>, Fail> {
     let mut lines = Vec::new(alloc);
-    for file in FILES {
-        let line = printed(rt, alloc, &["type", "-c", "/c", how, cost, file]);
+    let mut words = words_of(alloc, asked, &[])?;
+    for file in files {
+        words.push(file)?;
+        let line = printed(rt, alloc, entries, &words);
         lines.extend_from_slice(&line)?;
+        let _ = words.pop();
     }
     Ok(lines)
 }
 
-/// The lines of one run, by words and by a list.
-fn prints_as_alone(rt: &impl Abort, alloc: Global, options: [&str; 2]) -> Result<(), Fail> {
-    let [how, cost] = options;
-    let alone = printed_alone(rt, alloc, options)?;
-    let of_list = printed(
-        rt,
-        alloc,
-        &["type", "-c", "/c", how, cost, "--files0-from", "/list"],
-    );
-    alike(rt, how, of_list.as_slice(), alone.as_slice());
-    let mut words = Vec::from_slice(alloc, &["type", "-c", "/c", how, cost])?;
-    words.extend_from_slice(&FILES)?;
-    let of_words = printed(rt, alloc, &words);
-    alike(rt, how, of_words.as_slice(), alone.as_slice());
+/// The list of these names.
+fn listed(alloc: Global, files: &[&str]) -> Result<Vec<u8>, Fail> {
+    let mut list = Vec::new(alloc);
+    for file in files {
+        list.extend_from_slice(file.as_bytes())?;
+        list.push(0)?;
+    }
+    Ok(list)
+}
+
+/// One run prints the lines of runs over each FILE alone, by words and by a list.
+fn prints_as_alone(
+    rt: &impl Abort,
+    alloc: Global,
+    cache: &[u8],
+    asked: &[&'static str],
+    files: &[&'static str],
+) -> Result<(), Fail> {
+    let list = listed(alloc, files)?;
+    let entries = stored(cache, &list);
+    let alone = printed_alone(rt, alloc, &entries, asked, files)?;
+    let words = words_of(alloc, asked, files)?;
+    let by_words = printed(rt, alloc, &entries, &words);
+    alike(rt, "by words", by_words.as_slice(), alone.as_slice());
+    let words = words_of(alloc, asked, &["--files0-from", "/list"])?;
+    let by_list = printed(rt, alloc, &entries, &words);
+    alike(rt, "by a list", by_list.as_slice(), alone.as_slice());
     Ok(())
+}
+
+/// The same over what is asked for in each way.
+fn prints_as_alone_however_asked(
+    rt: &impl Abort,
+    alloc: Global,
+    cache: &[u8],
+    files: &[&'static str],
+) -> Result<(), Fail> {
+    for asked in &ASKED {
+        prints_as_alone(rt, alloc, cache, asked, files)?;
+    }
+    Ok(())
+}
+
+/// The cache of two rules that stand in its glob list, with so many bytes that both are learnt: 64 and the pattern's of each.
+fn of_general_rules(rt: &impl Abort, alloc: Global) -> Result<Vec<u8>, Fail> {
+    let database = merge(alloc, read_dirs(alloc, &GENERAL)?)?;
+    let cache = write_cache(alloc, &database, usize::MAX)?;
+    alike(rt, "room", 64 + 2 + 64 + 3 <= cache.len(), true);
+    Ok(cache)
 }
 
 #[test]
 fn lines_of_many_files(rt: HostRuntime) -> Result<(), Fail> {
     let alloc = rt.alloc();
-    prints_as_alone(&rt, alloc, ["--content-only", "--cost"])?;
-    prints_as_alone(&rt, alloc, ["--magic-first", "--cost"])?;
-    prints_as_alone(&rt, alloc, ["--all-globs", "--cost"])?;
-    prints_as_alone(&rt, alloc, ["--name-only", "--cost"])
+    prints_as_alone_however_asked(&rt, alloc, &SAMPLE, &MIXED)?;
+    let general = of_general_rules(&rt, alloc)?;
+    prints_as_alone_however_asked(&rt, alloc, &general, &MIXED)
+}
+
+#[test]
+fn lines_of_many_contents(rt: HostRuntime) -> Result<(), Fail> {
+    let alloc = rt.alloc();
+    prints_as_alone_however_asked(&rt, alloc, &SAMPLE, &READ_FROM_THE_FIRST)?;
+    let general = of_general_rules(&rt, alloc)?;
+    prints_as_alone_however_asked(&rt, alloc, &general, &READ_FROM_THE_FIRST)
+}
+
+#[test]
+fn lines_of_contents_after_names(rt: HostRuntime) -> Result<(), Fail> {
+    let alloc = rt.alloc();
+    prints_as_alone_however_asked(&rt, alloc, &SAMPLE, &READ_FROM_THE_NINTH)?;
+    let general = of_general_rules(&rt, alloc)?;
+    prints_as_alone_however_asked(&rt, alloc, &general, &READ_FROM_THE_NINTH)
 }
