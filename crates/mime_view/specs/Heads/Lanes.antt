@@ -2,6 +2,7 @@
 use Rattle.std.specs.Prelude.{◌≡◌, ◌⊎◌, ℕ, ◌+◌, ◌<◌, ◌≤◌, List, length, get_or}
 use Rattle.mime_view.specs.Heads.{no_head}
 use Rattle.mime_view.specs.declared.heads.Head.{Head}
+use Rattle.mime_view.specs.declared.heads.lanes.LanedHeads.{LanedHeads}
 
 -- a place among the first sixteen, or a number of which a shuffle makes 0
 abbrev pub IsRoom : ℕ → Type 0
@@ -24,6 +25,10 @@ pub record AreLanes (heads : List Head) (firsts places : List ℕ) : Type 0 wher
   pub as_many_firsts : length firsts ≡ length heads
   pub as_many_places : length places ≡ length heads
   pub each : (j : ℕ) → j < length heads → IsLane (get_or heads j no_head) (get_or firsts j 0) (get_or places j 0)
+
+-- the heads that are learnt have their lanes
+abbrev pub HaveLanes : LanedHeads → Type 0
+HaveLanes laned = AreLanes laned.heads.items laned.lanes.firsts.items laned.lanes.places.items
 
 -- Another byte than that of a lane is at its place, or is made by a shuffle.
 pub record Differs (bytes : List ℕ) (first place : ℕ) : Type 0 where

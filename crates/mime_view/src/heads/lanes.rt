@@ -4,10 +4,10 @@
 //! so do these places: one shuffle of the first sixteen bytes of a content by the places, and one comparison with the first
 //! bytes, refuse sixteen heads but for the few that begin so. Any other head has a lane that is never refused.
 
-ghost use Rattle.std.specs.Prelude.{◌≡◌, ◌+◌, ◌<◌, ◌≤◌, ℕ, get_or, length, IfOk};
+ghost use Rattle.std.specs.Prelude.{◌≡◌, ◌+◌, ◌<◌, ◌≤◌, ℕ, [], ◌∷◌, ◌++◌, get_or, length, OnOk};
 ghost use Rattle.std.specs.Int.{bit_at};
 ghost use Rattle.mime_view.specs.Heads.{Refuses, no_head};
-ghost use Rattle.mime_view.specs.Heads.Lanes.{AreLanes, Differs, IsLane, IsRoom};
+ghost use Rattle.mime_view.specs.Heads.Lanes.{AreLanes, Differs, HaveLanes, IsLane, IsRoom};
 
 use crate::heads::refusing::{Beside, refuses};
 use crate::heads::{Head, Learnt};
@@ -33,6 +33,15 @@ pub struct Lanes {
     pub places: Vec<u8>,
 }
 
+/// Heads as they are learnt, each with its lane.
+#[derive(Drop)]
+pub struct LanedHeads {
+    /// What the top lines look at.
+    pub heads: Vec<Head>,
+    /// The same side by side.
+    pub lanes: Lanes,
+}
+
 /// The lane of a head.
 #[derive(Clone, Copy)]
 struct Lane {
@@ -40,18 +49,35 @@ struct Lane {
     place: u8,
 }
 
-/// The lanes of some heads.
-pub fn lanes_of(alloc: Global, heads: &[Head]) -> Result<Lanes, OutOfMemory>
-    // There is one for each.
-    ensures { IfOk result (λ lanes. AreLanes heads.now lanes.firsts.items lanes.places.items) }
-{
-    let (mut firsts, mut places) = (Vec::new(alloc), Vec::new(alloc));
-    for i in 0..heads.len() {
-        let lane = lane_of(heads[i]);
-        firsts.push(lane.first)?;
-        places.push(lane.place)?;
+impl LanedHeads {
+    /// No heads.
+    pub fn new(alloc: Global) -> LanedHeads
+        ensures heads { result.heads.items ≡ [] }
+        ensures lanes { HaveLanes result }
+    {
+        LanedHeads {
+            heads: Vec::new(alloc),
+            lanes: Lanes {
+                firsts: Vec::new(alloc),
+                places: Vec::new(alloc),
+            },
+        }
     }
-    Ok(Lanes { firsts, places })
+
+    /// A head comes to the others, and its lane to theirs.
+    pub fn push(&mut self, head: Head) -> Result<(), OutOfMemory>
+        requires lanes { HaveLanes self.old }
+        // It is the last one.
+        ensures heads { OnOk result (self.new.heads.items ≡ self.old.heads.items ++ (head ∷ [])) }
+        // There is one for each.
+        ensures lanes { OnOk result (HaveLanes self.new) }
+    {
+        let lane = lane_of(head);
+        self.heads.push(head)?;
+        self.lanes.firsts.push(lane.first)?;
+        self.lanes.places.push(lane.place)?;
+        Ok(())
+    }
 }
 
 /// The lane of one head.

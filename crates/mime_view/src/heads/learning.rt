@@ -2,12 +2,12 @@
 
 ghost use Rattle.std.specs.Prelude.{◌≡◌, ◌+◌, ◌-◌, ◌*◌, ◌≤◌, [], ◌∷◌, ◌++◌, length, slice_index, true, IfOk, IfSome, OnOk};
 ghost use Rattle.mime_view.specs.Heads.{AreHeads, IsSecond, KeepsFirst, LearnsLines, LearnsSection, LooksAtLine, TellsSections, open_head};
-ghost use Rattle.mime_view.specs.Heads.Lanes.{AreLanes};
+ghost use Rattle.mime_view.specs.Heads.Lanes.{AreLanes, HaveLanes};
 ghost use Rattle.mime_view.specs.Learning.{AddsMagic, AddsSections, magic_room};
 ghost use Rattle.mime_view.specs.Magic.{LiesBlock};
 ghost use Rattle.mime_view.specs.Spending.{Looks as Counts};
 
-use crate::heads::lanes::lanes_of;
+use crate::heads::lanes::LanedHeads;
 use crate::heads::{Before, Head, Learnt};
 use crate::magic::check_block;
 use mime_base::{Counted, Meter, OutOfMemory};
@@ -67,7 +67,7 @@ fn learn_sections(
     ensures cost { AddsSections count (magic_room counted.now) meter.old meter.new }
 {
     let mut before = Vec::new(alloc);
-    let mut heads = Vec::new(alloc);
+    let mut heads = LanedHeads::new(alloc);
     let mut all = Before {
         heads: 0,
         value_bytes: 0,
@@ -82,11 +82,10 @@ fn learn_sections(
         before.push(after)?;
         all = after;
     }
-    let lanes = lanes_of(alloc, &heads)?;
     Ok(Some(Learnt {
         before,
-        heads,
-        lanes,
+        heads: heads.heads,
+        lanes: heads.lanes,
     }))
 }
 
@@ -97,23 +96,26 @@ fn learn_section(
     at: u64,
     section: u32,
     all: Before,
-    heads: &mut Vec<Head>,
+    heads: &mut LanedHeads,
     meter: &mut Meter,
 ) -> Result<Option<Before>, OutOfMemory>
     requires inside { at + 16 ≤ length counted.now }
-    requires all { all.heads ≡ length heads.old.items }
+    requires all { all.heads ≡ length heads.old.heads.items }
+    requires lanes { HaveLanes heads.old }
     ensures section { IfOk result (λ after. IfSome after
-        (λ to. LearnsSection counted.now at section all to heads.old.items heads.new.items)) }
+        (λ to. LearnsSection counted.now at section all to heads.old.heads.items heads.new.heads.items)) }
+    // Each has its lane.
+    ensures lanes { IfOk result (λ after. IfSome after (λ _. HaveLanes heads.new)) }
     // There is room for them.
-    ensures room { IfOk result (λ after. IfSome after (λ _. length heads.new.items ≤ magic_room counted.now)) }
+    ensures room { IfOk result (λ after. IfSome after (λ _. length heads.new.heads.items ≤ magic_room counted.now)) }
     // It reads the section, and no more lines than came.
     ensures paid { IfOk result (λ after. IfSome after
-        (λ _. AddsSections 1 (length heads.new.items - length heads.old.items) meter.old meter.new)) }
+        (λ _. AddsSections 1 (length heads.new.heads.items - length heads.old.heads.items) meter.old meter.new)) }
     // Where nothing is given it reads no more lines than there is room for.
-    ensures cost { AddsSections 1 (magic_room counted.now - length heads.old.items) meter.old meter.new }
+    ensures cost { AddsSections 1 (magic_room counted.now - length heads.old.heads.items) meter.old meter.new }
 {
     let [_, _, count, first] = counted.cards_within::<4>(at, meter);
-    if counted.length() / ROOM < heads.len() as u64 + u64::from(count) {
+    if counted.length() / ROOM < heads.heads.len() as u64 + u64::from(count) {
         return Ok(None);
     }
     let Ok(()) = check_block(counted, u64::from(first), 32, u64::from(count)) else {
@@ -131,16 +133,19 @@ fn learn_lines(
     count: u32,
     section: u32,
     all: Before,
-    heads: &mut Vec<Head>,
+    heads: &mut LanedHeads,
     meter: &mut Meter,
 ) -> Result<Before, OutOfMemory>
     requires block { LiesBlock counted.now first 32 count }
-    requires all { all.heads ≡ length heads.old.items }
-    ensures lines { IfOk result (λ to. LearnsLines counted.now first count section all to heads.old.items heads.new.items) }
+    requires all { all.heads ≡ length heads.old.heads.items }
+    requires lanes { HaveLanes heads.old }
+    ensures lines { IfOk result (λ to. LearnsLines counted.now first count section all to heads.old.heads.items heads.new.heads.items) }
+    // Each has its lane.
+    ensures lanes { OnOk result (HaveLanes heads.new) }
     // There are no more heads than lines.
-    ensures few { OnOk result (length heads.new.items ≤ length heads.old.items + count) }
+    ensures few { OnOk result (length heads.new.heads.items ≤ length heads.old.heads.items + count) }
     // It reads no more lines than heads came.
-    ensures paid { OnOk result (AddsSections 0 (length heads.new.items - length heads.old.items) meter.old meter.new) }
+    ensures paid { OnOk result (AddsSections 0 (length heads.new.heads.items - length heads.old.heads.items) meter.old meter.new) }
     // Out of memory, it reads no more than there are.
     ensures cost { AddsSections 0 count meter.old meter.new }
 {
@@ -153,7 +158,7 @@ fn learn_lines(
         };
         heads.push(looks.head)?;
         all = Before {
-            heads: heads.len(),
+            heads: heads.heads.len(),
             value_bytes: looks.value_bytes,
             windows: looks.windows,
         };
@@ -162,11 +167,14 @@ fn learn_lines(
 }
 
 /// A head that refuses nothing comes to the others, so that its section is always looked at.
-fn end_open(all: Before, section: u32, heads: &mut Vec<Head>) -> Result<Before, OutOfMemory>
+fn end_open(all: Before, section: u32, heads: &mut LanedHeads) -> Result<Before, OutOfMemory>
+    requires lanes { HaveLanes heads.old }
     // It is the last one.
-    ensures heads { OnOk result (heads.new.items ≡ heads.old.items ++ (open_head section ∷ [])) }
+    ensures heads { OnOk result (heads.new.heads.items ≡ heads.old.heads.items ++ (open_head section ∷ [])) }
+    // Each has its lane.
+    ensures lanes { OnOk result (HaveLanes heads.new) }
     // It has no value bytes and no places.
-    ensures all { IfOk result (λ to. to ≡ record all { heads = length heads.new.items }) }
+    ensures all { IfOk result (λ to. to ≡ record all { heads = length heads.new.heads.items }) }
 {
     heads.push(Head {
         first: 0,
@@ -178,7 +186,7 @@ fn end_open(all: Before, section: u32, heads: &mut Vec<Head>) -> Result<Before, 
         section,
     })?;
     Ok(Before {
-        heads: heads.len(),
+        heads: heads.heads.len(),
         value_bytes: all.value_bytes,
         windows: all.windows,
     })

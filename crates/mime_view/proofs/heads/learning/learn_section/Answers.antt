@@ -8,5 +8,5 @@ returns-clause-section c =
     let number : (i : ℕ) → get_or c.cards_within.result i 0 ≡ get_or (fields c.args.counted.now c.args.at 4) i 0 =
     λ i. ap (λ (ns : List ℕ). get_or ns i 0) c.cards_within.ensures.numbers in
     section_learnt c.args.counted.now c.args.at c.args.section c.args.all c.in_ok-after-2.after
-    c.args.heads.now.items c.learn_lines.new.heads.items
+    c.args.heads.now.heads.items c.learn_lines.new.heads.heads.items
     c.requires.all (rw (number 3, number 2) at c.in_ok-after-2.ensures.lines)
