@@ -6,7 +6,9 @@ pub mod RisingSections
 pub mod PassedSections
 pub mod SkippedSections
 pub mod LearntLines
+pub mod ToldLines
 pub mod LearntSections
 pub mod OpenSections
 pub mod OpenLanes
 pub mod AskedLanes
+pub mod PassedLines

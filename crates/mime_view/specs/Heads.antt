@@ -1,26 +1,24 @@
 -- What was learnt of the top lines of a magic list, and the contents that it refuses.
 pub mod Lanes
+pub mod Skipping
 use Rattle.std.specs.Prelude.{◌≡◌, ℕ, zero, suc, ◌+◌, ◌-◌, ◌*◌, ◌<◌, ◌≤◌, Bool, true, false, List, length, slice_index, get_or}
 use Rattle.mime_base.specs.Cache.Bytes.{field}
 use Rattle.mime_base.specs.Magic.{PlainLine}
 use Rattle.mime_base.specs.Magic.Holds.{equals_from}
 use Rattle.mime_base.specs.declared.magic.host.Host.{Host}
-use Rattle.mime_view.specs.Magic.{IsSectionFault, ReadsLine}
-use Rattle.mime_view.specs.declared.budget.Budget.{Budget}
-use Rattle.mime_view.specs.declared.fault.CacheFault.{CacheFault}
-use Rattle.mime_base.specs.Meter.{raised}
+use Rattle.mime_view.specs.Magic.{ReadsLine}
 use Rattle.mime_view.specs.declared.heads.Before.{Before}
 use Rattle.mime_view.specs.declared.heads.Head.{Head}
+use Rattle.mime_view.specs.declared.heads.RefusedLines.{RefusedLines}
 use Rattle.mime_view.specs.declared.heads.learning.Looks.{Looks}
-use Rattle.mime_view.specs.declared.spending.Spending.{Spending}
 
 -- a head, for the places past the last one
 abbrev pub no_head : Head
-no_head = record { first = 0; second = 0; paired = false; range = 0; end = 0; reach = 0; section = 0 }
+no_head = record { first = 0; second = 0; paired = false; range = 0; end = 0; reach = 0; section = 0; value_bytes = 0; windows = 0 }
 
--- a head that refuses nothing: it says of no line how far it reaches
-abbrev pub open_head : ℕ → Head
-open_head section = record {
+-- a head that refuses nothing, after these lines: it says of no line how far it reaches
+abbrev pub open_head : ℕ → Before → Head
+open_head section from = record {
   first = 0;
   second = 0;
   paired = false;
@@ -28,6 +26,8 @@ open_head section = record {
   end = 4294967295;
   reach = 4294967295;
   section = section;
+  value_bytes = from.value_bytes;
+  windows = from.windows;
 }
 
 -- what no sections have
@@ -100,6 +100,25 @@ abbrev pub value_bytes_from : List ℕ → ℕ → ℕ → ℕ
 value_bytes_from c r zero = 0
 value_bytes_from c r (suc lines) = value_bytes_from c r lines + field c (r + 32 * lines) 3
 
+-- The first lines of some refuse a content.
+pub record RefusesLines (c : List ℕ) (first count : ℕ) (content : List ℕ) (lines value_bytes : ℕ) : Type 0 where
+  pub few : lines ≤ count
+  pub refused : (j : ℕ) → j < lines → IsRefused c (first + 32 * j) content
+  pub values : value_bytes ≡ value_bytes_from c first lines
+
+-- those of the section at `at`
+abbrev pub RefusesFirst : List ℕ → ℕ → List ℕ → RefusedLines → Type 0
+RefusesFirst c at content refused = RefusesLines c (field c at 3) (field c at 2) content refused.lines refused.value_bytes
+
+-- no line
+abbrev pub no_lines : RefusedLines
+no_lines = record { lines = 0; value_bytes = 0; bytes = 0 }
+
+-- Of lines whose first refuse a content the next has this head, which counts their value bytes.
+pub record OpensAfter (c : List ℕ) (first count : ℕ) (content : List ℕ) (lines : ℕ) (from : Before) (head : Head) : Type 0 where
+  pub refuses : RefusesLines c first count content lines (value_bytes_from c first lines)
+  pub values : head.value_bytes ≡ from.value_bytes + value_bytes_from c first lines
+
 -- A content is refused by that many lines, the first at `first`, which have these heads.
 pub record PassesLines (c : List ℕ) (first lines : ℕ) (content : List ℕ) (low high : ℕ) (from to : Before) : Type 0 where
   pub count : high ≡ low + lines
@@ -128,6 +147,10 @@ pub record TellsSection (c : List ℕ) (at : ℕ) (heads : List Head) (from to :
   -- A content that all its heads refuse passes it.
   pub passes : (content : List ℕ) → AreBytes content
       → ((j : ℕ) → from.heads ≤ j → j < to.heads → Refuses content (get_or heads j no_head)) → PassesSection c at content from to
+  -- One that its first heads refuse is refused by as many lines.
+  pub opens : (content : List ℕ) → AreBytes content → (lines : ℕ) → from.heads + lines < to.heads
+      → ((j : ℕ) → from.heads ≤ j → j < from.heads + lines → Refuses content (get_or heads j no_head))
+      → OpensAfter c (field c at 3) (field c at 2) content lines from (get_or heads (from.heads + lines) no_head)
 
 -- what is before a section
 abbrev pub before_at : List Before → ℕ → Before
@@ -185,28 +208,15 @@ pub record LearnsLines (c : List ℕ) (first count section : ℕ) (from to : Bef
   pub passes : (content : List ℕ) → AreBytes content
       → ((j : ℕ) → length old ≤ j → j < length new → Refuses content (get_or new j no_head)) → PassesLines c first count content (length old)
       (length new) from to
+  -- One that the first of these refuse is refused by as many lines.
+  pub opens : (content : List ℕ) → AreBytes content → (lines : ℕ) → length old + lines < length new
+      → ((j : ℕ) → length old ≤ j → j < length old + lines → Refuses content (get_or new j no_head))
+      → OpensAfter c first count content lines from (get_or new (length old + lines) no_head)
 
 -- what a line looks at, and what is before the next line
 pub record LooksAtLine (c : List ℕ) (r section : ℕ) (from : Before) (looks : Looks) : Type 0 where
   pub is : IsHeadOf c r looks.head
   pub section_is : looks.head.section ≡ section
+  pub values_before : looks.head.value_bytes ≡ from.value_bytes
   pub values : looks.value_bytes ≡ from.value_bytes + field c r 3
   pub places : looks.windows ≡ from.windows + field c r 1
-
--- What the sections from one up to another take of a content of that length: these are what is before the first, and after the last.
-pub record Skips (long from to : ℕ) (low high : Before) (old new : Spending) : Type 0 where
-  -- A record for each section and each line.
-  pub records : new.budget.records + to + high.heads ≡ old.budget.records + from + low.heads
-  -- Their value bytes.
-  pub value_bytes : new.budget.value_bytes + high.value_bytes ≡ old.budget.value_bytes + low.value_bytes
-  -- A node for each record, until the sum stops.
-  pub nodes : raised old.meter.nodes (old.budget.records - new.budget.records) ≤ new.meter.nodes
-  pub most_nodes : new.meter.nodes ≤ old.meter.nodes + (old.budget.records - new.budget.records)
-  pub rises : old.meter.nodes ≤ new.meter.nodes
-  -- No more bytes than the content has, and one, for each value byte.
-  pub most_bytes : new.meter.bytes + (long + 1) * low.value_bytes ≤ old.meter.bytes + (long + 1) * high.value_bytes
-  pub bytes_rise : old.meter.bytes ≤ new.meter.bytes
-
--- one of that many sections, the first at `first`, gives no answer
-abbrev pub IsSectionsFault : List ℕ → ℕ → ℕ → Budget → CacheFault → Type 0
-IsSectionsFault c first count after e = (i : ℕ) × (i < count) × IsSectionFault c (first + 16 * i) after e

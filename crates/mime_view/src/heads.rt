@@ -2,8 +2,8 @@
 //!
 //! Most lines are refused by the first bytes of their value, which stand at none of the places where the value may begin. So of
 //! each top line two bytes and these places are kept side by side, in the order of sections, and a content goes through them
-//! alone: sections of which no line may hold are skipped together, and take of the budget and add to the meter what their lines
-//! do one by one. A section with another line, as one in words of two bytes, ends in a head that refuses no content, and is always
+//! alone: sections of which no line may hold are skipped together, and so are the lines of a section before the first that may.
+//! They take of the budget and add to the meter what they do one by one. A section with another line, as one in words of two bytes, ends in a head that refuses no content, and is always
 //! looked at.
 //!
 //! What is kept says nothing new of a cache: with it a content has the answers, the faults and the costs that it has without.
@@ -11,7 +11,7 @@
 ghost use Rattle.std.specs.Prelude.{◌≡◌, ◌+◌, ◌*◌, ◌/◌, ◌<◌, ◌≤◌, ℕ, get_or, length, IfOk, IfSome};
 ghost use Rattle.mime_base.specs.Cache.Bytes.{field};
 ghost use Rattle.mime_view.specs.Globs.{AreLearnt};
-ghost use Rattle.mime_view.specs.Heads.{AreBytes, AreHeads, PassesFrom, Refuses, TellsSections, no_head};
+ghost use Rattle.mime_view.specs.Heads.{AreBytes, AreHeads, PassesFrom, Refuses, RefusesFirst, TellsSections, no_head, no_lines};
 ghost use Rattle.mime_view.specs.Heads.Lanes.{AreLanes};
 ghost use Rattle.mime_view.specs.Learning.{AddsGlobs};
 ghost use Rattle.mime_view.specs.Spending.{Looks};
@@ -47,6 +47,10 @@ pub struct Head {
     pub reach: u32,
     /// Which section it is of.
     pub section: u32,
+    /// How many value bytes the lines before its own have, those of the sections before among them.
+    pub value_bytes: u64,
+    /// How many places at which a value of theirs may begin.
+    pub windows: u64,
 }
 
 /// What all sections before one have.
@@ -67,6 +71,19 @@ pub struct NextOpen {
     pub section: u32,
     /// How many bytes the lines of those before it compare, beside one at each of their places: a number that wraps.
     pub beside: u64,
+    /// Its lines before the first that may hold.
+    pub refused: RefusedLines,
+}
+
+/// The first lines of a section, as far as they are known to refuse a content.
+#[derive(Clone, Copy)]
+pub struct RefusedLines {
+    /// How many.
+    pub lines: u64,
+    /// How many value bytes they have.
+    pub value_bytes: u64,
+    /// How many bytes they compare: a number that wraps.
+    pub bytes: u64,
 }
 
 /// Where the sections of a magic list stand.
@@ -95,6 +112,20 @@ pub struct MagicHeads<'a> {
     counted: Counted<'a>,
     learnt: Option<Learnt>,
     globs: Vec<LearntGlob>,
+}
+
+impl RefusedLines {
+    /// No line.
+    #[inline(always)]
+    pub fn none() -> RefusedLines
+        ensures { result ≡ no_lines }
+    {
+        RefusedLines {
+            lines: 0,
+            value_bytes: 0,
+            bytes: 0,
+        }
+    }
 }
 
 impl<'a> Model for MagicHeads<'a> {
@@ -212,20 +243,48 @@ pub fn next_open(
     ensures high { result.section ≤ list.count }
     // A content passes those before it.
     ensures passes { PassesFrom query.now.counted.now list.first learnt.now.before.items query.now.content from result.section }
+    // So do its first lines.
+    ensures refused { RefusesFirst query.now.counted.now (list.first + 16 * result.section) query.now.content result.refused }
 {
     let mut beside = Beside::none(from);
     let first = learnt.before[from as usize].heads;
     let at = first_open(learnt, &query.content, first, &mut beside);
     if at < learnt.heads.len() {
-        let section = learnt.heads[at].section;
+        let head = learnt.heads[at];
+        let beside_before = beside.before_section(head.section);
         return NextOpen {
-            section,
-            beside: beside.before_section(section),
+            section: head.section,
+            beside: beside_before,
+            refused: refused_between(
+                learnt.before[head.section as usize],
+                head,
+                at,
+                beside.all().wrapping_sub(beside_before),
+            ),
         };
     }
     NextOpen {
         section: list.count,
         beside: beside.all(),
+        refused: RefusedLines::none(),
+    }
+}
+
+/// The lines of a section before the one of a head, which compare so many bytes beside one at each of their places.
+#[inline(always)]
+fn refused_between(before: Before, head: Head, at: usize, beside: u64) -> RefusedLines
+    requires heads { before.heads ≤ at }
+    requires value_bytes { before.value_bytes ≤ head.value_bytes }
+    ensures lines { result.lines + before.heads ≡ at }
+    ensures value_bytes { result.value_bytes + before.value_bytes ≡ head.value_bytes }
+{
+    RefusedLines {
+        lines: (at - before.heads) as u64,
+        value_bytes: head.value_bytes - before.value_bytes,
+        bytes: head
+            .windows
+            .wrapping_sub(before.windows)
+            .wrapping_add(beside),
     }
 }
 
@@ -243,7 +302,10 @@ fn first_open(learnt: &Learnt, content: &Content<'_>, from: usize, beside: &mut 
 {
     let long = length_of(content);
     let passed = pass_blocks(learnt, content, long, from, beside);
-    pass_rest(&learnt.heads, content, long, passed, beside)
+    if passed.open {
+        return passed.end;
+    }
+    pass_rest(&learnt.heads, content, long, passed.end, beside)
 }
 
 /// The length of a content, as far as a head may reach.

@@ -12,7 +12,7 @@
 //! one piece of code that skips them, with the meter and the budget in registers; a line that may equal its value is
 //! looked at by a call of its own, with a copy of both.
 
-ghost use Rattle.std.specs.Prelude.{◌≡◌, ℕ, ◌+◌, ◌*◌, ◌^◌, ◌<◌, ◌≤◌, List, [], ◌∷◌, length, true, false, Ok, IfErr, IfOk, IfSome, OnOk};
+ghost use Rattle.std.specs.Prelude.{◌≡◌, ◌⊎◌, ℕ, ◌+◌, ◌*◌, ◌^◌, ◌<◌, ◌≤◌, List, [], ◌∷◌, length, true, false, Ok, IfErr, IfOk, IfSome, OnOk};
 ghost use Rattle.mime_base.specs.Cache.Bytes.{field};
 ghost use Rattle.mime_base.specs.Magic.{PlainLine, PlainSection};
 ghost use Rattle.mime_view.specs.Magic.{AnswersLine, AnswersLineAt, AnswersLinesAt, AnswersMagicAt, AnswersSections, Ends};
@@ -20,12 +20,13 @@ ghost use Rattle.mime_view.specs.Magic.{IsBlockFault, IsLineFault, IsLinesFault,
 ghost use Rattle.mime_view.specs.Magic.{LiesBlock, NamesChildren, NamesText, ReadsLine, ReadsSection, ReadsSections, line_price, magic_price};
 ghost use Rattle.mime_base.specs.Meter.{raised};
 ghost use Rattle.mime_view.specs.Heads.Lanes.{AreLanes};
-ghost use Rattle.mime_view.specs.Heads.{AreHeads, IsSectionsFault, PassesFrom, Rises, Skips, TellsSections, before_at};
+ghost use Rattle.mime_view.specs.Heads.Skipping.{IsSectionsFault, Skips, TakesAtOnce, taken_by};
+ghost use Rattle.mime_view.specs.Heads.{AreHeads, PassesFrom, RefusesFirst, RefusesLines, Rises, TellsSections, before_at, no_lines};
 ghost use Rattle.mime_view.specs.Spending.{Spends};
 
 use crate::budget::Budget;
 use crate::fault::CacheFault;
-use crate::heads::{Learnt, MagicHeads, NextOpen, SectionList, next_open};
+use crate::heads::{Learnt, MagicHeads, NextOpen, RefusedLines, SectionList, next_open};
 use crate::spending::Spending;
 use mime_base::{Content, Counted, Host, StatedValue};
 
@@ -136,9 +137,11 @@ fn sniff_open<'a>(
     let mut i = 0;
     let mut next = 0;
     while i < list.count {
-        i = skip_refused(query, list, learnt, &mut next, i, spending);
+        let open = skip_refused(query, list, learnt, &mut next, i, spending);
+        i = open.section;
         if i < list.count {
-            match take_section_apart(query, u64::from(list.first) + 16 * u64::from(i), spending)? {
+            let at = u64::from(list.first) + 16 * u64::from(i);
+            match take_section_apart(query, at, open.refused, spending)? {
                 Some(found) => return Ok(Some(found)),
                 None => {}
             }
@@ -146,6 +149,13 @@ fn sniff_open<'a>(
         }
     }
     Ok(None)
+}
+
+/// A section that is looked at, and its first lines that needn't be.
+#[derive(Clone, Copy)]
+struct OpenSection {
+    section: u32,
+    refused: RefusedLines,
 }
 
 /// Skips the sections before the next one of which a line may hold. Where less is left than all take from this one on, none is
@@ -158,28 +168,49 @@ fn skip_refused(
     next: &mut u32,
     i: u32,
     spending: &mut Spending,
-) -> u32
+) -> OpenSection
     requires heads { TellsSections query.now.counted.now list.first list.count learnt.now.before.items learnt.now.heads.items }
     requires lanes { AreLanes learnt.now.heads.items learnt.now.lanes.firsts.items learnt.now.lanes.places.items }
     requires within { i < list.count }
-    ensures low { i ≤ result }
-    ensures high { result ≤ list.count }
+    ensures low { i ≤ result.section }
+    ensures high { result.section ≤ list.count }
     // A content passes those that are skipped.
-    ensures passes { PassesFrom query.now.counted.now list.first learnt.now.before.items query.now.content i result }
-    // What they take.
-    ensures skips { Skips (length query.now.content) i result (before_at learnt.now.before.items i) (before_at learnt.now.before.items result)
-        spending.old spending.new }
+    ensures passes { PassesFrom query.now.counted.now list.first learnt.now.before.items query.now.content i result.section }
+    // The first lines of the next refuse it.
+    ensures refused { RefusesFirst query.now.counted.now (list.first + 16 * result.section) query.now.content result.refused }
+    // What the sections that are skipped take.
+    ensures skips { Skips (length query.now.content) i result.section (before_at learnt.now.before.items i)
+        (before_at learnt.now.before.items result.section) spending.old spending.new }
 {
     if i < *next {
-        return i;
+        return whole(i);
     }
     if !covers_rest(learnt, i, list.count, spending.budget) {
         *next = list.count;
-        return i;
+        return whole(i);
     }
     let found = next_open(query, list, learnt, i);
     *next = found.section;
-    skip_sections(learnt, &query.content, i, found, spending)
+    let section = skip_sections(learnt, &query.content, i, found, spending);
+    if section != found.section {
+        return whole(section);
+    }
+    OpenSection {
+        section,
+        refused: found.refused,
+    }
+}
+
+/// A section of which each line is looked at.
+#[inline(always)]
+fn whole(section: u32) -> OpenSection
+    ensures section { result.section ≡ section }
+    ensures none { result.refused ≡ no_lines }
+{
+    OpenSection {
+        section,
+        refused: RefusedLines::none(),
+    }
 }
 
 /// Whether as much is left as the sections from one on take, with all their lines that were learnt.
@@ -245,18 +276,52 @@ fn skip_sections(
     };
     let windows = learnt.before[to as usize].windows - learnt.before[from as usize].windows;
     let bytes = windows.wrapping_add(next.beside);
+    if take_at_once(content, taken, bytes, spending) {
+        to
+    } else {
+        from
+    }
+}
+
+/// Takes what sections and lines take that a content is refused by, where as much is left: each record adds a node, and the lines
+/// have compared so many bytes.
+#[inline(always)]
+fn take_at_once(content: &Content<'_>, taken: Budget, bytes: u64, spending: &mut Spending) -> bool
+    // They are taken all.
+    ensures takes { result ≡ true → TakesAtOnce (length content.now) taken spending.old spending.new }
+    // Or none is.
+    ensures untouched { result ≡ false → spending.new ≡ spending.old }
+{
     let budget = spending.budget;
     if budget.records < taken.records
         || budget.value_bytes < taken.value_bytes
         || most_bytes(content, taken.value_bytes) < bytes
     {
-        return from;
+        return false;
     }
     spending.budget.records -= taken.records;
     spending.budget.value_bytes -= taken.value_bytes;
     spending.meter.nodes = raised(spending.meter.nodes, taken.records);
     spending.meter.bytes = raised(spending.meter.bytes, bytes);
-    to
+    true
+}
+
+/// Passes the first lines of a section, which refuse a content, where as much is left as they take: those that are passed, all or none.
+#[inline(always)]
+fn pass_lines(content: &Content<'_>, refused: RefusedLines, spending: &mut Spending) -> RefusedLines
+    ensures passed { (result ≡ refused) ⊎ (result ≡ no_lines) }
+    // What they take.
+    ensures takes { TakesAtOnce (length content.now) (taken_by result) spending.old spending.new }
+{
+    let taken = Budget {
+        records: refused.lines,
+        value_bytes: refused.value_bytes,
+    };
+    if take_at_once(content, taken, refused.bytes, spending) {
+        refused
+    } else {
+        RefusedLines::none()
+    }
 }
 
 /// How many bytes lines with so many value bytes compare at most.
@@ -278,15 +343,17 @@ fn raised(count: u64, more: u64) -> u64
     count.saturating_add(more)
 }
 
-/// A section that is looked at.
+/// A section that is looked at, but for its first lines that refuse the content.
 // In code of its own: the loop over heads has the registers.
 #[inline(never)]
 fn take_section_apart<'a>(
     query: &MagicQuery<'_, 'a>,
     at: u64,
+    refused: RefusedLines,
     spending: &mut Spending,
 ) -> Result<Option<(&'a [u8], u32)>, CacheFault>
     requires inside { at + 16 ≤ length query.now.counted.now }
+    requires refused { RefusesFirst query.now.counted.now at query.now.content refused }
     // A section that stands answers as a list of it alone does.
     ensures section { (section : PlainSection) → ReadsSection query.now.counted.now at section →
         AnswersSections query.now (section ∷ []) spending.old spending.new result }
@@ -296,7 +363,7 @@ fn take_section_apart<'a>(
     ensures ends { Ends (IsSectionFault query.now.counted.now at) (magic_price (length query.now.content)) 0 spending.old spending.new result }
 {
     let mut own = *spending;
-    let result = take_section(query, at, &mut own);
+    let result = take_section(query, at, refused, &mut own);
     *spending = own;
     result
 }
@@ -321,7 +388,7 @@ fn sniff_sections<'a>(
     let count = u64::from(count);
     check_block(counted, first, 16, count)?;
     for i in 0..count {
-        match take_section(query, first + 16 * i, spending)? {
+        match take_section(query, first + 16 * i, RefusedLines::none(), spending)? {
             Some(found) => return Ok(Some(found)),
             None => {}
         }
@@ -329,15 +396,18 @@ fn sniff_sections<'a>(
     Ok(None)
 }
 
-/// The type and the priority of the section at `at`, if one of its lines holds.
+/// The type and the priority of the section at `at`, if one of its lines holds. Its first lines, which refuse the content, are not
+/// looked at again.
 // Part of the loop over sections.
 #[inline(always)]
 fn take_section<'a>(
     query: &MagicQuery<'_, 'a>,
     at: u64,
+    refused: RefusedLines,
     spending: &mut Spending,
 ) -> Result<Option<(&'a [u8], u32)>, CacheFault>
     requires inside { at + 16 ≤ length query.now.counted.now }
+    requires refused { RefusesFirst query.now.counted.now at query.now.content refused }
     // A section that stands answers as a list of it alone does.
     ensures section { (section : PlainSection) → ReadsSection query.now.counted.now at section →
         AnswersSections query.now (section ∷ []) spending.old spending.new result }
@@ -350,7 +420,7 @@ fn take_section<'a>(
     let counted = query.counted;
     let [priority, kind, count, first] = counted.cards_within::<4>(at, &mut spending.meter);
     check_block(counted, u64::from(first), 32, u64::from(count))?;
-    if !some_line_holds(query, first, count, 0, spending)? {
+    if !some_top_line_holds(query, first, count, refused, spending)? {
         return Ok(None);
     }
     let mut meter = spending.meter;
@@ -358,6 +428,28 @@ fn take_section<'a>(
     spending.meter = meter;
     let text = found?;
     Ok(Some((text, priority)))
+}
+
+/// Whether one of the `count` top lines from `first` on holds, with its children: the first of them refuse the content.
+// Part of the loop over sections.
+#[inline(always)]
+fn some_top_line_holds(
+    query: &MagicQuery<'_, '_>,
+    first: u32,
+    count: u32,
+    refused: RefusedLines,
+    spending: &mut Spending,
+) -> Result<bool, CacheFault>
+    requires block { LiesBlock query.now.counted.now first 32 count }
+    requires refused { RefusesLines query.now.counted.now first count query.now.content refused.lines refused.value_bytes }
+    // Lines that stand answer whether one holds.
+    ensures lines { AnswersLinesAt query.now first count 0 spending.old spending.new result }
+    // On any bytes: why there is no answer, and what the step costs.
+    ensures ends { Ends (IsLinesFault query.now.counted.now first count 0) (line_price query.now) 0 spending.old spending.new result }
+{
+    let passed = pass_lines(&query.content, refused, spending).lines;
+    let rest = u64::from(count) - passed;
+    some_line_holds(query, u64::from(first) + 32 * passed, rest, 0, spending)
 }
 
 /// Refuses records that don't lie in the cache. No records lie anywhere.
@@ -389,21 +481,21 @@ pub fn check_block(
 #[inline(always)]
 fn some_line_holds(
     query: &MagicQuery<'_, '_>,
-    first: u32,
-    count: u32,
+    first: u64,
+    count: u64,
     level: u32,
     spending: &mut Spending,
 ) -> Result<bool, CacheFault>
     requires level { level ≤ 63 }
     requires block { LiesBlock query.now.counted.now first 32 count }
+    requires fits { first + 32 * count < 2 ^ 64 }
     // Lines that stand answer whether one holds.
     ensures lines { AnswersLinesAt query.now first count level spending.old spending.new result }
     // On any bytes: why there is no answer, and what the step costs.
     ensures ends { Ends (IsLinesFault query.now.counted.now first count level) (line_price query.now) 0 spending.old spending.new result }
 {
-    let start = u64::from(first);
-    for i in 0..u64::from(count) {
-        if line_holds(query, start + 32 * i, level, spending)? {
+    for i in 0..count {
+        if line_holds(query, first + 32 * i, level, spending)? {
             return Ok(true);
         }
     }
@@ -601,5 +693,5 @@ fn some_child_holds(
     // On any bytes: why there is no answer, and what the step costs.
     ensures ends { Ends (IsLinesFault query.now.counted.now first count level) (line_price query.now) 0 spending.old spending.new result }
 {
-    some_line_holds(query, first, count, level, spending)
+    some_line_holds(query, u64::from(first), u64::from(count), level, spending)
 }

@@ -1,10 +1,11 @@
 -- What was learnt of some sections, and of one more.
-use Rattle.std.proofs.Common.{◌≡◌, ℕ, ◌+◌, ◌*◌, ◌<◌, ◌≤◌, ◌++◌, inl, inr, List, [], ◌∷◌, length, get_or, refl, ap, subst, ◌∙◌, arith}
+use Rattle.std.proofs.Common.{◌≡◌, ℕ, ◌+◌, ◌*◌, ◌<◌, ◌≤◌, ◌++◌, inl, inr, List, [], ◌∷◌, length, get_or, refl, sym, ap, subst, ◌∙◌, arith}
 use Rattle.std.proofs.Common.{below_more}
 use Rattle.std.proofs.Math.Seq.{get_or-append_seam}
 use Rattle.std.proofs.lemmas.Bool.{cases_lt}
 use Rattle.std.proofs.lemmas.List.{get_or_append_left, length-append}
-use Rattle.mime_view.specs.Heads.{LearnsSection, Refuses, TellsSection, TellsSections}
+use Rattle.mime_base.specs.Cache.Bytes.{field}
+use Rattle.mime_view.specs.Heads.{LearnsSection, OpensAfter, Refuses, TellsSection, TellsSections}
 use Rattle.mime_view.specs.Heads.{before_at, no_head, no_sections, section_at}
 use Rattle.mime_view.specs.declared.heads.Before.{Before}
 use Rattle.mime_view.specs.declared.heads.Head.{Head}
@@ -40,6 +41,10 @@ tells_still c at heads more from to within kept is = record {
   rises = is.rises;
   passes = λ content bytes refuses. is.passes content bytes
       (λ j low high. subst (Refuses content) (kept j (omega (arith, high, within))) (refuses j low high));
+  opens = λ content bytes lines below refuses.
+      subst (OpensAfter c (field c at 3) (field c at 2) content lines from) (sym (kept (from.heads + lines) (omega (arith, below, within))))
+      (is.opens content bytes lines below
+      (λ j low high. subst (Refuses content) (kept j (omega (arith, high, below, within))) (refuses j low high)));
 }
 
 -- one more section

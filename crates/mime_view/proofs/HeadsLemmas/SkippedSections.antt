@@ -1,7 +1,8 @@
 -- What sections that are skipped cost, and what is left after them.
 use Rattle.std.proofs.Common.{◌≡◌, ℕ, ◌+◌, ◌-◌, ◌*◌, ◌≤◌, List, length, refl, sym, ap, subst, arith}
 use Rattle.mime_base.specs.Magic.{PlainSection}
-use Rattle.mime_view.specs.Heads.{PassesFrom, Rises, Skips, TellsSections, before_at}
+use Rattle.mime_view.specs.Heads.{PassesFrom, Rises, TellsSections, before_at}
+use Rattle.mime_view.specs.Heads.Skipping.{Skips}
 use Rattle.mime_view.specs.Magic.{magic_price}
 use Rattle.mime_view.specs.Spending.{Spends}
 use Rattle.mime_view.specs.declared.heads.Before.{Before}

@@ -97,7 +97,16 @@ fn lane_of(head: Head) -> Lane
     }
 }
 
-/// A head from one on, before which each refuses a content: one that doesn't, or one from which on there are fewer than sixteen.
+/// How far heads were passed.
+#[derive(Clone, Copy)]
+pub struct PassedHeads {
+    /// The head after the last that was.
+    pub end: usize,
+    /// Whether that one doesn't refuse the content.
+    pub open: bool,
+}
+
+/// Passes the heads from one on that refuse a content, up to one that doesn't, or from which on there are fewer than sixteen.
 // The loop over blocks of heads.
 #[inline(always)]
 pub fn pass_blocks(
@@ -106,17 +115,20 @@ pub fn pass_blocks(
     long: u32,
     from: usize,
     beside: &mut Beside,
-) -> usize
+) -> PassedHeads
     requires lanes { AreLanes learnt.now.heads.items learnt.now.lanes.firsts.items learnt.now.lanes.places.items }
     requires from { from ≤ length learnt.now.heads.items }
     requires long { long ≤ length content.now }
     requires below { long < 4294967295 }
-    ensures low { from ≤ result }
-    ensures high { result ≤ length learnt.now.heads.items }
-    ensures refuse { (j : ℕ) → from ≤ j → j < result → Refuses content.now (get_or learnt.now.heads.items j no_head) }
+    ensures low { from ≤ result.end }
+    ensures high { result.end ≤ length learnt.now.heads.items }
+    ensures refuse { (j : ℕ) → from ≤ j → j < result.end → Refuses content.now (get_or learnt.now.heads.items j no_head) }
 {
     if long < FRONT {
-        return from;
+        return PassedHeads {
+            end: from,
+            open: false,
+        };
     }
     let heads = learnt.heads.as_slice();
     let mut at = from;
@@ -125,10 +137,16 @@ pub fn pass_blocks(
         let passed = pass_block(heads, content, long, at, asked, beside);
         at += passed;
         if passed < LANES {
-            return at;
+            return PassedHeads {
+                end: at,
+                open: true,
+            };
         }
     }
-    at
+    PassedHeads {
+        end: at,
+        open: false,
+    }
 }
 
 /// Which of sixteen heads may not refuse a content of so many bytes: bit by bit, the first lowest.

@@ -67,7 +67,7 @@ fn learn_sections(
     ensures cost { AddsSections count (magic_room counted.now) meter.old meter.new }
 {
     let mut before = Vec::new(alloc);
-    let mut heads = LanedHeads::new(alloc);
+    let mut laned = LanedHeads::new(alloc);
     let mut all = Before {
         heads: 0,
         value_bytes: 0,
@@ -76,7 +76,7 @@ fn learn_sections(
     before.push(all)?;
     for i in 0..count {
         let at = u64::from(first) + 16 * u64::from(i);
-        let Some(after) = learn_section(counted, at, i, all, &mut heads, meter)? else {
+        let Some(after) = learn_section(counted, at, i, all, &mut laned, meter)? else {
             return Ok(None);
         };
         before.push(after)?;
@@ -84,8 +84,8 @@ fn learn_sections(
     }
     Ok(Some(Learnt {
         before,
-        heads: heads.heads,
-        lanes: heads.lanes,
+        heads: laned.heads,
+        lanes: laned.lanes,
     }))
 }
 
@@ -96,33 +96,33 @@ fn learn_section(
     at: u64,
     section: u32,
     all: Before,
-    heads: &mut LanedHeads,
+    laned: &mut LanedHeads,
     meter: &mut Meter,
 ) -> Result<Option<Before>, OutOfMemory>
     requires inside { at + 16 ≤ length counted.now }
-    requires all { all.heads ≡ length heads.old.heads.items }
-    requires lanes { HaveLanes heads.old }
+    requires all { all.heads ≡ length laned.old.heads.items }
+    requires lanes { HaveLanes laned.old }
     ensures section { IfOk result (λ after. IfSome after
-        (λ to. LearnsSection counted.now at section all to heads.old.heads.items heads.new.heads.items)) }
+        (λ to. LearnsSection counted.now at section all to laned.old.heads.items laned.new.heads.items)) }
     // Each has its lane.
-    ensures lanes { IfOk result (λ after. IfSome after (λ _. HaveLanes heads.new)) }
+    ensures lanes { IfOk result (λ after. IfSome after (λ _. HaveLanes laned.new)) }
     // There is room for them.
-    ensures room { IfOk result (λ after. IfSome after (λ _. length heads.new.heads.items ≤ magic_room counted.now)) }
+    ensures room { IfOk result (λ after. IfSome after (λ _. length laned.new.heads.items ≤ magic_room counted.now)) }
     // It reads the section, and no more lines than came.
     ensures paid { IfOk result (λ after. IfSome after
-        (λ _. AddsSections 1 (length heads.new.heads.items - length heads.old.heads.items) meter.old meter.new)) }
+        (λ _. AddsSections 1 (length laned.new.heads.items - length laned.old.heads.items) meter.old meter.new)) }
     // Where nothing is given it reads no more lines than there is room for.
-    ensures cost { AddsSections 1 (magic_room counted.now - length heads.old.heads.items) meter.old meter.new }
+    ensures cost { AddsSections 1 (magic_room counted.now - length laned.old.heads.items) meter.old meter.new }
 {
     let [_, _, count, first] = counted.cards_within::<4>(at, meter);
-    if counted.length() / ROOM < heads.heads.len() as u64 + u64::from(count) {
+    if counted.length() / ROOM < laned.heads.len() as u64 + u64::from(count) {
         return Ok(None);
     }
     let Ok(()) = check_block(counted, u64::from(first), 32, u64::from(count)) else {
-        let after = end_open(all, section, heads)?;
+        let after = end_open(all, section, laned)?;
         return Ok(Some(after));
     };
-    let after = learn_lines(counted, first, count, section, all, heads, meter)?;
+    let after = learn_lines(counted, first, count, section, all, laned, meter)?;
     Ok(Some(after))
 }
 
@@ -133,19 +133,19 @@ fn learn_lines(
     count: u32,
     section: u32,
     all: Before,
-    heads: &mut LanedHeads,
+    laned: &mut LanedHeads,
     meter: &mut Meter,
 ) -> Result<Before, OutOfMemory>
     requires block { LiesBlock counted.now first 32 count }
-    requires all { all.heads ≡ length heads.old.heads.items }
-    requires lanes { HaveLanes heads.old }
-    ensures lines { IfOk result (λ to. LearnsLines counted.now first count section all to heads.old.heads.items heads.new.heads.items) }
+    requires all { all.heads ≡ length laned.old.heads.items }
+    requires lanes { HaveLanes laned.old }
+    ensures lines { IfOk result (λ to. LearnsLines counted.now first count section all to laned.old.heads.items laned.new.heads.items) }
     // Each has its lane.
-    ensures lanes { OnOk result (HaveLanes heads.new) }
+    ensures lanes { OnOk result (HaveLanes laned.new) }
     // There are no more heads than lines.
-    ensures few { OnOk result (length heads.new.heads.items ≤ length heads.old.heads.items + count) }
+    ensures few { OnOk result (length laned.new.heads.items ≤ length laned.old.heads.items + count) }
     // It reads no more lines than heads came.
-    ensures paid { OnOk result (AddsSections 0 (length heads.new.heads.items - length heads.old.heads.items) meter.old meter.new) }
+    ensures paid { OnOk result (AddsSections 0 (length laned.new.heads.items - length laned.old.heads.items) meter.old meter.new) }
     // Out of memory, it reads no more than there are.
     ensures cost { AddsSections 0 count meter.old meter.new }
 {
@@ -153,12 +153,12 @@ fn learn_lines(
     for j in 0..count {
         let at = u64::from(first) + 32 * u64::from(j);
         let Some(looks) = looks_of(counted, at, section, all, meter) else {
-            let after = end_open(all, section, heads)?;
+            let after = end_open(all, section, laned)?;
             return Ok(after);
         };
-        heads.push(looks.head)?;
+        laned.push(looks.head)?;
         all = Before {
-            heads: heads.heads.len(),
+            heads: laned.heads.len(),
             value_bytes: looks.value_bytes,
             windows: looks.windows,
         };
@@ -167,16 +167,16 @@ fn learn_lines(
 }
 
 /// A head that refuses nothing comes to the others, so that its section is always looked at.
-fn end_open(all: Before, section: u32, heads: &mut LanedHeads) -> Result<Before, OutOfMemory>
-    requires lanes { HaveLanes heads.old }
+fn end_open(all: Before, section: u32, laned: &mut LanedHeads) -> Result<Before, OutOfMemory>
+    requires lanes { HaveLanes laned.old }
     // It is the last one.
-    ensures heads { OnOk result (heads.new.heads.items ≡ heads.old.heads.items ++ (open_head section ∷ [])) }
+    ensures heads { OnOk result (laned.new.heads.items ≡ laned.old.heads.items ++ (open_head section all ∷ [])) }
     // Each has its lane.
-    ensures lanes { OnOk result (HaveLanes heads.new) }
-    // It has no value bytes and no places.
-    ensures all { IfOk result (λ to. to ≡ record all { heads = length heads.new.heads.items }) }
+    ensures lanes { OnOk result (HaveLanes laned.new) }
+    // It adds no value bytes and no places.
+    ensures all { IfOk result (λ to. to ≡ record all { heads = length laned.new.heads.items }) }
 {
-    heads.push(Head {
+    laned.push(Head {
         first: 0,
         second: 0,
         paired: false,
@@ -184,9 +184,11 @@ fn end_open(all: Before, section: u32, heads: &mut LanedHeads) -> Result<Before,
         end: u32::MAX,
         reach: u32::MAX,
         section,
+        value_bytes: all.value_bytes,
+        windows: all.windows,
     })?;
     Ok(Before {
-        heads: heads.heads.len(),
+        heads: laned.heads.len(),
         value_bytes: all.value_bytes,
         windows: all.windows,
     })
@@ -228,6 +230,8 @@ fn looks_of(
         end,
         reach: beyond - 1,
         section,
+        value_bytes: all.value_bytes,
+        windows: all.windows,
     };
     Some(Looks {
         head,

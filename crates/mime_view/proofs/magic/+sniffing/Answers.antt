@@ -1,8 +1,8 @@
-use Rattle.std.proofs.Common.{◌≡◌, ◌+◌, ◌*◌, ◌-◌, ◌<◌, ℕ, suc, true, arith, inl, inr, refl, rules, sym, subst}
+use Rattle.std.proofs.Common.{◌≡◌, ◌+◌, ◌-◌, ◌<◌, ℕ, suc, true, arith, inl, inr, refl, rules, sym, subst}
 use Rattle.std.proofs.lemmas.Result.{IfErr-weaker, err_from_is_err_and}
 use Rattle.mime_base.specs.Cache.Bytes.{field}
 use Rattle.mime_base.specs.Magic.{are_allowed, bare, line}
-use Rattle.mime_view.specs.Magic.{AnswersLines, IsLineFault, ReadsLines, line_price}
+use Rattle.mime_view.specs.Magic.{AnswersLines, ReadsLines, line_price}
 use Rattle.mime_view.proofs.CostLemmas.Costs.{spends_then}
 use Rattle.mime_view.proofs.MagicLemmas.LineFaults.{fault_below, own_fault}
 use Rattle.mime_view.proofs.MagicLemmas.LineParts.{last_level, line_alone, line_differs, line_parent, line_refused}
@@ -109,10 +109,8 @@ whole_line_holds-returns-clause-ends t c = record {
 pub some_line_holds-returns-in_err-line_holds-clause-ends : goal.some_line_holds-returns-in_err-line_holds-clause-ends
 some_line_holds-returns-in_err-line_holds-clause-ends t c =
     let p = err_from_is_err_and c.from_residual.result c.from_residual.ensures.1 in
-    let line = subst (λ (n : ℕ). IsLineFault c.args.query.now.counted.now (n + 32 * c.loop-i.i) c.args.level
-    c.line_holds.new.spending.budget c.in_err-line_holds.field-0.0) c.from-start.ensures c.in_err-line_holds.ensures.ends.fault in
     rw (p.1, p.2) (record {
-      fault = (c.loop-i.i, omega (arith, c.loop-i-test.true), line);
+      fault = (c.loop-i.i, omega (arith, c.loop-i-test.true), c.in_err-line_holds.ensures.ends.fault);
       cost = spends_then (line_price c.args.query.now) 0 0 0 0 c.args.spending.now c.loop-i.spending c.line_holds.new.spending
           c.loop-i.invariant.cost c.in_err-line_holds.ensures.ends.cost;
     })

@@ -1,7 +1,7 @@
 use Rattle.std.proofs.Common.{◌≡◌, ◌∙◌, ℕ, List, ap, arith, get_or, inr, length, refl, subst}
 use Rattle.std.proofs.lemmas.Result.{IfErr-weaker}
 use Rattle.mime_base.specs.Cache.Bytes.{field, fields}
-use Rattle.mime_view.specs.Heads.{IsSectionsFault}
+use Rattle.mime_view.specs.Heads.Skipping.{IsSectionsFault}
 use Rattle.mime_view.specs.Magic.{magic_price}
 use Rattle.mime_view.specs.declared.spending.Spending.{Spending}
 use Rattle.mime_view.proofs.CostLemmas.Costs.{spends_looks, spends_then}

@@ -5,7 +5,7 @@ use Rattle.mime_view.proofs.heads.learning.learn_lines.Given as goal
 
 abbrev pub invariant-loop-j : goal.invariant-loop-j
 invariant-loop-j l = record {
-  lines : SoFar l.counted l.first l.section l.fn.all l.fn.heads.heads.items l.heads.heads.items l.j l.all;
-  lanes : HaveLanes l.heads;
+  lines : SoFar l.counted l.first l.section l.fn.all l.fn.laned.heads.items l.laned.heads.items l.j l.all;
+  lanes : HaveLanes l.laned;
   cost : AddsSections 0 l.j l.fn.meter l.meter;
 }
