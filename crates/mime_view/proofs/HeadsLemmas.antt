@@ -12,3 +12,5 @@ pub mod OpenSections
 pub mod OpenLanes
 pub mod AskedLanes
 pub mod PassedLines
+pub mod PassedHeads
+pub mod SparedPlaces

@@ -1,14 +1,16 @@
 -- What was learnt of the top lines of a magic list, and the contents that it refuses.
 pub mod Lanes
 pub mod Skipping
-use Rattle.std.specs.Prelude.{◌≡◌, ℕ, zero, suc, ◌+◌, ◌-◌, ◌*◌, ◌<◌, ◌≤◌, Bool, true, false, List, length, slice_index, get_or}
+use Rattle.std.specs.Prelude.{◌≡◌, ℕ, zero, suc, ◌+◌, ◌-◌, ◌*◌, ◌<◌, ◌≤◌, Bool, true, false, List, length, slice_index, get_or, IfSome}
 use Rattle.mime_base.specs.Cache.Bytes.{field}
 use Rattle.mime_base.specs.Magic.{PlainLine}
 use Rattle.mime_base.specs.Magic.Holds.{equals_from}
 use Rattle.mime_base.specs.declared.magic.host.Host.{Host}
+use Rattle.mime_base.specs.declared.magic.pairs.Passed.{Passed}
 use Rattle.mime_view.specs.Magic.{ReadsLine}
 use Rattle.mime_view.specs.declared.heads.Before.{Before}
 use Rattle.mime_view.specs.declared.heads.Head.{Head}
+use Rattle.mime_view.specs.declared.heads.PassedHeads.{PassedHeads}
 use Rattle.mime_view.specs.declared.heads.RefusedLines.{RefusedLines}
 use Rattle.mime_view.specs.declared.heads.learning.Looks.{Looks}
 
@@ -86,6 +88,27 @@ pub record Refuses (content : List ℕ) (head : Head) : Type 0 where
   pub differ : (place : ℕ) → place < head.end → head.end ≤ place + head.range → place < length content
       → place + head.reach < length content + head.end → DiffersAt content head place
 
+-- The first places of a head were passed: its value is at none of them.
+pub record PassesPlaces (content : List ℕ) (head : Head) (passed : Passed) : Type 0 where
+  -- Only places of a line are.
+  pub of_line : 0 < passed.length → head.reach < 4294967295
+  -- They are some of its places, and of those of the content.
+  pub few : passed.length ≤ head.range
+  pub inside : passed.length ≤ length content
+  -- Not both bytes are at any of them.
+  pub alone : IsAlone content head (head.end - head.range) passed.length
+  -- It has both.
+  pub paired : 0 < passed.length → head.paired ≡ true
+  -- The first byte is at no more of them than there are.
+  pub firsts : passed.firsts ≤ passed.length
+
+-- The heads from one on up to another refuse a content, and of that one, if it was asked, the first places were passed.
+pub record PassesHeads (content : List ℕ) (heads : List Head) (from : ℕ) (passed : PassedHeads) : Type 0 where
+  pub low : from ≤ passed.end
+  pub high : passed.end ≤ length heads
+  pub refuse : (j : ℕ) → from ≤ j → j < passed.end → Refuses content (get_or heads j no_head)
+  pub next : IfSome passed.next (λ places. PassesPlaces content (get_or heads passed.end no_head) places)
+
 -- each byte of a content is below 256
 abbrev pub AreBytes : List ℕ → Type 0
 AreBytes content = (place : ℕ) → slice_index content place < 256
@@ -106,18 +129,40 @@ pub record RefusesLines (c : List ℕ) (first count : ℕ) (content : List ℕ) 
   pub refused : (j : ℕ) → j < lines → IsRefused c (first + 32 * j) content
   pub values : value_bytes ≡ value_bytes_from c first lines
 
--- those of the section at `at`
-abbrev pub RefusesFirst : List ℕ → ℕ → List ℕ → RefusedLines → Type 0
-RefusesFirst c at content refused = RefusesLines c (field c at 3) (field c at 2) content refused.lines refused.value_bytes
+-- The line at r needn't be compared at the first places of its range: it doesn't equal its value there.
+pub record SparesPlaces (c : List ℕ) (r : ℕ) (content : List ℕ) (passed : Passed) : Type 0 where
+  -- They are some of its places, and of those of the content.
+  pub few : passed.length ≤ field c r 1
+  pub inside : passed.length ≤ length content
+  pub fits : 0 < passed.length → field c r 0 + passed.length < 4294967296
+  -- It equals its value at a place of its range where it does at one after them.
+  pub same : (own : PlainLine) (host : Host) → ReadsLine c r own → equals_from own host content own.start own.range
+      ≡ equals_from own host content (own.start + passed.length) (own.range - passed.length)
+  -- No more bytes are compared at each of them than the value has.
+  pub bytes : passed.length + passed.firsts ≤ passed.length * field c r 3
+
+-- the first lines of some refuse a content, and of the next the first places needn't be compared
+pub record KnowsLines (c : List ℕ) (first count : ℕ) (content : List ℕ) (known : RefusedLines) : Type 0 where
+  pub refuses : RefusesLines c first count content known.lines known.value_bytes
+  pub spares : known.lines < count → SparesPlaces c (first + 32 * known.lines) content known.next
+
+-- so it is with the lines of the section at `at`
+abbrev pub KnowsFirst : List ℕ → ℕ → List ℕ → RefusedLines → Type 0
+KnowsFirst c at content known = KnowsLines c (field c at 3) (field c at 2) content known
+
+-- no place
+abbrev pub no_places : Passed
+no_places = record { length = 0; firsts = 0 }
 
 -- no line
 abbrev pub no_lines : RefusedLines
-no_lines = record { lines = 0; value_bytes = 0; bytes = 0 }
+no_lines = record { lines = 0; value_bytes = 0; bytes = 0; next = no_places }
 
 -- Of lines whose first refuse a content the next has this head, which counts their value bytes.
 pub record OpensAfter (c : List ℕ) (first count : ℕ) (content : List ℕ) (lines : ℕ) (from : Before) (head : Head) : Type 0 where
   pub refuses : RefusesLines c first count content lines (value_bytes_from c first lines)
   pub values : head.value_bytes ≡ from.value_bytes + value_bytes_from c first lines
+  pub is : head.reach < 4294967295 → IsHeadOf c (first + 32 * lines) head
 
 -- A content is refused by that many lines, the first at `first`, which have these heads.
 pub record PassesLines (c : List ℕ) (first lines : ℕ) (content : List ℕ) (low high : ℕ) (from to : Before) : Type 0 where

@@ -3,15 +3,15 @@
 //! Most lines are refused by the first bytes of their value, which stand at none of the places where the value may begin. So of
 //! each top line two bytes and these places are kept side by side, in the order of sections, and a content goes through them
 //! alone: sections of which no line may hold are skipped together, and so are the lines of a section before the first that may.
-//! They take of the budget and add to the meter what they do one by one. A section with another line, as one in words of two bytes, ends in a head that refuses no content, and is always
-//! looked at.
+//! They take of the budget and add to the meter what they do one by one. A section with another line, as one in words of two bytes,
+//! ends in a head that refuses no content, and is always looked at.
 //!
 //! What is kept says nothing new of a cache: with it a content has the answers, the faults and the costs that it has without.
 
 ghost use Rattle.std.specs.Prelude.{◌≡◌, ◌+◌, ◌*◌, ◌/◌, ◌<◌, ◌≤◌, ℕ, get_or, length, IfOk, IfSome};
 ghost use Rattle.mime_base.specs.Cache.Bytes.{field};
 ghost use Rattle.mime_view.specs.Globs.{AreLearnt};
-ghost use Rattle.mime_view.specs.Heads.{AreBytes, AreHeads, PassesFrom, Refuses, RefusesFirst, TellsSections, no_head, no_lines};
+ghost use Rattle.mime_view.specs.Heads.{AreBytes, AreHeads, KnowsFirst, PassesFrom, PassesHeads, TellsSections, no_lines};
 ghost use Rattle.mime_view.specs.Heads.Lanes.{AreLanes};
 ghost use Rattle.mime_view.specs.Learning.{AddsGlobs};
 ghost use Rattle.mime_view.specs.Spending.{Looks};
@@ -24,9 +24,9 @@ use crate::globs::learning::learn_globs;
 use crate::globs::learnt::LearntGlob;
 use crate::heads::lanes::{Lanes, pass_blocks};
 use crate::heads::learning::learn;
-use crate::heads::refusing::{Beside, refuses};
+use crate::heads::refusing::{Beside, no_places, places_before};
 use crate::magic::MagicQuery;
-use mime_base::{Content, Counted, Meter, OutOfMemory};
+use mime_base::{Content, Counted, Meter, OutOfMemory, Passed};
 use std::alloc::Global;
 use std::marker::Model;
 
@@ -75,7 +75,7 @@ pub struct NextOpen {
     pub refused: RefusedLines,
 }
 
-/// The first lines of a section, as far as they are known to refuse a content.
+/// The first lines of a section, as far as they are known to refuse a content, and what was passed of the next.
 #[derive(Clone, Copy)]
 pub struct RefusedLines {
     /// How many.
@@ -84,6 +84,17 @@ pub struct RefusedLines {
     pub value_bytes: u64,
     /// How many bytes they compare: a number that wraps.
     pub bytes: u64,
+    /// What was passed of the places of the next line.
+    pub next: Passed,
+}
+
+/// How far heads were passed that refuse a content.
+#[derive(Clone, Copy)]
+pub struct PassedHeads {
+    /// The head after the last that was.
+    pub end: usize,
+    /// What was passed of the places of that one, if it was asked and doesn't refuse the content.
+    pub next: Option<Passed>,
 }
 
 /// Where the sections of a magic list stand.
@@ -124,6 +135,7 @@ impl RefusedLines {
             lines: 0,
             value_bytes: 0,
             bytes: 0,
+            next: no_places(),
         }
     }
 }
@@ -243,12 +255,13 @@ pub fn next_open(
     ensures high { result.section ≤ list.count }
     // A content passes those before it.
     ensures passes { PassesFrom query.now.counted.now list.first learnt.now.before.items query.now.content from result.section }
-    // So do its first lines.
-    ensures refused { RefusesFirst query.now.counted.now (list.first + 16 * result.section) query.now.content result.refused }
+    // Its first lines refuse it.
+    ensures refused { KnowsFirst query.now.counted.now (list.first + 16 * result.section) query.now.content result.refused }
 {
     let mut beside = Beside::none(from);
     let first = learnt.before[from as usize].heads;
-    let at = first_open(learnt, &query.content, first, &mut beside);
+    let passed = first_open(learnt, &query.content, first, &mut beside);
+    let at = passed.end;
     if at < learnt.heads.len() {
         let head = learnt.heads[at];
         let beside_before = beside.before_section(head.section);
@@ -260,6 +273,7 @@ pub fn next_open(
                 head,
                 at,
                 beside.all().wrapping_sub(beside_before),
+                passed.next.unwrap_or(no_places()),
             ),
         };
     }
@@ -270,13 +284,15 @@ pub fn next_open(
     }
 }
 
-/// The lines of a section before the one of a head, which compare so many bytes beside one at each of their places.
+/// The lines of a section before the one of a head, which compare so many bytes beside one at each of their places, and what was passed
+/// of its own.
 #[inline(always)]
-fn refused_between(before: Before, head: Head, at: usize, beside: u64) -> RefusedLines
+fn refused_between(before: Before, head: Head, at: usize, beside: u64, next: Passed) -> RefusedLines
     requires heads { before.heads ≤ at }
     requires value_bytes { before.value_bytes ≤ head.value_bytes }
     ensures lines { result.lines + before.heads ≡ at }
     ensures value_bytes { result.value_bytes + before.value_bytes ≡ head.value_bytes }
+    ensures next { result.next ≡ next }
 {
     RefusedLines {
         lines: (at - before.heads) as u64,
@@ -285,25 +301,28 @@ fn refused_between(before: Before, head: Head, at: usize, beside: u64) -> Refuse
             .windows
             .wrapping_sub(before.windows)
             .wrapping_add(beside),
+        next,
     }
 }
 
-/// The first head from one on that doesn't refuse a content, or how many heads there are.
+/// Passes the heads from one on that refuse a content, up to one that doesn't.
 #[inline(always)]
-fn first_open(learnt: &Learnt, content: &Content<'_>, from: usize, beside: &mut Beside) -> usize
+fn first_open(
+    learnt: &Learnt,
+    content: &Content<'_>,
+    from: usize,
+    beside: &mut Beside,
+) -> PassedHeads
     requires lanes { AreLanes learnt.now.heads.items learnt.now.lanes.firsts.items learnt.now.lanes.places.items }
     requires from { from ≤ length learnt.now.heads.items }
-    ensures low { from ≤ result }
-    ensures high { result ≤ length learnt.now.heads.items }
+    ensures passed { PassesHeads content.now learnt.now.heads.items from result }
     // Each byte of the content is less than 256.
     ensures bytes { AreBytes content.now }
-    // Those before it refuse the content.
-    ensures refuse { (j : ℕ) → from ≤ j → j < result → Refuses content.now (get_or learnt.now.heads.items j no_head) }
 {
     let long = length_of(content);
     let passed = pass_blocks(learnt, content, long, from, beside);
-    if passed.open {
-        return passed.end;
+    if passed.next.is_some() {
+        return passed;
     }
     pass_rest(&learnt.heads, content, long, passed.end, beside)
 }
@@ -328,20 +347,22 @@ fn pass_rest(
     long: u32,
     from: usize,
     beside: &mut Beside,
-) -> usize
+) -> PassedHeads
     requires from { from ≤ length heads.now }
     requires long { long ≤ length content.now }
     requires below { long < 4294967295 }
-    ensures low { from ≤ result }
-    ensures high { result ≤ length heads.now }
-    ensures refuse { (j : ℕ) → from ≤ j → j < result → Refuses content.now (get_or heads.now j no_head) }
+    ensures { PassesHeads content.now heads.now from result }
 {
     let mut at = from;
     while at < heads.len() {
-        if !refuses(&heads[at], content, long, beside) {
-            return at;
+        let next = places_before(&heads[at], content, long, beside);
+        if next.is_some() {
+            return PassedHeads { end: at, next };
         }
         at += 1;
     }
-    at
+    PassedHeads {
+        end: at,
+        next: None,
+    }
 }

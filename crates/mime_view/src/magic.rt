@@ -5,15 +5,18 @@
 //!
 //! Nothing that a record states is trusted: a line may be its own child, and sections may share their lines. So each
 //! section and each line takes a record of the budget before it is read, and a line as many value bytes as it states
-//! before it compares them: the budget bounds the work. That a walk ends is due to the level, which rises from parent to
+//! before it compares them: the budget bounds the work. A look at heads comes before that, and only where the budget covers all
+//! that is left to look at. That a walk ends is due to the level, which rises from parent to
 //! child and is at most the 64th.
 //!
 //! Most lines differ in their first byte already. So the loop over the lines of a section is part of the loop over sections, in
 //! one piece of code that skips them, with the meter and the budget in registers; a line that may equal its value is
 //! looked at by a call of its own, with a copy of both.
 
-ghost use Rattle.std.specs.Prelude.{◌≡◌, ◌⊎◌, ℕ, ◌+◌, ◌*◌, ◌^◌, ◌<◌, ◌≤◌, List, [], ◌∷◌, length, true, false, Ok, IfErr, IfOk, IfSome, OnOk};
-ghost use Rattle.mime_base.specs.Cache.Bytes.{field};
+ghost use Rattle.std.specs.Prelude.{◌≡◌, ◌⊎◌, ℕ, ◌+◌, ◌-◌, ◌*◌, ◌^◌, ◌<◌, ◌≤◌, List, if◌then◌else◌, IsOkAnd, [], ◌∷◌, length, true, false, Ok, IfErr, IfOk, IfSome, OnOk};
+ghost use Rattle.mime_base.specs.Cache.Bytes.{both_lie, field, lies};
+ghost use Rattle.mime_base.specs.Magic.Holds.{equals_from};
+ghost use Rattle.mime_base.specs.Magic.Ranges.{stated_line};
 ghost use Rattle.mime_base.specs.Magic.{PlainLine, PlainSection};
 ghost use Rattle.mime_view.specs.Magic.{AnswersLine, AnswersLineAt, AnswersLinesAt, AnswersMagicAt, AnswersSections, Ends};
 ghost use Rattle.mime_view.specs.Magic.{IsBlockFault, IsLineFault, IsLinesFault, IsMagicFault, IsSectionFault, IsSeenFault};
@@ -21,14 +24,15 @@ ghost use Rattle.mime_view.specs.Magic.{LiesBlock, NamesChildren, NamesText, Rea
 ghost use Rattle.mime_base.specs.Meter.{raised};
 ghost use Rattle.mime_view.specs.Heads.Lanes.{AreLanes};
 ghost use Rattle.mime_view.specs.Heads.Skipping.{IsSectionsFault, Skips, TakesAtOnce, taken_by};
-ghost use Rattle.mime_view.specs.Heads.{AreHeads, PassesFrom, RefusesFirst, RefusesLines, Rises, TellsSections, before_at, no_lines};
+ghost use Rattle.mime_view.specs.Heads.{AreHeads, KnowsFirst, KnowsLines, PassesFrom, Rises, SparesPlaces, TellsSections, before_at, no_lines};
 ghost use Rattle.mime_view.specs.Spending.{Spends};
 
 use crate::budget::Budget;
 use crate::fault::CacheFault;
+use crate::heads::refusing::no_places;
 use crate::heads::{Learnt, MagicHeads, NextOpen, RefusedLines, SectionList, next_open};
 use crate::spending::Spending;
-use mime_base::{Content, Counted, Host, StatedValue};
+use mime_base::{ByteFault, Content, Counted, Host, Meter, Passed, StatedValue};
 
 /// The last level on which a line stands, counted from 0.
 const LAST_LEVEL: u32 = 63;
@@ -177,7 +181,7 @@ fn skip_refused(
     // A content passes those that are skipped.
     ensures passes { PassesFrom query.now.counted.now list.first learnt.now.before.items query.now.content i result.section }
     // The first lines of the next refuse it.
-    ensures refused { RefusesFirst query.now.counted.now (list.first + 16 * result.section) query.now.content result.refused }
+    ensures refused { KnowsFirst query.now.counted.now (list.first + 16 * result.section) query.now.content result.refused }
     // What the sections that are skipped take.
     ensures skips { Skips (length query.now.content) i result.section (before_at learnt.now.before.items i)
         (before_at learnt.now.before.items result.section) spending.old spending.new }
@@ -353,7 +357,7 @@ fn take_section_apart<'a>(
     spending: &mut Spending,
 ) -> Result<Option<(&'a [u8], u32)>, CacheFault>
     requires inside { at + 16 ≤ length query.now.counted.now }
-    requires refused { RefusesFirst query.now.counted.now at query.now.content refused }
+    requires refused { KnowsFirst query.now.counted.now at query.now.content refused }
     // A section that stands answers as a list of it alone does.
     ensures section { (section : PlainSection) → ReadsSection query.now.counted.now at section →
         AnswersSections query.now (section ∷ []) spending.old spending.new result }
@@ -407,7 +411,7 @@ fn take_section<'a>(
     spending: &mut Spending,
 ) -> Result<Option<(&'a [u8], u32)>, CacheFault>
     requires inside { at + 16 ≤ length query.now.counted.now }
-    requires refused { RefusesFirst query.now.counted.now at query.now.content refused }
+    requires refused { KnowsFirst query.now.counted.now at query.now.content refused }
     // A section that stands answers as a list of it alone does.
     ensures section { (section : PlainSection) → ReadsSection query.now.counted.now at section →
         AnswersSections query.now (section ∷ []) spending.old spending.new result }
@@ -441,15 +445,48 @@ fn some_top_line_holds(
     spending: &mut Spending,
 ) -> Result<bool, CacheFault>
     requires block { LiesBlock query.now.counted.now first 32 count }
-    requires refused { RefusesLines query.now.counted.now first count query.now.content refused.lines refused.value_bytes }
+    requires refused { KnowsLines query.now.counted.now first count query.now.content refused }
     // Lines that stand answer whether one holds.
     ensures lines { AnswersLinesAt query.now first count 0 spending.old spending.new result }
     // On any bytes: why there is no answer, and what the step costs.
     ensures ends { Ends (IsLinesFault query.now.counted.now first count 0) (line_price query.now) 0 spending.old spending.new result }
 {
-    let passed = pass_lines(&query.content, refused, spending).lines;
-    let rest = u64::from(count) - passed;
-    some_line_holds(query, u64::from(first) + 32 * passed, rest, 0, spending)
+    let passed = pass_lines(&query.content, refused, spending);
+    let rest = u64::from(count) - passed.lines;
+    some_line_from_holds(
+        query,
+        u64::from(first) + 32 * passed.lines,
+        rest,
+        passed.next,
+        spending,
+    )
+}
+
+/// The same of lines of which the first needn't be compared at its first places, which were passed.
+// Part of the loop over sections.
+#[inline(always)]
+fn some_line_from_holds(
+    query: &MagicQuery<'_, '_>,
+    first: u64,
+    count: u64,
+    passed: Passed,
+    spending: &mut Spending,
+) -> Result<bool, CacheFault>
+    requires block { LiesBlock query.now.counted.now first 32 count }
+    requires fits { first + 32 * count < 2 ^ 64 }
+    requires passed { 0 < count → SparesPlaces query.now.counted.now first query.now.content passed }
+    // Lines that stand answer whether one holds.
+    ensures lines { AnswersLinesAt query.now first count 0 spending.old spending.new result }
+    // On any bytes: why there is no answer, and what the step costs.
+    ensures ends { Ends (IsLinesFault query.now.counted.now first count 0) (line_price query.now) 0 spending.old spending.new result }
+{
+    if count == 0 || passed.length == 0 {
+        return some_line_holds(query, first, count, 0, spending);
+    }
+    if holds_apart(query, first, 0, passed, spending)? {
+        return Ok(true);
+    }
+    some_line_holds(query, first + 32, count - 1, 0, spending)
 }
 
 /// Refuses records that don't lie in the cache. No records lie anywhere.
@@ -522,7 +559,7 @@ fn line_holds(
     if differs_at_once(query, at, spending) {
         return Ok(false);
     }
-    holds_apart(query, at, level, spending)
+    holds_apart(query, at, level, no_places(), spending)
 }
 
 /// Whether already the first byte of each window of a line differs, and as much is left as the line takes: most go no further.
@@ -566,7 +603,7 @@ fn differs_at_once(query: &MagicQuery<'_, '_>, at: u64, spending: &mut Spending)
     differs
 }
 
-/// Whether a line holds that may equal its value.
+/// Whether a line holds that may equal its value after the first places, which were passed.
 // It hands a copy of the meter and the budget to the call, so that the loop may keep its own in registers.
 #[cycle(sniffing)]
 #[inline(always)]
@@ -574,32 +611,36 @@ fn holds_apart(
     query: &MagicQuery<'_, '_>,
     at: u64,
     level: u32,
+    passed: Passed,
     spending: &mut Spending,
 ) -> Result<bool, CacheFault>
     requires level { level ≤ 63 }
     requires inside { at + 32 ≤ length query.now.counted.now }
+    requires passed { SparesPlaces query.now.counted.now at query.now.content passed }
     // A line that stands with its children answers as a forest of it alone does.
     ensures line { AnswersLineAt query.now at level spending.old spending.new result }
     // On any bytes: why there is no answer, and what the step costs.
     ensures ends { Ends (IsLineFault query.now.counted.now at level) (line_price query.now) 0 spending.old spending.new result }
 {
     let mut apart = *spending;
-    let result = whole_line_holds(query, at, level, &mut apart);
+    let result = whole_line_holds(query, at, level, passed, &mut apart);
     *spending = apart;
     result
 }
 
-/// The same: its value is compared, and its children are asked.
+/// The same: its value is compared, but at the first places, which were passed, and its children are asked.
 #[cycle(sniffing)]
 #[inline(never)]
 fn whole_line_holds(
     query: &MagicQuery<'_, '_>,
     at: u64,
     level: u32,
+    passed: Passed,
     spending: &mut Spending,
 ) -> Result<bool, CacheFault>
     requires level { level ≤ 63 }
     requires inside { at + 32 ≤ length query.now.counted.now }
+    requires passed { SparesPlaces query.now.counted.now at query.now.content passed }
     // A line that stands with its children answers as a forest of it alone does.
     ensures line { AnswersLineAt query.now at level spending.old spending.new result }
     // On any bytes: why there is no answer, and what the step costs.
@@ -609,7 +650,7 @@ fn whole_line_holds(
         equals,
         count,
         first,
-    } = see_line(query, at, spending)?;
+    } = see_line(query, at, passed, spending)?;
     if !equals {
         return Ok(false);
     }
@@ -631,14 +672,17 @@ struct Seen {
     first: u32,
 }
 
-/// Takes the record and the value of the line at `at`, and compares the value.
+/// Takes the record and the value of the line at `at`, and compares the value, but at the first places, which were passed: what was
+/// compared there is added.
 #[inline(always)]
 fn see_line(
     query: &MagicQuery<'_, '_>,
     at: u64,
+    passed: Passed,
     spending: &mut Spending,
 ) -> Result<Seen, CacheFault>
     requires inside { at + 32 ≤ length query.now.counted.now }
+    requires passed { SparesPlaces query.now.counted.now at query.now.content passed }
     // What is given names the line's children.
     ensures children { IfOk result (NamesChildren query.now.counted.now at) }
     // A line that stands answers whether it holds by itself.
@@ -660,19 +704,52 @@ fn see_line(
         size,
         word,
     };
-    let equals = counted.value_in_range(
-        value,
-        start,
-        range,
-        query.content.bytes(),
-        query.host,
-        &mut spending.meter,
-    )?;
+    let equals = equals_after(query, value, start, range, passed, &mut spending.meter)?;
     Ok(Seen {
         equals,
         count,
         first,
     })
+}
+
+/// Whether a value is at one of the places of a range after the first, which were passed: what was compared there is added.
+#[inline(always)]
+fn equals_after(
+    query: &MagicQuery<'_, '_>,
+    value: StatedValue,
+    start: u32,
+    range: u32,
+    passed: Passed,
+    meter: &mut Meter,
+) -> Result<bool, ByteFault>
+    requires few { passed.length ≤ range }
+    requires fits { 0 < passed.length → start + passed.length < 4294967296 }
+    requires inside { passed.length ≤ length query.now.content }
+    requires bytes { passed.length + passed.firsts ≤ passed.length * value.size }
+    // It says so where value and mask lie in the cache.
+    ensures equal { both_lie query.now.counted.now value.at value.mask_at value.size ≡ true → IsOkAnd result (λ equal.
+        equal ≡ equals_from (stated_line query.now.counted.now value (start + passed.length) (range - passed.length))
+        query.now.host query.now.content (start + passed.length) (range - passed.length)) }
+    // A fault names what doesn't.
+    ensures fault { IfErr result (λ fault. (both_lie query.now.counted.now value.at value.mask_at value.size ≡ false)
+        × (fault ≡ ByteFault.OutOfRange (if lies query.now.counted.now value.at value.size then value.mask_at else value.at))) }
+    // No record is counted.
+    ensures nodes { meter.new.nodes ≡ meter.old.nodes }
+    // It counts at most one byte more than the content has, for each byte of the value.
+    ensures limit { meter.new.bytes ≤ meter.old.bytes + (length query.now.content + 1) * value.size }
+    ensures rises { meter.old.bytes ≤ meter.new.bytes }
+{
+    let places = passed.length as u32;
+    let equals = query.counted.value_in_range(
+        value,
+        start + places,
+        range - places,
+        query.content.bytes(),
+        query.host,
+        meter,
+    )?;
+    meter.add_bytes(passed.length as u64 + passed.firsts as u64);
+    Ok(equals)
 }
 
 /// Whether one of the `count` children from `first` on holds.

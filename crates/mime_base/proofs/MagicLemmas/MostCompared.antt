@@ -32,7 +32,7 @@ module _ (own : PlainLine) (host : Host) (content : List ℕ) where
       )
 
   -- and over all offsets
-  most_from : (at range : ℕ) → compared_from own host content at range ≤ (length content + 1 - at) * length own.value
+  pub most_from : (at range : ℕ) → compared_from own host content at range ≤ (length content + 1 - at) * length own.value
   most_from at zero = omega (arith, compared_from-none own host content at)
   most_from at (suc n) =
       ⊎_elim (λ beyond. omega (arith, compared_from-outside own host content at (suc n) beyond))

@@ -67,6 +67,19 @@ counted_before c first section from old heads j all head is counts =
     (λ k below. ap (λ (h : Head). h.value_bytes) (others heads head (length old + k) (omega (arith, below, is.count))) ∙ is.values_before k below)
     (ap (λ (h : Head). h.value_bytes) last ∙ counts ∙ is.values)
 
+-- before a head that refuses nothing each is of its line
+pub head_before : (c : List ℕ) (first section : ℕ) (from : Before) (old heads : List Head) (j : ℕ) (all : Before) (head : Head)
+    → SoFar c first section from old heads j all → head.reach ≡ 4294967295 → (k : ℕ) → k < j + 1
+    → (get_or (heads ++ head ∷ []) (length old + k) no_head).reach < 4294967295
+    → IsHeadOf c (first + 32 * k) (get_or (heads ++ head ∷ []) (length old + k) no_head)
+head_before c first section from old heads j all head is beyond =
+    let place : length old + j ≡ length heads = omega (arith, is.count) in
+    let last : get_or (heads ++ head ∷ []) (length old + j) no_head ≡ head = rw place (last_is heads head) in
+    below_more (λ (k : ℕ). (get_or (heads ++ head ∷ []) (length old + k) no_head).reach < 4294967295
+    → IsHeadOf c (first + 32 * k) (get_or (heads ++ head ∷ []) (length old + k) no_head)) j
+    (λ k below of_line. subst (IsHeadOf c (first + 32 * k)) (sym (others heads head (length old + k) (omega (arith, below, is.count)))) (is.are k below))
+    (λ of_line. absurd (omega (arith, of_line, beyond, ap (λ (h : Head). h.reach) last)))
+
 -- one more line
 pub one_more : (c : List ℕ) (first section : ℕ) (from : Before) (old heads : List Head) (j : ℕ) (all : Before) (looks : Looks) (to : Before)
     → SoFar c first section from old heads j all → LooksAtLine c (first + 32 * j) section all looks

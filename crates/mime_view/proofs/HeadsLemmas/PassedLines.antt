@@ -5,7 +5,7 @@ use Rattle.std.proofs.lemmas.Result.{IfErr-weaker}
 use Rattle.mime_base.specs.Cache.Bytes.{field}
 use Rattle.mime_base.specs.Magic.{Forest, PlainLine, bare, line}
 use Rattle.mime_base.specs.Magic.Holds.{equals_from}
-use Rattle.mime_view.specs.Heads.{IsRefused, RefusesLines, no_lines, value_bytes_from}
+use Rattle.mime_view.specs.Heads.{IsRefused, KnowsLines, RefusesLines, no_lines, no_places, value_bytes_from}
 use Rattle.mime_view.specs.Heads.Skipping.{TakesAtOnce}
 use Rattle.mime_view.specs.Magic.{AnswersLines, AnswersLinesAt, Ends, IsLineFault, IsLinesFault, line_price}
 use Rattle.mime_view.specs.Spending.{Spends}
@@ -14,16 +14,19 @@ use Rattle.mime_view.specs.declared.heads.RefusedLines.{RefusedLines}
 use Rattle.mime_view.specs.declared.magic.MagicQuery.{MagicQuery}
 use Rattle.mime_view.specs.declared.spending.Spending.{Spending}
 use Rattle.mime_view.proofs.CostLemmas.Costs.{spends_then}
+use Rattle.mime_view.proofs.HeadsLemmas.SparedPlaces.{spares_none}
 use Rattle.mime_view.proofs.MagicLemmas.LineParts.{line_differs}
 use Rattle.mime_view.proofs.MagicLemmas.LinesLeft.{Left, next}
 
 -- of lines that refuse a content all are passed or none
-pub either_refuses : (c : List ℕ) (first count : ℕ) (content : List ℕ) (refused passed : RefusedLines)
-    → RefusesLines c first count content refused.lines refused.value_bytes → (passed ≡ refused) ⊎ (passed ≡ no_lines)
-    → RefusesLines c first count content passed.lines passed.value_bytes
-either_refuses c first count content refused passed is either = elim either [
+pub either_knows : (c : List ℕ) (first count : ℕ) (content : List ℕ) (refused passed : RefusedLines)
+    → KnowsLines c first count content refused → (passed ≡ refused) ⊎ (passed ≡ no_lines) → KnowsLines c first count content passed
+either_knows c first count content refused passed is either = elim either [
   | inl all ↦ rw all is
-  | inr none ↦ rw none (record { few = omega arith; refused = λ j below. absurd (omega arith); values = refl })
+  | inr none ↦ rw none (record {
+    refuses = record { few = omega arith; refused = λ j below. absurd (omega arith); values = refl };
+    spares = λ some. spares_none c (first + 32 * 0) content no_places refl;
+  })
 ]
 
 -- a line that refuses a content doesn't hold

@@ -1,6 +1,6 @@
 -- A content that is refused by what a line looks at is refused by the line.
 use Rattle.std.proofs.Common.{◌≡◌, ℕ, zero, suc, ◌+◌, ◌<◌, ◌≤◌, false, true, List, length, get_or, drop}
-use Rattle.std.proofs.Common.{bit_and, inl, inr, subst, sym, ap, ◌∙◌, arith, length-drop, take}
+use Rattle.std.proofs.Common.{bit_and, inl, inr, subst, sym, ap, ap₂, ◌∙◌, arith, length-drop, take, ◌-◌}
 use Rattle.std.proofs.lemmas.Bool.{cases_eq, cases_lt, ne_eqb}
 use Rattle.std.proofs.lemmas.List.{get_or-drop, get_or-take, length-take-le}
 use Rattle.mime_base.specs.Magic.{PlainLine}
@@ -87,6 +87,30 @@ module _ (own : PlainLine) (host : Host) (content : List ℕ) (head : Head) (is 
         ∙ none_equals range (at + 1) (λ i below fits.
         let later : at + (i + 1) ≡ at + 1 + i = omega arith in
         subst (DiffersAt content head) later (others (i + 1) (omega (arith, below)) (omega (arith, fits))))
+  ]
+
+  -- and where the first do, the range may begin after them
+  pub resumes : (k range at : ℕ) → k ≤ range → ((i : ℕ) → i < k → at + i + length own.value ≤ length content → DiffersAt content head (at + i))
+      → equals_from own host content at range ≡ equals_from own host content (at + k) (range - k)
+  resumes zero range at few others =
+      let here : at ≡ at + 0 = omega arith in
+      let all : range ≡ range - 0 = omega arith in
+      ap₂ (equals_from own host content) here all
+  resumes (suc k) zero at few others = absurd (omega (arith, few))
+  resumes (suc k) (suc range) at few others = elim (cases_lt (length content) (at + length own.value)) [
+    | inl beyond ↦
+        equals_from-outside own host content at (suc range) beyond
+        ∙ sym (equals_from-outside own host content (at + suc k) (suc range - suc k) (omega (arith, beyond)))
+    | inr inside ↦
+        let here : at + 0 ≡ at = omega arith in
+        let place : at + 1 + k ≡ at + suc k = omega arith in
+        let left : range - k ≡ suc range - suc k = omega arith in
+        let differs : DiffersAt content head at = subst (DiffersAt content head) here (others 0 (omega arith) (omega (arith, inside))) in
+        equals_from-passed own host content at range (suc range) (omega arith) (other_window at inside differs)
+        ∙ resumes k range (at + 1) (omega (arith, few)) (λ i below fits.
+        let later : at + (i + 1) ≡ at + 1 + i = omega arith in
+        subst (DiffersAt content head) later (others (i + 1) (omega (arith, below)) (omega (arith, fits))))
+        ∙ ap₂ (equals_from own host content) place left
   ]
 
 -- a content that is refused by what a line looks at is refused by the line

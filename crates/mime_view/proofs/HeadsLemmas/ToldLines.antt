@@ -5,7 +5,7 @@ use Rattle.mime_view.specs.Heads.{AreBytes, LearnsLines, LearnsSection, OpensAft
 use Rattle.mime_view.specs.Heads.{no_head, open_head, value_bytes_from}
 use Rattle.mime_view.specs.declared.heads.Before.{Before}
 use Rattle.mime_view.specs.declared.heads.Head.{Head}
-use Rattle.mime_view.proofs.HeadsLemmas.LearntLines.{SoFar, counted_before, last_is, longer, no_line, others, owned}
+use Rattle.mime_view.proofs.HeadsLemmas.LearntLines.{SoFar, counted_before, head_before, last_is, longer, no_line, others, owned}
 use Rattle.mime_view.proofs.HeadsLemmas.RefusedLines.{refused_line}
 
 -- of lines whose first refuse a content, that many
@@ -43,6 +43,7 @@ all_lines c first section from old new count to is = record {
   opens = λ content bytes lines within refuses. record {
     refuses = first_refuse c first section from old new count to is content bytes lines count refuses (omega (arith, within, is.count)) (omega arith);
     values = is.values_before lines (omega (arith, within, is.count));
+    is = λ of_line. is.are lines (omega (arith, within, is.count));
   };
 }
 
@@ -66,6 +67,7 @@ open_lines c first section from old heads j count all new to is most heads_are t
             (λ k low high. subst (Refuses content) (others heads head k (omega (arith, high, within, longer heads head, is.count)))
             (refuses k low high)) (omega (arith, within, longer heads head, is.count)) most;
         values = counted_before c first section from old heads j all head is refl lines (omega (arith, within, longer heads head, is.count));
+        is = head_before c first section from old heads j all head is refl lines (omega (arith, within, longer heads head, is.count));
       };
     })
   where

@@ -4,13 +4,13 @@
 //! so do these places: one shuffle of the first sixteen bytes of a content by the places, and one comparison with the first
 //! bytes, refuse sixteen heads but for the few that begin so. Any other head has a lane that is never refused.
 
-ghost use Rattle.std.specs.Prelude.{◌≡◌, ◌+◌, ◌<◌, ◌≤◌, ℕ, [], ◌∷◌, ◌++◌, get_or, length, OnOk};
+ghost use Rattle.std.specs.Prelude.{◌≡◌, ◌+◌, ◌<◌, ◌≤◌, ℕ, [], ◌∷◌, ◌++◌, get_or, length, IsNone, OnOk};
 ghost use Rattle.std.specs.Int.{bit_at};
-ghost use Rattle.mime_view.specs.Heads.{Refuses, no_head};
+ghost use Rattle.mime_view.specs.Heads.{PassesHeads, Refuses, no_head};
 ghost use Rattle.mime_view.specs.Heads.Lanes.{AreLanes, Differs, HaveLanes, IsLane, IsRoom};
 
-use crate::heads::refusing::{Beside, refuses};
-use crate::heads::{Head, Learnt};
+use crate::heads::refusing::{Beside, places_before};
+use crate::heads::{Head, Learnt, PassedHeads};
 use mime_base::{Content, OutOfMemory};
 use std::alloc::Global;
 use std::simd::prelude::*;
@@ -97,15 +97,6 @@ fn lane_of(head: Head) -> Lane
     }
 }
 
-/// How far heads were passed.
-#[derive(Clone, Copy)]
-pub struct PassedHeads {
-    /// The head after the last that was.
-    pub end: usize,
-    /// Whether that one doesn't refuse the content.
-    pub open: bool,
-}
-
 /// Passes the heads from one on that refuse a content, up to one that doesn't, or from which on there are fewer than sixteen.
 // The loop over blocks of heads.
 #[inline(always)]
@@ -120,14 +111,12 @@ pub fn pass_blocks(
     requires from { from ≤ length learnt.now.heads.items }
     requires long { long ≤ length content.now }
     requires below { long < 4294967295 }
-    ensures low { from ≤ result.end }
-    ensures high { result.end ≤ length learnt.now.heads.items }
-    ensures refuse { (j : ℕ) → from ≤ j → j < result.end → Refuses content.now (get_or learnt.now.heads.items j no_head) }
+    ensures { PassesHeads content.now learnt.now.heads.items from result }
 {
     if long < FRONT {
         return PassedHeads {
             end: from,
-            open: false,
+            next: None,
         };
     }
     let heads = learnt.heads.as_slice();
@@ -135,17 +124,14 @@ pub fn pass_blocks(
     while LANES <= heads.len() - at {
         let asked = open_lanes(learnt, content, at);
         let passed = pass_block(heads, content, long, at, asked, beside);
-        at += passed;
-        if passed < LANES {
-            return PassedHeads {
-                end: at,
-                open: true,
-            };
+        if passed.next.is_some() {
+            return passed;
         }
+        at = passed.end;
     }
     PassedHeads {
         end: at,
-        open: false,
+        next: None,
     }
 }
 
@@ -182,7 +168,7 @@ fn same_bytes(bytes: &[u8], places: &[u8], others: &[u8]) -> u64
         .to_bitmask()
 }
 
-/// How many of sixteen heads, of which some are asked, refuse a content before the first that doesn't.
+/// Passes sixteen heads, of which some are asked, up to one that doesn't refuse a content.
 // The loop over the lanes that are set.
 #[inline(always)]
 fn pass_block(
@@ -192,22 +178,30 @@ fn pass_block(
     at: usize,
     asked: u64,
     beside: &mut Beside,
-) -> usize
+) -> PassedHeads
     requires block { at + 16 ≤ length heads.now }
     requires few { asked < 65536 }
     requires refuse { (j : ℕ) → j < 16 → bit_at asked j ≡ 0 → Refuses content.now (get_or heads.now (at + j) no_head) }
     requires long { long ≤ length content.now }
     requires below { long < 4294967295 }
-    ensures limit { result ≤ 16 }
-    ensures passed { (j : ℕ) → j < result → Refuses content.now (get_or heads.now (at + j) no_head) }
+    ensures passed { PassesHeads content.now heads.now at result }
+    // It ends at one that doesn't, or past all.
+    ensures all { IsNone result.next → result.end ≡ at + 16 }
 {
     let mut asked = asked;
     while asked != 0 {
         let lane = asked.trailing_zeros() as usize;
-        if !refuses(&heads[at + lane], content, long, beside) {
-            return lane;
+        let next = places_before(&heads[at + lane], content, long, beside);
+        if next.is_some() {
+            return PassedHeads {
+                end: at + lane,
+                next,
+            };
         }
         asked &= !(1 << lane);
     }
-    LANES
+    PassedHeads {
+        end: at + LANES,
+        next: None,
+    }
 }

@@ -2,15 +2,17 @@
 //!
 //! Most are by the first byte of its value, which is at none of its places: then its line compares one byte at each. Where that byte is
 //! at some of them, the byte after it may tell; and where the content ends before the last of them, only those are looked at where
-//! the value lies in it. What the line compares then is added, beside one byte at each place.
+//! the value lies in it. What the line compares then is added, beside one byte at each place. Where the two bytes are found, the
+//! line need be compared from there on.
 
-ghost use Rattle.std.specs.Prelude.{◌≡◌, ◌+◌, ◌<◌, ◌≤◌, ◌-◌, ℕ, length, slice_index, true, IfSome};
-ghost use Rattle.mime_view.specs.Heads.{IsAlone, Refuses};
+ghost use Rattle.std.specs.Prelude.{◌≡◌, ◌+◌, ◌<◌, ◌≤◌, ◌-◌, ℕ, length, slice_index, true, IfSome, IsNone};
+ghost use Rattle.mime_view.specs.Heads.{IsAlone, PassesPlaces, Refuses, no_places};
 
 use crate::heads::Head;
-use mime_base::{Content, pass_pairs};
+use mime_base::{Content, Passed, pass_pairs};
 
-/// What lines compare beside one byte at each of their places, summed in the order of sections: numbers that wrap.
+/// What lines compare beside one byte at each of their places, summed in the order of sections: numbers that wrap, since a line whose
+/// last places lie outside the content compares less.
 #[derive(Clone, Copy)]
 pub struct Beside {
     /// The sum over all.
@@ -59,16 +61,26 @@ impl Beside {
     }
 }
 
-/// Whether a content of at least that length is refused by what a line looks at.
+/// Nothing, if a content of at least that length is refused by what a line looks at. Else what was passed of its places.
 // The body of the loops over heads.
 #[inline(always)]
-pub fn refuses(head: &Head, content: &Content<'_>, long: u32, beside: &mut Beside) -> bool
+pub fn places_before(
+    head: &Head,
+    content: &Content<'_>,
+    long: u32,
+    beside: &mut Beside,
+) -> Option<Passed>
     requires long { long ≤ length content.now }
     requires below { long < 4294967295 }
-    // Then its value is at none of the places of its range.
-    ensures { result ≡ true → Refuses content.now head.now }
+    // Nothing: its value is at none of the places of its range.
+    ensures refused { IsNone result → Refuses content.now head.now }
+    // Else it is at none of those that were passed.
+    ensures passed { IfSome result (λ passed. PassesPlaces content.now head.now passed) }
 {
-    refuses_at_once(head, content, long) || refuses_closely(head, content, beside)
+    if refuses_at_once(head, content, long) {
+        return None;
+    }
+    look_closely(head, content, beside)
 }
 
 /// Whether already the first byte of the value is at none of its places, in each of which the value lies in the content.
@@ -95,13 +107,14 @@ fn has_another(head: &Head, content: &Content<'_>) -> bool
     head.range == 1 && 0 < end && end <= bytes.len() && bytes[end - 1] != head.first
 }
 
-/// Whether the first two bytes of the value are at none of its places where it lies in the content.
+/// The same by the first two bytes of the value, at those of its places where it lies in the content.
 #[inline(always)]
-fn refuses_closely(head: &Head, content: &Content<'_>, beside: &mut Beside) -> bool
-    ensures { result ≡ true → Refuses content.now head.now }
+fn look_closely(head: &Head, content: &Content<'_>, beside: &mut Beside) -> Option<Passed>
+    ensures refused { IsNone result → Refuses content.now head.now }
+    ensures passed { IfSome result (λ passed. PassesPlaces content.now head.now passed) }
 {
     if head.reach == u32::MAX || head.reach < head.range {
-        return false;
+        return Some(no_places());
     }
     let outside = (head.reach - head.range) as usize;
     let windows = content
@@ -110,34 +123,50 @@ fn refuses_closely(head: &Head, content: &Content<'_>, beside: &mut Beside) -> b
         .saturating_sub(outside)
         .min(head.range as usize);
     let start = head.end.saturating_sub(head.range) as usize;
-    let Some(firsts) = firsts_alone(head, content, start, windows) else {
-        return false;
-    };
+    let passed = places_alone(head, content, start, windows);
+    if passed.length < windows {
+        return Some(passed);
+    }
     let bytes = (windows as u64)
-        .wrapping_add(firsts as u64)
+        .wrapping_add(passed.firsts as u64)
         .wrapping_sub(u64::from(head.range));
     beside.add(head.section, bytes);
-    true
+    None
 }
 
-/// At how many of so many places the first byte of a value is, if the second is after it at none of them.
+/// How many of so many places come before the first that may have both bytes of a value: all if none has, none where it can't be told.
 #[inline(always)]
-fn firsts_alone(head: &Head, content: &Content<'_>, start: usize, windows: usize) -> Option<usize>
+fn places_alone(head: &Head, content: &Content<'_>, start: usize, windows: usize) -> Passed
     requires start { start < 4294967296 }
     requires windows { windows < 4294967296 }
-    ensures { IfSome result (λ firsts. IsAlone content.now head.now start windows) }
+    ensures alone { IsAlone content.now head.now start result.length }
+    ensures few { result.length ≤ windows }
+    ensures firsts { result.firsts ≤ result.length }
+    // They are fewer only where both bytes are looked at, in the content.
+    ensures paired { result.length < windows → 0 < result.length → head.now.paired ≡ true }
+    ensures inside { result.length < windows → result.length ≤ length content.now }
 {
     let end = start + windows;
     if windows == 0 || content.lacks(head.first, end) {
-        return Some(0);
+        return Passed {
+            length: windows,
+            firsts: 0,
+        };
     }
     let bytes = content.bytes();
     if !head.paired || bytes.len() <= end {
-        return None;
+        return no_places();
     }
-    let passed = pass_pairs(head.first, head.second, &bytes[start..], windows);
-    if passed.length < windows {
-        return None;
+    pass_pairs(head.first, head.second, &bytes[start..], windows)
+}
+
+/// No place was passed.
+#[inline(always)]
+pub fn no_places() -> Passed
+    ensures { result ≡ no_places }
+{
+    Passed {
+        length: 0,
+        firsts: 0,
     }
-    Some(passed.firsts)
 }

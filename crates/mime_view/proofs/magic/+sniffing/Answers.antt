@@ -4,10 +4,23 @@ use Rattle.mime_base.specs.Cache.Bytes.{field}
 use Rattle.mime_base.specs.Magic.{are_allowed, bare, line}
 use Rattle.mime_view.specs.Magic.{AnswersLines, ReadsLines, line_price}
 use Rattle.mime_view.proofs.CostLemmas.Costs.{spends_then}
+use Rattle.mime_view.proofs.HeadsLemmas.SparedPlaces.{spares_none}
 use Rattle.mime_view.proofs.MagicLemmas.LineFaults.{fault_below, own_fault}
 use Rattle.mime_view.proofs.MagicLemmas.LineParts.{last_level, line_alone, line_differs, line_parent, line_refused}
 use Rattle.mime_view.proofs.MagicLemmas.LinesLeft.{ended, next}
 use Rattle.mime_view.proofs.magic.+sniffing.Goals as goal
+
+pub line_holds-holds_apart-requires : goal.line_holds-holds_apart-requires
+line_holds-holds_apart-requires t c = (
+  omega (arith, c.decreases),
+  (
+    c.requires.level,
+    (
+      c.requires.inside,
+      spares_none c.args.query.now.counted.now c.args.at c.args.query.now.content c.no_places.result c.no_places.ensures,
+    ),
+  ),
+)
 
 pub whole_line_holds-returns-then-not-equals-clause-line : goal.whole_line_holds-returns-then-not-equals-clause-line
 whole_line_holds-returns-then-not-equals-clause-line t c = λ own children reads.
