@@ -64,6 +64,41 @@ const LONG: Texts<'static> = Texts {
     ..EMPTY
 };
 
+/// Three sections in which lines in words, or under a mask that leaves bits of the first byte out, stand after others and before one more;
+/// and lines whose first two bytes are found further on, with a line after them or with a child.
+const MIXED: Texts<'static> = Texts {
+    magic: b"MIME-Magic\0\n\
+    [80:t/a]\n>0=\0\x01A\n>4=\0\x02BC\n>0=\0\x02MM~2\n>6=\0\x01D\n\
+    [79:t/b]\n>2=\0\x01E\n>0=\0\x03FGH+30\n>1=\0\x02ee&\x0f\xff\n>3=\0\x02FG+9\n>3=\0\x03RST&\xff\xff\x0f+9\n\
+    [78:t/c]\n>0=\0\x01I\n>1=\0\x03aaB+40\n1>0=\0\x01O\n>3=\0\x01P\n",
+    ..EMPTY
+};
+
+/// Contents that these lines refuse, or that begin or go on as their values do.
+static BEGINNINGS: [&[u8]; 21] = [
+    b"",
+    b"A",
+    b"....BC..",
+    b"....BD.D",
+    b"MM......",
+    b"MN....D.",
+    b"..E.....",
+    b".ee.....",
+    b".%e.....",
+    b"FGH.....",
+    b"FGFGFG..FGI.FGH.",
+    b"..F.F.F.FG......................................",
+    b"aaaaaaaaaaaaaaaaaaaaaaaaaaaaaaaaaaaaaaaaaaaaaaaa",
+    b"OaaaaaaaaaaaaaaaaaaaaaaaaaaaaaaaaaaaaaaaaaB......",
+    b"..aaB.P.",
+    b"......aaB",
+    b"...................................aaB..........",
+    b"...................................aaX..........",
+    b"...R.R.RSX.RST..",
+    b"...R.R..RSX",
+    b"...P....................................................................",
+];
+
 /// The bytes that values begin with, and two others.
 static FIRSTS: [u8; 45] = *b"ABCDEFGHIJKLMNOPQRSTUVWXYZhijklmnopqrstuvwxyz";
 
@@ -205,6 +240,24 @@ fn budgets_about_long_values(rt: HostRuntime) -> Result<(), Fail> {
                 content[place] = first;
                 each_budget(&rt, &walked, &learnt, &content);
             }
+        }
+    }
+    Ok(())
+}
+
+/// Lines that are always read stand in the middle of a section, and others are found open at a later place, under each budget.
+#[test]
+fn budgets_about_mixed_lines(rt: HostRuntime) -> Result<(), Fail> {
+    let alloc = rt.alloc();
+    let database = merged(alloc, &[MIXED])?;
+    let bytes = write_cache(alloc, &database, LARGEST_CACHE)?;
+    let walked = Cache::open(Counted::new(&bytes), &mut Meter::new())?;
+    let heads = walked.learn_heads(alloc, &mut Meter::new())?;
+    alike(&rt, "learnt", heads.is_some(), true);
+    if let Some(heads) = &heads {
+        let learnt = Cache::open_learnt(heads, &mut Meter::new())?;
+        for &content in &BEGINNINGS {
+            each_budget(&rt, &walked, &learnt, content);
         }
     }
     Ok(())
