@@ -2206,7 +2206,7 @@
 	movq	%rbx, %rdi
 	movq	%rdx, %r13
 	movq	%rdx, %rsi
-	callq	"std_alloc::vec::Vec::grow_amortized::<#1d775b5957dec42c>"
+	callq	"std_alloc::vec::Vec::grow_amortized::<#08c20eee1fa81b59>"
 	movl	%eax, %ecx
 	movb	$1, %al
 	testb	%cl, %cl
@@ -2325,7 +2325,7 @@
 	movq	%rbx, %rdi
 	movq	%rdx, %r13
 	movq	%rdx, %rsi
-	callq	"std_alloc::vec::Vec::grow_amortized::<#1d775b5957dec42c>"
+	callq	"std_alloc::vec::Vec::grow_amortized::<#08c20eee1fa81b59>"
 	movl	%eax, %ecx
 	movb	$1, %al
 	testb	%cl, %cl
@@ -2465,7 +2465,7 @@
 	movq	%rbx, %rdi
 	movq	%rdx, %r12
 	movq	%rdx, %rsi
-	callq	"std_alloc::vec::Vec::grow_amortized::<#1d775b5957dec42c>"
+	callq	"std_alloc::vec::Vec::grow_amortized::<#08c20eee1fa81b59>"
 	movl	%eax, %ecx
 	movb	$1, %al
 	testb	%cl, %cl
@@ -2591,7 +2591,7 @@
 	movq	%rbx, %rdi
 	movq	%rdx, %r13
 	movq	%rdx, %rsi
-	callq	"std_alloc::vec::Vec::grow_amortized::<#1d775b5957dec42c>"
+	callq	"std_alloc::vec::Vec::grow_amortized::<#08c20eee1fa81b59>"
 	movl	%eax, %ecx
 	movb	$1, %al
 	testb	%cl, %cl
@@ -3527,7 +3527,7 @@
 	movq	%rsi, %r14
 	movq	%rdx, %rsi
 	movq	%rdx, %r15
-	callq	"std_alloc::vec::Vec::grow_amortized::<#1d775b5957dec42c>"
+	callq	"std_alloc::vec::Vec::grow_amortized::<#08c20eee1fa81b59>"
 	movl	%eax, %ecx
 	movb	$1, %al
 	testb	%cl, %cl

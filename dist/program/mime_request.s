@@ -6439,7 +6439,7 @@
 40:
 	leaq	40(%rsp), %rdi
 	movq	%r15, %rsi
-	callq	"std_alloc::vec::Vec::grow_amortized::<#1d775b5957dec42c>"
+	callq	"std_alloc::vec::Vec::grow_amortized::<#08c20eee1fa81b59>"
 	testb	%al, %al
 	je	41f
 	movq	40(%rsp), %rdx

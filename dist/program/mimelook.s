@@ -220,7 +220,7 @@
 	movq	%rdi, %r12
 	leaq	384(%rsp), %rdi
 	movq	%rbx, %rsi
-	callq	"std_alloc::vec::Vec::grow_amortized::<#1d775b5957dec42c>"
+	callq	"std_alloc::vec::Vec::grow_amortized::<#08c20eee1fa81b59>"
 	testb	%al, %al
 	je	94f
 	movq	384(%rsp), %r14
@@ -512,7 +512,7 @@
 	movq	%rsi, 72(%rsp)
 	leaq	384(%rsp), %rdi
 	movl	$1, %esi
-	callq	"std_alloc::vec::Vec::grow_amortized::<#1d775b5957dec42c>"
+	callq	"std_alloc::vec::Vec::grow_amortized::<#08c20eee1fa81b59>"
 	testb	%al, %al
 	je	141f
 	movq	384(%rsp), %r15
@@ -601,7 +601,7 @@
 49:
 	leaq	384(%rsp), %rdi
 	movl	$1, %esi
-	callq	"std_alloc::vec::Vec::grow_amortized::<#1d775b5957dec42c>"
+	callq	"std_alloc::vec::Vec::grow_amortized::<#08c20eee1fa81b59>"
 	testb	%al, %al
 	je	141f
 	movq	384(%rsp), %r15
@@ -613,7 +613,7 @@
 	leaq	384(%rsp), %rdi
 	movq	%rdx, %r13
 	movq	%rdx, %rsi
-	callq	"std_alloc::vec::Vec::grow_amortized::<#1d775b5957dec42c>"
+	callq	"std_alloc::vec::Vec::grow_amortized::<#08c20eee1fa81b59>"
 	testb	%al, %al
 	je	141f
 	movq	392(%rsp), %r15
@@ -677,7 +677,7 @@
 	jne	54b
 	movq	%rsi, 144(%rsp)
 	leaq	384(%rsp), %rdi
-	callq	"std_alloc::vec::Vec::grow_amortized::<#5891117f51584d69>"
+	callq	"std_alloc::vec::Vec::grow_amortized::<#07da775b90cbd342>"
 	testb	%al, %al
 	jne	53b
 	cmpq	$0, 400(%rsp)
@@ -2765,7 +2765,7 @@
 285:
 	leaq	384(%rsp), %rdi
 	movl	$21, %esi
-	callq	"std_alloc::vec::Vec::grow_amortized::<#1d775b5957dec42c>"
+	callq	"std_alloc::vec::Vec::grow_amortized::<#08c20eee1fa81b59>"
 	testb	%al, %al
 	je	291f
 	movq	400(%rsp), %rax
@@ -2826,7 +2826,7 @@
 290:
 	leaq	384(%rsp), %rdi
 	movq	%rbx, %rsi
-	callq	"std_alloc::vec::Vec::grow_amortized::<#1d775b5957dec42c>"
+	callq	"std_alloc::vec::Vec::grow_amortized::<#08c20eee1fa81b59>"
 	testb	%al, %al
 	je	291f
 	movq	384(%rsp), %rax
@@ -4208,7 +4208,7 @@
 9:
 	leaq	24(%rsp), %rdi
 	movq	%r13, %rsi
-	callq	"std_alloc::vec::Vec::grow_amortized::<#1d775b5957dec42c>"
+	callq	"std_alloc::vec::Vec::grow_amortized::<#08c20eee1fa81b59>"
 	testb	%al, %al
 	je	17f
 	movq	24(%rsp), %r14

@@ -318,7 +318,7 @@
 	leaq	16(%rsp), %rdi
 	movq	%rdx, %rbp
 	movq	%rdx, %rsi
-	callq	"std_alloc::vec::Vec::grow_amortized::<#1d775b5957dec42c>"
+	callq	"std_alloc::vec::Vec::grow_amortized::<#08c20eee1fa81b59>"
 	testb	%al, %al
 	je	32f
 	movq	16(%rsp), %r13
@@ -438,7 +438,7 @@
 31:
 	leaq	16(%rsp), %rdi
 	movq	%r14, %rsi
-	callq	"std_alloc::vec::Vec::grow_amortized::<#1d775b5957dec42c>"
+	callq	"std_alloc::vec::Vec::grow_amortized::<#08c20eee1fa81b59>"
 	testb	%al, %al
 	je	32f
 	movq	16(%rsp), %r13
@@ -632,7 +632,7 @@
 	leaq	16(%rsp), %rdi
 	movq	%rdx, %r13
 	movq	%rdx, %rsi
-	callq	"std_alloc::vec::Vec::grow_amortized::<#1d775b5957dec42c>"
+	callq	"std_alloc::vec::Vec::grow_amortized::<#08c20eee1fa81b59>"
 	testb	%al, %al
 	je	9b
 	movq	16(%rsp), %rax
@@ -960,7 +960,7 @@
 	leaq	8(%rsp), %rdi
 	movq	%rdx, %r12
 	movq	%rdx, %rsi
-	callq	"std_alloc::vec::Vec::grow_amortized::<#1d775b5957dec42c>"
+	callq	"std_alloc::vec::Vec::grow_amortized::<#08c20eee1fa81b59>"
 	testb	%al, %al
 	je	48f
 	movq	8(%rsp), %rbp
@@ -1014,7 +1014,7 @@
 	leaq	8(%rsp), %rdi
 	movq	%rdx, %rbx
 	movq	%rdx, %rsi
-	callq	"std_alloc::vec::Vec::grow_amortized::<#1d775b5957dec42c>"
+	callq	"std_alloc::vec::Vec::grow_amortized::<#08c20eee1fa81b59>"
 	leaq	36(%rsp), %r11
 	testb	%al, %al
 	je	48f
@@ -1072,7 +1072,7 @@
 47:
 	leaq	8(%rsp), %rdi
 	movq	%r14, %rsi
-	callq	"std_alloc::vec::Vec::grow_amortized::<#1d775b5957dec42c>"
+	callq	"std_alloc::vec::Vec::grow_amortized::<#08c20eee1fa81b59>"
 	testb	%al, %al
 	je	48f
 	movq	16(%rsp), %rax
@@ -1328,7 +1328,7 @@
 	leaq	16(%rsp), %rdi
 	movq	%rdx, %rbp
 	movq	%rdx, %rsi
-	callq	"std_alloc::vec::Vec::grow_amortized::<#1d775b5957dec42c>"
+	callq	"std_alloc::vec::Vec::grow_amortized::<#08c20eee1fa81b59>"
 	testb	%al, %al
 	je	32f
 	movq	16(%rsp), %r15
@@ -1385,7 +1385,7 @@
 	leaq	16(%rsp), %rdi
 	movq	%rdx, %r13
 	movq	%rdx, %rsi
-	callq	"std_alloc::vec::Vec::grow_amortized::<#1d775b5957dec42c>"
+	callq	"std_alloc::vec::Vec::grow_amortized::<#08c20eee1fa81b59>"
 	testb	%al, %al
 	je	32f
 	movq	16(%rsp), %r15
@@ -1737,7 +1737,7 @@
 	leaq	8(%rsp), %rdi
 	movq	%rdx, %rbp
 	movq	%rdx, %rsi
-	callq	"std_alloc::vec::Vec::grow_amortized::<#1d775b5957dec42c>"
+	callq	"std_alloc::vec::Vec::grow_amortized::<#08c20eee1fa81b59>"
 	testb	%al, %al
 	je	48f
 	movq	8(%rsp), %rbx
@@ -1791,7 +1791,7 @@
 41:
 	leaq	8(%rsp), %rdi
 	movq	%r12, %rsi
-	callq	"std_alloc::vec::Vec::grow_amortized::<#1d775b5957dec42c>"
+	callq	"std_alloc::vec::Vec::grow_amortized::<#08c20eee1fa81b59>"
 	leaq	36(%rsp), %r11
 	testb	%al, %al
 	je	48f
@@ -1847,7 +1847,7 @@
 47:
 	leaq	8(%rsp), %rdi
 	movq	%r14, %rsi
-	callq	"std_alloc::vec::Vec::grow_amortized::<#1d775b5957dec42c>"
+	callq	"std_alloc::vec::Vec::grow_amortized::<#08c20eee1fa81b59>"
 	testb	%al, %al
 	je	48f
 	movq	16(%rsp), %rax
@@ -2009,7 +2009,7 @@
 	leaq	16(%rsp), %rdi
 	movq	%rdx, %r12
 	movq	%rdx, %rsi
-	callq	"std_alloc::vec::Vec::grow_amortized::<#1d775b5957dec42c>"
+	callq	"std_alloc::vec::Vec::grow_amortized::<#08c20eee1fa81b59>"
 	testb	%al, %al
 	je	16f
 	movq	16(%rsp), %rax
@@ -2278,7 +2278,7 @@
 	leaq	16(%rsp), %rdi
 	movq	%rdx, %rbp
 	movq	%rdx, %rsi
-	callq	"std_alloc::vec::Vec::grow_amortized::<#1d775b5957dec42c>"
+	callq	"std_alloc::vec::Vec::grow_amortized::<#08c20eee1fa81b59>"
 	testb	%al, %al
 	je	9b
 	movq	16(%rsp), %rax
@@ -2340,7 +2340,7 @@
 33:
 	leaq	16(%rsp), %rdi
 	movq	%r14, %rsi
-	callq	"std_alloc::vec::Vec::grow_amortized::<#1d775b5957dec42c>"
+	callq	"std_alloc::vec::Vec::grow_amortized::<#08c20eee1fa81b59>"
 	testb	%al, %al
 	je	9b
 	movq	24(%rsp), %rax
@@ -2472,7 +2472,7 @@
 	movq	%rbx, %rdi
 	movq	%rdx, %r12
 	movq	%rdx, %rsi
-	callq	"std_alloc::vec::Vec::grow_amortized::<#1d775b5957dec42c>"
+	callq	"std_alloc::vec::Vec::grow_amortized::<#08c20eee1fa81b59>"
 	movl	%eax, %ecx
 	movb	$1, %al
 	testb	%cl, %cl
@@ -2702,7 +2702,7 @@
 	movq	%rsp, %rdi
 	movq	%rdx, %rbp
 	movq	%rdx, %rsi
-	callq	"std_alloc::vec::Vec::grow_amortized::<#1d775b5957dec42c>"
+	callq	"std_alloc::vec::Vec::grow_amortized::<#08c20eee1fa81b59>"
 	testb	%al, %al
 	je	32f
 	movq	8(%rsp), %rax
@@ -2760,7 +2760,7 @@
 31:
 	movq	%rsp, %rdi
 	movq	%r14, %rsi
-	callq	"std_alloc::vec::Vec::grow_amortized::<#1d775b5957dec42c>"
+	callq	"std_alloc::vec::Vec::grow_amortized::<#08c20eee1fa81b59>"
 	testb	%al, %al
 	je	32f
 	movq	(%rsp), %r13
@@ -3017,7 +3017,7 @@
 	movq	%rsp, %rdi
 	movq	%rdx, %rbp
 	movq	%rdx, %rsi
-	callq	"std_alloc::vec::Vec::grow_amortized::<#1d775b5957dec42c>"
+	callq	"std_alloc::vec::Vec::grow_amortized::<#08c20eee1fa81b59>"
 	testb	%al, %al
 	je	32f
 	movq	8(%rsp), %rax
@@ -3075,7 +3075,7 @@
 31:
 	movq	%rsp, %rdi
 	movq	%r14, %rsi
-	callq	"std_alloc::vec::Vec::grow_amortized::<#1d775b5957dec42c>"
+	callq	"std_alloc::vec::Vec::grow_amortized::<#08c20eee1fa81b59>"
 	testb	%al, %al
 	je	32f
 	movq	(%rsp), %r13
@@ -3327,7 +3327,7 @@
 	movq	%rsp, %rdi
 	movq	%rdx, %r12
 	movq	%rdx, %rsi
-	callq	"std_alloc::vec::Vec::grow_amortized::<#1d775b5957dec42c>"
+	callq	"std_alloc::vec::Vec::grow_amortized::<#08c20eee1fa81b59>"
 	testb	%al, %al
 	je	32f
 	movq	8(%rsp), %rax
@@ -3385,7 +3385,7 @@
 	movq	%rsp, %rdi
 	movq	%rdx, %rbp
 	movq	%rdx, %rsi
-	callq	"std_alloc::vec::Vec::grow_amortized::<#1d775b5957dec42c>"
+	callq	"std_alloc::vec::Vec::grow_amortized::<#08c20eee1fa81b59>"
 	testb	%al, %al
 	je	32f
 	movq	(%rsp), %r15
@@ -3714,7 +3714,7 @@
 	movq	%rsp, %rdi
 	movq	%rdx, %rbp
 	movq	%rdx, %rsi
-	callq	"std_alloc::vec::Vec::grow_amortized::<#1d775b5957dec42c>"
+	callq	"std_alloc::vec::Vec::grow_amortized::<#08c20eee1fa81b59>"
 	testb	%al, %al
 	je	48f
 	movq	8(%rsp), %rax
@@ -3767,7 +3767,7 @@
 	movq	%rsp, %rdi
 	movq	%rdx, %r12
 	movq	%rdx, %rsi
-	callq	"std_alloc::vec::Vec::grow_amortized::<#1d775b5957dec42c>"
+	callq	"std_alloc::vec::Vec::grow_amortized::<#08c20eee1fa81b59>"
 	leaq	28(%rsp), %r11
 	testb	%al, %al
 	je	48f
@@ -3827,7 +3827,7 @@
 	movq	%rsp, %rdi
 	movq	%rdx, %r12
 	movq	%rdx, %rsi
-	callq	"std_alloc::vec::Vec::grow_amortized::<#1d775b5957dec42c>"
+	callq	"std_alloc::vec::Vec::grow_amortized::<#08c20eee1fa81b59>"
 	testb	%al, %al
 	je	48f
 	movq	8(%rsp), %rax
@@ -4296,7 +4296,7 @@
 51:
 	movq	%rsp, %rdi
 	movq	%r15, %rsi
-	callq	"std_alloc::vec::Vec::grow_amortized::<#1d775b5957dec42c>"
+	callq	"std_alloc::vec::Vec::grow_amortized::<#08c20eee1fa81b59>"
 	testb	%al, %al
 	je	28b
 	movq	8(%rsp), %rax
@@ -4346,7 +4346,7 @@
 57:
 	movq	%rsp, %rdi
 	movq	%r12, %rsi
-	callq	"std_alloc::vec::Vec::grow_amortized::<#1d775b5957dec42c>"
+	callq	"std_alloc::vec::Vec::grow_amortized::<#08c20eee1fa81b59>"
 	testb	%al, %al
 	je	28b
 	movq	8(%rsp), %rax
@@ -4396,7 +4396,7 @@
 63:
 	movq	%rsp, %rdi
 	movq	%rdx, %rsi
-	callq	"std_alloc::vec::Vec::grow_amortized::<#1d775b5957dec42c>"
+	callq	"std_alloc::vec::Vec::grow_amortized::<#08c20eee1fa81b59>"
 	testb	%al, %al
 	je	28b
 	movq	8(%rsp), %rax
@@ -4458,7 +4458,7 @@
 70:
 	movq	%rsp, %rdi
 	movq	%rdx, %rsi
-	callq	"std_alloc::vec::Vec::grow_amortized::<#1d775b5957dec42c>"
+	callq	"std_alloc::vec::Vec::grow_amortized::<#08c20eee1fa81b59>"
 	testb	%al, %al
 	je	28b
 	movq	8(%rsp), %rax
@@ -4758,7 +4758,7 @@
 	movq	%rsp, %rdi
 	movq	%rdx, %r13
 	movq	%rdx, %rsi
-	callq	"std_alloc::vec::Vec::grow_amortized::<#1d775b5957dec42c>"
+	callq	"std_alloc::vec::Vec::grow_amortized::<#08c20eee1fa81b59>"
 	testb	%al, %al
 	je	48f
 	movq	8(%rsp), %rax
@@ -4811,7 +4811,7 @@
 	movq	%rsp, %rdi
 	movq	%rdx, %rbx
 	movq	%rdx, %rsi
-	callq	"std_alloc::vec::Vec::grow_amortized::<#1d775b5957dec42c>"
+	callq	"std_alloc::vec::Vec::grow_amortized::<#08c20eee1fa81b59>"
 	leaq	28(%rsp), %r11
 	testb	%al, %al
 	je	48f
@@ -4872,7 +4872,7 @@
 47:
 	movq	%rsp, %rdi
 	movq	%r14, %rsi
-	callq	"std_alloc::vec::Vec::grow_amortized::<#1d775b5957dec42c>"
+	callq	"std_alloc::vec::Vec::grow_amortized::<#08c20eee1fa81b59>"
 	testb	%al, %al
 	je	48f
 	movq	8(%rsp), %rax
@@ -5366,7 +5366,7 @@
 	movq	%r9, 72(%rsp)
 	movq	%rsp, %rdi
 	movq	%r14, %rsi
-	callq	"std_alloc::vec::Vec::grow_amortized::<#1d775b5957dec42c>"
+	callq	"std_alloc::vec::Vec::grow_amortized::<#08c20eee1fa81b59>"
 	testb	%al, %al
 	je	80f
 	movq	8(%rsp), %rax
@@ -5419,7 +5419,7 @@
 	movq	%rsp, %rdi
 	movq	%r9, %r14
 	movq	%r9, %rsi
-	callq	"std_alloc::vec::Vec::grow_amortized::<#1d775b5957dec42c>"
+	callq	"std_alloc::vec::Vec::grow_amortized::<#08c20eee1fa81b59>"
 	testb	%al, %al
 	je	80f
 	movq	(%rsp), %r11
@@ -5470,7 +5470,7 @@
 67:
 	movq	%rsp, %rdi
 	movq	%rdx, %rsi
-	callq	"std_alloc::vec::Vec::grow_amortized::<#1d775b5957dec42c>"
+	callq	"std_alloc::vec::Vec::grow_amortized::<#08c20eee1fa81b59>"
 	movq	64(%rsp), %rdx
 	testb	%al, %al
 	je	80f
@@ -5521,7 +5521,7 @@
 73:
 	movq	%rsp, %rdi
 	movq	%rdx, %rsi
-	callq	"std_alloc::vec::Vec::grow_amortized::<#1d775b5957dec42c>"
+	callq	"std_alloc::vec::Vec::grow_amortized::<#08c20eee1fa81b59>"
 	testb	%al, %al
 	je	80f
 	movq	8(%rsp), %rax
@@ -5579,7 +5579,7 @@
 79:
 	movq	%rsp, %rdi
 	movq	%rdx, %rsi
-	callq	"std_alloc::vec::Vec::grow_amortized::<#1d775b5957dec42c>"
+	callq	"std_alloc::vec::Vec::grow_amortized::<#08c20eee1fa81b59>"
 	testb	%al, %al
 	je	80f
 	movq	8(%rsp), %rax
@@ -5925,7 +5925,7 @@
 	leaq	16(%rsp), %rdi
 	movq	%rdx, %rbx
 	movq	%rdx, %rsi
-	callq	"std_alloc::vec::Vec::grow_amortized::<#1d775b5957dec42c>"
+	callq	"std_alloc::vec::Vec::grow_amortized::<#08c20eee1fa81b59>"
 	testb	%al, %al
 	je	48f
 	movq	24(%rsp), %rax
@@ -5978,7 +5978,7 @@
 41:
 	leaq	16(%rsp), %rdi
 	movq	%r12, %rsi
-	callq	"std_alloc::vec::Vec::grow_amortized::<#1d775b5957dec42c>"
+	callq	"std_alloc::vec::Vec::grow_amortized::<#08c20eee1fa81b59>"
 	leaq	44(%rsp), %r11
 	testb	%al, %al
 	je	48f
@@ -6037,7 +6037,7 @@
 47:
 	leaq	16(%rsp), %rdi
 	movq	%r14, %rsi
-	callq	"std_alloc::vec::Vec::grow_amortized::<#1d775b5957dec42c>"
+	callq	"std_alloc::vec::Vec::grow_amortized::<#08c20eee1fa81b59>"
 	testb	%al, %al
 	je	48f
 	movq	24(%rsp), %rax
@@ -6530,7 +6530,7 @@
 55:
 	movq	%rsp, %rdi
 	movq	%r12, %rsi
-	callq	"std_alloc::vec::Vec::grow_amortized::<#1d775b5957dec42c>"
+	callq	"std_alloc::vec::Vec::grow_amortized::<#08c20eee1fa81b59>"
 	testb	%al, %al
 	je	80f
 	movq	8(%rsp), %rax
@@ -6580,7 +6580,7 @@
 61:
 	movq	%rsp, %rdi
 	movq	%r15, %rsi
-	callq	"std_alloc::vec::Vec::grow_amortized::<#1d775b5957dec42c>"
+	callq	"std_alloc::vec::Vec::grow_amortized::<#08c20eee1fa81b59>"
 	testb	%al, %al
 	je	80f
 	movq	(%rsp), %r10
@@ -6631,7 +6631,7 @@
 67:
 	movq	%rsp, %rdi
 	movq	%rdx, %rsi
-	callq	"std_alloc::vec::Vec::grow_amortized::<#1d775b5957dec42c>"
+	callq	"std_alloc::vec::Vec::grow_amortized::<#08c20eee1fa81b59>"
 	testb	%al, %al
 	je	80f
 	movq	8(%rsp), %rax
@@ -6682,7 +6682,7 @@
 	movq	%rsp, %rdi
 	movq	%rdx, %r12
 	movq	%rdx, %rsi
-	callq	"std_alloc::vec::Vec::grow_amortized::<#1d775b5957dec42c>"
+	callq	"std_alloc::vec::Vec::grow_amortized::<#08c20eee1fa81b59>"
 	testb	%al, %al
 	je	80f
 	movq	8(%rsp), %rax
@@ -6741,7 +6741,7 @@
 79:
 	movq	%rsp, %rdi
 	movq	%rdx, %rsi
-	callq	"std_alloc::vec::Vec::grow_amortized::<#1d775b5957dec42c>"
+	callq	"std_alloc::vec::Vec::grow_amortized::<#08c20eee1fa81b59>"
 	testb	%al, %al
 	je	80f
 	movq	8(%rsp), %rax
@@ -6938,7 +6938,7 @@
 	movq	%rsp, %rdi
 	movq	%rdx, %rbp
 	movq	%rdx, %rsi
-	callq	"std_alloc::vec::Vec::grow_amortized::<#1d775b5957dec42c>"
+	callq	"std_alloc::vec::Vec::grow_amortized::<#08c20eee1fa81b59>"
 	testb	%al, %al
 	je	17f
 	movq	8(%rsp), %rax
@@ -7616,7 +7616,7 @@
 	movq	%r11, 88(%rsp)
 	movq	%rsp, %rdi
 	movq	%rbp, %rsi
-	callq	"std_alloc::vec::Vec::grow_amortized::<#1d775b5957dec42c>"
+	callq	"std_alloc::vec::Vec::grow_amortized::<#08c20eee1fa81b59>"
 	testb	%al, %al
 	je	112f
 	movq	8(%rsp), %rax
@@ -7671,7 +7671,7 @@
 	movq	%rsp, %rdi
 	movq	%r11, %r13
 	movq	%r11, %rsi
-	callq	"std_alloc::vec::Vec::grow_amortized::<#1d775b5957dec42c>"
+	callq	"std_alloc::vec::Vec::grow_amortized::<#08c20eee1fa81b59>"
 	testb	%al, %al
 	je	112f
 	movq	(%rsp), %r10
@@ -7724,7 +7724,7 @@
 87:
 	movq	%rsp, %rdi
 	movq	%r10, %rsi
-	callq	"std_alloc::vec::Vec::grow_amortized::<#1d775b5957dec42c>"
+	callq	"std_alloc::vec::Vec::grow_amortized::<#08c20eee1fa81b59>"
 	movq	72(%rsp), %r10
 	movq	64(%rsp), %r9
 	testb	%al, %al
@@ -7776,7 +7776,7 @@
 93:
 	movq	%rsp, %rdi
 	movq	%r9, %rsi
-	callq	"std_alloc::vec::Vec::grow_amortized::<#1d775b5957dec42c>"
+	callq	"std_alloc::vec::Vec::grow_amortized::<#08c20eee1fa81b59>"
 	movq	64(%rsp), %r9
 	testb	%al, %al
 	je	112f
@@ -7827,7 +7827,7 @@
 99:
 	movq	%rsp, %rdi
 	movq	%rdx, %rsi
-	callq	"std_alloc::vec::Vec::grow_amortized::<#1d775b5957dec42c>"
+	callq	"std_alloc::vec::Vec::grow_amortized::<#08c20eee1fa81b59>"
 	testb	%al, %al
 	je	112f
 	movq	8(%rsp), %rax
@@ -7879,7 +7879,7 @@
 105:
 	movq	%rsp, %rdi
 	movq	%rdx, %rsi
-	callq	"std_alloc::vec::Vec::grow_amortized::<#1d775b5957dec42c>"
+	callq	"std_alloc::vec::Vec::grow_amortized::<#08c20eee1fa81b59>"
 	testb	%al, %al
 	je	112f
 	movq	8(%rsp), %rax
@@ -7938,7 +7938,7 @@
 111:
 	movq	%rsp, %rdi
 	movq	%rdx, %rsi
-	callq	"std_alloc::vec::Vec::grow_amortized::<#1d775b5957dec42c>"
+	callq	"std_alloc::vec::Vec::grow_amortized::<#08c20eee1fa81b59>"
 	testb	%al, %al
 	je	112f
 	movq	8(%rsp), %rax
@@ -8101,7 +8101,7 @@
 	movl	%esi, %ebx
 	movl	$2, %esi
 	movq	%rdi, %r14
-	callq	"std_alloc::vec::Vec::grow_amortized::<#1d775b5957dec42c>"
+	callq	"std_alloc::vec::Vec::grow_amortized::<#08c20eee1fa81b59>"
 	movl	%eax, %ecx
 	movb	$1, %al
 	testb	%cl, %cl
@@ -8115,7 +8115,7 @@
 	movl	%esi, %ebx
 	movl	$3, %esi
 	movq	%rdi, %r14
-	callq	"std_alloc::vec::Vec::grow_amortized::<#1d775b5957dec42c>"
+	callq	"std_alloc::vec::Vec::grow_amortized::<#08c20eee1fa81b59>"
 	movl	%eax, %ecx
 	movb	$1, %al
 	testb	%cl, %cl
@@ -8129,7 +8129,7 @@
 	movl	%esi, %ebx
 	movl	$4, %esi
 	movq	%rdi, %r14
-	callq	"std_alloc::vec::Vec::grow_amortized::<#1d775b5957dec42c>"
+	callq	"std_alloc::vec::Vec::grow_amortized::<#08c20eee1fa81b59>"
 	movl	%eax, %ecx
 	movb	$1, %al
 	testb	%cl, %cl
@@ -9108,18 +9108,18 @@
 	cmovaq	%rbx, %rdx
 	testq	%rsi, %rsi
 	cmoveq	%rdx, %rbx
-	movabsq	$461168601842738790, %rsi
+	movabsq	$230584300921369395, %rsi
 	cmpq	%rsi, %rbx
 	ja	4f
 	testq	%rcx, %rcx
 	je	3f
 	movq	%rdi, %r14
 	movq	(%rdi), %rdi
-	shlq	$2, %rax
+	shlq	$3, %rax
 	leaq	(%rax,%rax,4), %rsi
-	leaq	(,%rbx,4), %rax
+	leaq	(,%rbx,8), %rax
 	leaq	(%rax,%rax,4), %rdx
-	movl	$4, %ecx
+	movl	$8, %ecx
 	callq	rattle_realloc@PLT
 	testb	$1, %al
 	je	4f
@@ -9136,9 +9136,9 @@
 	retq
 3:
 	movq	%rdi, %r14
-	shlq	$2, %rdx
+	shlq	$3, %rdx
 	leaq	(%rdx,%rdx,4), %rdi
-	movl	$4, %esi
+	movl	$8, %esi
 	callq	rattle_alloc@PLT
 	testb	$1, %al
 	jne	1b
@@ -9150,6 +9150,66 @@
 	retq
 5:
 	.size	"std_alloc::vec::Vec::grow_amortized::<#07da775b90cbd342>", 5b-"std_alloc::vec::Vec::grow_amortized::<#07da775b90cbd342>"
+
+	.section	.text.unlikely,"ax",@progbits
+	.p2align	4
+	.type	"std_alloc::vec::Vec::grow_amortized::<#08c20eee1fa81b59>",@function
+"std_alloc::vec::Vec::grow_amortized::<#08c20eee1fa81b59>":
+	movq	%rsi, %rax
+	movq	8(%rdi), %rsi
+	addq	%rsi, %rax
+	jae	1f
+	xorl	%eax, %eax
+	retq
+1:
+	pushq	%r14
+	pushq	%rbx
+	pushq	%rax
+	cmpq	$9, %rax
+	movl	$8, %ebx
+	cmovaeq	%rax, %rbx
+	movq	16(%rdi), %rcx
+	movq	%rcx, %rdx
+	shrq	$62, %rdx
+	leaq	(%rcx,%rcx), %rax
+	cmpq	%rax, %rbx
+	cmovaq	%rbx, %rax
+	testq	%rdx, %rdx
+	cmoveq	%rax, %rbx
+	testq	%rbx, %rbx
+	js	4f
+	testq	%rcx, %rcx
+	je	3f
+	movq	%rdi, %r14
+	movq	(%rdi), %rdi
+	movl	$1, %ecx
+	movq	%rbx, %rdx
+	callq	rattle_realloc@PLT
+	testb	$1, %al
+	je	4f
+2:
+	movq	%rdx, (%r14)
+	movq	%rbx, 16(%r14)
+	movb	$1, %al
+	addq	$8, %rsp
+	popq	%rbx
+	popq	%r14
+	retq
+3:
+	movq	%rdi, %r14
+	movl	$1, %esi
+	movq	%rax, %rdi
+	callq	rattle_alloc@PLT
+	testb	$1, %al
+	jne	2b
+4:
+	xorl	%eax, %eax
+	addq	$8, %rsp
+	popq	%rbx
+	popq	%r14
+	retq
+5:
+	.size	"std_alloc::vec::Vec::grow_amortized::<#08c20eee1fa81b59>", 5b-"std_alloc::vec::Vec::grow_amortized::<#08c20eee1fa81b59>"
 
 	.section	.text.unlikely,"ax",@progbits
 	.p2align	4
@@ -9281,66 +9341,6 @@
 	retq
 5:
 	.size	"std_alloc::vec::Vec::grow_amortized::<#0de042945cfeb279>", 5b-"std_alloc::vec::Vec::grow_amortized::<#0de042945cfeb279>"
-
-	.section	.text.unlikely,"ax",@progbits
-	.p2align	4
-	.type	"std_alloc::vec::Vec::grow_amortized::<#1d775b5957dec42c>",@function
-"std_alloc::vec::Vec::grow_amortized::<#1d775b5957dec42c>":
-	movq	%rsi, %rax
-	movq	8(%rdi), %rsi
-	addq	%rsi, %rax
-	jae	1f
-	xorl	%eax, %eax
-	retq
-1:
-	pushq	%r14
-	pushq	%rbx
-	pushq	%rax
-	cmpq	$9, %rax
-	movl	$8, %ebx
-	cmovaeq	%rax, %rbx
-	movq	16(%rdi), %rcx
-	movq	%rcx, %rdx
-	shrq	$62, %rdx
-	leaq	(%rcx,%rcx), %rax
-	cmpq	%rax, %rbx
-	cmovaq	%rbx, %rax
-	testq	%rdx, %rdx
-	cmoveq	%rax, %rbx
-	testq	%rbx, %rbx
-	js	4f
-	testq	%rcx, %rcx
-	je	3f
-	movq	%rdi, %r14
-	movq	(%rdi), %rdi
-	movl	$1, %ecx
-	movq	%rbx, %rdx
-	callq	rattle_realloc@PLT
-	testb	$1, %al
-	je	4f
-2:
-	movq	%rdx, (%r14)
-	movq	%rbx, 16(%r14)
-	movb	$1, %al
-	addq	$8, %rsp
-	popq	%rbx
-	popq	%r14
-	retq
-3:
-	movq	%rdi, %r14
-	movl	$1, %esi
-	movq	%rax, %rdi
-	callq	rattle_alloc@PLT
-	testb	$1, %al
-	jne	2b
-4:
-	xorl	%eax, %eax
-	addq	$8, %rsp
-	popq	%rbx
-	popq	%r14
-	retq
-5:
-	.size	"std_alloc::vec::Vec::grow_amortized::<#1d775b5957dec42c>", 5b-"std_alloc::vec::Vec::grow_amortized::<#1d775b5957dec42c>"
 
 	.section	.text.unlikely,"ax",@progbits
 	.p2align	4
@@ -9849,71 +9849,6 @@
 	retq
 5:
 	.size	"std_alloc::vec::Vec::grow_amortized::<#52d1c8244e310953>", 5b-"std_alloc::vec::Vec::grow_amortized::<#52d1c8244e310953>"
-
-	.section	.text.unlikely,"ax",@progbits
-	.p2align	4
-	.type	"std_alloc::vec::Vec::grow_amortized::<#5891117f51584d69>",@function
-"std_alloc::vec::Vec::grow_amortized::<#5891117f51584d69>":
-	movq	8(%rdi), %rax
-	cmpq	$-1, %rax
-	je	2f
-	pushq	%r14
-	pushq	%rbx
-	pushq	%rax
-	movq	16(%rdi), %rcx
-	cmpq	$4, %rax
-	movl	$3, %ebx
-	cmovaeq	%rax, %rbx
-	incq	%rbx
-	movq	%rcx, %rsi
-	shrq	$62, %rsi
-	leaq	(%rcx,%rcx), %rdx
-	cmpq	%rdx, %rbx
-	cmovaq	%rbx, %rdx
-	testq	%rsi, %rsi
-	cmoveq	%rdx, %rbx
-	movabsq	$230584300921369395, %rsi
-	cmpq	%rsi, %rbx
-	ja	4f
-	testq	%rcx, %rcx
-	je	3f
-	movq	%rdi, %r14
-	movq	(%rdi), %rdi
-	shlq	$3, %rax
-	leaq	(%rax,%rax,4), %rsi
-	leaq	(,%rbx,8), %rax
-	leaq	(%rax,%rax,4), %rdx
-	movl	$8, %ecx
-	callq	rattle_realloc@PLT
-	testb	$1, %al
-	je	4f
-1:
-	movq	%rdx, (%r14)
-	movq	%rbx, 16(%r14)
-	movb	$1, %al
-	addq	$8, %rsp
-	popq	%rbx
-	popq	%r14
-	retq
-2:
-	xorl	%eax, %eax
-	retq
-3:
-	movq	%rdi, %r14
-	shlq	$3, %rdx
-	leaq	(%rdx,%rdx,4), %rdi
-	movl	$8, %esi
-	callq	rattle_alloc@PLT
-	testb	$1, %al
-	jne	1b
-4:
-	xorl	%eax, %eax
-	addq	$8, %rsp
-	popq	%rbx
-	popq	%r14
-	retq
-5:
-	.size	"std_alloc::vec::Vec::grow_amortized::<#5891117f51584d69>", 5b-"std_alloc::vec::Vec::grow_amortized::<#5891117f51584d69>"
 
 	.section	.text.unlikely,"ax",@progbits
 	.p2align	4
