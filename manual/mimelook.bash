@@ -1,4 +1,8 @@
 # made by manual/refresh of what mimelook --help prints
+# The types of the rules of the user's data that begin so: PROGRAM WORD
+_mimelook_types() {
+    "$1" list 2> /dev/null | word=$2 awk -F : 'index($2, ENVIRON["word"]) == 1 && !seen[$2]++ { print $2 }'
+}
 _mimelook() {
     local word=$2 before=$3 options
     case $before in
@@ -18,6 +22,9 @@ _mimelook() {
     esac
     if [[ $word == -* || $COMP_CWORD -eq 1 || ${COMP_WORDS[1]} == help ]]; then
         mapfile -t COMPREPLY < <(compgen -W "$options" -- "$word")
+    elif [[ ${COMP_WORDS[1]} == @(isa|icon) ]]; then
+        compopt +o filenames 2> /dev/null
+        mapfile -t COMPREPLY < <(_mimelook_types "${COMP_WORDS[0]}" "$word")
     else
         mapfile -t COMPREPLY < <(compgen -f -- "$word")
     fi
