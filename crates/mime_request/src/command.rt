@@ -18,6 +18,23 @@ use texts::{
     OUTPUT, PLAIN, TYPE,
 };
 
+/// A command that looks up FILEs.
+#[derive(Clone, Copy)]
+pub(crate) enum FilesCommand {
+    Plain,
+    Type,
+}
+
+impl FilesCommand {
+    /// The command as clap is told it, with its own usage.
+    pub(crate) fn described<'a>(self, alloc: Global) -> Result<Command<'a>, AllocError> {
+        match self {
+            FilesCommand::Plain => plain_command(alloc),
+            FilesCommand::Type => type_command(alloc),
+        }
+    }
+}
+
 const PROGRAM: &str = "mimelook";
 
 /// What `mimelook --version` prints after the program's name.

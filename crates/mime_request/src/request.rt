@@ -1,6 +1,7 @@
 //! From words to a request, or to an error that is shown to the user. This project's own.
 
 ghost use Rattle.std.specs.Prelude.{map};
+ghost use Rattle.clap.specs.Kinds.{HasKind, Kinds};
 ghost use Rattle.clap.specs.Words.{subcommand_rows_of};
 ghost use Rattle.mime_request.specs.Request.{Finds, Means, meaning_of, subcommand_meaning};
 
@@ -134,6 +135,12 @@ pub enum Request<'a> {
     },
 }
 
+/// What is said where a FILE stands in place of a command.
+const FILE_FOR_COMMAND: &str = "\
+the first word is no command
+
+  tip: 'mimelook type FILE...' prints the types of files";
+
 /// What the words ask for; they are those after the program's name.
 ///
 /// An error has the whole text for the user. With [`ErrorKind::DisplayHelp`] it is help and with
@@ -147,12 +154,44 @@ pub fn request_of<'a, S: AsStr>(alloc: Global, words: &'a [S]) -> Result<Request
     asked_by(alloc, &matches)
 }
 
-// What clap finds in the words.
+// What clap finds in the words, or its error, with a tip where one helps.
 fn matches_of<'a, S: AsStr>(alloc: Global, words: &'a [S]) -> Result<ArgMatches<'a>, Error>
+    ensures { Finds (map S.text words.entry.now) result }
+{
+    match parsed(alloc, words) {
+        Ok(matches) => Ok(matches),
+        Err(error) => Err(with_tip(alloc, words, error)),
+    }
+}
+
+// What clap finds in the words, or its error.
+fn parsed<'a, S: AsStr>(alloc: Global, words: &'a [S]) -> Result<ArgMatches<'a>, Error>
     ensures { Finds (map S.text words.entry.now) result }
 {
     let command = mimelook_command(alloc)?;
     command.try_get_matches_from(words)
+}
+
+// The error, with a tip where a file stands in place of a command.
+fn with_tip<S: AsStr>(alloc: Global, words: &[S], error: Error) -> Error
+    // It has the same kind, or says that memory ran out.
+    ensures { (kinds : Kinds) → HasKind kinds error → HasKind kinds result }
+{
+    match error.kind() {
+        ErrorKind::InvalidSubcommand if names_a_file(words) => {
+            refusal(alloc, ErrorKind::InvalidSubcommand, FILE_FOR_COMMAND)
+        }
+        _ => error,
+    }
+}
+
+// Whether the first word is like a file's name, with a byte that no command has.
+fn names_a_file<S: AsStr>(words: &[S]) -> bool {
+    let Some(first) = words.first() else {
+        return false;
+    };
+    let word = first.as_str().as_bytes();
+    !word.starts_with(b"-") && !word.iter().all(|byte| byte.is_ascii_lowercase())
 }
 
 // What the command that was met asks for.

@@ -7,6 +7,7 @@ use super::Request;
 use super::data::source_of;
 use super::flags::options_of;
 use super::found::{given, subjects_of};
+use crate::command::FilesCommand;
 use clap::{ArgMatches, Error};
 use std::alloc::Global;
 
@@ -57,7 +58,7 @@ pub(super) fn request_of_type<'a>(
 {
     let source = source_of(alloc, matches)?;
     let options = options_of(alloc, matches)?;
-    let subjects = subjects_of(alloc, matches)?;
+    let subjects = subjects_of(alloc, FilesCommand::Type, matches)?;
     Ok(Request::Type {
         source,
         options,

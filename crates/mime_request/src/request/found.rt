@@ -8,9 +8,9 @@ ghost use Rattle.clap.specs.Values.{kind_of};
 ghost use Rattle.mime_request.specs.Request.{missing, plain_subjects, subjects_in, wrong};
 
 use super::Subjects;
-use crate::command::mimelook_command;
+use crate::command::{FilesCommand, mimelook_command};
 use clap::error::ErrorKind;
-use clap::{ArgMatches, Error};
+use clap::{ArgMatches, Command, Error};
 use std::alloc::{AllocError, Global};
 
 // The command that was met, and its matches.
@@ -48,6 +48,7 @@ pub(super) fn given<'a>(
 // The FILEs, standard input by its NAME, or the LIST of FILEs.
 pub(super) fn subjects_of<'a>(
     alloc: Global,
+    command: FilesCommand,
     matches: &ArgMatches<'a>,
 ) -> Result<Subjects<'a>, Error>
     // They are all FILEs that were found, in their order, or the NAME, or the LIST.
@@ -64,7 +65,8 @@ pub(super) fn subjects_of<'a>(
         (None, Some(list), None) => Ok(Subjects::List(list)),
         (None, None, None) => {
             let message = "give a FILE, --files0-from LIST or --stdin NAME";
-            Err(refusal(alloc, ErrorKind::MissingRequiredArgument, message))
+            let command = command.described(alloc);
+            Err(refusal_by(command, ErrorKind::MissingRequiredArgument, message))
         }
         (Some(_), Some(_), _) | (Some(_), None, Some(_)) | (None, Some(_), Some(_)) => {
             let message = "give one of FILEs, --files0-from LIST and --stdin NAME";
@@ -89,20 +91,31 @@ fn values_of<'m, 'a>(matches: &'m ArgMatches<'a>, id: &str) -> Option<&'m [&'a s
     matches.get_strs(id)
 }
 
-// An error of this crate's own, or that memory ran out.
+// An error of this crate's own, with the program's usage, or that memory ran out.
 pub(super) fn refusal(alloc: Global, kind: ErrorKind, message: &str) -> Error
     // The error has this kind, or says that memory ran out.
     ensures { HasKind (kind ∷ []) result }
 {
-    match refusal_text(alloc, kind, message) {
+    refusal_by(mimelook_command(alloc), kind, message)
+}
+
+// The same, with the usage of this command, if there was memory for one.
+fn refusal_by<'a>(command: Result<Command<'a>, AllocError>, kind: ErrorKind, message: &str) -> Error
+    ensures { HasKind (kind ∷ []) result }
+{
+    match refusal_text(command, kind, message) {
         Ok(error) => error,
         Err(error) => Error::from(error),
     }
 }
 
 // The message with the usage below it.
-fn refusal_text(alloc: Global, kind: ErrorKind, message: &str) -> Result<Error, AllocError>
+fn refusal_text<'a>(
+    command: Result<Command<'a>, AllocError>,
+    kind: ErrorKind,
+    message: &str,
+) -> Result<Error, AllocError>
     ensures { IfOk result (λ e. kind_of e ≡ kind) }
 {
-    mimelook_command(alloc)?.error(kind, message)
+    command?.error(kind, message)
 }

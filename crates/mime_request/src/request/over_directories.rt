@@ -7,6 +7,7 @@ use super::Request;
 use super::data::directories_of;
 use super::flags::{is_given, options_of};
 use super::found::{given, subjects_of};
+use crate::command::FilesCommand;
 use clap::{ArgMatches, Error};
 use std::alloc::Global;
 
@@ -34,7 +35,7 @@ pub(super) fn request_of_plain<'a>(
     ensures { Means (plain_meaning (rows_of (found_of matches.now))) result }
 {
     let options = options_of(alloc, matches)?;
-    let subjects = subjects_of(alloc, matches)?;
+    let subjects = subjects_of(alloc, FilesCommand::Plain, matches)?;
     let directories = directories_of(alloc, matches)?;
     Ok(Request::Plain {
         directories,

@@ -22,6 +22,16 @@ Usage: mimelook <COMMAND>
 For more information, try '--help'.
 ";
 
+const FILE_FOR_COMMAND: &str = "\
+error: the first word is no command
+
+  tip: 'mimelook type FILE...' prints the types of files
+
+Usage: mimelook <COMMAND>
+
+For more information, try '--help'.
+";
+
 const NO_OUTPUT: &str = "\
 error: the following required arguments were not provided:
   --output <FILE>
@@ -34,7 +44,9 @@ For more information, try '--help'.
 const NO_FILE: &str = "\
 error: give a FILE, --files0-from LIST or --stdin NAME
 
-Usage: mimelook <COMMAND>
+Usage: mimelook plain [-d DIRS] [--name-only | --content-only]
+                      [--magic-first | --all-globs] [--inode] [-0] [-b]
+                      [--escape] {FILE... | --files0-from LIST | --stdin NAME}
 
 For more information, try '--help'.
 ";
@@ -75,7 +87,7 @@ Usage: mimelook <COMMAND>
 For more information, try '--help'.
 ";
 
-static MISTAKES: [Row<'static>; 14] = [
+static MISTAKES: [Row<'static>; 15] = [
     Row {
         name: "no command",
         words: &[],
@@ -86,6 +98,12 @@ static MISTAKES: [Row<'static>; 14] = [
         name: "unknown command",
         words: &["sniff", "x"],
         err: UNKNOWN_COMMAND,
+        ..SAID
+    },
+    Row {
+        name: "a file in place of a command",
+        words: &["notes.txt", "x"],
+        err: FILE_FOR_COMMAND,
         ..SAID
     },
     Row {

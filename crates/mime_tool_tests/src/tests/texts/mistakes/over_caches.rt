@@ -64,7 +64,9 @@ For more information, try '--help'.
 const TYPE_ALONE: &str = "\
 error: give a FILE, --files0-from LIST or --stdin NAME
 
-Usage: mimelook <COMMAND>
+Usage: mimelook type [-c CACHE | -d DIRS] [--name-only | --content-only]
+                     [--magic-first | --all-globs] [--inode] [--cost] [-0] [-b]
+                     [--escape] {FILE... | --files0-from LIST | --stdin NAME}
 
 For more information, try '--help'.
 ";
@@ -72,7 +74,9 @@ For more information, try '--help'.
 const NO_FILE_OF_TYPE: &str = "\
 error: give a FILE, --files0-from LIST or --stdin NAME
 
-Usage: mimelook <COMMAND>
+Usage: mimelook type [-c CACHE | -d DIRS] [--name-only | --content-only]
+                     [--magic-first | --all-globs] [--inode] [--cost] [-0] [-b]
+                     [--escape] {FILE... | --files0-from LIST | --stdin NAME}
 
 For more information, try '--help'.
 ";
