@@ -25,6 +25,10 @@ const FRONTS: [&[u8]; 8] = [
     b"[main]\n",
 ];
 
+/// What a zip file begins with, up to the name of its first member.
+const ZIP: &[u8; 30] =
+    b"PK\x03\x04\x14\0\0\0\x08\0\x21\x5a\x21\x58\x6f\x61\xab\x2c\x1c\x01\0\0\x39\x02\0\0\x13\0\0\0";
+
 /// Bytes that contents are cut from.
 #[derive(Drop)]
 pub struct Pools {
@@ -76,6 +80,31 @@ impl Pools {
                 content.extend_from_slice(value)?;
                 add_piece(&mut content, random, &self.noise, length)?;
             }
+        }
+        Ok(content)
+    }
+
+    /// A content as applications ask for it: of ten one is empty, two are shorter than 128 bytes and two are zip files.
+    pub fn make_single(
+        &self,
+        alloc: Global,
+        random: &mut Random,
+        made: &Made,
+    ) -> Result<Vec<u8>, AllocError> {
+        let mut content = Vec::new(alloc);
+        match random.below(10) {
+            0 => {}
+            1 | 2 => {
+                let whole = self.make(alloc, random, made)?;
+                let length = random.below(128).min(whole.len());
+                content.extend_from_slice(&whole[..length])?;
+            }
+            3 | 4 => {
+                content.extend_from_slice(ZIP)?;
+                let length = random.among(&LENGTHS);
+                add_piece(&mut content, random, &self.noise, length)?;
+            }
+            _ => content = self.make(alloc, random, made)?,
         }
         Ok(content)
     }

@@ -6,7 +6,7 @@ use crate::digest::Digest;
 use crate::names::{AWKWARD, Kinds, NameList, UNKNOWN, USUAL, make_name};
 use crate::random::Random;
 use crate::shelf::{CACHE, Shelf};
-use mime_base::{Counted, Host, TypeName};
+use mime_base::{Counted, Host, Meter, TypeName};
 use mime_lookup::{Answer, Content, Order, Stopped, Untold, icon_of, is_a, look_up};
 use mime_tool::{Process, Stream, run};
 use std::alloc::Global;
@@ -36,8 +36,8 @@ const BASES: [&[u8]; 4] = [
 const BUFFER: usize = 65_536;
 
 impl Job<'_> {
-    // Another source of numbers, that follows from this one.
-    fn fork(&mut self) -> Random {
+    /// Another source of numbers, that follows from this one.
+    pub fn fork(&mut self) -> Random {
         Random::new(self.random.next())
     }
 
@@ -63,8 +63,8 @@ impl Job<'_> {
         Ok(())
     }
 
-    // Builds the cache of the directories.
-    fn build(&mut self, directories: &str, shelf: &mut Shelf<'_>) -> io::Result<()> {
+    /// Builds the cache of the directories.
+    pub fn build(&mut self, directories: &str, shelf: &mut Shelf<'_>) -> io::Result<()> {
         let words = ["build", "-d", directories, "-o", CACHE];
         self.run(&words, Untold(Cursor::new(Vec::new(self.alloc))), shelf)?;
         self.digest.add(&shelf.cache);
@@ -85,23 +85,32 @@ impl Job<'_> {
         self.run(words, Untold(list), shelf)
     }
 
-    // Adds what a lookup over a cache comes to.
-    fn add_answer(&mut self, found: &Result<Answer<'_>, Stopped>) -> io::Result<()> {
-        let (read, meter) = match found {
+    /// Adds what a lookup over a cache comes to.
+    pub fn add_answer(&mut self, found: &Result<Answer<'_>, Stopped>) -> io::Result<()> {
+        match found {
             Ok(answer) => {
                 self.digest.add(answer.kind);
-                (answer.read, answer.meter)
+                self.digest.add_number(answer.read);
+                self.add_meter(answer.meter);
+                Ok(())
             }
-            Err(stopped) => {
-                let why = format!(in self.alloc; "{stopped}")?;
-                self.digest.add(why.as_bytes());
-                (stopped.read, stopped.meter)
-            }
-        };
-        self.digest.add_number(read);
+            Err(stopped) => self.add_stop(stopped),
+        }
+    }
+
+    /// Adds why a lookup stopped, and what it had read and counted.
+    pub fn add_stop(&mut self, stopped: &Stopped) -> io::Result<()> {
+        let why = format!(in self.alloc; "{stopped}")?;
+        self.digest.add(why.as_bytes());
+        self.digest.add_number(stopped.read);
+        self.add_meter(stopped.meter);
+        Ok(())
+    }
+
+    /// Adds what was counted.
+    pub fn add_meter(&mut self, meter: Meter) {
         self.digest.add_number(meter.nodes);
         self.digest.add_number(meter.bytes);
-        Ok(())
     }
 }
 

@@ -9,6 +9,7 @@ mod contents;
 mod database;
 mod digest;
 mod jobs;
+mod library;
 mod names;
 mod random;
 mod shelf;
@@ -26,7 +27,9 @@ fn main(rt: HostRuntime) -> io::Result<()> {
     };
     let count = words.next().map_or(0, |word| word.parse().unwrap_or(0));
     let seed = words.next().map_or(0, |word| word.parse().unwrap_or(0));
-    let all = ["names", "contents", "folder", "build", "plain", "awkward"];
+    let all = [
+        "names", "contents", "folder", "build", "plain", "awkward", "library",
+    ];
     for job in &all {
         if name.as_str() == *job || name.as_str() == "all" {
             let digest = digest_of(&rt, job, count, seed)?;
@@ -50,7 +53,8 @@ fn digest_of(rt: &HostRuntime, name: &str, count: u64, seed: u64) -> io::Result<
         "folder" => jobs::folder(&mut job)?,
         "build" => jobs::build(&mut job)?,
         "plain" => jobs::plain(&mut job)?,
-        _ => jobs::awkward(&mut job)?,
+        "awkward" => jobs::awkward(&mut job)?,
+        _ => library::library(&mut job)?,
     }
     Ok(digest.value())
 }
