@@ -1,4 +1,4 @@
-use Rattle.std.proofs.Common.{◌≡◌, ◌<◌, ℕ, arith, inl, inr, rules, subst, sym}
+use Rattle.std.proofs.Common.{ℕ, arith, inl, inr, rules, subst, sym}
 use Rattle.std.proofs.lemmas.Result.{IfErr-weaker, err_from_is_err_and}
 use Rattle.mime_view.specs.Magic.{ReadsLines, line_price}
 use Rattle.mime_view.proofs.CostLemmas.Costs.{spends_then}

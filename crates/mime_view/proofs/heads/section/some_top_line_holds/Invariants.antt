@@ -1,4 +1,4 @@
-use Rattle.std.proofs.Common.{◌≡◌, ◌+◌, ◌*◌}
+use Rattle.std.proofs.Common.{◌≡◌}
 use Rattle.mime_base.specs.Format.Magic.{width}
 use Rattle.mime_base.specs.Magic.{Forest}
 use Rattle.mime_view.specs.Magic.{ReadsLines, line_price}
