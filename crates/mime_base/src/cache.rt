@@ -370,7 +370,7 @@ impl<'a> Counted<'a> {
     /// The numbers are as [`Counted::cards`] gives them. It answers, refuses and adds what
     /// [`Counted::value_equals`] does of each window that lies in the content, up to and including the first
     /// that equals: where none lies there, no value is needed and nothing added.
-    #[inline]
+    #[inline(always)]
     pub fn value_in_range(
         &self,
         value: StatedValue,

@@ -11,6 +11,7 @@ pub mod LearntSections
 pub mod OpenSections
 pub mod OpenLanes
 pub mod AskedLanes
+pub mod LinesFrom
 pub mod PassedLines
 pub mod PassedHeads
 pub mod SparedPlaces

@@ -4,7 +4,6 @@ pub mod LineParts
 pub mod LineRows
 pub mod LineValues
 pub mod LinesLeft
-pub mod LinesFrom
 pub mod SectionParts
 pub mod SectionRows
 pub mod SectionsLeft

@@ -6,7 +6,7 @@ ghost use Rattle.mime_base.specs.Format.Rules.{GlobsAt};
 ghost use Rattle.mime_base.specs.Format.Stored.{glob_rules};
 ghost use Rattle.mime_base.specs.Kept.{FitsRank, class_of, hits as matching, rank};
 ghost use Rattle.mime_base.specs.declared.database.rule.GlobRule.{GlobRule};
-ghost use Rattle.mime_view.specs.Globs.{AreLearnt, ReadsGlob};
+ghost use Rattle.mime_view.specs.Globs.{ReadsGlob};
 ghost use Rattle.mime_view.specs.Hits.{glob_list_hits};
 ghost use Rattle.mime_view.specs.Steps.{FindsAt, FindsRules, Searches, entry_part, list_part, progress_of};
 
@@ -15,7 +15,6 @@ pub mod learnt;
 
 use crate::fault::CacheFault;
 use crate::flags::weight_and_case;
-use crate::globs::learnt::learnt_hits;
 use crate::hits::Hits;
 use crate::list::count_at;
 use crate::query::{Progress, Query};
@@ -30,8 +29,6 @@ pub fn glob_list_hits(
     at: u32,
     progress: &mut Progress,
 ) -> Result<(), CacheFault>
-    // What was learnt is of the list.
-    requires learnt { AreLearnt query.now.counted.now at query.now.learnt.now }
     // Of the rules that stand in the list, it offers those that match.
     ensures finds { FindsAt query.now GlobsAt at (glob_list_hits query.now.key.now)
         (λ rules. length (glob_rules rules)) progress.old progress.new result }
@@ -45,14 +42,7 @@ pub fn glob_list_hits(
     // Copies, which stay in registers from entry to entry.
     let asked = *query;
     let mut spending = progress.spending;
-    match learnt_hits(&asked, &mut progress.hits, &mut spending) {
-        Ok(()) => {}
-        Err(fault) => {
-            progress.spending = spending;
-            return Err(fault);
-        }
-    }
-    for i in asked.learnt.len() as u64..count {
+    for i in 0..count {
         let at = first + 12 * i;
         match take_glob(&asked, at, &mut progress.hits, &mut spending) {
             Ok(()) => {}
@@ -72,7 +62,7 @@ pub fn glob_list_hits(
 /// where a hit of its rank would not be kept.
 // Always inlined: the body of a loop.
 #[inline(always)]
-fn take_glob(
+pub fn take_glob(
     query: &Query<'_, '_>,
     at: u64,
     hits: &mut Hits,

@@ -18,7 +18,11 @@ ghost use Rattle.mime_view.specs.Spending.{Looks};
 
 pub mod lanes;
 pub mod learning;
+pub mod line;
 pub mod refusing;
+pub mod section;
+pub mod skipping;
+pub mod walk;
 
 use crate::globs::learning::learn_globs;
 use crate::globs::learnt::LearntGlob;

@@ -21,7 +21,7 @@ ghost use Rattle.mime_view.specs.Steps.{FindsAt, FindsRules, FindsStanding, Sear
 
 use crate::capitals::has_capitals;
 use crate::fault::CacheFault;
-use crate::globs::glob_list_hits;
+use crate::globs::learnt::known_list_hits;
 use crate::hits::{Case, Hits};
 use crate::literals::literal_hits;
 use crate::name_hits::{NameHits, Which};
@@ -175,7 +175,7 @@ fn offer_once(
     };
     literal_hits(&both, lists.literals, progress)?;
     tree_hits(&both, lists.tree, progress)?;
-    glob_list_hits(query, lists.globs, progress)
+    known_list_hits(query, lists.globs, progress)
 }
 
 /// Offers the rules that match a name, with a search each by the name and by the folded name.
@@ -197,7 +197,7 @@ fn offer_twice(
 {
     search_twice(query, folded, lists.literals, progress)?;
     walk_twice(query, folded, lists.tree, progress)?;
-    glob_list_hits(query, lists.globs, progress)
+    known_list_hits(query, lists.globs, progress)
 }
 
 /// Offers the case-sensitive literal rules of a name, and the others of the folded name.

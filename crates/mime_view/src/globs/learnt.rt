@@ -12,11 +12,14 @@ ghost use Rattle.mime_base.specs.Format.Stored.{glob_rules};
 ghost use Rattle.mime_base.specs.Kept.{FitsRank, hits as matching};
 ghost use Rattle.mime_base.specs.declared.database.rule.GlobRule.{GlobRule};
 ghost use Rattle.mime_view.specs.Globs.{AreLearnt, IsLearnt, ReadsGlob};
-ghost use Rattle.mime_view.specs.Steps.{FindsRules, Searches, entry_part, list_part, progress_of};
+ghost use Rattle.mime_view.specs.Hits.{glob_list_hits};
+ghost use Rattle.mime_view.specs.Steps.{FindsAt, FindsRules, Searches, entry_part, list_part, progress_of};
 
 use crate::fault::CacheFault;
+use crate::globs::{glob_list_hits, take_glob};
 use crate::hits::Hits;
-use crate::query::Query;
+use crate::list::count_at;
+use crate::query::{Progress, Query};
 use crate::spending::Spending;
 use mime_base::{begins_otherwise, glob_matches};
 
@@ -33,10 +36,76 @@ pub struct LearntGlob {
     pub cased: bool,
 }
 
+/// Offers the rules of the glob list at `at` that match the name, by what was learnt of the list, where something was.
+#[inline]
+pub fn known_list_hits(
+    query: &Query<'_, '_>,
+    at: u32,
+    progress: &mut Progress,
+) -> Result<(), CacheFault>
+    // What was learnt is of the list.
+    requires learnt { AreLearnt query.now.counted.now at query.now.learnt.now }
+    // Of the rules that stand in the list, it offers those that match.
+    ensures finds { FindsAt query.now GlobsAt at (glob_list_hits query.now.key.now)
+        (λ rules. length (glob_rules rules)) progress.old progress.new result }
+    // An entry costs its text and the tests of that against the name; the count of the list comes besides.
+    ensures searches { Searches (list_part query.now.counted.now at) (256 * (length query.now.key.now + 2)) 1
+        progress.old progress.new result }
+{
+    if query.learnt.is_empty() {
+        return glob_list_hits(query, at, progress);
+    }
+    learnt_list_hits(query, at, progress)
+}
+
+/// The same where some of its entries were learnt: these first, then the others as they are read.
+// Never inlined: its loop needs registers of its own.
+#[inline(never)]
+fn learnt_list_hits(
+    query: &Query<'_, '_>,
+    at: u32,
+    progress: &mut Progress,
+) -> Result<(), CacheFault>
+    // What was learnt is of the list.
+    requires learnt { AreLearnt query.now.counted.now at query.now.learnt.now }
+    // Of the rules that stand in the list, it offers those that match.
+    ensures finds { FindsAt query.now GlobsAt at (glob_list_hits query.now.key.now)
+        (λ rules. length (glob_rules rules)) progress.old progress.new result }
+    // An entry costs its text and the tests of that against the name; the count of the list comes besides.
+    ensures searches { Searches (list_part query.now.counted.now at) (256 * (length query.now.key.now + 2)) 1
+        progress.old progress.new result }
+{
+    let at = u64::from(at);
+    let count = count_at(query.counted, at, 12, &mut progress.spending.meter)?;
+    let first = at + 4;
+    // Copies, which stay in registers from entry to entry.
+    let asked = *query;
+    let mut spending = progress.spending;
+    match learnt_hits(&asked, &mut progress.hits, &mut spending) {
+        Ok(()) => {}
+        Err(fault) => {
+            progress.spending = spending;
+            return Err(fault);
+        }
+    }
+    for i in asked.learnt.len() as u64..count {
+        let at = first + 12 * i;
+        match take_glob(&asked, at, &mut progress.hits, &mut spending) {
+            Ok(()) => {}
+            Err(fault) => {
+                progress.spending = spending;
+                return Err(fault);
+            }
+        }
+    }
+    progress.spending = spending;
+    Ok(())
+}
+
 /// Offers those of the learnt rules that match the name.
 // Always inlined: once for a name.
 #[inline(always)]
-pub fn learnt_hits(
+fn learnt_hits(
     query: &Query<'_, '_>,
     hits: &mut Hits,
     spending: &mut Spending,

@@ -1,26 +1,13 @@
-use Rattle.std.proofs.Common.{◌≡◌, ◌+◌, ◌-◌, ◌<◌, ℕ, suc, true, arith, inl, inr, refl, rules, sym, subst}
+use Rattle.std.proofs.Common.{◌≡◌, ◌+◌, ◌*◌, ◌-◌, ◌<◌, ℕ, suc, true, arith, inl, inr, refl, rules, sym, subst}
 use Rattle.std.proofs.lemmas.Result.{IfErr-weaker, err_from_is_err_and}
 use Rattle.mime_base.specs.Cache.Bytes.{field}
 use Rattle.mime_base.specs.Magic.{are_allowed, bare, line}
-use Rattle.mime_view.specs.Magic.{AnswersLines, ReadsLines, line_price}
+use Rattle.mime_view.specs.Magic.{AnswersLines, IsLineFault, ReadsLines, line_price}
 use Rattle.mime_view.proofs.CostLemmas.Costs.{spends_then}
-use Rattle.mime_view.proofs.HeadsLemmas.SparedPlaces.{spares_none}
 use Rattle.mime_view.proofs.MagicLemmas.LineFaults.{fault_below, own_fault}
 use Rattle.mime_view.proofs.MagicLemmas.LineParts.{last_level, line_alone, line_differs, line_parent, line_refused}
 use Rattle.mime_view.proofs.MagicLemmas.LinesLeft.{ended, next}
 use Rattle.mime_view.proofs.magic.+sniffing.Goals as goal
-
-pub line_holds-holds_apart-requires : goal.line_holds-holds_apart-requires
-line_holds-holds_apart-requires t c = (
-  omega (arith, c.decreases),
-  (
-    c.requires.level,
-    (
-      c.requires.inside,
-      spares_none c.args.query.now.counted.now c.args.at c.args.query.now.content c.no_places.result c.no_places.ensures,
-    ),
-  ),
-)
 
 pub whole_line_holds-returns-then-not-equals-clause-line : goal.whole_line_holds-returns-then-not-equals-clause-line
 whole_line_holds-returns-then-not-equals-clause-line t c = λ own children reads.
@@ -122,8 +109,10 @@ whole_line_holds-returns-clause-ends t c = record {
 pub some_line_holds-returns-in_err-line_holds-clause-ends : goal.some_line_holds-returns-in_err-line_holds-clause-ends
 some_line_holds-returns-in_err-line_holds-clause-ends t c =
     let p = err_from_is_err_and c.from_residual.result c.from_residual.ensures.1 in
+    let line = subst (λ (n : ℕ). IsLineFault c.args.query.now.counted.now (n + 32 * c.loop-i.i) c.args.level
+    c.line_holds.new.spending.budget c.in_err-line_holds.field-0.0) c.from-start.ensures c.in_err-line_holds.ensures.ends.fault in
     rw (p.1, p.2) (record {
-      fault = (c.loop-i.i, omega (arith, c.loop-i-test.true), c.in_err-line_holds.ensures.ends.fault);
+      fault = (c.loop-i.i, omega (arith, c.loop-i-test.true), line);
       cost = spends_then (line_price c.args.query.now) 0 0 0 0 c.args.spending.now c.loop-i.spending c.line_holds.new.spending
           c.loop-i.invariant.cost c.in_err-line_holds.ensures.ends.cost;
     })

@@ -24,6 +24,6 @@ decreases-some_child_holds l = 5 * (64 - l.level) + 4
 abbrev pub invariant-some_line_holds-loop-i : goal.invariant-some_line_holds-loop-i
 invariant-some_line_holds-loop-i l = record {
   left : (lines : Forest) → width lines ≡ l.count → ReadsLines l.query.counted.now l.first lines
-      → Left l.query (64 - l.level) l.first l.count lines l.initial.spending l.i l.spending;
+      → Left l.query (64 - l.level) l.start l.count lines l.initial.spending l.i l.spending;
   cost : Spends (line_price l.query) 0 0 l.initial.spending l.spending;
 }

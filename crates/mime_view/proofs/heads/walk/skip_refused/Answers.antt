@@ -1,6 +1,6 @@
 use Rattle.std.proofs.Common.{arith}
 use Rattle.mime_view.proofs.HeadsLemmas.RisingSections.{rises_to}
-use Rattle.mime_view.proofs.magic.skip_refused.Goals as goal
+use Rattle.mime_view.proofs.heads.walk.skip_refused.Goals as goal
 
 pub covers_rest-requires-clause-rises : goal.covers_rest-requires-clause-rises
 covers_rest-requires-clause-rises c =

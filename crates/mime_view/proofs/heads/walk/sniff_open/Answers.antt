@@ -4,7 +4,7 @@ use Rattle.mime_view.specs.Magic.{IsSectionFault, ReadsSection, magic_price}
 use Rattle.mime_view.proofs.CostLemmas.Costs.{spends_then}
 use Rattle.mime_view.proofs.HeadsLemmas.SkippedSections.{cost_after, left_after}
 use Rattle.mime_view.proofs.MagicLemmas.SectionsLeft.{ended, next}
-use Rattle.mime_view.proofs.magic.sniff_open.Goals as goal
+use Rattle.mime_view.proofs.heads.walk.sniff_open.Goals as goal
 
 pub returns-in_err-found-clause-sections : goal.returns-in_err-found-clause-sections
 returns-in_err-found-clause-sections c = λ sections size reads.

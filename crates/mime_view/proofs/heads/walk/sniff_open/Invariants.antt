@@ -3,7 +3,7 @@ use Rattle.mime_base.specs.Magic.{PlainSection}
 use Rattle.mime_view.specs.Magic.{ReadsSections, magic_price}
 use Rattle.mime_view.specs.Spending.{Spends}
 use Rattle.mime_view.proofs.MagicLemmas.SectionsLeft.{Left}
-use Rattle.mime_view.proofs.magic.sniff_open.Given as goal
+use Rattle.mime_view.proofs.heads.walk.sniff_open.Given as goal
 
 abbrev pub invariant-loop-i : goal.invariant-loop-i
 invariant-loop-i l = record {

@@ -1,7 +1,7 @@
 use Rattle.mime_view.specs.Heads.{KnowsLines}
 use Rattle.mime_view.proofs.HeadsLemmas.PassedLines.{either_knows, ends_after, lines_after}
-use Rattle.mime_view.proofs.magic.some_top_line_holds.Goals.{After-some_line_from_holds}
-use Rattle.mime_view.proofs.magic.some_top_line_holds.Goals as goal
+use Rattle.mime_view.proofs.heads.section.some_open_line_holds.Goals.{After-some_line_from_holds}
+use Rattle.mime_view.proofs.heads.section.some_open_line_holds.Goals as goal
 
 -- what is known of those that are passed
 known : (c : After-some_line_from_holds)

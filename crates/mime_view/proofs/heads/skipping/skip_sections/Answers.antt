@@ -1,7 +1,7 @@
 use Rattle.std.proofs.Common.{◌+◌, ◌*◌, ℕ, ap, arith, length}
 use Rattle.mime_view.specs.Heads.{before_at}
 use Rattle.mime_view.proofs.HeadsLemmas.SkippedSections.{skips_none}
-use Rattle.mime_view.proofs.magic.skip_sections.Goals as goal
+use Rattle.mime_view.proofs.heads.skipping.skip_sections.Goals as goal
 
 pub returns-in_default-clause-skips : goal.returns-in_default-clause-skips
 returns-in_default-clause-skips c =

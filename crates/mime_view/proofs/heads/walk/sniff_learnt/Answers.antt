@@ -5,7 +5,7 @@ use Rattle.mime_view.specs.Heads.Skipping.{IsSectionsFault}
 use Rattle.mime_view.specs.Magic.{magic_price}
 use Rattle.mime_view.specs.declared.spending.Spending.{Spending}
 use Rattle.mime_view.proofs.CostLemmas.Costs.{spends_looks, spends_then}
-use Rattle.mime_view.proofs.magic.sniff_learnt.Goals as goal
+use Rattle.mime_view.proofs.heads.walk.sniff_learnt.Goals as goal
 
 pub returns-clause-ends : goal.returns-clause-ends
 returns-clause-ends c =

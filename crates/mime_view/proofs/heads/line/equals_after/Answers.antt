@@ -1,7 +1,7 @@
 use Rattle.std.proofs.Common.{◌+◌, ap, arith}
 use Rattle.mime_base.specs.declared.meter.Meter.{Meter}
 use Rattle.mime_view.proofs.HeadsLemmas.SparedPlaces.{most_compared}
-use Rattle.mime_view.proofs.magic.equals_after.Goals as goal
+use Rattle.mime_view.proofs.heads.line.equals_after.Goals as goal
 
 pub returns-clause-limit : goal.returns-clause-limit
 returns-clause-limit c =
