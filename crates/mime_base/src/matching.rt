@@ -41,6 +41,7 @@ use memchr::memchr;
 /// Each test of an element against a byte or against the end of the name adds one to the meter's
 /// bytes: exactly as many as the definition `rule_tests` says, whether the name matches or not. A
 /// test reads its element and no more of the pattern.
+#[inline(always)]
 pub fn glob_matches(pattern: &[u8], cased: bool, name: &[u8], meter: &mut Meter) -> bool
     // The answer is computed by the definition, so worked rows can be checked.
     ensures answer { result ≡ rule_matches pattern.now cased name.now }
@@ -71,6 +72,7 @@ struct Searched {
 }
 
 /// Chooses the way of trying by the pattern's first bytes.
+#[inline(always)]
 fn search(pattern: &[u8], cased: bool, name: &[u8]) -> Searched
     ensures found { result.found ≡ rule_matches pattern.now cased name.now }
     ensures tests { result.tests ≡ raised 0 (rule_tests pattern.now cased name.now) }
@@ -92,6 +94,7 @@ fn search(pattern: &[u8], cased: bool, name: &[u8]) -> Searched
 }
 
 /// Tries a text that stands for itself, after a star, at the end of the name.
+#[inline(always)]
 fn try_ending(ending: &[u8], cased: bool, name: &[u8]) -> Searched
     requires { is_literal_text ending.now ≡ true }
     ensures found { result.found
@@ -122,6 +125,7 @@ fn try_ending(ending: &[u8], cased: bool, name: &[u8]) -> Searched
 }
 
 /// Goes from star to star.
+#[inline(always)]
 fn search_by_stars(pattern: &[u8], cased: bool, name: &[u8]) -> Searched
     ensures found { result.found ≡ rule_matches pattern.now cased name.now }
     ensures tests { result.tests ≡ raised 0 (rule_tests pattern.now cased name.now) }
@@ -158,6 +162,7 @@ fn search_by_stars(pattern: &[u8], cased: bool, name: &[u8]) -> Searched
 }
 
 /// Lets the elements before the first star take a byte each from the front of the name: none, where a star is first.
+#[inline(always)]
 fn try_front<'a>(pattern: &'a [u8], endless: usize, cased: bool, name: &[u8]) -> Reach<'a>
     requires { HasNoEnd endless pattern.now }
     ensures goes { Goes result.halt result.passed (elements (compared cased pattern.now))
@@ -180,6 +185,7 @@ fn try_front<'a>(pattern: &'a [u8], endless: usize, cased: bool, name: &[u8]) ->
 }
 
 /// Tries the elements up to the next star at each place of the name in turn until they go.
+#[inline(always)]
 fn slide<'a>(pattern: &'a [u8], endless: usize, cased: bool, name: &[u8]) -> Reach<'a>
     requires endless { HasNoEnd endless pattern.now }
     requires star { has_star (elements (compared cased pattern.now)) ≡ true }
@@ -235,6 +241,7 @@ fn slide<'a>(pattern: &'a [u8], endless: usize, cased: bool, name: &[u8]) -> Rea
 
 /// How many places of a name refuse the byte that a pattern begins with, up to the first that doesn't. Where
 /// that byte may be compared as another, none is skipped.
+#[inline(always)]
 fn count_refused(pattern: &[u8], cased: bool, name: &[u8]) -> usize
     ensures same { matches (any_bytes ∷ elements (compared cased pattern.now)) (compared cased name.now)
         ≡ matches (any_bytes ∷ elements (compared cased pattern.now)) (compared cased (drop result name.now)) }
@@ -255,6 +262,7 @@ fn count_refused(pattern: &[u8], cased: bool, name: &[u8]) -> usize
 }
 
 /// How many elements a text has, if no star is among them.
+#[inline(always)]
 fn count_to_end(text: &[u8], endless: usize, cased: bool) -> Option<usize>
     requires { HasNoEnd endless text.now }
     ensures star { IsNone result → has_star (elements (compared cased text.now)) ≡ true }
@@ -275,6 +283,7 @@ fn count_to_end(text: &[u8], endless: usize, cased: bool) -> Option<usize>
 }
 
 /// Tries elements after the last star at the one place that leaves a byte for each.
+#[inline(always)]
 fn try_at_end(pattern: &[u8], endless: usize, cased: bool, size: usize, name: &[u8]) -> Searched
     requires endless { HasNoEnd endless pattern.now }
     requires none { has_star (elements (compared cased pattern.now)) ≡ false }
