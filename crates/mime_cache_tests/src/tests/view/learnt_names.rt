@@ -164,13 +164,13 @@ const PLENTY: Budget = Budget {
     value_bytes: 0,
 };
 
-/// Each entry is visited for which there is room, and the count of the list.
+/// The count of the list is visited, each entry that is learnt, and the one for which there is no more room.
 #[test]
 fn entries_that_are_visited(rt: HostRuntime) -> Result<(), CacheFault> {
     let long = with_room(&MADE);
     let rows: [(&str, &[u8], u64); 3] = [
-        ("made", &MADE, 0),
-        ("made, with room", &long, 0),
+        ("made", &MADE, 8),
+        ("made, with room", &long, 15),
         ("sample", &SAMPLE, 1),
     ];
     for (name, bytes, nodes) in rows {
