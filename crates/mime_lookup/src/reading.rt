@@ -15,10 +15,14 @@ const RETRIES: u32 = 1_000;
 /// How many bytes are asked for at once.
 const BLOCK: usize = 4_096;
 
+/// For how many bytes there is room at once, at most, in a front of more than one block.
+const ROOM: usize = 65_536;
+
 /// The front of a content, up to its end or to `limit` bytes, and how many bytes were delivered.
 ///
-/// The buffer grows with what was delivered. [`Cause::Read`] comes with a failed read and with the
-/// 1,001st interruption, [`Cause::OutOfMemory`] where an allocation was refused.
+/// The front grows with what was delivered: with the first whole block there is room for all up to `limit`, or for 64 KiB if that is
+/// less. [`Cause::Read`] comes with a failed read and with the 1,001st interruption, [`Cause::OutOfMemory`] where an allocation was
+/// refused.
 pub fn read_front<R: Content>(
     alloc: Global,
     reader: &mut R,
@@ -48,6 +52,9 @@ pub fn read_front<R: Content>(
             return Ok(front);
         }
         *read += count as u64;
+        if front.is_empty() && count == BLOCK {
+            front.reserve(ROOM.min(limit))?;
+        }
         front.extend_from_slice(&block[..count])?;
     }
     Ok(front)

@@ -10,3 +10,4 @@ pub mod AnswersFrom
 pub mod AnswersOver
 pub mod ContentReaders
 pub mod VisibleChoices
+pub mod WatchedReaders

@@ -8,6 +8,7 @@ pub mod Finish
 pub mod Heard
 pub mod Icon
 pub mod IsA
+pub mod Learning
 pub mod Line
 pub mod LineSteps
 pub mod List

@@ -1,56 +1,29 @@
 //! What is learnt of a cache in a run that looks up many FILEs.
 //!
-//! The first few FILEs of a run are looked up without: a run over one doesn't get dearer. Then the glob list is learnt, which takes
-//! little, and makes lookups of names quicker. To learn the magic list takes about as long as a lookup by content, which it makes
-//! quicker: that is done only once a few contents were read, so never where the names decide or are all that is asked for. Where
-//! memory is refused, or the cache isn't one that this can be learnt of, FILEs are looked up by what was learnt before.
+//! The glob list makes lookups of names quicker, and the magic list those of contents. Each is learnt once the answers of the run
+//! have visited as many records as learning it may visit: the glob list by all answers, and the magic list by those whose content
+//! was asked for bytes, also an empty one. So a run over few FILEs learns nothing, nor does any that its cache answers at once. Each
+//! is learnt once at most. Where memory is refused, or the cache isn't one that this can be learnt of, FILEs are looked up by what
+//! was learnt before.
 
-ghost use Rattle.std.specs.Prelude.{◌≡◌, IfSome};
+ghost use Rattle.std.specs.Prelude.{◌≡◌, ◌+◌, ◌≤◌, IfSome};
+ghost use Rattle.mime_tool.specs.Learning.{IsUnpaid, price};
 ghost use Rattle.mime_tool.specs.LineSteps.{IsOfCache, LooksAlike, bytes_in, source_of};
 
-use crate::line::{Data, Lookup, Outcome};
+mod payments;
+
+use crate::line::{Data, Lookup};
 use mime_base::{Counted, Meter};
 use mime_view::{Cache, MagicHeads};
+use payments::Part;
+pub(crate) use payments::Payments;
 use std::alloc::Global;
-
-/// Before the FILE of this number the glob list is learnt, and after so many contents the magic list.
-const FEW: u32 = 8;
-
-/// What is learnt at once.
-#[derive(Clone, Copy)]
-enum Part {
-    Globs,
-    GlobsAndMagic,
-}
-
-/// How many contents were read in a run.
-#[derive(Clone, Copy)]
-pub(crate) struct ContentsRead(u32);
-
-impl ContentsRead {
-    /// None was read yet.
-    pub(crate) fn none() -> ContentsRead {
-        ContentsRead(0)
-    }
-
-    /// Counts the content of a FILE that came to this, if it was read.
-    #[inline]
-    pub(crate) fn count(&mut self, outcome: &Outcome<'_>) {
-        if let Outcome::Typed(_, cost) = outcome {
-            self.0 = self.0.saturating_add(u32::from(0 < cost.read));
-        }
-    }
-}
 
 /// How the FILEs of a run are looked up, with what was learnt meanwhile.
 #[derive(Drop)]
 pub(crate) struct Learning<'i, 'a> {
     lookup: Lookup<'i, 'a>,
     heads: Option<MagicHeads<'a>>,
-    /// How many FILEs there were, as far as that matters.
-    files: u32,
-    /// Whether all was learnt that is to be, or couldn't be.
-    is_done: bool,
 }
 
 impl<'i, 'a> Learning<'i, 'a> {
@@ -63,21 +36,21 @@ impl<'i, 'a> Learning<'i, 'a> {
         Learning {
             lookup,
             heads: None,
-            files: 0,
-            is_done: false,
         }
     }
 
-    /// Counts a FILE that is to be looked up after so many contents were read, and learns what is to be learnt before it.
+    /// Learns what is paid for.
     // Always inlined: before most FILEs nothing is.
     #[inline(always)]
-    pub(crate) fn count_file(&mut self, alloc: Global, read: ContentsRead)
+    pub(crate) fn learn_due(&mut self, alloc: Global, payments: &mut Payments)
         requires { IsOfCache self.old }
         // FILEs are looked up as before.
         ensures lookup { self.new.lookup ≡ self.old.lookup }
         ensures learnt { IsOfCache self.new }
+        // Nothing is learnt that isn't paid.
+        ensures unpaid { IsUnpaid payments.old → self.new.heads ≡ self.old.heads }
     {
-        if let Some(part) = self.next_part(read) {
+        if let Some(part) = payments.take_due() {
             self.learn_part(alloc, part);
         }
     }
@@ -90,31 +63,12 @@ impl<'i, 'a> Learning<'i, 'a> {
         ensures lookup { self.new.lookup ≡ self.old.lookup }
         ensures learnt { IsOfCache self.new }
     {
-        if let Some(heads) = learn(alloc, self.lookup.by, part) {
-            self.heads = Some(heads);
-        }
-    }
-
-    // Counts a FILE, and says what is to be learnt before it.
-    // Always inlined, as its caller is.
-    #[inline(always)]
-    fn next_part(&mut self, read: ContentsRead) -> Option<Part>
-        ensures lookup { self.new.lookup ≡ self.old.lookup }
-        ensures heads { self.new.heads ≡ self.old.heads }
-    {
-        if self.files < FEW {
-            self.files += 1;
-            return if self.files == FEW {
-                Some(Part::Globs)
-            } else {
-                None
-            };
-        }
-        if self.is_done || read.0 < FEW {
-            return None;
-        }
-        self.is_done = true;
-        Some(Part::GlobsAndMagic)
+        let mut meter = Meter::new();
+        let Some(learnt) = learn(alloc, self.lookup.by, part, &mut meter) else {
+            return;
+        };
+        let known = self.heads.take();
+        self.heads = Some(joined(part, learnt, known));
     }
 
     /// How a FILE is looked up.
@@ -140,24 +94,44 @@ impl<'i, 'a> Learning<'i, 'a> {
     }
 }
 
-/// What is learnt of a cache, if something is.
-fn learn<'a>(alloc: Global, by: Data<'_, 'a>, part: Part) -> Option<MagicHeads<'a>>
-    ensures { IfSome result (λ heads. heads ≡ bytes_in by.entry) }
+/// What is learnt of a part of a cache, if something is.
+fn learn<'a>(
+    alloc: Global,
+    by: Data<'_, 'a>,
+    part: Part,
+    meter: &mut Meter,
+) -> Option<MagicHeads<'a>>
+    ensures cache { IfSome result (λ heads. heads ≡ bytes_in by.entry) }
+    // It visits no more records than are paid for it.
+    ensures cost { meter.new.nodes ≤ meter.old.nodes + price part (bytes_in by.entry) }
 {
     let Data::Cache { bytes, .. } = by else {
         return None;
     };
-    let mut meter = Meter::new();
-    let Ok(cache) = Cache::open(Counted::new(bytes), &mut meter) else {
+    let Ok(cache) = Cache::open(Counted::new(bytes), meter) else {
         return None;
     };
     let learnt = match part {
-        Part::Globs => cache.learn_globs(alloc, &mut meter),
-        Part::GlobsAndMagic => cache.learn_heads(alloc, &mut meter),
+        Part::Globs => cache.learn_globs(alloc, meter),
+        Part::Magic => cache.learn_heads(alloc, meter),
     };
     match learnt {
         Ok(heads) => heads,
         Err(_) => None,
+    }
+}
+
+/// What was learnt of this part, with what is known of the other.
+fn joined<'a>(part: Part, learnt: MagicHeads<'a>, known: Option<MagicHeads<'a>>) -> MagicHeads<'a>
+    requires { IfSome known (λ it. it ≡ learnt) }
+    ensures { result ≡ learnt.entry }
+{
+    match known {
+        None => learnt,
+        Some(known) => match part {
+            Part::Globs => known.with_globs_of(learnt),
+            Part::Magic => learnt.with_globs_of(known),
+        },
     }
 }
 

@@ -33,6 +33,7 @@ mod line;
 mod list;
 mod names;
 mod plain;
+mod prepaid;
 mod process;
 mod program;
 mod sink;

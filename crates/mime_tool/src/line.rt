@@ -13,10 +13,11 @@ ghost use Rattle.mime_tool.specs.Words.{names_of};
 mod escape;
 mod learnt;
 mod lookup;
+mod watched;
 
 use crate::desk::{Desk, Opened, report};
 use crate::files::Inode;
-use crate::learning::{ContentsRead, Learning};
+use crate::learning::{Learning, Payments};
 use crate::status::{ANSWERED, NOT_ANSWERED};
 use crate::stop::Stop;
 use crate::words::{RawWord, name_of};
@@ -26,6 +27,7 @@ pub(crate) use lookup::{Cost, Data, Lookup, asked_order, find};
 use mime_base::OutOfMemory;
 use mime_request::Output;
 use std::alloc::{AllocError, Global};
+use watched::Watched;
 
 /// What a FILE comes to.
 #[derive(Clone, Copy)]
@@ -49,42 +51,45 @@ pub(crate) fn print_lines<D: Desk>(
 {
     let mut status = ANSWERED;
     let mut learning = Learning::new(lookup);
-    let mut read = ContentsRead::none();
+    let mut paid = Payments::new(lookup);
     for file in files {
-        learning.count_file(desk.alloc(), read);
+        learning.learn_due(desk.alloc(), &mut paid);
         let lookup = learning.lookup();
-        status = status.max(print_line(desk, lookup, &mut read, name_of(raws, file))?);
+        status = status.max(print_line(desk, lookup, &mut paid, name_of(raws, file))?);
     }
     Ok(status)
 }
 
-/// Prints the line of one file, or says why there is none, and counts its content if that was read.
+/// Prints the line of one file, or says why there is none, and counts what that visited.
 pub(crate) fn print_line<D: Desk>(
     desk: &mut D,
     lookup: Lookup<'_, '_>,
-    read: &mut ContentsRead,
+    paid: &mut Payments,
     file: &[u8],
 ) -> Result<u8, Stop>
     ensures { Works (Ends (λ _. IsTypeLine (plain_lookup lookup.entry) (D.state desk.old).stored file.now) [])
         (D.state desk.old) (D.state desk.new) result }
 {
-    let outcome = outcome_of(desk, lookup, file)?;
-    read.count(&outcome);
+    let mut asked = false;
+    let outcome = outcome_of(desk, lookup, file, &mut asked)?;
+    paid.count(&outcome, asked);
     print_outcome(desk, lookup.output, file, outcome)
 }
 
-// What a file comes to: by its kind, where that is asked for and it is no regular file, or looked up.
+// What a file comes to: by its kind, where that is asked for and it is no regular file, or looked up. It says whether a content was
+// asked for bytes.
 fn outcome_of<'i, D: Desk>(
     desk: &mut D,
     lookup: Lookup<'i, '_>,
     file: &[u8],
+    asked: &mut bool,
 ) -> Result<Outcome<'i>, Stop>
     ensures { Works (ComesTo (plain_lookup lookup.entry) ((D.state desk.old).stored file.now) file.now)
         (D.state desk.old) (D.state desk.new) result }
 {
     match kind_of(desk, lookup.inode, file)? {
         Some(kind) => Ok(Outcome::Typed(inode_name(kind), free(lookup))),
-        None => file_outcome(desk, lookup, file),
+        None => file_outcome(desk, lookup, file, asked),
     }
 }
 
@@ -114,19 +119,22 @@ fn file_outcome<'i, D: Desk>(
     desk: &mut D,
     lookup: Lookup<'i, '_>,
     file: &[u8],
+    asked: &mut bool,
 ) -> Result<Outcome<'i>, Stop>
     ensures { Works (LooksUpHere (plain_lookup lookup.entry) ((D.state desk.old).stored file.now) file.now)
         (D.state desk.old) (D.state desk.new) result }
 {
-    let mut content: Option<D::Reader> = None;
+    let mut content: Option<Watched<D::Reader>> = None;
     if !lookup.name_only {
         match desk.open(file)? {
-            Opened::File(reader) => content = Some(reader),
+            Opened::File(reader) => content = Some(Watched::new(reader)),
             Opened::Folder => return Ok(Outcome::CannotRead),
             Opened::Shut => return Ok(Outcome::CannotOpen),
         }
     }
-    find(desk.alloc(), lookup, file, content)
+    let outcome = find(desk.alloc(), lookup, file, &mut content);
+    *asked = Watched::was_asked(&content);
+    outcome
 }
 
 /// Prints what a file came to, with its name as it is to be written.

@@ -12,7 +12,7 @@ ghost use Rattle.mime_tool.specs.Subjects.{AreRuns, list_at, names_in};
 ghost use Rattle.mime_tool.specs.Words.{named_subjects};
 
 use crate::desk::Desk;
-use crate::learning::{ContentsRead, Learning};
+use crate::learning::{Learning, Payments};
 use crate::line::{Lookup, Outcome, find, print_line, print_lines, print_outcome, refuse};
 use crate::names::{Names, next_name};
 use crate::status::ANSWERED;
@@ -67,8 +67,8 @@ fn input_outcome<'i, I: Content + Drop>(
 ) -> Result<Outcome<'i>, Stop>
     ensures { LooksUp (plain_lookup lookup.entry) (given_by (I.remaining input) (I.health input)) name.now result }
 {
-    let content = if lookup.name_only { None } else { Some(input) };
-    find(alloc, lookup, name, content)
+    let mut content = if lookup.name_only { None } else { Some(input) };
+    find(alloc, lookup, name, &mut content)
 }
 
 // Prints the lines of the FILEs of a list, which is the file of this path, or standard input where that is a hyphen.
@@ -105,14 +105,14 @@ fn print_names<D: Desk, R: Content + Drop>(
     let mut names = Names::new(desk.alloc(), reader);
     let mut status = ANSWERED;
     let mut learning = Learning::new(lookup);
-    let mut read = ContentsRead::none();
+    let mut paid = Payments::new(lookup);
     for number in 1..u64::MAX {
         let Some(name) = next_name(desk, &mut names, list)? else {
             return Ok(status);
         };
-        learning.count_file(desk.alloc(), read);
+        learning.learn_due(desk.alloc(), &mut paid);
         let lookup = learning.lookup();
-        status = status.max(print_name(desk, lookup, &mut read, list, number, name.as_slice())?);
+        status = status.max(print_name(desk, lookup, &mut paid, list, number, name.as_slice())?);
         names.take_back(name);
     }
     // There is no number for one more name.
@@ -123,7 +123,7 @@ fn print_names<D: Desk, R: Content + Drop>(
 fn print_name<D: Desk>(
     desk: &mut D,
     lookup: Lookup<'_, '_>,
-    read: &mut ContentsRead,
+    paid: &mut Payments,
     list: &str,
     number: u64,
     name: &[u8],
@@ -134,7 +134,7 @@ fn print_name<D: Desk>(
     if name.is_empty() {
         refuse_empty(desk, list, number)
     } else {
-        print_line(desk, lookup, read, name)
+        print_line(desk, lookup, paid, name)
     }
 }
 

@@ -7,6 +7,10 @@ use Rattle.mime_base.specs.Kept.{class_of, rank}
 use Rattle.mime_base.specs.declared.database.rule.GlobRule.{GlobRule}
 use Rattle.mime_view.specs.declared.globs.learnt.LearntGlob.{LearntGlob}
 
+-- how many entries the glob list of a cache states
+abbrev pub globs_listed : List ℕ → ℕ
+globs_listed c = field c (field c 0 5) 0
+
 -- The entry at `at` is that of a rule.
 pub record ReadsGlob (c : List ℕ) (at : ℕ) (rule : GlobRule) : Type 0 where
   -- It names the rule's stored text.

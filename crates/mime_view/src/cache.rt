@@ -12,7 +12,7 @@ ghost use Rattle.mime_base.specs.Format.Parents.{ParentsAt};
 ghost use Rattle.mime_base.specs.Meter.{raised};
 ghost use Rattle.mime_base.specs.Magic.{PlainSection, are_allowed_sections};
 ghost use Rattle.mime_base.specs.declared.database.rule.GlobRule.{GlobRule};
-ghost use Rattle.mime_view.specs.Globs.{AreLearnt};
+ghost use Rattle.mime_view.specs.Globs.{AreLearnt, globs_listed};
 ghost use Rattle.mime_view.specs.Magic.{AnswersMagic, IsMagicFault, NamesText, magic_price};
 ghost use Rattle.mime_base.specs.Magic.Extent.{sections_extent};
 ghost use Rattle.mime_view.specs.Lists.{IsHeadFault};
@@ -31,6 +31,7 @@ use crate::globs::learnt::LearntGlob;
 use crate::heads::MagicHeads;
 use crate::heads::walk::sniff_known;
 use crate::hits::Case;
+use crate::list::count_at;
 use crate::magic::MagicQuery;
 use crate::marks::Marks;
 use crate::name::{RuleLists, glob_hits, rule_hits};
@@ -137,11 +138,10 @@ impl<'a> Cache<'a> {
         })
     }
 
-    /// Learns what the top lines of the magic list look at, for many contents, and what the entries of the glob list say, for many
-    /// names; nothing of either where the magic list can't be gone through so.
+    /// Learns what the top lines of the magic list look at, for many contents; nothing where it can't be gone through so.
     ///
     /// It takes nothing of a budget. It takes memory for each section and each of these lines, at most for one of each for each 32
-    /// bytes of the cache, and for entries as [`Cache::learn_globs`] does.
+    /// bytes of the cache.
     pub fn learn_heads(
         &self,
         alloc: Global,
@@ -149,19 +149,13 @@ impl<'a> Cache<'a> {
     ) -> Result<Option<MagicHeads<'a>>, OutOfMemory>
         // What is learnt is of the cache.
         ensures cache { IfOk result (λ learnt. IfSome learnt (λ heads. heads ≡ self.now)) }
-        // It adds at most a node for each 12 bytes of the cache, and two bytes for each; three nodes and 256 bytes come besides.
-        ensures cost { Looks (3 + length self.now / 12) (256 + 2 * length self.now) meter.old meter.new }
+        // It adds at most two nodes and four bytes for each 32 bytes of the cache; a node comes besides.
+        ensures cost { Looks (1 + 2 * (length self.now / 32)) (4 * (length self.now / 32)) meter.old meter.new }
     {
-        MagicHeads::learn(
-            alloc,
-            self.counted.again(),
-            self.header[6],
-            self.header[5],
-            meter,
-        )
+        MagicHeads::learn(alloc, self.counted.again(), self.header[6], meter)
     }
 
-    /// Learns what the entries of the glob list say alone, for many names; nothing where there is none.
+    /// Learns what the entries of the glob list say, for many names; nothing where there is none.
     ///
     /// It takes nothing of a budget. It takes an allocation for the pattern of each entry, and some 40 bytes of a list that doubles
     /// where it is full. Of each entry 64 bytes and its pattern's are charged against the cache's length: the first ones are learnt,
@@ -175,8 +169,20 @@ impl<'a> Cache<'a> {
         ensures cache { IfOk result (λ learnt. IfSome learnt (λ heads. heads ≡ self.now)) }
         // It adds at most a node for each 64 bytes of the cache, and a byte for each; two nodes and 256 bytes come besides.
         ensures cost { Looks (2 + length self.now / 64) (256 + length self.now) meter.old meter.new }
+        // Nor does it add more than a node for each entry that the list states; a node comes besides.
+        ensures listed { meter.new.nodes ≤ meter.old.nodes + 1 + globs_listed self.now }
     {
         MagicHeads::learn_globs(alloc, self.counted.again(), self.header[5], meter)
+    }
+
+    /// How many entries the glob list has, where all of it lies in the cache.
+    pub fn glob_count(&self, meter: &mut Meter) -> Option<u64>
+        // It is the number that the list states, and an entry has twelve bytes.
+        ensures count { IfSome result (λ count. (count ≡ globs_listed self.now) × (12 * count ≤ length self.now)) }
+        // It visits one record, and compares nothing.
+        ensures cost { Looks 1 0 meter.old meter.new }
+    {
+        count_at(&self.counted, u64::from(self.header[5]), 12, meter).ok()
     }
 
     /// How many bytes the cache has. It adds nothing.

@@ -10,11 +10,10 @@
 
 ghost use Rattle.std.specs.Prelude.{◌≡◌, ◌+◌, ◌*◌, ◌/◌, ◌<◌, ◌≤◌, ℕ, get_or, length, IfOk, IfSome};
 ghost use Rattle.mime_base.specs.Cache.Bytes.{field};
-ghost use Rattle.mime_view.specs.Globs.{AreLearnt};
+ghost use Rattle.mime_view.specs.Globs.{AreLearnt, globs_listed};
 ghost use Rattle.mime_view.specs.Heads.{AreBytes, AreHeads, KnowsFirst, PassesFrom, PassesHeads, TellsSections, no_lines};
 ghost use Rattle.mime_view.specs.Heads.Lanes.{AreLanes};
-ghost use Rattle.mime_view.specs.Learning.{AddsGlobs};
-ghost use Rattle.mime_view.specs.Spending.{Looks};
+ghost use Rattle.mime_view.specs.Learning.{AddsGlobs, AddsMagic};
 
 pub mod lanes;
 pub mod learning;
@@ -166,24 +165,21 @@ impl<'a> MagicHeads<'a> {
         alloc: Global,
         counted: Counted<'a>,
         at: u32,
-        globs_at: u32,
         meter: &mut Meter,
     ) -> Result<Option<MagicHeads<'a>>, OutOfMemory>
         requires at { at ≡ field counted 0 6 }
-        requires globs { globs_at ≡ field counted 0 5 }
         // What is learnt is of the cache.
         ensures cache { IfOk result (λ learnt. IfSome learnt (λ heads. heads ≡ counted.entry)) }
         // What it costs.
-        ensures cost { Looks (3 + length counted.entry / 12) (256 + 2 * length counted.entry) meter.old meter.new }
+        ensures cost { AddsMagic counted.entry meter.old meter.new }
     {
         let Some(learnt) = learn(alloc, &counted, at, meter)? else {
             return Ok(None);
         };
-        let globs = learn_globs(alloc, &counted, globs_at, meter)?;
         Ok(Some(MagicHeads {
             counted,
             learnt: Some(learnt),
-            globs,
+            globs: Vec::new(alloc),
         }))
     }
 
@@ -199,6 +195,7 @@ impl<'a> MagicHeads<'a> {
         ensures cache { IfOk result (λ learnt. IfSome learnt (λ heads. heads ≡ counted.entry)) }
         // What it costs.
         ensures cost { AddsGlobs counted.entry meter.old meter.new }
+        ensures listed { meter.new.nodes ≤ meter.old.nodes + 1 + globs_listed counted.entry }
     {
         let globs = learn_globs(alloc, &counted, at, meter)?;
         if globs.is_empty() {
@@ -209,6 +206,20 @@ impl<'a> MagicHeads<'a> {
             learnt: None,
             globs,
         }))
+    }
+
+    /// What was learnt of the magic list, and with it what another value has of the glob list of the same cache.
+    pub fn with_globs_of(self, other: MagicHeads<'a>) -> MagicHeads<'a>
+        // Both were learnt of one cache.
+        requires same { other ≡ self }
+        // So is what is given.
+        ensures cache { result ≡ self.entry }
+    {
+        MagicHeads {
+            counted: self.counted,
+            learnt: self.learnt,
+            globs: other.globs,
+        }
     }
 
     /// The cache that something was learnt of.

@@ -23,13 +23,13 @@ pub(super) fn find_in_learnt<'a, R: Content + Drop>(
     cost: bool,
     order: Order,
     file: &[u8],
-    mut content: Option<R>,
+    content: &mut Option<R>,
 ) -> Result<Outcome<'a>, Stop>
-    ensures { (stored : Stored) (name_only : Bool) (output : Output) → IsContent R.remaining R.health name_only stored content
+    ensures { (stored : Stored) (name_only : Bool) (output : Output) → IsContent R.remaining R.health name_only stored content.old
         → LooksUp (lookup_by path.now name_only cost output order heads.now) stored file.now result }
 {
     let name = name_for(order, file);
-    match look_up_learnt(alloc, heads, name, &mut content, Host::Little, order) {
+    match look_up_learnt(alloc, heads, name, content, Host::Little, order) {
         Ok(answer) => Ok(Outcome::Typed(answer.kind, cost_of(cost, answer.meter, answer.read))),
         Err(stopped) => match stopped.cause {
             Cause::NameTooLong => Ok(Outcome::NameTooLong),

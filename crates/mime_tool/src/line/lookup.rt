@@ -78,9 +78,9 @@ pub(crate) fn find<'i, R: Content + Drop>(
     alloc: Global,
     lookup: Lookup<'i, '_>,
     file: &[u8],
-    content: Option<R>,
+    content: &mut Option<R>,
 ) -> Result<Outcome<'i>, Stop>
-    ensures { (stored : Stored) → IsContent R.remaining R.health lookup.entry.name_only stored content
+    ensures { (stored : Stored) → IsContent R.remaining R.health lookup.entry.name_only stored content.old
         → LooksUp (plain_lookup lookup.entry) stored file.now result }
 {
     let Lookup {
@@ -106,13 +106,13 @@ fn find_in_database<'a, R: Content + Drop>(
     index: &IndexedDatabase<'a>,
     order: Order,
     file: &[u8],
-    mut content: Option<R>,
+    content: &mut Option<R>,
 ) -> Result<Outcome<'a>, Stop>
-    ensures { (stored : Stored) (name_only : Bool) (output : Output) → IsContent R.remaining R.health name_only stored content
+    ensures { (stored : Stored) (name_only : Bool) (output : Output) → IsContent R.remaining R.health name_only stored content.old
         → LooksUp (lookup_over name_only output order (plain_database index.now)) stored file.now result }
 {
     let name = name_for(order, file);
-    match look_up_indexed(alloc, index, name, &mut content, Host::Little, order) {
+    match look_up_indexed(alloc, index, name, content, Host::Little, order) {
         Ok(answer) => Ok(Outcome::Typed(answer.kind, cost_of(false, answer.meter, answer.read))),
         Err(stopped) => match stopped.cause {
             Cause::NameTooLong => Ok(Outcome::NameTooLong),
@@ -130,14 +130,14 @@ fn find_in_cache<'a, R: Content + Drop>(
     cost: bool,
     order: Order,
     file: &[u8],
-    mut content: Option<R>,
+    content: &mut Option<R>,
 ) -> Result<Outcome<'a>, Stop>
-    ensures { (stored : Stored) (name_only : Bool) (output : Output) → IsContent R.remaining R.health name_only stored content
+    ensures { (stored : Stored) (name_only : Bool) (output : Output) → IsContent R.remaining R.health name_only stored content.old
         → LooksUp (lookup_by path.now name_only cost output order bytes.entry.now) stored file.now result }
 {
     let name = name_for(order, file);
     let cache = Counted::new(bytes);
-    match look_up(alloc, cache, name, &mut content, Host::Little, order) {
+    match look_up(alloc, cache, name, content, Host::Little, order) {
         Ok(answer) => Ok(Outcome::Typed(answer.kind, cost_of(cost, answer.meter, answer.read))),
         Err(stopped) => match stopped.cause {
             Cause::NameTooLong => Ok(Outcome::NameTooLong),

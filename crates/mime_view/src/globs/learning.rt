@@ -1,6 +1,7 @@
 //! Learning what the entries of a glob list say.
 
 ghost use Rattle.std.specs.Prelude.{◌+◌, ◌≤◌, length, IfOk, IfSome};
+ghost use Rattle.mime_base.specs.Cache.Bytes.{field};
 ghost use Rattle.mime_view.specs.Globs.{AreLearnt, IsLearnt};
 ghost use Rattle.mime_view.specs.Learning.{AddsGlobs};
 ghost use Rattle.mime_view.specs.Spending.{Looks};
@@ -24,6 +25,8 @@ pub fn learn_globs(
     ensures globs { IfOk result (λ globs. AreLearnt counted.now at globs.items) }
     // What it costs.
     ensures cost { AddsGlobs counted.now meter.old meter.new }
+    // It visits the count of the list, and no more entries than that.
+    ensures listed { meter.new.nodes ≤ meter.old.nodes + 1 + field counted.now at 0 }
 {
     let at = u64::from(at);
     let mut globs = Vec::new(alloc);

@@ -80,6 +80,25 @@ static CONTENTS: [&[u8]; 26] = [
     b".............",
 ];
 
+/// Of the made cache the head, ten sections and ten lines are visited. Two bytes of three values are compared and one of three,
+/// and one of a mask.
+#[test]
+fn lines_that_are_visited(rt: HostRuntime) -> Result<(), CacheFault> {
+    let walked = Cache::open(Counted::new(&MADE), &mut Meter::new())?;
+    let mut meter = Meter::new();
+    let _ = walked.learn_heads(rt.alloc(), &mut meter)?;
+    alike(
+        &rt,
+        "visited",
+        meter,
+        Meter {
+            nodes: 21,
+            bytes: 10,
+        },
+    );
+    Ok(())
+}
+
 /// Sniffs a content both ways with such a budget, and says whether something was learnt.
 fn sniff_both(
     rt: &impl Abort,

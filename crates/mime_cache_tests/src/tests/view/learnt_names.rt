@@ -164,6 +164,24 @@ const PLENTY: Budget = Budget {
     value_bytes: 0,
 };
 
+/// The count of the list is visited, each entry that is learnt, and the one for which there is no more room.
+#[test]
+fn entries_that_are_visited(rt: HostRuntime) -> Result<(), CacheFault> {
+    let long = with_room(&MADE);
+    let rows: [(&str, &[u8], u64); 3] = [
+        ("made", &MADE, 8),
+        ("made, with room", &long, 15),
+        ("sample", &SAMPLE, 1),
+    ];
+    for (name, bytes, nodes) in rows {
+        let walked = Cache::open(Counted::new(bytes), &mut Meter::new())?;
+        let mut meter = Meter::new();
+        let _ = walked.learn_globs(rt.alloc(), &mut meter)?;
+        alike(&rt, name, meter.nodes, nodes);
+    }
+    Ok(())
+}
+
 /// Of the sample nothing is learnt: its glob list is empty.
 #[test]
 fn learnt_lists(rt: HostRuntime) -> Result<(), CacheFault> {
@@ -188,9 +206,11 @@ fn learnt_with_magic(rt: HostRuntime) -> Result<(), CacheFault> {
     let bytes = with_room(&MADE);
     let walked = Cache::open(Counted::new(&bytes), &mut Meter::new())?;
     let heads = walked.learn_heads(alloc, &mut Meter::new())?;
-    alike(&rt, "learnt", heads.is_some(), true);
-    if let Some(heads) = heads {
-        let learnt = Cache::open_learnt(&heads, &mut Meter::new())?;
+    let globs = walked.learn_globs(alloc, &mut Meter::new())?;
+    alike(&rt, "learnt", heads.is_some() && globs.is_some(), true);
+    if let (Some(heads), Some(globs)) = (heads, globs) {
+        let both = heads.with_globs_of(globs);
+        let learnt = Cache::open_learnt(&both, &mut Meter::new())?;
         for &name in &NAMES {
             look_up_both(&rt, alloc, &walked, &learnt, name, PLENTY);
         }

@@ -15,8 +15,8 @@ returns-in_err-print_line g c =
     let lt : c.loop-file.file-index < length c.args.files.now = omega arith in
     let e = err_from_is_err_and c.from_residual.result c.from_residual.ensures.1 in
     let before = c.loop-file.invariant.works in
-    let known = looked_up_alike c.lookup-lookup.result c.count_file.new.self.lookup c.lookup-lookup.ensures
-    ∙ ap plain_lookup (c.count_file.ensures.lookup ∙ c.loop-file.invariant.known) in
+    let known = looked_up_alike c.lookup-lookup.result c.learn_due.new.self.lookup c.lookup-lookup.ensures
+    ∙ ap plain_lookup (c.learn_due.ensures.lookup ∙ c.loop-file.invariant.known) in
     let line = c.in_err-print_line.ensures in
     let here = rw (known, before.same_files, c.name_of.ensures) at line in
     let stored = (g.D.Desk.state c.args.desk.now).stored in
@@ -31,8 +31,8 @@ pub loop-file-preserved : goal.loop-file-preserved
 loop-file-preserved g c =
     let lt : c.loop-file.file-index < length c.args.files.now = omega arith in
     let before = c.loop-file.invariant.works in
-    let known = looked_up_alike c.lookup-lookup.result c.count_file.new.self.lookup c.lookup-lookup.ensures
-    ∙ ap plain_lookup (c.count_file.ensures.lookup ∙ c.loop-file.invariant.known) in
+    let known = looked_up_alike c.lookup-lookup.result c.learn_due.new.self.lookup c.lookup-lookup.ensures
+    ∙ ap plain_lookup (c.learn_due.ensures.lookup ∙ c.loop-file.invariant.known) in
     let line = c.in_ok-print_line.ensures in
     let here = rw (known, before.same_files, c.name_of.ensures) at line in
     let stored = (g.D.Desk.state c.args.desk.now).stored in
@@ -43,6 +43,6 @@ loop-file-preserved g c =
         sinks = ends_more_at (name_of c.args.raws.now) (IsTypeLine (plain_lookup c.args.lookup) stored) c.args.files.now c.loop-file.file-index no_text lt _ _ _ _ _
             before.sinks here.sinks;
       });
-      known = c.count_file.ensures.lookup ∙ c.loop-file.invariant.known;
-      learnt = c.count_file.ensures.learnt;
+      known = c.learn_due.ensures.lookup ∙ c.loop-file.invariant.known;
+      learnt = c.learn_due.ensures.learnt;
     }

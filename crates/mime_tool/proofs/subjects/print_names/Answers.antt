@@ -53,8 +53,8 @@ returns-in_err-print_name g c =
     let before = c.loop-number.invariant in
     let named = rw c.in-Some.is at c.in_ok-name.ensures in
     let same = named.same_files ∙ before.same_files in
-    let known = looked_up_alike c.lookup-lookup.result c.count_file.new.self.lookup c.lookup-lookup.ensures
-    ∙ ap plain_lookup (c.count_file.ensures.lookup ∙ before.known) in
+    let known = looked_up_alike c.lookup-lookup.result c.learn_due.new.self.lookup c.lookup-lookup.ensures
+    ∙ ap plain_lookup (c.learn_due.ensures.lookup ∙ before.known) in
     let line = rw (known, same, c.as_slice.ensures.value) at c.in_err-print_name.ensures in
     let a = (g.D.Desk.state c.args.desk.now).sinks in
     let d = (g.D.Desk.state c.print_name.new.desk).sinks in
@@ -74,14 +74,14 @@ loop-number-preserved g c =
     let before = c.loop-number.invariant in
     let named = rw c.in-Some.is at c.in_ok-name.ensures in
     let same = named.same_files ∙ before.same_files in
-    let known = looked_up_alike c.lookup-lookup.result c.count_file.new.self.lookup c.lookup-lookup.ensures
-    ∙ ap plain_lookup (c.count_file.ensures.lookup ∙ before.known) in
+    let known = looked_up_alike c.lookup-lookup.result c.learn_due.new.self.lookup c.lookup-lookup.ensures
+    ∙ ap plain_lookup (c.learn_due.ensures.lookup ∙ before.known) in
     let line = rw (known, same, c.as_slice.ensures.value) at c.in_ok-print_name.ensures in
     let a = (g.D.Desk.state c.args.desk.now).sinks in
     let IsOne = IsTypeLine (plain_lookup c.args.lookup) (g.D.Desk.state c.args.desk.now).stored in
     rw c.max-status.ensures (record {
-      known = c.count_file.ensures.lookup ∙ before.known;
-      learnt = c.count_file.ensures.learnt;
+      known = c.learn_due.ensures.lookup ∙ before.known;
+      learnt = c.learn_due.ensures.learnt;
       same_files = line.same_files ∙ same;
       same_setting = line.same_setting ∙ (named.same_setting ∙ before.same_setting);
       rest = λ r after p.

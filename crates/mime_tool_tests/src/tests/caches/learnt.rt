@@ -34,13 +34,13 @@ const MIXED: [&str; 20] = [
     "/near", "/empty", "/one", "/mk", "/x.gz", "/ax", "/MX", "/gz", "/text",
 ];
 
-/// No name decides: the magic list is learnt before the ninth FILE.
+/// No name decides: contents are read from the first FILE on, and the magic list is learnt after a few.
 const READ_FROM_THE_FIRST: [&str; 18] = [
     "/text", "/gz", "/near", "/one", "/text", "/gz", "/near", "/one", "/text", "/gz", "/near",
     "/one", "/text", "/gz", "/near", "/one", "/text", "/gz",
 ];
 
-/// In the default order the contents of the ninth to the twentieth are read: the magic list is learnt before the seventeenth.
+/// In the default order the contents of the ninth to the twentieth are read: the magic list is learnt among them.
 const READ_FROM_THE_NINTH: [&str; 22] = [
     "/mk", "/x.gz", "/mk", "/x.gz", "/mk", "/x.gz", "/mk", "/x.gz", "/text", "/gz", "/near",
     "/one", "/text", "/gz", "/near", "/one", "/text", "/gz", "/near", "/one", "/mk", "/x.gz",

@@ -4,7 +4,7 @@ use super::{look_up_over, spent};
 use crate::tests::checked::alike;
 use crate::tests::lookup::outcome_of;
 use crate::tests::sample::{PLAIN_LAYOUT, SAMPLE, SELF_CHILD, changed};
-use mime_base::{Counted, Host, Meter};
+use mime_base::{Counted, Host, Meter, OutOfMemory};
 use mime_lookup::{Order, look_up_learnt};
 use mime_view::{Cache, CacheFault, MagicHeads};
 use std::alloc::Global;
@@ -65,6 +65,19 @@ fn look_up_all(
     true
 }
 
+/// What is learnt of both lists of a cache, if something is of both.
+fn both_learnt<'a>(
+    alloc: Global,
+    cache: &Cache<'a>,
+) -> Result<Option<MagicHeads<'a>>, OutOfMemory> {
+    let heads = cache.learn_heads(alloc, &mut Meter::new())?;
+    let globs = cache.learn_globs(alloc, &mut Meter::new())?;
+    match (heads, globs) {
+        (Some(heads), Some(globs)) => Ok(Some(heads.with_globs_of(globs))),
+        _ => Ok(None),
+    }
+}
+
 /// Of the sample and of a line that is its own child the magic list is learnt, of the plain layout the glob list too.
 #[test]
 fn learnt_caches(rt: HostRuntime) -> Result<(), CacheFault> {
@@ -80,6 +93,8 @@ fn learnt_caches(rt: HostRuntime) -> Result<(), CacheFault> {
         alike(&rt, name, look_up_all(&rt, alloc, bytes, heads), true);
         let globs = cache.learn_globs(alloc, &mut Meter::new())?;
         alike(&rt, name, look_up_all(&rt, alloc, bytes, globs), has_globs);
+        let both = both_learnt(alloc, &cache)?;
+        alike(&rt, name, look_up_all(&rt, alloc, bytes, both), has_globs);
     }
     Ok(())
 }

@@ -13,7 +13,7 @@ returns-in-Ok g c =
     let answer = c.in-Ok.answer in
     let fit = fits_unless (name_for c.args.order c.args.file.now) _ refl (λ long. let bad = (found.stops.too_long long).1 in cc) in
     λ stored name_only output. line_found g.R.Read.remaining g.R.Content.health c.args.path.now c.args.heads.now c.args.cost output
-    c.args.order c.args.file.now c.args.content
+    c.args.order c.args.file.now c.args.content.now
     c.look_up_learnt.new.content answer.kind.now answer.meter answer.read _ c.cost_of.ensures fit found.answers.allowed found.costs.bounds
     (λ b limits spells. found.answers.chosen b (inl (limits, spells))) found.reads.exact
     (λ b limits spells. (found.reads.asks b (spelled_globs c.args.heads.now b limits spells)).answers) stored name_only
@@ -26,7 +26,7 @@ returns-in-Cache g c =
     let fit : nat_le (length name) 4096 ≡ true = fits_unless name _ refl
     (λ long. not_too_long c.in-Err.stopped _ c.in-Cache.fault refl (found.stops.too_long long).1 c.in-Cache.is) in
     λ stored name_only output. line_refused g.R.Read.remaining g.R.Content.health c.args.path.now c.args.heads.now c.args.cost output
-    c.args.order c.args.file.now c.in-Cache.fault c.faulty.result c.args.content c.faulty.ensures fit
+    c.args.order c.args.file.now c.in-Cache.fault c.faulty.result c.args.content.now c.faulty.ensures fit
     (rw c.in-Cache.is at found.stops.fault (leb-true (length name) 4096 fit))
     (λ b limits spells packed. rw c.in-Cache.is at (read_or_memory
     (found.stops.need b (inl (limits, spells)) spells.within packed (leb-true (length name) 4096 fit)))) stored name_only

@@ -8,6 +8,7 @@ invariant-loop-i l = record {
   learnt : AreLearnt l.counted l.at l.globs.items;
   rises : l.fn.meter.nodes ≤ l.meter.nodes;
   bytes_rise : l.fn.meter.bytes ≤ l.meter.bytes;
+  listed : l.meter.nodes ≤ l.fn.meter.nodes + 1 + l.i;
   most_nodes : 64 * l.meter.nodes + l.room ≤ 64 * l.fn.meter.nodes + 64 + length l.counted;
   most_bytes : l.meter.bytes + l.room ≤ l.fn.meter.bytes + length l.counted;
 }
