@@ -1,9 +1,10 @@
 //! The paths of endings.
 //!
-//! No path is copied: its bytes are read where they stand in the rule's pattern. The first eight lie ready as one number, and where two
-//! of these numbers differ, their order is that of the paths.
+//! The first eight bytes lie ready as one number, and where two of these numbers differ, their order is that of the paths. Most paths
+//! have no more; the others have what follows in a copy, from the last byte of the pattern to the first, so that the library
+//! compares it.
 
-ghost use Rattle.std.specs.Prelude.{◌≡◌, ◌<◌, ℕ, true, length, slice_index};
+ghost use Rattle.std.specs.Prelude.{◌≡◌, ◌<◌, ℕ, true, drop, length, slice_index, IfOk};
 ghost use Rattle.std.specs.Cmp.Lexicographic.{slice_cmp};
 ghost use Rattle.std.specs.Ordering.{nat_cmp};
 ghost use Rattle.mime_base.specs.Format.Stored.{reversed_ending};
@@ -12,8 +13,10 @@ ghost use Rattle.mime_store.specs.Fronts.{front, start_number};
 ghost use Rattle.mime_store.specs.SuffixTree.{ending_path, ending_rule};
 
 use crate::ending::Ending;
+use crate::rules::compared;
 use byteorder::{BigEndian, ByteOrder};
-use mime_base::{GlobRule, as_compared};
+use mime_base::{GlobRule, OutOfMemory, as_compared};
+use std::alloc::Global;
 use std::cmp::Ordering;
 
 /// How many bytes of a path lie ready as a number.
@@ -21,12 +24,13 @@ const FRONT: usize = 8;
 
 impl<'a> Ending<'a> {
     /// The ending of a rule.
-    pub fn new(rule: &'a GlobRule) -> Ending<'a>
+    pub fn new(alloc: Global, rule: &'a GlobRule) -> Result<Ending<'a>, OutOfMemory>
         // It is that of this rule.
-        ensures { ending_rule result ≡ rule.now }
+        ensures { IfOk result (λ ending. ending_rule ending ≡ rule.now) }
     {
         let start = start_of(rule);
-        Ending { start, rule }
+        let rest = rest_of(alloc, rule)?;
+        Ok(Ending { start, rest, rule })
     }
 
     /// How many bytes its path has.
@@ -48,10 +52,14 @@ impl<'a> Ending<'a> {
         // It is the path's byte there.
         ensures { result ≡ slice_index (ending_path self.now) depth }
     {
-        path_byte(self.rule, depth)
+        if depth < FRONT {
+            path_byte(self.rule, depth)
+        } else {
+            self.rest[depth - FRONT]
+        }
     }
 
-    /// The order of two paths, by their first eight bytes at once where these differ.
+    /// The order of two paths, by their first eight bytes at once, and by those that follow where these are equal.
     #[inline]
     pub fn compare(&self, other: &Ending<'_>) -> Ordering
         // It is the order of the paths, byte by byte.
@@ -60,22 +68,8 @@ impl<'a> Ending<'a> {
         if self.start != other.start {
             return self.start.cmp(&other.start);
         }
-        compare_paths(self, other)
+        self.rest.as_slice().cmp(&other.rest.as_slice())
     }
-}
-
-/// The order of two paths, byte by byte.
-fn compare_paths(left: &Ending<'_>, right: &Ending<'_>) -> Ordering
-    ensures { result ≡ slice_cmp nat_cmp (ending_path left.now) (ending_path right.now) }
-{
-    let room = left.length().min(right.length());
-    for depth in 0..room {
-        let (byte, other) = (left.byte(depth), right.byte(depth));
-        if byte != other {
-            return byte.cmp(&other);
-        }
-    }
-    left.length().cmp(&right.length())
 }
 
 /// How many bytes the path of a rule has.
@@ -111,4 +105,17 @@ fn start_of(rule: &GlobRule) -> u64
         bytes[depth] = path_byte(rule, depth);
     }
     BigEndian::read_u64(&bytes)
+}
+
+/// A copy of the bytes of a rule's path after its first eight.
+fn rest_of(alloc: Global, rule: &GlobRule) -> Result<Vec<u8>, OutOfMemory>
+    ensures { IfOk result (λ rest. rest.items ≡ drop 8 (reversed_ending rule.now)) }
+{
+    if path_length(rule) <= FRONT {
+        return Ok(Vec::new(alloc));
+    }
+    let pattern = rule.pattern.bytes();
+    let mut rest = compared(alloc, rule.cased, &pattern[1..pattern.len() - FRONT])?;
+    rest.reverse();
+    Ok(rest)
 }

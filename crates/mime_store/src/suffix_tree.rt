@@ -41,10 +41,10 @@ pub fn endings(alloc: Global, rules: &[GlobRule]) -> Result<Vec<Ending<'_>>, Out
     // They are the rules of the suffix tree, in merged order.
     ensures { IfOk result (λ found. map ending_rule found.items ≡ tree_rules rules.now) }
 {
-    let mut found = Vec::new(alloc);
+    let mut found = Vec::with_capacity(alloc, rules.len())?;
     for rule in rules {
         if is_in_tree(rule) {
-            found.push(Ending::new(rule))?;
+            found.push(Ending::new(alloc, rule)?)?;
         }
     }
     Ok(found)

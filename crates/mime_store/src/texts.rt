@@ -7,13 +7,17 @@ ghost use Rattle.std.specs.Ordering.{nat_cmp};
 use byteorder::{BigEndian, ByteOrder};
 use std::cmp::Ordering;
 
-/// The order of two texts. Eight bytes at a time are compared as numbers, the first byte as the highest, since types share long
-/// fronts.
+/// How many bytes are compared eight at a time.
+const FRONT: usize = 24;
+
+/// The order of two texts. The first 24 bytes are compared eight at a time, as numbers with the first byte as the highest: most types
+/// that share a front differ there. The library compares what is left.
 pub fn compare_texts(left: &[u8], right: &[u8]) -> Ordering
     // It is the order of the texts, byte by byte.
     ensures { result ≡ slice_cmp nat_cmp left.now right.now }
 {
-    let room = left.len().min(right.len());
+    let both = left.len().min(right.len());
+    let room = both.min(FRONT);
     let mut at = 0;
     while 8 <= room - at {
         let word = BigEndian::read_u64(&left[at..]);

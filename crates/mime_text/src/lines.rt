@@ -12,6 +12,7 @@ pub mod pairs;
 ghost use Rattle.std.specs.Prelude.{◌≡◌, ◌<◌, [], ◌∷◌, length, MatchOption};
 ghost use Rattle.mime_text.specs.Lines.{line_fields, is_passed, lines};
 
+use bstr::ByteSlice;
 use memchr::memchr;
 use std::marker::Model;
 
@@ -145,7 +146,7 @@ pub fn cut_field(line: &[u8], separator: u8) -> Option<(&[u8], &[u8])>
     ensures { MatchOption result (line_fields separator line.now ≡ line.now ∷ [])
         (λ parts. line_fields separator line.now ≡ parts.0.now ∷ line_fields separator parts.1.now) }
 {
-    match memchr(separator, line) {
+    match line.find_byte(separator) {
         Some(end) => Some((&line[..end], &line[end + 1..])),
         None => None,
     }

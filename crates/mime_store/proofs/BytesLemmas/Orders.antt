@@ -1,5 +1,5 @@
--- The order of bytes, by numbers of eight at a time, and byte by byte.
-use Rattle.std.proofs.Common.{◌≡◌, ℕ, zero, suc, ◌+◌, ◌-◌, ◌*◌, ◌^◌, ◌<◌, ◌≤◌, min, List, [], ◌∷◌, length, get_or, take, drop, refl, sym, ap, ap₂}
+-- The order of bytes, by the numbers of the first ones.
+use Rattle.std.proofs.Common.{◌≡◌, ℕ, zero, suc, ◌+◌, ◌-◌, ◌*◌, ◌^◌, ◌<◌, ◌≤◌, List, length, get_or, take, drop, refl, sym, ap, ap₂}
 use Rattle.std.proofs.Common.{Ordering, Less, Equal, Greater, arith, ⊎_elim, ◌∙◌, drop-drop, length-drop, subst}
 use Rattle.std.specs.Ordering.{nat_cmp, ordering_then}
 use Rattle.std.specs.Cmp.Lexicographic.{slice_cmp}
@@ -25,16 +25,23 @@ pub greater : (x y : ℕ) → y < x → nat_cmp x y ≡ Greater
 greater x y h = grind (arith, nat_tests)
 
 -- other numbers are not equal
-pub unequal : (x y : ℕ) → (x ≡ y → ⊥) → nat_cmp x y ≡ Equal → ⊥
+unequal : (x y : ℕ) → (x ≡ y → ⊥) → nat_cmp x y ≡ Equal → ⊥
 unequal x y differ e = ⊎_elim (λ (e' : x ≡ y). differ e')
     (λ o. ⊎_elim (λ (lt : x < y). let bad : Less ≡ Equal = sym (less x y lt) ∙ e in absurd (cc))
     (λ (gt : y < x). let bad : Greater ≡ Equal = sym (greater x y gt) ∙ e in absurd (cc)) o) (cases_order x y)
 
--- an order that is not equal stands, whatever comes after
-then_first : (o rest : Ordering) → (o ≡ Equal → ⊥) → ordering_then o rest ≡ o
-then_first Less rest differ = refl
-then_first Equal rest differ = absurd (differ refl)
-then_first Greater rest differ = refl
+-- numbers that differ decide, whatever comes after
+pub decided : (x y : ℕ) (rest : Ordering) → (x ≡ y → ⊥) → ordering_then (nat_cmp x y) rest ≡ nat_cmp x y
+decided x y rest differ = first (nat_cmp x y) (unequal x y differ)
+  where
+    first : (o : Ordering) → (o ≡ Equal → ⊥) → ordering_then o rest ≡ o
+    first Less differ = refl
+    first Equal differ = absurd (differ refl)
+    first Greater differ = refl
+
+-- equal numbers leave it to what comes after
+pub left_over : (x y : ℕ) (rest : Ordering) → x ≡ y → ordering_then (nat_cmp x y) rest ≡ rest
+left_over x y rest same = ap (λ o. ordering_then o rest) (equal x y same)
 
 -- nothing more changes no order
 pub then_equal : (o : Ordering) → ordering_then o Equal ≡ o
@@ -43,7 +50,7 @@ then_equal Equal = refl
 then_equal Greater = refl
 
 -- three orders one after another
-then_assoc : (a b c : Ordering) → ordering_then (ordering_then a b) c ≡ ordering_then a (ordering_then b c)
+pub then_assoc : (a b c : Ordering) → ordering_then (ordering_then a b) c ≡ ordering_then a (ordering_then b c)
 then_assoc Less b c = refl
 then_assoc Equal b c = refl
 then_assoc Greater b c = refl
@@ -115,7 +122,7 @@ pub words-equal : (at : ℕ) (xs ys : List ℕ) (word other : ℕ) → at + 8 �
     → word ≡ other → slice_cmp nat_cmp (drop at xs) (drop at ys) ≡ slice_cmp nat_cmp (drop (at + 8) xs) (drop (at + 8) ys)
 words-equal at xs ys word other room room' small small' is is' same =
     words at xs ys word other room room' small small' is is'
-    ∙ ap (λ o. ordering_then o (slice_cmp nat_cmp (drop (at + 8) xs) (drop (at + 8) ys))) (equal word other same)
+    ∙ left_over word other (slice_cmp nat_cmp (drop (at + 8) xs) (drop (at + 8) ys)) same
 
 -- where they differ, they decide
 pub words-differ : (at : ℕ) (xs ys : List ℕ) (word other : ℕ) → at + 8 ≤ length xs → at + 8 ≤ length ys
@@ -124,36 +131,4 @@ pub words-differ : (at : ℕ) (xs ys : List ℕ) (word other : ℕ) → at + 8 �
     → (word ≡ other → ⊥) → slice_cmp nat_cmp (drop at xs) (drop at ys) ≡ nat_cmp word other
 words-differ at xs ys word other room room' small small' is is' differ =
     words at xs ys word other room room' small small' is is'
-    ∙ then_first (nat_cmp word other) (slice_cmp nat_cmp (drop (at + 8) xs) (drop (at + 8) ys)) (λ e. unequal word other differ e)
-
--- ---- byte by byte
-
--- one byte more that both paths have
-pub order-on : (xs ys : List ℕ) (i : ℕ) → i < length xs → i < length ys → get_or xs i 0 ≡ get_or ys i 0
-    → slice_cmp nat_cmp (drop i xs) (drop i ys) ≡ slice_cmp nat_cmp (drop (i + 1) xs) (drop (i + 1) ys)
-order-on xs ys i lt lt' same =
-    let next : i + 1 ≡ suc i = omega arith in
-    rw (next, drop-cons xs i 0 lt, drop-cons ys i 0 lt', equal (get_or xs i 0) (get_or ys i 0) same) refl
-
--- the first bytes that differ decide
-pub order-at : (xs ys : List ℕ) (i : ℕ) → i < length xs → i < length ys → (get_or xs i 0 ≡ get_or ys i 0 → ⊥)
-    → slice_cmp nat_cmp (drop i xs) (drop i ys) ≡ nat_cmp (get_or xs i 0) (get_or ys i 0)
-order-at xs ys i lt lt' differ =
-    rw (drop-cons xs i 0 lt, drop-cons ys i 0 lt') (⊎_elim (λ (e : get_or xs i 0 ≡ get_or ys i 0). absurd (differ e))
-    (λ o. ⊎_elim (λ (l : get_or xs i 0 < get_or ys i 0). rw (less _ _ l) refl) (λ (g : get_or ys i 0 < get_or xs i 0). rw (greater _ _ g) refl) o)
-    (cases_order (get_or xs i 0) (get_or ys i 0)))
-
--- numbers that are both one more
-more : (m n : ℕ) → nat_cmp m n ≡ nat_cmp (suc m) (suc n)
-more m n = grind (arith, nat_tests)
-
--- where one of them has ended, their lengths decide
-pub order-ended : (xs ys : List ℕ) (i : ℕ) → i ≡ min (length xs) (length ys)
-    → slice_cmp nat_cmp (drop i xs) (drop i ys) ≡ nat_cmp (length xs) (length ys)
-order-ended [] [] zero is = refl
-order-ended [] (y ∷ ys) zero is = sym (less 0 (suc (length ys)) (omega arith))
-order-ended (x ∷ xs) [] zero is = sym (greater (suc (length xs)) 0 (omega arith))
-order-ended (x ∷ xs) (y ∷ ys) zero is = absurd (omega arith)
-order-ended [] ys (suc i) is = absurd (omega arith)
-order-ended (x ∷ xs) [] (suc i) is = absurd (omega arith)
-order-ended (x ∷ xs) (y ∷ ys) (suc i) is = order-ended xs ys i (omega arith) ∙ more (length xs) (length ys)
+    ∙ decided word other (slice_cmp nat_cmp (drop (at + 8) xs) (drop (at + 8) ys)) differ

@@ -1,9 +1,10 @@
 -- Stored texts and endings: they have no zero byte, and as many bytes as their patterns.
 use Rattle.std.proofs.Common.{◌≡◌, ℕ, zero, suc, ◌+◌, ◌<◌, ◌≤◌, Bool, true, false, not, ◌&&◌, cond, eqb, List, [], ◌∷◌, ◌++◌}
-use Rattle.std.proofs.Common.{length, drop, reverse, get_or, ◌-◌, refl, sym, ap, subst, ◌∙◌, arith, nat_le, nat_lt}
+use Rattle.std.proofs.Common.{length, drop, take, map, reverse, get_or, ◌-◌, refl, sym, ap, subst, ◌∙◌, arith, nat_le, nat_lt}
 use Rattle.std.specs.List.{list_all}
 use Rattle.std.proofs.lemmas.Bool.{and_parts, leb-true, lt-ltb, ltb-true}
-use Rattle.std.proofs.lemmas.List.{get_or-drop, get_or-map, get_or-reverse, length-drop, length-map, length-reverse, reverse-append}
+use Rattle.std.proofs.lemmas.List.{drop-map, get_or-drop, get_or-map, get_or-reverse, length-drop, length-map, length-reverse, reverse-append, take-append-drop, take-map}
+use Rattle.std.proofs.Math.Seq.{drop-append_seam}
 use Rattle.mime_base.specs.Matching.Folding.{compared, compared_byte}
 use Rattle.mime_base.specs.Names.{is_pattern, is_pattern_byte}
 use Rattle.mime_base.specs.Format.Stored.{reversed_ending}
@@ -88,6 +89,29 @@ pub path_long : (rule : GlobRule) → length (reversed_ending rule) ≡ length r
 path_long rule =
     let text = compared rule.cased rule.pattern in
     omega (arith, length-reverse (drop 1 text), length-drop 1 text, length-map rule.pattern (compared_byte rule.cased))
+
+-- what follows the first n bytes of a text backwards is what comes before its last n, backwards
+drop-reverse : (n : ℕ) (text : List ℕ) → n ≤ length text → drop n (reverse text) ≡ reverse (take (length text - n) text)
+drop-reverse n text le =
+    let before = take (length text - n) text in
+    let last = drop (length text - n) text in
+    let size : length (reverse last) ≡ n = omega (arith, length-reverse last, length-drop (length text - n) text) in
+    ap (λ whole. drop n (reverse whole)) (sym (take-append-drop (length text - n) text))
+    ∙ ap (drop n) (reverse-append before last)
+    ∙ ap (λ (k : ℕ). drop k (reverse last ++ reverse before)) (sym size)
+    ∙ drop-append_seam (reverse last) (reverse before)
+
+-- the path of a rule after its first n bytes
+pub path_after : (rule : GlobRule) (n : ℕ) → n + 1 ≤ length rule.pattern → drop n (reversed_ending rule)
+    ≡ reverse (compared rule.cased (take (length rule.pattern - n - 1) (drop 1 rule.pattern)))
+path_after rule n some =
+    let fold = compared_byte rule.cased in
+    let ending = drop 1 rule.pattern in
+    let long : length (map fold ending) ≡ length rule.pattern - 1 = omega (arith, length-map ending fold, length-drop 1 rule.pattern) in
+    ap (λ text. drop n (reverse text)) (drop-map fold 1 rule.pattern)
+    ∙ drop-reverse n (map fold ending) (omega (arith, long))
+    ∙ ap (λ (k : ℕ). reverse (take k (map fold ending))) (omega (arith, long))
+    ∙ ap reverse (take-map fold (length rule.pattern - n - 1) ending)
 
 -- the path of a rule is short and has no zero byte
 pub path_keeps : (rule : GlobRule) → is_pattern rule.pattern ≡ true

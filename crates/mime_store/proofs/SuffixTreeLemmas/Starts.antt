@@ -1,13 +1,13 @@
 -- The order of paths, by the numbers of their first eight bytes.
-use Rattle.std.proofs.Common.{◌≡◌, ℕ, zero, suc, ◌<◌, List, [], ◌∷◌, length, get_or, sym, ap, ap₂, ◌∙◌, refl}
-use Rattle.std.proofs.Common.{Ordering, Less, Equal, Greater, arith}
+use Rattle.std.proofs.Common.{◌≡◌, ℕ, zero, suc, ◌<◌, List, [], ◌∷◌, length, drop, get_or, sym, ap, ap₂, ◌∙◌, refl}
+use Rattle.std.proofs.Common.{arith}
 use Rattle.std.specs.Ordering.{nat_cmp, ordering_then}
 use Rattle.std.specs.Cmp.Lexicographic.{slice_cmp}
 use Rattle.std.proofs.lemmas.List.{drop_all}
 use Rattle.byteorder.specs.Endian.{big_from}
 use Rattle.mime_store.specs.Fronts.{front, start_number}
 use Rattle.mime_store.specs.Texts.{NoZero}
-use Rattle.mime_store.proofs.BytesLemmas.Orders.{greater, less, ordered, then_equal, unequal}
+use Rattle.mime_store.proofs.BytesLemmas.Orders.{greater, less, ordered, then_assoc, then_equal}
 
 -- there are as many
 length-front : (n : ℕ) (path : List ℕ) → length (front n path) ≡ n
@@ -31,28 +31,25 @@ pub start-is : (bytes path : List ℕ) → bytes ≡ front 8 path → big_from 0
 unfolding start_number
 start-is bytes path is = ap (big_from 0 8) is
 
--- first bytes that differ are ordered as the paths
-front-order : (n : ℕ) (xs ys : List ℕ) → NoZero xs → NoZero ys → (slice_cmp nat_cmp (front n xs) (front n ys) ≡ Equal → ⊥)
-    → slice_cmp nat_cmp (front n xs) (front n ys) ≡ slice_cmp nat_cmp xs ys
-front-order zero xs ys some some' differ = absurd (differ refl)
-front-order (suc n) [] [] some some' differ = front-order n [] [] tt tt differ
-front-order (suc n) [] (y ∷ ys) some some' differ = rw (less 0 y some'.0) refl
-front-order (suc n) (x ∷ xs) [] some some' differ = rw (greater x 0 some.0) refl
-front-order (suc n) (x ∷ xs) (y ∷ ys) some some' differ =
-    by_first (nat_cmp x y) (slice_cmp nat_cmp (front n xs) (front n ys)) (slice_cmp nat_cmp xs ys) (front-order n xs ys some.1 some'.1) differ
-  where
-    by_first : (o fronts paths : Ordering) → ((fronts ≡ Equal → ⊥) → fronts ≡ paths) → (ordering_then o fronts ≡ Equal → ⊥)
-        → ordering_then o fronts ≡ ordering_then o paths
-    by_first Less fronts paths later differ = refl
-    by_first Equal fronts paths later differ = later differ
-    by_first Greater fronts paths later differ = refl
+-- the first n bytes of two paths decide, and else those after them
+front-order : (n : ℕ) (xs ys : List ℕ) → NoZero xs → NoZero ys
+    → ordering_then (slice_cmp nat_cmp (front n xs) (front n ys)) (slice_cmp nat_cmp (drop n xs) (drop n ys)) ≡ slice_cmp nat_cmp xs ys
+front-order zero xs ys some some' = refl
+front-order (suc n) [] [] some some' =
+    ap (λ rest. ordering_then (slice_cmp nat_cmp (front n []) (front n [])) (slice_cmp nat_cmp rest rest)) (sym (drop_all n [] (omega arith)))
+    ∙ front-order n [] [] tt tt
+front-order (suc n) [] (y ∷ ys) some some' = rw (less 0 y some'.0) refl
+front-order (suc n) (x ∷ xs) [] some some' = rw (greater x 0 some.0) refl
+front-order (suc n) (x ∷ xs) (y ∷ ys) some some' =
+    then_assoc (nat_cmp x y) (slice_cmp nat_cmp (front n xs) (front n ys)) (slice_cmp nat_cmp (drop n xs) (drop n ys))
+    ∙ ap (ordering_then (nat_cmp x y)) (front-order n xs ys some.1 some'.1)
 
--- numbers of first bytes that differ are ordered as the paths
+-- the numbers of the first eight bytes decide, and else those after them
 pub starts-order : (s t : ℕ) (xs ys : List ℕ) → s ≡ start_number xs → t ≡ start_number ys
     → ((k : ℕ) → get_or (front 8 xs) k 0 < 256) → ((k : ℕ) → get_or (front 8 ys) k 0 < 256) → NoZero xs → NoZero ys
-    → (s ≡ t → ⊥) → nat_cmp s t ≡ slice_cmp nat_cmp xs ys
+    → ordering_then (nat_cmp s t) (slice_cmp nat_cmp (drop 8 xs) (drop 8 ys)) ≡ slice_cmp nat_cmp xs ys
 unfolding start_number
-starts-order s t xs ys is is' small small' some some' differ =
+starts-order s t xs ys is is' small small' some some' =
     let xs' = front 8 xs in
     let ys' = front 8 ys in
     let over = length-front 8 xs in
@@ -63,4 +60,4 @@ starts-order s t xs ys is is' small small' some some' differ =
     ∙ ap₂ (λ rest rest'. ordering_then (nat_cmp (big_from 0 8 xs') (big_from 0 8 ys')) (slice_cmp nat_cmp rest rest'))
     (drop_all 8 xs' (omega (arith, over))) (drop_all 8 ys' (omega (arith, over')))
     ∙ then_equal (nat_cmp (big_from 0 8 xs') (big_from 0 8 ys'))) in
-    fronts ∙ front-order 8 xs ys some some' (λ e. unequal s t differ (fronts ∙ e))
+    ap (λ o. ordering_then o (slice_cmp nat_cmp (drop 8 xs) (drop 8 ys))) fronts ∙ front-order 8 xs ys some some'

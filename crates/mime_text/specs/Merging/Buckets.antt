@@ -1,10 +1,10 @@
 -- Places of keys in a table, where most keys are alone.
-use Rattle.std.specs.Prelude.{ℕ, ◌≡◌, ◌<◌, ◌+◌, ◌%◌, ◌^◌, ◌==◌, min, Bool, List, [], ◌∷◌, length, slice_index, if◌then◌else◌}
+use Rattle.std.specs.Prelude.{ℕ, ◌≡◌, ◌<◌, ◌+◌, ◌*◌, ◌%◌, ◌^◌, ◌==◌, min, Bool, List, [], ◌∷◌, length, slice_index, if◌then◌else◌}
 use Rattle.mime_text.specs.Merging.{tail_of}
 
--- the place of a name in a table of this size, by its last eight bytes and its length
+-- the place of a name in a table of this size, by its last eight bytes, which an odd number spreads, and its length
 unfoldable pub bucket : ℕ → List ℕ → ℕ
-bucket size name = (tail_of name + length name) % 2 ^ 64 % size
+bucket size name = (tail_of name * 18397679294719823053 % 2 ^ 64 + length name) % 2 ^ 64 % size
 
 -- how many of these keys have this place
 abbrev pub times : ℕ → ℕ → List (List ℕ × List ℕ) → ℕ

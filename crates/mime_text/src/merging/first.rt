@@ -17,6 +17,9 @@ use std::alloc::Global;
 use std::collections::BTreeSet;
 use std::marker::Model;
 
+/// What the ends of names are multiplied by, so that those that differ in a few digits have places of their own: of MurmurHash3.
+const SPREAD: u64 = 0xff51_afd7_ed55_8ccd;
+
 /// The end of a key's name as a number, and the key.
 type TailedKey<'a> = (u64, &'a [u8], &'a [u8]);
 
@@ -128,7 +131,8 @@ fn bucket_of(name: &[u8], size: usize) -> usize
     requires { 0 < size }
     ensures { result ≡ bucket size name.now }
 {
-    (tail_of(name).wrapping_add(name.len() as u64) % size as u64) as usize
+    let spread = tail_of(name).wrapping_mul(SPREAD);
+    (spread.wrapping_add(name.len() as u64) % size as u64) as usize
 }
 
 /// Whether a key is the first of its kind. One that is alone at its place is, and no other key is the same, so that it isn't kept.
