@@ -4,7 +4,8 @@ ghost use Rattle.std.specs.Prelude.{◌≡◌, IfOk, [], string_bytes};
 ghost use Rattle.clap.specs.Walk.{texts};
 ghost use Rattle.mime_tool.specs.Desk.{Does, Ends, Works};
 ghost use Rattle.mime_tool.specs.Line.{IsAskedKind, IsTypeLine, base_name, inode_name};
-ghost use Rattle.mime_tool.specs.LineSteps.{ComesTo, LooksUpHere, plain_lookup, run_of, tail_of};
+ghost use Rattle.mime_tool.specs.Files.{Stored};
+ghost use Rattle.mime_tool.specs.LineSteps.{ComesTo, IsContent, LooksUp, LooksUpHere, plain_lookup, run_of, tail_of};
 ghost use Rattle.mime_tool.specs.Output.{answer_end, answer_of, separator, written};
 ghost use Rattle.mime_tool.specs.Run.{IsEach, printed, refusal, unanswered};
 ghost use Rattle.mime_tool.specs.Types.{cost_text};
@@ -25,6 +26,7 @@ use escape::escaped;
 use lookup::free;
 pub(crate) use lookup::{Cost, Data, Lookup, asked_order, find};
 use mime_base::OutOfMemory;
+use mime_lookup::Content;
 use mime_request::Output;
 use std::alloc::{AllocError, Global};
 use watched::Watched;
@@ -124,16 +126,31 @@ fn file_outcome<'i, D: Desk>(
     ensures { Works (LooksUpHere (plain_lookup lookup.entry) ((D.state desk.old).stored file.now) file.now)
         (D.state desk.old) (D.state desk.new) result }
 {
-    let mut content: Option<Watched<D::Reader>> = None;
+    let mut content: Option<D::Reader> = None;
     if !lookup.name_only {
         match desk.open(file)? {
-            Opened::File(reader) => content = Some(Watched::new(reader)),
+            Opened::File(reader) => content = Some(reader),
             Opened::Folder => return Ok(Outcome::CannotRead),
             Opened::Shut => return Ok(Outcome::CannotOpen),
         }
     }
-    let outcome = find(desk.alloc(), lookup, file, &mut content);
-    *asked = Watched::was_asked(&content);
+    find_watched(desk.alloc(), lookup, file, content, asked)
+}
+
+// What a file comes to, and whether its content was asked for bytes.
+fn find_watched<'i, R: Content + Drop>(
+    alloc: Global,
+    lookup: Lookup<'i, '_>,
+    file: &[u8],
+    content: Option<R>,
+    asked: &mut bool,
+) -> Result<Outcome<'i>, Stop>
+    ensures { (stored : Stored) → IsContent R.remaining R.health lookup.entry.name_only stored content
+        → LooksUp (plain_lookup lookup.entry) stored file.now result }
+{
+    let mut watched = Watched::of(content);
+    let outcome = find(alloc, lookup, file, &mut watched);
+    *asked = Watched::was_asked(&watched);
     outcome
 }
 

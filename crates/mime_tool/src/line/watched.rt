@@ -1,6 +1,8 @@
 //! A content that says whether it was asked for bytes.
 
-ghost use Rattle.mime_tool.specs.Files.{IsReaderOf, Stored};
+ghost use Rattle.std.specs.Prelude.{Bool};
+ghost use Rattle.mime_tool.specs.Files.{Stored};
+ghost use Rattle.mime_tool.specs.LineSteps.{IsContent};
 
 use mime_lookup::{Content, ReadFault};
 use std::io;
@@ -14,15 +16,18 @@ pub(super) struct Watched<R> {
 }
 
 impl<R: Content> Watched<R> {
-    /// Nothing was asked yet.
-    pub(super) fn new(reader: R) -> Watched<R>
-        // It reads what is stored, if the reader does.
-        ensures { (stored : Stored) → IsReaderOf R.remaining R.health stored reader
-            → IsReaderOf (λ watched. R.remaining watched.reader) (λ watched. R.health watched.reader) stored result }
+    /// A content, if there is one, that wasn't asked yet.
+    pub(super) fn of(content: Option<R>) -> Option<Watched<R>>
+        // It reads what is stored, if that content does.
+        ensures { (name_only : Bool) (stored : Stored) → IsContent R.remaining R.health name_only stored content
+            → IsContent (λ watched. R.remaining watched.reader) (λ watched. R.health watched.reader) name_only stored result }
     {
-        Watched {
-            reader,
-            asked: false,
+        match content {
+            Some(reader) => Some(Watched {
+                reader,
+                asked: false,
+            }),
+            None => None,
         }
     }
 
