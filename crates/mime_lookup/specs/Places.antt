@@ -1,14 +1,10 @@
 -- Where pairs stand: the first place of each name, and after each place the next of the same name.
 use Rattle.std.specs.Prelude.{◌≡◌, ℕ, ◌+◌, ◌<◌, ◌≤◌, List, [], length, get_or, drop, Option, None, Some, bytes_eq}
-use Rattle.std.specs.BTreeMap as tree
-use Rattle.std.specs.HashMap as hash
-use Rattle.std.specs.Cmp.Lexicographic.{slice_cmp}
-use Rattle.std.specs.Ordering.{nat_cmp}
+use Rattle.std.specs.HashMap.{HashMap, get_by}
+use Rattle.std.specs.Borrow.{Bor}
 use Rattle.mime_base.specs.Database.PlainPairs.{plain_pairs}
 use Rattle.mime_base.specs.Database.Subclass.{Pairs, parents}
 use Rattle.mime_base.specs.declared.database.pair.Pair.{Pair}
-use Rattle.mime_lookup.specs.declared.first_places.FirstPlaces.{FirstPlaces}
-use Rattle.mime_lookup.specs.declared.first_places.FirstPlaces.TheVariants.{Hashed, Sorted}
 use Rattle.mime_lookup.specs.declared.places.PlacedPairs.{PlacedPairs}
 use Rattle.mime_lookup.specs.declared.places.Places.{Places}
 
@@ -16,14 +12,9 @@ use Rattle.mime_lookup.specs.declared.places.Places.{Places}
 abbrev pub pairs_at : List Pair → List Pair → Pairs
 pairs_at alias_pairs parent_pairs = record { aliases = plain_pairs alias_pairs; parents = plain_pairs parent_pairs }
 
--- the first place that a name has, by a hash or in a tree
-abbrev pub place_in : FirstPlaces → List ℕ → Option ℕ
-place_in (Hashed places) name = hash.get_by (λ key. bytes_eq name key.now) places
-place_in (Sorted places) name = tree.get_by (λ key. slice_cmp nat_cmp name key.now) places
-
--- no name has a place
-abbrev pub HasNone : FirstPlaces → Type 0
-HasNone first = (name : List ℕ) → place_in first name ≡ None
+-- the place that a map has for a name
+abbrev pub place_in : {S : Type 0} → HashMap (Bor (List ℕ)) ℕ S → List ℕ → Option ℕ
+place_in map name = get_by (λ key. bytes_eq name key.now) map
 
 -- of the pairs from `low` on the first of a name stands here, or there is none
 abbrev pub IsNext : List Pair → List ℕ → ℕ → Option ℕ → Type 0

@@ -11,7 +11,6 @@ ghost use Rattle.mime_lookup.specs.Ancestry.{AnswersSearch, Expanded, is_among, 
 ghost use Rattle.mime_lookup.specs.Choice.{IsFirst};
 ghost use Rattle.mime_lookup.specs.Places.{ArePlaced, placed};
 
-use crate::first_places::FirstPlaces;
 use crate::places::{PlacedPairs, places_of, push_parents};
 use crate::queue::Queue;
 use crate::subclass::is_by_itself;
@@ -34,8 +33,8 @@ pub fn first_of<'a>(
     ensures first { IfOk result (λ kind. IsFirst (pairs_of (plain_database database.entry.now))
         base.now default.entry.now (kinds_of kinds.now) kind.now) }
 {
-    let aliases = places_of(alloc, &database.aliases, FirstPlaces::hashed(alloc))?;
-    let parents = places_of(alloc, &database.parents, FirstPlaces::hashed(alloc))?;
+    let aliases = places_of(alloc, &database.aliases)?;
+    let parents = places_of(alloc, &database.parents)?;
     let both = PlacedPairs { aliases, parents };
     let kind = first_at(alloc, &both, kinds, default, base, meter)?;
     Ok(kind)

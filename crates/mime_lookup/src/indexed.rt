@@ -21,7 +21,6 @@ ghost use Rattle.std.specs.Prelude.{◌≡◌, IfOk};
 ghost use Rattle.std.specs.List.{All};
 ghost use Rattle.mime_base.specs.Kept.{FitsRank};
 
-use crate::first_places::FirstPlaces;
 use crate::indexed::endings::keys_of;
 use crate::indexed::heads::{Heads, heads_of};
 use crate::indexed::rule_key::RuleKey;
@@ -73,8 +72,8 @@ impl<'a> IndexedDatabase<'a> {
         ensures { IfOk result (λ index. index ≡ database.entry.now) }
     {
         let keys = keys_of(alloc, &database.rules)?;
-        let aliases = places_of(alloc, &database.aliases, FirstPlaces::sorted(alloc))?;
-        let parents = places_of(alloc, &database.parents, FirstPlaces::sorted(alloc))?;
+        let aliases = places_of(alloc, &database.aliases)?;
+        let parents = places_of(alloc, &database.parents)?;
         let heads = heads_of(alloc, &database.sections)?;
         Ok(IndexedDatabase {
             database,

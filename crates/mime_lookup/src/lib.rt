@@ -28,7 +28,6 @@ mod answer;
 mod cached;
 mod candidates;
 mod content;
-mod first_places;
 mod fixed;
 mod indexed;
 mod kept;

@@ -5,10 +5,10 @@ ghost use Rattle.mime_base.specs.Database.PlainPairs.{plain_pairs};
 ghost use Rattle.mime_base.specs.Database.Subclass as above;
 ghost use Rattle.mime_base.specs.declared.database.pair.Pair as plain;
 ghost use Rattle.mime_base.specs.Database.Subclass.{resolved};
-ghost use Rattle.mime_lookup.specs.Places.{ArePlaced, HasNone, IsPlaced, placed};
+ghost use Rattle.mime_lookup.specs.Places.{ArePlaced, IsPlaced, placed};
 
-use crate::first_places::FirstPlaces;
 use crate::queue::Queue;
+use indexmap::IndexMap;
 use mime_base::{OutOfMemory, Pair};
 use std::alloc::Global;
 
@@ -18,7 +18,7 @@ pub struct Places<'a> {
     /// The pairs.
     pub pairs: &'a [Pair],
     /// The first place of each name.
-    pub first: FirstPlaces<'a>,
+    pub first: IndexMap<&'a [u8], usize>,
     /// From the last place to the first, the next place of its name.
     pub next: Vec<Option<usize>>,
 }
@@ -32,18 +32,14 @@ pub struct PlacedPairs<'a> {
     pub parents: Places<'a>,
 }
 
-/// The places of some pairs, the first ones in a hash or a tree that has no name yet.
-pub fn places_of<'a>(
-    alloc: Global,
-    pairs: &'a [Pair],
-    mut first: FirstPlaces<'a>,
-) -> Result<Places<'a>, OutOfMemory>
-    requires none { HasNone first }
+/// The places of some pairs.
+pub fn places_of<'a>(alloc: Global, pairs: &'a [Pair]) -> Result<Places<'a>, OutOfMemory>
     // The places are of these pairs.
     ensures pairs { IfOk result (λ places. places.pairs.now ≡ pairs.entry.now) }
     // Each name has its first place, and each place the next of its name.
     ensures indexed { IfOk result IsPlaced }
 {
+    let mut first = IndexMap::new(alloc);
     let mut next = Vec::new(alloc);
     let mut place = pairs.len();
     while place > 0 {
@@ -61,7 +57,7 @@ pub fn unalias_at<'a>(aliases: &Places<'a>, kind: &'a [u8]) -> &'a [u8]
     // It is the type after one alias step.
     ensures { result.now ≡ resolved (plain_pairs aliases.now.pairs.now) kind.entry.now }
 {
-    match aliases.first.get(kind) {
+    match aliases.first.get(kind).copied() {
         Some(place) => target_at(aliases.pairs, place),
         None => kind,
     }
@@ -91,7 +87,7 @@ pub fn push_parents<'a>(
 {
     let parents = &both.parents;
     let pairs = parents.pairs;
-    let mut place = parents.first.get(kind);
+    let mut place = parents.first.get(kind).copied();
     while let Some(here) = place {
         let pair = &pairs[here];
         queue.push_back(unalias_at(&both.aliases, pair.target.bytes()))?;

@@ -2,6 +2,8 @@
 use Rattle.std.specs.Prelude.{◌≡◌, ℕ, ◌+◌, ◌*◌, ◌/◌, Bool, true, false, List, Option, Some, None, IfSome, length, nat_le}
 use Rattle.mime_lookup.specs.declared.order.Order.TheVariants.{ContentOnly}
 use Rattle.mime_tool.specs.LineSteps.{bytes_in}
+use Rattle.mime_tool.specs.declared.learning.payments.Due.{Due}
+use Rattle.mime_tool.specs.declared.learning.payments.Due.TheVariants as due
 use Rattle.mime_tool.specs.declared.learning.payments.Part.{Part}
 use Rattle.mime_tool.specs.declared.learning.payments.Part.TheVariants.{Globs, Magic}
 use Rattle.mime_tool.specs.declared.learning.payments.Payments.{Payments}
@@ -21,6 +23,8 @@ IsOwed part cache owed = IfSome owed (λ it. it ≡ record { paid = 0; cost = pr
 
 -- What is to be learnt for a lookup, of which nothing is paid yet.
 pub record AreOwed (lookup : Lookup) (payments : Payments) : Type 0 where
+  -- An index is made once something was compared.
+  pub index : IfSome payments.index (λ it. it ≡ record { paid = 0; cost = 1 })
   -- The glob list costs so much.
   pub globs : IsOwed Globs (bytes_in lookup.by) payments.globs
   -- So does the magic list.
@@ -37,10 +41,11 @@ is_due None = false
 
 -- nothing is paid
 abbrev pub IsUnpaid : Payments → Type 0
-IsUnpaid payments = (is_due payments.globs ≡ false) × (is_due payments.magic ≡ false)
+IsUnpaid payments = (is_due payments.index ≡ false) × (is_due payments.globs ≡ false) × (is_due payments.magic ≡ false)
 
--- a part that is paid is taken, and is never due again; there is none only where none is paid
-abbrev pub TakesDue : Payments → Payments → Option Part → Type 0
-TakesDue old new (Some Globs) = (is_due old.globs ≡ true) × (new ≡ record old { globs = None })
-TakesDue old new (Some Magic) = (is_due old.magic ≡ true) × (new ≡ record old { magic = None })
+-- what is paid is taken, and is never due again; there is nothing only where nothing is paid
+abbrev pub TakesDue : Payments → Payments → Option Due → Type 0
+TakesDue old new (Some due.Index) = (is_due old.index ≡ true) × (new ≡ record old { index = None })
+TakesDue old new (Some (due.List Globs)) = (is_due old.globs ≡ true) × (new ≡ record old { globs = None })
+TakesDue old new (Some (due.List Magic)) = (is_due old.magic ≡ true) × (new ≡ record old { magic = None })
 TakesDue old new None = (new ≡ old) × IsUnpaid old

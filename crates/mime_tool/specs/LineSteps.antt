@@ -24,6 +24,7 @@ use Rattle.mime_tool.specs.declared.stop.Stop.TheVariants as stop
 -- how FILEs are looked up in this data
 abbrev pub lookup_in : Data → Lookup → PlainLookup
 lookup_in (data_of.Database database) lookup = lookup_over lookup.name_only lookup.output lookup.order (plain_database database.now)
+lookup_in (data_of.Indexed index) lookup = lookup_over lookup.name_only lookup.output lookup.order (plain_database index.now)
 lookup_in (data_of.Cache path bytes cost) lookup = lookup_by path.now lookup.name_only cost lookup.output lookup.order bytes.now
 lookup_in (data_of.Learnt path heads cost) lookup = lookup_by path.now lookup.name_only cost lookup.output lookup.order heads.now
 
@@ -32,21 +33,24 @@ pub data Source : Type 0 where
   whole : Database → Source
   cached : List ℕ → List ℕ → Bool → Source
 
--- of data, whether something was learnt of it or not
+-- of data, whether something was learnt of it, or its index was made, or not
 abbrev pub source_of : Data → Source
 source_of (data_of.Database database) = whole database.now
+source_of (data_of.Indexed index) = whole index.now
 source_of (data_of.Cache path bytes cost) = cached path.now bytes.now cost
 source_of (data_of.Learnt path heads cost) = cached path.now heads.now cost
 
 -- the bytes of the cache in which FILEs are looked up
 abbrev pub bytes_in : Data → List ℕ
 bytes_in (data_of.Database database) = []
+bytes_in (data_of.Indexed index) = []
 bytes_in (data_of.Cache path bytes cost) = bytes.now
 bytes_in (data_of.Learnt path heads cost) = heads.now
 
--- what was learnt is of the cache in which FILEs are looked up
-abbrev pub IsOfCache : Learning → Type 0
-IsOfCache learning = IfSome learning.heads (λ heads. heads ≡ bytes_in learning.lookup.by)
+-- What was learnt is of the cache in which FILEs are looked up, and the index is of the database.
+pub record IsOfSource (learning : Learning) : Type 0 where
+  pub cache : IfSome learning.heads (λ heads. heads ≡ bytes_in learning.lookup.by)
+  pub database : IfSome learning.index (λ index. whole index ≡ source_of learning.lookup.by)
 
 -- Two lookups that are the same but for what was learnt.
 pub record LooksAlike (a b : Lookup) : Type 0 where

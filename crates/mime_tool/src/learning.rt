@@ -1,4 +1,6 @@
-//! What is learnt of a cache in a run that looks up many FILEs.
+//! What is learnt of a cache or a database in a run that looks up many FILEs.
+//!
+//! The index of a database is made once an answer has compared something: so never for one FILE alone, nor for what is refused.
 //!
 //! The glob list makes lookups of names quicker, and the magic list those of contents. Each is learnt once the answers of the run
 //! have visited as many records as learning it may visit: the glob list by all answers, and the magic list by those whose content
@@ -8,15 +10,16 @@
 
 ghost use Rattle.std.specs.Prelude.{◌≡◌, ◌+◌, ◌≤◌, IfSome};
 ghost use Rattle.mime_tool.specs.Learning.{IsUnpaid, price};
-ghost use Rattle.mime_tool.specs.LineSteps.{IsOfCache, LooksAlike, bytes_in, source_of};
+ghost use Rattle.mime_tool.specs.LineSteps.{IsOfSource, LooksAlike, bytes_in, source_of, whole};
 
 mod payments;
 
 use crate::line::{Data, Lookup};
-use mime_base::{Counted, Meter};
+use mime_base::{Counted, Database, Meter};
+use mime_lookup::IndexedDatabase;
 use mime_view::{Cache, MagicHeads};
-use payments::Part;
 pub(crate) use payments::Payments;
+use payments::{Due, Part};
 use std::alloc::Global;
 
 /// How the FILEs of a run are looked up, with what was learnt meanwhile.
@@ -24,6 +27,7 @@ use std::alloc::Global;
 pub(crate) struct Learning<'i, 'a> {
     lookup: Lookup<'i, 'a>,
     heads: Option<MagicHeads<'a>>,
+    index: Option<IndexedDatabase<'a>>,
 }
 
 impl<'i, 'a> Learning<'i, 'a> {
@@ -31,11 +35,12 @@ impl<'i, 'a> Learning<'i, 'a> {
     pub(crate) fn new(lookup: Lookup<'i, 'a>) -> Learning<'i, 'a>
         // FILEs are looked up so.
         ensures lookup { result.lookup ≡ lookup.entry }
-        ensures learnt { IsOfCache result }
+        ensures learnt { IsOfSource result }
     {
         Learning {
             lookup,
             heads: None,
+            index: None,
         }
     }
 
@@ -43,25 +48,53 @@ impl<'i, 'a> Learning<'i, 'a> {
     // Always inlined: before most FILEs nothing is.
     #[inline(always)]
     pub(crate) fn learn_due(&mut self, alloc: Global, payments: &mut Payments)
-        requires { IsOfCache self.old }
+        requires { IsOfSource self.old }
         // FILEs are looked up as before.
         ensures lookup { self.new.lookup ≡ self.old.lookup }
-        ensures learnt { IsOfCache self.new }
+        ensures learnt { IsOfSource self.new }
         // Nothing is learnt that isn't paid.
-        ensures unpaid { IsUnpaid payments.old → self.new.heads ≡ self.old.heads }
+        ensures unpaid { IsUnpaid payments.old → (self.new.heads ≡ self.old.heads) × (self.new.index ≡ self.old.index) }
     {
-        if let Some(part) = payments.take_due() {
-            self.learn_part(alloc, part);
+        if let Some(due) = payments.take_due() {
+            self.learn(alloc, due);
         }
     }
 
-    // Learns this. Where that can't be done, what was learnt before stays.
+    // Learns what is due.
     // Never inlined: a run comes here twice at most.
     #[inline(never)]
-    fn learn_part(&mut self, alloc: Global, part: Part)
-        requires { IsOfCache self.old }
+    fn learn(&mut self, alloc: Global, due: Due)
+        requires { IsOfSource self.old }
         ensures lookup { self.new.lookup ≡ self.old.lookup }
-        ensures learnt { IsOfCache self.new }
+        ensures learnt { IsOfSource self.new }
+    {
+        match due {
+            Due::List(part) => self.learn_part(alloc, part),
+            Due::Index => {
+                if let Data::Database(database) = self.lookup.by {
+                    self.index_over(alloc, database);
+                }
+            }
+        }
+    }
+
+    // Makes the index of the database in which FILEs are looked up, if there is memory for it.
+    fn index_over(&mut self, alloc: Global, database: &'a Database)
+        requires learnt { IsOfSource self.old }
+        requires database { whole database.now ≡ source_of self.old.lookup.by }
+        ensures lookup { self.new.lookup ≡ self.old.lookup }
+        ensures learnt { IsOfSource self.new }
+    {
+        if let Ok(index) = IndexedDatabase::new(alloc, database) {
+            self.index = Some(index);
+        }
+    }
+
+    // Learns this list of a cache. Where that can't be done, what was learnt before stays.
+    fn learn_part(&mut self, alloc: Global, part: Part)
+        requires { IsOfSource self.old }
+        ensures lookup { self.new.lookup ≡ self.old.lookup }
+        ensures learnt { IsOfSource self.new }
     {
         let mut meter = Meter::new();
         let Some(learnt) = learn(alloc, self.lookup.by, part, &mut meter) else {
@@ -73,7 +106,7 @@ impl<'i, 'a> Learning<'i, 'a> {
 
     /// How a FILE is looked up.
     pub(crate) fn lookup(&self) -> Lookup<'_, 'a>
-        requires { IsOfCache self.now }
+        requires { IsOfSource self.now }
         // As without what was learnt.
         ensures { LooksAlike result self.now.lookup }
     {
@@ -85,7 +118,7 @@ impl<'i, 'a> Learning<'i, 'a> {
             output,
         } = self.lookup;
         Lookup {
-            by: data_with(by, self.heads.as_ref()),
+            by: data_with(by, self.heads.as_ref(), self.index.as_ref()),
             name_only,
             inode,
             order,
@@ -136,16 +169,25 @@ fn joined<'a>(part: Part, learnt: MagicHeads<'a>, known: Option<MagicHeads<'a>>)
 }
 
 /// The data with what was learnt of it.
-fn data_with<'i, 'a>(by: Data<'i, 'a>, heads: Option<&'i MagicHeads<'a>>) -> Data<'i, 'a>
-    requires { IfSome heads (λ it. it.now ≡ bytes_in by) }
+fn data_with<'i, 'a>(
+    by: Data<'i, 'a>,
+    heads: Option<&'i MagicHeads<'a>>,
+    index: Option<&'i IndexedDatabase<'a>>,
+) -> Data<'i, 'a>
+    requires heads { IfSome heads (λ it. it.now ≡ bytes_in by) }
+    requires index { IfSome index (λ it. whole it.now ≡ source_of by) }
     // It is looked up in as without.
     ensures { source_of result ≡ source_of by.entry }
 {
-    match heads {
-        Some(heads) => match by {
-            Data::Cache { path, cost, .. } => Data::Learnt { path, heads, cost },
-            Data::Database(_) | Data::Learnt { .. } => by,
+    match by {
+        Data::Database(_) => match index {
+            Some(index) => Data::Indexed(index),
+            None => by,
         },
-        None => by,
+        Data::Cache { path, cost, .. } => match heads {
+            Some(heads) => Data::Learnt { path, heads, cost },
+            None => by,
+        },
+        Data::Indexed(_) | Data::Learnt { .. } => by,
     }
 }

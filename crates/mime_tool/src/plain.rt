@@ -16,7 +16,7 @@ use crate::stop::Stop;
 use crate::subjects::print_subjects;
 use crate::words::RawWord;
 use mime_base::Database;
-use mime_lookup::{Content, IndexedDatabase};
+use mime_lookup::Content;
 use mime_request::{Directories, Options, Subjects};
 
 /// Prints a line `FILE: TYPE` for each name that is looked up, by the data of the directories, and gives the status.
@@ -40,7 +40,7 @@ pub(crate) fn print_types<D: Desk, I: Content + Drop>(
     print_over(desk, &database, options, subjects, raws, input)
 }
 
-// Prints the lines over a database, of which the index is made once, for however many names there are.
+// Prints the lines over a database.
 fn print_over<D: Desk, I: Content + Drop>(
     desk: &mut D,
     database: &Database,
@@ -54,9 +54,8 @@ fn print_over<D: Desk, I: Content + Drop>(
         (names_in (named_subjects raws.now (plain_subjects subjects.now)) (D.state desk.old).stored
         (given_by (I.remaining input) (I.health input)))) (D.state desk.old) (D.state desk.new) result }
 {
-    let index = IndexedDatabase::new(desk.alloc(), database)?;
     let lookup = Lookup {
-        by: Data::Database(&index),
+        by: Data::Database(database),
         name_only: options.name_only,
         inode: options.inode,
         order: asked_order(options),

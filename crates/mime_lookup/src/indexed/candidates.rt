@@ -11,13 +11,13 @@ use crate::candidates::by_rank;
 use crate::indexed::IndexedDatabase;
 use crate::indexed::endings::endings_of;
 use crate::indexed::rule_key::RuleKey;
-use crate::indexed::unrefused::{next_unrefused, runs_of};
+use crate::indexed::unrefused::{has_long_run, next_unrefused, runs_of};
 use crate::places::unalias_at;
 use mime_base::{GlobRule, Meter, OutOfMemory, glob_matches};
 use std::alloc::Global;
 
 /// All rules that match, by falling rank; those of one rank in their order.
-// As `crate::candidates::candidate_rules`, but a rule whose key refuses the name is skipped.
+// As `crate::candidates::candidate_rules`, but a rule whose key refuses the name is skipped, unless most rules have one key.
 fn candidate_rules<'a>(
     alloc: Global,
     rules: &'a [GlobRule],
@@ -31,6 +31,9 @@ fn candidate_rules<'a>(
 {
     let endings = endings_of(name);
     let mut runs = runs_of(keys, &endings, meter);
+    if has_long_run(keys, &endings, &runs, meter) {
+        return crate::candidates::candidate_rules(alloc, rules, name, meter);
+    }
     let mut found = Vec::new(alloc);
     let mut place = next_unrefused(keys, &endings, &mut runs, 0, meter);
     while place < rules.len() {

@@ -10,13 +10,13 @@ ghost use Rattle.mime_lookup.specs.Endings.{AreKeys};
 use crate::indexed::IndexedDatabase;
 use crate::indexed::endings::endings_of;
 use crate::indexed::rule_key::RuleKey;
-use crate::indexed::unrefused::{next_unrefused, runs_of};
+use crate::indexed::unrefused::{has_long_run, next_unrefused, runs_of};
 use crate::places::unalias_at;
 use mime_base::{Best, GlobRule, Meter, OutOfMemory, glob_matches, rank_of_rule};
 use std::alloc::Global;
 
 /// The rules that are kept of those that match, in their order.
-// As `crate::kept::kept_rules`, but a rule whose key refuses the name is skipped.
+// As `crate::kept::kept_rules`, but a rule whose key refuses the name is skipped, unless most rules have one key.
 fn kept_rules<'a>(
     alloc: Global,
     rules: &'a [GlobRule],
@@ -30,6 +30,9 @@ fn kept_rules<'a>(
 {
     let endings = endings_of(name);
     let mut runs = runs_of(keys, &endings, meter);
+    if has_long_run(keys, &endings, &runs, meter) {
+        return crate::kept::kept_rules(alloc, rules, name, meter);
+    }
     let mut best = Best::new(alloc);
     let mut place = next_unrefused(keys, &endings, &mut runs, 0, meter);
     while place < rules.len() {

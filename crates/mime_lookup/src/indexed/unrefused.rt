@@ -66,6 +66,23 @@ fn first_not_less(keys: &[RuleKey], ending: u64, meter: &mut Meter) -> usize
     low
 }
 
+/// Whether one of the runs has more than half of all keys: then it is quicker to go through the rules themselves.
+pub fn has_long_run(keys: &[RuleKey], endings: &Endings, runs: &Runs, meter: &mut Meter) -> bool
+    // No record of a cache is visited.
+    ensures nodes { meter.new.nodes ≡ meter.old.nodes }
+{
+    meter.add_bytes(endings.len() as u64);
+    let half = keys.len() / 2;
+    for size in 0..5 {
+        if let Some(key) = keys.get(runs[size].at.saturating_add(half)) {
+            if key.ending == endings[size] {
+                return true;
+            }
+        }
+    }
+    false
+}
+
 /// The first place from `from` on of a rule that the endings don't refuse, else the number of keys.
 pub fn next_unrefused(
     keys: &[RuleKey],

@@ -2,6 +2,7 @@
 
 ghost use Rattle.std.specs.Prelude.{◌≡◌};
 ghost use Rattle.mime_tool.specs.Learning.{AreOwed, IsOwed, TakesDue, is_due};
+ghost use Rattle.mime_tool.specs.LineSteps.{bytes_in};
 
 use crate::line::{Data, Lookup, Outcome};
 use crate::prepaid::Prepaid;
@@ -16,24 +17,48 @@ pub(crate) enum Part {
     Magic,
 }
 
-/// What was paid for each part that is still to be learnt.
+/// What is made or learnt now.
+#[derive(Clone, Copy)]
+pub(crate) enum Due {
+    /// The index of a database.
+    Index,
+    /// A list of a cache.
+    List(Part),
+}
+
+/// What was paid for each of what is still to be made or learnt.
 #[derive(Clone, Copy)]
 pub(crate) struct Payments {
+    index: Option<Prepaid>,
     globs: Option<Prepaid>,
     magic: Option<Prepaid>,
 }
 
 impl Payments {
-    /// Nothing is paid yet. Nothing is learnt of a database, nor what no FILE is asked for.
+    /// Nothing is paid yet. Of a database there is the index, and of a cache what FILEs are asked for.
     pub(crate) fn new(lookup: Lookup<'_, '_>) -> Payments
         ensures { AreOwed lookup.entry result }
     {
-        let Data::Cache { bytes, .. } = lookup.by else {
-            return Payments {
+        match lookup.by {
+            Data::Cache { bytes, .. } => Payments::for_lists(lookup, bytes),
+            Data::Database(_) => Payments {
+                index: Some(Prepaid::new(1)),
                 globs: None,
                 magic: None,
-            };
-        };
+            },
+            Data::Indexed(_) | Data::Learnt { .. } => Payments {
+                index: None,
+                globs: None,
+                magic: None,
+            },
+        }
+    }
+
+    // What is owed for the lists of a cache of these bytes.
+    fn for_lists(lookup: Lookup<'_, '_>, bytes: &[u8]) -> Payments
+        requires { bytes.now ≡ bytes_in lookup.by }
+        ensures { AreOwed lookup.entry result }
+    {
         let globs = match lookup.order {
             Order::ContentOnly => None,
             Order::GlobsFirst | Order::MagicFirst | Order::AllGlobs => owed_for_globs(bytes),
@@ -43,15 +68,23 @@ impl Payments {
         } else {
             owed_for_magic(bytes)
         };
-        Payments { globs, magic }
+        Payments {
+            index: None,
+            globs,
+            magic,
+        }
     }
 
-    /// Counts what a FILE visited: its name pays for the glob list, and for the magic list too if its content was asked for bytes.
+    /// Counts what a FILE visited: its name pays for the glob list, and for the magic list too if its content was asked for bytes. What
+    /// was compared pays for an index.
     #[inline]
     pub(crate) fn count(&mut self, outcome: &Outcome<'_>, asked: bool) {
         let Outcome::Typed(_, cost) = outcome else {
             return;
         };
+        if let Some(index) = &mut self.index {
+            index.pay(cost.meter.bytes);
+        }
         if let Some(globs) = &mut self.globs {
             globs.pay(cost.meter.nodes);
         }
@@ -62,19 +95,23 @@ impl Payments {
         }
     }
 
-    /// The next part that is paid, which is never due again.
+    /// The next of what is paid, which is never due again.
     // Always inlined: before most FILEs there is none.
     #[inline(always)]
-    pub(super) fn take_due(&mut self) -> Option<Part>
+    pub(super) fn take_due(&mut self) -> Option<Due>
         ensures { TakesDue self.old self.new result }
     {
+        if is_due(self.index) {
+            self.index = None;
+            return Some(Due::Index);
+        }
         if is_due(self.globs) {
             self.globs = None;
-            return Some(Part::Globs);
+            return Some(Due::List(Part::Globs));
         }
         if is_due(self.magic) {
             self.magic = None;
-            return Some(Part::Magic);
+            return Some(Due::List(Part::Magic));
         }
         None
     }

@@ -1,4 +1,4 @@
-//! How a FILE is looked up: by the index of a database, or by the bytes of a cache.
+//! How a FILE is looked up: in a database, by its index, or by the bytes of a cache.
 
 ghost use Rattle.std.specs.Prelude.{◌≡◌, Bool};
 ghost use Rattle.mime_base.specs.Database.{plain_database};
@@ -12,8 +12,10 @@ use super::learnt::find_in_learnt;
 use super::{Outcome, base_name};
 use crate::cache::faulty;
 use crate::stop::Stop;
-use mime_base::{Counted, Host, Meter};
-use mime_lookup::{Cause, Content, IndexedDatabase, Order, look_up, look_up_indexed};
+use mime_base::{Counted, Database, Host, Meter};
+use mime_lookup::{
+    Cause, Content, IndexedDatabase, Order, look_up, look_up_indexed, look_up_plain,
+};
 use mime_request::{Options, Output};
 use mime_view::MagicHeads;
 use std::alloc::Global;
@@ -21,7 +23,9 @@ use std::alloc::Global;
 /// What FILEs are looked up in.
 #[derive(Clone, Copy)]
 pub(crate) enum Data<'i, 'a> {
-    Database(&'i IndexedDatabase<'a>),
+    Database(&'a Database),
+    /// A database of which the index was made.
+    Indexed(&'i IndexedDatabase<'a>),
     Cache {
         path: &'a str,
         bytes: &'a [u8],
@@ -91,7 +95,8 @@ pub(crate) fn find<'i, R: Content + Drop>(
         output: _,
     } = lookup;
     match by {
-        Data::Database(index) => find_in_database(alloc, index, order, file, content),
+        Data::Database(database) => find_in_database(alloc, database, order, file, content),
+        Data::Indexed(index) => find_in_index(alloc, index, order, file, content),
         Data::Cache { path, bytes, cost } => {
             find_in_cache(alloc, path, bytes, cost, order, file, content)
         }
@@ -102,6 +107,28 @@ pub(crate) fn find<'i, R: Content + Drop>(
 }
 
 fn find_in_database<'a, R: Content + Drop>(
+    alloc: Global,
+    database: &'a Database,
+    order: Order,
+    file: &[u8],
+    content: &mut Option<R>,
+) -> Result<Outcome<'a>, Stop>
+    ensures { (stored : Stored) (name_only : Bool) (output : Output) → IsContent R.remaining R.health name_only stored content.old
+        → LooksUp (lookup_over name_only output order (plain_database database.entry.now)) stored file.now result }
+{
+    let name = name_for(order, file);
+    match look_up_plain(alloc, database, name, content, Host::Little, order) {
+        Ok(answer) => Ok(Outcome::Typed(answer.kind, cost_of(false, answer.meter, answer.read))),
+        Err(stopped) => match stopped.cause {
+            Cause::NameTooLong => Ok(Outcome::NameTooLong),
+            Cause::Read => Ok(Outcome::CannotRead),
+            Cause::OutOfMemory => Err(Stop::OutOfMemory),
+            Cause::Cache(_) => unreachable!(),
+        },
+    }
+}
+
+fn find_in_index<'a, R: Content + Drop>(
     alloc: Global,
     index: &IndexedDatabase<'a>,
     order: Order,
@@ -153,7 +180,7 @@ pub(super) fn free(lookup: Lookup<'_, '_>) -> Cost
     ensures { tail_of result ≡ (plain_lookup lookup.entry).free }
 {
     match lookup.by {
-        Data::Database(_) => cost_of(false, Meter { nodes: 0, bytes: 0 }, 0),
+        Data::Database(_) | Data::Indexed(_) => cost_of(false, Meter { nodes: 0, bytes: 0 }, 0),
         Data::Cache { cost, .. } => cost_of(cost, Meter { nodes: 0, bytes: 0 }, 0),
         Data::Learnt { cost, .. } => cost_of(cost, Meter { nodes: 0, bytes: 0 }, 0),
     }

@@ -104,6 +104,9 @@ fn sniff_open<'a>(
     Ok(None)
 }
 
+/// How many sections are looked at after two in a row of which a line may hold.
+const RUN: u32 = 8;
+
 /// A section that is looked at, and its first lines that needn't be.
 #[derive(Clone, Copy)]
 struct OpenSection {
@@ -143,7 +146,11 @@ fn skip_refused(
         return whole(i);
     }
     let found = next_open(query, list, learnt, i);
-    *next = found.section;
+    *next = if found.section == i && i == *next {
+        i.saturating_add(1 + RUN)
+    } else {
+        found.section.saturating_add(1)
+    };
     let section = skip_sections(learnt, &query.content, i, found, spending);
     if section != found.section {
         return whole(section);

@@ -1,5 +1,6 @@
 use Rattle.std.proofs.Common.{◌≡◌, ◌+◌, ◌-◌, ◌<◌, ◌∙◌, length, Some, refl, ap, subst, arith, bytes_eq}
-use Rattle.std.specs.Map.{update}
+use Rattle.std.specs.Map.{lookup, update}
+use Rattle.std.proofs.lemmas.Map.Text.{hash_map_updates_str}
 use Rattle.mime_lookup.specs.Places.{IsIndexed, place_in}
 use Rattle.mime_lookup.proofs.AncestryLemmas.Places.{indexed-more, indexed-none}
 use Rattle.mime_lookup.proofs.places.places_of.Goals as goal
@@ -9,7 +10,8 @@ loop-place-init c = record {
   within = omega arith;
   so_far =
       rw c.new-next.ensures.items
-      (indexed-none c.args.pairs.now (length c.args.pairs.now) (place_in c.args.first) refl c.requires.none);
+      (indexed-none c.args.pairs.now (length c.args.pairs.now) (place_in c.new-first.result) refl
+      (λ name. ap (lookup (λ key. bytes_eq name key.now)) c.new-first.ensures.empty));
 }
 
 pub loop-place-preserved : goal.loop-place-preserved
@@ -27,7 +29,7 @@ loop-place-preserved c =
           (indexed-more pairs low pair within c.index-pairs-place.is before (place_in c.insert.new.self) c.loop-place.next.items
           c.in_ok-later.later (subst (λ n. IsIndexed pairs n before c.loop-place.next.items) here c.loop-place.invariant.so_far)
           (λ name.
-          c.in_ok-later.ensures.updates name
+          hash_map_updates_str c.bytes.result.now c.loop-place.first c.insert.new.self _ c.in_ok-later.ensures.updates name
           ∙ ap (λ bytes. update bytes_eq before bytes (Some low) name) c.bytes.ensures.text)
           (c.in_ok-later.ensures.old ∙ ap before c.bytes.ensures.text));
     }

@@ -9,8 +9,8 @@ use Rattle.mime_lookup.proofs.places.push_parents.Goals as goal
 pub loop-place-init : goal.loop-place-init
 loop-place-init c =
     walked-first c.args.both.now.parents.pairs.now (resolved (plain_pairs c.args.both.now.aliases.pairs.now)) c.args.kind.now
-    c.args.queue.now c.get-place.result
-    (subst (IsNext c.args.both.now.parents.pairs.now c.args.kind.now 0) (sym c.get-place.ensures)
+    c.args.queue.now c.copied-place.result
+    (subst (IsNext c.args.both.now.parents.pairs.now c.args.kind.now 0) (sym (c.copied-place.ensures ∙ c.get.ensures.value))
     (c.requires.placed.parents.firsts c.args.kind.now))
 
 pub bounds-pairs-here : goal.bounds-pairs-here

@@ -2,7 +2,7 @@ use Rattle.std.proofs.Common.{◌≡◌, Ok, take}
 use Rattle.clap.specs.Walk.{texts}
 use Rattle.mime_tool.specs.Desk.{Ends, Works}
 use Rattle.mime_tool.specs.Line.{IsTypeLine}
-use Rattle.mime_tool.specs.LineSteps.{IsOfCache, plain_lookup}
+use Rattle.mime_tool.specs.LineSteps.{IsOfSource, plain_lookup}
 use Rattle.mime_tool.specs.Run.{IsEach}
 use Rattle.mime_tool.specs.Words.{names_of}
 use Rattle.mime_tool.proofs.line.print_lines.Given as goal
@@ -12,5 +12,5 @@ invariant-loop-file g l = record {
   works : Works (Ends (IsEach (IsTypeLine (plain_lookup l.lookup) (g.D.Desk.state l.initial.desk).stored)) (names_of l.raws (texts (take l.file-index l.files))))
       (g.D.Desk.state l.initial.desk) (g.D.Desk.state l.desk) (Ok l.status);
   known : l.learning.lookup ≡ l.lookup;
-  learnt : IsOfCache l.learning;
+  learnt : IsOfSource l.learning;
 }

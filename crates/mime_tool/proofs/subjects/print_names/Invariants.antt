@@ -1,7 +1,7 @@
 use Rattle.std.proofs.Common.{◌≡◌, ℕ, Result}
 use Rattle.mime_tool.specs.Finish.{Sinks}
 use Rattle.mime_tool.specs.Line.{IsTypeLine}
-use Rattle.mime_tool.specs.LineSteps.{IsOfCache, plain_lookup}
+use Rattle.mime_tool.specs.LineSteps.{IsOfSource, plain_lookup}
 use Rattle.mime_tool.specs.Names.{left_in}
 use Rattle.mime_tool.specs.declared.stop.Stop.{Stop}
 use Rattle.mime_tool.proofs.AnswerLemmas.ListedNames.{EndsListed}
@@ -14,7 +14,7 @@ invariant-loop-number g l =
     let IsOne = IsTypeLine (plain_lookup l.lookup) (g.D.Desk.state l.initial.desk).stored in
     record {
       known : l.learning.lookup ≡ l.lookup;
-      learnt : IsOfCache l.learning;
+      learnt : IsOfSource l.learning;
       same_files : (g.D.Desk.state l.desk).stored ≡ (g.D.Desk.state l.initial.desk).stored;
       same_setting : (g.D.Desk.state l.desk).setting ≡ (g.D.Desk.state l.initial.desk).setting;
       rest : (r : Result ℕ Stop) (after : Sinks)

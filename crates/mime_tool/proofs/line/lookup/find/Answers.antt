@@ -7,8 +7,14 @@ use Rattle.mime_tool.proofs.line.lookup.find.Goals as goal
 pub returns-in-Database : goal.returns-in-Database
 returns-in-Database g c = λ stored has.
     let l = c.args.lookup in
-    rw c.in-Database.is (same_lookup l.inode (lookup_over l.name_only l.output l.order (plain_database c.in-Database.index.now))
+    rw c.in-Database.is (same_lookup l.inode (lookup_over l.name_only l.output l.order (plain_database c.in-Database.database.now))
     c.args.file.now stored _ (c.find_in_database.ensures stored l.name_only l.output has))
+
+pub returns-in-Indexed : goal.returns-in-Indexed
+returns-in-Indexed g c = λ stored has.
+    let l = c.args.lookup in
+    rw c.in-Indexed.is (same_lookup l.inode (lookup_over l.name_only l.output l.order (plain_database c.in-Indexed.index.now))
+    c.args.file.now stored _ (c.find_in_index.ensures stored l.name_only l.output has))
 
 pub returns-in-Cache : goal.returns-in-Cache
 returns-in-Cache g c = λ stored has.
