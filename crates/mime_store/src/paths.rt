@@ -1,15 +1,14 @@
 //! The paths of endings.
 //!
-//! The first eight bytes lie ready as one number, and where two of these numbers differ, their order is that of the paths. Most paths
-//! have no more; the others have what follows in a copy, from the last byte of the pattern to the first, so that the library
-//! compares it.
+//! A path is copied from the last byte of the pattern to the first: its first eight bytes into the ending itself, where they are
+//! compared as one number, and those after them, which most paths don't have, into a vector, which the library compares.
 
 ghost use Rattle.std.specs.Prelude.{◌≡◌, ◌<◌, ℕ, true, drop, length, slice_index, IfOk};
 ghost use Rattle.std.specs.Cmp.Lexicographic.{slice_cmp};
 ghost use Rattle.std.specs.Ordering.{nat_cmp};
 ghost use Rattle.mime_base.specs.Format.Stored.{reversed_ending};
 ghost use Rattle.mime_base.specs.Names.{is_pattern};
-ghost use Rattle.mime_store.specs.Fronts.{front, start_number};
+ghost use Rattle.mime_store.specs.Fronts.{front};
 ghost use Rattle.mime_store.specs.SuffixTree.{ending_path, ending_rule};
 
 use crate::ending::Ending;
@@ -19,7 +18,7 @@ use mime_base::{GlobRule, OutOfMemory, as_compared};
 use std::alloc::Global;
 use std::cmp::Ordering;
 
-/// How many bytes of a path lie ready as a number.
+/// How many bytes of a path are held in the ending itself.
 const FRONT: usize = 8;
 
 impl<'a> Ending<'a> {
@@ -53,7 +52,7 @@ impl<'a> Ending<'a> {
         ensures { result ≡ slice_index (ending_path self.now) depth }
     {
         if depth < FRONT {
-            path_byte(self.rule, depth)
+            self.start[depth]
         } else {
             self.rest[depth - FRONT]
         }
@@ -65,8 +64,10 @@ impl<'a> Ending<'a> {
         // It is the order of the paths, byte by byte.
         ensures { result ≡ slice_cmp nat_cmp (ending_path self.now) (ending_path other.now) }
     {
-        if self.start != other.start {
-            return self.start.cmp(&other.start);
+        let start = BigEndian::read_u64(&self.start);
+        let others = BigEndian::read_u64(&other.start);
+        if start != others {
+            return start.cmp(&others);
         }
         self.rest.as_slice().cmp(&other.rest.as_slice())
     }
@@ -93,9 +94,9 @@ fn path_byte(rule: &GlobRule, depth: usize) -> u8
     as_compared(rule.cased, pattern[pattern.len() - 1 - depth])
 }
 
-/// The first eight bytes of a rule's path as a number, with zeros for those that it lacks.
-fn start_of(rule: &GlobRule) -> u64
-    ensures start { result ≡ start_number (reversed_ending rule.now) }
+/// The first eight bytes of a rule's path, with zeros for those that it lacks.
+fn start_of(rule: &GlobRule) -> [u8; FRONT]
+    ensures start { result ≡ front 8 (reversed_ending rule.now) }
     ensures limits { is_pattern rule.now.pattern ≡ true }
     ensures bytes { (k : ℕ) → slice_index (front 8 (reversed_ending rule.now)) k < 256 }
 {
@@ -104,7 +105,7 @@ fn start_of(rule: &GlobRule) -> u64
     for depth in 0..room {
         bytes[depth] = path_byte(rule, depth);
     }
-    BigEndian::read_u64(&bytes)
+    bytes
 }
 
 /// A copy of the bytes of a rule's path after its first eight.

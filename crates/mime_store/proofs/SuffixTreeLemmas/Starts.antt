@@ -4,8 +4,8 @@ use Rattle.std.proofs.Common.{arith}
 use Rattle.std.specs.Ordering.{nat_cmp, ordering_then}
 use Rattle.std.specs.Cmp.Lexicographic.{slice_cmp}
 use Rattle.std.proofs.lemmas.List.{drop_all}
-use Rattle.byteorder.specs.Endian.{big_from}
-use Rattle.mime_store.specs.Fronts.{front, start_number}
+use Rattle.byteorder.specs.Endian.{big_from, big_number}
+use Rattle.mime_store.specs.Fronts.{front}
 use Rattle.mime_store.specs.Texts.{NoZero}
 use Rattle.mime_store.proofs.BytesLemmas.Orders.{greater, less, ordered, then_assoc, then_equal}
 
@@ -26,10 +26,12 @@ front-is (suc n) (x ∷ bytes) [] long each =
 front-is (suc n) (x ∷ bytes) (b ∷ path) long each =
     ap₂ ◌∷◌ (each 0 (omega arith)) (front-is n bytes path (omega arith) (λ k below. each (suc k) (omega arith)))
 
--- the number of bytes that are the first ones of a path
-pub start-is : (bytes path : List ℕ) → bytes ≡ front 8 path → big_from 0 8 bytes ≡ start_number path
-unfolding start_number
-start-is bytes path is = ap (big_from 0 8) is
+-- a byte that both have
+pub front-at : (n : ℕ) (path : List ℕ) (k : ℕ) → k < n → k < length path → get_or (front n path) k 0 ≡ get_or path k 0
+front-at zero path k below inside = absurd (omega arith)
+front-at (suc n) [] k below inside = absurd (omega arith)
+front-at (suc n) (b ∷ path) zero below inside = refl
+front-at (suc n) (b ∷ path) (suc k) below inside = front-at n path k (omega arith) (omega arith)
 
 -- the first n bytes of two paths decide, and else those after them
 front-order : (n : ℕ) (xs ys : List ℕ) → NoZero xs → NoZero ys
@@ -45,10 +47,9 @@ front-order (suc n) (x ∷ xs) (y ∷ ys) some some' =
     ∙ ap (ordering_then (nat_cmp x y)) (front-order n xs ys some.1 some'.1)
 
 -- the numbers of the first eight bytes decide, and else those after them
-pub starts-order : (s t : ℕ) (xs ys : List ℕ) → s ≡ start_number xs → t ≡ start_number ys
+pub starts-order : (s t : ℕ) (xs ys : List ℕ) → s ≡ big_number 8 (front 8 xs) → t ≡ big_number 8 (front 8 ys)
     → ((k : ℕ) → get_or (front 8 xs) k 0 < 256) → ((k : ℕ) → get_or (front 8 ys) k 0 < 256) → NoZero xs → NoZero ys
     → ordering_then (nat_cmp s t) (slice_cmp nat_cmp (drop 8 xs) (drop 8 ys)) ≡ slice_cmp nat_cmp xs ys
-unfolding start_number
 starts-order s t xs ys is is' small small' some some' =
     let xs' = front 8 xs in
     let ys' = front 8 ys in

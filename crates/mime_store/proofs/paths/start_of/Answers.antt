@@ -4,7 +4,7 @@ use Rattle.std.proofs.lemmas.Bool.{cases_eq, cases_lt}
 use Rattle.std.proofs.lemmas.List.{get_or_past}
 use Rattle.mime_base.specs.Format.Stored.{reversed_ending}
 use Rattle.mime_store.specs.Fronts.{front}
-use Rattle.mime_store.proofs.SuffixTreeLemmas.Starts.{front-is, start-is}
+use Rattle.mime_store.proofs.SuffixTreeLemmas.Starts.{front-is}
 use Rattle.mime_store.proofs.paths.start_of.Goals as goal
 
 pub loop-depth-preserved : goal.loop-depth-preserved
@@ -33,9 +33,9 @@ the_front bytes path depth is long below above = front-is 8 bytes path long (λ 
 pub returns-clause-start : goal.returns-clause-start
 returns-clause-start c =
     let path = reversed_ending c.args.rule.now in
-    c.read_u64.ensures ∙ start-is c.loop-depth.bytes path (the_front c.loop-depth.bytes path c.loop-depth.depth
+    the_front c.loop-depth.bytes path c.loop-depth.depth
     (omega (arith, c.min-room.ensures, c.path_length.ensures.length, c.loop-depth.auto.depth-end, c.loop-depth-test.false)) c.loop-depth.invariant.long
-    c.loop-depth.invariant.below c.loop-depth.invariant.above)
+    c.loop-depth.invariant.below c.loop-depth.invariant.above
 
 pub returns-clause-bytes : goal.returns-clause-bytes
 returns-clause-bytes c = λ k.

@@ -3,11 +3,8 @@ use Rattle.std.proofs.Common.{◌-◌, ◌<◌, ℕ, length, get_or, ap, ◌∙�
 use Rattle.std.proofs.lemmas.List.{get_or-drop, get_or_read, length-drop}
 use Rattle.mime_base.specs.Format.Stored.{reversed_ending}
 use Rattle.mime_store.specs.SuffixTree.{ending_path}
+use Rattle.mime_store.proofs.SuffixTreeLemmas.Starts.{front-at}
 use Rattle.mime_store.proofs.ending.Ending.byte.Goals as goal
-
-pub path_byte-requires : goal.path_byte-requires
-unfolding ending_path
-path_byte-requires c = c.requires
 
 pub index-requires : goal.index-requires
 unfolding ending_path
@@ -17,7 +14,11 @@ index-requires c =
 
 pub returns-then-depth-lt-FRONT : goal.returns-then-depth-lt-FRONT
 unfolding ending_path
-returns-then-depth-lt-FRONT c = c.path_byte.ensures
+returns-then-depth-lt-FRONT c =
+    let ending = c.args.self.now in
+    let path = reversed_ending ending.rule.now in
+    ap (λ bytes. get_or bytes c.args.depth 0) ending.starts
+    ∙ front-at 8 path c.args.depth c.if-depth-lt-FRONT.true c.requires
 
 pub returns-else-depth-lt-FRONT : goal.returns-else-depth-lt-FRONT
 unfolding ending_path
