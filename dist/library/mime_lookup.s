@@ -1749,7 +1749,7 @@
 	movq	%rsp, %rdi
 	leaq	600(%rsp), %rsi
 	leaq	48(%rsp), %r8
-	callq	"mime_view::magic::sniff_learnt"
+	callq	"mime_view::heads::walk::sniff_learnt"
 	jmp	9f
 8:
 	movq	%rsp, %rdi

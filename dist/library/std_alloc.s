@@ -283,6 +283,53 @@
 
 	.text
 	.p2align	4
+	.type	"std_alloc::vec::Vec::drop::<#b75285eeea4a2d4d>",@function
+"std_alloc::vec::Vec::drop::<#b75285eeea4a2d4d>":
+	pushq	%r15
+	pushq	%r14
+	pushq	%r12
+	pushq	%rbx
+	pushq	%rax
+	movq	(%rdi), %rbx
+	movq	8(%rdi), %r15
+	movq	16(%rdi), %r14
+	testq	%r15, %r15
+	je	3f
+	leaq	24(%rbx), %r12
+	jmp	2f
+	.p2align	4
+1:
+	addq	$40, %r12
+	decq	%r15
+	je	3f
+2:
+	cmpq	$0, (%r12)
+	je	1b
+	movq	-16(%r12), %rdi
+	callq	rattle_dealloc@PLT
+	jmp	1b
+3:
+	testq	%r14, %r14
+	je	4f
+	movq	%rbx, %rdi
+	addq	$8, %rsp
+	popq	%rbx
+	popq	%r12
+	popq	%r14
+	popq	%r15
+	jmp	rattle_dealloc@PLT
+4:
+	addq	$8, %rsp
+	popq	%rbx
+	popq	%r12
+	popq	%r14
+	popq	%r15
+	retq
+5:
+	.size	"std_alloc::vec::Vec::drop::<#b75285eeea4a2d4d>", 5b-"std_alloc::vec::Vec::drop::<#b75285eeea4a2d4d>"
+
+	.text
+	.p2align	4
 	.type	"std_alloc::vec::Vec::drop::<#c11c0a2adfc4198f>",@function
 "std_alloc::vec::Vec::drop::<#c11c0a2adfc4198f>":
 	pushq	%r15
@@ -1092,34 +1139,35 @@
 	.p2align	4
 	.type	"std_alloc::vec::Vec::grow_amortized::<#88a06660b488da62>",@function
 "std_alloc::vec::Vec::grow_amortized::<#88a06660b488da62>":
-	movq	8(%rdi), %rsi
-	cmpq	$-1, %rsi
+	movq	8(%rdi), %rax
+	cmpq	$-1, %rax
 	je	2f
 	pushq	%r14
 	pushq	%rbx
 	pushq	%rax
 	movq	16(%rdi), %rcx
-	cmpq	$4, %rsi
+	cmpq	$4, %rax
 	movl	$3, %ebx
-	cmovaeq	%rsi, %rbx
+	cmovaeq	%rax, %rbx
 	incq	%rbx
-	movq	%rcx, %rdx
-	shrq	$62, %rdx
-	leaq	(%rcx,%rcx), %rax
-	cmpq	%rax, %rbx
-	cmovaq	%rbx, %rax
-	testq	%rdx, %rdx
-	cmoveq	%rax, %rbx
-	movq	%rbx, %rdx
-	shrq	$59, %rdx
-	jne	4f
+	movq	%rcx, %rsi
+	shrq	$62, %rsi
+	leaq	(%rcx,%rcx), %rdx
+	cmpq	%rdx, %rbx
+	cmovaq	%rbx, %rdx
+	testq	%rsi, %rsi
+	cmoveq	%rdx, %rbx
+	movabsq	$230584300921369395, %rsi
+	cmpq	%rsi, %rbx
+	ja	4f
 	testq	%rcx, %rcx
 	je	3f
 	movq	%rdi, %r14
 	movq	(%rdi), %rdi
-	shlq	$4, %rsi
-	movq	%rbx, %rdx
-	shlq	$4, %rdx
+	shlq	$3, %rax
+	leaq	(%rax,%rax,4), %rsi
+	leaq	(,%rbx,8), %rax
+	leaq	(%rax,%rax,4), %rdx
 	movl	$8, %ecx
 	callq	rattle_realloc@PLT
 	testb	$1, %al
@@ -1137,9 +1185,9 @@
 	retq
 3:
 	movq	%rdi, %r14
-	shlq	$4, %rax
+	shlq	$3, %rdx
+	leaq	(%rdx,%rdx,4), %rdi
 	movl	$8, %esi
-	movq	%rax, %rdi
 	callq	rattle_alloc@PLT
 	testb	$1, %al
 	jne	1b

@@ -47,72 +47,74 @@
 
 	.text
 	.p2align	4
-	.type	"mime_base::magic::holding::line_matches",@function
-"mime_base::magic::holding::line_matches":
+	.type	"mime_base::magic::holding::some_line_matches",@function
+"mime_base::magic::holding::some_line_matches":
 	pushq	%rbp
 	pushq	%r15
 	pushq	%r14
 	pushq	%r13
 	pushq	%r12
 	pushq	%rbx
-	subq	$40, %rsp
-	movq	%r8, %rbx
-	movq	%rdx, %r14
-	movq	%rsi, %r15
-	movq	%rdi, %r12
-	movq	16(%rdi), %rdi
-	movq	24(%r12), %rsi
-	cmpb	$1, 40(%r12)
-	jne	1f
-	movq	48(%r12), %rdx
-	movq	56(%r12), %rax
-	jmp	2f
-1:
-	leaq	.L22d5119de29e(%rip), %rdx
-	xorl	%eax, %eax
-2:
-	movl	8(%r12), %r8d
-	movl	(%r12), %r9d
-	movl	4(%r12), %r10d
-	movq	%rbx, 32(%rsp)
-	movq	%r10, 24(%rsp)
-	movq	%r9, 16(%rsp)
-	movq	%r14, 8(%rsp)
-	movq	%r15, (%rsp)
-	movzbl	%cl, %ebp
-	movq	%rax, %rcx
-	movl	%ebp, %r9d
-	callq	"mime_base::magic::ranges::value_in_range"
-	testb	%al, %al
-	je	4f
-	movq	80(%r12), %r13
-	testq	%r13, %r13
+	subq	$56, %rsp
+	movq	%r9, 48(%rsp)
+	movl	%r8d, 44(%rsp)
+	testq	%rsi, %rsi
 	je	5f
-	movq	72(%r12), %r12
-	decq	%r13
+	movq	%rcx, %r14
+	movq	%rdx, %r15
+	movq	%rsi, %r12
+	movq	%rdi, %r13
+	jmp	2f
+	.p2align	4
+1:
+	addq	$96, %r13
+	decq	%r12
+	je	5f
+2:
+	cmpb	$1, 40(%r13)
+	jne	3f
+	movq	48(%r13), %rdx
+	movq	56(%r13), %rcx
+	jmp	4f
 	.p2align	4
 3:
-	movq	%r12, %rdi
-	movq	%r15, %rsi
-	movq	%r14, %rdx
-	movl	%ebp, %ecx
-	movq	%rbx, %r8
-	callq	"mime_base::magic::holding::line_matches"
-	subq	$1, %r13
-	setb	%cl
-	testb	%al, %al
-	jne	6f
-	addq	$96, %r12
-	testb	%cl, %cl
-	je	3b
-	jmp	6f
+	leaq	.L22d5119de29e(%rip), %rdx
+	xorl	%ecx, %ecx
 4:
-	xorl	%eax, %eax
+	movq	16(%r13), %rdi
+	movq	24(%r13), %rsi
+	movl	8(%r13), %r8d
+	movl	(%r13), %eax
+	movl	4(%r13), %r9d
+	movq	48(%rsp), %r10
+	movq	%r10, 32(%rsp)
+	movq	%r9, 24(%rsp)
+	movq	%rax, 16(%rsp)
+	movq	%r14, 8(%rsp)
+	movq	%r15, (%rsp)
+	movzbl	44(%rsp), %ebx
+	movl	%ebx, %r9d
+	callq	"mime_base::magic::ranges::value_in_range"
+	testb	%al, %al
+	je	1b
+	movq	80(%r13), %rsi
+	movb	$1, %bpl
+	testq	%rsi, %rsi
+	je	6f
+	movq	72(%r13), %rdi
+	movq	%r15, %rdx
+	movq	%r14, %rcx
+	movl	%ebx, %r8d
+	movq	48(%rsp), %r9
+	callq	"mime_base::magic::holding::some_line_matches"
+	testb	%al, %al
+	je	1b
 	jmp	6f
 5:
-	movb	$1, %al
+	xorl	%ebp, %ebp
 6:
-	addq	$40, %rsp
+	movl	%ebp, %eax
+	addq	$56, %rsp
 	popq	%rbx
 	popq	%r12
 	popq	%r13
@@ -121,7 +123,7 @@
 	popq	%rbp
 	retq
 7:
-	.size	"mime_base::magic::holding::line_matches", 7b-"mime_base::magic::holding::line_matches"
+	.size	"mime_base::magic::holding::some_line_matches", 7b-"mime_base::magic::holding::some_line_matches"
 
 	.text
 	.p2align	4
@@ -936,660 +938,91 @@
 29:
 	.size	"mime_base::matching::attempt::attempt", 29b-"mime_base::matching::attempt::attempt"
 
-	.section	.rodata.cst16,"aM",@progbits,16
-	.p2align	4, 0x0
-1:
-	.byte	42,42,42,42,42,42,42,42
-	.zero	1
-	.zero	1
-	.zero	1
-	.zero	1
-	.zero	1
-	.zero	1
-	.zero	1
-	.zero	1
-2:
-	.byte	63,63,63,63,63,63,63,63
-	.zero	1
-	.zero	1
-	.zero	1
-	.zero	1
-	.zero	1
-	.zero	1
-	.zero	1
-	.zero	1
-3:
-	.byte	92,92,92,92,92,92,92,92
-	.zero	1
-	.zero	1
-	.zero	1
-	.zero	1
-	.zero	1
-	.zero	1
-	.zero	1
-	.zero	1
-4:
-	.byte	91,91,91,91,91,91,91,91
-	.zero	1
-	.zero	1
-	.zero	1
-	.zero	1
-	.zero	1
-	.zero	1
-	.zero	1
-	.zero	1
-5:
-	.zero	16,93
 	.text
 	.p2align	4
-	.type	"mime_base::matching::glob_matches",@function
-"mime_base::matching::glob_matches":
-	pushq	%rbp
-	pushq	%r15
-	pushq	%r14
-	pushq	%r13
-	pushq	%r12
-	pushq	%rbx
-	subq	$104, %rsp
-	movq	%r9, %r14
-	movq	%r8, %rbx
-	movq	%rcx, %r13
-	movl	%edx, %ebp
-	movq	%rsi, %r10
-	movq	%rdi, %r15
-	movabsq	$1688849862361089, %rdi
+	.type	"mime_base::matching::elements::begins_otherwise",@function
+"mime_base::matching::elements::begins_otherwise":
+	xorl	%eax, %eax
 	testq	%rsi, %rsi
-	je	15f
-	movzbl	(%r15), %ecx
-	cmpl	$42, %ecx
-	jne	8f
-	leaq	-1(%r10), %rax
-	cmpq	$8, %rax
-	jb	6f
-	movq	1(%r15), %xmm0
-	movdqa	1b(%rip), %xmm1
-	pcmpeqb	%xmm0, %xmm1
-	movdqa	2b(%rip), %xmm2
-	pcmpeqb	%xmm0, %xmm2
-	por	%xmm1, %xmm2
-	movdqa	3b(%rip), %xmm1
-	pcmpeqb	%xmm0, %xmm1
-	pcmpeqb	4b(%rip), %xmm0
-	por	%xmm1, %xmm0
-	por	%xmm2, %xmm0
-	pmovmskb	%xmm0, %edx
-	testb	%dl, %dl
-	jne	8f
-6:
-	movl	$1, %edx
-	.p2align	4
-7:
-	cmpq	%rdx, %r10
-	je	52f
-	movzbl	(%r15,%rdx), %esi
-	incq	%rdx
-	addl	$-42, %esi
-	cmpl	$50, %esi
-	ja	7b
-	btq	%rsi, %rdi
-	jae	7b
-8:
-	testq	%rbx, %rbx
-	je	9f
-	leal	-42(%rcx), %eax
-	cmpl	$50, %eax
-	ja	51f
-	btq	%rax, %rdi
-	jae	51f
-9:
-	movq	%r10, %rcx
-	cmpq	$32, %r10
-	jb	16f
-	movq	%r10, %rax
-10:
-	movdqu	-32(%r15,%rax), %xmm1
-	movdqu	-16(%r15,%rax), %xmm2
-	movdqa	5b(%rip), %xmm0
-	pcmpeqb	%xmm0, %xmm1
-	pmovmskb	%xmm1, %edx
-	pcmpeqb	%xmm0, %xmm2
-	pmovmskb	%xmm2, %ecx
-	shll	$16, %ecx
-	orl	%edx, %ecx
-	je	12f
-	leaq	-32(%rax), %rdx
-	movl	%ecx, %esi
-	.p2align	4
-11:
-	bsrq	%rsi, %rcx
-	leaq	(%rcx,%rdx), %r12
-	cmpb	$93, (%r15,%r12)
-	je	17f
-	movq	$-2, %rdi
-	rolq	%cl, %rdi
-	andq	%rdi, %rsi
-	jne	11b
-12:
-	movq	%rax, %rdx
-	.p2align	4
-13:
-	movq	%rdx, %rcx
-	leaq	-32(%rdx), %rax
-	cmpq	$128, %rax
-	jb	14f
-	movdqu	-160(%r15,%rcx), %xmm1
-	movdqu	-144(%r15,%rcx), %xmm2
-	movdqu	-128(%r15,%rcx), %xmm3
-	movdqu	-112(%r15,%rcx), %xmm4
-	pcmpeqb	%xmm0, %xmm1
-	pcmpeqb	%xmm0, %xmm2
-	pcmpeqb	%xmm0, %xmm3
-	por	%xmm1, %xmm3
-	pcmpeqb	%xmm0, %xmm4
-	por	%xmm2, %xmm4
-	movdqu	-80(%r15,%rcx), %xmm1
-	movdqu	-96(%r15,%rcx), %xmm2
-	pcmpeqb	%xmm0, %xmm2
-	pcmpeqb	%xmm0, %xmm1
-	movdqu	-48(%r15,%rcx), %xmm5
-	movdqu	-64(%r15,%rcx), %xmm6
-	pcmpeqb	%xmm0, %xmm6
-	por	%xmm2, %xmm6
-	por	%xmm3, %xmm6
-	pcmpeqb	%xmm0, %xmm5
-	por	%xmm1, %xmm5
-	por	%xmm4, %xmm5
-	por	%xmm6, %xmm5
-	pmovmskb	%xmm5, %esi
-	leaq	-128(%rcx), %rdx
-	testl	%esi, %esi
-	je	13b
-14:
-	cmpq	$31, %rax
-	ja	10b
-	addq	$-32, %rcx
-	jmp	16f
-15:
-	xorl	%ecx, %ecx
-	.p2align	4
-16:
-	testq	%rcx, %rcx
-	je	18f
-	leaq	-1(%rcx), %r12
-	cmpb	$93, -1(%r15,%rcx)
-	movq	%r12, %rcx
-	jne	16b
-17:
-	notq	%r12
-	addq	%r10, %r12
-	jmp	19f
-18:
-	movq	%r10, %r12
-19:
-	pxor	%xmm0, %xmm0
-	movdqa	%xmm0, 48(%rsp)
-	movdqa	%xmm0, 32(%rsp)
-	movq	$0, 64(%rsp)
-	movzbl	%bpl, %r8d
-	testq	%r10, %r10
-	je	20f
-	cmpb	$42, (%r15)
-	jne	20f
-	movl	%r8d, 20(%rsp)
-	incq	%r15
-	decq	%r10
-	movq	$0, 8(%rsp)
-	xorl	%eax, %eax
-	addq	%rax, %r13
-	subq	%rax, %rbx
-	cmpq	$8, %r10
-	jae	23f
-	jmp	24f
-20:
-	movq	%rbx, (%rsp)
-	leaq	32(%rsp), %rdi
-	movq	%r15, %rsi
-	movq	%r10, %rdx
-	movq	%r12, %rcx
-	movq	%r13, %r9
-	movl	%r8d, %r15d
-	callq	"mime_base::matching::attempt::attempt"
-	movzbl	32(%rsp), %eax
-	movq	64(%rsp), %rdx
-	leaq	66f(%rip), %rcx
-	movslq	(%rcx,%rax,4), %rax
-	addq	%rcx, %rax
-	jmpq	*%rax
-21:
-	xorl	%eax, %eax
-	jmp	50f
-22:
-	movl	%r15d, 20(%rsp)
-	movq	%rdx, 8(%rsp)
-	movq	40(%rsp), %rax
-	movq	48(%rsp), %r15
-	movq	56(%rsp), %r10
-	addq	%rax, %r13
-	subq	%rax, %rbx
-	cmpq	$8, %r10
-	jb	24f
-23:
-	movq	(%r15), %xmm0
-	movdqa	1b(%rip), %xmm1
-	pcmpeqb	%xmm0, %xmm1
-	movdqa	2b(%rip), %xmm2
-	pcmpeqb	%xmm0, %xmm2
-	por	%xmm1, %xmm2
-	movdqa	3b(%rip), %xmm1
-	pcmpeqb	%xmm0, %xmm1
-	pcmpeqb	4b(%rip), %xmm0
-	por	%xmm1, %xmm0
-	por	%xmm2, %xmm0
-	pmovmskb	%xmm0, %eax
-	orl	$256, %eax
-	rep		bsfl	%eax, %eax
-	jmp	25f
-	.p2align	4
-24:
-	xorl	%eax, %eax
-25:
-	movq	%r10, %rdi
-	subq	%rax, %rdi
-	je	45f
-	leaq	(%r15,%rax), %rsi
-	jmp	28f
-	.p2align	4
-26:
-	xorl	%esi, %esi
-	testq	%rdx, %rdx
-	setne	%sil
-	addq	%rsi, %rcx
-	subq	%rsi, %rdx
-27:
-	incq	%rax
-	movq	%rdx, %rdi
-	movq	%rcx, %rsi
-	testq	%rdx, %rdx
-	je	45f
-28:
-	leaq	1(%rsi), %rcx
-	leaq	-1(%rdi), %rdx
-	movzbl	(%rsi), %r8d
-	cmpl	$91, %r8d
-	je	29f
-	cmpl	$92, %r8d
-	je	26b
-	cmpl	$42, %r8d
-	jne	27b
-	jmp	33f
-	.p2align	4
-29:
-	testq	%rdx, %rdx
-	je	44f
-	movzbl	1(%rsi), %r8d
-	addq	$2, %rsi
-	addq	$-2, %rdi
-	cmpl	$33, %r8d
-	je	30f
-	cmpl	$94, %r8d
-	je	30f
-	movq	%rcx, %rsi
-	movq	%rdx, %rdi
-30:
-	movq	%rdi, %r8
-	addq	$-1, %r8
-	jae	27b
-	cmpq	%r12, %r8
-	jbe	27b
-	addq	$2, %rsi
-	movl	$2, %r8d
-	subq	%rdi, %r8
-	.p2align	4
-31:
-	cmpb	$93, -1(%rsi)
-	je	32f
-	incq	%rsi
-	incq	%r8
-	cmpq	$1, %r8
-	jne	31b
-	jmp	27b
-32:
-	negq	%r8
-	movq	%rsi, %rcx
-	movq	%r8, %rdx
-	jmp	27b
-33:
-	pxor	%xmm0, %xmm0
-	movdqa	%xmm0, 48(%rsp)
-	movdqa	%xmm0, 32(%rsp)
-	movq	$0, 64(%rsp)
-	testq	%r10, %r10
-	movq	%rbx, 24(%rsp)
-	je	41f
-	movl	%ebp, 16(%rsp)
-	movq	%r13, 80(%rsp)
-	movq	%r14, 88(%rsp)
-	xorl	%ebp, %ebp
-	xorl	%ebx, %ebx
-	movq	%r10, 96(%rsp)
-	.p2align	4
-34:
-	movq	24(%rsp), %r13
-	subq	%rbx, %r13
-	movzbl	(%r15), %r14d
-	cmpl	$64, %r14d
-	ja	36f
-	cmpl	$42, %r14d
-	je	36f
-	cmpl	$63, %r14d
-	je	36f
-	movq	80(%rsp), %rax
-	leaq	(%rax,%rbx), %rsi
-	movl	%r14d, %edi
-	movq	%r13, %rdx
-	callq	"memchr::bytes::memchr"
-	cmpb	$1, %al
-	cmovneq	%r13, %rdx
-	addq	%rdx, %rbx
-	movq	%rbp, %rax
-	addq	%rdx, %rax
-	movq	$-1, %rbp
-	cmovaeq	%rax, %rbp
-	testq	%rdx, %rdx
-	je	35f
-	cmpq	%rbx, 24(%rsp)
-	je	59f
-35:
-	movq	24(%rsp), %r13
-	subq	%rbx, %r13
-	movq	96(%rsp), %r10
-	.p2align	4
-36:
-	movq	80(%rsp), %rax
-	leaq	(%rax,%rbx), %r9
-	testq	%r13, %r13
-	je	37f
-	leal	-42(%r14), %eax
-	cmpl	$50, %eax
-	ja	38f
-	movabsq	$1688849862361089, %rcx
-	btq	%rax, %rcx
-	jae	38f
-37:
-	movq	%r13, (%rsp)
-	leaq	32(%rsp), %rdi
-	movq	%r15, %rsi
-	movq	%r10, %rdx
-	movq	%r12, %rcx
-	movl	20(%rsp), %r8d
-	callq	"mime_base::matching::attempt::attempt"
-	addq	64(%rsp), %rbp
-	movq	$-1, %rdx
-	cmovbq	%rdx, %rbp
-	movzbl	32(%rsp), %eax
-	cmpb	$4, %al
-	jne	40f
-	movq	96(%rsp), %r10
-	incq	%rbx
-	jmp	34b
-38:
-	leal	-65(%r14), %eax
-	leal	32(%r14), %ecx
-	cmpb	$26, %al
-	movzbl	%cl, %eax
-	cmovael	%r14d, %eax
-	movzbl	(%r9), %edx
-	leal	-65(%rdx), %ecx
-	leal	32(%rdx), %esi
-	cmpb	$26, %cl
-	movzbl	%sil, %ecx
-	cmovael	%edx, %ecx
-	cmpb	$0, 16(%rsp)
-	cmovnel	%r14d, %eax
-	cmovnel	%edx, %ecx
-	cmpq	$1, %r10
-	je	37b
-	cmpq	$1, %r13
-	je	37b
-	cmpb	%cl, %al
-	jne	37b
-	movzbl	1(%r15), %eax
-	leal	-42(%rax), %ecx
-	cmpl	$50, %ecx
-	ja	39f
-	movabsq	$1688849862361089, %rdx
-	btq	%rcx, %rdx
-	jb	37b
-39:
-	leal	-65(%rax), %ecx
-	leal	32(%rax), %edx
-	cmpb	$26, %cl
-	movzbl	%dl, %ecx
-	movzbl	%al, %eax
-	cmovael	%eax, %ecx
-	movzbl	1(%r9), %edx
-	leal	-65(%rdx), %esi
-	leal	32(%rdx), %edi
-	cmpb	$26, %sil
-	movzbl	%dil, %esi
-	cmovael	%edx, %esi
-	cmpb	$0, 16(%rsp)
-	cmovnel	%eax, %ecx
-	cmovnel	%edx, %esi
-	cmpb	%sil, %cl
-	je	37b
-	addq	$2, %rbp
-	movq	$-1, %rax
-	cmovbq	%rax, %rbp
-	incq	%rbx
-	jmp	34b
-40:
-	movq	40(%rsp), %rcx
-	movq	48(%rsp), %r15
-	movq	56(%rsp), %r10
-	addq	8(%rsp), %rbp
-	cmovbq	%rdx, %rbp
-	movq	%rbp, 8(%rsp)
-	movq	88(%rsp), %r14
-	movq	80(%rsp), %r13
-	movl	16(%rsp), %ebp
-	jmp	42f
-41:
-	testq	%rbx, %rbx
-	setne	%al
-	xorl	%r10d, %r10d
-	xorl	%ecx, %ecx
-	xorl	%ebx, %ebx
-42:
-	cmpb	$3, %al
-	jne	62f
-	addq	%rcx, %rbx
-	addq	%rbx, %r13
-	movq	24(%rsp), %rax
-	subq	%rbx, %rax
-	movq	%rax, %rbx
-	cmpq	$8, %r10
-	jae	23b
-	jmp	24b
-43:
-	movb	$1, %al
-	jmp	50f
-44:
-	incq	%rax
-45:
-	pxor	%xmm0, %xmm0
-	movdqa	%xmm0, 48(%rsp)
-	movdqa	%xmm0, 32(%rsp)
-	movq	$0, 64(%rsp)
-	movl	$1, %ecx
-	subq	%rax, %rbx
-	jae	47f
-46:
-	xorl	%eax, %eax
-	jmp	49f
-47:
-	addq	%rbx, %r13
-	testq	%r10, %r10
-	je	48f
-	testq	%rax, %rax
-	je	48f
-	movzbl	(%r15), %edx
-	leal	-42(%rdx), %esi
-	cmpl	$50, %esi
-	ja	58f
+	je	1f
+	testq	%r8, %r8
+	je	1f
+	movzbl	(%rdi), %eax
+	leal	-42(%rax), %esi
+	cmpb	$51, %sil
+	jae	2f
+	movzbl	%sil, %esi
 	movabsq	$1688849862361089, %rdi
 	btq	%rsi, %rdi
-	jae	58f
-48:
-	movq	%rax, (%rsp)
-	leaq	32(%rsp), %rdi
-	movq	%r15, %rsi
-	movq	%r10, %rdx
-	movq	%r12, %rcx
-	movl	20(%rsp), %r8d
-	movq	%r13, %r9
-	callq	"mime_base::matching::attempt::attempt"
-	cmpb	$0, 32(%rsp)
-	sete	%al
-	movq	64(%rsp), %rcx
-49:
-	addq	8(%rsp), %rcx
-	movq	$-1, %rdx
-	cmovaeq	%rcx, %rdx
-50:
-	addq	8(%r14), %rdx
-	movq	$-1, %rcx
-	cmovaeq	%rdx, %rcx
-	movq	%rcx, 8(%r14)
-	addq	$104, %rsp
-	popq	%rbx
-	popq	%r12
-	popq	%r13
-	popq	%r14
-	popq	%r15
-	popq	%rbp
-	retq
-51:
-	leal	-65(%rcx), %eax
-	leal	32(%rcx), %edx
-	cmpb	$26, %al
-	movzbl	%dl, %eax
-	cmovael	%ecx, %eax
-	movzbl	(%r13), %edx
-	leal	-65(%rdx), %esi
-	leal	32(%rdx), %edi
-	cmpb	$26, %sil
-	movzbl	%dil, %esi
-	cmovael	%edx, %esi
-	testb	%bpl, %bpl
-	cmovnel	%ecx, %eax
-	cmovnel	%edx, %esi
-	cmpb	%sil, %al
-	je	9b
-	jmp	53f
-52:
-	subq	%rax, %rbx
-	jae	54f
-53:
-	movl	$1, %edx
+	jae	2f
 	xorl	%eax, %eax
-	jmp	50b
-54:
-	testq	%rax, %rax
-	je	60f
-	addq	%rbx, %r13
-	xorl	%ecx, %ecx
-	testb	%bpl, %bpl
-	je	56f
-55:
-	movzbl	1(%r15,%rcx), %edx
-	cmpb	(%r13,%rcx), %dl
-	jne	61f
-	incq	%rcx
-	cmpq	%rcx, %rax
-	jne	55b
-	jmp	57f
-56:
-	movzbl	1(%r15,%rcx), %edx
-	leal	-65(%rdx), %esi
-	leal	32(%rdx), %edi
+1:
+	retq
+2:
+	leal	-65(%rax), %esi
+	leal	32(%rax), %edi
 	cmpb	$26, %sil
 	movzbl	%dil, %esi
-	cmovael	%edx, %esi
-	movzbl	(%r13,%rcx), %edx
-	leal	-65(%rdx), %edi
-	leal	32(%rdx), %r8d
+	movzbl	%al, %eax
+	cmovael	%eax, %esi
+	movzbl	(%rcx), %ecx
+	leal	-65(%rcx), %edi
+	leal	32(%rcx), %r8d
 	cmpb	$26, %dil
 	movzbl	%r8b, %edi
-	cmovael	%edx, %edi
+	cmovael	%ecx, %edi
+	testb	%dl, %dl
+	cmovnel	%eax, %esi
+	cmovnel	%ecx, %edi
 	cmpb	%dil, %sil
-	jne	61f
-	incq	%rcx
-	cmpq	%rcx, %rax
-	jne	56b
-57:
-	movq	%rax, %rcx
-	jmp	61f
-58:
-	leal	-65(%rdx), %esi
-	leal	32(%rdx), %edi
-	cmpb	$26, %sil
-	movzbl	%dil, %esi
-	movzbl	%dl, %edx
-	cmovael	%edx, %esi
-	movzbl	(%r13), %edi
+	setne	%al
+	retq
+3:
+	.size	"mime_base::matching::elements::begins_otherwise", 3b-"mime_base::matching::elements::begins_otherwise"
+
+	.text
+	.p2align	4
+	.type	"mime_base::matching::folding::common_compared",@function
+"mime_base::matching::folding::common_compared":
+	xorl	%eax, %eax
+	testq	%rdx, %rdx
+	je	4f
+	testb	%dil, %dil
+	je	2f
+	.p2align	4
+1:
+	movzbl	(%rsi,%rax), %edi
+	cmpb	(%rcx,%rax), %dil
+	jne	4f
+	incq	%rax
+	cmpq	%rax, %rdx
+	jne	1b
+	jmp	3f
+	.p2align	4
+2:
+	movzbl	(%rsi,%rax), %edi
 	leal	-65(%rdi), %r8d
 	leal	32(%rdi), %r9d
 	cmpb	$26, %r8b
 	movzbl	%r9b, %r8d
 	cmovael	%edi, %r8d
-	testb	%bpl, %bpl
-	cmovnel	%edx, %esi
-	cmovnel	%edi, %r8d
-	cmpb	%r8b, %sil
-	jne	46b
-	jmp	48b
-59:
-	incq	%rbp
-	movq	$-1, %rax
-	cmoveq	%rax, %rbp
-	addq	8(%rsp), %rbp
-	cmovbq	%rax, %rbp
-	xorl	%eax, %eax
-	movq	%rbp, %rdx
-	movq	88(%rsp), %r14
-	jmp	50b
-60:
-	xorl	%ecx, %ecx
-61:
-	xorl	%edx, %edx
-	cmpq	%rax, %rcx
-	sete	%al
-	setne	%dl
-	addq	%rcx, %rdx
-	jmp	50b
-62:
-	movzbl	%al, %eax
-	decl	%eax
-	cmpl	$2, %eax
-	jae	63f
-	xorl	%eax, %eax
-	jmp	64f
-63:
-	movb	$1, %al
-64:
-	movq	8(%rsp), %rdx
-	jmp	50b
-65:
-	.size	"mime_base::matching::glob_matches", 65b-"mime_base::matching::glob_matches"
-	.section	.rodata,"a",@progbits
-	.p2align	2, 0x0
-66:
-	.long	43b-66b
-	.long	21b-66b
-	.long	21b-66b
-	.long	22b-66b
-	.long	21b-66b
+	movzbl	(%rcx,%rax), %edi
+	leal	-65(%rdi), %r9d
+	leal	32(%rdi), %r10d
+	cmpb	$26, %r9b
+	movzbl	%r10b, %r9d
+	cmovael	%edi, %r9d
+	cmpb	%r9b, %r8b
+	jne	4f
+	incq	%rax
+	cmpq	%rax, %rdx
+	jne	2b
+3:
+	movq	%rdx, %rax
+4:
+	retq
+5:
+	.size	"mime_base::matching::folding::common_compared", 5b-"mime_base::matching::folding::common_compared"
 
 	.section	.rodata.cst16,"aM",@progbits,16
 	.p2align	4, 0x0

@@ -274,8 +274,10 @@
 	cmpq	$8, %rdx
 	jb	7f
 5:
-	movq	-8(%rax,%rdx), %rax
-	bswapq	%rax
+	movq	-8(%rax,%rdx), %r8
+	bswapq	%r8
+	movabsq	$-49064778989728563, %rax
+	imulq	%r8, %rax
 	jmp	8f
 	.p2align	4
 6:
@@ -582,8 +584,10 @@
 	cmpq	$8, %rdx
 	jb	7f
 5:
-	movq	-8(%rax,%rdx), %rax
-	bswapq	%rax
+	movq	-8(%rax,%rdx), %r8
+	bswapq	%r8
+	movabsq	$-49064778989728563, %rax
+	imulq	%r8, %rax
 	jmp	8f
 	.p2align	4
 6:
@@ -1441,170 +1445,176 @@
 	movq	8(%rcx), %r15
 	cmpq	$8, %r15
 	jb	1f
-	movq	-8(%r14,%r15), %rax
-	bswapq	%rax
+	movq	-8(%r14,%r15), %rdx
+	bswapq	%rdx
+	movabsq	$-49064778989728563, %rax
+	imulq	%rdx, %rax
 	jmp	2f
 1:
 	xorl	%eax, %eax
 2:
 	testq	%r8, %r8
-	je	55f
+	je	57f
 	movq	16(%rcx), %rdx
-	movq	%rdx, 128(%rsp)
+	movq	%rdx, 136(%rsp)
 	movq	24(%rcx), %rcx
-	movq	%rcx, 120(%rsp)
+	movq	%rcx, 128(%rsp)
 	addq	%r15, %rax
 	movq	%rax, %rcx
 	orq	%r8, %rcx
 	shrq	$32, %rcx
-	je	3f
+	je	4f
 	xorl	%edx, %edx
 	divq	%r8
 	movb	$1, %cl
 	cmpb	$1, (%rsi,%rdx)
-	jne	4f
-	jmp	17f
+	jne	5f
 3:
+	xorl	%eax, %eax
+	jmp	21f
+4:
 	xorl	%edx, %edx
 	divl	%r8d
 	movb	$1, %cl
 	cmpb	$1, (%rsi,%rdx)
-	je	17f
-4:
+	je	3b
+5:
 	cmpq	$8, %r15
-	jb	6f
+	jb	7f
 	movq	-8(%r14,%r15), %rax
 	bswapq	%rax
-	movq	%rax, 96(%rsp)
+	movq	%rax, 112(%rsp)
 	cmpb	$1, (%rdi)
-	je	7f
-5:
+	je	8f
+6:
 	movq	%rdi, %rbx
 	movl	$608, %edi
 	movl	$8, %esi
 	callq	rattle_alloc@PLT
 	testb	$1, %al
 	je	20f
-	movq	%r15, 80(%rsp)
-	movq	%r14, 88(%rsp)
+	movq	%r15, 96(%rsp)
+	movq	%r14, 104(%rsp)
 	movl	$0, (%rdx)
 	movq	%rbx, %rdi
 	movzbl	(%rbx), %eax
 	movq	$1, (%rbx)
 	movq	%rdx, 8(%rbx)
 	cmpb	$1, %al
-	jne	8f
-	jmp	55f
-6:
-	movq	$0, 96(%rsp)
-	cmpb	$1, (%rdi)
-	jne	5b
+	jne	9f
+	jmp	57f
 7:
-	movq	%r15, 80(%rsp)
-	movq	%r14, 88(%rsp)
-	movq	8(%rdi), %rdx
+	movq	$0, 112(%rsp)
+	cmpb	$1, (%rdi)
+	jne	6b
 8:
-	movq	%rdi, 112(%rsp)
+	movq	%r15, 96(%rsp)
+	movq	%r14, 104(%rsp)
+	movq	8(%rdi), %rdx
+9:
+	movq	%rdi, 88(%rsp)
 	leaq	8(%rdi), %rax
 	movq	%rax, 16(%rsp)
 	movzwl	2(%rdx), %eax
-	movl	$15, %ebx
-	subq	%rax, %rbx
-	movq	%rax, 72(%rsp)
-	movl	%eax, %esi
-	negb	%sil
-	xorl	%ecx, %ecx
+	movl	$15, %ebp
+	subq	%rax, %rbp
+	movq	%rax, 24(%rsp)
+	negb	%al
+	movb	%al, 48(%rsp)
+	xorl	%r14d, %r14d
 	movq	%rdx, %rax
-	movq	$0, 24(%rsp)
-	movq	%rdx, 296(%rsp)
-	movq	%rdx, 8(%rsp)
-	movq	%rbx, 104(%rsp)
-	xorl	%ebp, %ebp
-	movq	%rax, %r15
-	movzwl	(%rax), %r12d
-	testq	%r12, %r12
-	jne	12f
-	jmp	10f
-	.p2align	4
-9:
-	movq	40(%rsp), %rcx
-	movzbl	32(%rsp), %esi
-	jmp	11f
-	.p2align	4
-10:
 	xorl	%r13d, %r13d
-11:
-	shlq	$4, %rbp
-	addq	%r13, %rbp
-	incq	%rbx
-	cmpw	$0, 2(%r15)
-	je	19f
-	movq	608(%r15,%r13,8), %rax
-	incq	%rcx
-	incb	%sil
-	movq	%r13, 24(%rsp)
+	movq	%rdx, 40(%rsp)
+	movq	%rdx, %r15
+	movq	%rbp, 120(%rsp)
+	xorl	%ebx, %ebx
+10:
+	movq	%r13, 32(%rsp)
 	movq	%r15, 8(%rsp)
 	movq	%rax, %r15
 	movzwl	(%rax), %r12d
 	testq	%r12, %r12
-	je	10b
-12:
-	movb	%sil, 32(%rsp)
-	movq	%rcx, 40(%rsp)
+	je	16f
+	movq	%r14, 56(%rsp)
 	leaq	40(%r15), %r14
 	xorl	%r13d, %r13d
 	.p2align	4
-13:
+11:
 	movq	-32(%r14), %rax
-	cmpq	%rax, 96(%rsp)
+	cmpq	%rax, 112(%rsp)
 	setae	%al
-	jne	14f
+	jne	12f
 	movq	-24(%r14), %rdx
 	movq	-16(%r14), %rcx
-	movq	88(%rsp), %rdi
-	movq	80(%rsp), %rsi
+	movq	104(%rsp), %rdi
+	movq	96(%rsp), %rsi
 	callq	"core::cmp::slices::RefSliceOrd::cmp::<#914af4d8504a0b72>"
 	cmpb	$1, %al
-	jne	15f
+	jne	13f
 	movq	-8(%r14), %rdx
 	movq	(%r14), %rcx
-	movq	128(%rsp), %rdi
-	movq	120(%rsp), %rsi
+	movq	136(%rsp), %rdi
+	movq	128(%rsp), %rsi
 	callq	"core::cmp::slices::RefSliceOrd::cmp::<#914af4d8504a0b72>"
-	jmp	15f
+	jmp	13f
 	.p2align	4
-14:
+12:
 	addb	%al, %al
-15:
+13:
 	cmpb	$2, %al
-	jne	16f
+	jne	14f
 	incq	%r13
 	addq	$40, %r14
 	cmpq	%r13, %r12
-	jne	13b
+	jne	11b
 	movq	%r12, %r13
-	jmp	9b
+	jmp	15f
 	.p2align	4
-16:
+14:
 	movzbl	%al, %eax
 	testl	%eax, %eax
-	je	9b
+	jne	18f
+15:
+	movq	56(%rsp), %r14
+	jmp	17f
+	.p2align	4
+16:
+	xorl	%r13d, %r13d
+17:
+	shlq	$4, %rbx
+	addq	%r13, %rbx
+	incq	%rbp
+	cmpw	$0, 2(%r15)
+	je	19f
+	movq	608(%r15,%r13,8), %rax
+	incq	%r14
+	incb	48(%rsp)
+	jmp	10b
+18:
 	andl	$15, %r13d
-	movq	72(%rsp), %rax
-	addq	%rbx, %rax
+	movq	24(%rsp), %rax
+	addq	%rbp, %rax
 	cmpq	$15, %rax
 	movq	8(%rsp), %rax
-	movq	24(%rsp), %rcx
+	movq	32(%rsp), %rcx
 	leaq	608(%rax,%rcx,8), %rax
 	cmoveq	16(%rsp), %rax
 	movq	(%rax), %rax
 	movzwl	(%rax), %eax
 	cmpl	%eax, %r13d
-	jae	55f
+	jae	57f
 	xorl	%ecx, %ecx
-17:
 	xorl	%eax, %eax
-18:
+	jmp	21f
+19:
+	movabsq	$9223372036854775806, %rax
+	movq	88(%rsp), %rcx
+	cmpq	%rax, 16(%rcx)
+	jbe	22f
+20:
+	movb	$1, %al
+	xorl	%ecx, %ecx
+21:
 	movl	%ecx, %edx
 	addq	$488, %rsp
 	popq	%rbx
@@ -1614,130 +1624,123 @@
 	popq	%r15
 	popq	%rbp
 	retq
-19:
-	movabsq	$9223372036854775806, %rax
-	movq	112(%rsp), %r14
-	cmpq	%rax, 16(%r14)
-	jbe	21f
-20:
-	movb	$1, %al
-	xorl	%ecx, %ecx
-	jmp	18b
-21:
-	movl	%esi, %r12d
-	movq	%rbx, %rsi
-	movq	104(%rsp), %rdx
-	subq	%rdx, %rsi
-	cmpq	$1, %rsi
-	movq	8(%rsp), %rax
-	movq	24(%rsp), %rdi
-	leaq	608(%rax,%rdi,8), %rax
+22:
+	movq	%rbp, %rcx
+	movq	120(%rsp), %rdx
+	subq	%rdx, %rcx
+	cmpq	$1, %rcx
+	movq	8(%rsp), %rsi
+	movq	32(%rsp), %rdi
+	leaq	608(%rsi,%rdi,8), %rax
 	cmoveq	16(%rsp), %rax
 	movq	(%rax), %rax
 	cmpw	$14, (%rax)
-	jbe	52f
-	movq	%rcx, %r15
-	movq	296(%rsp), %r8
-	cmpw	$15, (%r8)
-	movq	%rdx, %rax
-	jae	49f
-22:
-	xorps	%xmm0, %xmm0
-	movaps	%xmm0, 48(%rsp)
-	movq	%rbx, %rsi
-	subq	%rax, %rsi
-	jbe	26f
-	movl	%ebx, %ecx
-	subl	%eax, %ecx
-	addq	%rdx, %r15
-	subq	%rax, %r15
-	testb	$3, %cl
-	je	24f
-	subb	%al, %r12b
-	movzbl	%r12b, %ecx
-	andl	$3, %ecx
+	ja	23f
+	shlq	$3, %rdi
+	movq	88(%rsp), %r15
+	jmp	54f
 23:
-	movl	%ebp, %edx
-	andb	$15, %dl
-	movb	%dl, 47(%rsp,%rbx)
-	decq	%rbx
-	shrq	$4, %rbp
-	decq	%rcx
-	jne	23b
+	movq	40(%rsp), %rax
+	cmpw	$15, (%rax)
+	movq	%rdx, %rax
+	jae	51f
 24:
-	cmpq	$3, %r15
-	jb	26f
+	xorps	%xmm0, %xmm0
+	movaps	%xmm0, 64(%rsp)
+	movq	%rbp, %rcx
+	subq	%rax, %rcx
+	movq	%rcx, 24(%rsp)
+	jbe	28f
+	movl	%ebp, %ecx
+	subl	%eax, %ecx
+	addq	%rdx, %r14
+	subq	%rax, %r14
+	testb	$3, %cl
+	je	26f
+	movzbl	48(%rsp), %ecx
+	subb	%al, %cl
+	movzbl	%cl, %ecx
+	andl	$3, %ecx
 25:
-	movl	%ebp, %ecx
+	movl	%ebx, %edx
+	andb	$15, %dl
+	movb	%dl, 63(%rsp,%rbp)
+	decq	%rbp
+	shrq	$4, %rbx
+	decq	%rcx
+	jne	25b
+26:
+	cmpq	$3, %r14
+	jb	28f
+27:
+	movl	%ebx, %ecx
 	andb	$15, %cl
-	movb	%cl, 47(%rsp,%rbx)
-	movl	%ebp, %ecx
+	movb	%cl, 63(%rsp,%rbp)
+	movl	%ebx, %ecx
 	shrb	$4, %cl
-	movb	%cl, 46(%rsp,%rbx)
-	movl	%ebp, %ecx
+	movb	%cl, 62(%rsp,%rbp)
+	movl	%ebx, %ecx
 	shrl	$8, %ecx
 	andb	$15, %cl
-	movb	%cl, 45(%rsp,%rbx)
-	movl	%ebp, %ecx
+	movb	%cl, 61(%rsp,%rbp)
+	movl	%ebx, %ecx
 	shrl	$12, %ecx
 	andb	$15, %cl
-	movb	%cl, 44(%rsp,%rbx)
-	addq	$-4, %rbx
-	shrq	$16, %rbp
-	cmpq	%rbx, %rax
-	jb	25b
-26:
-	movl	$16, %r14d
-	subq	%rax, %r14
-	cmpq	$2, %r14
-	jb	51f
-	movq	%rsi, 32(%rsp)
-	leaq	(%rsp,%rax), %rbp
-	addq	$48, %rbp
-	movq	16(%rsp), %r13
-	jmp	30f
-27:
-	movq	40(%rsp), %rcx
-	incl	%ecx
-	movb	%cl, (%rbp)
-	addb	$-8, %al
-	movb	%al, 1(%rbp)
+	movb	%cl, 60(%rsp,%rbp)
+	addq	$-4, %rbp
+	shrq	$16, %rbx
+	cmpq	%rbp, %rax
+	jb	27b
 28:
-	movq	8(%rsp), %r14
-29:
-	movzbl	%cl, %edi
-	leaq	(%rdx,%rdi,8), %r13
-	addq	$608, %r13
-	incq	%rbp
-	cmpq	$2, %r14
-	leaq	-1(%r14), %r14
-	jbe	50f
-30:
-	movzbl	(%rbp), %r15d
-	movl	%r15d, %ecx
-	movq	(%r13), %rdx
-	movq	608(%rdx,%r15,8), %rax
-	cmpw	$15, (%rax)
-	jb	29b
-	movq	%rcx, 40(%rsp)
-	movzwl	2(%rdx), %ebx
-	decq	%rbx
-	movq	%r14, 8(%rsp)
-	je	31f
-	movl	$736, %edi
+	movl	$16, %r15d
+	subq	%rax, %r15
+	cmpq	$2, %r15
+	movq	40(%rsp), %rcx
+	jb	53f
+	leaq	(%rsp,%rax), %rbx
+	addq	$64, %rbx
+	movq	16(%rsp), %r12
 	jmp	32f
+29:
+	movq	48(%rsp), %rcx
+	incl	%ecx
+	movb	%cl, (%rbx)
+	addb	$-8, %al
+	movb	%al, 1(%rbx)
+30:
+	movq	%rbp, %r15
 31:
-	movl	$608, %edi
+	movzbl	%cl, %edi
+	leaq	(%rsi,%rdi,8), %r12
+	addq	$608, %r12
+	incq	%rbx
+	cmpq	$2, %r15
+	leaq	-1(%r15), %r15
+	jbe	52f
 32:
+	movzbl	(%rbx), %ebp
+	movl	%ebp, %ecx
+	movq	(%r12), %rsi
+	movq	608(%rsi,%rbp,8), %rax
+	cmpw	$15, (%rax)
+	jb	31b
+	movq	%rcx, 48(%rsp)
+	movzwl	2(%rsi), %r14d
+	decq	%r14
+	je	33f
+	movl	$736, %edi
+	jmp	34f
+33:
+	movl	$608, %edi
+34:
 	movl	$8, %esi
 	callq	rattle_alloc@PLT
 	testb	$1, %al
-	je	53f
-	movw	%bx, 2(%rdx)
-	movq	%rdx, %r12
+	je	55f
+	movw	%r14w, 2(%rdx)
+	movq	%rdx, 8(%rsp)
 	leaq	8(%rdx), %rdi
-	movq	%r13, 24(%rsp)
-	movq	(%r13), %rax
+	movq	(%r12), %rax
 	xorps	%xmm0, %xmm0
 	movaps	%xmm0, 368(%rsp)
 	movaps	%xmm0, 352(%rsp)
@@ -1750,22 +1753,22 @@
 	setne	%r8b
 	cmoveq	%rcx, %rsi
 	shll	$4, %r8d
-	leaq	608(%rax), %rbx
+	leaq	608(%rax), %r10
 	leaq	8(%rax), %r9
-	movq	%r9, 216(%rsp)
-	movq	%rdx, 224(%rsp)
-	movq	$15, 232(%rsp)
-	movq	%rbx, 240(%rsp)
-	movq	%rdx, 248(%rsp)
-	movq	$15, 256(%rsp)
-	movq	%rbx, 264(%rsp)
-	movq	%rsi, 272(%rsp)
-	movq	%r8, 280(%rsp)
-	movq	%rax, 288(%rsp)
+	movq	%r9, 224(%rsp)
+	movq	%rdx, 232(%rsp)
+	movq	$15, 240(%rsp)
+	movq	%r10, 248(%rsp)
+	movq	%rdx, 256(%rsp)
+	movq	$15, 264(%rsp)
+	movq	%r10, 272(%rsp)
+	movq	%rsi, 280(%rsp)
+	movq	%r8, 288(%rsp)
+	movq	%rax, 296(%rsp)
 	movaps	%xmm0, 320(%rsp)
 	movaps	%xmm0, 304(%rsp)
 	movq	$0, 336(%rsp)
-	movq	608(%rax,%r15,8), %rax
+	movq	608(%rax,%rbp,8), %rax
 	movaps	%xmm0, 464(%rsp)
 	movaps	%xmm0, 448(%rsp)
 	movq	$0, 480(%rsp)
@@ -1779,14 +1782,14 @@
 	shll	$4, %esi
 	leaq	608(%rax), %rcx
 	leaq	8(%rax), %r9
-	movq	%r9, 136(%rsp)
-	movq	$15, 152(%rsp)
-	movq	%rcx, 160(%rsp)
-	movq	$15, 176(%rsp)
-	movq	%rcx, 184(%rsp)
-	movq	%rdx, 192(%rsp)
-	movq	%rsi, 200(%rsp)
-	movq	%rax, 208(%rsp)
+	movq	%r9, 144(%rsp)
+	movq	$15, 160(%rsp)
+	movq	%rcx, 168(%rsp)
+	movq	$15, 184(%rsp)
+	movq	%rcx, 192(%rsp)
+	movq	%rdx, 200(%rsp)
+	movq	%rsi, 208(%rsp)
+	movq	%rax, 216(%rsp)
 	leaq	-8(%r8), %r13
 	leaq	328(%rax), %rsi
 	leaq	-64(,%r8,8), %rcx
@@ -1794,25 +1797,26 @@
 	movq	%rdi, %rcx
 	subq	%rsi, %rcx
 	cmpq	%rdx, %rcx
-	jae	33f
+	movq	%r10, 32(%rsp)
+	jae	35f
 	testq	%r13, %r13
-	je	38f
+	je	40f
 	movl	%r8d, %ecx
 	andl	$7, %ecx
 	addl	$-9, %r8d
 	cmpw	$7, %r8w
-	jae	34f
+	jae	36f
 	xorl	%edx, %edx
-	jmp	36f
-33:
-	callq	memmove@PLT
 	jmp	38f
-34:
+35:
+	callq	memmove@PLT
+	jmp	40f
+36:
 	movq	%r13, %r8
 	andq	$-8, %r8
 	xorl	%edx, %edx
 	xorl	%r9d, %r9d
-35:
+37:
 	movups	(%rsi,%r9), %xmm0
 	movups	16(%rsi,%r9), %xmm1
 	movq	32(%rsi,%r9), %r10
@@ -1864,21 +1868,22 @@
 	addq	$8, %rdx
 	addq	$320, %r9
 	cmpq	%rdx, %r8
-	jne	35b
+	jne	37b
 	testq	%rcx, %rcx
-	je	38f
-36:
+	je	40f
+38:
 	shlq	$3, %rdx
 	leaq	(%rdx,%rdx,4), %rdx
 	addq	%rdx, %rax
 	addq	$328, %rax
-	addq	%r12, %rdx
+	movq	8(%rsp), %rsi
+	addq	%rsi, %rdx
 	addq	$8, %rdx
 	shll	$3, %ecx
 	leaq	(%rcx,%rcx,4), %rcx
 	xorl	%esi, %esi
 	.p2align	4
-37:
+39:
 	movups	(%rax,%rsi), %xmm0
 	movups	16(%rax,%rsi), %xmm1
 	movq	32(%rax,%rsi), %rdi
@@ -1887,61 +1892,62 @@
 	movups	%xmm0, (%rdx,%rsi)
 	addq	$40, %rsi
 	cmpq	%rsi, %rcx
-	jne	37b
-38:
-	movq	$8, 144(%rsp)
-	movq	$8, 168(%rsp)
+	jne	39b
+40:
+	movq	%rbp, 56(%rsp)
+	movq	$8, 152(%rsp)
+	movq	$8, 176(%rsp)
 	xorps	%xmm0, %xmm0
 	movaps	%xmm0, 400(%rsp)
 	movaps	%xmm0, 416(%rsp)
 	movq	$0, 432(%rsp)
 	leaq	400(%rsp), %rdi
-	leaq	136(%rsp), %rsi
+	leaq	144(%rsp), %rsi
 	movl	$7, %edx
 	callq	"std_alloc::vec::Vec::remove::<#21647806b46d5bf1>"
 	testw	%r14w, %r14w
-	movq	%r12, %r10
-	je	45f
+	movq	8(%rsp), %r10
+	je	47f
 	leaq	608(%r10), %rdi
-	movq	184(%rsp), %rax
-	movq	192(%rsp), %r8
+	movq	192(%rsp), %rax
+	movq	200(%rsp), %r8
 	leaq	64(%rax), %rsi
 	leaq	-64(,%r8,8), %rdx
 	movq	%rdi, %rcx
 	subq	%rsi, %rcx
 	cmpq	%rdx, %rcx
-	jae	44f
+	jae	46f
 	movq	%r8, %rcx
 	addq	$-8, %rcx
-	je	45f
+	je	47f
 	cmpq	$4, %rcx
-	jb	39f
+	jb	41f
 	movq	%r10, %rdx
 	subq	%rax, %rdx
 	addq	$544, %rdx
 	cmpq	$32, %rdx
-	jae	47f
-39:
+	jae	49f
+41:
 	xorl	%edx, %edx
-40:
+42:
 	movq	%r8, %r10
 	movq	%rdx, %r9
 	andq	$3, %r10
-	je	42f
+	je	44f
 	movq	%rdx, %r9
-41:
+43:
 	movq	(%rsi,%r9,8), %r11
 	movq	%r11, (%rdi,%r9,8)
 	incq	%r9
 	decq	%r10
-	jne	41b
-42:
+	jne	43b
+44:
 	subq	%rdx, %r8
 	addq	$-9, %r8
 	cmpq	$3, %r8
-	movq	%r12, %r10
-	jb	45f
-43:
+	movq	8(%rsp), %r10
+	jb	47f
+45:
 	movq	64(%rax,%r9,8), %rdx
 	movq	%rdx, 608(%r10,%r9,8)
 	movq	72(%rax,%r9,8), %rdx
@@ -1952,14 +1958,15 @@
 	movq	%rdx, 632(%r10,%r9,8)
 	addq	$4, %r9
 	cmpq	%r9, %rcx
-	jne	43b
-	jmp	45f
-44:
+	jne	45b
+	jmp	47f
+46:
 	callq	memmove@PLT
-	movq	%r12, %r10
-45:
-	movzwl	144(%rsp), %eax
-	movq	208(%rsp), %rcx
+	movq	8(%rsp), %r10
+47:
+	movq	%r15, %rbp
+	movzwl	152(%rsp), %eax
+	movq	216(%rsp), %rcx
 	movw	%ax, (%rcx)
 	movw	%r13w, (%r10)
 	movq	432(%rsp), %rax
@@ -1968,66 +1975,69 @@
 	movaps	%xmm0, 304(%rsp)
 	movaps	%xmm1, 320(%rsp)
 	movq	%rax, 336(%rsp)
-	movq	%rcx, (%rbx,%r15,8)
+	movq	56(%rsp), %r13
+	movq	32(%rsp), %rax
+	movq	%rcx, (%rax,%r13,8)
 	movq	336(%rsp), %rax
 	movq	%rax, 384(%rsp)
 	movaps	304(%rsp), %xmm0
 	movaps	320(%rsp), %xmm1
 	movaps	%xmm1, 368(%rsp)
 	movaps	%xmm0, 352(%rsp)
-	leaq	216(%rsp), %rdi
+	leaq	224(%rsp), %rdi
 	leaq	352(%rsp), %rdx
-	movq	%r15, %rsi
+	movq	%r13, %rsi
 	callq	"std_alloc::vec::lodged::Vec+T+Lodged::insert_reserved::<38'(,,)::<i8,3'&[](*,i64,),3'&[](*,i64,)>>"
-	incq	%r15
-	movq	264(%rsp), %rbx
-	movq	272(%rsp), %rdx
-	leal	(,%r15,8), %r14d
-	subq	%r15, %rdx
-	je	46f
-	leaq	(%rbx,%r14), %rsi
-	leaq	(%rbx,%r14), %rdi
+	incq	%r13
+	movq	272(%rsp), %r14
+	movq	280(%rsp), %rdx
+	leal	(,%r13,8), %r15d
+	subq	%r13, %rdx
+	je	48f
+	leaq	(%r14,%r15), %rsi
+	leaq	(%r14,%r15), %rdi
 	addq	$8, %rdi
 	shlq	$3, %rdx
 	callq	memmove@PLT
-46:
-	movq	%r12, (%rbx,%r14)
-	movzwl	224(%rsp), %eax
-	movq	288(%rsp), %rdx
-	movw	%ax, (%rdx)
-	movq	24(%rsp), %rax
-	movq	%rdx, (%rax)
-	movzbl	1(%rbp), %eax
+48:
+	movq	8(%rsp), %rax
+	movq	%rax, (%r14,%r15)
+	movzwl	232(%rsp), %eax
+	movq	296(%rsp), %rsi
+	movw	%ax, (%rsi)
+	movq	%rsi, (%r12)
+	movzbl	1(%rbx), %eax
 	cmpb	$7, %al
-	ja	27b
-	movzbl	(%rbp), %ecx
-	jmp	28b
-47:
+	ja	29b
+	movzbl	(%rbx), %ecx
+	jmp	30b
+49:
 	movq	%rcx, %rdx
 	andq	$-4, %rdx
 	xorl	%r9d, %r9d
-48:
+50:
 	movups	64(%rax,%r9,8), %xmm0
 	movups	80(%rax,%r9,8), %xmm1
 	movups	%xmm0, 608(%r10,%r9,8)
 	movups	%xmm1, 624(%r10,%r9,8)
 	addq	$4, %r9
 	cmpq	%r9, %rdx
-	jne	48b
+	jne	50b
 	cmpq	%rdx, %rcx
-	je	45b
-	jmp	40b
-49:
-	cmpw	$10, 72(%rsp)
+	je	47b
+	jmp	42b
+51:
+	cmpw	$10, 24(%rsp)
 	ja	20b
 	movl	$736, %edi
 	movl	$8, %esi
 	callq	rattle_alloc@PLT
+	movq	%rdx, 40(%rsp)
 	testb	$1, %al
 	je	20b
-	movq	72(%rsp), %rsi
+	movq	24(%rsp), %rsi
 	leal	1(%rsi), %eax
-	movq	%rdx, %r8
+	movq	40(%rsp), %rdx
 	movw	%ax, 2(%rdx)
 	movq	16(%rsp), %rcx
 	movq	(%rcx), %rax
@@ -2036,40 +2046,39 @@
 	movq	%rdx, (%rcx)
 	movl	$14, %eax
 	subq	%rsi, %rax
-	movq	24(%rsp), %rdi
-	movq	104(%rsp), %rdx
-	jmp	22b
-50:
-	movq	%rdx, 8(%rsp)
-	movq	16(%rsp), %rax
-	movq	(%rax), %r8
-	movq	32(%rsp), %rsi
-51:
-	movq	%r8, %rax
-	cmpw	$0, (%r8)
-	movq	112(%rsp), %r14
-	je	54f
-	cmpb	$1, (%r14)
-	jne	55f
-	movzbl	63(%rsp), %ebp
+	movq	8(%rsp), %rsi
+	movq	32(%rsp), %rdi
+	movq	120(%rsp), %rdx
+	jmp	24b
 52:
+	movq	16(%rsp), %rax
+	movq	(%rax), %rcx
+53:
+	movq	%rcx, %rax
+	cmpw	$0, (%rcx)
+	je	56f
+	movq	88(%rsp), %r15
+	cmpb	$1, (%r15)
+	movq	24(%rsp), %rcx
+	jne	57f
+	movzbl	79(%rsp), %ebx
 	shlq	$3, %rdi
-	movq	8(%rsp), %rax
-	cmpq	$1, %rsi
-	leaq	608(%rax,%rdi), %rbx
-	cmoveq	16(%rsp), %rbx
-	andl	$15, %ebp
-	movq	96(%rsp), %rax
-	movq	%rax, 216(%rsp)
-	movq	88(%rsp), %rax
+54:
+	cmpq	$1, %rcx
+	leaq	608(%rsi,%rdi), %r14
+	cmoveq	16(%rsp), %r14
+	andl	$15, %ebx
+	movq	112(%rsp), %rax
 	movq	%rax, 224(%rsp)
-	movq	80(%rsp), %rax
+	movq	104(%rsp), %rax
 	movq	%rax, 232(%rsp)
-	movq	128(%rsp), %rax
+	movq	96(%rsp), %rax
 	movq	%rax, 240(%rsp)
-	movq	120(%rsp), %rax
+	movq	136(%rsp), %rax
 	movq	%rax, 248(%rsp)
-	movq	(%rbx), %rax
+	movq	128(%rsp), %rax
+	movq	%rax, 256(%rsp)
+	movq	(%r14), %rax
 	movzwl	(%rax), %ecx
 	leaq	1(%rcx), %rdx
 	xorl	%esi, %esi
@@ -2080,35 +2089,35 @@
 	shll	$4, %esi
 	leaq	608(%rax), %rdx
 	leaq	8(%rax), %r8
-	movq	%r8, 136(%rsp)
-	movq	%rcx, 144(%rsp)
-	movq	$15, 152(%rsp)
-	movq	%rdx, 160(%rsp)
-	movq	%rcx, 168(%rsp)
-	movq	$15, 176(%rsp)
-	movq	%rdx, 184(%rsp)
-	movq	%rdi, 192(%rsp)
-	movq	%rsi, 200(%rsp)
-	movq	%rax, 208(%rsp)
-	leaq	136(%rsp), %rdi
-	leaq	216(%rsp), %rdx
-	movq	%rbp, %rsi
+	movq	%r8, 144(%rsp)
+	movq	%rcx, 152(%rsp)
+	movq	$15, 160(%rsp)
+	movq	%rdx, 168(%rsp)
+	movq	%rcx, 176(%rsp)
+	movq	$15, 184(%rsp)
+	movq	%rdx, 192(%rsp)
+	movq	%rdi, 200(%rsp)
+	movq	%rsi, 208(%rsp)
+	movq	%rax, 216(%rsp)
+	leaq	144(%rsp), %rdi
+	leaq	224(%rsp), %rdx
+	movq	%rbx, %rsi
 	callq	"std_alloc::vec::lodged::Vec+T+Lodged::insert_reserved::<38'(,,)::<i8,3'&[](*,i64,),3'&[](*,i64,)>>"
 	xorl	%eax, %eax
-	movzwl	144(%rsp), %ecx
-	movq	208(%rsp), %rdx
+	movzwl	152(%rsp), %ecx
+	movq	216(%rsp), %rdx
 	movw	%cx, (%rdx)
-	movq	%rdx, (%rbx)
-	incq	16(%r14)
+	movq	%rdx, (%r14)
+	incq	16(%r15)
 	movb	$1, %cl
-	jmp	18b
-53:
+	jmp	21b
+55:
 	movq	16(%rsp), %rax
 	movq	(%rax), %rcx
 	movq	%rcx, %rax
 	cmpw	$0, (%rcx)
 	jne	20b
-54:
+56:
 	cmpw	$0, 2(%rax)
 	je	20b
 	movq	%rax, %rdi
@@ -2117,10 +2126,10 @@
 	movq	16(%rsp), %rax
 	movq	%rbx, (%rax)
 	jmp	20b
-55:
+57:
 	ud2
-56:
-	.size	"mime_text::merging::first::is_first", 56b-"mime_text::merging::first::is_first"
+58:
+	.size	"mime_text::merging::first::is_first", 58b-"mime_text::merging::first::is_first"
 
 	.text
 	.p2align	4

@@ -8636,6 +8636,53 @@
 
 	.text
 	.p2align	4
+	.type	"std_alloc::vec::Vec::drop::<#b75285eeea4a2d4d>",@function
+"std_alloc::vec::Vec::drop::<#b75285eeea4a2d4d>":
+	pushq	%r15
+	pushq	%r14
+	pushq	%r12
+	pushq	%rbx
+	pushq	%rax
+	movq	(%rdi), %rbx
+	movq	8(%rdi), %r15
+	movq	16(%rdi), %r14
+	testq	%r15, %r15
+	je	3f
+	leaq	24(%rbx), %r12
+	jmp	2f
+	.p2align	4
+1:
+	addq	$40, %r12
+	decq	%r15
+	je	3f
+2:
+	cmpq	$0, (%r12)
+	je	1b
+	movq	-16(%r12), %rdi
+	callq	rattle_dealloc@PLT
+	jmp	1b
+3:
+	testq	%r14, %r14
+	je	4f
+	movq	%rbx, %rdi
+	addq	$8, %rsp
+	popq	%rbx
+	popq	%r12
+	popq	%r14
+	popq	%r15
+	jmp	rattle_dealloc@PLT
+4:
+	addq	$8, %rsp
+	popq	%rbx
+	popq	%r12
+	popq	%r14
+	popq	%r15
+	retq
+5:
+	.size	"std_alloc::vec::Vec::drop::<#b75285eeea4a2d4d>", 5b-"std_alloc::vec::Vec::drop::<#b75285eeea4a2d4d>"
+
+	.text
+	.p2align	4
 	.type	"std_alloc::vec::Vec::drop::<#ccb62962bdca9bb0>",@function
 "std_alloc::vec::Vec::drop::<#ccb62962bdca9bb0>":
 	pushq	%rbp
