@@ -2,438 +2,142 @@
 
 	.text
 	.p2align	4
-	.type	"mime_base::magic::ranges::value_in_range",@function
-"mime_base::magic::ranges::value_in_range":
+	.type	"mime_base::magic::pairs::pass_pairs",@function
+"mime_base::magic::pairs::pass_pairs":
 	pushq	%rbp
-	pushq	%r15
 	pushq	%r14
-	pushq	%r13
-	pushq	%r12
 	pushq	%rbx
-	subq	$56, %rsp
-	movq	%rdx, 40(%rsp)
-	movq	%rdi, 32(%rsp)
-	movq	120(%rsp), %rax
-	subq	%rsi, %rax
-	jb	7f
-	movq	128(%rsp), %rbx
-	cmpq	%rbx, %rax
-	jb	7f
-	movl	%r9d, %r14d
-	movl	%r8d, %ebp
-	movq	%rcx, %r13
-	movq	%rsi, %r12
-	movq	136(%rsp), %r15
-	movq	%r15, %rcx
-	xorq	$1, %rcx
-	orq	%r13, %rcx
-	jne	1f
-	testq	%r12, %r12
-	sete	%cl
-	cmpl	$1, %ebp
-	setne	%dl
-	orb	%cl, %dl
-	jne	1f
-	movq	112(%rsp), %rcx
-	movzbl	(%rcx,%rbx), %ecx
-	movq	32(%rsp), %rdx
-	cmpb	(%rdx), %cl
-	jne	6f
-1:
-	addq	%rbx, %r15
-	incq	%rax
-	cmpq	%r15, %rax
-	cmovbq	%rax, %r15
-	cmpq	%rbx, %rax
-	jbe	7f
-	testq	%r13, %r13
-	sete	%sil
-	testq	%r12, %r12
-	setne	%dil
-	cmpl	$2, %ebp
-	sete	%cl
-	testb	$1, %r12b
-	sete	%r8b
-	cmpl	$4, %ebp
-	sete	%dl
-	testb	$3, %r12b
-	sete	%al
-	testb	%dil, %sil
-	jne	3f
-	.p2align	4
-2:
-	cmpq	%rbx, %r15
-	je	7f
-	movq	112(%rsp), %rax
-	addq	%rbx, %rax
-	movq	144(%rsp), %rcx
-	movq	%rcx, 16(%rsp)
-	movq	%r12, 8(%rsp)
-	movq	%rax, (%rsp)
-	movzbl	%r14b, %r9d
-	movq	32(%rsp), %rdi
-	movq	%r12, %rsi
-	movq	40(%rsp), %rdx
-	movq	%r13, %rcx
-	movl	%ebp, %r8d
-	callq	"mime_base::magic::ranges::value_is"
-	testb	%al, %al
-	jne	29f
-	incq	%rbx
-	xorl	%eax, %eax
-	cmpq	%r15, %rbx
-	jb	2b
-	jmp	8f
-3:
-	andb	%cl, %r8b
-	andb	%dl, %al
-	cmpq	$1, %r12
-	jne	9f
-	testb	%r14b, %r14b
-	je	23f
-4:
-	movq	%r15, %r12
-	subq	%rbx, %r12
-	cmpq	$2, %r12
-	jb	5f
-	movq	112(%rsp), %rax
-	leaq	(%rax,%rbx), %rsi
-	movq	32(%rsp), %rax
-	movzbl	(%rax), %edi
-	movq	%r12, %rdx
-	callq	"memchr::bytes::memchr"
-	testb	$1, %al
-	cmoveq	%r12, %rdx
-	movq	144(%rsp), %rsi
-	movq	8(%rsi), %rax
-	addq	%rdx, %rax
-	movq	$-1, %rcx
-	cmovaeq	%rax, %rcx
-	movq	%rcx, 8(%rsi)
-	addq	%rdx, %rbx
-5:
-	cmpq	%r15, %rbx
-	je	7f
-	movq	112(%rsp), %rax
-	addq	%rbx, %rax
-	movq	144(%rsp), %rcx
-	movq	%rcx, 16(%rsp)
-	movq	%rax, (%rsp)
-	movq	$1, 8(%rsp)
-	movzbl	%r14b, %r9d
-	movl	$1, %esi
-	movq	32(%rsp), %rdi
-	movq	40(%rsp), %rdx
-	xorl	%ecx, %ecx
-	movl	%ebp, %r8d
-	callq	"mime_base::magic::ranges::value_is"
-	testb	%al, %al
-	jne	29f
-	incq	%rbx
-	xorl	%eax, %eax
-	cmpq	%r15, %rbx
-	jb	4b
-	jmp	8f
-6:
-	movq	144(%rsp), %rdx
-	movq	8(%rdx), %rax
-	incq	%rax
-	movq	$-1, %rcx
-	cmovneq	%rax, %rcx
-	movq	%rcx, 8(%rdx)
-7:
-	xorl	%eax, %eax
-8:
-	addq	$56, %rsp
-	popq	%rbx
-	popq	%r12
-	popq	%r13
-	popq	%r14
-	popq	%r15
-	popq	%rbp
-	retq
-9:
-	testb	%r14b, %r14b
-	sete	%cl
-	orb	%al, %r8b
-	andb	%cl, %r8b
-	movl	%r8d, %r13d
-	movq	112(%rsp), %rax
-	incq	%rax
-	movq	%rax, 48(%rsp)
-	.p2align	4
-10:
-	movq	%r15, %rsi
-	subq	%rbx, %rsi
-	cmpq	$2, %rsi
-	setb	%al
-	orb	%r13b, %al
-	jne	22f
-	movq	32(%rsp), %rax
-	movzbl	(%rax), %r8d
-	movzbl	1(%rax), %edi
-	cmpq	$32, %rsi
-	jb	14f
-	movzbl	%r8b, %eax
-	movd	%eax, %xmm0
+	movzbl	%dil, %r11d
+	movzbl	%sil, %eax
+	cmpq	$32, %r8
+	jb	4f
+	movd	%r11d, %xmm0
 	pxor	%xmm2, %xmm2
 	pshufb	%xmm2, %xmm0
-	movzbl	%dil, %eax
 	movd	%eax, %xmm1
 	pshufb	%xmm2, %xmm1
-	movq	48(%rsp), %rax
-	leaq	(%rax,%rbx), %rcx
-	xorl	%eax, %eax
-	movq	%rsi, %r9
-	xorl	%edx, %edx
-	jmp	13f
-	.p2align	4
-11:
+	xorl	%r9d, %r9d
+	movq	%r8, %rbx
 	xorl	%r10d, %r10d
-12:
-	addq	$32, %rax
-	addq	%r10, %rdx
-	addq	$-32, %r9
-	cmpq	$31, %r9
-	jbe	15f
-13:
-	movdqu	-1(%rcx,%rax), %xmm2
-	movdqu	15(%rcx,%rax), %xmm3
+	jmp	3f
+	.p2align	4
+1:
+	xorl	%r14d, %r14d
+2:
+	addq	$32, %r9
+	addq	%r14, %r10
+	addq	$-32, %rbx
+	cmpq	$31, %rbx
+	jbe	5f
+3:
+	movdqu	(%rdx,%r9), %xmm2
+	movdqu	16(%rdx,%r9), %xmm3
 	pcmpeqb	%xmm0, %xmm2
-	pmovmskb	%xmm2, %r11d
+	pmovmskb	%xmm2, %r14d
 	pcmpeqb	%xmm0, %xmm3
-	pmovmskb	%xmm3, %r10d
-	shll	$16, %r10d
-	orl	%r11d, %r10d
-	je	11b
-	movdqu	(%rcx,%rax), %xmm4
-	movdqu	16(%rcx,%rax), %xmm5
+	pmovmskb	%xmm3, %ebp
+	shll	$16, %ebp
+	orl	%r14d, %ebp
+	je	1b
+	movdqu	1(%rdx,%r9), %xmm4
+	movdqu	17(%rdx,%r9), %xmm5
 	pcmpeqb	%xmm1, %xmm4
 	pcmpeqb	%xmm1, %xmm5
 	pand	%xmm3, %xmm5
 	pand	%xmm2, %xmm4
 	por	%xmm5, %xmm4
-	pmovmskb	%xmm4, %r11d
-	testl	%r11d, %r11d
-	jne	15f
-	popcntl	%r10d, %r10d
-	jmp	12b
-14:
+	pmovmskb	%xmm4, %r14d
+	testl	%r14d, %r14d
+	jne	5f
+	xorl	%r14d, %r14d
+	popcntl	%ebp, %r14d
+	jmp	2b
+4:
+	xorl	%r10d, %r10d
+	xorl	%r9d, %r9d
+5:
+	subq	%r9, %rcx
+	subq	%r9, %r8
+	cmpq	$4, %r8
+	setae	%bl
+	cmpq	$33, %rcx
+	setae	%cl
+	testb	%bl, %cl
+	jne	9f
+	testq	%r8, %r8
+	je	11f
+	leaq	(%r9,%rdx), %rcx
+	incq	%rcx
 	xorl	%edx, %edx
 	xorl	%eax, %eax
-15:
-	leaq	(%rbx,%rax), %r10
-	movq	120(%rsp), %rcx
-	subq	%r10, %rcx
-	subq	%rax, %rsi
-	cmpq	$33, %rcx
-	jb	16f
-	cmpq	$3, %rsi
-	jbe	16f
-	movq	112(%rsp), %rcx
-	addq	%rbx, %rcx
-	movzbl	%r8b, %r8d
-	movd	%r8d, %xmm0
+	jmp	8f
+	.p2align	4
+6:
+	incq	%rdx
+7:
+	incq	%rax
+	cmpq	%rax, %r8
+	je	10f
+8:
+	cmpb	%dil, -1(%rcx,%rax)
+	jne	7b
+	cmpb	%sil, (%rcx,%rax)
+	jne	6b
+	jmp	12f
+9:
+	movd	%r11d, %xmm0
 	pxor	%xmm1, %xmm1
 	pshufb	%xmm1, %xmm0
-	movdqu	(%rcx,%rax), %xmm2
-	movdqu	1(%rcx,%rax), %xmm3
-	movdqu	16(%rcx,%rax), %xmm4
-	movdqu	17(%rcx,%rax), %xmm5
+	movdqu	(%rdx,%r9), %xmm2
+	movdqu	1(%rdx,%r9), %xmm3
+	movdqu	16(%rdx,%r9), %xmm4
+	movdqu	17(%rdx,%r9), %xmm5
 	pcmpeqb	%xmm0, %xmm2
 	pmovmskb	%xmm2, %ecx
 	pcmpeqb	%xmm0, %xmm4
-	pmovmskb	%xmm4, %r8d
-	shll	$16, %r8d
-	orl	%ecx, %r8d
-	movzbl	%dil, %ecx
-	movd	%ecx, %xmm0
+	pmovmskb	%xmm4, %edx
+	shll	$16, %edx
+	orl	%ecx, %edx
+	movd	%eax, %xmm0
 	pshufb	%xmm1, %xmm0
 	pcmpeqb	%xmm0, %xmm3
 	pcmpeqb	%xmm5, %xmm0
 	pand	%xmm4, %xmm0
 	pand	%xmm2, %xmm3
-	pmovmskb	%xmm3, %ecx
-	pmovmskb	%xmm0, %edi
-	shll	$16, %edi
-	orl	%ecx, %edi
-	movl	$64, %r9d
-	rep		bsfq	%rdi, %r9
-	cmpq	%r9, %rsi
-	cmovbq	%rsi, %r9
-	cmpq	$32, %r9
-	movl	$32, %ecx
-	cmovbq	%r9, %rcx
+	pmovmskb	%xmm3, %eax
+	pmovmskb	%xmm0, %ecx
+	shll	$16, %ecx
+	orl	%eax, %ecx
+	movl	$64, %esi
+	rep		bsfq	%rcx, %rsi
+	cmpq	%rsi, %r8
+	cmovbq	%r8, %rsi
+	cmpq	$32, %rsi
+	movl	$32, %eax
+	cmovbq	%rsi, %rax
 	movq	$-1, %rsi
+	movl	%eax, %ecx
 	shlq	%cl, %rsi
 	notl	%esi
-	andl	%r8d, %esi
-	xorl	%r9d, %r9d
-	popcntl	%esi, %r9d
-	jmp	21f
-16:
-	testq	%rsi, %rsi
-	je	20f
-	movq	%r15, %r11
-	subq	%rax, %r11
-	subq	%rbx, %r11
-	addq	48(%rsp), %r10
-	xorl	%r9d, %r9d
-	xorl	%ecx, %ecx
-	jmp	18f
-	.p2align	4
-17:
-	incq	%rcx
-	cmpq	%rcx, %r11
-	je	19f
-18:
-	cmpb	%r8b, -1(%r10,%rcx)
-	jne	17b
-	cmpb	%dil, (%r10,%rcx)
-	je	21f
-	incq	%r9
-	jmp	17b
-19:
-	movq	%rsi, %rcx
-	jmp	21f
-20:
-	xorl	%ecx, %ecx
-	xorl	%r9d, %r9d
-21:
-	addq	%rdx, %r9
-	addq	%rax, %rcx
-	movq	144(%rsp), %rsi
-	movq	8(%rsi), %rax
-	addq	%rcx, %rax
-	movq	$-1, %rdx
-	cmovbq	%rdx, %rax
+	andl	%edx, %esi
+	xorl	%edx, %edx
+	popcntl	%esi, %edx
+	jmp	12f
+10:
+	movq	%r8, %rax
+	jmp	12f
+11:
+	xorl	%eax, %eax
+	xorl	%edx, %edx
+12:
+	addq	%r10, %rdx
 	addq	%r9, %rax
-	cmovbq	%rdx, %rax
-	movq	%rax, 8(%rsi)
-	addq	%rcx, %rbx
-22:
-	cmpq	%r15, %rbx
-	je	7b
-	movq	112(%rsp), %rax
-	addq	%rbx, %rax
-	movq	144(%rsp), %rcx
-	movq	%rcx, 16(%rsp)
-	movq	%r12, 8(%rsp)
-	movq	%rax, (%rsp)
-	movzbl	%r14b, %r9d
-	movq	32(%rsp), %rdi
-	movq	%r12, %rsi
-	movq	40(%rsp), %rdx
-	xorl	%ecx, %ecx
-	movl	%ebp, %r8d
-	callq	"mime_base::magic::ranges::value_is"
-	testb	%al, %al
-	jne	29f
-	incq	%rbx
-	xorl	%eax, %eax
-	cmpq	%r15, %rbx
-	jb	10b
-	jmp	8b
-23:
-	testb	%r8b, %r8b
-	je	25f
-24:
-	cmpq	%rbx, %r15
-	je	7b
-	movq	112(%rsp), %rax
-	addq	%rbx, %rax
-	movq	144(%rsp), %rcx
-	movq	%rcx, 16(%rsp)
-	movq	%rax, (%rsp)
-	movq	$1, 8(%rsp)
-	movl	$1, %esi
-	movq	32(%rsp), %rdi
-	movq	40(%rsp), %rdx
-	xorl	%ecx, %ecx
-	movl	$2, %r8d
-	xorl	%r9d, %r9d
-	callq	"mime_base::magic::ranges::value_is"
-	testb	%al, %al
-	jne	29f
-	incq	%rbx
-	xorl	%eax, %eax
-	cmpq	%r15, %rbx
-	jb	24b
-	jmp	8b
-25:
-	testb	%al, %al
-	je	27f
-26:
-	cmpq	%rbx, %r15
-	je	7b
-	movq	112(%rsp), %rax
-	addq	%rbx, %rax
-	movq	144(%rsp), %rcx
-	movq	%rcx, 16(%rsp)
-	movq	%rax, (%rsp)
-	movq	$1, 8(%rsp)
-	movl	$1, %esi
-	movq	32(%rsp), %rdi
-	movq	40(%rsp), %rdx
-	xorl	%ecx, %ecx
-	movl	$4, %r8d
-	xorl	%r9d, %r9d
-	callq	"mime_base::magic::ranges::value_is"
-	testb	%al, %al
-	jne	29f
-	incq	%rbx
-	xorl	%eax, %eax
-	cmpq	%r15, %rbx
-	jb	26b
-	jmp	8b
-27:
-	movq	%r15, %r14
-	subq	%rbx, %r14
-	cmpq	$2, %r14
-	jb	28f
-	movq	112(%rsp), %rax
-	leaq	(%rax,%rbx), %rsi
-	movq	32(%rsp), %rax
-	movzbl	(%rax), %edi
-	movq	%r14, %rdx
-	callq	"memchr::bytes::memchr"
-	testb	$1, %al
-	cmoveq	%r14, %rdx
-	movq	144(%rsp), %rsi
-	movq	8(%rsi), %rax
-	addq	%rdx, %rax
-	movq	$-1, %rcx
-	cmovaeq	%rax, %rcx
-	movq	%rcx, 8(%rsi)
-	addq	%rdx, %rbx
-28:
-	cmpq	%r15, %rbx
-	je	7b
-	movq	112(%rsp), %rax
-	addq	%rbx, %rax
-	movq	144(%rsp), %rcx
-	movq	%rcx, 16(%rsp)
-	movq	%rax, (%rsp)
-	movq	$1, 8(%rsp)
-	movl	$1, %esi
-	movq	32(%rsp), %rdi
-	movq	40(%rsp), %rdx
-	xorl	%ecx, %ecx
-	movl	%ebp, %r8d
-	xorl	%r9d, %r9d
-	callq	"mime_base::magic::ranges::value_is"
-	testb	%al, %al
-	jne	29f
-	incq	%rbx
-	xorl	%eax, %eax
-	cmpq	%r15, %rbx
-	jb	27b
-	jmp	8b
-29:
-	movb	$1, %al
-	jmp	8b
-30:
-	.size	"mime_base::magic::ranges::value_in_range", 30b-"mime_base::magic::ranges::value_in_range"
+	popq	%rbx
+	popq	%r14
+	popq	%rbp
+	retq
+13:
+	.size	"mime_base::magic::pairs::pass_pairs", 13b-"mime_base::magic::pairs::pass_pairs"
 
 	.text
 	.p2align	4

@@ -1738,12 +1738,12 @@
 	.quad	0,0,2,2,5,0,0,0,0
 	.size	".Lswitch.table.clap::builder::command::building::build_levels", 72
 
-	.type	".Lswitch.table.clap::builder::command::building::build_levels.2244",@object
+	.type	".Lswitch.table.clap::builder::command::building::build_levels.2243",@object
 	.section	.rodata,"a",@progbits
 	.p2align	3, 0x0
-".Lswitch.table.clap::builder::command::building::build_levels.2244":
+".Lswitch.table.clap::builder::command::building::build_levels.2243":
 	.quad	0,0,0,0,255,0,0,0,0
-	.size	".Lswitch.table.clap::builder::command::building::build_levels.2244", 72
+	.size	".Lswitch.table.clap::builder::command::building::build_levels.2243", 72
 
 	.type	".Lswitch.table.clap::parser::parse::Parser::check_value",@object
 	.section	.rodata.cst32,"aM",@progbits,32
@@ -1752,15 +1752,15 @@
 	.quad	38,29,38,38
 	.size	".Lswitch.table.clap::parser::parse::Parser::check_value", 32
 
-	.type	".Lswitch.table.clap::parser::parse::Parser::check_value.2245",@object
+	.type	".Lswitch.table.clap::parser::parse::Parser::check_value.2244",@object
 	.section	.data.rel.ro,"aw",@progbits
 	.p2align	3, 0x0
-".Lswitch.table.clap::parser::parse::Parser::check_value.2245":
+".Lswitch.table.clap::parser::parse::Parser::check_value.2244":
 	.quad	.Lc1b67e27bb9f
 	.quad	.Laa68302af712
 	.quad	.L6e2fce03fc0a
 	.quad	.L2cc55e3b3d11
-	.size	".Lswitch.table.clap::parser::parse::Parser::check_value.2245", 32
+	.size	".Lswitch.table.clap::parser::parse::Parser::check_value.2244", 32
 
 	.type	".Lswitch.table.mime_tool::line::print_line::<#2e1b2a3647f851f7>",@object
 	.section	.rodata,"a",@progbits
@@ -1773,20 +1773,20 @@
 	.quad	17
 	.size	".Lswitch.table.mime_tool::line::print_line::<#2e1b2a3647f851f7>", 48
 
-	.type	".Lswitch.table.mime_tool::line::print_line::<#2e1b2a3647f851f7>.2247",@object
+	.type	".Lswitch.table.mime_tool::line::print_line::<#2e1b2a3647f851f7>.2246",@object
 	.section	.data.rel.ro,"aw",@progbits
 	.p2align	3, 0x0
-".Lswitch.table.mime_tool::line::print_line::<#2e1b2a3647f851f7>.2247":
+".Lswitch.table.mime_tool::line::print_line::<#2e1b2a3647f851f7>.2246":
 	.quad	.L1fba8e2a4222
 	.quad	.L1f2087385df6
 	.zero	8
 	.quad	.L2e403fc0c1a9
 	.zero	8
 	.quad	.Lbf28a0ac4edc
-	.size	".Lswitch.table.mime_tool::line::print_line::<#2e1b2a3647f851f7>.2247", 48
+	.size	".Lswitch.table.mime_tool::line::print_line::<#2e1b2a3647f851f7>.2246", 48
 
-	.type	".Lswitch.table.mime_tool::system::SystemFilesFiles::whole::<#a1ba6ce099ef6b20>.2246",@object
+	.type	".Lswitch.table.mime_tool::system::SystemFilesFiles::whole::<#a1ba6ce099ef6b20>.2245",@object
 	.section	.rodata,"a",@progbits
-".Lswitch.table.mime_tool::system::SystemFilesFiles::whole::<#a1ba6ce099ef6b20>.2246":
+".Lswitch.table.mime_tool::system::SystemFilesFiles::whole::<#a1ba6ce099ef6b20>.2245":
 	.ascii	"\001\001\001\001\001\001\001\001\001\001\001\001\001\001\001\000\001\001\001\001\001\001\001\001\001\001\001\001\001\001\001\001\001\001\001\001\001\001\002\001\001\001"
-	.size	".Lswitch.table.mime_tool::system::SystemFilesFiles::whole::<#a1ba6ce099ef6b20>.2246", 42
+	.size	".Lswitch.table.mime_tool::system::SystemFilesFiles::whole::<#a1ba6ce099ef6b20>.2245", 42

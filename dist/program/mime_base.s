@@ -47,131 +47,67 @@
 
 	.text
 	.p2align	4
-	.type	"mime_base::magic::holding::some_line_matches",@function
-"mime_base::magic::holding::some_line_matches":
+	.type	"mime_base::magic::holding::equals_in_range",@function
+"mime_base::magic::holding::equals_in_range":
 	pushq	%rbp
 	pushq	%r15
 	pushq	%r14
 	pushq	%r13
 	pushq	%r12
 	pushq	%rbx
-	subq	$56, %rsp
-	movq	%r9, 48(%rsp)
-	movl	%r8d, 44(%rsp)
-	testq	%rsi, %rsi
-	je	5f
-	movq	%rcx, %r14
-	movq	%rdx, %r15
-	movq	%rsi, %r12
-	movq	%rdi, %r13
+	subq	$72, %rsp
+	movq	%r8, 48(%rsp)
+	movl	%ecx, %r13d
+	movq	%rsi, %r14
+	movq	24(%rdi), %r12
+	cmpb	$1, 40(%rdi)
+	jne	1f
+	movq	48(%rdi), %rax
+	movq	%rax, 56(%rsp)
+	movq	56(%rdi), %r15
+	movq	%rdx, %rbx
+	subq	%r12, %rbx
+	jb	9f
 	jmp	2f
-	.p2align	4
 1:
-	addq	$96, %r13
-	decq	%r12
-	je	5f
+	leaq	.L22d5119de29e(%rip), %rax
+	movq	%rax, 56(%rsp)
+	xorl	%r15d, %r15d
+	movq	%rdx, %rbx
+	subq	%r12, %rbx
+	jb	9f
 2:
-	cmpb	$1, 40(%r13)
-	jne	3f
-	movq	48(%r13), %rdx
-	movq	56(%r13), %rcx
-	jmp	4f
-	.p2align	4
-3:
-	leaq	.L22d5119de29e(%rip), %rdx
-	xorl	%ecx, %ecx
-4:
-	movq	16(%r13), %rdi
-	movq	24(%r13), %rsi
-	movl	8(%r13), %r8d
-	movl	(%r13), %eax
-	movl	4(%r13), %r9d
-	movq	48(%rsp), %r10
-	movq	%r10, 32(%rsp)
-	movq	%r9, 24(%rsp)
-	movq	%rax, 16(%rsp)
-	movq	%r14, 8(%rsp)
-	movq	%r15, (%rsp)
-	movzbl	44(%rsp), %ebx
-	movl	%ebx, %r9d
-	callq	"mime_base::magic::ranges::value_in_range"
-	testb	%al, %al
-	je	1b
-	movq	80(%r13), %rsi
-	movb	$1, %bpl
-	testq	%rsi, %rsi
-	je	6f
-	movq	72(%r13), %rdi
-	movq	%r15, %rdx
-	movq	%r14, %rcx
-	movl	%ebx, %r8d
-	movq	48(%rsp), %r9
-	callq	"mime_base::magic::holding::some_line_matches"
-	testb	%al, %al
-	je	1b
-	jmp	6f
-5:
-	xorl	%ebp, %ebp
-6:
-	movl	%ebp, %eax
-	addq	$56, %rsp
-	popq	%rbx
-	popq	%r12
-	popq	%r13
-	popq	%r14
-	popq	%r15
-	popq	%rbp
-	retq
-7:
-	.size	"mime_base::magic::holding::some_line_matches", 7b-"mime_base::magic::holding::some_line_matches"
-
-	.text
-	.p2align	4
-	.type	"mime_base::magic::ranges::value_in_range",@function
-"mime_base::magic::ranges::value_in_range":
-	pushq	%rbp
-	pushq	%r15
-	pushq	%r14
-	pushq	%r13
-	pushq	%r12
-	pushq	%rbx
-	subq	$56, %rsp
-	movl	%r8d, 36(%rsp)
-	movq	%rdx, 48(%rsp)
-	movq	%rdi, 40(%rsp)
-	movq	120(%rsp), %r15
-	subq	%rsi, %r15
-	jb	7f
-	movq	128(%rsp), %rbx
-	cmpq	%rbx, %r15
-	jb	7f
-	movl	%r9d, %ebp
-	movq	%rcx, %r13
-	movq	%rsi, %r12
-	movq	136(%rsp), %rax
-	movq	112(%rsp), %r14
+	movl	(%rdi), %ebp
+	cmpq	%rbp, %rbx
+	jb	9f
+	movq	%rdx, 64(%rsp)
+	movq	16(%rdi), %rax
+	movq	%rax, 40(%rsp)
+	movl	8(%rdi), %eax
+	movl	%eax, 36(%rsp)
+	movl	4(%rdi), %eax
 	movq	%rax, %rcx
 	xorq	$1, %rcx
-	orq	%r13, %rcx
-	jne	1f
+	orq	%r15, %rcx
+	jne	3f
 	testq	%r12, %r12
 	sete	%cl
 	cmpl	$1, 36(%rsp)
 	setne	%dl
 	orb	%cl, %dl
-	jne	1f
-	movzbl	(%r14,%rbx), %ecx
+	jne	3f
+	movzbl	(%r14,%rbp), %ecx
 	movq	40(%rsp), %rdx
 	cmpb	(%rdx), %cl
-	jne	6f
-1:
-	addq	%rbx, %rax
-	incq	%r15
-	cmpq	%rax, %r15
-	cmovaeq	%rax, %r15
-	cmpq	%r15, %rbx
-	jae	7f
-	testq	%r13, %r13
+	jne	8f
+3:
+	addq	%rbp, %rax
+	incq	%rbx
+	cmpq	%rax, %rbx
+	cmovaeq	%rax, %rbx
+	cmpq	%rbp, %rbx
+	jbe	9f
+	testq	%r15, %r15
 	sete	%sil
 	testq	%r12, %r12
 	setne	%dil
@@ -185,90 +121,90 @@
 	testb	$3, %r12b
 	sete	%al
 	testb	%dil, %sil
-	jne	3f
-	addq	%rbx, %r14
-	notq	%rbx
-	addq	%r15, %rbx
+	jne	5f
+	addq	%rbp, %r14
+	notq	%rbp
+	addq	%rbx, %rbp
 	.p2align	4
-2:
-	movq	144(%rsp), %rax
+4:
+	movq	48(%rsp), %rax
 	movq	%rax, 16(%rsp)
 	movq	%r12, 8(%rsp)
 	movq	%r14, (%rsp)
-	movzbl	%bpl, %r9d
+	movzbl	%r13b, %r9d
 	movq	40(%rsp), %rdi
 	movq	%r12, %rsi
-	movq	48(%rsp), %rdx
-	movq	%r13, %rcx
+	movq	56(%rsp), %rdx
+	movq	%r15, %rcx
 	movl	36(%rsp), %r8d
 	callq	"mime_base::magic::ranges::value_is"
-	subq	$1, %rbx
+	subq	$1, %rbp
 	setb	%cl
 	testb	%al, %al
-	jne	8f
+	jne	10f
 	incq	%r14
 	testb	%cl, %cl
-	je	2b
-	jmp	8f
-3:
+	je	4b
+	jmp	10f
+5:
 	andb	%cl, %r8b
 	andb	%dl, %al
 	cmpq	$1, %r12
-	jne	9f
-	testb	%bpl, %bpl
-	je	23f
-4:
-	movq	%r15, %r12
-	subq	%rbx, %r12
-	cmpq	$2, %r12
-	jb	5f
-	leaq	(%r14,%rbx), %rsi
+	jne	11f
+	testb	%r13b, %r13b
+	je	25f
+6:
+	movq	%rbx, %r15
+	subq	%rbp, %r15
+	cmpq	$2, %r15
+	jb	7f
+	leaq	(%r14,%rbp), %rsi
 	movq	40(%rsp), %rax
 	movzbl	(%rax), %edi
-	movq	%r12, %rdx
+	movq	%r15, %rdx
 	callq	"memchr::bytes::memchr"
 	testb	$1, %al
-	cmoveq	%r12, %rdx
-	movq	144(%rsp), %rsi
+	cmoveq	%r15, %rdx
+	movq	48(%rsp), %rsi
 	movq	8(%rsi), %rax
 	addq	%rdx, %rax
 	movq	$-1, %rcx
 	cmovaeq	%rax, %rcx
 	movq	%rcx, 8(%rsi)
-	addq	%rdx, %rbx
-5:
-	cmpq	%r15, %rbx
-	je	7f
-	leaq	(%r14,%rbx), %rax
-	movq	144(%rsp), %rcx
+	addq	%rdx, %rbp
+7:
+	cmpq	%rbx, %rbp
+	je	9f
+	leaq	(%r14,%rbp), %rax
+	movq	48(%rsp), %rcx
 	movq	%rcx, 16(%rsp)
 	movq	%rax, (%rsp)
 	movq	$1, 8(%rsp)
-	movzbl	%bpl, %r9d
+	movzbl	%r13b, %r9d
 	movl	$1, %esi
 	movq	40(%rsp), %rdi
-	movq	48(%rsp), %rdx
+	movq	56(%rsp), %rdx
 	xorl	%ecx, %ecx
 	movl	36(%rsp), %r8d
 	callq	"mime_base::magic::ranges::value_is"
 	testb	%al, %al
-	jne	29f
-	incq	%rbx
+	jne	31f
+	incq	%rbp
 	xorl	%eax, %eax
-	cmpq	%r15, %rbx
-	jb	4b
-	jmp	8f
-6:
-	movq	144(%rsp), %rdx
+	cmpq	%rbx, %rbp
+	jb	6b
+	jmp	10f
+8:
+	movq	48(%rsp), %rdx
 	movq	8(%rdx), %rax
 	incq	%rax
 	movq	$-1, %rcx
 	cmovneq	%rax, %rcx
 	movq	%rcx, 8(%rdx)
-7:
+9:
 	xorl	%eax, %eax
-8:
-	addq	$56, %rsp
+10:
+	addq	$72, %rsp
 	popq	%rbx
 	popq	%r12
 	popq	%r13
@@ -276,25 +212,25 @@
 	popq	%r15
 	popq	%rbp
 	retq
-9:
-	testb	%bpl, %bpl
+11:
+	testb	%r13b, %r13b
 	sete	%cl
 	orb	%al, %r8b
 	andb	%cl, %r8b
-	movl	%r8d, %r13d
+	movl	%r8d, %r15d
 	.p2align	4
-10:
-	movq	%r15, %rsi
-	subq	%rbx, %rsi
+12:
+	movq	%rbx, %rsi
+	subq	%rbp, %rsi
 	cmpq	$2, %rsi
 	setb	%al
-	orb	%r13b, %al
-	jne	22f
+	orb	%r15b, %al
+	jne	24f
 	movq	40(%rsp), %rax
 	movzbl	(%rax), %r8d
 	movzbl	1(%rax), %edi
 	cmpq	$32, %rsi
-	jb	14f
+	jb	16f
 	movzbl	%r8b, %eax
 	movd	%eax, %xmm0
 	pxor	%xmm2, %xmm2
@@ -303,21 +239,21 @@
 	movd	%eax, %xmm1
 	pshufb	%xmm2, %xmm1
 	leaq	1(%r14), %rax
-	leaq	(%rax,%rbx), %rcx
+	leaq	(%rax,%rbp), %rcx
 	xorl	%eax, %eax
 	movq	%rsi, %r9
 	xorl	%edx, %edx
-	jmp	13f
+	jmp	15f
 	.p2align	4
-11:
+13:
 	xorl	%r10d, %r10d
-12:
+14:
 	addq	$32, %rax
 	addq	%r10, %rdx
 	addq	$-32, %r9
 	cmpq	$31, %r9
-	jbe	15f
-13:
+	jbe	17f
+15:
 	movdqu	-1(%rcx,%rax), %xmm2
 	movdqu	15(%rcx,%rax), %xmm3
 	pcmpeqb	%xmm0, %xmm2
@@ -326,7 +262,7 @@
 	pmovmskb	%xmm3, %r10d
 	shll	$16, %r10d
 	orl	%r11d, %r10d
-	je	11b
+	je	13b
 	movdqu	(%rcx,%rax), %xmm4
 	movdqu	16(%rcx,%rax), %xmm5
 	pcmpeqb	%xmm1, %xmm4
@@ -336,22 +272,22 @@
 	por	%xmm5, %xmm4
 	pmovmskb	%xmm4, %r11d
 	testl	%r11d, %r11d
-	jne	15f
+	jne	17f
 	popcntl	%r10d, %r10d
-	jmp	12b
-14:
+	jmp	14b
+16:
 	xorl	%edx, %edx
 	xorl	%eax, %eax
-15:
-	leaq	(%rbx,%rax), %r10
-	movq	120(%rsp), %rcx
+17:
+	leaq	(%rax,%rbp), %r10
+	movq	64(%rsp), %rcx
 	subq	%r10, %rcx
 	subq	%rax, %rsi
 	cmpq	$33, %rcx
-	jb	16f
+	jb	18f
 	cmpq	$3, %rsi
-	jbe	16f
-	leaq	(%r14,%rbx), %rcx
+	jbe	18f
+	leaq	(%r14,%rbp), %rcx
 	movzbl	%r8b, %r8d
 	movd	%r8d, %xmm0
 	pxor	%xmm1, %xmm1
@@ -390,40 +326,40 @@
 	andl	%r8d, %esi
 	xorl	%r9d, %r9d
 	popcntl	%esi, %r9d
-	jmp	21f
-16:
+	jmp	23f
+18:
 	testq	%rsi, %rsi
-	je	20f
-	movq	%r15, %r11
+	je	22f
+	movq	%rbx, %r11
 	subq	%rax, %r11
-	subq	%rbx, %r11
+	subq	%rbp, %r11
 	leaq	1(%r14), %rcx
 	addq	%rcx, %r10
 	xorl	%r9d, %r9d
 	xorl	%ecx, %ecx
-	jmp	18f
+	jmp	20f
 	.p2align	4
-17:
+19:
 	incq	%rcx
 	cmpq	%rcx, %r11
-	je	19f
-18:
-	cmpb	%r8b, -1(%r10,%rcx)
-	jne	17b
-	cmpb	%dil, (%r10,%rcx)
 	je	21f
-	incq	%r9
-	jmp	17b
-19:
-	movq	%rsi, %rcx
-	jmp	21f
 20:
+	cmpb	%r8b, -1(%r10,%rcx)
+	jne	19b
+	cmpb	%dil, (%r10,%rcx)
+	je	23f
+	incq	%r9
+	jmp	19b
+21:
+	movq	%rsi, %rcx
+	jmp	23f
+22:
 	xorl	%ecx, %ecx
 	xorl	%r9d, %r9d
-21:
+23:
 	addq	%rdx, %r9
 	addq	%rax, %rcx
-	movq	144(%rsp), %rsi
+	movq	48(%rsp), %rsi
 	movq	8(%rsi), %rax
 	addq	%rcx, %rax
 	movq	$-1, %rdx
@@ -431,127 +367,329 @@
 	addq	%r9, %rax
 	cmovbq	%rdx, %rax
 	movq	%rax, 8(%rsi)
-	addq	%rcx, %rbx
-22:
-	cmpq	%r15, %rbx
-	je	7b
-	leaq	(%r14,%rbx), %rax
-	movq	144(%rsp), %rcx
+	addq	%rcx, %rbp
+24:
+	cmpq	%rbx, %rbp
+	je	9b
+	leaq	(%r14,%rbp), %rax
+	movq	48(%rsp), %rcx
 	movq	%rcx, 16(%rsp)
 	movq	%r12, 8(%rsp)
 	movq	%rax, (%rsp)
-	movzbl	%bpl, %r9d
+	movzbl	%r13b, %r9d
 	movq	40(%rsp), %rdi
 	movq	%r12, %rsi
-	movq	48(%rsp), %rdx
+	movq	56(%rsp), %rdx
 	xorl	%ecx, %ecx
 	movl	36(%rsp), %r8d
 	callq	"mime_base::magic::ranges::value_is"
 	testb	%al, %al
-	jne	29f
-	incq	%rbx
+	jne	31f
+	incq	%rbp
 	xorl	%eax, %eax
-	cmpq	%r15, %rbx
-	jb	10b
-	jmp	8b
-23:
+	cmpq	%rbx, %rbp
+	jb	12b
+	jmp	10b
+25:
 	testb	%r8b, %r8b
-	je	25f
-	addq	%rbx, %r14
-	notq	%rbx
-	addq	%r15, %rbx
-24:
-	movq	144(%rsp), %rax
+	je	27f
+	addq	%rbp, %r14
+	notq	%rbp
+	addq	%rbx, %rbp
+26:
+	movq	48(%rsp), %rax
 	movq	%rax, 16(%rsp)
 	movq	%r14, (%rsp)
 	movq	$1, 8(%rsp)
 	movl	$1, %esi
 	movq	40(%rsp), %rdi
-	movq	48(%rsp), %rdx
+	movq	56(%rsp), %rdx
 	xorl	%ecx, %ecx
 	movl	$2, %r8d
 	xorl	%r9d, %r9d
 	callq	"mime_base::magic::ranges::value_is"
-	subq	$1, %rbx
+	subq	$1, %rbp
 	setb	%cl
 	testb	%al, %al
-	jne	8b
+	jne	10b
 	incq	%r14
 	testb	%cl, %cl
-	je	24b
-	jmp	8b
-25:
+	je	26b
+	jmp	10b
+27:
 	testb	%al, %al
-	je	27f
-	addq	%rbx, %r14
-	notq	%rbx
-	addq	%r15, %rbx
-26:
-	movq	144(%rsp), %rax
+	je	29f
+	addq	%rbp, %r14
+	notq	%rbp
+	addq	%rbx, %rbp
+28:
+	movq	48(%rsp), %rax
 	movq	%rax, 16(%rsp)
 	movq	%r14, (%rsp)
 	movq	$1, 8(%rsp)
 	movl	$1, %esi
 	movq	40(%rsp), %rdi
-	movq	48(%rsp), %rdx
+	movq	56(%rsp), %rdx
 	xorl	%ecx, %ecx
 	movl	$4, %r8d
 	xorl	%r9d, %r9d
 	callq	"mime_base::magic::ranges::value_is"
-	subq	$1, %rbx
+	subq	$1, %rbp
 	setb	%cl
 	testb	%al, %al
-	jne	8b
+	jne	10b
 	incq	%r14
 	testb	%cl, %cl
-	je	26b
-	jmp	8b
-27:
-	movq	%r15, %r12
-	subq	%rbx, %r12
-	cmpq	$2, %r12
-	jb	28f
-	leaq	(%r14,%rbx), %rsi
+	je	28b
+	jmp	10b
+29:
+	movq	%rbx, %r15
+	subq	%rbp, %r15
+	cmpq	$2, %r15
+	jb	30f
+	leaq	(%r14,%rbp), %rsi
 	movq	40(%rsp), %rax
 	movzbl	(%rax), %edi
-	movq	%r12, %rdx
+	movq	%r15, %rdx
 	callq	"memchr::bytes::memchr"
 	testb	$1, %al
-	cmoveq	%r12, %rdx
-	movq	144(%rsp), %rsi
+	cmoveq	%r15, %rdx
+	movq	48(%rsp), %rsi
 	movq	8(%rsi), %rax
 	addq	%rdx, %rax
 	movq	$-1, %rcx
 	cmovaeq	%rax, %rcx
 	movq	%rcx, 8(%rsi)
-	addq	%rdx, %rbx
-28:
-	cmpq	%r15, %rbx
-	je	7b
-	leaq	(%r14,%rbx), %rax
-	movq	144(%rsp), %rcx
+	addq	%rdx, %rbp
+30:
+	cmpq	%rbx, %rbp
+	je	9b
+	leaq	(%r14,%rbp), %rax
+	movq	48(%rsp), %rcx
 	movq	%rcx, 16(%rsp)
 	movq	%rax, (%rsp)
 	movq	$1, 8(%rsp)
 	movl	$1, %esi
 	movq	40(%rsp), %rdi
-	movq	48(%rsp), %rdx
+	movq	56(%rsp), %rdx
 	xorl	%ecx, %ecx
 	movl	36(%rsp), %r8d
 	xorl	%r9d, %r9d
 	callq	"mime_base::magic::ranges::value_is"
 	testb	%al, %al
-	jne	29f
-	incq	%rbx
+	jne	31f
+	incq	%rbp
 	xorl	%eax, %eax
-	cmpq	%r15, %rbx
-	jb	27b
-	jmp	8b
-29:
+	cmpq	%rbx, %rbp
+	jb	29b
+	jmp	10b
+31:
 	movb	$1, %al
-	jmp	8b
-30:
-	.size	"mime_base::magic::ranges::value_in_range", 30b-"mime_base::magic::ranges::value_in_range"
+	jmp	10b
+32:
+	.size	"mime_base::magic::holding::equals_in_range", 32b-"mime_base::magic::holding::equals_in_range"
+
+	.text
+	.p2align	4
+	.type	"mime_base::magic::holding::some_line_matches",@function
+"mime_base::magic::holding::some_line_matches":
+	pushq	%rbp
+	pushq	%r15
+	pushq	%r14
+	pushq	%r13
+	pushq	%r12
+	pushq	%rbx
+	subq	$24, %rsp
+	movq	%r9, 16(%rsp)
+	movl	%r8d, 12(%rsp)
+	testq	%rsi, %rsi
+	je	3f
+	movq	%rcx, %r14
+	movq	%rdx, %r15
+	movq	%rsi, %r12
+	movq	%rdi, %r13
+	jmp	2f
+	.p2align	4
+1:
+	addq	$96, %r13
+	decq	%r12
+	je	3f
+2:
+	movzbl	12(%rsp), %ebx
+	movq	%r13, %rdi
+	movq	%r15, %rsi
+	movq	%r14, %rdx
+	movl	%ebx, %ecx
+	movq	16(%rsp), %r8
+	callq	"mime_base::magic::holding::equals_in_range"
+	testb	%al, %al
+	je	1b
+	movq	80(%r13), %rsi
+	movb	$1, %bpl
+	testq	%rsi, %rsi
+	je	4f
+	movq	72(%r13), %rdi
+	movq	%r15, %rdx
+	movq	%r14, %rcx
+	movl	%ebx, %r8d
+	movq	16(%rsp), %r9
+	callq	"mime_base::magic::holding::some_line_matches"
+	testb	%al, %al
+	je	1b
+	jmp	4f
+3:
+	xorl	%ebp, %ebp
+4:
+	movl	%ebp, %eax
+	addq	$24, %rsp
+	popq	%rbx
+	popq	%r12
+	popq	%r13
+	popq	%r14
+	popq	%r15
+	popq	%rbp
+	retq
+5:
+	.size	"mime_base::magic::holding::some_line_matches", 5b-"mime_base::magic::holding::some_line_matches"
+
+	.text
+	.p2align	4
+	.type	"mime_base::magic::pairs::pass_pairs",@function
+"mime_base::magic::pairs::pass_pairs":
+	pushq	%rbp
+	pushq	%r14
+	pushq	%rbx
+	movzbl	%dil, %r11d
+	movzbl	%sil, %eax
+	cmpq	$32, %r8
+	jb	4f
+	movd	%r11d, %xmm0
+	pxor	%xmm2, %xmm2
+	pshufb	%xmm2, %xmm0
+	movd	%eax, %xmm1
+	pshufb	%xmm2, %xmm1
+	xorl	%r9d, %r9d
+	movq	%r8, %rbx
+	xorl	%r10d, %r10d
+	jmp	3f
+	.p2align	4
+1:
+	xorl	%r14d, %r14d
+2:
+	addq	$32, %r9
+	addq	%r14, %r10
+	addq	$-32, %rbx
+	cmpq	$31, %rbx
+	jbe	5f
+3:
+	movdqu	(%rdx,%r9), %xmm2
+	movdqu	16(%rdx,%r9), %xmm3
+	pcmpeqb	%xmm0, %xmm2
+	pmovmskb	%xmm2, %r14d
+	pcmpeqb	%xmm0, %xmm3
+	pmovmskb	%xmm3, %ebp
+	shll	$16, %ebp
+	orl	%r14d, %ebp
+	je	1b
+	movdqu	1(%rdx,%r9), %xmm4
+	movdqu	17(%rdx,%r9), %xmm5
+	pcmpeqb	%xmm1, %xmm4
+	pcmpeqb	%xmm1, %xmm5
+	pand	%xmm3, %xmm5
+	pand	%xmm2, %xmm4
+	por	%xmm5, %xmm4
+	pmovmskb	%xmm4, %r14d
+	testl	%r14d, %r14d
+	jne	5f
+	xorl	%r14d, %r14d
+	popcntl	%ebp, %r14d
+	jmp	2b
+4:
+	xorl	%r10d, %r10d
+	xorl	%r9d, %r9d
+5:
+	subq	%r9, %rcx
+	subq	%r9, %r8
+	cmpq	$4, %r8
+	setae	%bl
+	cmpq	$33, %rcx
+	setae	%cl
+	testb	%bl, %cl
+	jne	9f
+	testq	%r8, %r8
+	je	11f
+	leaq	(%r9,%rdx), %rcx
+	incq	%rcx
+	xorl	%edx, %edx
+	xorl	%eax, %eax
+	jmp	8f
+	.p2align	4
+6:
+	incq	%rdx
+7:
+	incq	%rax
+	cmpq	%rax, %r8
+	je	10f
+8:
+	cmpb	%dil, -1(%rcx,%rax)
+	jne	7b
+	cmpb	%sil, (%rcx,%rax)
+	jne	6b
+	jmp	12f
+9:
+	movd	%r11d, %xmm0
+	pxor	%xmm1, %xmm1
+	pshufb	%xmm1, %xmm0
+	movdqu	(%rdx,%r9), %xmm2
+	movdqu	1(%rdx,%r9), %xmm3
+	movdqu	16(%rdx,%r9), %xmm4
+	movdqu	17(%rdx,%r9), %xmm5
+	pcmpeqb	%xmm0, %xmm2
+	pmovmskb	%xmm2, %ecx
+	pcmpeqb	%xmm0, %xmm4
+	pmovmskb	%xmm4, %edx
+	shll	$16, %edx
+	orl	%ecx, %edx
+	movd	%eax, %xmm0
+	pshufb	%xmm1, %xmm0
+	pcmpeqb	%xmm0, %xmm3
+	pcmpeqb	%xmm5, %xmm0
+	pand	%xmm4, %xmm0
+	pand	%xmm2, %xmm3
+	pmovmskb	%xmm3, %eax
+	pmovmskb	%xmm0, %ecx
+	shll	$16, %ecx
+	orl	%eax, %ecx
+	movl	$64, %esi
+	rep		bsfq	%rcx, %rsi
+	cmpq	%rsi, %r8
+	cmovbq	%r8, %rsi
+	cmpq	$32, %rsi
+	movl	$32, %eax
+	cmovbq	%rsi, %rax
+	movq	$-1, %rsi
+	movl	%eax, %ecx
+	shlq	%cl, %rsi
+	notl	%esi
+	andl	%edx, %esi
+	xorl	%edx, %edx
+	popcntl	%esi, %edx
+	jmp	12f
+10:
+	movq	%r8, %rax
+	jmp	12f
+11:
+	xorl	%eax, %eax
+	xorl	%edx, %edx
+12:
+	addq	%r10, %rdx
+	addq	%r9, %rax
+	popq	%rbx
+	popq	%r14
+	popq	%rbp
+	retq
+13:
+	.size	"mime_base::magic::pairs::pass_pairs", 13b-"mime_base::magic::pairs::pass_pairs"
 
 	.text
 	.p2align	4

@@ -10035,18 +10035,21 @@
 	pushq	%r13
 	pushq	%r12
 	pushq	%rbx
-	subq	$1160, %rsp
-	movq	%r9, %rbx
-	movl	%r8d, 68(%rsp)
+	subq	$1112, %rsp
+	movq	%r9, %rbp
+	movl	%r8d, 28(%rsp)
 	movq	%rcx, %r15
 	movq	%rdx, %r14
-	movq	%rsi, %r12
-	movq	%rdi, %rbp
-	leaq	112(%rsp), %rdi
+	movq	%rsi, %rbx
+	movq	%rdi, %r13
+	leaq	64(%rsp), %rdi
 	movl	$512, %edx
 	xorl	%esi, %esi
 	callq	memset@PLT
 	movaps	1b(%rip), %xmm0
+	movaps	%xmm0, 64(%rsp)
+	movaps	%xmm0, 80(%rsp)
+	movaps	%xmm0, 96(%rsp)
 	movaps	%xmm0, 112(%rsp)
 	movaps	%xmm0, 128(%rsp)
 	movaps	%xmm0, 144(%rsp)
@@ -10076,9 +10079,6 @@
 	movaps	%xmm0, 528(%rsp)
 	movaps	%xmm0, 544(%rsp)
 	movaps	%xmm0, 560(%rsp)
-	movaps	%xmm0, 576(%rsp)
-	movaps	%xmm0, 592(%rsp)
-	movaps	%xmm0, 608(%rsp)
 	testq	%r15, %r15
 	je	6f
 	cmpq	$288, %r15
@@ -10092,7 +10092,7 @@
 	leaq	-1(%rcx), %rax
 	movzbl	-1(%r14,%rcx), %esi
 	decl	%ecx
-	movw	%cx, 112(%rsp,%rsi,2)
+	movw	%cx, 64(%rsp,%rsi,2)
 	movq	%rax, %rcx
 	decq	%rdx
 	jne	2b
@@ -10112,36 +10112,36 @@
 	movzbl	(%rcx,%rax), %edi
 	leal	(%rax,%rdx), %r8d
 	addl	$3, %r8d
-	movw	%r8w, 112(%rsp,%rdi,2)
+	movw	%r8w, 64(%rsp,%rdi,2)
 	movzbl	-1(%rcx,%rax), %edi
 	leal	2(%rax,%rdx), %r8d
-	movw	%r8w, 112(%rsp,%rdi,2)
+	movw	%r8w, 64(%rsp,%rdi,2)
 	movzbl	-2(%rcx,%rax), %edi
 	leal	1(%rax,%rdx), %r8d
-	movw	%r8w, 112(%rsp,%rdi,2)
+	movw	%r8w, 64(%rsp,%rdi,2)
 	leal	(%rax,%rdx), %edi
 	movzbl	-3(%rcx,%rax), %r8d
-	movw	%di, 112(%rsp,%r8,2)
+	movw	%di, 64(%rsp,%r8,2)
 	addq	$4, %rsi
 	addq	$-4, %rcx
 	addq	$-4, %rdx
 	cmpq	%rsi, %rax
 	jne	5b
 6:
-	leaq	648(%rsp), %rdi
-	leaq	112(%rsp), %rsi
+	leaq	600(%rsp), %rdi
+	leaq	64(%rsp), %rsi
 	movl	$512, %edx
 	callq	memcpy@PLT
-	movq	%r12, 80(%rsp)
-	movq	344(%r12), %r13
-	testq	%r13, %r13
+	movq	%rbx, 40(%rsp)
+	movq	344(%rbx), %r12
+	testq	%r12, %r12
 	je	11f
-	movq	80(%rsp), %rax
-	movq	336(%rax), %r8
+	movq	40(%rsp), %rax
+	movq	336(%rax), %r10
 	movq	360(%rax), %rdi
-	leaq	1(%r15), %r9
-	leaq	10(%r8), %rax
-	xorl	%r12d, %r12d
+	leaq	1(%r15), %r8
+	leaq	10(%r10), %rax
+	xorl	%ebx, %ebx
 	jmp	9f
 	.p2align	4
 7:
@@ -10149,9 +10149,9 @@
 	cmpb	(%rax), %cl
 	je	10f
 8:
-	incq	%r12
+	incq	%rbx
 	addq	$12, %rax
-	cmpq	%r12, %r13
+	cmpq	%rbx, %r12
 	je	11f
 9:
 	movzwl	-2(%rax), %ecx
@@ -10165,203 +10165,185 @@
 	cmpq	$1, %rsi
 	je	7b
 	addq	%rdx, %rsi
-	movq	%r9, %rdx
+	movq	%r8, %rdx
 	subq	%rcx, %rdx
 	cmpq	%rsi, %rdx
 	cmovaeq	%rsi, %rdx
 	cmpq	$288, %rdx
 	ja	10f
 	movzbl	(%rax), %ecx
-	movzwl	648(%rsp,%rcx,2), %ecx
+	movzwl	600(%rsp,%rcx,2), %ecx
 	cmpq	%rcx, %rdx
 	jbe	8b
 10:
-	leaq	1(%r12), %rax
-	addq	8(%rbx), %rax
+	leaq	1(%rbx), %rax
+	addq	8(%rbp), %rax
 	movq	$-1, %rcx
 	cmovaeq	%rax, %rcx
-	movq	%rcx, 8(%rbx)
-	cmpq	%r13, %r12
-	jae	23f
-	movq	%r13, %rax
+	movq	%rcx, 8(%rbp)
+	cmpq	%r12, %rbx
+	jae	21f
+	movq	%r12, %rax
 	negq	%rax
-	movq	%rax, 96(%rsp)
-	addq	$22, %r8
-	movq	%r8, 104(%rsp)
-	movq	%rbp, 48(%rsp)
-	movq	%rdi, 72(%rsp)
-	movq	%rbx, 56(%rsp)
+	movq	%rax, 48(%rsp)
+	addq	$22, %r10
+	movq	%r13, 8(%rsp)
+	movq	%rbp, 16(%rsp)
+	movq	%rdi, 32(%rsp)
+	movq	%r10, 56(%rsp)
 	jmp	13f
 11:
-	addq	8(%rbx), %r13
+	addq	8(%rbp), %r12
 	movq	$-1, %rax
-	cmovaeq	%r13, %rax
-	movq	%rax, 8(%rbx)
-	jmp	23f
+	cmovaeq	%r12, %rax
+	movq	%rax, 8(%rbp)
+	jmp	21f
 	.p2align	4
 12:
-	subq	%rcx, %r12
+	subq	%rcx, %rbx
 	negq	%rcx
-	addq	8(%rbx), %rcx
+	addq	8(%rbp), %rcx
 	movq	$-1, %rax
 	cmovaeq	%rcx, %rax
-	movq	%rax, 8(%rbx)
-	cmpq	%r13, %r12
-	movq	72(%rsp), %rdi
-	jae	23f
+	movq	%rax, 8(%rbp)
+	cmpq	%r12, %rbx
+	movq	32(%rsp), %rdi
+	jae	21f
 13:
-	movq	%r12, %rax
-	shlq	$4, %rax
-	movq	8(%rdi,%rax), %rbx
-	cmpb	$1, 40(%rbx)
-	movq	%rax, 88(%rsp)
-	jne	14f
-	movq	48(%rbx), %rdx
-	movq	56(%rbx), %rcx
-	jmp	15f
-	.p2align	4
-14:
-	leaq	.L22d5119de29e(%rip), %rdx
-	xorl	%ecx, %ecx
-15:
-	movq	16(%rbx), %rdi
-	movq	24(%rbx), %rsi
-	movl	8(%rbx), %r8d
-	movl	(%rbx), %eax
-	movl	4(%rbx), %r9d
-	movq	56(%rsp), %r10
-	movq	%r10, 32(%rsp)
-	movq	%r9, 24(%rsp)
-	movq	%rax, 16(%rsp)
-	movq	%r15, 8(%rsp)
-	movq	%r14, (%rsp)
-	movzbl	68(%rsp), %ebp
-	movl	%ebp, %r9d
-	callq	"mime_base::magic::ranges::value_in_range"
+	movq	%rbp, %r8
+	movq	%rbx, %rbp
+	shlq	$4, %rbp
+	movq	8(%rdi,%rbp), %r13
+	movzbl	28(%rsp), %ecx
+	movq	%r13, %rdi
+	movq	%r14, %rsi
+	movq	%r15, %rdx
+	movl	%ecx, 24(%rsp)
+	callq	"mime_base::magic::holding::equals_in_range"
 	testb	%al, %al
-	je	16f
-	movq	80(%rbx), %rsi
+	je	14f
+	movq	80(%r13), %rsi
 	testq	%rsi, %rsi
-	je	20f
-	movq	72(%rbx), %rdi
+	je	18f
+	movq	72(%r13), %rdi
 	movq	%r14, %rdx
 	movq	%r15, %rcx
-	movl	%ebp, %r8d
-	movq	56(%rsp), %r9
+	movl	24(%rsp), %r8d
+	movq	16(%rsp), %r9
 	callq	"mime_base::magic::holding::some_line_matches"
 	testb	%al, %al
-	jne	20f
-16:
-	leaq	1(%r12), %rcx
-	movq	%r13, %rax
+	jne	18f
+14:
+	leaq	1(%rbx), %rcx
+	movq	%r12, %rax
 	subq	%rcx, %rax
-	jbe	21f
-	movq	96(%rsp), %rcx
-	leaq	(%rcx,%r12), %rdx
-	leaq	(%r12,%r12,2), %rcx
-	movq	104(%rsp), %rsi
-	leaq	(%rsi,%rcx,4), %rsi
+	jbe	19f
+	movq	48(%rsp), %rcx
+	leaq	(%rcx,%rbx), %rdx
+	leaq	(%rbx,%rbx,2), %rcx
+	movq	56(%rsp), %r10
+	leaq	(%r10,%rcx,4), %rsi
 	movq	$-1, %rcx
-	movq	48(%rsp), %rbp
-	movq	56(%rsp), %rbx
-	leaq	1(%r15), %r10
-	jmp	19f
+	movq	8(%rsp), %r13
+	movq	16(%rsp), %rbp
+	leaq	1(%r15), %r11
+	jmp	17f
 	.p2align	4
-17:
+15:
 	movzbl	(%r14,%r8), %edi
 	cmpb	(%rsi), %dil
 	je	12b
-18:
+16:
 	decq	%rcx
 	addq	$12, %rsi
 	cmpq	%rcx, %rdx
-	je	22f
-19:
+	je	20f
+17:
 	movzwl	-2(%rsi), %edi
 	testq	%rdi, %rdi
 	je	12b
 	movl	-10(%rsi), %r8d
 	leaq	(%r8,%rdi), %r9
 	cmpq	%r9, %r15
-	jb	18b
+	jb	16b
 	movl	-6(%rsi), %r9d
 	cmpq	$1, %r9
-	je	17b
+	je	15b
 	addq	%r8, %r9
-	movq	%r10, %r8
+	movq	%r11, %r8
 	subq	%rdi, %r8
 	cmpq	%r9, %r8
 	cmovaeq	%r9, %r8
 	cmpq	$288, %r8
 	ja	12b
 	movzbl	(%rsi), %edi
-	movzwl	648(%rsp,%rdi,2), %edi
+	movzwl	600(%rsp,%rdi,2), %edi
 	cmpq	%rdi, %r8
-	jbe	18b
+	jbe	16b
 	jmp	12b
-20:
-	movq	72(%rsp), %rax
-	movq	88(%rsp), %rcx
-	movq	(%rax,%rcx), %rbx
-	movq	80(%rsp), %rdi
+18:
+	movq	32(%rsp), %rax
+	movq	(%rax,%rbp), %rbx
+	movq	40(%rsp), %rdi
 	addq	$32, %rdi
 	cmpb	$0, 8(%rbx)
-	je	30f
+	movq	8(%rsp), %r13
+	je	28f
 	movq	16(%rbx), %rsi
 	leaq	24(%rbx), %rax
-	jmp	31f
-21:
+	jmp	29f
+19:
 	xorl	%eax, %eax
-	movq	48(%rsp), %rbp
-	movq	56(%rsp), %rbx
-22:
-	addq	8(%rbx), %rax
+	movq	8(%rsp), %r13
+	movq	16(%rsp), %rbp
+20:
+	addq	8(%rbp), %rax
 	movq	$-1, %rcx
 	cmovaeq	%rax, %rcx
-	movq	%rcx, 8(%rbx)
-23:
+	movq	%rcx, 8(%rbp)
+21:
 	testq	%r15, %r15
-	je	27f
+	je	25f
 	cmpq	$128, %r15
 	movl	$128, %ecx
 	cmovbq	%r15, %rcx
 	xorl	%esi, %esi
-	jmp	25f
+	jmp	23f
 	.p2align	4
-24:
+22:
 	incq	%rsi
 	cmpq	%rsi, %rcx
-	je	26f
-25:
+	je	24f
+23:
 	movzbl	(%r14,%rsi), %edi
 	cmpl	$31, %edi
-	ja	24b
+	ja	22b
 	leaq	.L67248b46a1a0(%rip), %rax
 	movl	$24, %edx
 	cmpl	$13, %edi
-	ja	28f
+	ja	26f
 	movl	$9728, %r8d
 	btl	%edi, %r8d
-	jb	24b
-	jmp	28f
-26:
+	jb	22b
+	jmp	26f
+24:
 	leaq	.Laafe98300121(%rip), %rax
 	movl	$10, %edx
-	jmp	28f
-27:
+	jmp	26f
+25:
 	leaq	.L74bbd0aeee0d(%rip), %rax
 	movl	$22, %edx
-28:
+26:
 	xorl	%ecx, %ecx
 	xorl	%esi, %esi
-29:
-	movq	%rax, (%rbp)
-	movq	%rdx, 8(%rbp)
-	movb	%sil, 16(%rbp)
-	movb	%cl, 17(%rbp)
-	movl	$0, 18(%rbp)
-	movw	$0, 22(%rbp)
-	addq	$1160, %rsp
+27:
+	movq	%rax, (%r13)
+	movq	%rdx, 8(%r13)
+	movb	%sil, 16(%r13)
+	movb	%cl, 17(%r13)
+	movl	$0, 18(%r13)
+	movw	$0, 22(%r13)
+	addq	$1112, %rsp
 	popq	%rbx
 	popq	%r12
 	popq	%r13
@@ -10369,19 +10351,18 @@
 	popq	%r15
 	popq	%rbp
 	retq
-30:
+28:
 	leaq	16(%rbx), %rsi
 	leaq	48(%rbx), %rax
-31:
-	movq	48(%rsp), %rbp
+29:
 	movq	(%rax), %rdx
 	callq	"mime_lookup::places::unalias_at"
 	cmpl	$80, (%rbx)
 	setae	%sil
 	movb	$1, %cl
-	jmp	29b
-32:
-	.size	"mime_lookup::indexed::sniff::sniff", 32b-"mime_lookup::indexed::sniff::sniff"
+	jmp	27b
+30:
+	.size	"mime_lookup::indexed::sniff::sniff", 30b-"mime_lookup::indexed::sniff::sniff"
 
 	.text
 	.p2align	4

@@ -16726,7 +16726,7 @@
 	shll	$3, %ecx
 	leaq	".Lswitch.table.mime_tool::line::print_line::<#2e1b2a3647f851f7>"(%rip), %rax
 	movq	(%rcx,%rax), %r12
-	leaq	".Lswitch.table.mime_tool::line::print_line::<#2e1b2a3647f851f7>.2247"(%rip), %rax
+	leaq	".Lswitch.table.mime_tool::line::print_line::<#2e1b2a3647f851f7>.2246"(%rip), %rax
 	movq	(%rcx,%rax), %r9
 	jmp	81f
 39:
@@ -30262,7 +30262,7 @@
 	cmpb	$41, %al
 	jae	13f
 	movzbl	144(%rsp,%rax), %eax
-	leaq	".Lswitch.table.mime_tool::system::SystemFilesFiles::whole::<#a1ba6ce099ef6b20>.2246"(%rip), %rcx
+	leaq	".Lswitch.table.mime_tool::system::SystemFilesFiles::whole::<#a1ba6ce099ef6b20>.2245"(%rip), %rcx
 	movzbl	(%rax,%rcx), %eax
 	movb	$1, %cl
 	jmp	15f
@@ -30433,7 +30433,7 @@
 	jae	18f
 	andl	$63, %eax
 	movzbl	144(%rsp,%rax), %eax
-	leaq	".Lswitch.table.mime_tool::system::SystemFilesFiles::whole::<#a1ba6ce099ef6b20>.2246"(%rip), %rcx
+	leaq	".Lswitch.table.mime_tool::system::SystemFilesFiles::whole::<#a1ba6ce099ef6b20>.2245"(%rip), %rcx
 	movzbl	(%rax,%rcx), %ebp
 	jmp	19f
 18:

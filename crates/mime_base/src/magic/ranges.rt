@@ -17,7 +17,7 @@ use memchr::memchr;
 /// Whether the window at one of `range` offsets from `start` on equals a value under its mask.
 ///
 /// For each window tried it adds the bytes compared, including the first mismatch.
-#[inline]
+#[inline(always)]
 pub fn value_in_range(
     value: &[u8],
     mask: &[u8],
@@ -139,7 +139,7 @@ fn value_in_windows(
 
 /// The next offset up to `end` whose window may equal the value. It adds the bytes compared in each window before it: one, or
 /// two where the first byte is the value's.
-#[inline]
+#[inline(always)]
 fn next_window(
     value: &[u8],
     mask: &[u8],
@@ -177,7 +177,7 @@ fn next_window(
 
 /// The offsets from `at` on whose windows differ from a value in its first byte or, where it has two, in one of its first two:
 /// up to the first that may equal it, or to `end`.
-#[inline]
+#[inline(always)]
 fn pass_windows(value: &[u8], content: &[u8], at: usize, end: usize) -> Passed
     requires some { 0 < length value.now }
     requires order { at ≤ end }
