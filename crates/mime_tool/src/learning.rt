@@ -4,7 +4,7 @@
 //!
 //! The glob list makes lookups of names quicker, and the magic list those of contents. Each is learnt once the answers of the run
 //! have visited as many records as learning it may visit: the glob list by all answers, and the magic list by those whose content
-//! was asked for bytes, also an empty one. So a run over few FILEs learns nothing, nor does any that its cache answers at once. Each
+//! was asked for bytes, also an empty one, less the entries of the glob list. So a run over few FILEs learns nothing, nor does any that its cache answers at once. Each
 //! is learnt once at most. Where memory is refused, or the cache isn't one that this can be learnt of, FILEs are looked up by what
 //! was learnt before.
 

@@ -21,6 +21,13 @@ impl Prepaid {
         Prepaid { paid: 0, cost }
     }
 
+    /// What it costs.
+    pub(crate) fn cost(self) -> u64
+        ensures { result ≡ self.cost }
+    {
+        self.cost
+    }
+
     /// Adds what was visited.
     #[inline]
     pub(crate) fn pay(&mut self, visited: u64)

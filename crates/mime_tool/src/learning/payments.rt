@@ -32,6 +32,8 @@ pub(crate) struct Payments {
     index: Option<Prepaid>,
     globs: Option<Prepaid>,
     magic: Option<Prepaid>,
+    /// How many records of the glob list a name visits.
+    listed: u64,
 }
 
 impl Payments {
@@ -45,11 +47,13 @@ impl Payments {
                 index: Some(Prepaid::new(1)),
                 globs: None,
                 magic: None,
+                listed: 0,
             },
             Data::Indexed(_) | Data::Learnt { .. } => Payments {
                 index: None,
                 globs: None,
                 magic: None,
+                listed: 0,
             },
         }
     }
@@ -68,15 +72,20 @@ impl Payments {
         } else {
             owed_for_magic(bytes)
         };
+        let listed = match globs {
+            Some(owed) => owed.cost() / 16,
+            None => 0,
+        };
         Payments {
             index: None,
             globs,
             magic,
+            listed,
         }
     }
 
-    /// Counts what a FILE visited: its name pays for the glob list, and for the magic list too if its content was asked for bytes. What
-    /// was compared pays for an index.
+    /// Counts what a FILE visited: that pays for the glob list, and for the magic list too, less the entries of the glob list, if its
+    /// content was asked for bytes. What was compared pays for an index.
     #[inline]
     pub(crate) fn count(&mut self, outcome: &Outcome<'_>, asked: bool) {
         let Outcome::Typed(_, cost) = outcome else {
@@ -90,7 +99,7 @@ impl Payments {
         }
         if asked {
             if let Some(magic) = &mut self.magic {
-                magic.pay(cost.meter.nodes);
+                magic.pay(cost.meter.nodes.saturating_sub(self.listed));
             }
         }
     }
