@@ -25,8 +25,10 @@
 
 mod ancestry;
 mod answer;
+mod asked;
 mod cached;
 mod candidates;
+mod checking;
 mod content;
 mod fixed;
 mod indexed;

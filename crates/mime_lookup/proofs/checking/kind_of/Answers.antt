@@ -3,22 +3,22 @@ mod MagicFirst
 use Rattle.std.proofs.Common.{◌≡◌, ◌∙◌, ℕ, true, false, List, ap, sym}
 use Rattle.std.proofs.lemmas.Option.{IfSome_then}
 use denote.Bor.{Bor}
-use Rattle.mime_base.specs.Database.{pairs_of, plain_database}
+use Rattle.mime_base.specs.Database.{pairs_of}
 use Rattle.mime_lookup.specs.Ancestry.{kinds_of}
 use Rattle.mime_lookup.specs.CheckingOrder.{IsSniffed, are_one_type, read_limit}
 use Rattle.mime_lookup.specs.Choice.{ChoosesAmong}
 use Rattle.mime_lookup.proofs.OrderLemmas.Answering.{by_globs, by_globs_and_content, first_text}
 use Rattle.mime_lookup.proofs.OrderLemmas.Answering.{read_front, read_none, suffice}
 use Rattle.mime_lookup.proofs.ContentLemmas.Reads.{asks_nothing, asks_stopped, reads_nothing, reads_stopped}
-use Rattle.mime_lookup.proofs.indexed.look_up.kind_of.Answers.AllGlobs as all_globs
-use Rattle.mime_lookup.proofs.indexed.look_up.kind_of.Answers.MagicFirst as magic_first
-use Rattle.mime_lookup.proofs.indexed.look_up.kind_of.Goals as goal
+use Rattle.mime_lookup.proofs.checking.kind_of.Answers.AllGlobs as all_globs
+use Rattle.mime_lookup.proofs.checking.kind_of.Answers.MagicFirst as magic_first
+use Rattle.mime_lookup.proofs.checking.kind_of.Goals as goal
 
 pub returns-then-are_one_type-clause-chosen : goal.returns-then-are_one_type-clause-chosen
 returns-then-are_one_type-clause-chosen g c =
     let kept = c.in_ok-kept-in-GlobsFirst.kept.items in
     let one : are_one_type (kinds_of kept) ≡ true = rw c.deref.ensures.value at (sym c.are_one_type.ensures ∙ c.if-are_one_type.true) in
-    by_globs (plain_database c.args.index.now) c.args.question.now.name.now c.args.question.now.host c.args.question.now.order c.in-GlobsFirst.is (kinds_of kept)
+    by_globs (g.A.Asked.plain c.args.database.now) c.args.question.now.name.now c.args.question.now.host c.args.question.now.order c.in-GlobsFirst.is (kinds_of kept)
     c.in_ok-kept-in-GlobsFirst.ensures.kept _ _ one
     (ap (λ (text : Bor (List ℕ)). text.now) c.index.ensures ∙ first_text kept c.index.result.now one)
 
@@ -26,12 +26,12 @@ pub returns-then-are_one_type-clause-read : goal.returns-then-are_one_type-claus
 returns-then-are_one_type-clause-read g c =
     let kinds = kinds_of c.in_ok-kept-in-GlobsFirst.kept.items in
     let one : are_one_type kinds ≡ true = rw c.deref.ensures.value at (sym c.are_one_type.ensures ∙ c.if-are_one_type.true) in
-    read_none (plain_database c.args.index.now) c.args.question.now.name.now c.args.question.now.host c.args.question.now.order c.in-GlobsFirst.is kinds
+    read_none (g.A.Asked.plain c.args.database.now) c.args.question.now.name.now c.args.question.now.host c.args.question.now.order c.in-GlobsFirst.is kinds
     c.in_ok-kept-in-GlobsFirst.ensures.kept _ _ one c.requires.none
 
 pub returns-then-are_one_type-clause-reader : goal.returns-then-are_one_type-clause-reader
 returns-then-are_one_type-clause-reader g c =
-    reads_nothing g.R.Read.remaining g.R.Content.tally g.R.Content.health (read_limit (plain_database c.args.index.now))
+    reads_nothing g.R.Read.remaining g.R.Content.tally g.R.Content.health (read_limit (g.A.Asked.plain c.args.database.now))
     c.args.content.now c.args.read.now _ c.requires.none
 
 pub returns-then-are_one_type-clause-asks : goal.returns-then-are_one_type-clause-asks
@@ -39,13 +39,13 @@ returns-then-are_one_type-clause-asks g c =
     let kinds = kinds_of c.in_ok-kept-in-GlobsFirst.kept.items in
     let one : are_one_type kinds ≡ true = rw c.deref.ensures.value at (sym c.are_one_type.ensures ∙ c.if-are_one_type.true) in
     asks_nothing g.R.Content.health _ c.args.content.now _
-    (suffice (plain_database c.args.index.now) c.args.question.now.name.now c.args.question.now.host c.args.question.now.order c.in-GlobsFirst.is kinds
+    (suffice (g.A.Asked.plain c.args.database.now) c.args.question.now.name.now c.args.question.now.host c.args.question.now.order c.in-GlobsFirst.is kinds
     c.in_ok-kept-in-GlobsFirst.ensures.kept true one)
 
 pub returns-in_err-sniffed-in-GlobsFirst-clause-reader :
     goal.returns-in_err-sniffed-in-GlobsFirst-clause-reader
 returns-in_err-sniffed-in-GlobsFirst-clause-reader g c =
-    reads_stopped g.R.Read.remaining g.R.Content.tally g.R.Content.health (read_limit (plain_database c.args.index.now))
+    reads_stopped g.R.Read.remaining g.R.Content.tally g.R.Content.health (read_limit (g.A.Asked.plain c.args.database.now))
     c.args.content.now c.sniff_content.new.content c.sniff_content.new.read c.in_err-sniffed-in-GlobsFirst.field-0.0
     c.from_residual-in_err-sniffed-in-GlobsFirst.result c.from_residual-in_err-sniffed-in-GlobsFirst.ensures.1
     c.in_err-sniffed-in-GlobsFirst.ensures.reader
@@ -57,14 +57,14 @@ returns-in_err-sniffed-in-GlobsFirst-clause-asks g c =
     let conflict : are_one_type kinds ≡ false = rw c.deref.ensures.value at (sym c.are_one_type.ensures ∙ c.if-are_one_type.false) in
     asks_stopped g.R.Content.health _ c.args.content.now c.sniff_content.new.content c.in_err-sniffed-in-GlobsFirst.field-0.0
     c.from_residual-in_err-sniffed-in-GlobsFirst.result
-    (suffice (plain_database c.args.index.now) c.args.question.now.name.now c.args.question.now.host c.args.question.now.order c.in-GlobsFirst.is kinds
+    (suffice (g.A.Asked.plain c.args.database.now) c.args.question.now.name.now c.args.question.now.host c.args.question.now.order c.in-GlobsFirst.is kinds
     c.in_ok-kept-in-GlobsFirst.ensures.kept false conflict)
     c.from_residual-in_err-sniffed-in-GlobsFirst.ensures.1 c.in_err-sniffed-in-GlobsFirst.ensures.asks
 
 pub returns-in_ok-kind-in-GlobsFirst-clause-chosen :
     goal.returns-in_ok-kind-in-GlobsFirst-clause-chosen
 returns-in_ok-kind-in-GlobsFirst-clause-chosen g c =
-    let b = plain_database c.args.index.now in
+    let b = g.A.Asked.plain c.args.database.now in
     let kinds = kinds_of c.in_ok-kept-in-GlobsFirst.kept.items in
     let found = c.in_ok-sniffed-in-GlobsFirst.sniffed.kind.now in
     let kind = c.in_ok-kind-in-GlobsFirst.kind.now in
@@ -73,14 +73,14 @@ returns-in_ok-kind-in-GlobsFirst-clause-chosen g c =
     by_globs_and_content b c.args.question.now.name.now c.args.question.now.host c.args.question.now.order c.in-GlobsFirst.is kinds
     c.in_ok-kept-in-GlobsFirst.ensures.kept _ found kind
     (IfSome_then _ c.in_ok-sniffed-in-GlobsFirst.ensures.sniffed
-    (λ known (is : IsSniffed (plain_database c.args.index.now) known c.args.question.now.host c.in_ok-sniffed-in-GlobsFirst.sniffed). is.kind)) chosen
+    (λ known (is : IsSniffed (g.A.Asked.plain c.args.database.now) known c.args.question.now.host c.in_ok-sniffed-in-GlobsFirst.sniffed). is.kind)) chosen
 
 pub returns-in_ok-kind-in-GlobsFirst-clause-read :
     goal.returns-in_ok-kind-in-GlobsFirst-clause-read
 returns-in_ok-kind-in-GlobsFirst-clause-read g c =
     let kinds = kinds_of c.in_ok-kept-in-GlobsFirst.kept.items in
     let conflict : are_one_type kinds ≡ false = rw c.deref.ensures.value at (sym c.are_one_type.ensures ∙ c.if-are_one_type.false) in
-    read_front (plain_database c.args.index.now) c.args.question.now.name.now c.args.question.now.host c.args.question.now.order c.in-GlobsFirst.is kinds
+    read_front (g.A.Asked.plain c.args.database.now) c.args.question.now.name.now c.args.question.now.host c.args.question.now.order c.in-GlobsFirst.is kinds
     c.in_ok-kept-in-GlobsFirst.ensures.kept _ _ conflict c.in_ok-sniffed-in-GlobsFirst.ensures.read
 
 pub returns-then-are_one_type-2-clause-chosen : goal.returns-then-are_one_type-2-clause-chosen

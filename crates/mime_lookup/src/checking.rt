@@ -1,0 +1,178 @@
+//! The checking order: what is asked of a name and a content and in which order, what suffices, and what is chosen
+//! ("Recommended checking order").
+//!
+//! It is the same whoever answers what is asked, by trying all of a database or by an index of it.
+
+ghost use Rattle.std.specs.Prelude.{◌≡◌, ◌<◌, ◌≤◌, if◌then◌else◌, length, IfErr, IfOk, IfSome};
+ghost use Rattle.mime_base.specs.Database.{pairs_of};
+ghost use Rattle.mime_lookup.specs.Ancestry.{kinds_of};
+ghost use Rattle.mime_lookup.specs.CheckingOrder.{are_one_type, globs_suffice, read_limit};
+ghost use Rattle.mime_lookup.specs.Choice.{ChoosesAmong, kept};
+ghost use Rattle.mime_lookup.specs.Content.{known_content};
+ghost use Rattle.mime_lookup.specs.LookUps.{IsPlainAnswer, cause_in, meter_in, name_too_long, read_in};
+ghost use Rattle.mime_lookup.specs.Question.{ChoosesFor, ReadsFor};
+ghost use Rattle.mime_lookup.specs.Reads.{AsksUnless, IsReadOrMemory, Reads};
+
+use crate::answer::Answer;
+use crate::asked::Asked;
+use crate::content::Content;
+use crate::limits::LONGEST_NAME;
+use crate::order::Order;
+use crate::pairs::is_same;
+use crate::question::Question;
+use crate::sniff::sniff_content;
+use crate::stopped::{Cause, Stopped};
+use mime_base::{Host, Meter, OutOfMemory};
+use std::alloc::Global;
+
+/// The type that the checking order gives to a name and a content.
+pub fn look_up<'a, A: Asked<'a>, R: Content>(
+    alloc: Global,
+    database: &A,
+    name: &[u8],
+    content: &mut Option<R>,
+    host: Host,
+    order: Order,
+) -> Result<Answer<'a>, Stopped>
+    // The type is the one that the checking order gives to the name and the whole content, of which it reads as much as it says.
+    ensures answers { IfOk result (λ answer. IfSome (known_content R.remaining content.old)
+        (λ known. IsPlainAnswer (A.plain database.now) name.now known host order answer)) }
+    // A name of more than 4,096 bytes is too long, before anything else.
+    ensures too_long { 4096 < length name.now → (content.new ≡ content.old) × (result ≡ name_too_long) }
+    // For another name it stops only for a read or for memory, so never for a cache.
+    ensures otherwise { length name.now ≤ 4096 → IfErr result (λ stopped. IsReadOrMemory stopped.cause) }
+    // It takes no more of its reader than magic and the test for text can look at, and gives up only where a read failed.
+    ensures reader { Reads R.remaining R.tally R.health (read_limit (A.plain database.now))
+        content.old content.new (read_in result) (cause_in result) }
+    // It asks its reader only where the globs do not suffice.
+    ensures asks { AsksUnless R.health (globs_suffice (A.plain database.now) name.now order)
+        content.old content.new (cause_in result) }
+    // No record of a cache is visited.
+    ensures nodes { (meter_in result).nodes ≡ 0 }
+{
+    let mut read = 0;
+    let mut meter = Meter::new();
+    if name.len() > LONGEST_NAME {
+        let cause = Cause::NameTooLong;
+        return Err(Stopped { cause, read, meter });
+    }
+    let question = Question { name, host, order };
+    match kind_of(alloc, database, &question, content, &mut read, &mut meter) {
+        Ok(kind) => Ok(Answer { kind, read, meter }),
+        Err(cause) => Err(Stopped { cause, read, meter }),
+    }
+}
+
+/// The type of a name and a content, and how many bytes of the content were read.
+fn kind_of<'a, A: Asked<'a>, R: Content>(
+    alloc: Global,
+    database: &A,
+    question: &Question<'_>,
+    content: &mut Option<R>,
+    read: &mut u64,
+    meter: &mut Meter,
+) -> Result<&'a [u8], Cause>
+    requires none { read.old ≡ 0 }
+    ensures chosen { ChoosesFor R.remaining (A.plain database.now) question.now content.old result }
+    ensures read { ReadsFor R.remaining (A.plain database.now) question.now content.old read.new result }
+    ensures causes { IfErr result IsReadOrMemory }
+    ensures reader { Reads R.remaining R.tally R.health (read_limit (A.plain database.now)) content.old content.new read.new result }
+    ensures asks { AsksUnless R.health (globs_suffice (A.plain database.now) question.now.name.now question.now.order)
+        content.old content.new result }
+    ensures nodes { meter.new.nodes ≡ meter.old.nodes }
+{
+    match question.order {
+        Order::GlobsFirst => {
+            let kept = database.kept_kinds(alloc, question.name, meter)?;
+            if are_one_type(&kept) {
+                return Ok(kept[0]);
+            }
+            let sniffed = sniff_content(alloc, database, content, question.host, read, meter)?;
+            let kind = choose(alloc, database, &kept, sniffed.kind, meter)?;
+            Ok(kind)
+        }
+        Order::MagicFirst => {
+            let sniffed = sniff_content(alloc, database, content, question.host, read, meter)?;
+            if sniffed.is_high {
+                return Ok(sniffed.kind);
+            }
+            let kept = database.kept_kinds(alloc, question.name, meter)?;
+            let kind = choose(alloc, database, &kept, sniffed.kind, meter)?;
+            Ok(kind)
+        }
+        Order::AllGlobs => {
+            database.keeps_limits();
+            let all = database.candidate_kinds(alloc, question.name, meter)?;
+            if are_one_type(&all) {
+                return Ok(all[0]);
+            }
+            let sniffed = sniff_content(alloc, database, content, question.host, read, meter)?;
+            let by_magic = sniffed.by_magic;
+            let asked = asked_kinds(alloc, database, all, question.name, by_magic, meter)?;
+            let kind = choose(alloc, database, &asked, sniffed.kind, meter)?;
+            Ok(kind)
+        }
+        Order::ContentOnly => {
+            let sniffed = sniff_content(alloc, database, content, question.host, read, meter)?;
+            Ok(sniffed.kind)
+        }
+    }
+}
+
+/// Of the types of all rules that match those that are asked for what was sniffed: all where magic
+/// gave that, else the kept ones.
+fn asked_kinds<'a, A: Asked<'a>>(
+    alloc: Global,
+    database: &A,
+    all: Vec<&'a [u8]>,
+    name: &[u8],
+    by_magic: bool,
+    meter: &mut Meter,
+) -> Result<Vec<&'a [u8]>, OutOfMemory>
+    // All are asked where magic sniffed, else the kept ones.
+    ensures asked { IfOk result (λ asked. kinds_of asked.items ≡ (if by_magic then kinds_of all.entry.items
+        else kept (pairs_of (A.plain database.now)) (A.plain database.now).rules name.now)) }
+    // No record of a cache is visited.
+    ensures nodes { meter.new.nodes ≡ meter.old.nodes }
+{
+    if by_magic {
+        return Ok(all);
+    }
+    database.kept_kinds(alloc, name, meter)
+}
+
+/// Whether there are types, and all are one type.
+fn are_one_type(kinds: &[&[u8]]) -> bool
+    // It says whether the first type is there, and each other is the same.
+    ensures { result ≡ are_one_type (kinds_of kinds.now) }
+{
+    let Some((first, more)) = kinds.split_first() else {
+        return false;
+    };
+    for kind in more {
+        if !is_same(*first, *kind) {
+            return false;
+        }
+    }
+    true
+}
+
+/// What was sniffed where there is no type, else the first of these that is it or a subclass of it,
+/// else the first.
+fn choose<'a, A: Asked<'a>>(
+    alloc: Global,
+    database: &A,
+    kinds: &[&'a [u8]],
+    sniffed: &'a [u8],
+    meter: &mut Meter,
+) -> Result<&'a [u8], OutOfMemory>
+    // No record of a cache is visited.
+    ensures nodes { meter.new.nodes ≡ meter.old.nodes }
+    // It is the one that is chosen among them.
+    ensures chosen { IfOk result (λ kind. ChoosesAmong (pairs_of (A.plain database.now)) (kinds_of kinds.now) sniffed.entry.now kind.now) }
+{
+    if kinds.is_empty() {
+        return Ok(sniffed);
+    }
+    database.first_of(alloc, kinds, kinds[0], sniffed, meter)
+}
