@@ -3,11 +3,13 @@
 //!
 //! It is the same whoever answers what is asked, by trying all of a database or by an index of it.
 
-ghost use Rattle.std.specs.Prelude.{◌≡◌, ◌<◌, ◌≤◌, if◌then◌else◌, length, IfErr, IfOk, IfSome};
-ghost use Rattle.mime_base.specs.Database.{pairs_of};
+ghost use Rattle.std.specs.Prelude.{◌≡◌, ℕ, ◌<◌, ◌≤◌, if◌then◌else◌, length, List, Option, None, Some, IfErr, IfOk, IfSome};
+ghost use Rattle.mime_base.specs.Database.{PlainDatabase, pairs_of};
+ghost use Rattle.mime_base.specs.declared.magic.host.Host.{Host};
 ghost use Rattle.mime_lookup.specs.Ancestry.{kinds_of};
-ghost use Rattle.mime_lookup.specs.CheckingOrder.{are_one_type, globs_suffice, read_limit};
-ghost use Rattle.mime_lookup.specs.Choice.{ChoosesAmong, kept};
+ghost use Rattle.mime_lookup.specs.CheckingOrder.{IsSniffed, are_one_type, asked_types, before_globs, globs_suffice, has_magic};
+ghost use Rattle.mime_lookup.specs.CheckingOrder.{read_limit, types_before};
+ghost use Rattle.mime_lookup.specs.Choice.{ChoosesAmong};
 ghost use Rattle.mime_lookup.specs.Content.{known_content};
 ghost use Rattle.mime_lookup.specs.LookUps.{IsPlainAnswer, cause_in, meter_in, name_too_long, read_in};
 ghost use Rattle.mime_lookup.specs.Question.{ChoosesFor, ReadsFor};
@@ -20,7 +22,7 @@ use crate::limits::LONGEST_NAME;
 use crate::order::Order;
 use crate::pairs::is_same;
 use crate::question::Question;
-use crate::sniff::sniff_content;
+use crate::sniff::{Sniffed, sniff_content};
 use crate::stopped::{Cause, Stopped};
 use mime_base::{Host, Meter, OutOfMemory};
 use std::alloc::Global;
@@ -81,64 +83,37 @@ fn kind_of<'a, A: Asked<'a>, R: Content>(
         content.old content.new result }
     ensures nodes { meter.new.nodes ≡ meter.old.nodes }
 {
-    match question.order {
-        Order::GlobsFirst => {
-            let kept = database.kept_kinds(alloc, question.name, meter)?;
-            if are_one_type(&kept) {
-                return Ok(kept[0]);
-            }
-            let sniffed = sniff_content(alloc, database, content, question.host, read, meter)?;
-            let kind = choose(alloc, database, &kept, sniffed.kind, meter)?;
-            Ok(kind)
-        }
-        Order::MagicFirst => {
-            let sniffed = sniff_content(alloc, database, content, question.host, read, meter)?;
-            if sniffed.is_high {
-                return Ok(sniffed.kind);
-            }
-            let kept = database.kept_kinds(alloc, question.name, meter)?;
-            let kind = choose(alloc, database, &kept, sniffed.kind, meter)?;
-            Ok(kind)
-        }
-        Order::AllGlobs => {
-            database.keeps_limits();
-            let all = database.candidate_kinds(alloc, question.name, meter)?;
-            if are_one_type(&all) {
-                return Ok(all[0]);
-            }
-            let sniffed = sniff_content(alloc, database, content, question.host, read, meter)?;
-            let by_magic = sniffed.by_magic;
-            let asked = asked_kinds(alloc, database, all, question.name, by_magic, meter)?;
-            let kind = choose(alloc, database, &asked, sniffed.kind, meter)?;
-            Ok(kind)
-        }
-        Order::ContentOnly => {
-            let sniffed = sniff_content(alloc, database, content, question.host, read, meter)?;
-            Ok(sniffed.kind)
-        }
+    database.keeps_limits();
+    let named = named_kinds(alloc, database, question, meter)?;
+    if are_one_type(&named) {
+        return Ok(named[0]);
     }
+    let sniffed = sniff_content(alloc, database, content, question.host, read, meter)?;
+    if precedes_globs(question.order, &sniffed) {
+        return Ok(sniffed.kind);
+    }
+    let asked = asked_kinds(alloc, database, named, question, sniffed.by_magic, meter)?;
+    let kind = choose(alloc, database, &asked, sniffed.kind, meter)?;
+    Ok(kind)
 }
 
-/// Of the types of all rules that match those that are asked for what was sniffed: all where magic
-/// gave that, else the kept ones.
-fn asked_kinds<'a, A: Asked<'a>>(
+/// The types of a name that are asked before a content is: those of the kept rules or of all that match, and none
+/// where the content is asked first.
+fn named_kinds<'a, A: Asked<'a>>(
     alloc: Global,
     database: &A,
-    all: Vec<&'a [u8]>,
-    name: &[u8],
-    by_magic: bool,
+    question: &Question<'_>,
     meter: &mut Meter,
 ) -> Result<Vec<&'a [u8]>, OutOfMemory>
-    // All are asked where magic sniffed, else the kept ones.
-    ensures asked { IfOk result (λ asked. kinds_of asked.items ≡ (if by_magic then kinds_of all.entry.items
-        else kept (pairs_of (A.plain database.now)) (A.plain database.now).rules name.now)) }
-    // No record of a cache is visited.
+    ensures named { IfOk result (λ kinds. kinds_of kinds.items
+        ≡ types_before (A.plain database.now) question.now.name.now question.now.order) }
     ensures nodes { meter.new.nodes ≡ meter.old.nodes }
 {
-    if by_magic {
-        return Ok(all);
+    match question.order {
+        Order::GlobsFirst => database.kept_kinds(alloc, question.name, meter),
+        Order::AllGlobs => database.candidate_kinds(alloc, question.name, meter),
+        Order::MagicFirst | Order::ContentOnly => Ok(Vec::new(alloc)),
     }
-    database.kept_kinds(alloc, name, meter)
 }
 
 /// Whether there are types, and all are one type.
@@ -155,6 +130,50 @@ fn are_one_type(kinds: &[&[u8]]) -> bool
         }
     }
     true
+}
+
+/// Whether what was sniffed is the answer whatever the globs give: a high priority where magic is asked first, and
+/// anything where the content alone is asked.
+#[tactic(auto, unfolding(crate::specs::CheckingOrder::before_globs))]
+fn precedes_globs(order: Order, sniffed: &Sniffed<'_>) -> bool
+    ensures { (b : PlainDatabase) (content : Option (List ℕ)) (host : Host) → IsSniffed b content host sniffed.now
+        → before_globs b content host order ≡ (if result then Some sniffed.now.kind.now else None) }
+{
+    match order {
+        Order::GlobsFirst | Order::AllGlobs => false,
+        Order::MagicFirst => sniffed.is_high,
+        Order::ContentOnly => true,
+    }
+}
+
+/// The types that are asked for what was sniffed: all that the name gave before where magic sniffed it, else those of
+/// the kept rules.
+fn asked_kinds<'a, A: Asked<'a>>(
+    alloc: Global,
+    database: &A,
+    named: Vec<&'a [u8]>,
+    question: &Question<'_>,
+    by_magic: bool,
+    meter: &mut Meter,
+) -> Result<Vec<&'a [u8]>, OutOfMemory>
+    requires named { kinds_of named.items ≡ types_before (A.plain database.now) question.now.name.now question.now.order }
+    ensures asked { (content : Option (List ℕ)) → by_magic ≡ has_magic (A.plain database.now) content question.now.host
+        → IfOk result (λ asked. kinds_of asked.items
+        ≡ asked_types (A.plain database.now) question.now.name.now content question.now.host question.now.order) }
+    ensures nodes { meter.new.nodes ≡ meter.old.nodes }
+{
+    match question.order {
+        Order::GlobsFirst => Ok(named),
+        Order::AllGlobs => {
+            if by_magic {
+                return Ok(named);
+            }
+            database.kept_kinds(alloc, question.name, meter)
+        }
+        Order::MagicFirst | Order::ContentOnly => {
+            database.kept_kinds(alloc, question.name, meter)
+        }
+    }
 }
 
 /// What was sniffed where there is no type, else the first of these that is it or a subclass of it,

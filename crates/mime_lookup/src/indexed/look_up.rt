@@ -63,6 +63,8 @@ pub fn look_up_indexed<'a, R: Content>(
 impl<'a> Asked<'a> for IndexedDatabase<'a> {
     ghost plain = { plain_database };
 
+    // Always inlined, so that the types are not moved.
+    #[inline(always)]
     fn kept_kinds(
         &self,
         alloc: Global,
@@ -72,6 +74,8 @@ impl<'a> Asked<'a> for IndexedDatabase<'a> {
         kept_kinds(alloc, self, name, meter)
     }
 
+    // Always inlined, so that the types are not moved.
+    #[inline(always)]
     fn candidate_kinds(
         &self,
         alloc: Global,
