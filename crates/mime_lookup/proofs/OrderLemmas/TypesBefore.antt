@@ -1,5 +1,5 @@
 -- The answer of the checking order, by whether the types of the name that are asked before the content suffice.
-use Rattle.std.proofs.Common.{◌≡◌, ℕ, Bool, true, false, List, [], Option, None, Some, ap, get_or, refl, sym, ◌∙◌}
+use Rattle.std.proofs.Common.{◌≡◌, ℕ, Bool, true, List, [], Option, None, Some, ap, get_or, refl, sym, ◌∙◌}
 use Rattle.std.specs.List.{All}
 use Rattle.std.specs.Prelude.{IfSome}
 use Rattle.mime_base.specs.Database.{PlainDatabase, pairs_of}

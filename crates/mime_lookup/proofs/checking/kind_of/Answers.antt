@@ -1,8 +1,8 @@
-use Rattle.std.proofs.Common.{◌≡◌, ◌∙◌, ℕ, Bool, true, false, List, ap, sym}
+use Rattle.std.proofs.Common.{◌≡◌, ◌∙◌, ℕ, true, false, List, ap, sym}
 use Rattle.std.proofs.lemmas.Option.{IfSome_then}
 use denote.Bor.{Bor}
 use Rattle.mime_lookup.specs.Ancestry.{kinds_of}
-use Rattle.mime_lookup.specs.CheckingOrder.{IsSniffed, are_one_type, globs_suffice}
+use Rattle.mime_lookup.specs.CheckingOrder.{IsSniffed, are_one_type}
 use Rattle.mime_lookup.proofs.OrderLemmas.Answering.{first_text}
 use Rattle.mime_lookup.proofs.OrderLemmas.TypesBefore.{by_asked_types, by_one_before, by_sniffed, suffice_before}
 use Rattle.mime_lookup.proofs.LookUpLemmas.LookUps.{front_read, none_read}
