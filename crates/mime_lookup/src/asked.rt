@@ -29,7 +29,8 @@ pub trait Asked<'a> {
         meter: &mut Meter,
     ) -> Result<Vec<&'a [u8]>, OutOfMemory>
         // These are the types of the rules that are kept of the name, each after one alias step.
-        ensures kept { IfOk result (λ kinds. kinds_of kinds.items ≡ kept (pairs_of (plain self.now)) (plain self.now).rules name.now) }
+        ensures kept { IfOk result (λ kinds. kinds_of kinds.items
+            ≡ kept (pairs_of (plain self.now)) (plain self.now).rules name.now) }
         // No record of a cache is visited.
         ensures nodes { meter.new.nodes ≡ meter.old.nodes };
 

@@ -3,12 +3,13 @@
 //!
 //! It is the same whoever answers what is asked, by trying all of a database or by an index of it.
 
-ghost use Rattle.std.specs.Prelude.{◌≡◌, ℕ, ◌<◌, ◌≤◌, if◌then◌else◌, length, List, Option, None, Some, IfErr, IfOk, IfSome};
+ghost use Rattle.std.specs.Prelude.{◌≡◌, ℕ, ◌<◌, ◌≤◌, if◌then◌else◌, length, List, Option, None, Some};
+ghost use Rattle.std.specs.Prelude.{IfErr, IfOk, IfSome};
 ghost use Rattle.mime_base.specs.Database.{PlainDatabase, pairs_of};
 ghost use Rattle.mime_base.specs.declared.magic.host.Host.{Host};
 ghost use Rattle.mime_lookup.specs.Ancestry.{kinds_of};
-ghost use Rattle.mime_lookup.specs.CheckingOrder.{IsSniffed, are_one_type, asked_types, before_globs, globs_suffice, has_magic};
-ghost use Rattle.mime_lookup.specs.CheckingOrder.{read_limit, types_before};
+ghost use Rattle.mime_lookup.specs.CheckingOrder.{IsSniffed, are_one_type, asked_types, before_globs, globs_suffice};
+ghost use Rattle.mime_lookup.specs.CheckingOrder.{has_magic, read_limit, types_before};
 ghost use Rattle.mime_lookup.specs.Choice.{ChoosesAmong};
 ghost use Rattle.mime_lookup.specs.Content.{known_content};
 ghost use Rattle.mime_lookup.specs.LookUps.{IsPlainAnswer, cause_in, meter_in, name_too_long, read_in};
@@ -28,7 +29,7 @@ use mime_base::{Host, Meter, OutOfMemory};
 use std::alloc::Global;
 
 /// The type that the checking order gives to a name and a content.
-pub fn look_up<'a, A: Asked<'a>, R: Content>(
+pub fn look_up_over<'a, A: Asked<'a>, R: Content>(
     alloc: Global,
     database: &A,
     name: &[u8],
@@ -74,13 +75,21 @@ fn kind_of<'a, A: Asked<'a>, R: Content>(
     read: &mut u64,
     meter: &mut Meter,
 ) -> Result<&'a [u8], Cause>
+    // Nothing was read.
     requires none { read.old ≡ 0 }
+    // The type is the one that the checking order gives to the name and the whole content, where that is known.
     ensures chosen { ChoosesFor R.remaining (A.plain database.now) question.now content.old result }
+    // It reads as much of it as the order says.
     ensures read { ReadsFor R.remaining (A.plain database.now) question.now content.old read.new result }
+    // It stops only for a read or for memory.
     ensures causes { IfErr result IsReadOrMemory }
-    ensures reader { Reads R.remaining R.tally R.health (read_limit (A.plain database.now)) content.old content.new read.new result }
+    // It takes no more of its reader than magic and the test for text can look at, and gives up only where a read failed.
+    ensures reader { Reads R.remaining R.tally R.health (read_limit (A.plain database.now))
+        content.old content.new read.new result }
+    // It asks its reader only where the globs do not suffice.
     ensures asks { AsksUnless R.health (globs_suffice (A.plain database.now) question.now.name.now question.now.order)
         content.old content.new result }
+    // No record of a cache is visited.
     ensures nodes { meter.new.nodes ≡ meter.old.nodes }
 {
     database.keeps_limits();
@@ -105,8 +114,10 @@ fn named_kinds<'a, A: Asked<'a>>(
     question: &Question<'_>,
     meter: &mut Meter,
 ) -> Result<Vec<&'a [u8]>, OutOfMemory>
+    // These are the types that the order asks first.
     ensures named { IfOk result (λ kinds. kinds_of kinds.items
         ≡ types_before (A.plain database.now) question.now.name.now question.now.order) }
+    // No record of a cache is visited.
     ensures nodes { meter.new.nodes ≡ meter.old.nodes }
 {
     match question.order {
@@ -136,6 +147,7 @@ fn are_one_type(kinds: &[&[u8]]) -> bool
 /// anything where the content alone is asked.
 #[tactic(auto, unfolding(crate::specs::CheckingOrder::before_globs))]
 fn precedes_globs(order: Order, sniffed: &Sniffed<'_>) -> bool
+    // Where it says so what was sniffed comes before the globs, and else nothing does, whichever database it was sniffed by.
     ensures { (b : PlainDatabase) (content : Option (List ℕ)) (host : Host) → IsSniffed b content host sniffed.now
         → before_globs b content host order ≡ (if result then Some sniffed.now.kind.now else None) }
 {
@@ -146,8 +158,8 @@ fn precedes_globs(order: Order, sniffed: &Sniffed<'_>) -> bool
     }
 }
 
-/// The types that are asked for what was sniffed: all that the name gave before where magic sniffed it, else those of
-/// the kept rules.
+/// The types that are asked for what was sniffed: those of all rules that match where they were asked first and magic
+/// sniffed it, else those of the kept rules.
 fn asked_kinds<'a, A: Asked<'a>>(
     alloc: Global,
     database: &A,
@@ -156,10 +168,14 @@ fn asked_kinds<'a, A: Asked<'a>>(
     by_magic: bool,
     meter: &mut Meter,
 ) -> Result<Vec<&'a [u8]>, OutOfMemory>
-    requires named { kinds_of named.items ≡ types_before (A.plain database.now) question.now.name.now question.now.order }
+    // These are the types that the order asks first.
+    requires named { kinds_of named.items
+        ≡ types_before (A.plain database.now) question.now.name.now question.now.order }
+    // These are the types that are asked for a content that magic sniffed, or didn't.
     ensures asked { (content : Option (List ℕ)) → by_magic ≡ has_magic (A.plain database.now) content question.now.host
         → IfOk result (λ asked. kinds_of asked.items
         ≡ asked_types (A.plain database.now) question.now.name.now content question.now.host question.now.order) }
+    // No record of a cache is visited.
     ensures nodes { meter.new.nodes ≡ meter.old.nodes }
 {
     match question.order {
@@ -188,7 +204,8 @@ fn choose<'a, A: Asked<'a>>(
     // No record of a cache is visited.
     ensures nodes { meter.new.nodes ≡ meter.old.nodes }
     // It is the one that is chosen among them.
-    ensures chosen { IfOk result (λ kind. ChoosesAmong (pairs_of (A.plain database.now)) (kinds_of kinds.now) sniffed.entry.now kind.now) }
+    ensures chosen { IfOk result (λ kind. ChoosesAmong (pairs_of (A.plain database.now))
+        (kinds_of kinds.now) sniffed.entry.now kind.now) }
 {
     if kinds.is_empty() {
         return Ok(sniffed);

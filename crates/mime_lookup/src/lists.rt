@@ -12,12 +12,12 @@ ghost use Rattle.mime_lookup.specs.Reads.{AsksUnless, IsReadOrMemory, Reads};
 use crate::ancestry::first_of;
 use crate::answer::Answer;
 use crate::asked::Asked;
-use crate::candidates::candidate_kinds;
-use crate::checking::look_up;
+use crate::candidates::candidate_rules;
+use crate::checking::look_up_over;
 use crate::content::Content;
-use crate::kept::kept_kinds;
+use crate::kept::kept_rules;
 use crate::order::Order;
-use crate::pairs::unalias;
+use crate::pairs::{kinds_of_rules, unalias};
 use crate::stopped::Stopped;
 use mime_base::{
     Database, Host, Meter, OutOfMemory, Section, TEXTUAL_FRONT, database_keeps_limits, extent,
@@ -59,7 +59,7 @@ pub fn look_up_plain<'a, R: Content>(
     // No record of a cache is visited.
     ensures nodes { (meter_in result).nodes ≡ 0 }
 {
-    look_up(alloc, &Lists { database }, name, content, host, order)
+    look_up_over(alloc, &Lists { database }, name, content, host, order)
 }
 
 /// A database that answers by trying all of its lists.
@@ -71,22 +71,28 @@ struct Lists<'a> {
 impl<'a> Asked<'a> for Lists<'a> {
     ghost plain = { λ lists. plain_database lists.database.now };
 
+    #[tactic(auto, unfolding(crate::specs::Choice::kept))]
     fn kept_kinds(
         &self,
         alloc: Global,
         name: &[u8],
         meter: &mut Meter,
     ) -> Result<Vec<&'a [u8]>, OutOfMemory> {
-        kept_kinds(alloc, self.database, name, meter)
+        let rules = kept_rules(alloc, &self.database.rules, name, meter)?;
+        let kinds = kinds_of_rules(alloc, &self.database.aliases, &rules)?;
+        Ok(kinds)
     }
 
+    #[tactic(auto, unfolding(crate::specs::Choice::candidates))]
     fn candidate_kinds(
         &self,
         alloc: Global,
         name: &[u8],
         meter: &mut Meter,
     ) -> Result<Vec<&'a [u8]>, OutOfMemory> {
-        candidate_kinds(alloc, self.database, name, meter)
+        let rules = candidate_rules(alloc, &self.database.rules, name, meter)?;
+        let kinds = kinds_of_rules(alloc, &self.database.aliases, &rules)?;
+        Ok(kinds)
     }
 
     fn first_section(&self, content: &[u8], host: Host, meter: &mut Meter) -> Option<&'a Section> {

@@ -46,6 +46,7 @@ pub fn sniff_content<'a, A: Asked<'a>, R: Content>(
     read: &mut u64,
     meter: &mut Meter,
 ) -> Result<Sniffed<'a>, Cause>
+    // Nothing was read.
     requires none { read.old ≡ 0 }
     // It is what the content is sniffed as.
     ensures sniffed { IfOk result (λ found. IfSome (known_content R.remaining content.old)
@@ -56,7 +57,8 @@ pub fn sniff_content<'a, A: Asked<'a>, R: Content>(
     // It stops only for a read or for memory.
     ensures causes { IfErr result IsReadOrMemory }
     // It takes no more of its reader than that, and gives up only where a read failed.
-    ensures reader { Reads R.remaining R.tally R.health (read_limit (A.plain database.now)) content.old content.new read.new result }
+    ensures reader { Reads R.remaining R.tally R.health (read_limit (A.plain database.now))
+        content.old content.new read.new result }
     // It asks its reader.
     ensures asks { AsksUnless R.health false content.old content.new result }
     // No record of a cache is visited.
@@ -85,7 +87,9 @@ fn sniff<'a, A: Asked<'a>>(
     host: Host,
     meter: &mut Meter,
 ) -> Sniffed<'a>
+    // It is what the content is sniffed as.
     ensures sniffed { IsSniffed (A.plain database.now) (Some content.now) host result }
+    // No record of a cache is visited.
     ensures nodes { meter.new.nodes ≡ meter.old.nodes }
 {
     match database.first_section(content, host, meter) {

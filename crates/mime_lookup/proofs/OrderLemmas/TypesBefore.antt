@@ -5,7 +5,8 @@ use Rattle.std.specs.Prelude.{IfSome}
 use Rattle.mime_base.specs.Database.{PlainDatabase, pairs_of}
 use Rattle.mime_base.specs.Kept.{FitsRank}
 use Rattle.mime_base.specs.declared.magic.host.Host.{Host}
-use Rattle.mime_lookup.specs.CheckingOrder.{Chooses, are_one_type, asked_types, before_globs, globs_suffice, types_before}
+use Rattle.mime_lookup.specs.CheckingOrder.{Chooses, are_one_type, asked_types, before_globs, globs_suffice}
+use Rattle.mime_lookup.specs.CheckingOrder.{types_before}
 use Rattle.mime_lookup.specs.Choice.{ChoosesAmong}
 use Rattle.mime_lookup.specs.Sniffing.{sniffed}
 use Rattle.mime_lookup.specs.declared.order.Order.{Order}
@@ -28,7 +29,8 @@ module _ (b : PlainDatabase) (name : List ℕ) where
     one_before : (order : Order) (content : Option (List ℕ)) → are_one_type (types_before b name order) ≡ true
         → Chooses b name content host order (get_or (types_before b name order) 0 [])
     unfolding Chooses before_globs
-    one_before GlobsFirst content one = one_type_chosen (pairs_of b) (types_before b name GlobsFirst) (sniffed b content host) one
+    one_before GlobsFirst content one =
+        one_type_chosen (pairs_of b) (types_before b name GlobsFirst) (sniffed b content host) one
     one_before MagicFirst content one = absurd cc
     one_before AllGlobs content one = one_candidate_alone b name host ranked content _ one refl
     one_before ContentOnly content one = absurd cc
@@ -48,8 +50,9 @@ module _ (b : PlainDatabase) (name : List ℕ) where
   by_sniffed content host order found first = rw first refl
 
   -- else it is chosen among those that are asked
-  pub by_asked_types : (content : Option (List ℕ)) (host : Host) (order : Order) (asked : List (List ℕ)) (found answer : List ℕ)
-      → before_globs b content host order ≡ None → asked ≡ asked_types b name content host order → found ≡ sniffed b content host
+  pub by_asked_types : (content : Option (List ℕ)) (host : Host) (order : Order) (asked : List (List ℕ))
+      (found answer : List ℕ) → before_globs b content host order ≡ None
+      → asked ≡ asked_types b name content host order → found ≡ sniffed b content host
       → ChoosesAmong (pairs_of b) asked found answer → Chooses b name content host order answer
   unfolding Chooses
   by_asked_types content host order asked found answer later are same chosen = rw (later, ← are, ← same) chosen

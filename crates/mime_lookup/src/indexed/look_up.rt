@@ -10,7 +10,7 @@ ghost use Rattle.mime_lookup.specs.Reads.{AsksUnless, IsReadOrMemory, Reads};
 use crate::ancestry::first_at;
 use crate::answer::Answer;
 use crate::asked::Asked;
-use crate::checking::look_up;
+use crate::checking::look_up_over;
 use crate::content::Content;
 use crate::indexed::IndexedDatabase;
 use crate::indexed::candidates::candidate_kinds;
@@ -57,7 +57,7 @@ pub fn look_up_indexed<'a, R: Content>(
     // No record of a cache is visited.
     ensures nodes { (meter_in result).nodes ≡ 0 }
 {
-    look_up(alloc, index, name, content, host, order)
+    look_up_over(alloc, index, name, content, host, order)
 }
 
 impl<'a> Asked<'a> for IndexedDatabase<'a> {

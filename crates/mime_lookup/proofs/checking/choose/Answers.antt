@@ -10,6 +10,6 @@ pub returns-clause-chosen : goal.returns-clause-chosen
 returns-clause-chosen g c =
     let some : 0 < length c.args.kinds.now = grind (arith, eqb-false) in
     IfOk-weaker c.first_of.result _ _
-    (λ kind first. chooses-from_first (pairs_of (g.A.Asked.plain c.args.database.now)) (λ (text : Bor (List ℕ)). text.now)
-    c.args.sniffed.now c.args.kinds.now kind.now _ some first)
+    (λ kind first. chooses-from_first (pairs_of (g.A.Asked.plain c.args.database.now))
+    (λ (text : Bor (List ℕ)). text.now) c.args.sniffed.now c.args.kinds.now kind.now _ some first)
     c.first_of.ensures.first

@@ -13,9 +13,11 @@ use Rattle.mime_lookup.proofs.checking.kind_of.Goals as goal
 pub returns-then-are_one_type-clause-chosen : goal.returns-then-are_one_type-clause-chosen
 returns-then-are_one_type-clause-chosen g c =
     let named = c.in_ok-named.named.items in
-    let one : are_one_type (kinds_of named) ≡ true = rw c.deref.ensures.value at (sym c.are_one_type.ensures ∙ c.if-are_one_type.true) in
-    by_one_before (g.A.Asked.plain c.args.database.now) c.args.question.now.name.now c.args.question.now.host c.keeps_limits.ensures
-    c.args.question.now.order _ (kinds_of named) _ c.in_ok-named.ensures.named one
+    let question = c.args.question.now in
+    let one : are_one_type (kinds_of named) ≡ true =
+    rw c.deref.ensures.value at (sym c.are_one_type.ensures ∙ c.if-are_one_type.true) in
+    by_one_before (g.A.Asked.plain c.args.database.now) question.name.now question.host c.keeps_limits.ensures
+    question.order _ (kinds_of named) _ c.in_ok-named.ensures.named one
     (ap (λ (text : Bor (List ℕ)). text.now) c.index.ensures ∙ first_text named c.index.result.now one)
 
 -- and nothing is read
@@ -23,8 +25,9 @@ pub returns-then-are_one_type-clause-read : goal.returns-then-are_one_type-claus
 returns-then-are_one_type-clause-read g c =
     let one : are_one_type (kinds_of c.in_ok-named.named.items) ≡ true =
     rw c.deref.ensures.value at (sym c.are_one_type.ensures ∙ c.if-are_one_type.true) in
-    none_read (g.A.Asked.plain c.args.database.now) c.args.question.now.name.now c.args.question.now.order _ _ c.requires.none
-    (suffice_before _ _ c.args.question.now.order _ true c.in_ok-named.ensures.named one)
+    let question = c.args.question.now in
+    none_read (g.A.Asked.plain c.args.database.now) question.name.now question.order _ _ c.requires.none
+    (suffice_before _ _ question.order _ true c.in_ok-named.ensures.named one)
 
 pub returns-then-are_one_type-clause-asks : goal.returns-then-are_one_type-clause-asks
 returns-then-are_one_type-clause-asks g c =
@@ -61,7 +64,8 @@ returns-then-precedes_globs-clause-read g c =
     let several : are_one_type (kinds_of c.in_ok-named.named.items) ≡ false =
     rw c.deref.ensures.value at (sym c.are_one_type.ensures ∙ c.if-are_one_type.false) in
     front_read (g.A.Asked.plain c.args.database.now) c.args.question.now.name.now c.args.question.now.order _ _
-    (suffice_before _ _ c.args.question.now.order _ false c.in_ok-named.ensures.named several) c.in_ok-sniffed.ensures.read
+    (suffice_before _ _ c.args.question.now.order _ false c.in_ok-named.ensures.named several)
+    c.in_ok-sniffed.ensures.read
 
 -- a type is chosen among those that are asked: the order gives it
 pub returns-clause-chosen : goal.returns-clause-chosen
@@ -82,4 +86,5 @@ returns-clause-read g c =
     let several : are_one_type (kinds_of c.in_ok-named.named.items) ≡ false =
     rw c.deref.ensures.value at (sym c.are_one_type.ensures ∙ c.if-are_one_type.false) in
     front_read (g.A.Asked.plain c.args.database.now) c.args.question.now.name.now c.args.question.now.order _ _
-    (suffice_before _ _ c.args.question.now.order _ false c.in_ok-named.ensures.named several) c.in_ok-sniffed.ensures.read
+    (suffice_before _ _ c.args.question.now.order _ false c.in_ok-named.ensures.named several)
+    c.in_ok-sniffed.ensures.read
