@@ -8,6 +8,6 @@ pub mod ContentOnly
 pub mod GlobsFirst
 pub mod Candidates
 pub mod AllGlobs
-pub mod PlainCandidates
+pub mod TypesBefore
 pub mod ByNames
 pub mod ByContents

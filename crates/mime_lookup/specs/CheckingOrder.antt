@@ -72,6 +72,14 @@ abbrev pub are_one_type : List (List ℕ) → Bool
 are_one_type [] = false
 are_one_type (first ∷ more) = list_all (bytes_eq first) more
 
+-- the types of a name that are asked before a content is: the kept ones, under AllGlobs all candidates, and none where
+-- content is asked first
+abbrev pub types_before : PlainDatabase → List ℕ → Order → List (List ℕ)
+types_before b name GlobsFirst = kept (pairs_of b) b.rules name
+types_before b name MagicFirst = []
+types_before b name AllGlobs = candidates (pairs_of b) b.rules name
+types_before b name ContentOnly = []
+
 -- whether the globs alone give the answer
 unfoldable pub globs_suffice : PlainDatabase → List ℕ → Order → Bool
 globs_suffice b name GlobsFirst = are_one_type (kept (pairs_of b) b.rules name)

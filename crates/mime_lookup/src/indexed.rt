@@ -5,7 +5,6 @@
 //! places of aliases and subclass pairs are known. Read `endings` first, and then `unrefused`.
 
 pub mod candidates;
-pub mod choice;
 pub mod endings;
 pub mod heads;
 pub mod kept;
@@ -18,15 +17,13 @@ pub mod top_line;
 pub mod unrefused;
 
 ghost use Rattle.std.specs.Prelude.{◌≡◌, IfOk};
-ghost use Rattle.std.specs.List.{All};
-ghost use Rattle.mime_base.specs.Kept.{FitsRank};
 
 use crate::indexed::endings::keys_of;
 use crate::indexed::heads::{Heads, heads_of};
 use crate::indexed::rule_key::RuleKey;
 use crate::lists::front_limit;
 use crate::places::{PlacedPairs, places_of};
-use mime_base::{Database, OutOfMemory, database_keeps_limits};
+use mime_base::{Database, OutOfMemory};
 use std::alloc::Global;
 use std::marker::Model;
 
@@ -82,12 +79,5 @@ impl<'a> IndexedDatabase<'a> {
             heads,
             limit: front_limit(database),
         })
-    }
-
-    /// The rules keep their limits, as those of every database do.
-    fn keeps_limits(&self)
-        ensures { All FitsRank self.now.rules.items }
-    {
-        database_keeps_limits(self.database);
     }
 }

@@ -19,14 +19,17 @@
 //! itself, and `cached::by_content`, what a front of the content then gives. Then what these take in
 //! turn: `cached::name_types`, the types of a name; `cached::sniff`, the type of a front; and
 //! `cached::ancestry`, the search for a subclass. `content` and `reading` are what a lookup reads from and
-//! how. `lists` has the same steps over a database, by `kept`, `candidates`, `sniff` and `ancestry`, the last over
-//! `places`, the index of the pairs.
+//! how. `checking` has the same steps over a database, with `sniff`; what they ask of one is `asked`. `lists` answers it
+//! by trying all, with `kept`, `candidates` and `ancestry`, the last over `places`, the index of the pairs, and
+//! `indexed` by its parts.
 #![tactic(auto)]
 
 mod ancestry;
 mod answer;
+mod asked;
 mod cached;
 mod candidates;
+mod checking;
 mod content;
 mod fixed;
 mod indexed;

@@ -1,16 +1,19 @@
 //! What a content is sniffed as ("Recommended checking order").
 
-ghost use Rattle.std.specs.Prelude.{◌≡◌, Some, option_map};
-ghost use Rattle.mime_base.specs.Database.{plain_database};
-ghost use Rattle.mime_base.specs.Magic.Holds.{first_magic};
-ghost use Rattle.mime_base.specs.Magic.{plain_sections};
-ghost use Rattle.mime_lookup.specs.CheckingOrder.{IsSniffed};
+ghost use Rattle.std.specs.Prelude.{◌≡◌, false, IfErr, IfOk, IfSome, OnOk, Some};
+ghost use Rattle.mime_lookup.specs.CheckingOrder.{IsSniffed, front_size, read_limit};
+ghost use Rattle.mime_lookup.specs.Content.{known_content};
+ghost use Rattle.mime_lookup.specs.Reads.{AsksUnless, IsReadOrMemory, Reads};
 ghost use Rattle.mime_lookup.specs.Sniffing.{FrontIsEnough, sniffed_by_bytes};
 
+use crate::asked::Asked;
+use crate::content::Content;
 use crate::fixed::{OCTET_STREAM, TEXT_PLAIN, ZERO_SIZE};
 use crate::order::Order;
-use crate::pairs::unalias;
-use mime_base::{Database, Host, Meter, Section, looks_textual, some_line_matches};
+use crate::reading::read_front;
+use crate::stopped::Cause;
+use mime_base::{Host, Meter, looks_textual};
+use std::alloc::Global;
 
 /// The least priority with which magic comes before the globs.
 pub const HIGH_PRIORITY: u32 = 80;
@@ -33,23 +36,65 @@ pub fn front_is_enough()
     ensures { FrontIsEnough }
 {}
 
+/// What a content is sniffed as, by its front: as much of it as magic can look at.
+#[tactic(auto, unfolding(crate::specs::Sniffing::sniffed, crate::specs::CheckingOrder::before_globs))]
+pub fn sniff_content<'a, A: Asked<'a>, R: Content>(
+    alloc: Global,
+    database: &A,
+    content: &mut Option<R>,
+    host: Host,
+    read: &mut u64,
+    meter: &mut Meter,
+) -> Result<Sniffed<'a>, Cause>
+    // Nothing was read.
+    requires none { read.old ≡ 0 }
+    // It is what the content is sniffed as.
+    ensures sniffed { IfOk result (λ found. IfSome (known_content R.remaining content.old)
+        (λ known. IsSniffed (A.plain database.now) known host found)) }
+    // As much is read as magic can look at.
+    ensures read { OnOk result (IfSome (known_content R.remaining content.old)
+        (λ known. read.new ≡ front_size (A.plain database.now) known)) }
+    // It stops only for a read or for memory.
+    ensures causes { IfErr result IsReadOrMemory }
+    // It takes no more of its reader than that, and gives up only where a read failed.
+    ensures reader { Reads R.remaining R.tally R.health (read_limit (A.plain database.now))
+        content.old content.new read.new result }
+    // It asks its reader.
+    ensures asks { AsksUnless R.health false content.old content.new result }
+    // No record of a cache is visited.
+    ensures nodes { meter.new.nodes ≡ meter.old.nodes }
+{
+    match content {
+        Some(reader) => {
+            let limit = database.front_limit();
+            let front = read_front(alloc, reader, limit, read)?;
+            Ok(sniff(database, &front, host, meter))
+        }
+        None => Ok(Sniffed {
+            kind: OCTET_STREAM,
+            is_high: false,
+            by_magic: false,
+        }),
+    }
+}
+
 /// What a content is sniffed as: the type of the first section with a line that holds, after one
 /// alias step, else a type by the bytes alone.
 #[tactic(auto, unfolding(crate::specs::Sniffing::sniffed, crate::specs::CheckingOrder::before_globs))]
-pub fn sniff<'a>(
-    database: &'a Database,
+fn sniff<'a, A: Asked<'a>>(
+    database: &A,
     content: &[u8],
     host: Host,
     meter: &mut Meter,
 ) -> Sniffed<'a>
     // It is what the content is sniffed as.
-    ensures sniffed { IsSniffed (plain_database database.entry.now) (Some content.now) host result }
+    ensures sniffed { IsSniffed (A.plain database.now) (Some content.now) host result }
     // No record of a cache is visited.
     ensures nodes { meter.new.nodes ≡ meter.old.nodes }
 {
-    match first_section(&database.sections, content, host, meter) {
+    match database.first_section(content, host, meter) {
         Some(section) => Sniffed {
-            kind: unalias(&database.aliases, section.kind.bytes()),
+            kind: database.unalias(section.kind.bytes()),
             is_high: section.priority >= HIGH_PRIORITY,
             by_magic: true,
         },
@@ -59,25 +104,6 @@ pub fn sniff<'a>(
             by_magic: false,
         },
     }
-}
-
-/// The first section with a line of indent 0 that holds.
-fn first_section<'a>(
-    sections: &'a [Section],
-    content: &[u8],
-    host: Host,
-    meter: &mut Meter,
-) -> Option<&'a Section>
-    ensures first { option_map (λ section. (section.now.kind, section.now.priority)) result
-        ≡ first_magic (plain_sections sections.entry.now) content.now host }
-    ensures nodes { meter.new.nodes ≡ meter.old.nodes }
-{
-    for section in sections {
-        if some_line_matches(&section.lines, content, host, meter) {
-            return Some(section);
-        }
-    }
-    None
 }
 
 /// The type of a content for which no section holds.

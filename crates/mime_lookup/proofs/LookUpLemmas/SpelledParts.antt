@@ -9,7 +9,7 @@ use Rattle.mime_lookup.specs.Spelling.{SpellsGlobs, SpellsIcons, SpellsMagic, Sp
 use Rattle.mime_view.specs.NameHits.{SpellsRules}
 
 -- a rule within the limits fits a rank
-pub ranks-fit : (rules : List GlobRule) → All KeepsLimits rules → All FitsRank rules
+ranks-fit : (rules : List GlobRule) → All KeepsLimits rules → All FitsRank rules
 ranks-fit rules keep = λ k d here. let is = keep k d here in (is.0, omega (arith, is.1))
 
 -- the subclasses

@@ -7,7 +7,7 @@ use Rattle.mime_base.specs.Database.Subclass.{Pairs}
 use Rattle.mime_base.specs.declared.magic.host.Host.{Host}
 use denote.Bor.{Bor}
 use Rattle.mime_lookup.specs.Ancestry.{kinds_of}
-use Rattle.mime_lookup.specs.CheckingOrder.{Chooses, are_one_type, before_globs, front_size, globs_suffice, read_of}
+use Rattle.mime_lookup.specs.CheckingOrder.{Chooses, are_one_type, before_globs}
 use Rattle.mime_lookup.specs.Choice.{ChoosesAmong, IsFirst, kept}
 use Rattle.mime_lookup.specs.Sniffing.{sniffed}
 use Rattle.mime_lookup.specs.declared.order.Order.{Order}
@@ -35,11 +35,6 @@ first_text (first ∷ more) d one = refl
 
 module _ (b : PlainDatabase) (name : List ℕ) (host : Host) (order : Order) where
   module _ (globs : order ≡ GlobsFirst) (kinds : List (List ℕ)) (are : kinds ≡ kept (pairs_of b) b.rules name) where
-    -- whether the globs alone give the answer
-    pub suffice : (one : Bool) → are_one_type kinds ≡ one → globs_suffice b name order ≡ one
-    unfolding globs_suffice
-    suffice one is = rw (globs, ← are) is
-
     -- the globs alone
     pub by_globs : (known : Option (Option (List ℕ))) (answer : List ℕ) → are_one_type kinds ≡ true → answer ≡ get_or kinds 0 [] →
         IfSome known (λ content. Chooses b name content host order answer)
@@ -47,12 +42,6 @@ module _ (b : PlainDatabase) (name : List ℕ) (host : Host) (order : Order) whe
     by_globs None answer one is = tt
     by_globs (Some content) answer one is =
         rw (globs, is, ← are) (one_type_chosen (pairs_of b) kinds (sniffed b content host) one)
-
-    pub read_none : (known : Option (Option (List ℕ))) (count : ℕ) → are_one_type kinds ≡ true → count ≡ 0 →
-        IfSome known (λ content. count ≡ read_of b name content order)
-    unfolding read_of
-    read_none None count one none = tt
-    read_none (Some content) count one none = rw (suffice true one) none
 
     -- the globs conflict or are silent
     pub by_globs_and_content : (known : Option (Option (List ℕ))) (found answer : List ℕ) →
@@ -62,18 +51,7 @@ module _ (b : PlainDatabase) (name : List ℕ) (host : Host) (order : Order) whe
     by_globs_and_content None found answer same chosen = tt
     by_globs_and_content (Some content) found answer same chosen = rw (globs, ← are, ← same) chosen
 
-    pub read_front : (known : Option (Option (List ℕ))) (count : ℕ) → are_one_type kinds ≡ false →
-        IfSome known (λ content. count ≡ front_size b content) → IfSome known (λ content. count ≡ read_of b name content order)
-    unfolding read_of
-    read_front None count conflict size = tt
-    read_front (Some content) count conflict size = rw (suffice false conflict) size
-
   module _ (magic : order ≡ MagicFirst) (found : List ℕ) (high : Bool) where
-    -- the globs alone do not
-    pub suffice_not : globs_suffice b name order ≡ false
-    unfolding globs_suffice
-    suffice_not = rw magic refl
-
     -- magic of high priority
     pub by_magic : (known : Option (Option (List ℕ))) → high ≡ true →
         IfSome known (λ content. cond high (Some found) None ≡ before_globs b content host MagicFirst) →
@@ -93,27 +71,10 @@ module _ (b : PlainDatabase) (name : List ℕ) (host : Host) (order : Order) whe
     by_magic_and_globs (Some content) kinds answer are is first same chosen =
         rw (magic, ← first, is, ← are, ← same) chosen
 
-    pub read_first : (known : Option (Option (List ℕ))) (count : ℕ) → IfSome known (λ content. count ≡ front_size b content) →
-        IfSome known (λ content. count ≡ read_of b name content order)
-    unfolding read_of
-    read_first None count size = tt
-    read_first (Some content) count size = rw suffice_not size
-
   module _ (content : order ≡ ContentOnly) where
-    -- nor do they where the content alone is asked
-    pub suffice_never : globs_suffice b name order ≡ false
-    unfolding globs_suffice
-    suffice_never = rw content refl
-
     -- what is sniffed
     pub by_content : (known : Option (Option (List ℕ))) (found : List ℕ) → IfSome known (λ content. found ≡ sniffed b content host) →
         IfSome known (λ content. Chooses b name content host order found)
     unfolding Chooses before_globs
     by_content None found same = tt
     by_content (Some known) found same = rw content same
-
-    pub read_content : (known : Option (Option (List ℕ))) (count : ℕ) → IfSome known (λ content. count ≡ front_size b content) →
-        IfSome known (λ content. count ≡ read_of b name content order)
-    unfolding read_of
-    read_content None count size = tt
-    read_content (Some known) count size = rw suffice_never size

@@ -5,22 +5,21 @@ ghost use Rattle.mime_base.specs.Database.{plain_database};
 ghost use Rattle.mime_lookup.specs.CheckingOrder.{globs_suffice, read_limit};
 ghost use Rattle.mime_lookup.specs.Content.{known_content};
 ghost use Rattle.mime_lookup.specs.LookUps.{IsPlainAnswer, cause_in, meter_in, name_too_long, read_in};
-ghost use Rattle.mime_lookup.specs.Question.{ChoosesFor, ReadsFor};
 ghost use Rattle.mime_lookup.specs.Reads.{AsksUnless, IsReadOrMemory, Reads};
 
+use crate::ancestry::first_at;
 use crate::answer::Answer;
+use crate::asked::Asked;
+use crate::checking::look_up_over;
 use crate::content::Content;
 use crate::indexed::IndexedDatabase;
 use crate::indexed::candidates::candidate_kinds;
-use crate::indexed::choice::{asked_kinds, choose};
 use crate::indexed::kept::kept_kinds;
-use crate::indexed::sniff::sniff_content;
-use crate::limits::LONGEST_NAME;
-use crate::lists::are_one_type;
+use crate::indexed::sniff::first_section;
 use crate::order::Order;
-use crate::question::Question;
-use crate::stopped::{Cause, Stopped};
-use mime_base::{Host, Meter};
+use crate::places::unalias_at;
+use crate::stopped::Stopped;
+use mime_base::{Host, Meter, OutOfMemory, Section, database_keeps_limits};
 use std::alloc::Global;
 
 /// The type that the checking order gives to a name and a content, over an index: as [`crate::look_up_plain`]
@@ -58,71 +57,58 @@ pub fn look_up_indexed<'a, R: Content>(
     // No record of a cache is visited.
     ensures nodes { (meter_in result).nodes ≡ 0 }
 {
-    let mut read = 0;
-    let mut meter = Meter::new();
-    if name.len() > LONGEST_NAME {
-        let cause = Cause::NameTooLong;
-        return Err(Stopped { cause, read, meter });
-    }
-    let question = Question { name, host, order };
-    match kind_of(alloc, index, &question, content, &mut read, &mut meter) {
-        Ok(kind) => Ok(Answer { kind, read, meter }),
-        Err(cause) => Err(Stopped { cause, read, meter }),
-    }
+    look_up_over(alloc, index, name, content, host, order)
 }
 
-/// The type of a name and a content, and how many bytes of the content were read.
-fn kind_of<'a, R: Content>(
-    alloc: Global,
-    index: &IndexedDatabase<'a>,
-    question: &Question<'_>,
-    content: &mut Option<R>,
-    read: &mut u64,
-    meter: &mut Meter,
-) -> Result<&'a [u8], Cause>
-    requires none { read.old ≡ 0 }
-    ensures chosen { ChoosesFor R.remaining (plain_database index.now) question.now content.old result }
-    ensures read { ReadsFor R.remaining (plain_database index.now) question.now content.old read.new result }
-    ensures causes { IfErr result IsReadOrMemory }
-    ensures reader { Reads R.remaining R.tally R.health (read_limit (plain_database index.now)) content.old content.new read.new result }
-    ensures asks { AsksUnless R.health (globs_suffice (plain_database index.now) question.now.name.now question.now.order)
-        content.old content.new result }
-    ensures nodes { meter.new.nodes ≡ meter.old.nodes }
-{
-    match question.order {
-        Order::GlobsFirst => {
-            let kept = kept_kinds(alloc, index, question.name, meter)?;
-            if are_one_type(&kept) {
-                return Ok(kept[0]);
-            }
-            let sniffed = sniff_content(alloc, index, content, question.host, read, meter)?;
-            let kind = choose(alloc, index, &kept, sniffed.kind, meter)?;
-            Ok(kind)
-        }
-        Order::MagicFirst => {
-            let sniffed = sniff_content(alloc, index, content, question.host, read, meter)?;
-            if sniffed.is_high {
-                return Ok(sniffed.kind);
-            }
-            let kept = kept_kinds(alloc, index, question.name, meter)?;
-            let kind = choose(alloc, index, &kept, sniffed.kind, meter)?;
-            Ok(kind)
-        }
-        Order::AllGlobs => {
-            index.keeps_limits();
-            let all = candidate_kinds(alloc, index, question.name, meter)?;
-            if are_one_type(&all) {
-                return Ok(all[0]);
-            }
-            let sniffed = sniff_content(alloc, index, content, question.host, read, meter)?;
-            let by_magic = sniffed.by_magic;
-            let asked = asked_kinds(alloc, index, all, question.name, by_magic, meter)?;
-            let kind = choose(alloc, index, &asked, sniffed.kind, meter)?;
-            Ok(kind)
-        }
-        Order::ContentOnly => {
-            let sniffed = sniff_content(alloc, index, content, question.host, read, meter)?;
-            Ok(sniffed.kind)
-        }
+impl<'a> Asked<'a> for IndexedDatabase<'a> {
+    ghost plain = { plain_database };
+
+    // Always inlined, so that the types are not moved.
+    #[inline(always)]
+    fn kept_kinds(
+        &self,
+        alloc: Global,
+        name: &[u8],
+        meter: &mut Meter,
+    ) -> Result<Vec<&'a [u8]>, OutOfMemory> {
+        kept_kinds(alloc, self, name, meter)
+    }
+
+    // Always inlined, so that the types are not moved.
+    #[inline(always)]
+    fn candidate_kinds(
+        &self,
+        alloc: Global,
+        name: &[u8],
+        meter: &mut Meter,
+    ) -> Result<Vec<&'a [u8]>, OutOfMemory> {
+        candidate_kinds(alloc, self, name, meter)
+    }
+
+    fn first_section(&self, content: &[u8], host: Host, meter: &mut Meter) -> Option<&'a Section> {
+        first_section(&self.heads, content, host, meter)
+    }
+
+    fn unalias(&self, kind: &'a [u8]) -> &'a [u8] {
+        unalias_at(&self.pairs.aliases, kind)
+    }
+
+    fn first_of(
+        &self,
+        alloc: Global,
+        kinds: &[&'a [u8]],
+        default: &'a [u8],
+        base: &[u8],
+        meter: &mut Meter,
+    ) -> Result<&'a [u8], OutOfMemory> {
+        first_at(alloc, &self.pairs, kinds, default, base, meter)
+    }
+
+    fn front_limit(&self) -> usize {
+        self.limit
+    }
+
+    fn keeps_limits(&self) {
+        database_keeps_limits(self.database);
     }
 }

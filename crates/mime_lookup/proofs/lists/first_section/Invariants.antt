@@ -1,7 +1,7 @@
 use Rattle.std.proofs.Common.{◌≡◌, drop}
 use Rattle.mime_base.specs.Magic.Holds.{first_magic}
 use Rattle.mime_base.specs.Magic.{plain_sections}
-use Rattle.mime_lookup.proofs.sniff.first_section.Given as goal
+use Rattle.mime_lookup.proofs.lists.first_section.Given as goal
 
 abbrev pub invariant-loop-section : goal.invariant-loop-section
 invariant-loop-section l = record {

@@ -2,7 +2,7 @@ use Rattle.std.proofs.Common.{ap, sym, ◌∙◌}
 use Rattle.mime_base.specs.Magic.Holds.{some_holds}
 use Rattle.mime_base.specs.Magic.{forest_of, plain_matchlets}
 use Rattle.mime_lookup.proofs.SniffLemmas.FirstSections.{first_magic-here, first_magic-none, first_magic-past}
-use Rattle.mime_lookup.proofs.sniff.first_section.Goals as goal
+use Rattle.mime_lookup.proofs.lists.first_section.Goals as goal
 
 pub returns-then-some_line_matches-clause-first : goal.returns-then-some_line_matches-clause-first
 returns-then-some_line_matches-clause-first c =

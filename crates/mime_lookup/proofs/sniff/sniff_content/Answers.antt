@@ -1,17 +1,16 @@
 use Rattle.std.proofs.Common.{◌≤◌, length, arith}
-use Rattle.mime_base.specs.Database.{plain_database}
 use Rattle.mime_lookup.specs.CheckingOrder.{read_limit}
 use Rattle.mime_lookup.proofs.SniffLemmas.Sniffs.{front_size-known, is_sniffed-known}
-use Rattle.mime_lookup.proofs.lists.sniff_content.Goals as goal
+use Rattle.mime_lookup.proofs.sniff.sniff_content.Goals as goal
 
 pub returns-in_ok-front-in-Some-clause-sniffed : goal.returns-in_ok-front-in-Some-clause-sniffed
 returns-in_ok-front-in-Some-clause-sniffed g c =
     let front = c.in_ok-front-in-Some.front.items in
     let read = c.in_ok-front-in-Some.ensures in
-    let limited : length front ≤ read_limit (plain_database c.args.database.now) =
+    let limited : length front ≤ read_limit (g.A.Asked.plain c.args.database.now) =
     omega (arith, read.front.0, c.read_front.ensures.reader.within, c.front_limit-limit.ensures.limit) in
     rw c.in-Some.is
-    (is_sniffed-known (plain_database c.args.database.now) c.args.host _ _ front read.front.1 limited
+    (is_sniffed-known (g.A.Asked.plain c.args.database.now) c.args.host _ _ front read.front.1 limited
     (λ short. read.whole (omega (arith, short, read.front.0, c.front_limit-limit.ensures.limit)))
     _ (rw c.deref.ensures.value at c.sniff.ensures.sniffed))
 
@@ -19,9 +18,9 @@ pub returns-in_ok-front-in-Some-clause-read : goal.returns-in_ok-front-in-Some-c
 returns-in_ok-front-in-Some-clause-read g c =
     let front = c.in_ok-front-in-Some.front.items in
     let read = c.in_ok-front-in-Some.ensures in
-    let limited : length front ≤ read_limit (plain_database c.args.database.now) =
+    let limited : length front ≤ read_limit (g.A.Asked.plain c.args.database.now) =
     omega (arith, read.front.0, c.read_front.ensures.reader.within, c.front_limit-limit.ensures.limit) in
     rw c.in-Some.is
-    (front_size-known (plain_database c.args.database.now) c.args.host _ _ front read.front.1 limited
+    (front_size-known (g.A.Asked.plain c.args.database.now) c.args.host _ _ front read.front.1 limited
     (λ short. read.whole (omega (arith, short, read.front.0, c.front_limit-limit.ensures.limit)))
     _ (read.front.0))

@@ -4,7 +4,7 @@ use Rattle.std.proofs.lemmas.Bool.{and_left}
 use Rattle.std.proofs.lemmas.List.{drop_all}
 use Rattle.mime_lookup.specs.Ancestry.{kinds_of}
 use Rattle.mime_lookup.specs.CheckingOrder.{are_one_type}
-use Rattle.mime_lookup.proofs.lists.are_one_type.Goals as goal
+use Rattle.mime_lookup.proofs.checking.are_one_type.Goals as goal
 
 pub returns-then-not-is_same : goal.returns-then-not-is_same
 returns-then-not-is_same c =

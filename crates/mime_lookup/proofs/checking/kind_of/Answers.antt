@@ -1,0 +1,90 @@
+use Rattle.std.proofs.Common.{◌≡◌, ◌∙◌, ℕ, true, false, List, ap, sym}
+use Rattle.std.proofs.lemmas.Option.{IfSome_then}
+use denote.Bor.{Bor}
+use Rattle.mime_lookup.specs.Ancestry.{kinds_of}
+use Rattle.mime_lookup.specs.CheckingOrder.{IsSniffed, are_one_type}
+use Rattle.mime_lookup.proofs.OrderLemmas.Answering.{first_text}
+use Rattle.mime_lookup.proofs.OrderLemmas.TypesBefore.{by_asked_types, by_one_before, by_sniffed, suffice_before}
+use Rattle.mime_lookup.proofs.LookUpLemmas.LookUps.{front_read, none_read}
+use Rattle.mime_lookup.proofs.ContentLemmas.Reads.{asks_nothing, asks_stopped}
+use Rattle.mime_lookup.proofs.checking.kind_of.Goals as goal
+
+-- the types that the name gives suffice: the order gives this type
+pub returns-then-are_one_type-clause-chosen : goal.returns-then-are_one_type-clause-chosen
+returns-then-are_one_type-clause-chosen g c =
+    let named = c.in_ok-named.named.items in
+    let question = c.args.question.now in
+    let one : are_one_type (kinds_of named) ≡ true =
+    rw c.deref.ensures.value at (sym c.are_one_type.ensures ∙ c.if-are_one_type.true) in
+    by_one_before (g.A.Asked.plain c.args.database.now) question.name.now question.host c.keeps_limits.ensures
+    question.order _ (kinds_of named) _ c.in_ok-named.ensures.named one
+    (ap (λ (text : Bor (List ℕ)). text.now) c.index.ensures ∙ first_text named c.index.result.now one)
+
+-- and nothing is read
+pub returns-then-are_one_type-clause-read : goal.returns-then-are_one_type-clause-read
+returns-then-are_one_type-clause-read g c =
+    let one : are_one_type (kinds_of c.in_ok-named.named.items) ≡ true =
+    rw c.deref.ensures.value at (sym c.are_one_type.ensures ∙ c.if-are_one_type.true) in
+    let question = c.args.question.now in
+    none_read (g.A.Asked.plain c.args.database.now) question.name.now question.order _ _ c.requires.none
+    (suffice_before _ _ question.order _ true c.in_ok-named.ensures.named one)
+
+pub returns-then-are_one_type-clause-asks : goal.returns-then-are_one_type-clause-asks
+returns-then-are_one_type-clause-asks g c =
+    let one : are_one_type (kinds_of c.in_ok-named.named.items) ≡ true =
+    rw c.deref.ensures.value at (sym c.are_one_type.ensures ∙ c.if-are_one_type.true) in
+    asks_nothing g.R.Content.health _ c.args.content.now _
+    (suffice_before (g.A.Asked.plain c.args.database.now) c.args.question.now.name.now c.args.question.now.order _ true
+    c.in_ok-named.ensures.named one)
+
+-- the content can't be sniffed
+pub returns-in_err-sniffed-clause-asks : goal.returns-in_err-sniffed-clause-asks
+returns-in_err-sniffed-clause-asks g c =
+    let several : are_one_type (kinds_of c.in_ok-named.named.items) ≡ false =
+    rw c.deref.ensures.value at (sym c.are_one_type.ensures ∙ c.if-are_one_type.false) in
+    asks_stopped g.R.Content.health _ c.args.content.now c.sniff_content.new.content c.in_err-sniffed.field-0.0
+    c.from_residual-in_err-sniffed.result
+    (suffice_before (g.A.Asked.plain c.args.database.now) c.args.question.now.name.now c.args.question.now.order _ false
+    c.in_ok-named.ensures.named several)
+    c.from_residual-in_err-sniffed.ensures.1 c.in_err-sniffed.ensures.asks
+
+-- what was sniffed comes before the globs: the order gives it
+pub returns-then-precedes_globs-clause-chosen : goal.returns-then-precedes_globs-clause-chosen
+returns-then-precedes_globs-clause-chosen g c =
+    let b = g.A.Asked.plain c.args.database.now in
+    let question = c.args.question.now in
+    IfSome_then _ c.in_ok-sniffed.ensures.sniffed
+    (λ content (is : IsSniffed b content question.host c.in_ok-sniffed.sniffed).
+    by_sniffed b question.name.now content question.host question.order c.in_ok-sniffed.sniffed.kind.now
+    (rw c.if-precedes_globs.true at (c.precedes_globs.ensures b content question.host is)))
+
+-- and the front is read
+pub returns-then-precedes_globs-clause-read : goal.returns-then-precedes_globs-clause-read
+returns-then-precedes_globs-clause-read g c =
+    let several : are_one_type (kinds_of c.in_ok-named.named.items) ≡ false =
+    rw c.deref.ensures.value at (sym c.are_one_type.ensures ∙ c.if-are_one_type.false) in
+    front_read (g.A.Asked.plain c.args.database.now) c.args.question.now.name.now c.args.question.now.order _ _
+    (suffice_before _ _ c.args.question.now.order _ false c.in_ok-named.ensures.named several)
+    c.in_ok-sniffed.ensures.read
+
+-- a type is chosen among those that are asked: the order gives it
+pub returns-clause-chosen : goal.returns-clause-chosen
+returns-clause-chosen g c =
+    let b = g.A.Asked.plain c.args.database.now in
+    let question = c.args.question.now in
+    IfSome_then _ c.in_ok-sniffed.ensures.sniffed
+    (λ content (is : IsSniffed b content question.host c.in_ok-sniffed.sniffed).
+    by_asked_types b question.name.now content question.host question.order (kinds_of c.in_ok-asked.asked.items)
+    c.in_ok-sniffed.sniffed.kind.now c.in_ok-kind.kind.now
+    (rw c.if-precedes_globs.false at (c.precedes_globs.ensures b content question.host is))
+    (c.in_ok-asked.ensures.asked content is.magic) is.kind
+    (rw c.deref-2.ensures.value at c.in_ok-kind.ensures.chosen))
+
+-- and the front is read
+pub returns-clause-read : goal.returns-clause-read
+returns-clause-read g c =
+    let several : are_one_type (kinds_of c.in_ok-named.named.items) ≡ false =
+    rw c.deref.ensures.value at (sym c.are_one_type.ensures ∙ c.if-are_one_type.false) in
+    front_read (g.A.Asked.plain c.args.database.now) c.args.question.now.name.now c.args.question.now.order _ _
+    (suffice_before _ _ c.args.question.now.order _ false c.in_ok-named.ensures.named several)
+    c.in_ok-sniffed.ensures.read

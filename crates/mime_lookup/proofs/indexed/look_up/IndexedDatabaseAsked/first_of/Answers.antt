@@ -1,0 +1,15 @@
+use Rattle.std.proofs.Common.{subst}
+use Rattle.std.specs.Prelude.{IfOk}
+use Rattle.mime_lookup.specs.Ancestry.{kinds_of}
+use Rattle.mime_lookup.specs.Choice.{IsFirst}
+use Rattle.mime_lookup.proofs.IndexLemmas.Indexes.{indexed_pairs}
+use Rattle.mime_lookup.proofs.indexed.look_up.IndexedDatabaseAsked.first_of.Goals as goal
+
+pub returns-clause-first : goal.returns-clause-first
+returns-clause-first c =
+    let inside = c.self.inside in
+    subst (λ pairs. IfOk c.first_at.result
+    (λ kind. IsFirst pairs c.args.base.now c.args.default.now (kinds_of c.args.kinds.now) kind.now))
+    (indexed_pairs inside.database.now c.args.self.now inside.keys.items inside.pairs inside.heads inside.limit
+    c.self.invariant c.self.view_is)
+    c.first_at.ensures.first

@@ -1,0 +1,89 @@
+//! What the checking order asks of a database. This project's own.
+//!
+//! Whoever answers it says which database that is: `lists` tries every rule, line and pair of one, `indexed` looks
+//! where an index says. The order itself is in `checking`, and what a content is sniffed as in `sniff`.
+
+ghost use Rattle.std.specs.Prelude.{◌≡◌, ◌<◌, option_map, IfOk};
+ghost use Rattle.std.specs.List.{All};
+ghost use Rattle.mime_base.specs.Database.{PlainDatabase, pairs_of};
+ghost use Rattle.mime_base.specs.Database.Subclass.{resolved};
+ghost use Rattle.mime_base.specs.Kept.{FitsRank};
+ghost use Rattle.mime_base.specs.Magic.Holds.{first_magic};
+ghost use Rattle.mime_lookup.specs.Ancestry.{kinds_of};
+ghost use Rattle.mime_lookup.specs.CheckingOrder.{read_limit};
+ghost use Rattle.mime_lookup.specs.Choice.{IsFirst, candidates, kept};
+
+use mime_base::{Host, Meter, OutOfMemory, Section};
+use std::alloc::Global;
+
+/// A database that the checking order asks.
+pub trait Asked<'a> {
+    // The database.
+    ghost plain: { Self → PlainDatabase };
+
+    /// The types of the rules that are kept of a name, each after one alias step.
+    fn kept_kinds(
+        &self,
+        alloc: Global,
+        name: &[u8],
+        meter: &mut Meter,
+    ) -> Result<Vec<&'a [u8]>, OutOfMemory>
+        // These are the types of the rules that are kept of the name, each after one alias step.
+        ensures kept { IfOk result (λ kinds. kinds_of kinds.items
+            ≡ kept (pairs_of (plain self.now)) (plain self.now).rules name.now) }
+        // No record of a cache is visited.
+        ensures nodes { meter.new.nodes ≡ meter.old.nodes };
+
+    /// The types of all rules that match a name, by falling rank, each after one alias step.
+    fn candidate_kinds(
+        &self,
+        alloc: Global,
+        name: &[u8],
+        meter: &mut Meter,
+    ) -> Result<Vec<&'a [u8]>, OutOfMemory>
+        // These are the types of all rules that match the name, each after one alias step.
+        ensures candidates { IfOk result (λ kinds. kinds_of kinds.items
+            ≡ candidates (pairs_of (plain self.now)) (plain self.now).rules name.now) }
+        // No record of a cache is visited.
+        ensures nodes { meter.new.nodes ≡ meter.old.nodes };
+
+    /// The first section with a line of indent 0 that holds for a content.
+    fn first_section(&self, content: &[u8], host: Host, meter: &mut Meter) -> Option<&'a Section>
+        // It is the first section that holds.
+        ensures first { option_map (λ section. (section.now.kind, section.now.priority)) result
+            ≡ first_magic (plain self.now).sections content.now host }
+        // No record of a cache is visited.
+        ensures nodes { meter.new.nodes ≡ meter.old.nodes };
+
+    /// A type after one alias step.
+    fn unalias(&self, kind: &'a [u8]) -> &'a [u8]
+        // It is the type after one alias step.
+        ensures { result.now ≡ resolved (plain self.now).aliases kind.entry.now };
+
+    /// The first of the types that is the base or a subclass of it, else the default.
+    fn first_of(
+        &self,
+        alloc: Global,
+        kinds: &[&'a [u8]],
+        default: &'a [u8],
+        base: &[u8],
+        meter: &mut Meter,
+    ) -> Result<&'a [u8], OutOfMemory>
+        // No record of a cache is visited.
+        ensures nodes { meter.new.nodes ≡ meter.old.nodes }
+        // It is the first of the types that is the base or a subclass of it, else the default.
+        ensures first { IfOk result (λ kind. IsFirst (pairs_of (plain self.now))
+            base.now default.entry.now (kinds_of kinds.now) kind.now) };
+
+    /// How much of a content is read at most.
+    fn front_limit(&self) -> usize
+        // It is the greater of 128 bytes and the database's extent.
+        ensures limit { result ≡ read_limit (plain self.now) }
+        // Something is read.
+        ensures some { 0 < result };
+
+    /// The rules keep their limits, as those of every database do.
+    fn keeps_limits(&self)
+        // Each rule fits a rank.
+        ensures { All FitsRank (plain self.now).rules };
+}

@@ -1,0 +1,214 @@
+//! The checking order: what is asked of a name and a content and in which order, what suffices, and what is chosen
+//! ("Recommended checking order").
+//!
+//! It is the same whoever answers what is asked, by trying all of a database or by an index of it.
+
+ghost use Rattle.std.specs.Prelude.{◌≡◌, ℕ, ◌<◌, ◌≤◌, if◌then◌else◌, length, List, Option, None, Some};
+ghost use Rattle.std.specs.Prelude.{IfErr, IfOk, IfSome};
+ghost use Rattle.mime_base.specs.Database.{PlainDatabase, pairs_of};
+ghost use Rattle.mime_base.specs.declared.magic.host.Host.{Host};
+ghost use Rattle.mime_lookup.specs.Ancestry.{kinds_of};
+ghost use Rattle.mime_lookup.specs.CheckingOrder.{IsSniffed, are_one_type, asked_types, before_globs, globs_suffice};
+ghost use Rattle.mime_lookup.specs.CheckingOrder.{has_magic, read_limit, types_before};
+ghost use Rattle.mime_lookup.specs.Choice.{ChoosesAmong};
+ghost use Rattle.mime_lookup.specs.Content.{known_content};
+ghost use Rattle.mime_lookup.specs.LookUps.{IsPlainAnswer, cause_in, meter_in, name_too_long, read_in};
+ghost use Rattle.mime_lookup.specs.Question.{ChoosesFor, ReadsFor};
+ghost use Rattle.mime_lookup.specs.Reads.{AsksUnless, IsReadOrMemory, Reads};
+
+use crate::answer::Answer;
+use crate::asked::Asked;
+use crate::content::Content;
+use crate::limits::LONGEST_NAME;
+use crate::order::Order;
+use crate::pairs::is_same;
+use crate::question::Question;
+use crate::sniff::{Sniffed, sniff_content};
+use crate::stopped::{Cause, Stopped};
+use mime_base::{Host, Meter, OutOfMemory};
+use std::alloc::Global;
+
+/// The type that the checking order gives to a name and a content.
+pub fn look_up_over<'a, A: Asked<'a>, R: Content>(
+    alloc: Global,
+    database: &A,
+    name: &[u8],
+    content: &mut Option<R>,
+    host: Host,
+    order: Order,
+) -> Result<Answer<'a>, Stopped>
+    // The type is the one that the checking order gives to the name and the whole content, of which it reads as much as it says.
+    ensures answers { IfOk result (λ answer. IfSome (known_content R.remaining content.old)
+        (λ known. IsPlainAnswer (A.plain database.now) name.now known host order answer)) }
+    // A name of more than 4,096 bytes is too long, before anything else.
+    ensures too_long { 4096 < length name.now → (content.new ≡ content.old) × (result ≡ name_too_long) }
+    // For another name it stops only for a read or for memory, so never for a cache.
+    ensures otherwise { length name.now ≤ 4096 → IfErr result (λ stopped. IsReadOrMemory stopped.cause) }
+    // It takes no more of its reader than magic and the test for text can look at, and gives up only where a read failed.
+    ensures reader { Reads R.remaining R.tally R.health (read_limit (A.plain database.now))
+        content.old content.new (read_in result) (cause_in result) }
+    // It asks its reader only where the globs do not suffice.
+    ensures asks { AsksUnless R.health (globs_suffice (A.plain database.now) name.now order)
+        content.old content.new (cause_in result) }
+    // No record of a cache is visited.
+    ensures nodes { (meter_in result).nodes ≡ 0 }
+{
+    let mut read = 0;
+    let mut meter = Meter::new();
+    if name.len() > LONGEST_NAME {
+        let cause = Cause::NameTooLong;
+        return Err(Stopped { cause, read, meter });
+    }
+    let question = Question { name, host, order };
+    match kind_of(alloc, database, &question, content, &mut read, &mut meter) {
+        Ok(kind) => Ok(Answer { kind, read, meter }),
+        Err(cause) => Err(Stopped { cause, read, meter }),
+    }
+}
+
+/// The type of a name and a content, and how many bytes of the content were read.
+fn kind_of<'a, A: Asked<'a>, R: Content>(
+    alloc: Global,
+    database: &A,
+    question: &Question<'_>,
+    content: &mut Option<R>,
+    read: &mut u64,
+    meter: &mut Meter,
+) -> Result<&'a [u8], Cause>
+    // Nothing was read.
+    requires none { read.old ≡ 0 }
+    // The type is the one that the checking order gives to the name and the whole content, where that is known.
+    ensures chosen { ChoosesFor R.remaining (A.plain database.now) question.now content.old result }
+    // It reads as much of it as the order says.
+    ensures read { ReadsFor R.remaining (A.plain database.now) question.now content.old read.new result }
+    // It stops only for a read or for memory.
+    ensures causes { IfErr result IsReadOrMemory }
+    // It takes no more of its reader than magic and the test for text can look at, and gives up only where a read failed.
+    ensures reader { Reads R.remaining R.tally R.health (read_limit (A.plain database.now))
+        content.old content.new read.new result }
+    // It asks its reader only where the globs do not suffice.
+    ensures asks { AsksUnless R.health (globs_suffice (A.plain database.now) question.now.name.now question.now.order)
+        content.old content.new result }
+    // No record of a cache is visited.
+    ensures nodes { meter.new.nodes ≡ meter.old.nodes }
+{
+    database.keeps_limits();
+    let named = named_kinds(alloc, database, question, meter)?;
+    if are_one_type(&named) {
+        return Ok(named[0]);
+    }
+    let sniffed = sniff_content(alloc, database, content, question.host, read, meter)?;
+    if precedes_globs(question.order, &sniffed) {
+        return Ok(sniffed.kind);
+    }
+    let asked = asked_kinds(alloc, database, named, question, sniffed.by_magic, meter)?;
+    let kind = choose(alloc, database, &asked, sniffed.kind, meter)?;
+    Ok(kind)
+}
+
+/// The types of a name that are asked before a content is: those of the kept rules or of all that match, and none
+/// where the content is asked first.
+fn named_kinds<'a, A: Asked<'a>>(
+    alloc: Global,
+    database: &A,
+    question: &Question<'_>,
+    meter: &mut Meter,
+) -> Result<Vec<&'a [u8]>, OutOfMemory>
+    // These are the types that the order asks first.
+    ensures named { IfOk result (λ kinds. kinds_of kinds.items
+        ≡ types_before (A.plain database.now) question.now.name.now question.now.order) }
+    // No record of a cache is visited.
+    ensures nodes { meter.new.nodes ≡ meter.old.nodes }
+{
+    match question.order {
+        Order::GlobsFirst => database.kept_kinds(alloc, question.name, meter),
+        Order::AllGlobs => database.candidate_kinds(alloc, question.name, meter),
+        Order::MagicFirst | Order::ContentOnly => Ok(Vec::new(alloc)),
+    }
+}
+
+/// Whether there are types, and all are one type.
+fn are_one_type(kinds: &[&[u8]]) -> bool
+    // It says whether the first type is there, and each other is the same.
+    ensures { result ≡ are_one_type (kinds_of kinds.now) }
+{
+    let Some((first, more)) = kinds.split_first() else {
+        return false;
+    };
+    for kind in more {
+        if !is_same(*first, *kind) {
+            return false;
+        }
+    }
+    true
+}
+
+/// Whether what was sniffed is the answer whatever the globs give: a high priority where magic is asked first, and
+/// anything where the content alone is asked.
+#[tactic(auto, unfolding(crate::specs::CheckingOrder::before_globs))]
+fn precedes_globs(order: Order, sniffed: &Sniffed<'_>) -> bool
+    // Where it says so what was sniffed comes before the globs, and else nothing does, whichever database it was sniffed by.
+    ensures { (b : PlainDatabase) (content : Option (List ℕ)) (host : Host) → IsSniffed b content host sniffed.now
+        → before_globs b content host order ≡ (if result then Some sniffed.now.kind.now else None) }
+{
+    match order {
+        Order::GlobsFirst | Order::AllGlobs => false,
+        Order::MagicFirst => sniffed.is_high,
+        Order::ContentOnly => true,
+    }
+}
+
+/// The types that are asked for what was sniffed: those of all rules that match where they were asked first and magic
+/// sniffed it, else those of the kept rules.
+fn asked_kinds<'a, A: Asked<'a>>(
+    alloc: Global,
+    database: &A,
+    named: Vec<&'a [u8]>,
+    question: &Question<'_>,
+    by_magic: bool,
+    meter: &mut Meter,
+) -> Result<Vec<&'a [u8]>, OutOfMemory>
+    // These are the types that the order asks first.
+    requires named { kinds_of named.items
+        ≡ types_before (A.plain database.now) question.now.name.now question.now.order }
+    // These are the types that are asked for a content that magic sniffed, or didn't.
+    ensures asked { (content : Option (List ℕ)) → by_magic ≡ has_magic (A.plain database.now) content question.now.host
+        → IfOk result (λ asked. kinds_of asked.items
+        ≡ asked_types (A.plain database.now) question.now.name.now content question.now.host question.now.order) }
+    // No record of a cache is visited.
+    ensures nodes { meter.new.nodes ≡ meter.old.nodes }
+{
+    match question.order {
+        Order::GlobsFirst => Ok(named),
+        Order::AllGlobs => {
+            if by_magic {
+                return Ok(named);
+            }
+            database.kept_kinds(alloc, question.name, meter)
+        }
+        Order::MagicFirst | Order::ContentOnly => {
+            database.kept_kinds(alloc, question.name, meter)
+        }
+    }
+}
+
+/// What was sniffed where there is no type, else the first of these that is it or a subclass of it,
+/// else the first.
+fn choose<'a, A: Asked<'a>>(
+    alloc: Global,
+    database: &A,
+    kinds: &[&'a [u8]],
+    sniffed: &'a [u8],
+    meter: &mut Meter,
+) -> Result<&'a [u8], OutOfMemory>
+    // No record of a cache is visited.
+    ensures nodes { meter.new.nodes ≡ meter.old.nodes }
+    // It is the one that is chosen among them.
+    ensures chosen { IfOk result (λ kind. ChoosesAmong (pairs_of (A.plain database.now))
+        (kinds_of kinds.now) sniffed.entry.now kind.now) }
+{
+    if kinds.is_empty() {
+        return Ok(sniffed);
+    }
+    database.first_of(alloc, kinds, kinds[0], sniffed, meter)
+}
