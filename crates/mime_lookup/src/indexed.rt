@@ -4,16 +4,20 @@
 //! number each, of the last bytes of the names that they match, so that those that a name may match stand together, and the
 //! places of aliases and subclass pairs are known. Read `endings` first, and then `unrefused`.
 
+pub mod asked;
 pub mod candidates;
 pub mod choice;
 pub mod endings;
+pub mod first_line;
 pub mod heads;
 pub mod kept;
 pub mod line_head;
 pub mod look_up;
+pub mod noted_pairs;
 pub mod rule_key;
 pub mod run;
 pub mod sniff;
+pub mod tables;
 pub mod top_line;
 pub mod unrefused;
 
