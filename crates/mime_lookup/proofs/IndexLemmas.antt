@@ -7,3 +7,6 @@ pub mod SkippedRules
 pub mod Indexes
 pub mod LineHeads
 pub mod TopLines
+pub mod NotedPairs
+pub mod FoundLines
+pub mod Chains

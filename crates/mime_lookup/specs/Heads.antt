@@ -1,7 +1,7 @@
--- Heads of lines of magic: how the windows of a line's range begin that may equal its value.
-use Rattle.std.specs.Prelude.{◌≡◌, ℕ, ◌+◌, ◌<◌, ◌≤◌, false, List, [], ◌∷◌, length, map, slice_index}
+-- Heads of lines of magic: bytes that stand in each window that equals a line's value.
+use Rattle.std.specs.Prelude.{◌≡◌, ℕ, ◌+◌, ◌<◌, ◌≤◌, false, List, [], ◌∷◌, length, map, get_or, Option, slice_index}
 use Rattle.std.specs.List.{flat_map}
-use Rattle.mime_base.specs.Magic.Holds.{equals_from, line_holds}
+use Rattle.mime_base.specs.Magic.Holds.{bytes_of_mask, equals_from, line_holds}
 use Rattle.mime_base.specs.Magic.{PlainLine, plain_matchlet}
 use Rattle.mime_base.specs.declared.magic.Section.{Section}
 use Rattle.mime_base.specs.declared.magic.host.Host.{Host}
@@ -10,12 +10,27 @@ use Rattle.mime_lookup.specs.declared.indexed.line_head.LineHead.{LineHead}
 use Rattle.mime_lookup.specs.declared.indexed.top_line.TopLine.{TopLine}
 use Rattle.mime_view.specs.Heads.{AreBytes}
 
--- a head that says how windows begin refuses a content: none of those of its range that lie in the content begins so
+-- all bits of the bytes of a head count
+pub record KeepsBytes (mask : Option (List ℕ)) (skip : ℕ) : Type 0 where
+  pub first : get_or (bytes_of_mask mask) 0 255 ≡ 255
+  pub second : get_or (bytes_of_mask mask) 1 255 ≡ 255
+  pub third : get_or (bytes_of_mask mask) skip 255 ≡ 255
+  pub fourth : get_or (bytes_of_mask mask) (skip + 1) 255 ≡ 255
+
+-- the bytes of a head stand in the window at a place
+pub record ShowsBytes (head : LineHead) (content : List ℕ) (place : ℕ) : Type 0 where
+  pub first : slice_index content place ≡ head.first
+  -- A value of one byte has no pairs.
+  pub second : head.skip + 1 < head.size → slice_index content (place + 1) ≡ head.second
+  pub third : head.skip + 1 < head.size → slice_index content (place + head.skip) ≡ head.third
+  pub fourth : head.skip + 1 < head.size → slice_index content (place + head.skip + 1) ≡ head.fourth
+
+-- a head refuses a content: its bytes stand in none of the windows of its range that lie in the content
 pub record RefusesContent (head : LineHead) (content : List ℕ) : Type 0 where
   pub known : 0 < head.size
   pub bytes : AreBytes content
   pub lacks : (place : ℕ) → head.start ≤ place → place < head.start + head.range → place + head.size ≤ length content
-      → slice_index content place ≡ head.first → ⊥
+      → ShowsBytes head content place → ⊥
 
 -- a content that a head refuses has no window that equals a line's value
 abbrev pub IsHead : LineHead → PlainLine → Type 0

@@ -6,6 +6,7 @@ use Rattle.mime_lookup.specs.CheckingOrder.{read_limit}
 use Rattle.mime_lookup.specs.Endings.{AreKeys}
 use Rattle.mime_lookup.specs.Heads.{AreHeads}
 use Rattle.mime_lookup.specs.Places.{ArePlaced}
+use Rattle.mime_lookup.specs.Tables.{AreTables}
 use Rattle.mime_lookup.specs.declared.indexed.heads.Heads.{Heads}
 use Rattle.mime_lookup.specs.declared.indexed.rule_key.RuleKey.{RuleKey}
 use Rattle.mime_lookup.specs.declared.places.PlacedPairs.{PlacedPairs}
@@ -17,5 +18,6 @@ pub record IsIndexOf (database : Database) (keys : List RuleKey) (pairs : Placed
   pub aliases : pairs.aliases.pairs.now ≡ database.aliases.items
   pub parents : pairs.parents.pairs.now ≡ database.parents.items
   pub headed : AreHeads heads.lines.items heads.tops.items database.sections.items
+  pub tabled : AreTables heads.tables heads.lines.items 0
   pub limits : limit ≡ read_limit (plain_database database)
   pub some : 0 < limit

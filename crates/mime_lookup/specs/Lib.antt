@@ -29,4 +29,6 @@ pub mod NameAlone
 pub mod ContentAlone
 pub mod Endings
 pub mod Heads
+pub mod Pairs
+pub mod Tables
 pub mod Indexed

@@ -6,13 +6,17 @@
 
 pub mod candidates;
 pub mod endings;
+pub mod first_line;
 pub mod heads;
 pub mod kept;
 pub mod line_head;
+pub mod line_search;
 pub mod look_up;
+pub mod noted_pairs;
 pub mod rule_key;
 pub mod run;
 pub mod sniff;
+pub mod tables;
 pub mod top_line;
 pub mod unrefused;
 

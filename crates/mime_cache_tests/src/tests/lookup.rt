@@ -12,6 +12,7 @@ mod magic;
 mod pieces;
 mod reads;
 mod sample;
+mod sniffed;
 
 use crate::tests::checked::alike;
 use crate::tests::lookup::cached::look_up_in;

@@ -1,8 +1,7 @@
 -- Lines of indent 0 with their sections: the first that holds is of the first section that holds, and those whose heads refuse are skipped.
-use Rattle.std.proofs.Common.{◌≡◌, ℕ, zero, suc, ◌+◌, ◌<◌, ◌≤◌, ◌||◌, Bool, true, false, cond, List, [], ◌∷◌, ◌++◌, length, get_or, map, drop}
+use Rattle.std.proofs.Common.{◌≡◌, ℕ, ◌+◌, ◌<◌, ◌||◌, Bool, true, false, cond, List, [], ◌∷◌, ◌++◌, length, get_or, map, drop}
 use Rattle.std.proofs.Common.{Option, None, Some, refl, sym, ap, ◌∙◌, arith}
-use Rattle.std.specs.List.{AllWithin, flat_map}
-use Rattle.std.proofs.lemmas.Bool.{cond-false}
+use Rattle.std.specs.List.{flat_map}
 use Rattle.std.proofs.lemmas.List.{length-map}
 use Rattle.mime_base.specs.Magic.Holds.{first_magic, line_holds, some_holds}
 use Rattle.mime_base.specs.Magic.{forest_of, plain_matchlet, plain_matchlets, plain_section, plain_sections}
@@ -13,7 +12,7 @@ use Rattle.mime_base.proofs.MagicLemmas.HoldingLines.{some_holds-from, some_hold
 use Rattle.mime_lookup.proofs.AncestryLemmas.PairSteps.{items_from}
 use Rattle.mime_lookup.proofs.IndexLemmas.LineHeads.{line_heads-length}
 use Rattle.mime_lookup.proofs.SniffLemmas.FirstSections.{first_magic-nil, first_magic-section}
-use Rattle.mime_lookup.specs.Heads.{AreLineHeads, RefusesContent, plain_top, tops_of}
+use Rattle.mime_lookup.specs.Heads.{AreLineHeads, plain_top, tops_of}
 use Rattle.mime_lookup.specs.declared.indexed.line_head.LineHead.{LineHead}
 use Rattle.mime_lookup.specs.declared.indexed.top_line.TopLine.{TopLine}
 
@@ -65,26 +64,3 @@ module _ (content : List ℕ) (host : Host) where
       ≡ cond (line_holds (plain_matchlet top.line.now) content host) (Some (top.section.now.kind, top.section.now.priority))
       (first_top (map plain_top (drop (i + 1) tops)))
   tops_from tops i top within is = ap (λ ts. first_top (map plain_top ts)) (items_from tops i top within is)
-
-  -- lines of which the heads refuse, from the first on
-  skipped-first : (until : ℕ) (heads : List LineHead) (tops : List TopLine) → until ≤ length heads →
-      AreLineHeads heads (map (λ (top : TopLine). top.line.now) tops) → AllWithin (λ head. RefusesContent head content) heads 0 until →
-      first_top (map plain_top tops) ≡ first_top (map plain_top (drop until tops))
-  skipped-first zero heads tops within are refused = refl
-  skipped-first (suc until) [] tops within are refused = absurd (omega arith)
-  skipped-first (suc until) (_ ∷ _) [] within are refused = absurd are
-  skipped-first (suc until) (head ∷ heads) (top ∷ tops) within are refused =
-      cond-false _ _ _ (are.0 content host (refused 0 head (omega arith) (omega arith)))
-      ∙ skipped-first until heads tops (omega arith) are.1 (λ place other low high. refused (suc place) other (omega arith) (omega arith))
-
-  -- and from a later one on
-  pub skipped-tops : (from until : ℕ) (heads : List LineHead) (tops : List TopLine) → from ≤ until → until ≤ length heads →
-      AreLineHeads heads (map (λ (top : TopLine). top.line.now) tops) → AllWithin (λ head. RefusesContent head content) heads from until →
-      first_top (map plain_top (drop from tops)) ≡ first_top (map plain_top (drop until tops))
-  skipped-tops zero until heads tops order within are refused = skipped-first until heads tops within are refused
-  skipped-tops (suc from) zero heads tops order within are refused = absurd (omega arith)
-  skipped-tops (suc from) (suc until) [] tops order within are refused = absurd (omega arith)
-  skipped-tops (suc from) (suc until) (_ ∷ _) [] order within are refused = absurd are
-  skipped-tops (suc from) (suc until) (head ∷ heads) (top ∷ tops) order within are refused =
-      skipped-tops from until heads tops (omega arith) (omega arith) are.1
-      (λ place other low high. refused (suc place) other (omega arith) (omega arith))

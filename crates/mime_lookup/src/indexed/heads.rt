@@ -1,50 +1,69 @@
 //! Heads of lines of magic, by which most lines are refused without a look at them.
 //!
-//! A line without a mask, whose value is of single bytes, holds for no content in which the value's first byte stands at none of its
-//! offsets. So the offsets, the size and the first byte of each top line stand together, in the order of the lines, and those of
-//! all sections are gone through as one list. Any other line has a head that refuses nothing, and is tried.
+//! A head has four bytes of a line's value: the two that it begins with, and a later pair, where all bits of them count. A line
+//! holds for no content in which they stand together at none of its offsets. The heads of all top lines stand together, in the
+//! order of the lines. Where no such bytes are known, the head refuses nothing, and the line is tried.
 
-ghost use Rattle.std.specs.Prelude.{◌≡◌, ◌++◌, ◌≤◌, true, length, map, IfOk, OnOk};
-ghost use Rattle.std.specs.List.{AllWithin, flat_map};
-ghost use Rattle.mime_base.specs.Magic.{line_from};
-ghost use Rattle.mime_lookup.specs.Heads.{AreHeads, IsHead, IsHeadOf, RefusesContent, plain_top, tops_of};
+ghost use Rattle.std.specs.Prelude.{◌≡◌, ◌++◌, ◌<◌, ℕ, List, Option, length, slice_index, true, map, IfOk, OnOk};
+ghost use Rattle.std.specs.List.{flat_map};
+ghost use Rattle.mime_base.specs.Magic.{line_from, mask_bytes};
+ghost use Rattle.mime_base.specs.declared.magic.matchlet.Matchlet.TheViews.{out-Matchlet};
+ghost use Rattle.mime_lookup.specs.Heads.{AreHeads, IsHead, IsHeadOf, KeepsBytes, plain_top, tops_of};
+ghost use Rattle.mime_lookup.specs.Tables.{AreTables};
 
 use crate::indexed::line_head::LineHead;
+use crate::indexed::tables::{Tables, tables_of};
 use crate::indexed::top_line::TopLine;
-use mime_base::{Content, Matchlet, Meter, OutOfMemory, Section};
+use mime_base::{Matchlet, OutOfMemory, Section};
 use std::alloc::Global;
 
-/// The top lines of some sections, and their heads.
+/// The top lines of some sections, and what is known of them.
 #[derive(Drop)]
 pub struct Heads<'a> {
     /// The head of each line.
     pub lines: Vec<LineHead>,
     /// The lines, section by section.
     pub tops: Vec<TopLine<'a>>,
+    /// Where they are found by a place and a byte.
+    pub tables: Tables,
 }
 
 /// The longest value of which a head tells the size.
 const LONGEST: usize = 65_535;
+
+/// The later pair of a value begins before this place of it.
+const NEAR: u8 = 16;
 
 /// A head that refuses nothing.
 const UNKNOWN: LineHead = LineHead {
     start: 0,
     range: 0,
     size: 0,
+    skip: 0,
     first: 0,
+    second: 0,
+    third: 0,
+    fourth: 0,
 };
 
 /// The top lines of some sections with their heads.
 pub fn heads_of<'a>(alloc: Global, sections: &'a [Section]) -> Result<Heads<'a>, OutOfMemory>
     // Each top line is there, in their order, and has its head.
-    ensures { IfOk result (λ heads. AreHeads heads.lines.items heads.tops.items sections.entry.now) }
+    ensures headed { IfOk result (λ heads. AreHeads heads.lines.items heads.tops.items sections.entry.now) }
+    // Each is found by its place and its byte, or is asked by itself.
+    ensures tabled { IfOk result (λ heads. AreTables heads.tables heads.lines.items 0) }
 {
     let tops = tops_of(alloc, sections)?;
     let mut lines = Vec::with_capacity(alloc, tops.len())?;
     for top in &tops {
         lines.push(head_of(top.line))?;
     }
-    Ok(Heads { lines, tops })
+    let tables = tables_of(alloc, &lines)?;
+    Ok(Heads {
+        lines,
+        tops,
+        tables,
+    })
 }
 
 /// The top lines of some sections.
@@ -72,71 +91,78 @@ fn push_tops<'a>(tops: &mut Vec<TopLine<'a>>, section: &'a Section) -> Result<()
 fn head_of(line: &Matchlet) -> LineHead
     ensures { IsHeadOf result line.now }
 {
-    match line.mask {
-        Some(_) => UNKNOWN,
-        None => head_from(line.start, line.range, line.word, &line.value),
+    let skip = later_pair(line);
+    if keeps_bytes(line, skip) {
+        return head_from(line.start, line.range, line.word, &line.value, skip);
+    }
+    UNKNOWN
+}
+
+/// Where the later pair of a line's value begins: under a mask with its first byte.
+fn later_pair(line: &Matchlet) -> u8 {
+    if line.mask.is_some() || line.value.len() < 4 {
+        return 0;
+    }
+    if line.range == 1 {
+        return 2;
+    }
+    rarest_pair(&line.value)
+}
+
+/// The last pair of a value, from its third byte on and near its front, that has the fewest common bytes.
+fn rarest_pair(value: &[u8]) -> u8 {
+    let (mut rarest, mut least) = (0, 2);
+    for place in 2..NEAR {
+        let at = usize::from(place);
+        if at + 1 >= value.len() {
+            return rarest;
+        }
+        let common = u8::from(is_common(value[at])) + u8::from(is_common(value[at + 1]));
+        if common <= least {
+            (rarest, least) = (place, common);
+        }
+    }
+    rarest
+}
+
+/// Whether a byte is one of those that most contents have many of: small letters, spaces and zeros.
+fn is_common(byte: u8) -> bool {
+    matches!(byte, b'a'..=b'z' | b' ' | 0)
+}
+
+/// Whether all bits of a value's first two bytes count, and of its later pair.
+fn keeps_bytes(line: &Matchlet, skip: u8) -> bool
+    ensures { result ≡ true → KeepsBytes (mask_bytes (out-Matchlet line.now).mask) skip }
+{
+    match &line.mask {
+        Some(mask) => skip == 0 && mask.len() > 1 && mask[0] == 255 && mask[1] == 255,
+        None => true,
     }
 }
 
-/// The head of a line without a mask.
-fn head_from(start: u32, range: u32, word: u32, value: &[u8]) -> LineHead
-    ensures { IsHead result (line_from start range word value.now None) }
+/// The head of a line of which all bits of these bytes count.
+fn head_from(start: u32, range: u32, word: u32, value: &[u8], skip: u8) -> LineHead
+    ensures { (mask : Option (List ℕ)) → KeepsBytes mask skip → IsHead result (line_from start range word value.now mask) }
 {
     if word != 1 || value.is_empty() || value.len() > LONGEST {
         return UNKNOWN;
     }
+    let later = usize::from(skip);
     LineHead {
         start,
         range,
         size: value.len() as u16,
+        skip,
         first: value[0],
+        second: byte_at(value, 1),
+        third: byte_at(value, later),
+        fourth: byte_at(value, later + 1),
     }
 }
 
-/// Whether a line's head refuses a content.
-#[inline]
-fn refuses(head: &LineHead, content: &Content<'_>) -> bool
-    ensures { result ≡ true → RefusesContent head.now content.now }
+/// The byte at a place of a value, or 0 past its end.
+fn byte_at(value: &[u8], place: usize) -> u8
+    ensures { place < length value.now → result ≡ slice_index value.now place }
 {
-    let bytes = content.bytes();
-    let size = usize::from(head.size);
-    if size == 0 {
-        return false;
-    }
-    let start = head.start as usize;
-    if bytes.len() < start + size {
-        return true;
-    }
-    if head.range == 1 {
-        return bytes[start] != head.first;
-    }
-    let end = (start + head.range as usize).min(bytes.len() - size + 1);
-    content.lacks(head.first, end)
-}
-
-/// The first head from `from` on that doesn't refuse a content, else the number of heads.
-///
-/// The meter counts each head that is looked at as a byte.
-#[inline]
-pub fn next_open(heads: &[LineHead], content: &Content<'_>, from: usize, meter: &mut Meter) -> usize
-    requires { from ≤ length heads.now }
-    // It is none before that.
-    ensures onward { from ≤ result }
-    // It is the place of a head, or the first after the last one.
-    ensures within { result ≤ length heads.now }
-    // Each head between them refuses the content.
-    ensures refused { AllWithin (λ head. RefusesContent head content.now) heads.now from result }
-    // No record of a cache is visited.
-    ensures nodes { meter.new.nodes ≡ meter.old.nodes }
-{
-    let mut compared: u64 = 0;
-    for place in from..heads.len() {
-        compared += 1;
-        if !refuses(&heads[place], content) {
-            meter.add_bytes(compared);
-            return place;
-        }
-    }
-    meter.add_bytes(compared);
-    heads.len()
+    if place < value.len() { value[place] } else { 0 }
 }

@@ -1,0 +1,39 @@
+use Rattle.std.proofs.Common.{◌≡◌, ◌-◌, ◌+◌, ◌<◌, ℕ, List, length, get_or, refl, sym, ap, ◌∙◌, arith}
+use Rattle.std.proofs.lemmas.List.{get_or_default}
+use Rattle.mime_lookup.specs.Tables.{AreTables}
+use Rattle.mime_lookup.specs.declared.indexed.tables.Tables.{Tables}
+use Rattle.mime_lookup.proofs.IndexLemmas.FoundLines.{no_head}
+use Rattle.mime_lookup.proofs.IndexLemmas.Chains.{tables_apart, tables_linked}
+use Rattle.mime_lookup.proofs.indexed.tables.tables_of.Goals as goal
+
+pub loop-line-preserved-in-Some : goal.loop-line-preserved-in-Some
+loop-line-preserved-in-Some c =
+    let line : ℕ = c.loop-line.line - 1 in
+    let next : line + 1 ≡ c.loop-line.line = omega (arith, c.loop-line-test.true) in
+    let old : Tables =
+    record { places = c.in_ok-places.places; firsts = c.loop-line.firsts; nexts = c.loop-line.nexts; others = c.loop-line.others } in
+    let new : Tables = record { places = c.in_ok-places.places; firsts = c.link.new.firsts; nexts = c.link.new.nexts; others = c.loop-line.others } in
+    let are : AreTables old c.args.heads.now (line + 1) = rw next c.loop-line.invariant.tables in
+    record {
+      within = omega (arith, c.loop-line.invariant.within);
+      tables =
+          tables_linked old new c.args.heads.now line are refl c.in-Some.slot (omega (arith, c.in-Some.ensures.inside, are.slots, ap (λ (xs : List ℕ). length xs) c.deref.ensures.value))
+          (omega (arith, are.size, c.loop-line.invariant.within, next))
+          c.link.ensures.nexts c.link.ensures.firsts refl (λ head is.
+          let inside : line < length c.args.heads.now = omega (arith, c.loop-line.invariant.within, next) in
+          let same : get_or c.args.heads.now line no_head ≡ head = get_or_default c.args.heads.now line no_head head inside ∙ sym is in
+          rw (c.deref.ensures.value, same) at c.in-Some.ensures.slot);
+    }
+
+pub loop-line-preserved : goal.loop-line-preserved
+loop-line-preserved c =
+    let line : ℕ = c.loop-line.line - 1 in
+    let next : line + 1 ≡ c.loop-line.line = omega (arith, c.loop-line-test.true) in
+    let old : Tables =
+    record { places = c.in_ok-places.places; firsts = c.loop-line.firsts; nexts = c.loop-line.nexts; others = c.loop-line.others } in
+    let new : Tables = record { places = c.in_ok-places.places; firsts = c.loop-line.firsts; nexts = c.loop-line.nexts; others = c.push.new.self } in
+    let are : AreTables old c.args.heads.now (line + 1) = rw next c.loop-line.invariant.tables in
+    record {
+      within = omega (arith, c.loop-line.invariant.within);
+      tables = tables_apart old new c.args.heads.now line are refl refl refl c.in_ok-push-in-None.ensures.items;
+    }

@@ -1,0 +1,126 @@
+//! The first line of magic that holds, by the tables of an index.
+//!
+//! The lowest number of a line that was found to hold is kept, and no line after it is asked.
+
+ghost use Rattle.std.specs.Prelude.{◌≡◌, ◌+◌, ◌*◌, ◌<◌, ◌≤◌, length, map};
+ghost use Rattle.mime_lookup.specs.Heads.{AreLineHeads};
+ghost use Rattle.mime_lookup.specs.Tables.{AreTables, ChainFails, IsFirst, Narrows, OthersFail, TableFails, TablesFail};
+
+use crate::indexed::heads::Heads;
+use crate::indexed::line_search::{LineSearch, line_holds};
+use crate::indexed::noted_pairs::{FRONT, NotedPairs};
+use crate::indexed::tables::Tables;
+use mime_base::{Host, Meter};
+
+/// The number of the first line that holds, else the number of lines.
+///
+/// The meter counts as a byte each table, each line and each place of the content's front that is looked at, and what is compared.
+pub fn first_line(heads: &Heads<'_>, content: &[u8], host: Host, meter: &mut Meter) -> usize
+    requires headed { AreLineHeads heads.now.lines.items (map (λ top. top.line.now) heads.now.tops.items) }
+    requires tabled { AreTables heads.now.tables heads.now.lines.items 0 }
+    ensures first { IsFirst heads.now.tops.items content.now host result }
+    ensures nodes { meter.new.nodes ≡ meter.old.nodes }
+{
+    meter.add_bytes(content.len().min(FRONT) as u64);
+    let noted = NotedPairs::new(content);
+    let asked = LineSearch {
+        heads: &heads.lines,
+        tops: &heads.tops,
+        content: &noted,
+        host,
+    };
+    let found = among_tables(&heads.tables, &asked, meter);
+    among_others(&heads.tables.others, &asked, found, meter)
+}
+
+/// The first line of those that the tables name that holds, else the number of lines.
+fn among_tables(tables: &Tables, asked: &LineSearch<'_>, meter: &mut Meter) -> usize
+    requires headed { AreLineHeads asked.now.heads.now (map (λ top. top.line.now) asked.now.tops.now) }
+    requires size { length tables.now.nexts.items ≡ length asked.now.tops.now }
+    requires slots { length tables.now.firsts.items ≡ length tables.now.places.items * 256 }
+    ensures narrows { Narrows asked.now.tops.now asked.now.content.now asked.now.host (length asked.now.tops.now) result }
+    ensures fail { TablesFail asked.now.tops.now asked.now.content.now asked.now.host tables.now result (length tables.now.places.items) }
+    ensures nodes { meter.new.nodes ≡ meter.old.nodes }
+{
+    meter.add_bytes(tables.places.len() as u64);
+    let mut first = asked.tops.len();
+    for table in 0..tables.places.len() {
+        first = in_table(tables, table, asked, first, meter);
+    }
+    first
+}
+
+/// The first line before `until` that a table names that holds, else `until`.
+#[inline]
+fn in_table(
+    tables: &Tables,
+    table: usize,
+    asked: &LineSearch<'_>,
+    until: usize,
+    meter: &mut Meter,
+) -> usize
+    requires headed { AreLineHeads asked.now.heads.now (map (λ top. top.line.now) asked.now.tops.now) }
+    requires size { length tables.now.nexts.items ≡ length asked.now.tops.now }
+    requires table { table * 256 + 256 ≤ length tables.now.firsts.items }
+    requires place { table < length tables.now.places.items }
+    requires until { until ≤ length asked.now.tops.now }
+    ensures narrows { Narrows asked.now.tops.now asked.now.content.now asked.now.host until result }
+    ensures fail { TableFails asked.now.tops.now asked.now.content.now asked.now.host tables.now result table }
+    ensures nodes { meter.new.nodes ≡ meter.old.nodes }
+{
+    let bytes = asked.content.bytes();
+    let place = tables.places[table] as usize;
+    if place >= bytes.len() {
+        return until;
+    }
+    let slot = table * 256 + usize::from(bytes[place]);
+    in_chain(&tables.nexts, tables.firsts[slot], asked, until, meter)
+}
+
+/// The first line before `until` that holds, of the one that is named and those that follow it, else `until`.
+#[inline]
+fn in_chain(
+    nexts: &[u16],
+    named: u16,
+    asked: &LineSearch<'_>,
+    until: usize,
+    meter: &mut Meter,
+) -> usize
+    requires headed { AreLineHeads asked.now.heads.now (map (λ top. top.line.now) asked.now.tops.now) }
+    requires size { length nexts.now ≡ length asked.now.tops.now }
+    requires until { until ≤ length asked.now.tops.now }
+    ensures narrows { Narrows asked.now.tops.now asked.now.content.now asked.now.host until result }
+    ensures fail { ChainFails asked.now.tops.now asked.now.content.now asked.now.host nexts.now named result }
+    ensures nodes { meter.new.nodes ≡ meter.old.nodes }
+{
+    let (mut low, mut link) = (0, usize::from(named));
+    while low < link && link <= until {
+        meter.add_bytes(1);
+        if line_holds(asked, link - 1, meter) {
+            return link - 1;
+        }
+        low = link;
+        link = usize::from(nexts[link - 1]);
+    }
+    until
+}
+
+/// The first line of the others, before `until`, that holds, else `until`.
+fn among_others(others: &[usize], asked: &LineSearch<'_>, until: usize, meter: &mut Meter) -> usize
+    requires headed { AreLineHeads asked.now.heads.now (map (λ top. top.line.now) asked.now.tops.now) }
+    requires until { until ≤ length asked.now.tops.now }
+    ensures narrows { Narrows asked.now.tops.now asked.now.content.now asked.now.host until result }
+    ensures fail { OthersFail asked.now.tops.now asked.now.content.now asked.now.host others.now result 0 }
+    ensures nodes { meter.new.nodes ≡ meter.old.nodes }
+{
+    meter.add_bytes(others.len() as u64);
+    let (mut first, mut at) = (until, others.len());
+    while at > 0 {
+        at -= 1;
+        let line = others[at];
+        if line < first && line_holds(asked, line, meter) {
+            first = line;
+        }
+    }
+    first
+}

@@ -1,0 +1,80 @@
+//! A content, and where pairs of bytes stand near its front.
+//!
+//! A value of two bytes and more is sought at the offsets of a range only if its pairs may stand there: of each pair it is
+//! noted once where it stands first, by a number that few other pairs have.
+
+ghost use Rattle.std.specs.Prelude.{◌≡◌, ℕ, ◌+◌, ◌*◌, ◌<◌, length, slice_index, true};
+
+use std::marker::Model;
+
+/// The pairs at that many places are noted: most ranges end before.
+pub const FRONT: usize = 288;
+
+/// How many numbers pairs have.
+const NUMBERS: usize = 2296;
+
+/// A content, with the places at which pairs of bytes first stand near its front.
+#[derive(Drop)]
+pub struct NotedPairs<'c> {
+    /// All bytes of the content.
+    bytes: &'c [u8],
+    /// Of each number a place before which no pair that has it stands in the front.
+    places: [u16; NUMBERS],
+}
+
+impl<'c> Model for NotedPairs<'c> {
+    ghost use Rattle.std.specs.Prelude.{ℕ, ◌<◌, List, slice_index};
+    ghost use Rattle.mime_lookup.specs.Pairs.{NotesPairs};
+
+    ghost Value = { List ℕ };
+
+    ghost view = { λ noted. noted.bytes.now };
+
+    ghost invariant = { λ noted. NotesPairs 0 noted.places noted.bytes.now × ((place : ℕ) → slice_index noted.bytes.now place < 256) };
+}
+
+/// The number of a pair.
+#[inline(always)]
+fn pair_number(first: u8, second: u8) -> usize
+    ensures number { result ≡ first * 8 + second }
+    ensures inside { result < 2296 }
+{
+    usize::from(first) * 8 + usize::from(second)
+}
+
+impl<'c> NotedPairs<'c> {
+    /// The content of these bytes.
+    pub fn new(bytes: &'c [u8]) -> NotedPairs<'c>
+        // It has just these bytes.
+        ensures { result ≡ bytes.now }
+    {
+        let mut places = [FRONT as u16; NUMBERS];
+        let mut place = bytes.len().saturating_sub(1).min(FRONT);
+        while place > 0 {
+            place -= 1;
+            places[pair_number(bytes[place], bytes[place + 1])] = place as u16;
+        }
+        NotedPairs { bytes, places }
+    }
+
+    /// All of its bytes.
+    #[inline(always)]
+    pub fn bytes(&self) -> &'c [u8]
+        // They are just the content's.
+        ensures same { result.now ≡ self.now }
+        // Each is less than 256.
+        ensures bytes { (place : ℕ) → slice_index result.now place < 256 }
+    {
+        self.bytes
+    }
+
+    /// Whether a pair of bytes stands at no place before `end`, as far as that is noted.
+    #[inline(always)]
+    pub fn lacks(&self, first: u8, second: u8, end: usize) -> bool
+        // Then the pair stands at none of these places.
+        ensures { result ≡ true → (place : ℕ) → place < end → place + 1 < length self.now → slice_index self.now place ≡ first
+            → slice_index self.now (place + 1) ≡ second → ⊥ }
+    {
+        end <= FRONT && end <= usize::from(self.places[pair_number(first, second)])
+    }
+}

@@ -1,0 +1,118 @@
+//! Lines of magic by the place and the byte that they look at first.
+//!
+//! Most lines have one place, and hold for no content in which another byte stands there than the first of their value. So
+//! each such place has a table of the 256 bytes, which names the first line of each, and each of these lines names the next. Only
+//! the lines of the bytes that stand in a content are asked of it, and all other lines by themselves. A line is named by its
+//! number and one more, so that 0 names none.
+
+ghost use Rattle.std.specs.Prelude.{◌≡◌, ◌+◌, ◌*◌, ◌<◌, ◌≤◌, length, slice_index, slice_set, IfOk, IfSome};
+ghost use Rattle.mime_lookup.specs.Tables.{AreTables, IsSlot};
+
+use crate::indexed::line_head::LineHead;
+use mime_base::OutOfMemory;
+use std::alloc::Global;
+
+/// The most tables that are made: a table takes half a kilobyte, and real lines have some forty places.
+const MOST: usize = 256;
+
+/// Lines from this one on are asked by themselves.
+const LAST: usize = 65_535;
+
+/// Where lines are found by a place and a byte, and those that aren't.
+#[derive(Drop)]
+pub struct Tables {
+    /// The place of each table.
+    pub places: Vec<u32>,
+    /// Of each table the first line of each byte: 256 numbers for each place.
+    pub firsts: Vec<u16>,
+    /// Of each line the next one of its place and byte.
+    pub nexts: Vec<u16>,
+    /// The lines that are asked by themselves, the last first.
+    pub others: Vec<usize>,
+}
+
+/// The tables of lines with these heads.
+pub fn tables_of(alloc: Global, heads: &[LineHead]) -> Result<Tables, OutOfMemory>
+    // Each line is found by its place and its byte, or is asked by itself.
+    ensures { IfOk result (λ tables. AreTables tables heads.now 0) }
+{
+    let places = places_of(alloc, heads)?;
+    let mut firsts = vec![in alloc; 0; places.len() * 256]?;
+    let mut nexts = vec![in alloc; 0; heads.len()]?;
+    let mut others = Vec::new(alloc);
+    let mut line = heads.len();
+    while line > 0 {
+        line -= 1;
+        match slot_of(&heads[line], line, &places) {
+            Some(slot) => link(&mut firsts, &mut nexts, slot, line),
+            None => others.push(line)?,
+        }
+    }
+    Ok(Tables {
+        places,
+        firsts,
+        nexts,
+        others,
+    })
+}
+
+/// The places of lines that have one place, each once, up to as many as there are tables.
+fn places_of(alloc: Global, heads: &[LineHead]) -> Result<Vec<u32>, OutOfMemory>
+    ensures { IfOk result (λ places. length places.items ≤ 256) }
+{
+    let mut places = Vec::new(alloc);
+    for head in heads {
+        if head.range == 1
+            && head.size > 0
+            && places.len() < MOST
+            && table_at(&places, head.start) == places.len()
+        {
+            places.push(head.start)?;
+        }
+    }
+    Ok(places)
+}
+
+/// The number of the first table of a place, else the number of tables.
+#[inline]
+fn table_at(places: &[u32], place: u32) -> usize
+    ensures { result < length places.now → slice_index places.now result ≡ place }
+{
+    for table in 0..places.len() {
+        if places[table] == place {
+            return table;
+        }
+    }
+    places.len()
+}
+
+/// Where in the tables the first line of the place and the byte of a line is named, if the line has a table.
+#[inline]
+fn slot_of(head: &LineHead, line: usize, places: &[u32]) -> Option<usize>
+    requires { length places.now ≤ 256 }
+    ensures slot { IfSome result (λ slot. IsSlot places.now slot head.now) }
+    ensures inside { IfSome result (λ slot. slot < length places.now * 256) }
+    ensures number { IfSome result (λ slot. line < 65535) }
+{
+    if head.range != 1 || head.size == 0 || line >= LAST {
+        return None;
+    }
+    let table = table_at(places, head.start);
+    if table >= places.len() {
+        return None;
+    }
+    Some(table * 256 + usize::from(head.first))
+}
+
+/// Puts a line before the first one of its slot.
+#[inline]
+fn link(firsts: &mut Vec<u16>, nexts: &mut Vec<u16>, slot: usize, line: usize)
+    requires slot { slot < length firsts.old.items }
+    requires line { line < length nexts.old.items }
+    requires number { line < 65535 }
+    ensures nexts { nexts.new.items ≡ slice_set nexts.old.items line (slice_index firsts.old.items slot) }
+    ensures firsts { firsts.new.items ≡ slice_set firsts.old.items slot (line + 1) }
+{
+    nexts[line] = firsts[slot];
+    firsts[slot] = (line + 1) as u16;
+}
