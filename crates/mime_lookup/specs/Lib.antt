@@ -27,6 +27,5 @@ pub mod Question
 pub mod Wanted
 pub mod NameAlone
 pub mod ContentAlone
-pub mod Endings
 pub mod Heads
 pub mod Indexed

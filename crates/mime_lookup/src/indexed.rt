@@ -1,32 +1,26 @@
 //! Lookup over an index of a database, which is made once and lent to each lookup.
 //!
-//! It answers as [`crate::look_up_plain`] does over the database, which tries every rule. Here rules are sorted by one
-//! number each, of the last bytes of the names that they match, so that those that a name may match stand together, and the
-//! places of aliases and subclass pairs are known. Read `endings` first, and then `unrefused`.
+//! It answers as [`crate::look_up_plain`] does over the database, which tries every rule. Here the rules that match a
+//! name are found by an index over them, and the places of aliases and subclass pairs are known.
 
 pub mod candidates;
 pub mod choice;
-pub mod endings;
 pub mod heads;
 pub mod kept;
 pub mod line_head;
 pub mod look_up;
-pub mod rule_key;
-pub mod run;
 pub mod sniff;
 pub mod top_line;
-pub mod unrefused;
 
 ghost use Rattle.std.specs.Prelude.{◌≡◌, IfOk};
 ghost use Rattle.std.specs.List.{All};
 ghost use Rattle.mime_base.specs.Kept.{FitsRank};
 
-use crate::indexed::endings::keys_of;
 use crate::indexed::heads::{Heads, heads_of};
-use crate::indexed::rule_key::RuleKey;
 use crate::lists::front_limit;
 use crate::places::{PlacedPairs, places_of};
 use mime_base::{Database, OutOfMemory, database_keeps_limits};
+use mime_names::{NameIndex, name_index};
 use std::alloc::Global;
 use std::marker::Model;
 
@@ -40,8 +34,8 @@ use std::marker::Model;
 pub struct IndexedDatabase<'a> {
     /// The database.
     database: &'a Database,
-    /// The key of each of its rules, sorted.
-    keys: Vec<RuleKey>,
+    /// The index of its rules.
+    names: NameIndex,
     /// The places of its aliases and of its subclass pairs.
     pairs: PlacedPairs<'a>,
     /// The heads of the top lines of its sections.
@@ -62,7 +56,7 @@ impl<'a> Model for IndexedDatabase<'a> {
 
     ghost view = { λ index. index.database.now };
 
-    ghost invariant = { λ index. IsIndexOf index.database.now index.keys.items index.pairs index.heads index.limit };
+    ghost invariant = { λ index. IsIndexOf index.database.now index.names index.pairs index.heads index.limit };
 }
 
 impl<'a> IndexedDatabase<'a> {
@@ -71,13 +65,13 @@ impl<'a> IndexedDatabase<'a> {
         // It is an index of this database.
         ensures { IfOk result (λ index. index ≡ database.entry.now) }
     {
-        let keys = keys_of(alloc, &database.rules)?;
+        let names = name_index(alloc, &database.rules)?;
         let aliases = places_of(alloc, &database.aliases)?;
         let parents = places_of(alloc, &database.parents)?;
         let heads = heads_of(alloc, &database.sections)?;
         Ok(IndexedDatabase {
             database,
-            keys,
+            names,
             pairs: PlacedPairs { aliases, parents },
             heads,
             limit: front_limit(database),

@@ -1,48 +1,33 @@
-//! All rules of a name that match it, of those that their keys don't refuse.
+//! All rules of a name that match it.
 
 ghost use Rattle.std.specs.Prelude.{◌≡◌, map, IfOk};
 ghost use Rattle.mime_base.specs.Database.{pairs_of, plain_database};
 ghost use Rattle.mime_base.specs.Kept.{candidate_rules};
 ghost use Rattle.mime_lookup.specs.Ancestry.{kinds_of};
 ghost use Rattle.mime_lookup.specs.Choice.{candidates};
-ghost use Rattle.mime_lookup.specs.Endings.{AreKeys};
+ghost use Rattle.mime_names.specs.Keys.{IsNameIndexOf};
 
 use crate::candidates::by_rank;
 use crate::indexed::IndexedDatabase;
-use crate::indexed::endings::endings_of;
-use crate::indexed::rule_key::RuleKey;
-use crate::indexed::unrefused::{has_long_run, next_unrefused, runs_of};
 use crate::places::unalias_at;
-use mime_base::{GlobRule, Meter, OutOfMemory, glob_matches};
+use mime_base::{GlobRule, Meter, OutOfMemory};
+use mime_names::{NameIndex, matching_rules};
 use std::alloc::Global;
 
 /// All rules that match, by falling rank; those of one rank in their order.
-// As `crate::candidates::candidate_rules`, but a rule whose key refuses the name is skipped, unless most rules have one key.
+// As `crate::candidates::candidate_rules`, by an index.
 fn candidate_rules<'a>(
     alloc: Global,
     rules: &'a [GlobRule],
-    keys: &[RuleKey],
+    names: &NameIndex,
     name: &[u8],
     meter: &mut Meter,
 ) -> Result<Vec<&'a GlobRule>, OutOfMemory>
-    requires keyed { AreKeys keys.now rules.now }
+    requires { IsNameIndexOf names.now rules.now }
     ensures candidates { IfOk result (λ all. map (λ rule. rule.now) all.items ≡ candidate_rules rules.now name.now) }
     ensures nodes { meter.new.nodes ≡ meter.old.nodes }
 {
-    let endings = endings_of(name);
-    let mut runs = runs_of(keys, &endings, meter);
-    if has_long_run(keys, &endings, &runs, meter) {
-        return crate::candidates::candidate_rules(alloc, rules, name, meter);
-    }
-    let mut found = Vec::new(alloc);
-    let mut place = next_unrefused(keys, &endings, &mut runs, 0, meter);
-    while place < rules.len() {
-        let rule = &rules[place];
-        if glob_matches(rule.pattern.bytes(), rule.cased, name, meter) {
-            found.push(rule)?;
-        }
-        place = next_unrefused(keys, &endings, &mut runs, place + 1, meter);
-    }
+    let found = matching_rules(alloc, names, rules, name, meter)?;
     by_rank(found)
 }
 
@@ -58,7 +43,7 @@ pub fn candidate_kinds<'a>(
     // No record of a cache is visited.
     ensures nodes { meter.new.nodes ≡ meter.old.nodes }
 {
-    let rules = candidate_rules(alloc, &index.database.rules, &index.keys, name, meter)?;
+    let rules = candidate_rules(alloc, &index.database.rules, &index.names, name, meter)?;
     let mut kinds = Vec::new(alloc);
     for rule in &rules {
         kinds.push(unalias_at(&index.pairs.aliases, rule.kind.bytes()))?;

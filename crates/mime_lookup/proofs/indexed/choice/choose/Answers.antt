@@ -15,7 +15,7 @@ returns-clause-chosen c =
     let some : 0 < length c.args.kinds.now = grind (arith, eqb-false) in
     let inside = c.index.inside in
     subst (λ pairs. IfOk c.first_at.result (λ kind. ChoosesAmong pairs (kinds_of c.args.kinds.now) c.args.sniffed.now kind.now))
-    (indexed_pairs inside.database.now c.args.index.now inside.keys.items inside.pairs inside.heads inside.limit c.index.invariant c.index.view_is)
+    (indexed_pairs inside.database.now c.args.index.now inside.names inside.pairs inside.heads inside.limit c.index.invariant c.index.view_is)
     (IfOk-weaker c.first_at.result _ _
     (λ kind first. chooses-from_first (placed inside.pairs) (λ (text : Bor (List ℕ)). text.now)
     c.args.sniffed.now c.args.kinds.now kind.now _ some first)

@@ -1,16 +1,6 @@
-use Rattle.std.proofs.Common.{◌≡◌, ◌+◌, ◌-◌, ◌≤◌, length, take}
-use Rattle.mime_base.specs.Kept.{hits}
-use Rattle.mime_lookup.specs.Endings.{AreRuns}
+use Rattle.std.proofs.Common.{map, take}
 use Rattle.mime_lookup.proofs.OrderLemmas.Hits.{KeepsBest}
 use Rattle.mime_lookup.proofs.indexed.kept.kept_rules.Given as goal
 
-abbrev pub invariant-loop-place : goal.invariant-loop-place
-invariant-loop-place l = record {
-  kept : KeepsBest l.best (hits (take l.place l.rules) l.name);
-  within : l.place ≤ length l.keys;
-  runs : AreRuns l.keys l.endings (l.place + 1) l.runs;
-  nodes : l.meter.nodes ≡ l.initial.meter.nodes;
-}
-
-abbrev pub decreases-loop-place : goal.decreases-loop-place
-decreases-loop-place l = length l.keys - l.place
+abbrev pub invariant-loop-rule : goal.invariant-loop-rule
+invariant-loop-rule l = KeepsBest l.best (map (λ rule. rule.now) (take l.rule-index l.rule-items))

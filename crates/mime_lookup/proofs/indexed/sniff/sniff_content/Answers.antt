@@ -11,7 +11,7 @@ returns-in_ok-front-in-Some-clause-sniffed g c =
     let read = c.in_ok-front-in-Some.ensures in
     let inside = c.index.inside in
     let limit =
-    indexed_limit inside.database.now c.args.index.now inside.keys.items inside.pairs inside.heads inside.limit c.index.invariant c.index.view_is in
+    indexed_limit inside.database.now c.args.index.now inside.names inside.pairs inside.heads inside.limit c.index.invariant c.index.view_is in
     let limited : length front ≤ read_limit (plain_database c.args.index.now) =
     omega (arith, read.front.0, c.read_front.ensures.reader.within, limit) in
     rw c.in-Some.is
@@ -25,7 +25,7 @@ returns-in_ok-front-in-Some-clause-read g c =
     let read = c.in_ok-front-in-Some.ensures in
     let inside = c.index.inside in
     let limit =
-    indexed_limit inside.database.now c.args.index.now inside.keys.items inside.pairs inside.heads inside.limit c.index.invariant c.index.view_is in
+    indexed_limit inside.database.now c.args.index.now inside.names inside.pairs inside.heads inside.limit c.index.invariant c.index.view_is in
     let limited : length front ≤ read_limit (plain_database c.args.index.now) =
     omega (arith, read.front.0, c.read_front.ensures.reader.within, limit) in
     rw c.in-Some.is
