@@ -9,6 +9,7 @@ pub mod heads;
 pub mod kept;
 pub mod line_head;
 pub mod look_up;
+pub mod rules;
 pub mod sniff;
 pub mod top_line;
 
@@ -17,10 +18,11 @@ ghost use Rattle.std.specs.List.{All};
 ghost use Rattle.mime_base.specs.Kept.{FitsRank};
 
 use crate::indexed::heads::{Heads, heads_of};
+use crate::indexed::rules::lent_rules;
 use crate::lists::front_limit;
 use crate::places::{PlacedPairs, places_of};
 use mime_base::{Database, OutOfMemory, database_keeps_limits};
-use mime_names::{NameIndex, name_index};
+use mime_names::NameIndex;
 use std::alloc::Global;
 use std::marker::Model;
 
@@ -34,8 +36,8 @@ use std::marker::Model;
 pub struct IndexedDatabase<'a> {
     /// The database.
     database: &'a Database,
-    /// The index of its rules.
-    names: NameIndex,
+    /// The index of its rules, each with its type after one alias step.
+    names: NameIndex<'a>,
     /// The places of its aliases and of its subclass pairs.
     pairs: PlacedPairs<'a>,
     /// The heads of the top lines of its sections.
@@ -65,9 +67,11 @@ impl<'a> IndexedDatabase<'a> {
         // It is an index of this database.
         ensures { IfOk result (λ index. index ≡ database.entry.now) }
     {
-        let names = name_index(alloc, &database.rules)?;
         let aliases = places_of(alloc, &database.aliases)?;
         let parents = places_of(alloc, &database.parents)?;
+        database_keeps_limits(database);
+        let rules = lent_rules(alloc, &database.rules, &aliases)?;
+        let names = NameIndex::new(alloc, &rules)?;
         let heads = heads_of(alloc, &database.sections)?;
         Ok(IndexedDatabase {
             database,
