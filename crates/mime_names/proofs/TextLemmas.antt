@@ -87,9 +87,11 @@ module _ (pattern : List ℕ) (cased : Bool) (name : List ℕ) where
     -- the ending that a name has which a star and a text matches
     pub suffix-same : rule_matches pattern cased name ≡ true → (k : ℕ) × (compared cased (drop k name) ≡ compared cased rest)
     suffix-same found =
-        let cut = star_cut (elements (compared cased rest)) (compared cased name) (sym (star-matches pattern cased name rest is) ∙ found) in
-        (cut.0, sym (drop-map (compared_byte cased) cut.0 name)
-        ∙ text-alone (compared cased rest) (drop cut.0 (compared cased name)) (is_literal_text-compared cased rest ∙ literal) cut.1)
+        let cut = star_cut (elements (compared cased rest)) (compared cased name) (sym (star-matches pattern cased name rest is) ∙ found) in (
+          cut.0,
+          sym (drop-map (compared_byte cased) cut.0 name)
+              ∙ text-alone (compared cased rest) (drop cut.0 (compared cased name)) (is_literal_text-compared cased rest ∙ literal) cut.1,
+        )
 
     -- a name that ends so matches
     pub suffix-match : EndsSo cased rest name → rule_matches pattern cased name ≡ true

@@ -1,6 +1,6 @@
 //! Whether a name ends with a text, compared from the end on.
 
-ghost use Rattle.std.specs.Prelude.{◌≡◌, ◌≤◌, ℕ, true, false, length, drop};
+ghost use Rattle.std.specs.Prelude.{◌≡◌, ◌+◌, ◌≤◌, ℕ, true, false, length, drop};
 ghost use Rattle.mime_base.specs.Matching.Folding.{compared};
 ghost use Rattle.mime_base.specs.Matching.Matches.{EndsSo};
 
@@ -21,6 +21,10 @@ pub fn ends_so(text: &[u8], cased: bool, name: &[u8], meter: &mut Meter) -> bool
         return false;
     }
     let start = name.len() - text.len();
+    if begins_otherwise(text, cased, name, start) {
+        meter.add_bytes(1);
+        return false;
+    }
     let mut left = text.len();
     while left > 0 {
         left -= 1;
@@ -31,4 +35,14 @@ pub fn ends_so(text: &[u8], cased: bool, name: &[u8], meter: &mut Meter) -> bool
     }
     meter.add_bytes(text.len() as u64);
     true
+}
+
+/// Whether the first byte of a text is compared as another than that at a place of a name.
+// Most texts that are no end of a name differ there: the last bytes led to the rule.
+#[inline]
+fn begins_otherwise(text: &[u8], cased: bool, name: &[u8], start: usize) -> bool
+    requires { start + length text.now ≡ length name.now }
+    ensures { result ≡ true → (k : ℕ) → compared cased (drop k name.now) ≡ compared cased text.now → ⊥ }
+{
+    text.len() > 0 && as_compared(cased, text[0]) != as_compared(cased, name[start])
 }

@@ -73,7 +73,8 @@ pub fn is_match(rule: &IndexedRule<'_>, name: &[u8], meter: &mut Meter) -> bool
 {
     let pattern = rule.lent.pattern;
     match rule.class {
-        Class::Literal => pattern.len() == name.len() && ends_so(pattern, rule.lent.cased, name, meter),
+        Class::Literal => pattern.len() == name.len()
+            && ends_so(pattern, rule.lent.cased, name, meter),
         Class::Suffix => ends_so(after_first(pattern), rule.lent.cased, name, meter),
         Class::Full => glob_matches(pattern, rule.lent.cased, name, meter),
     }

@@ -10,7 +10,7 @@ returns-then-as_compared-clause-otherwise c = λ is.
     (λ same. c.if-as_compared.true (c.as_compared.ensures ∙ same ∙ sym c.as_compared-in-loop-left.ensures))
 
 pub returns-then-as_compared-clause-nodes : goal.returns-then-as_compared-clause-nodes
-returns-then-as_compared-clause-nodes c = ap (λ (m : Meter). m.nodes) c.add_bytes.ensures.added ∙ c.loop-left.invariant.nodes
+returns-then-as_compared-clause-nodes c = ap (λ (m : Meter). m.nodes) c.add_bytes-then-as_compared.ensures.added ∙ c.loop-left.invariant.nodes
 
 pub returns-clause-nodes : goal.returns-clause-nodes
 returns-clause-nodes c = ap (λ (m : Meter). m.nodes) c.add_bytes-2.ensures.added ∙ c.loop-left.invariant.nodes

@@ -18,6 +18,7 @@ returns-clause-gathers c =
     let name = c.args.name.now in
     gathers-weaker c.args.table.now.keys.items (λ key. key ≡ c.from-key.result) (λ key. (key < 256) × Begins name key) _ _
     (λ key begins. (begins-first name key begins.1).1 ∙ sym (c.from-key.ensures ∙ c.as_compared.ensures))
-    (λ key is. (let own = is ∙ c.from-key.ensures ∙ c.as_compared.ensures in
-        (omega (arith, own, folded-below (get_or name 0 0) (omega (arith, c.type_inv.name 0))),
-        begins-from name key (omega (arith, c.if-name-eq0.false)) own))) c.in_ok-push_key.ensures.walks
+    (λ key is. (let own = is ∙ c.from-key.ensures ∙ c.as_compared.ensures in (
+      omega (arith, own, folded-below (get_or name 0 0) (omega (arith, c.type_inv.name 0))),
+      begins-from name key (omega (arith, c.if-name-eq0.false)) own,
+    ))) c.in_ok-push_key.ensures.walks

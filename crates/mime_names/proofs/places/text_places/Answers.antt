@@ -12,5 +12,9 @@ returns-clause-near c =
 
 pub returns-clause-steps : goal.returns-clause-steps
 returns-clause-steps c =
-    omega (arith, c.in_ok-push_endings.ensures.steps, ap length c.new-found.ensures.items,
-    length_permutation c.push_endings.new.found.items c.in_order.new.places.items c.in_order.ensures.permutation)
+    omega (
+      arith,
+      c.in_ok-push_endings.ensures.steps,
+      ap length c.new-found.ensures.items,
+      length_permutation c.push_endings.new.found.items c.in_order.new.places.items c.in_order.ensures.permutation,
+    )
