@@ -27,7 +27,6 @@ pub mod Question
 pub mod Wanted
 pub mod NameAlone
 pub mod ContentAlone
-pub mod Endings
 pub mod Heads
 pub mod Pairs
 pub mod Tables

@@ -1,11 +1,9 @@
 //! Lookup over an index of a database, which is made once and lent to each lookup.
 //!
-//! It answers as [`crate::look_up_plain`] does over the database, which tries every rule. Here rules are sorted by one
-//! number each, of the last bytes of the names that they match, so that those that a name may match stand together, and the
-//! places of aliases and subclass pairs are known. Read `endings` first, and then `unrefused`.
+//! It answers as [`crate::look_up_plain`] does over the database, which tries every rule. Here the rules that match a
+//! name are found by an index over them, and the places of aliases and subclass pairs are known.
 
 pub mod candidates;
-pub mod endings;
 pub mod first_line;
 pub mod heads;
 pub mod kept;
@@ -13,21 +11,19 @@ pub mod line_head;
 pub mod line_search;
 pub mod look_up;
 pub mod noted_pairs;
-pub mod rule_key;
-pub mod run;
+pub mod rules;
 pub mod sniff;
 pub mod tables;
 pub mod top_line;
-pub mod unrefused;
 
 ghost use Rattle.std.specs.Prelude.{◌≡◌, IfOk};
 
-use crate::indexed::endings::keys_of;
 use crate::indexed::heads::{Heads, heads_of};
-use crate::indexed::rule_key::RuleKey;
+use crate::indexed::rules::lent_rules;
 use crate::lists::front_limit;
 use crate::places::{PlacedPairs, places_of};
-use mime_base::{Database, OutOfMemory};
+use mime_base::{Database, OutOfMemory, database_keeps_limits};
+use mime_names::NameIndex;
 use std::alloc::Global;
 use std::marker::Model;
 
@@ -41,8 +37,8 @@ use std::marker::Model;
 pub struct IndexedDatabase<'a> {
     /// The database.
     database: &'a Database,
-    /// The key of each of its rules, sorted.
-    keys: Vec<RuleKey>,
+    /// The index of its rules, each with its type after one alias step.
+    names: NameIndex<'a>,
     /// The places of its aliases and of its subclass pairs.
     pairs: PlacedPairs<'a>,
     /// The heads of the top lines of its sections.
@@ -63,7 +59,7 @@ impl<'a> Model for IndexedDatabase<'a> {
 
     ghost view = { λ index. index.database.now };
 
-    ghost invariant = { λ index. IsIndexOf index.database.now index.keys.items index.pairs index.heads index.limit };
+    ghost invariant = { λ index. IsIndexOf index.database.now index.names index.pairs index.heads index.limit };
 }
 
 impl<'a> IndexedDatabase<'a> {
@@ -72,13 +68,15 @@ impl<'a> IndexedDatabase<'a> {
         // It is an index of this database.
         ensures { IfOk result (λ index. index ≡ database.entry.now) }
     {
-        let keys = keys_of(alloc, &database.rules)?;
         let aliases = places_of(alloc, &database.aliases)?;
         let parents = places_of(alloc, &database.parents)?;
+        database_keeps_limits(database);
+        let rules = lent_rules(alloc, &database.rules, &aliases)?;
+        let names = NameIndex::new(alloc, &rules)?;
         let heads = heads_of(alloc, &database.sections)?;
         Ok(IndexedDatabase {
             database,
-            keys,
+            names,
             pairs: PlacedPairs { aliases, parents },
             heads,
             limit: front_limit(database),

@@ -6,11 +6,11 @@ use Rattle.mime_lookup.specs.CheckingOrder.{read_limit}
 use Rattle.mime_lookup.specs.Indexed.{IsIndexOf}
 use Rattle.mime_lookup.specs.Places.{pairs_at, placed}
 use Rattle.mime_lookup.specs.declared.indexed.heads.Heads.{Heads}
-use Rattle.mime_lookup.specs.declared.indexed.rule_key.RuleKey.{RuleKey}
+use Rattle.mime_base.specs.declared.database.rule.GlobRule.{GlobRule}
 use Rattle.mime_lookup.specs.declared.places.PlacedPairs.{PlacedPairs}
 
-module _ (inside database : Database) (keys : List RuleKey) (pairs : PlacedPairs) (heads : Heads) (limit : ℕ)
-    (is : IsIndexOf inside keys pairs heads limit) (same : inside ≡ database) where
+module _ (inside database : Database) (names : List GlobRule) (pairs : PlacedPairs) (heads : Heads) (limit : ℕ)
+    (is : IsIndexOf inside names pairs heads limit) (same : inside ≡ database) where
   -- the pairs are the database's
   pub indexed_pairs : placed pairs ≡ pairs_of (plain_database database)
   indexed_pairs = ap₂ pairs_at is.aliases is.parents ∙ ap (λ (d : Database). pairs_of (plain_database d)) same

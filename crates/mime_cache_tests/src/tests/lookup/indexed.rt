@@ -14,7 +14,8 @@ const GLOBS: &[u8] =
     b"50:t/1:*~\n50:t/2:*.c\n50:t/2-capital:*.C:cs\n50:t/3:*.gz\n50:t/4:*.tar\n50:t/5:*.jpeg\n\
 50:t/7:*.tar.gz\n50:t/capital:*.TXT\n50:t/l1:a\n50:t/l2:ab\n50:t/l3:abc\n50:t/l4:abcd\n50:t/l5:abcde\n\
 50:t/l5-capital:ABCDE:cs\n50:t/high:*.\xc0\xe0\n50:t/set:*.[ch]x\n50:t/middle:q*z\n50:t/one:?w\n50:t/escape:*\\\\k\n\
-50:t/d1:*.doc\n50:t/d2:*.doc\n50:t/old:*.old\n50:t/new:*.old\n";
+50:t/d1:*.doc\n50:t/d2:*.doc\n50:t/d3:x.doc\n50:t/e1:*1.doc\n50:t/e2:*21.doc\n60:t/e3:*321.doc\n50:t/e4:*.DOC:cs\n\
+50:t/front:read*\n50:t/front-capital:Read?e:cs\n50:t/other-front:[a-c]x*y\n50:t/text:read.me\n50:t/old:*.old\n50:t/new:*.old\n";
 
 /// The same, and a rule that every name matches.
 const WITH_ANY: &[u8] = b"50:t/1:*~\n40:t/any:*\n50:t/2:*.c\n50:t/l1:a\n";
@@ -42,7 +43,7 @@ const ANY: Texts<'static> = Texts {
 };
 
 /// Names of no byte up to more than an ending has, in both cases, and endings alone.
-static NAMES: [&[u8]; 46] = [
+static NAMES: [&[u8]; 60] = [
     b"",
     b"a",
     b"A",
@@ -88,6 +89,20 @@ static NAMES: [&[u8]; 46] = [
     b"ww",
     b"x\\k",
     b"x.doc",
+    b"y.doc",
+    b"xx.doc",
+    b"x.DOC",
+    b"1.doc",
+    b"21.doc",
+    b"321.doc",
+    b"4321.DOC",
+    b"21doc",
+    b"read",
+    b"Reade",
+    b"reade",
+    b"read.me",
+    b"xread.me",
+    b"bxzy",
     b"x.old",
 ];
 

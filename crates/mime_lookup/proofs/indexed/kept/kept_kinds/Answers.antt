@@ -1,24 +1,17 @@
-use Rattle.std.proofs.Common.{take_all, map, sym, ap, ◌∙◌}
-use Rattle.std.proofs.lemmas.Simd.{map-map}
-use denote.Bor.{Bor}
+use Rattle.std.proofs.Common.{List, map, ap, ◌∙◌}
+use Rattle.mime_base.specs.Database.{pairs_of, plain_database}
 use Rattle.mime_base.specs.Kept.{kept_rules}
-use Rattle.mime_base.specs.Database.PlainPairs.{plain_pairs}
-use Rattle.mime_base.specs.Database.Subclass.{resolved}
 use Rattle.mime_base.specs.declared.database.Database.{Database}
 use Rattle.mime_base.specs.declared.database.rule.GlobRule.{GlobRule}
-use Rattle.mime_lookup.specs.Choice.{kept}
+use Rattle.mime_lookup.specs.Indexed.{unaliased_rule}
+use Rattle.mime_lookup.proofs.IndexLemmas.LentRules.{kept-step}
 use Rattle.mime_lookup.proofs.indexed.kept.kept_kinds.Goals as goal
 
 pub returns-clause-kept : goal.returns-clause-kept
-unfolding kept
 returns-clause-kept c =
-    let step = resolved (plain_pairs c.args.index.now.aliases.items) in
-    let items = c.deref-rule-items.result.now in
-    c.loop-rule.invariant
-    ∙ ap (map (λ (rule : Bor GlobRule). step rule.now.kind)) (take_all c.loop-rule.rule-index items c.loop-rule-test.false)
-    ∙ sym (map-map (λ (rule : GlobRule). step rule.kind) (λ (rule : Bor GlobRule). rule.now) items)
-    ∙ ap (map (λ (rule : GlobRule). step rule.kind))
-    (ap (map (λ (rule : Bor GlobRule). rule.now)) c.deref-rule-items.ensures.value
-    ∙ c.in_ok-rules.ensures.kept
-    ∙ ap (λ rs. kept_rules rs c.args.name.now) c.deref.ensures.value
-    ∙ ap (λ (d : Database). kept_rules d.rules.items c.args.name.now) c.index.view_is)
+    let name = c.args.name.now in
+    let kinds = λ (rules : List GlobRule). map (λ (rule : GlobRule). rule.kind) (kept_rules rules name) in
+    c.in_ok-kinds.ensures.kept
+    ∙ ap kinds c.index.invariant.named.are
+    ∙ ap (λ (d : Database). kinds (map (unaliased_rule (pairs_of (plain_database d)).aliases) d.rules.items)) c.index.view_is
+    ∙ kept-step (pairs_of (plain_database c.args.index.now)) c.args.index.now.rules.items name c.keeps_limits.ensures

@@ -10,6 +10,6 @@ returns-clause-first c =
     let inside = c.self.inside in
     subst (λ pairs. IfOk c.first_at.result
     (λ kind. IsFirst pairs c.args.base.now c.args.default.now (kinds_of c.args.kinds.now) kind.now))
-    (indexed_pairs inside.database.now c.args.self.now inside.keys.items inside.pairs inside.heads inside.limit
+    (indexed_pairs inside.database.now c.args.self.now inside.names inside.pairs inside.heads inside.limit
     c.self.invariant c.self.view_is)
     c.first_at.ensures.first

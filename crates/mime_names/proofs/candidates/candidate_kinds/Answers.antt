@@ -1,0 +1,24 @@
+use Rattle.std.proofs.Common.{◌≡◌, ℕ, List, map, take, take_all, sym, ap, ◌∙◌}
+use denote.Bor.{Bor}
+use Rattle.mime_base.specs.Falling.{falling}
+use Rattle.mime_base.specs.Kept.{candidate_rules}
+use Rattle.mime_base.specs.declared.database.rule.GlobRule.{GlobRule}
+use Rattle.mime_names.specs.Index.{texts_of}
+use Rattle.mime_names.specs.Rules.{every, hits_of, offer_of}
+use Rattle.mime_names.proofs.KeptLemmas.{candidates-kinds}
+use Rattle.mime_names.proofs.TableLemmas.{near-every}
+use Rattle.mime_names.proofs.candidates.candidate_kinds.Goals as goal
+
+pub returns-clause-candidates : goal.returns-clause-candidates
+returns-clause-candidates c =
+    let rules = c.index.inside.rules.items in
+    let name = c.args.name.now in
+    let second = λ (offer : ℕ × Bor (List ℕ)). offer.1 in
+    let near = near-every c.index.inside.table rules c.index.invariant.keyed c.index.invariant.own name c.in_ok-places.places.items c.in_ok-places.ensures.near in
+    let found : c.in_ok-found.found.items ≡ map offer_of (hits_of every rules name) =
+    (rw (c.deref.ensures.value, c.deref-2.ensures.value) at (c.in_ok-found.ensures.offers every)) near in
+    ap texts_of (c.loop-offer.invariant
+    ∙ ap (map second) (take_all c.loop-offer.offer-index c.deref-offer-items.result.now c.loop-offer-test.false ∙ c.deref-offer-items.ensures.value)
+    ∙ ap (map second) (c.in_ok-sorted.ensures ∙ ap (falling (λ (offer : ℕ × Bor (List ℕ)). offer.0)) found))
+    ∙ candidates-kinds rules name
+    ∙ ap (λ (all : List GlobRule). map (λ (rule : GlobRule). rule.kind) (candidate_rules all name)) c.index.view_is

@@ -1,0 +1,69 @@
+use Rattle.std.proofs.Common.{◌≡◌, ℕ, ◌+◌, ◌<◌, ◌∷◌, ◌++◌, [], Bool, true, false, length, get_or, map, subst, take, take_all, sym, ap, ◌∙◌, arith}
+use Rattle.std.proofs.lemmas.List.{get_or_default}
+use Rattle.std.proofs.lemmas.List.Elements.{Contains-get_or}
+use Rattle.std.specs.List.{Contains}
+use Rattle.mime_names.specs.Places.{AreNear}
+use Rattle.mime_names.specs.Rules.{IsIndexedRule, hits_of, is_match, offer_of}
+use Rattle.mime_names.specs.declared.indexed_rule.IndexedRule.{IndexedRule}
+use Rattle.mime_names.proofs.KeptLemmas.{offers-hit}
+use Rattle.mime_names.proofs.NearLemmas.{miss_more, passed}
+use Rattle.mime_names.proofs.candidates.offers.Goals as goal
+use Rattle.mime_names.proofs.candidates.offers.Goals.{then-from-place, then-is_match+in_ok-push, else-is_match, else-from-place}
+
+pub loop-near-preserved : goal.loop-near-preserved
+loop-near-preserved c =
+    let rules = c.args.rules.now in
+    let name = c.args.name.now in
+    let places = c.args.places.now in
+    let i = c.loop-near.near in
+    let before = c.loop-near.invariant in
+    let inside : i < length places = omega (arith, c.loop-near-test.true) in
+    let place = get_or places i 0 in
+    elim c.if-from-place.branch [
+      | then-from-place w ↦
+          (let rule = w.rule_at-rule.result.now in
+          let low : place < length rules = c.requires.below i inside in
+          let skipped : (part : IndexedRule → Bool) → AreNear part rules name places →
+          hits_of part (take place rules) name ≡ hits_of part (take c.loop-near.from rules) name =
+          λ part near. passed part rules name places near c.loop-near.from place i before.past
+          (λ j order within. near.rise i j 0 order within) w.if-from-place.true (omega (arith, low)) in
+          let indexed : IsIndexedRule rule = subst IsIndexedRule (sym w.rule_at-rule.ensures) (c.requires.own place rule low) in
+          let offered : (rule.rank, rule.lent.kind) ≡ offer_of rule = ap (λ n. (n, rule.lent.kind)) indexed.rank in
+          record {
+            found = λ part near. elim w.if-is_match.branch [
+              | then-is_match+in_ok-push v ↦
+                  (let own = near.only place rule (Contains-get_or places i 0 inside) w.rule_at-rule.ensures in
+                  let hit : is_match name rule ≡ true = sym w.is_match.ensures.exact ∙ v.if-is_match.true in
+                  rw (w.from-is, w.found-is, v.found-is)
+                  (v.in_ok-push.ensures.items
+                  ∙ ap (λ offer. c.loop-near.found.items ++ offer ∷ []) offered
+                  ∙ ap (λ front. front ++ offer_of rule ∷ []) (before.found part near)
+                  ∙ sym (offers-hit part rules name place c.loop-near.from rule low w.rule_at-rule.ensures own hit (skipped part near))))
+              | else-is_match v ↦
+                  (let miss : is_match name rule ≡ false = sym w.is_match.ensures.exact ∙ v.if-is_match.false in
+                  rw (w.from-is, w.found-is, v.found-is, miss_more part rules name place rule low w.rule_at-rule.ensures miss, skipped part near)
+                  (before.found part near))
+            ];
+            within = omega (arith, w.from-is, low);
+            past = λ j less. omega (arith, w.from-is, c.requires.rise j i 0 (omega (arith, less)) inside);
+            nodes = rw w.meter-is (w.is_match.ensures.nodes ∙ before.nodes);
+          })
+      | else-from-place w ↦ record {
+        found = λ part near. rw (w.from-is, w.found-is) (before.found part near);
+        within = rw w.from-is before.within;
+        past = λ j less. omega (arith, w.from-is, c.requires.rise j i 0 (omega (arith, less)) inside, w.if-from-place.false);
+        nodes = rw w.meter-is before.nodes;
+      }
+    ]
+
+pub returns-clause-offers : goal.returns-clause-offers
+returns-clause-offers c = λ part near.
+    let rules = c.args.rules.now in
+    let name = c.args.name.now in
+    let places = c.args.places.now in
+    let before = c.loop-near.invariant in
+    let all : hits_of part (take c.loop-near.from rules) name ≡ hits_of part rules name =
+    sym (passed part rules name places near c.loop-near.from (length rules) c.loop-near.near before.past
+    (λ j order within. absurd (omega (arith, order, within, c.loop-near-test.false))) before.within (omega arith))
+    ∙ ap (λ rs. hits_of part rs name) (take_all (length rules) rules (omega arith)) in
+    before.found part near ∙ ap (map offer_of) all

@@ -1,0 +1,36 @@
+use Rattle.std.proofs.Common.{◌≡◌, List, length, map, sym, ap, ◌∙◌, arith}
+use Rattle.mime_base.specs.Kept.{kept_rules, of_greatest, rank_of_rule}
+use Rattle.mime_base.specs.declared.database.rule.GlobRule.{GlobRule}
+use Rattle.mime_names.specs.Index.{texts_of}
+use Rattle.mime_names.specs.Rules.{hits_of, others, plain, texts}
+use Rattle.mime_names.specs.declared.indexed_rule.IndexedRule.{IndexedRule}
+use Rattle.mime_names.proofs.KeptLemmas.{kept-none, kept-others, kept-some, kept-texts}
+use Rattle.mime_names.proofs.TableLemmas.{near-others, near-texts}
+use Rattle.mime_names.proofs.kept.kept_kinds.Goals as goal
+
+pub returns-then-len-gt0-clause-kept : goal.returns-then-len-gt0-clause-kept
+returns-then-len-gt0-clause-kept c =
+    let rules = c.index.inside.rules.items in
+    let name = c.args.name.now in
+    let own = c.index.invariant.own in
+    let near = near-texts c.index.inside.table rules c.index.invariant.keyed own name c.in_ok-texts.texts.items c.in_ok-texts.ensures.near in
+    let kept : c.in_ok-kept.kept.items ≡ map (λ rule. rule.lent.kind) (of_greatest (λ rule. rank_of_rule (plain rule)) (hits_of texts rules name)) =
+    (rw (c.deref.ensures.value, c.deref-2.ensures.value) at (c.in_ok-kept.ensures.kept texts)) near in
+    ap texts_of kept
+    ∙ kept-texts rules name own (kept-some (hits_of texts rules name) c.in_ok-kept.kept.items kept (omega (arith, c.if-len-gt0.true, c.len.ensures)))
+    ∙ ap (λ (all : List GlobRule). map (λ (rule : GlobRule). rule.kind) (kept_rules all name)) c.index.view_is
+
+pub returns-clause-kept : goal.returns-clause-kept
+returns-clause-kept c =
+    let rules = c.index.inside.rules.items in
+    let name = c.args.name.now in
+    let own = c.index.invariant.own in
+    let near = near-texts c.index.inside.table rules c.index.invariant.keyed own name c.in_ok-texts.texts.items c.in_ok-texts.ensures.near in
+    let kept : c.in_ok-kept.kept.items ≡ map (λ rule. rule.lent.kind) (of_greatest (λ rule. rank_of_rule (plain rule)) (hits_of texts rules name)) =
+    (rw (c.deref.ensures.value, c.deref-2.ensures.value) at (c.in_ok-kept.ensures.kept texts)) near in
+    let also = near-others c.index.inside.table rules c.index.invariant.keyed own name c.in_ok-others.others.items c.in_ok-others.ensures.near in
+    let kinds : c.in_ok-kinds.kinds.items ≡ map (λ rule. rule.lent.kind) (of_greatest (λ rule. rank_of_rule (plain rule)) (hits_of others rules name)) =
+    (rw (c.deref-3.ensures.value, c.deref-4.ensures.value) at (c.in_ok-kinds.ensures.kept others)) also in
+    ap texts_of kinds
+    ∙ kept-others rules name own (kept-none (hits_of texts rules name) c.in_ok-kept.kept.items kept (omega (arith, c.if-len-gt0.false, c.len.ensures)))
+    ∙ ap (λ (all : List GlobRule). map (λ (rule : GlobRule). rule.kind) (kept_rules all name)) c.index.view_is

@@ -1,0 +1,22 @@
+-- An index over rules.
+use Rattle.std.specs.Prelude.{ℕ, List, map}
+use Rattle.std.specs.Borrow.{Bor}
+use Rattle.std.specs.List.{All}
+use Rattle.mime_base.specs.declared.database.rule.GlobRule.{GlobRule}
+use Rattle.mime_names.specs.Keys.{IsTableOf}
+use Rattle.mime_names.specs.Rules.{IsIndexedRule, plain}
+use Rattle.mime_names.specs.declared.indexed_rule.IndexedRule.{IndexedRule}
+use Rattle.mime_names.specs.declared.keys.KeyTable.{KeyTable}
+
+-- each rule has its class, its rank and its key
+pub record IsIndex (rules : List IndexedRule) (table : KeyTable) : Type 0 where
+  pub own : All IsIndexedRule rules
+  pub keyed : IsTableOf table rules
+
+-- the plain values of its rules
+abbrev pub rules_of : List IndexedRule → List GlobRule
+rules_of rules = map plain rules
+
+-- the types that are lent
+abbrev pub texts_of : List (Bor (List ℕ)) → List (List ℕ)
+texts_of kinds = map (λ kind. kind.now) kinds

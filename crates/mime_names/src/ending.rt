@@ -1,0 +1,48 @@
+//! Whether a name ends with a text, compared from the end on.
+
+ghost use Rattle.std.specs.Prelude.{◌≡◌, ◌+◌, ◌≤◌, ℕ, true, false, length, drop};
+ghost use Rattle.mime_base.specs.Matching.Folding.{compared};
+ghost use Rattle.mime_base.specs.Matching.Matches.{EndsSo};
+
+use mime_base::{Meter, as_compared};
+
+/// Whether a name ends with a text, by bytes that stand for themselves.
+///
+/// The meter counts the bytes of the name that are compared.
+pub fn ends_so(text: &[u8], cased: bool, name: &[u8], meter: &mut Meter) -> bool
+    // Then the name's last bytes are compared as the text is.
+    ensures so { result ≡ true → (length text.now ≤ length name.now) × EndsSo cased text.now name.now }
+    // Else none of its endings is.
+    ensures otherwise { result ≡ false → (k : ℕ) → compared cased (drop k name.now) ≡ compared cased text.now → ⊥ }
+    // No record of a cache is visited.
+    ensures nodes { meter.new.nodes ≡ meter.old.nodes }
+{
+    if name.len() < text.len() {
+        return false;
+    }
+    let start = name.len() - text.len();
+    if begins_otherwise(text, cased, name, start) {
+        meter.add_bytes(1);
+        return false;
+    }
+    let mut left = text.len();
+    while left > 0 {
+        left -= 1;
+        if as_compared(cased, text[left]) != as_compared(cased, name[start + left]) {
+            meter.add_bytes((text.len() - left) as u64);
+            return false;
+        }
+    }
+    meter.add_bytes(text.len() as u64);
+    true
+}
+
+/// Whether the first byte of a text is compared as another than that at a place of a name.
+// Most texts that are no end of a name differ there: the last bytes led to the rule.
+#[inline]
+fn begins_otherwise(text: &[u8], cased: bool, name: &[u8], start: usize) -> bool
+    requires { start + length text.now ≡ length name.now }
+    ensures { result ≡ true → (k : ℕ) → compared cased (drop k name.now) ≡ compared cased text.now → ⊥ }
+{
+    text.len() > 0 && as_compared(cased, text[0]) != as_compared(cased, name[start])
+}

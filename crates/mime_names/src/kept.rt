@@ -1,0 +1,71 @@
+//! The rules that are kept of those that match a name.
+
+ghost use Rattle.std.specs.Prelude.{◌≡◌, Bool, length, map, IfOk};
+ghost use Rattle.std.specs.List.{All};
+ghost use Rattle.std.specs.List.Sorted.{IsNonDecreasing};
+ghost use Rattle.mime_base.specs.Kept.{kept_rules, of_greatest, rank_of_rule};
+ghost use Rattle.mime_names.specs.Chains.{AreBelow};
+ghost use Rattle.mime_names.specs.Index.{texts_of};
+ghost use Rattle.mime_names.specs.Places.{AreNear};
+ghost use Rattle.mime_names.specs.Rules.{IsIndexedRule, hits_of, plain};
+ghost use Rattle.mime_names.specs.declared.indexed_rule.IndexedRule as spec;
+
+use crate::index::NameIndex;
+use crate::indexed_rule::{IndexedRule, is_match, rule_at};
+use crate::places::{front_places, text_places};
+use mime_base::{Best, Meter, OutOfMemory};
+use std::alloc::Global;
+
+/// The types of the rules that are kept of those that match a name, in their order.
+///
+/// Where a text matches, or a star and a text, no other rule is asked.
+pub fn kept_kinds<'a>(
+    alloc: Global,
+    index: &NameIndex<'a>,
+    name: &[u8],
+    meter: &mut Meter,
+) -> Result<Vec<&'a [u8]>, OutOfMemory>
+    // They are the types of the kept rules.
+    ensures kept { IfOk result (λ kinds. texts_of kinds.items ≡ map (λ rule. rule.kind) (kept_rules index.now name.now)) }
+    // No record of a cache is visited.
+    ensures nodes { meter.new.nodes ≡ meter.old.nodes }
+{
+    let texts = text_places(alloc, &index.table, name, &mut Meter::new())?;
+    let kept = best_kinds(alloc, &index.rules, &texts, name, meter)?;
+    if kept.len() > 0 {
+        return Ok(kept);
+    }
+    let others = front_places(alloc, &index.table, name, &mut Meter::new())?;
+    let kinds = best_kinds(alloc, &index.rules, &others, name, meter)?;
+    Ok(kinds)
+}
+
+/// The types of the rules of the greatest rank, of those at some places that match a name.
+fn best_kinds<'a>(
+    alloc: Global,
+    rules: &[IndexedRule<'a>],
+    places: &[usize],
+    name: &[u8],
+    meter: &mut Meter,
+) -> Result<Vec<&'a [u8]>, OutOfMemory>
+    requires own { All IsIndexedRule rules.now }
+    requires below { AreBelow (length rules.now) places.now }
+    requires rise { IsNonDecreasing places.now }
+    ensures kept { (part : spec.IndexedRule → Bool) → AreNear part rules.now name.now places.now → IfOk result (λ kinds. kinds.items
+        ≡ map (λ rule. rule.lent.kind) (of_greatest (λ rule. rank_of_rule (plain rule)) (hits_of part rules.now name.now))) }
+    ensures nodes { meter.new.nodes ≡ meter.old.nodes }
+{
+    let mut best = Best::new(alloc);
+    let mut from = 0;
+    for near in 0..places.len() {
+        let place = places[near];
+        if from <= place {
+            let rule = rule_at(rules, place);
+            if is_match(rule, name, meter) {
+                best.offer(rule.rank, rule.lent.kind)?;
+            }
+            from = place + 1;
+        }
+    }
+    Ok(best.into_items())
+}
