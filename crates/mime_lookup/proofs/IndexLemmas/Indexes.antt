@@ -2,7 +2,6 @@
 use Rattle.std.proofs.Common.{◌≡◌, ℕ, List, ap, ap₂, ◌∙◌}
 use Rattle.mime_base.specs.Database.{pairs_of, plain_database}
 use Rattle.mime_base.specs.declared.database.Database.{Database}
-use Rattle.mime_lookup.specs.CheckingOrder.{read_limit}
 use Rattle.mime_lookup.specs.Indexed.{IsIndexOf}
 use Rattle.mime_lookup.specs.Places.{pairs_at, placed}
 use Rattle.mime_lookup.specs.declared.indexed.heads.Heads.{Heads}
@@ -14,7 +13,3 @@ module _ (inside database : Database) (names : List GlobRule) (pairs : PlacedPai
   -- the pairs are the database's
   pub indexed_pairs : placed pairs ≡ pairs_of (plain_database database)
   indexed_pairs = ap₂ pairs_at is.aliases is.parents ∙ ap (λ (d : Database). pairs_of (plain_database d)) same
-
-  -- as much is read as the database says
-  pub indexed_limit : limit ≡ read_limit (plain_database database)
-  indexed_limit = is.limits ∙ ap (λ (d : Database). read_limit (plain_database d)) same
