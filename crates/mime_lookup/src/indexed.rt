@@ -14,6 +14,7 @@ pub mod look_up;
 pub mod rule_key;
 pub mod run;
 pub mod sniff;
+pub mod subclass;
 pub mod top_line;
 pub mod unrefused;
 

@@ -51,6 +51,7 @@ pub use cached::{
 pub use content::{Content, ReadFault, Untold};
 pub use indexed::IndexedDatabase;
 pub use indexed::look_up::look_up_indexed;
+pub use indexed::subclass::is_a_indexed;
 pub use limits::LONGEST_NAME;
 pub use lists::look_up_plain;
 pub use order::Order;
