@@ -7,8 +7,8 @@ pub returns-in-Nothing-clause-answer : goal.returns-in-Nothing-clause-answer
 returns-in-Nothing-clause-answer c = (
   (λ is. absurd (true≢false (sym is))),
   (λ is_a.
-  absurd (never (placed c.args.both.now) c.loop.here.now c.args.base.now (sym c.is_by_itself.ensures.answer ∙ c.if-is_by_itself.false)
-  (rw c.in-Nothing.is at c.above_of.ensures) (c.loop.invariant.same.0 is_a))),
+      absurd (never (placed c.args.both.now) c.loop.here.now c.args.base.now (sym c.is_by_itself.ensures.answer ∙ c.if-is_by_itself.false)
+      (rw c.in-Nothing.is at c.above_of.ensures) (c.loop.invariant.same.0 is_a))),
 )
 
 pub loop-preserved : goal.loop-preserved
