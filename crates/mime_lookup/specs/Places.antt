@@ -1,10 +1,12 @@
 -- Where pairs stand: the first place of each name, and after each place the next of the same name.
-use Rattle.std.specs.Prelude.{◌≡◌, ℕ, ◌+◌, ◌<◌, ◌≤◌, List, [], length, get_or, drop, Option, None, Some, bytes_eq}
+use Rattle.std.specs.Prelude.{◌≡◌, ℕ, ◌+◌, ◌<◌, ◌≤◌, List, [], ◌∷◌, length, get_or, drop, Option, None, Some, bytes_eq}
 use Rattle.std.specs.HashMap.{HashMap, get_by}
 use Rattle.std.specs.Borrow.{Bor}
 use Rattle.mime_base.specs.Database.PlainPairs.{plain_pairs}
 use Rattle.mime_base.specs.Database.Subclass.{Pairs, parents}
 use Rattle.mime_base.specs.declared.database.pair.Pair.{Pair}
+use Rattle.mime_lookup.specs.declared.places.Above.{Above}
+use Rattle.mime_lookup.specs.declared.places.Above.TheVariants.{Nothing, One, Several}
 use Rattle.mime_lookup.specs.declared.places.PlacedPairs.{PlacedPairs}
 use Rattle.mime_lookup.specs.declared.places.Places.{Places}
 
@@ -44,3 +46,9 @@ pub record ArePlaced (both : PlacedPairs) : Type 0 where
 -- the pairs whose places are kept
 abbrev pub placed : PlacedPairs → Pairs
 placed both = pairs_at both.aliases.pairs.now both.parents.pairs.now
+
+-- what is one step above a type: nothing, one type, or several
+abbrev pub IsAbove : List (List ℕ) → Above → Type 0
+IsAbove kinds Nothing = kinds ≡ []
+IsAbove kinds (One kind) = kinds ≡ kind.now ∷ []
+IsAbove kinds Several = Unit {0}

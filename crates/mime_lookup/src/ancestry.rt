@@ -5,8 +5,9 @@
 //! no type is expanded twice. The places of all pairs are found once, so a search goes through the
 //! pairs of the types that it meets, and no others.
 
-ghost use Rattle.std.specs.Prelude.{◌≡◌, ◌+◌, false, length, IfOk, OnOk};
+ghost use Rattle.std.specs.Prelude.{◌≡◌, ◌↔◌, ◌+◌, false, length, IfOk, IsTrue, OnOk};
 ghost use Rattle.mime_base.specs.Database.{pairs_of, plain_database};
+ghost use Rattle.mime_base.specs.Database.Subclass.{IsA};
 ghost use Rattle.mime_lookup.specs.Ancestry.{AnswersSearch, Expanded, is_among, kinds_of, unmarked};
 ghost use Rattle.mime_lookup.specs.Choice.{IsFirst};
 ghost use Rattle.mime_lookup.specs.Places.{ArePlaced, placed};
@@ -66,6 +67,26 @@ pub fn first_at<'a>(
 }
 
 /// Whether a type is the base or a subclass of it.
+pub fn leads_to<'a>(
+    alloc: Global,
+    both: &PlacedPairs<'a>,
+    kind: &'a [u8],
+    base: &[u8],
+    meter: &mut Meter,
+) -> Result<bool, OutOfMemory>
+    // The places are of all pairs.
+    requires placed { ArePlaced both.now }
+    // No record of a cache is visited.
+    ensures nodes { meter.new.nodes ≡ meter.old.nodes }
+    // It says so.
+    ensures answer { IfOk result (λ is. IsTrue is ↔ IsA (placed both.now) kind.entry.now base.now) }
+{
+    let mut marks = IndexSet::new(alloc);
+    let is = is_a(alloc, both, &mut marks, kind, base, meter)?;
+    Ok(is)
+}
+
+/// Whether a type is the base or a subclass of it, unless a marked type is.
 fn is_a<'a>(
     alloc: Global,
     both: &PlacedPairs<'a>,

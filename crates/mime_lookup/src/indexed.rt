@@ -13,6 +13,7 @@ pub mod look_up;
 pub mod noted_pairs;
 pub mod rules;
 pub mod sniff;
+pub mod subclass;
 pub mod tables;
 pub mod top_line;
 

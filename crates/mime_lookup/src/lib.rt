@@ -12,8 +12,8 @@
 //! whole content, of which it reads no more than magic can look at; [`Content`] is what it reads from,
 //! and may tell whether its reads can fail. [`look_up_name`] is a lookup without a content, which says too how much of
 //! one would be read. [`is_a`] and [`icon_of`] go by the same bytes. [`look_up_learnt`] is the lookup for many names and contents.
-//! [`look_up_plain`] answers the same by trying every rule, line and pair of a database, and [`look_up_indexed`] by
-//! an [`IndexedDatabase`] that is made of one for many lookups.
+//! [`look_up_plain`] answers the same by trying every rule, line and pair of a database, and [`look_up_indexed`] and
+//! [`is_a_indexed`] by an [`IndexedDatabase`] that is made of one for many questions.
 //!
 //! Read `cached` first, which has the two halves of a lookup: `cached::by_name`, what a name gives by
 //! itself, and `cached::by_content`, what a front of the content then gives. Then what these take in
@@ -54,6 +54,7 @@ pub use cached::{
 pub use content::{Content, ReadFault, Untold};
 pub use indexed::IndexedDatabase;
 pub use indexed::look_up::look_up_indexed;
+pub use indexed::subclass::is_a_indexed;
 pub use limits::LONGEST_NAME;
 pub use lists::look_up_plain;
 pub use order::Order;

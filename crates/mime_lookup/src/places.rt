@@ -5,7 +5,7 @@ ghost use Rattle.mime_base.specs.Database.PlainPairs.{plain_pairs};
 ghost use Rattle.mime_base.specs.Database.Subclass as above;
 ghost use Rattle.mime_base.specs.declared.database.pair.Pair as plain;
 ghost use Rattle.mime_base.specs.Database.Subclass.{resolved};
-ghost use Rattle.mime_lookup.specs.Places.{ArePlaced, IsPlaced, placed};
+ghost use Rattle.mime_lookup.specs.Places.{ArePlaced, IsAbove, IsPlaced, placed};
 
 use crate::queue::Queue;
 use indexmap::IndexMap;
@@ -30,6 +30,17 @@ pub struct PlacedPairs<'a> {
     pub aliases: Places<'a>,
     /// The subclass pairs.
     pub parents: Places<'a>,
+}
+
+/// What is one step above a type.
+#[derive(Clone, Copy)]
+pub enum Above<'a> {
+    /// It has no parent.
+    Nothing,
+    /// It has one, which is this type after one alias step.
+    One(&'a [u8]),
+    /// It has several.
+    Several,
 }
 
 /// The places of some pairs.
@@ -70,6 +81,24 @@ fn target_at<'a>(pairs: &'a [Pair], place: usize) -> &'a [u8]
 {
     let pair = &pairs[place];
     pair.target.bytes()
+}
+
+/// What is one step above a type.
+pub fn above_of<'a>(both: &PlacedPairs<'a>, kind: &[u8]) -> Above<'a>
+    // The places are of all pairs.
+    requires placed { ArePlaced both.now }
+    // It says what is above the type, unless it has several parents.
+    ensures { IsAbove (above.above (placed both.now) kind.now) result }
+{
+    let parents = &both.parents;
+    let pairs = parents.pairs;
+    let Some(place) = parents.first.get(kind).copied() else {
+        return Above::Nothing;
+    };
+    if parents.next[pairs.len() - 1 - place].is_some() {
+        return Above::Several;
+    }
+    Above::One(unalias_at(&both.aliases, target_at(pairs, place)))
 }
 
 /// Puts the parents of a type at the end of a queue, each after one alias step.

@@ -5,9 +5,9 @@
 
 use crate::tests::checked::alike;
 use crate::tests::sample::{SAMPLE, SAMPLE_TEXTS, changed, damaged, write_at};
-use crate::tests::texts::{Texts, merged};
+use crate::tests::texts::{EMPTY, Texts, merged};
 use mime_base::{Counted, TypeName};
-use mime_lookup::{Cause, Icons, icon_of, is_a};
+use mime_lookup::{Cause, Icons, IndexedDatabase, icon_of, is_a, is_a_indexed};
 use mime_store::write_cache;
 use mime_view::CacheFault;
 use std::alloc::Global;
@@ -188,6 +188,56 @@ fn subclasses_by_damaged_caches(rt: HostRuntime) -> Result<(), Fail> {
     for (name, at, fault) in rows {
         let found = leads(rt.alloc(), &damaged(at), b"t/g", b"t/z")?;
         alike(&rt, name, found, Err(Cause::Cache(fault)));
+    }
+    Ok(())
+}
+
+/// A chain of more steps than are made without marks, a type of two parents, two types that are each above the other, and aliases.
+const SUBCLASSES: Texts<'static> = Texts {
+    aliases: b"x/first c/0\nx/third c/2\n",
+    subclasses: b"c/0 c/1\nc/1 c/2\nc/2 c/3\nc/3 c/4\nc/4 c/5\nc/5 c/6\nc/6 c/7\nc/7 c/8\nc/8 c/9\nc/9 c/10\nc/10 c/11\nc/11 c/12\nc/12 c/13\nc/13 c/14\nc/14 c/15\nc/15 c/16\nc/16 c/17\nc/17 c/18\n\
+d/bottom d/left\nd/bottom d/right\nd/right d/top\nl/a l/b\nl/b l/a\n",
+    ..EMPTY
+};
+
+/// Whether a type is another or a subclass of it, by an index.
+fn leads_by_index(
+    alloc: Global,
+    index: &IndexedDatabase<'_>,
+    kind: &[u8],
+    base: &[u8],
+) -> Result<bool, Fail> {
+    let kind = TypeName::new(alloc, kind)?;
+    let base = TypeName::new(alloc, base)?;
+    let (found, _meter) = is_a_indexed(alloc, index, &kind, &base)?;
+    Ok(found)
+}
+
+#[test]
+fn subclasses_by_an_index(rt: HostRuntime) -> Result<(), Fail> {
+    let rows: [(&[u8], &[u8], bool); 16] = [
+        (b"c/0", b"c/0", true),
+        (b"c/0", b"c/1", true),
+        (b"c/0", b"c/15", true),
+        (b"c/0", b"c/16", true),
+        (b"c/0", b"c/17", true),
+        (b"c/0", b"c/18", true),
+        (b"c/18", b"c/17", false),
+        (b"c/0", b"d/top", false),
+        (b"x/first", b"x/third", true),
+        (b"c/3", b"x/third", false),
+        (b"d/bottom", b"d/top", true),
+        (b"d/left", b"d/top", false),
+        (b"l/a", b"l/b", true),
+        (b"l/a", b"l/c", false),
+        (b"text/x", b"text/plain", true),
+        (b"inode/x", b"application/octet-stream", false),
+    ];
+    let database = merged(rt.alloc(), &[SUBCLASSES])?;
+    let index = IndexedDatabase::new(rt.alloc(), &database)?;
+    for (kind, base, is) in rows {
+        let found = leads_by_index(rt.alloc(), &index, kind, base)?;
+        alike(&rt, "is a", (kind, base, found), (kind, base, is));
     }
     Ok(())
 }

@@ -7,7 +7,7 @@ use Rattle.mime_base.specs.Database.Subclass.{Pairs, above, is_by_itself, IsPath
 use Rattle.mime_lookup.specs.Ancestry.{Expanded, NoneLeadsTo}
 
 -- the first is in the list
-Contains-head : (x : List ℕ) (xs : List (List ℕ)) → Contains (x ∷ xs) x
+pub Contains-head : (x : List ℕ) (xs : List (List ℕ)) → Contains (x ∷ xs) x
 Contains-head x xs = (0, omega arith, refl)
 
 -- what is after the first is in the list
@@ -15,11 +15,11 @@ Contains-more : (x : List ℕ) (xs : List (List ℕ)) (q : List ℕ) → Contain
 Contains-more x xs q is = Contains-append_right (x ∷ []) xs q is
 
 -- nothing is in an empty list
-Contains-nil : (q : List ℕ) → Contains [] q → ⊥
+pub Contains-nil : (q : List ℕ) → Contains [] q → ⊥
 Contains-nil q is = let none : is.0 < 0 = is.1 in omega arith
 
 -- what is in a list of one is that one
-Contains-only : (x q : List ℕ) → Contains (x ∷ []) q → x ≡ q
+pub Contains-only : (x q : List ℕ) → Contains (x ∷ []) q → x ≡ q
 Contains-only x q (zero, within, same) = same
 Contains-only x q (suc k, within, same) = absurd (omega (arith, within))
 

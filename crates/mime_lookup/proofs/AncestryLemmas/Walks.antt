@@ -41,7 +41,7 @@ places_left size None = 0
 places_left size (Some place) = size + 1 - place
 
 -- an item that stands at a place
-item_at : (pairs : List Pair) (place : ℕ) → place < length pairs → (pair : Pair) × (pair ≡ get_or pairs place pair)
+pub item_at : (pairs : List Pair) (place : ℕ) → place < length pairs → (pair : Pair) × (pair ≡ get_or pairs place pair)
 item_at [] place within = absurd (omega (arith, within))
 item_at (pair ∷ pairs) place within =
     let item = get_or (pair ∷ pairs) place pair in
