@@ -68,7 +68,7 @@ module _ (c numbers : List ℕ) (b : Lists) (header : IsHeader c numbers)
     (icons : PairsAt (Stands c) (slice_index numbers 8) (plain_pairs b.icons.items))
     (generic : PairsAt (Stands c) (slice_index numbers 9) (plain_pairs b.generic_icons.items)) where
   -- all rules
-  all : List GlobRule
+  abbrev all : List GlobRule
   all = plain_rules b.literals.items ++ (plain_leaves b.leaves.items ++ plain_rules b.globs.items)
 
   -- they are the lists'
