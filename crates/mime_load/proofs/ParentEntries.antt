@@ -1,16 +1,16 @@
 -- Entries of a parent list that were read one after another.
-use Rattle.std.proofs.Common.{◌≡◌, ℕ, suc, ◌+◌, ◌*◌, Bool, true, false, not, ◌&&◌, ◌||◌, List, [], ◌∷◌, ◌++◌, map, bytes_eq, sym, ap, refl, ◌∙◌, arith, true≢false, append_assoc, length, ◌<◌}
-use Rattle.std.specs.List.{All, AllPairs, flat_map, list_any}
+use Rattle.std.proofs.Common.{◌≡◌, ℕ, suc, ◌+◌, ◌*◌, Bool, true, false, List, [], ◌∷◌, ◌++◌, map, bytes_eq, sym, ap, refl, ◌∙◌, arith, true≢false, append_assoc, ◌<◌}
+use Rattle.std.specs.List.{All, AllPairs, flat_map}
 use Rattle.std.specs.Set.{is_member}
 use Rattle.std.proofs.lemmas.Grind.{flat_map-append}
 use Rattle.std.proofs.lemmas.List.{append-nil, length-map, length_push, map-append}
-use Rattle.std.proofs.lemmas.List.Elements.{All-append, All-cons, All-head, All-map, All-nil, All-push, All-tail, All-weaker}
+use Rattle.std.proofs.lemmas.List.Elements.{All-append, All-cons, All-head, All-nil, All-push, All-tail, All-weaker}
 use Rattle.std.proofs.lemmas.List.Kept.{AllPairs-cons}
 use Rattle.std.proofs.lemmas.List.Quantifiers.{all_pairs_push}
 use Rattle.std.proofs.lemmas.List.Sorted.{IsPermutation-refl}
 use Rattle.mime_base.specs.Cache.Bytes.{Stands}
 use Rattle.mime_base.specs.Format.Parents.{IsName, ParentsAt}
-use Rattle.mime_base.specs.Format.Records.{CardsAt, ListAt, RecordsAt, TextAt}
+use Rattle.mime_base.specs.Format.Records.{CardsAt}
 use Rattle.mime_base.specs.Format.Sorted.{text_lt}
 use Rattle.mime_store.specs.Runs.{AreRuns, IsRun, OfKind, PlainRun, second_text}
 use Rattle.mime_store.specs.Views.{first_text}

@@ -1,5 +1,5 @@
 -- Lists of rules that were read one after another.
-use Rattle.std.proofs.Common.{◌≡◌, ℕ, ◌+◌, ◌-◌, ◌*◌, ◌%◌, ◌<◌, Bool, true, false, List, [], ◌∷◌, ◌++◌, length, map, get_or, ap, refl, sym, ◌∙◌, arith, cond}
+use Rattle.std.proofs.Common.{◌≡◌, ℕ, ◌+◌, ◌-◌, ◌%◌, ◌<◌, Bool, true, false, List, [], ◌∷◌, ◌++◌, length, map, get_or, ap, refl, ◌∙◌, arith, cond}
 use Rattle.std.specs.Prelude.{nat_le, filter}
 use Rattle.std.proofs.lemmas.Bool.{leb-true, leb-false}
 use Rattle.std.specs.List.{All}
@@ -9,11 +9,9 @@ use Rattle.std.proofs.lemmas.List.Elements.{All-push, All-head, All-tail, All-we
 use Rattle.std.proofs.lemmas.List.Kept.{IsSortedBy-push}
 use Rattle.std.proofs.lemmas.List.Sorted.{IsPermutation-refl}
 use Rattle.mime_base.specs.Cache.Bytes.{Stands}
-use Rattle.mime_base.specs.Cache.Texts.{IsText}
-use Rattle.mime_base.specs.Database.Limits.{KeepsLimits}
 use Rattle.mime_base.specs.Format.Records.{CardsAt, TextAt}
 use Rattle.mime_base.specs.Format.Sorted.{IsSortedByText, text_lt}
-use Rattle.mime_base.specs.Format.Stored.{is_in_literals, literal_rules, stored_text, weight_and_flags}
+use Rattle.mime_base.specs.Format.Stored.{is_in_literals, literal_rules, stored_text}
 use Rattle.mime_base.specs.Matching.Folding.{compared}
 use Rattle.mime_base.specs.declared.database.lent.LentRule.{LentRule}
 use Rattle.mime_base.specs.declared.database.rule.GlobRule.{GlobRule}

@@ -1,10 +1,8 @@
 -- Sections that stand in a cache.
-use Rattle.std.proofs.Common.{◌≡◌, ℕ, ◌+◌, ◌-◌, ◌*◌, ◌≤◌, true, List, [], ◌∷◌, ◌++◌, length, get_or}
-use Rattle.std.proofs.Common.{Ok, refl, ap, ◌∙◌, sym, subst, arith}
-use Rattle.std.specs.Prelude.{nat_lt}
-use Rattle.std.proofs.lemmas.Bool.{and_from, and_parts, le-ltb}
-use Rattle.std.proofs.lemmas.List.{get_or_push, length-map, length_push, map_push}
-use Rattle.std.proofs.lemmas.List.Kept.{IsSortedBy-push}
+use Rattle.std.proofs.Common.{◌≡◌, ℕ, ◌+◌, ◌*◌, true, List, [], ◌∷◌, ◌++◌, length, get_or}
+use Rattle.std.proofs.Common.{Ok, refl, ◌∙◌, sym, subst, arith}
+use Rattle.std.proofs.lemmas.Bool.{and_from, and_parts}
+use Rattle.std.proofs.lemmas.List.{length-map, map_push}
 use Rattle.mime_base.specs.Cache.Bytes.{Stands, fields}
 use Rattle.mime_base.specs.Cache.Texts.{text_at}
 use Rattle.mime_base.specs.Format.Magic.{IsSection, width}

@@ -1,8 +1,7 @@
 -- A cache whose parts were read back spells what they say.
-use Rattle.std.proofs.Common.{◌≡◌, ℕ, ◌+◌, ◌*◌, List, [], ◌∷◌, ◌++◌, length, slice_index, refl, ap, subst, sym, ◌∙◌, arith}
+use Rattle.std.proofs.Common.{◌≡◌, ℕ, ◌+◌, ◌*◌, List, [], ◌∷◌, ◌++◌, length, slice_index, refl, ap, subst, ◌∙◌, arith}
 use Rattle.std.proofs.lemmas.List.{length-map}
 use Rattle.mime_base.specs.Cache.Bytes.{Stands}
-use Rattle.mime_base.specs.Database.{PlainDatabase}
 use Rattle.mime_base.specs.Database.Limits.{IsWithinLimits}
 use Rattle.mime_base.specs.Format.Header.{HeaderAt, Offsets}
 use Rattle.mime_base.specs.Format.Packed.{matchlet_count, record_bytes}
@@ -12,7 +11,7 @@ use Rattle.mime_base.specs.Format.Records.{CardsAt}
 use Rattle.mime_base.specs.Format.SuffixTree.{tree_size}
 use Rattle.mime_base.specs.Format.Spells.{Spells}
 use Rattle.mime_base.specs.declared.database.rule.GlobRule.{GlobRule}
-use Rattle.mime_load.specs.Lent.{plain_leaf, plain_leaves, plain_lists, plain_pair, plain_pairs, plain_rule, plain_rules, plain_sections}
+use Rattle.mime_load.specs.Lent.{plain_leaves, plain_lists, plain_pair, plain_pairs, plain_rule, plain_rules, plain_sections}
 use Rattle.mime_load.specs.MagicStanding.{MagicStands}
 use Rattle.mime_load.specs.Parts.{IsGlobList, IsLiteralList, IsTreeList}
 use Rattle.mime_load.specs.Whole.{IsHeader}

@@ -1,8 +1,8 @@
 -- What is lent of a cache, as plain values.
-use Rattle.std.specs.Prelude.{ℕ, List, ◌++◌, map, Option, Some, None, option_map}
+use Rattle.std.specs.Prelude.{ℕ, List, ◌++◌, map, Option, Some, None}
 use Rattle.std.specs.Borrow.{Bor}
 use Rattle.mime_base.specs.Database.{PlainDatabase}
-use Rattle.mime_base.specs.Magic.{PlainLine, PlainMatchlet, PlainSection, forest_of, line_from}
+use Rattle.mime_base.specs.Magic.{PlainMatchlet, PlainSection, forest_of, line_from}
 use Rattle.mime_base.specs.declared.database.lent.LentRule.{LentRule}
 use Rattle.mime_base.specs.declared.database.rule.GlobRule.{GlobRule}
 use Rattle.mime_load.specs.declared.leaf.LeafRule.{LeafRule}

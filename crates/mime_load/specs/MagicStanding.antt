@@ -1,5 +1,5 @@
 -- Lines and sections of the code that stand in a cache.
-use Rattle.std.specs.Prelude.{◌≡◌, ◌<◌, ℕ, ◌+◌, Bool, true, ◌&&◌, nat_lt, List}
+use Rattle.std.specs.Prelude.{◌≡◌, ℕ, ◌+◌, Bool, true, ◌&&◌, nat_lt, List}
 use Rattle.mime_base.specs.Cache.Bytes.{Stands}
 use Rattle.mime_base.specs.Format.Magic.{IsSection, LinesAt, MagicAt, MaskAt, line_numbers}
 use Rattle.mime_base.specs.Format.Records.{CardsAt, RecordsAt}

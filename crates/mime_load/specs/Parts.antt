@@ -1,12 +1,11 @@
 -- What is read back of the lists of a cache.
-use Rattle.std.specs.Prelude.{◌≡◌, ℕ, Bool, true, All, List}
+use Rattle.std.specs.Prelude.{◌≡◌, ℕ, true, All, List}
 use Rattle.mime_base.specs.Cache.Bytes.{Stands}
 use Rattle.mime_base.specs.Database.Limits.{KeepsLimits}
-use Rattle.mime_base.specs.Format.Records.{CardsAt, Standing, TextAt}
+use Rattle.mime_base.specs.Format.Records.{CardsAt, Standing}
 use Rattle.mime_base.specs.Format.Rules.{GlobsAt, IsRule, LiteralsAt}
 use Rattle.mime_base.specs.Format.Stored.{is_in_globs, is_in_literals, is_in_tree, stored_text}
 use Rattle.mime_base.specs.Format.SuffixTree.{SuffixTreeAt}
-use Rattle.mime_base.specs.Matching.Folding.{compared}
 use Rattle.mime_base.specs.declared.database.rule.GlobRule.{GlobRule}
 
 -- the record of x stands at `at`

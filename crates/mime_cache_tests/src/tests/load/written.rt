@@ -68,7 +68,12 @@ fn as_many_as_lines(rt: HostRuntime) -> Result<(), Fail> {
     for row in &ROWS {
         alike(&rt, row.name, read(rt.alloc(), row.texts)?, Ok(row.counts));
     }
-    alike(&rt, "by hand", counts(rt.alloc(), &SAMPLE)?, Ok([1, 1, 1, 1, 0, 1, 0, 0]));
+    alike(
+        &rt,
+        "by hand",
+        counts(rt.alloc(), &SAMPLE)?,
+        Ok([1, 1, 1, 1, 0, 1, 0, 0]),
+    );
     Ok(())
 }
 
@@ -97,6 +102,11 @@ fn exchanged(alloc: Global) -> Result<Vec<u8>, Fail> {
 #[test]
 fn aliases_that_fall(rt: HostRuntime) -> Result<(), Fail> {
     let bytes = exchanged(rt.alloc())?;
-    alike(&rt, "exchanged", counts(rt.alloc(), &bytes)?, Err(Part::Aliases));
+    alike(
+        &rt,
+        "exchanged",
+        counts(rt.alloc(), &bytes)?,
+        Err(Part::Aliases),
+    );
     Ok(())
 }

@@ -1,8 +1,7 @@
-use Rattle.std.proofs.Common.{◌+◌, ◌*◌, arith, rules, subst}
+use Rattle.std.proofs.Common.{◌+◌, arith, rules}
 use Rattle.mime_base.specs.Cache.Bytes.{Stands}
 use Rattle.mime_base.specs.Format.Pairs.{IsPair}
 use Rattle.mime_load.specs.Lent.{plain_pair, plain_pairs}
-use Rattle.mime_load.specs.Parts.{RecordAt}
 use Rattle.mime_load.proofs.PairLemmas.{pairs_by_text, pairs_pushed}
 use Rattle.mime_load.proofs.RecordLemmas.{list_whole, records_pushed}
 use Rattle.mime_load.proofs.TakingLemmas.{pays_list, pays_list_more}

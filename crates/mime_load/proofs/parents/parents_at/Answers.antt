@@ -1,5 +1,4 @@
-use Rattle.std.proofs.Common.{◌+◌, ◌*◌, [], arith, rules, subst}
-use Rattle.mime_base.specs.Cache.Bytes.{Stands}
+use Rattle.std.proofs.Common.{[], arith, rules}
 use Rattle.mime_load.specs.Lent.{plain_pairs}
 use Rattle.mime_load.proofs.ParentEntries.{entries_more, entries_none, parents_whole}
 use Rattle.mime_load.proofs.TakingLemmas.{pays_entries, pays_entries_more}

@@ -1,4 +1,4 @@
-use Rattle.std.proofs.Common.{◌+◌, ◌*◌, arith, rules, refl}
+use Rattle.std.proofs.Common.{◌+◌, arith, rules}
 use Rattle.mime_load.specs.Lent.{plain_pair, plain_pairs}
 use Rattle.mime_load.proofs.ParentEntries.{adding_more, adding_none, adding_whole}
 use Rattle.mime_load.proofs.RuleLists.{mapped_pushed}

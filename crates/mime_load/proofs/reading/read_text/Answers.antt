@@ -1,4 +1,3 @@
-use Rattle.std.proofs.Common.{Ok, ap, sym, ◌∙◌, subst}
 use Rattle.mime_base.proofs.CacheLemmas.TextsStand.{text_at-read}
 use Rattle.mime_load.proofs.reading.read_text.Goals as goal
 

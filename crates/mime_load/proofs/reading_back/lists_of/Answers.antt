@@ -2,7 +2,7 @@ use Rattle.std.proofs.Common.{arith, slice_index}
 use Rattle.mime_base.specs.Cache.Bytes.{Stands}
 use Rattle.mime_base.specs.Format.Pairs.{PairsAt}
 use Rattle.mime_base.specs.Format.Parents.{ParentsAt}
-use Rattle.mime_load.specs.Lent.{plain_leaves, plain_lists, plain_pairs, plain_rules, plain_sections}
+use Rattle.mime_load.specs.Lent.{plain_leaves, plain_pairs, plain_rules, plain_sections}
 use Rattle.mime_load.specs.MagicStanding.{MagicStands}
 use Rattle.mime_load.specs.Parts.{IsGlobList, IsLiteralList, IsTreeList}
 use Rattle.mime_load.specs.Taking.{TakesSections}

@@ -1,4 +1,4 @@
-use Rattle.std.proofs.Common.{get_or, arith, rules, refl, subst, sym, ◌∙◌}
+use Rattle.std.proofs.Common.{get_or, rules, subst}
 use Rattle.mime_base.specs.Cache.Bytes.{Stands}
 use Rattle.mime_base.specs.Format.Records.{CardsAt}
 use Rattle.mime_load.proofs.RuleLists.{rule_at}

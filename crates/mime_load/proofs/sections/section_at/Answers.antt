@@ -1,8 +1,6 @@
-use Rattle.std.proofs.Common.{◌≡◌, ◌∙◌, ap, sym, refl, Ok, true, ⊎_elim, arith}
-use Rattle.std.proofs.lemmas.Bool.{cases_Bool}
+use Rattle.std.proofs.Common.{◌∙◌, ap, sym, refl, ⊎_elim, arith}
 use Rattle.std.proofs.lemmas.Result.{err_from_is_err_and}
 use Rattle.mime_base.specs.Cache.Texts.{text_at}
-use Rattle.mime_base.specs.Names.{is_type_name}
 use Rattle.mime_load.proofs.SectionLemmas.{section_stands}
 use Rattle.mime_load.proofs.WholeLemmas.{section_inside, section_read}
 use Rattle.mime_load.proofs.sections.section_at.Goals as goal

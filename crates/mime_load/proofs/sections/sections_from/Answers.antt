@@ -1,9 +1,8 @@
 use Rattle.std.proofs.Common.{◌≡◌, ◌+◌, ◌++◌, ◌∷◌, [], ℕ, length, arith, ap, ◌∙◌}
 use Rattle.std.proofs.lemmas.List.{length_push}
-use Rattle.std.proofs.Common.{◌*◌, refl}
+use Rattle.std.proofs.Common.{◌*◌}
 use Rattle.std.proofs.lemmas.List.{length-map}
 use Rattle.std.proofs.lemmas.Result.{err_from_is_err_and}
-use Rattle.mime_base.specs.Cache.Bytes.{fields}
 use Rattle.mime_load.specs.Lent.{plain_section, plain_sections}
 use Rattle.mime_load.specs.Taking.{HasSectionRoom}
 use Rattle.mime_load.proofs.SectionLemmas.{sections_more}

@@ -1,8 +1,7 @@
-use Rattle.std.proofs.Common.{ap, get_or, rules, subst, ◌∙◌}
-use Rattle.std.specs.Prelude.{map}
+use Rattle.std.proofs.Common.{get_or, rules, subst, ◌∙◌}
 use Rattle.mime_base.specs.Cache.Bytes.{Stands}
 use Rattle.mime_base.specs.Format.Records.{CardsAt}
-use Rattle.mime_load.specs.Lent.{plain_leaf, plain_leaves}
+use Rattle.mime_load.specs.Lent.{plain_leaves}
 use Rattle.mime_load.proofs.TreeLists.{leaves_reversed, tree_list, tree_taken}
 use Rattle.mime_load.proofs.TreeWalks.{two}
 use Rattle.mime_load.proofs.suffix_tree.leaves_at.Goals as goal
