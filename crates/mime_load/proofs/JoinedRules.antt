@@ -60,16 +60,19 @@ module _ (p : GlobRule → Bool) (first leaves last : List GlobRule) where
   parts : filter p (first ++ (leaves ++ last)) ≡ filter p first ++ (filter p leaves ++ filter p last)
   parts = filter-append p first (leaves ++ last) ∙ ap (λ (rules : List GlobRule). filter p first ++ rules) (filter-append p leaves last)
 
+  -- of which the first are kept
   first_kept : All (λ rule. p rule ≡ true) first → All (λ rule. p rule ≡ false) leaves → All (λ rule. p rule ≡ false) last
       → filter p (first ++ (leaves ++ last)) ≡ first
   first_kept all none nor =
       parts ∙ rw (all_kept p first all, none_kept p leaves none, none_kept p last nor) (append-nil first)
 
+  -- of which the next are kept
   leaves_kept : All (λ rule. p rule ≡ false) first → All (λ rule. p rule ≡ true) leaves → All (λ rule. p rule ≡ false) last
       → filter p (first ++ (leaves ++ last)) ≡ leaves
   leaves_kept none all nor =
       parts ∙ rw (none_kept p first none, all_kept p leaves all, none_kept p last nor) (append-nil leaves)
 
+  -- of which the last are kept
   last_kept : All (λ rule. p rule ≡ false) first → All (λ rule. p rule ≡ false) leaves → All (λ rule. p rule ≡ true) last
       → filter p (first ++ (leaves ++ last)) ≡ last
   last_kept none nor all =
@@ -107,9 +110,11 @@ module _ (c : List ℕ) (literals tree globs : ℕ) (first leaves last all : Lis
   same_literals : literal_rules first ≡ literal_rules all
   same_literals = all_kept is_in_literals first l.literals ∙ sym literal_ones
 
+  -- so do the leaves
   same_leaves : tree_rules leaves ≡ tree_rules all
   same_leaves = all_kept is_in_tree leaves t.leaves ∙ sym tree_ones
 
+  -- and the globs
   same_globs : glob_rules last ≡ glob_rules all
   same_globs = all_kept is_in_globs last g.globs ∙ sym glob_ones
 
