@@ -1,6 +1,7 @@
 -- Lemmas on the bytes of a cache: zeros and prefixes, numbers, where bytes stand, texts from both sides.
 pub mod Zeros
 pub mod Prefixes
+pub mod Records
 pub mod Stops
 pub mod Padding
 pub mod Orders

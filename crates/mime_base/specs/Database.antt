@@ -1,4 +1,5 @@
 -- A database as plain values: what merged data directories say.
+pub mod Lent
 pub mod Limits
 pub mod LimitsRows
 pub mod PlainPairs

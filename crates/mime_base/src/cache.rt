@@ -8,6 +8,7 @@ pub mod byte_fault;
 pub mod byte_laws;
 pub mod comparing;
 pub mod key;
+pub mod standing;
 pub mod stated_value;
 
 ghost use Rattle.std.specs.Prelude.{◌≡◌, true, false, ℕ, ◌+◌, ◌*◌, ◌<◌, ◌≤◌, List, length, slice_index, take, drop, min, Ok, Err};

@@ -1,6 +1,7 @@
 //! What a lookup is answered from.
 
 pub mod icon;
+pub mod lent;
 pub mod limits;
 pub mod pair;
 pub mod rule;

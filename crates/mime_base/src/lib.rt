@@ -38,6 +38,7 @@ pub use cache::stated_value::StatedValue;
 pub use cache::{Counted, LARGEST_CACHE};
 pub use database::Database;
 pub use database::icon::Icon;
+pub use database::lent::LentRule;
 pub use database::limits::database_keeps_limits;
 pub use database::pair::Pair;
 pub use database::rule::GlobRule;

@@ -1,5 +1,6 @@
 mod base;
 mod checked;
+mod load;
 mod lookup;
 mod sample;
 mod store;

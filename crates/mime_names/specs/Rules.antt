@@ -7,11 +7,8 @@ use Rattle.mime_base.specs.declared.database.rule.GlobRule.{GlobRule}
 use Rattle.mime_base.specs.declared.kept.class.Class.{Class}
 use Rattle.mime_base.specs.declared.kept.class.Class.TheVariants.{Literal, Suffix, Full}
 use Rattle.mime_names.specs.declared.indexed_rule.IndexedRule.{IndexedRule}
-use Rattle.mime_names.specs.declared.lent_rule.LentRule.{LentRule}
-
--- the plain value of a rule whose texts are lent
-abbrev pub plain_rule : LentRule → GlobRule
-plain_rule rule = record { weight = rule.weight; kind = rule.kind.now; pattern = rule.pattern.now; cased = rule.cased }
+use Rattle.mime_base.specs.Database.Lent.{plain_rule}
+use Rattle.mime_base.specs.declared.database.lent.LentRule.{LentRule}
 
 -- the rule without what was found of it
 abbrev pub lent : IndexedRule → LentRule

@@ -3,12 +3,11 @@
 ghost use Rattle.std.specs.Prelude.{◌≡◌, map, IfOk};
 ghost use Rattle.std.specs.List.{All};
 ghost use Rattle.mime_base.specs.Kept.{FitsRank};
-ghost use Rattle.mime_names.specs.Rules.{plain_rule};
+ghost use Rattle.mime_base.specs.Database.Lent.{plain_rule};
 
 use crate::indexed_rule::{IndexedRule, indexed_rules};
 use crate::keys::{KeyTable, key_table};
-use crate::lent_rule::LentRule;
-use mime_base::OutOfMemory;
+use mime_base::{LentRule, OutOfMemory};
 use std::alloc::Global;
 use std::marker::Model;
 

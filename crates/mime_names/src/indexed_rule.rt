@@ -3,11 +3,11 @@
 ghost use Rattle.std.specs.Prelude.{◌≡◌, ◌<◌, ℕ, List, ◌∷◌, get_or, length, map, IfOk};
 ghost use Rattle.std.specs.List.{All};
 ghost use Rattle.mime_base.specs.Kept.{FitsRank};
-ghost use Rattle.mime_names.specs.Rules.{IsIndexedRule, is_match, lent, plain_rule};
+ghost use Rattle.mime_base.specs.Database.Lent.{plain_rule};
+ghost use Rattle.mime_names.specs.Rules.{IsIndexedRule, is_match, lent};
 
 use crate::ending::ends_so;
-use crate::lent_rule::LentRule;
-use mime_base::{Class, Meter, OutOfMemory, class_of_bytes, glob_matches, rank_of};
+use mime_base::{Class, LentRule, Meter, OutOfMemory, class_of_bytes, glob_matches, rank_of};
 use std::alloc::Global;
 
 /// A rule with its class and its rank.

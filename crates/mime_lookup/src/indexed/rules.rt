@@ -4,11 +4,10 @@ ghost use Rattle.std.specs.Prelude.{◌≡◌, map, IfOk};
 ghost use Rattle.mime_base.specs.Database.PlainPairs.{plain_pairs};
 ghost use Rattle.mime_lookup.specs.Indexed.{unaliased_rule};
 ghost use Rattle.mime_lookup.specs.Places.{IsPlaced};
-ghost use Rattle.mime_names.specs.Rules.{plain_rule};
+ghost use Rattle.mime_base.specs.Database.Lent.{plain_rule};
 
 use crate::places::{Places, unalias_at};
-use mime_base::{GlobRule, OutOfMemory};
-use mime_names::LentRule;
+use mime_base::{GlobRule, LentRule, OutOfMemory};
 use std::alloc::Global;
 
 /// The rules, each with its type after one alias step.

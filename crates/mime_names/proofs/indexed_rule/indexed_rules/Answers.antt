@@ -3,7 +3,8 @@ use Rattle.std.proofs.lemmas.List.{get_or-map, length-map, map-append, take_more
 use Rattle.std.proofs.lemmas.List.Elements.{All-push}
 use Rattle.mime_base.specs.Kept.{FitsRank}
 use Rattle.mime_base.specs.declared.database.rule.GlobRule.{GlobRule}
-use Rattle.mime_names.specs.Rules.{IsIndexedRule, lent, plain_rule}
+use Rattle.mime_base.specs.Database.Lent.{plain_rule}
+use Rattle.mime_names.specs.Rules.{IsIndexedRule, lent}
 use Rattle.mime_names.proofs.indexed_rule.indexed_rules.Goals as goal
 
 -- some rule

@@ -5,7 +5,7 @@ use Rattle.mime_base.specs.Database.Limits.{KeepsLimits}
 use Rattle.mime_base.specs.Database.PlainPairs.{plain_pairs}
 use Rattle.mime_base.specs.Kept.{FitsRank}
 use Rattle.mime_lookup.specs.Indexed.{unaliased_rule}
-use Rattle.mime_names.specs.Rules.{plain_rule}
+use Rattle.mime_base.specs.Database.Lent.{plain_rule}
 use Rattle.mime_lookup.proofs.indexed.IndexedDatabase.new.Goals as goal
 
 pub new-requires : goal.new-requires

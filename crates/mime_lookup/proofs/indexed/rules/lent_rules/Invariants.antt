@@ -1,7 +1,7 @@
 use Rattle.std.proofs.Common.{◌≡◌, map, take}
 use Rattle.mime_base.specs.Database.PlainPairs.{plain_pairs}
 use Rattle.mime_lookup.specs.Indexed.{unaliased_rule}
-use Rattle.mime_names.specs.Rules.{plain_rule}
+use Rattle.mime_base.specs.Database.Lent.{plain_rule}
 use Rattle.mime_lookup.proofs.indexed.rules.lent_rules.Given as goal
 
 abbrev pub invariant-loop-rule : goal.invariant-loop-rule

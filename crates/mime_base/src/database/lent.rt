@@ -1,4 +1,4 @@
-//! A glob rule of which the texts are lent.
+//! Glob rules whose texts lie in what they were read from.
 
 /// A glob rule whose texts lie in what it was read from.
 #[derive(Clone, Copy, Debug)]

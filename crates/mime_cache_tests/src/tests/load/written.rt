@@ -1,0 +1,112 @@
+//! Caches that were written are read back, with as many members as their texts have lines.
+
+use super::counts;
+use crate::tests::checked::alike;
+use crate::tests::sample::{SAMPLE, SAMPLE_TEXTS, write_at};
+use crate::tests::texts::{EMPTY, Texts, merged};
+use mime_base::LARGEST_CACHE;
+use mime_load::Part;
+use mime_store::write_cache;
+use std::alloc::Global;
+use std::test::Fail;
+
+/// A directory, and how many members each list has.
+struct Row {
+    name: &'static str,
+    texts: Texts<'static>,
+    counts: [usize; 8],
+}
+
+static ROWS: [Row; 5] = [
+    Row {
+        name: "nothing",
+        texts: EMPTY,
+        counts: [0; 8],
+    },
+    Row {
+        name: "sample",
+        texts: SAMPLE_TEXTS,
+        counts: [1, 1, 1, 1, 0, 1, 0, 0],
+    },
+    Row {
+        name: "rules of each list",
+        texts: Texts {
+            globs2: b"50:t/a:README\n50:t/a:readme:cs\n60:t/b:*.tar.gz\n50:t/c:*.gz\n50:t/C:*.GZ:cs\n50:t/d:*\n50:t/e:a*b\n",
+            ..EMPTY
+        },
+        counts: [0, 0, 2, 3, 2, 0, 0, 0],
+    },
+    Row {
+        name: "types with many parents, and icons",
+        texts: Texts {
+            subclasses: b"t/b t/a\nt/a t/c\nt/b t/c\nt/a t/b\n",
+            icons: b"t/g:pkg\nt/a:pkg\n",
+            generic_icons: b"t/g:package-x-generic\n",
+            ..EMPTY
+        },
+        counts: [0, 4, 0, 0, 0, 0, 2, 1],
+    },
+    Row {
+        name: "lines with masks and children",
+        texts: Texts {
+            magic: b"MIME-Magic\0\n[50:t/a]\n>4=\0\x02ab&\xdf\xdf+3\n1>0=\0\x02cd~2\n[40:t/b]\n>0=\0\x00\n",
+            ..EMPTY
+        },
+        counts: [0, 0, 0, 0, 0, 2, 0, 0],
+    },
+];
+
+/// What is read back of the cache of a directory.
+fn read(alloc: Global, texts: Texts<'static>) -> Result<Result<[usize; 8], Part>, Fail> {
+    let database = merged(alloc, &[texts])?;
+    let bytes = write_cache(alloc, &database, LARGEST_CACHE)?;
+    counts(alloc, &bytes)
+}
+
+#[test]
+fn as_many_as_lines(rt: HostRuntime) -> Result<(), Fail> {
+    for row in &ROWS {
+        alike(&rt, row.name, read(rt.alloc(), row.texts)?, Ok(row.counts));
+    }
+    alike(
+        &rt,
+        "by hand",
+        counts(rt.alloc(), &SAMPLE)?,
+        Ok([1, 1, 1, 1, 0, 1, 0, 0]),
+    );
+    Ok(())
+}
+
+/// What stands from an offset on.
+fn rest_from(bytes: &[u8], at: usize) -> &[u8] {
+    bytes.get(at..).unwrap_or(&[])
+}
+
+/// Two aliases, the second before the first in the list.
+fn exchanged(alloc: Global) -> Result<Vec<u8>, Fail> {
+    let texts = Texts {
+        aliases: b"t/a t/c\nt/b t/c\n",
+        ..EMPTY
+    };
+    let database = merged(alloc, &[texts])?;
+    let mut bytes = write_cache(alloc, &database, LARGEST_CACHE)?;
+    // two entries stand after the header, four texts of four bytes and the count
+    let (mut first, mut second) = ([0; 8], [0; 8]);
+    write_at(&mut first, 0, rest_from(&bytes, 60));
+    write_at(&mut second, 0, rest_from(&bytes, 68));
+    write_at(&mut bytes, 60, &second);
+    write_at(&mut bytes, 68, &first);
+    Ok(bytes)
+}
+
+#[test]
+fn aliases_that_fall(rt: HostRuntime) -> Result<(), Fail> {
+    let bytes = exchanged(rt.alloc())?;
+    alike(
+        &rt,
+        "exchanged",
+        counts(rt.alloc(), &bytes)?,
+        Err(Part::Aliases),
+    );
+    Ok(())
+}

@@ -1,0 +1,16 @@
+pub mod Extents
+pub mod JoinedRules
+pub mod LineLemmas
+pub mod PairLemmas
+pub mod ParentEntries
+pub mod RecordLemmas
+pub mod RuleLists
+pub mod SameLemmas
+pub mod SectionLemmas
+pub mod Spelled
+pub mod StoredPatterns
+pub mod TakingLemmas
+pub mod TreeFronts
+pub mod TreeLists
+pub mod TreeWalks
+pub mod WholeLemmas

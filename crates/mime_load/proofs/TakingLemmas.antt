@@ -1,0 +1,138 @@
+-- What is taken, step by step.
+use Rattle.std.proofs.Common.{◌≡◌, ◌≤◌, ◌<◌, ap, ℕ, ◌+◌, ◌*◌, ◌/◌, List, length, [], ◌∷◌, ◌++◌, sym, subst, arith}
+use Rattle.std.proofs.lemmas.List.{length_push, map_push}
+use Rattle.std.proofs.lemmas.List.Sums.{sum_by-cons}
+use Rattle.mime_base.specs.Format.Magic.{line_count}
+use Rattle.mime_base.specs.Format.Packed.{forest_value_length, matchlet_count, value_length}
+use Rattle.mime_base.specs.Magic.{PlainMatchlet, PlainSection, forest_of}
+use Rattle.mime_load.specs.Lent.{plain_line, plain_lines, plain_section, plain_sections}
+use Rattle.mime_load.specs.declared.section.LentSection.{LentSection}
+use Rattle.mime_load.specs.declared.line.LentLine.{LentLine}
+use Rattle.mime_base.specs.declared.meter.Meter.{Meter}
+use Rattle.mime_load.specs.Taking.{Pays, TakesLines, TakesSections}
+use Rattle.mime_load.specs.declared.taking.Taking.{Taking}
+
+-- a step after others
+pub pays_then : (old mid new : Taking) → Pays 0 0 old mid → Pays 0 0 mid new → Pays 0 0 old new
+pays_then old mid new first second = record { nodes_paid = omega arith; bytes_paid = omega arith }
+
+-- two steps, of which each pays but for some records and texts
+pub pays_both : (n m t s : ℕ) (old mid new : Taking) → Pays n t old mid → Pays m s mid new → Pays (n + m) (t + s) old new
+pays_both n m t s old mid new first second =
+    record { nodes_paid = omega (arith, first.nodes_paid, second.nodes_paid); bytes_paid = omega (arith, first.bytes_paid, second.bytes_paid) }
+
+-- no more records and texts than that
+pub pays_within : (n m t s : ℕ) (old new : Taking) → n ≤ m → t ≤ s → Pays n t old new → Pays m s old new
+pays_within n m t s old new fewer shorter paid =
+    record { nodes_paid = omega (arith, paid.nodes_paid, fewer); bytes_paid = omega (arith, paid.bytes_paid, shorter) }
+
+-- a step that pays for itself, after others
+pub pays_more : (nodes texts : ℕ) (old mid new : Taking) → Pays nodes texts old mid → Pays 0 0 mid new → Pays nodes texts old new
+pays_more nodes texts old mid new first second =
+    record { nodes_paid = omega (arith, first.nodes_paid, second.nodes_paid); bytes_paid = omega (arith, first.bytes_paid, second.bytes_paid) }
+
+-- the lines of a list, and of one more
+count_push : (xs : List PlainMatchlet) (y : PlainMatchlet)
+    → line_count (forest_of (xs ++ y ∷ [])) ≡ line_count (forest_of xs) + line_count (forest_of (y ∷ []))
+count_push [] y = omega arith
+count_push (x ∷ xs) y = omega (arith, count_push xs y)
+
+-- their values
+values_push : (xs : List PlainMatchlet) (y : PlainMatchlet)
+    → forest_value_length (forest_of (xs ++ y ∷ [])) ≡ forest_value_length (forest_of xs) + forest_value_length (forest_of (y ∷ []))
+values_push [] y = omega arith
+values_push (x ∷ xs) y = omega (arith, values_push xs y)
+
+-- a line after others
+pub lines_taken : (old mid new : Taking) (xs : List LentLine) (m : LentLine) → TakesLines old mid (forest_of (plain_lines xs))
+    → TakesLines mid new (forest_of (plain_lines (m ∷ []))) → TakesLines old new (forest_of (plain_lines (xs ++ m ∷ [])))
+lines_taken old mid new xs m before one =
+    subst (λ (ps : List PlainMatchlet). TakesLines old new (forest_of ps)) (sym (map_push plain_line xs m)) (record {
+      records = omega (arith, before.records, one.records, count_push (plain_lines xs) (plain_line m));
+      value_bytes = omega (arith, before.value_bytes, one.value_bytes, values_push (plain_lines xs) (plain_line m));
+    })
+
+-- the lines of sections, and of one more
+matchlets_push : (xs : List PlainSection) (y : PlainSection)
+    → matchlet_count (xs ++ y ∷ []) ≡ matchlet_count xs + matchlet_count (y ∷ [])
+matchlets_push [] y = omega arith
+matchlets_push (x ∷ xs) y =
+    omega (
+      arith,
+      matchlets_push xs y,
+      sum_by-cons (λ (s : PlainSection). line_count s.lines) x xs,
+      sum_by-cons (λ (s : PlainSection). line_count s.lines) x (xs ++ y ∷ []),
+    )
+
+-- their values
+value_lengths_push : (xs : List PlainSection) (y : PlainSection)
+    → value_length (xs ++ y ∷ []) ≡ value_length xs + value_length (y ∷ [])
+value_lengths_push [] y = omega arith
+value_lengths_push (x ∷ xs) y =
+    omega (
+      arith,
+      value_lengths_push xs y,
+      sum_by-cons (λ (s : PlainSection). forest_value_length s.lines) x xs,
+      sum_by-cons (λ (s : PlainSection). forest_value_length s.lines) x (xs ++ y ∷ []),
+    )
+
+-- a section after others
+pub sections_taken : (old mid new : Taking) (xs : List LentSection) (s : LentSection) → TakesSections old mid (plain_sections xs)
+    → TakesSections mid new (plain_section s ∷ []) → TakesSections old new (plain_sections (xs ++ s ∷ []))
+sections_taken old mid new xs s before one =
+    subst (TakesSections old new) (sym (map_push plain_section xs s)) (record {
+      records =
+          omega (
+            arith,
+            before.records,
+            one.records,
+            matchlets_push (plain_sections xs) (plain_section s),
+            length_push (plain_sections xs) (plain_section s),
+          );
+      value_bytes = omega (arith, before.value_bytes, one.value_bytes, value_lengths_push (plain_sections xs) (plain_section s));
+    })
+
+-- a count and that many pairs of a list in the cache
+pub pays_list : (c : List ℕ) (i : ℕ) (old mid new : Taking) → Pays 1 0 old mid → Pays i (2 * i) mid new → 8 * i ≤ length c
+    → Pays (1 + length c / 8) (length c / 4) old new
+pays_list c i old mid new first rest inside =
+    pays_within (1 + i) (1 + length c / 8) (0 + 2 * i) (length c / 4) old new (omega (arith, inside)) (omega (arith, inside))
+    (pays_both 1 i 0 (2 * i) old mid new first rest)
+
+-- and of one more
+pub pays_list_more : (c : List ℕ) (i : ℕ) (old mid last new : Taking) → Pays 1 0 old mid → Pays i (2 * i) mid last → Pays 1 2 last new
+    → 8 * (i + 1) ≤ length c → Pays (1 + length c / 8) (length c / 4) old new
+pays_list_more c i old mid last new first rest one inside =
+    pays_within (1 + (i + 1)) (1 + length c / 8) (0 + (2 * i + 2)) (length c / 4) old new (omega (arith, inside)) (omega (arith, inside))
+    (pays_both 1 (i + 1) 0 (2 * i + 2) old mid new first (pays_both i 1 (2 * i) 2 mid last new rest one))
+
+-- a count and the entries of a parent list in the cache
+pub pays_entries : (c : List ℕ) (i : ℕ) (old mid new : Taking) → Pays 1 0 old mid → Pays (2 * i) i mid new → 8 * i ≤ length c
+    → Pays (1 + length c / 4) (length c / 8) old new
+pays_entries c i old mid new first rest inside =
+    pays_within (1 + 2 * i) (1 + length c / 4) (0 + i) (length c / 8) old new (omega (arith, inside)) (omega (arith, inside))
+    (pays_both 1 (2 * i) 0 i old mid new first rest)
+
+-- and one more
+pub pays_entries_more : (c : List ℕ) (i : ℕ) (old mid last new : Taking) → Pays 1 0 old mid → Pays (2 * i) i mid last → Pays 2 1 last new
+    → 8 * (i + 1) ≤ length c → Pays (1 + length c / 4) (length c / 8) old new
+pays_entries_more c i old mid last new first rest one inside =
+    pays_within (1 + (2 * i + 2)) (1 + length c / 4) (0 + (i + 1)) (length c / 8) old new (omega (arith, inside)) (omega (arith, inside))
+    (pays_both 1 (2 * i + 2) 0 (i + 1) old mid new first (pays_both (2 * i) 2 i 1 mid last new rest one))
+
+-- a count, the room of that many parents, and so many of them
+pub pays_parents : (count i : ℕ) (old mid taken new : Taking) → Pays 1 0 old mid → taken.records + 4 * count ≡ mid.records
+    → taken.value_bytes ≡ mid.value_bytes → taken.meter ≡ mid.meter → Pays i i taken new → i ≤ count → Pays 1 0 old new
+pays_parents count i old mid taken new first records values meter rest within =
+    let nodes : taken.meter.nodes ≡ mid.meter.nodes = ap (λ (m : Meter). m.nodes) meter in
+    let bytes : taken.meter.bytes ≡ mid.meter.bytes = ap (λ (m : Meter). m.bytes) meter in
+    record {
+      nodes_paid = omega (arith, first.nodes_paid, rest.nodes_paid, records, nodes, within);
+      bytes_paid = omega (arith, first.bytes_paid, rest.bytes_paid, records, values, bytes, within);
+    }
+
+-- and one more
+pub pays_parents_more : (count i : ℕ) (old mid taken last new : Taking) → Pays 1 0 old mid → taken.records + 4 * count ≡ mid.records
+    → taken.value_bytes ≡ mid.value_bytes → taken.meter ≡ mid.meter → Pays i i taken last → Pays 1 1 last new → i < count → Pays 1 0 old new
+pays_parents_more count i old mid taken last new first records values meter rest one within =
+    pays_parents count (i + 1) old mid taken new first records values meter (pays_both i 1 i 1 taken last new rest one) (omega (arith, within))

@@ -1,0 +1,22 @@
+use Rattle.std.proofs.Common.{◌≡◌, ◌+◌, ◌-◌, ◌*◌, ◌≤◌, length}
+use Rattle.mime_load.specs.Lent.{plain_leaves}
+use Rattle.mime_load.specs.Taking.{Pays}
+use Rattle.mime_load.specs.Walks.{Walked}
+use Rattle.mime_load.proofs.suffix_tree.+siblings.Given as goal
+
+abbrev pub decreases-read_sibling : goal.decreases-read_sibling
+decreases-read_sibling l = 2 * (254 - length l.ending.now)
+
+abbrev pub decreases-read_siblings : goal.decreases-read_siblings
+decreases-read_siblings l = 2 * (254 - length l.ending.now) + 1
+
+abbrev pub invariant-read_siblings-loop-done : goal.invariant-read_siblings-loop-done
+invariant-read_siblings-loop-done l = record {
+  walked : Walked l.source.counted.now (l.first + 12 * (l.count - l.done)) l.done l.initial.ending l.next (plain_leaves l.initial.rules.items)
+      (plain_leaves l.rules.items) l.initial.taking.records l.taking.records;
+  ending : l.ending ≡ l.initial.ending;
+  some : 1 ≤ l.next;
+  fits : l.next ≤ 256;
+  value_bytes : l.taking.value_bytes ≡ l.initial.taking.value_bytes;
+  pays : Pays 0 0 l.initial.taking l.taking;
+}

@@ -1,0 +1,47 @@
+-- What is read back of a suffix tree.
+use Rattle.std.specs.Prelude.{◌≡◌, ℕ, ◌+◌, ◌*◌, ◌<◌, ◌&&◌, ◌==◌, Bool, not, length, true, List, ◌∷◌, ◌++◌, reverse}
+use Rattle.mime_base.specs.Cache.Bytes.{Stands}
+use Rattle.mime_base.specs.Database.Limits.{KeepsLimits}
+use Rattle.mime_base.specs.Format.Records.{TextAt}
+use Rattle.mime_base.specs.Format.Stored.{is_in_tree, is_suffix_class, stored_text, weight_and_flags}
+use Rattle.mime_base.specs.Kept.{class_of}
+use Rattle.mime_base.specs.Format.Tree.{InOrder, Tree, TreeAt, bare, leaf, node, node_count, sibling_count}
+use Rattle.mime_base.specs.declared.database.rule.GlobRule.{GlobRule}
+use Rattle.mime_view.specs.Listing.Reads.{rules_in}
+
+-- a pattern of the tree: a star with a plain ending after it
+abbrev pub is_suffix : List ℕ → Bool
+is_suffix pattern = is_suffix_class (class_of pattern) && not (length pattern == 1)
+
+-- a rule of the tree that keeps its limits, and whose stored text is a star and this ending
+abbrev pub Ends : List ℕ → GlobRule → Type 0
+Ends ending rule = (stored_text rule ≡ 42 ∷ ending) × (is_in_tree rule ≡ true) × KeepsLimits rule
+
+-- each leaf's rule ends as its path says, below an ending
+abbrev pub Ended : List ℕ → Tree → Type 0
+Ended ending bare = Unit {0}
+Ended ending (leaf rule rest) = Ends ending rule × Ended ending rest
+Ended ending (node character below rest) = Ended (character ∷ ending) below × Ended ending rest
+
+-- the rule of a leaf with these second and third numbers, below an ending
+pub record IsLeafRule (c : List ℕ) (kind flags : ℕ) (ending : List ℕ) (rule : GlobRule) : Type 0 where
+  pub flags_are : flags ≡ weight_and_flags rule
+  pub kind_stands : TextAt (Stands c) kind rule.kind
+  pub ends : Ends ending rule
+
+-- That many siblings stand from `at` on, below an ending. A sibling before them has a character below `next`.
+pub record Walked (c : List ℕ) (at count : ℕ) (ending : List ℕ) (next : ℕ) (before after : List GlobRule) (old new : ℕ) : Type 0 where
+  -- They are these, with what is below them.
+  pub tree : Tree
+  -- They stand.
+  pub stand : TreeAt (Stands c) at tree
+  -- They are in order after any lower character.
+  pub ordered : (character : ℕ) → character < next → InOrder character tree
+  -- Each leaf's rule ends as its path says.
+  pub ended : Ended ending tree
+  -- There are so many.
+  pub siblings : sibling_count tree ≡ count
+  -- Their rules were added, from the last to the first.
+  pub rules : after ≡ before ++ reverse (rules_in tree)
+  -- Their nodes took twelve bytes each.
+  pub nodes : new + 12 * node_count tree ≡ old

@@ -1,0 +1,66 @@
+//! An ending of names, which grows to the front on the way down the suffix tree.
+
+ghost use Rattle.std.specs.Prelude.{◌≡◌, ◌<◌, [], ◌∷◌, length, drop, OnOk, IfOk};
+
+use crate::unread::Unread;
+use std::alloc::Global;
+use std::marker::Model;
+
+/// An ending of names.
+#[derive(Drop)]
+pub struct NameEnding {
+    /// Its bytes, from the last to the first.
+    path: Vec<u8>,
+}
+
+impl Model for NameEnding {
+    ghost use Rattle.std.specs.Prelude.{ℕ, List, reverse};
+
+    ghost Value = { List ℕ };
+
+    ghost view = { λ ending. reverse ending.path.items };
+}
+
+impl NameEnding {
+    /// The ending of no bytes. It never allocates.
+    pub fn none(alloc: Global) -> NameEnding
+        ensures { result ≡ [] }
+    {
+        NameEnding {
+            path: Vec::new(alloc),
+        }
+    }
+
+    /// How many bytes it has.
+    pub fn length(&self) -> usize
+        ensures { result ≡ length self.now }
+    {
+        self.path.len()
+    }
+
+    /// Puts a byte before it.
+    pub fn grow(&mut self, byte: u8) -> Result<(), Unread>
+        ensures grown { OnOk result (self.new ≡ byte ∷ self.old) }
+    {
+        self.path.push(byte)?;
+        Ok(())
+    }
+
+    /// Takes its first byte away.
+    pub fn shrink(&mut self)
+        ensures { self.new ≡ drop 1 self.old }
+    {
+        let _ = self.path.pop();
+    }
+
+    /// The pattern of the names that end so: a `*`, and the ending.
+    pub fn pattern(&self, alloc: Global) -> Result<Vec<u8>, Unread>
+        ensures pattern { IfOk result (λ pattern. pattern.items ≡ 42 ∷ self.now) }
+    {
+        let mut pattern = Vec::with_capacity(alloc, self.path.len() + 1)?;
+        pattern.extend_from_slice(&self.path)?;
+        pattern.push(b'*')?;
+        pattern.reverse();
+        Ok(pattern)
+    }
+}

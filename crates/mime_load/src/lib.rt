@@ -1,0 +1,51 @@
+//! The inverse of the writer: the bytes of a cache are read back into the lists that they spell, lent from the bytes.
+//!
+//! It promises that what is read back is spelled by the bytes, by the definitions of mime_base that the writer and the reader of
+//! caches share, whatever the bytes are; or it names the first part that is not read back.
+//!
+//! ```text
+//! let lists = read_back(alloc, &Counted::new(&bytes), &mut meter)?;
+//! // the rules, pairs and sections of the cache, or `LoadFault::NoDatabase(Part::Magic)`
+//! ```
+//!
+//! Read `reading_back` first: it reads each part in turn. `pairs`, `parents`, `rules`, `suffix_tree` and `sections` read the part of
+//! their name and can be called alone. `taking` bounds what is read by the cache's length, whatever records share or repeat.
+#![tactic(auto)]
+
+mod ending;
+mod extent;
+mod leaf;
+mod line;
+mod lines;
+mod lists;
+mod order;
+mod own;
+mod pair;
+mod pairs;
+mod parents;
+mod part;
+mod reading;
+mod reading_back;
+mod rules;
+mod section;
+mod sections;
+mod source;
+mod suffix_tree;
+mod taking;
+mod unread;
+
+pub use leaf::LeafRule;
+pub use line::LentLine;
+pub use lists::Lists;
+pub use pair::LentPair;
+pub use pairs::{aliases_at, icons_at};
+pub use parents::parents_at;
+pub use part::{LoadFault, Part};
+pub use reading_back::read_back;
+pub use rules::{globs_at, literals_at};
+pub use section::LentSection;
+pub use sections::sections_at;
+pub use source::Source;
+pub use suffix_tree::leaves_at;
+pub use taking::{Taking, room_of};
+pub use unread::Unread;

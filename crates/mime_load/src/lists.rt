@@ -1,0 +1,27 @@
+//! The lists of a cache.
+
+use crate::leaf::LeafRule;
+use crate::pair::LentPair;
+use crate::section::LentSection;
+use mime_base::LentRule;
+
+/// What a cache spells, lent from its bytes. This project's own.
+#[derive(Debug, Drop)]
+pub struct Lists<'a> {
+    /// The aliases with their types, sorted by the aliases.
+    pub aliases: Vec<LentPair<'a>>,
+    /// The types with their parents, sorted by the types.
+    pub parents: Vec<LentPair<'a>>,
+    /// The rules of the literal list, sorted by their patterns.
+    pub literals: Vec<LentRule<'a>>,
+    /// The rules of the suffix tree, in the order of its leaves.
+    pub leaves: Vec<LeafRule<'a>>,
+    /// The rules of the glob list, in its order.
+    pub globs: Vec<LentRule<'a>>,
+    /// The sections of magic, in the order of the list.
+    pub sections: Vec<LentSection<'a>>,
+    /// The types with their icons, sorted by the types.
+    pub icons: Vec<LentPair<'a>>,
+    /// The types with their generic icons, sorted by the types.
+    pub generic_icons: Vec<LentPair<'a>>,
+}

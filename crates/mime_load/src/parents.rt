@@ -1,0 +1,118 @@
+//! The parent list.
+
+ghost use Rattle.std.specs.Prelude.{◌≡◌, ◌<◌, ◌≤◌, ◌+◌, ◌*◌, ◌/◌, ◌^◌, ℕ, List, true, false, length, map, IfOk};
+ghost use Rattle.mime_base.specs.Cache.Bytes.{Stands};
+ghost use Rattle.mime_base.specs.Format.Parents.{IsName, ParentsAt};
+ghost use Rattle.mime_base.specs.Format.Sorted.{text_lt};
+ghost use Rattle.mime_load.specs.Lent.{plain_pairs};
+ghost use Rattle.mime_load.specs.ParentLists.{Adds, IsEntry};
+ghost use Rattle.mime_load.specs.Parts.{RecordAt};
+ghost use Rattle.mime_load.specs.Taking.{Pays};
+
+use crate::order::text_lt;
+use crate::pair::LentPair;
+use crate::reading::{read_count, read_numbers, read_text};
+use crate::source::Source;
+use crate::taking::{Taking, take_records};
+use crate::unread::Unread;
+
+/// How many bytes the record of a parent has.
+const PARENT: u64 = 4;
+
+/// The types with their parents of the parent list at `at`, sorted by the types ("The mime.cache files"). The parents' records are
+/// taken.
+pub fn parents_at<'a>(
+    source: &Source<'_, 'a>,
+    at: u32,
+    taking: &mut Taking,
+) -> Result<Vec<LentPair<'a>>, Unread>
+    // A parent list of these pairs stands there.
+    ensures stand { IfOk result (λ pairs. ParentsAt (Stands source.now.counted.now) at (plain_pairs pairs.items)) }
+    // They take four bytes each.
+    ensures taken { IfOk result (λ pairs. taking.new.records + 4 * length pairs.items ≡ taking.old.records) }
+    // They take no room of values.
+    ensures value_bytes { taking.new.value_bytes ≡ taking.old.value_bytes }
+    // Besides, at most a record for each four bytes of the cache was visited, and a text for each eight read.
+    ensures pays { Pays (1 + length source.now.counted.now / 4) (length source.now.counted.now / 8) taking.old taking.new }
+{
+    let start = u64::from(at);
+    let count = read_count(source, start, 8, taking)?;
+    let mut pairs = Vec::new(source.alloc);
+    let mut previous: &[u8] = &[];
+    for i in 0..count {
+        let kind = read_entry(source, start + 4 + 8 * u64::from(i), &mut pairs, taking)?;
+        if !comes_next(i, previous, kind) {
+            return Err(Unread::NotSpelled);
+        }
+        previous = kind;
+    }
+    Ok(pairs)
+}
+
+/// Whether a type is after the previous one, if any was read.
+fn comes_next(read: u32, previous: &[u8], kind: &[u8]) -> bool
+    ensures { result ≡ true → 0 < read → text_lt previous.now kind.now ≡ true }
+{
+    read == 0 || text_lt(previous, kind)
+}
+
+/// Adds the pairs of the type of the entry at `at`, which it gives.
+fn read_entry<'a>(
+    source: &Source<'_, 'a>,
+    at: u64,
+    pairs: &mut Vec<LentPair<'a>>,
+    taking: &mut Taking,
+) -> Result<&'a [u8], Unread>
+    ensures entry { IfOk result (λ kind. IsEntry source.now.counted.now at kind.now (plain_pairs pairs.old.items) (plain_pairs pairs.new.items)) }
+    ensures taken { IfOk result (λ kind. taking.new.records + 4 * length pairs.new.items ≡ taking.old.records + 4 * length pairs.old.items) }
+    ensures value_bytes { taking.new.value_bytes ≡ taking.old.value_bytes }
+    ensures pays { Pays 2 1 taking.old taking.new }
+{
+    let numbers = read_numbers::<2>(source, at, taking)?;
+    let [first, list] = numbers;
+    let kind = read_text(source, first, taking)?;
+    read_parents(source, u64::from(list), kind, pairs, taking)?;
+    Ok(kind)
+}
+
+/// Adds the pairs of a type and its parents, of which the list at `at` has some.
+fn read_parents<'a>(
+    source: &Source<'_, 'a>,
+    at: u64,
+    kind: &'a [u8],
+    pairs: &mut Vec<LentPair<'a>>,
+    taking: &mut Taking,
+) -> Result<(), Unread>
+    requires at { at < 2 ^ 32 }
+    ensures adds { IfOk result (λ _. Adds source.now.counted.now at kind.now (plain_pairs pairs.old.items) (plain_pairs pairs.new.items)) }
+    ensures taken { IfOk result (λ _. taking.new.records + 4 * length pairs.new.items ≡ taking.old.records + 4 * length pairs.old.items) }
+    ensures value_bytes { taking.new.value_bytes ≡ taking.old.value_bytes }
+    ensures pays { Pays 1 0 taking.old taking.new }
+{
+    let count = read_count(source, at, PARENT, taking)?;
+    if count == 0 {
+        return Err(Unread::NotSpelled);
+    }
+    take_records(PARENT * u64::from(count), taking)?;
+    for i in 0..count {
+        let target = read_parent(source, at + 4 + 4 * u64::from(i), taking)?;
+        pairs.push(LentPair { name: kind, target })?;
+    }
+    Ok(())
+}
+
+/// The parent whose offset stands at `at`.
+fn read_parent<'a>(
+    source: &Source<'_, 'a>,
+    at: u64,
+    taking: &mut Taking,
+) -> Result<&'a [u8], Unread>
+    ensures stands { IfOk result (λ target. RecordAt (Stands source.now.counted.now) (IsName (Stands source.now.counted.now)) at target.now) }
+    ensures records { taking.new.records ≡ taking.old.records }
+    ensures value_bytes { taking.new.value_bytes ≡ taking.old.value_bytes }
+    ensures pays { Pays 1 1 taking.old taking.new }
+{
+    let numbers = read_numbers::<1>(source, at, taking)?;
+    let [text] = numbers;
+    read_text(source, text, taking)
+}

@@ -1,0 +1,188 @@
+//! The reverse suffix tree ("The mime.cache files").
+//!
+//! Siblings are read from the last to the first, so that what was read is a tree to which one more is put in front, and the
+//! rules come from the last to the first.
+
+ghost use Rattle.std.specs.Prelude.{◌≡◌, ℕ, ◌+◌, ◌*◌, ◌^◌, ◌<◌, ◌≤◌, true, List, length, IfOk, OnOk};
+ghost use Rattle.mime_base.specs.Format.SuffixTree.{tree_size};
+ghost use Rattle.mime_base.specs.declared.database.rule.GlobRule.{GlobRule};
+ghost use Rattle.mime_load.specs.Lent.{plain_leaf, plain_leaves};
+ghost use Rattle.mime_load.specs.Parts.{IsTreeList};
+ghost use Rattle.mime_load.specs.Taking.{Pays};
+ghost use Rattle.mime_load.specs.Walks.{IsLeafRule, Walked, is_suffix};
+
+use crate::ending::NameEnding;
+use crate::leaf::LeafRule;
+use crate::reading::{read_numbers, read_text};
+use crate::rules::{are_bytes, is_as_compared};
+use crate::source::Source;
+use crate::taking::{Taking, take_records};
+use crate::unread::Unread;
+use mime_base::{Class, class_of_bytes};
+
+/// The most characters on the way to a leaf.
+const DEEPEST: usize = 254;
+
+/// How many bytes the record of a sibling has.
+const SIBLING: u64 = 12;
+
+/// The rules of the leaves of the tree at `at`, in their order. Its nodes' records are taken.
+pub fn leaves_at<'a>(
+    source: &Source<'_, 'a>,
+    at: u32,
+    taking: &mut Taking,
+) -> Result<Vec<LeafRule<'a>>, Unread>
+    // A tree of these rules stands there, and they keep their limits.
+    ensures stand { IfOk result (λ rules. IsTreeList source.now.counted.now at (plain_leaves rules.items)) }
+    // Its nodes, leaves included, take twelve bytes each.
+    ensures taken { IfOk result (λ rules. taking.new.records + 12 * tree_size (plain_leaves rules.items) ≡ taking.old.records) }
+    // They take no room of values.
+    ensures value_bytes { taking.new.value_bytes ≡ taking.old.value_bytes }
+    // One record was visited besides.
+    ensures pays { Pays 1 0 taking.old taking.new }
+{
+    let numbers = read_numbers::<2>(source, u64::from(at), taking)?;
+    let [count, first] = numbers;
+    let mut ending = NameEnding::none(source.alloc);
+    let mut rules = Vec::new(source.alloc);
+    read_siblings(
+        source,
+        u64::from(first),
+        u64::from(count),
+        &mut ending,
+        &mut rules,
+        taking,
+    )?;
+    rules.reverse();
+    Ok(rules)
+}
+
+/// Reads the `count` siblings from `first` on, to which an ending leads.
+#[cycle(siblings)]
+fn read_siblings<'a>(
+    source: &Source<'_, 'a>,
+    first: u64,
+    count: u64,
+    ending: &mut NameEnding,
+    rules: &mut Vec<LeafRule<'a>>,
+    taking: &mut Taking,
+) -> Result<(), Unread>
+    requires first { first < 2 ^ 32 }
+    requires count { count < 2 ^ 32 }
+    // The ending is no longer than the deepest.
+    requires depth { length ending.old ≤ 254 }
+    // They stand, and their rules are added, from the last to the first.
+    ensures walked { OnOk result (Walked source.now.counted.now first count ending.old 1 (plain_leaves rules.old.items) (plain_leaves rules.new.items)
+        taking.old.records taking.new.records) }
+    // The ending is then as it was.
+    ensures ending_stays { OnOk result (ending.new ≡ ending.old) }
+    ensures value_bytes { taking.new.value_bytes ≡ taking.old.value_bytes }
+    ensures pays { Pays 0 0 taking.old taking.new }
+{
+    let mut next = 256;
+    for done in 0..count {
+        let at = first + 12 * (count - 1 - done);
+        let before = read_sibling(source, at, next, ending, rules, taking)?;
+        next = before;
+    }
+    Ok(())
+}
+
+/// Reads the sibling at `at`, whose character is below `next`; then the character below which those before it are.
+#[cycle(siblings)]
+fn read_sibling<'a>(
+    source: &Source<'_, 'a>,
+    at: u64,
+    next: u32,
+    ending: &mut NameEnding,
+    rules: &mut Vec<LeafRule<'a>>,
+    taking: &mut Taking,
+) -> Result<u32, Unread>
+    // The character after it fits.
+    requires next { (1 ≤ next) × (next ≤ 256) }
+    // The ending is no longer than the deepest.
+    requires depth { length ending.old ≤ 254 }
+    // It stands before those that were read after it.
+    ensures walked { IfOk result (λ before. (count before_left : ℕ) (first : List GlobRule) →
+        Walked source.now.counted.now (at + 12) count ending.old next first (plain_leaves rules.old.items) before_left taking.old.records →
+        Walked source.now.counted.now at (count + 1) ending.old before first (plain_leaves rules.new.items) before_left taking.new.records) }
+    // The character before it fits.
+    ensures fits { IfOk result (λ before. (1 ≤ before) × (before ≤ 256)) }
+    // The ending is then as it was.
+    ensures ending_stays { IfOk result (λ before. ending.new ≡ ending.old) }
+    ensures value_bytes { taking.new.value_bytes ≡ taking.old.value_bytes }
+    ensures pays { Pays 0 0 taking.old taking.new }
+{
+    take_records(SIBLING, taking)?;
+    let numbers = read_numbers::<3>(source, at, taking)?;
+    let [character, second, third] = numbers;
+    if next <= character {
+        return Err(Unread::NotSpelled);
+    }
+    if character == 0 {
+        let rule = read_leaf(source, second, third, ending, taking)?;
+        rules.push(rule)?;
+        return Ok(1);
+    }
+    if ending.length() == DEEPEST {
+        return Err(Unread::NotSpelled);
+    }
+    let before = rules.len();
+    ending.grow(character as u8)?;
+    read_siblings(
+        source,
+        u64::from(third),
+        u64::from(second),
+        ending,
+        rules,
+        taking,
+    )?;
+    if rules.len() == before {
+        return Err(Unread::NotSpelled);
+    }
+    ending.shrink();
+    Ok(character)
+}
+
+/// The rule of a leaf with these second and third numbers, to which an ending leads.
+fn read_leaf<'a>(
+    source: &Source<'_, 'a>,
+    kind: u32,
+    flags: u32,
+    ending: &NameEnding,
+    taking: &mut Taking,
+) -> Result<LeafRule<'a>, Unread>
+    // The ending is no longer than the deepest.
+    requires depth { length ending.now ≤ 254 }
+    // It is the leaf's.
+    ensures is { IfOk result (λ rule. IsLeafRule source.now.counted.now kind flags ending.now (plain_leaf rule)) }
+    ensures records { taking.new.records ≡ taking.old.records }
+    ensures value_bytes { taking.new.value_bytes ≡ taking.old.value_bytes }
+    ensures pays { Pays 0 1 taking.old taking.new }
+{
+    let kind = read_text(source, kind, taking)?;
+    let cased = 256 <= flags;
+    let pattern = ending.pattern(source.alloc)?;
+    let text: &[u8] = &pattern;
+    if 512 <= flags || !is_as_compared(cased, text) || !is_in_tree(text) {
+        return Err(Unread::NotSpelled);
+    }
+    are_bytes(text);
+    Ok(LeafRule {
+        weight: (flags % 256) as u8,
+        kind,
+        pattern,
+        cased,
+    })
+}
+
+/// Whether a rule of this pattern belongs to the tree.
+fn is_in_tree(pattern: &[u8]) -> bool
+    ensures { result ≡ is_suffix pattern.now }
+{
+    match class_of_bytes(pattern) {
+        Class::Literal => false,
+        Class::Suffix => pattern.len() != 1,
+        Class::Full => false,
+    }
+}
