@@ -1,3 +1,4 @@
 -- Lemmas on `build`.
 pub mod BuildOvers
 pub mod Builds
+pub mod Prints

@@ -6,7 +6,9 @@ pub mod DirectoryLoops
 pub mod DirectorySteps
 pub mod MagicFiles
 pub mod Merges
+pub mod Missing
 pub mod Notices
+pub mod Passing
 pub mod SaidDatabases
 pub mod SaidDirs
 pub mod SaidTexts

@@ -1,6 +1,7 @@
 -- What `build` stores, and what it says.
-use Rattle.std.specs.Prelude.{◌≡◌, ◌≢◌, ◌⊎◌, ◌<◌, ◌≤◌, ℕ, Bool, true, if◌then◌else◌, List, [], ◌++◌, Option, Some}
+use Rattle.std.specs.Prelude.{◌≡◌, ◌≢◌, ◌⊎◌, ◌<◌, ◌≤◌, ℕ, Bool, true, false, if◌then◌else◌, List, [], ◌++◌, Option, Some, None}
 use Rattle.std.specs.Prelude.{Result, Ok, Err, Vec, codes, length, string_bytes}
+use Rattle.std.specs.Str.{bytes_eq}
 use Rattle.std.specs.declared.alloc.Global.{Global}
 use Rattle.mime_base.specs.Database.{PlainDatabase}
 use Rattle.mime_base.specs.Format.Packed.{Packed}
@@ -12,7 +13,7 @@ use Rattle.mime_request.specs.Request.{PlainDirectories}
 use Rattle.mime_tool.specs.Directories.{IsCommand, IsDatabaseOf}
 use Rattle.mime_tool.specs.Environment.{PlainEnvironment}
 use Rattle.mime_tool.specs.Files.{Replaced, Stored, Untouched, Writing, fails, succeeds}
-use Rattle.mime_tool.specs.Run.{Run, cannot_write, cut_short, silent, stopped, stops}
+use Rattle.mime_tool.specs.Run.{Run, cannot_write, cut_short, printed, silent, stopped, stops}
 use Rattle.mime_tool.specs.declared.stop.Stop.{Stop}
 use Rattle.mime_tool.specs.declared.stop.Stop.TheVariants as stop
 
@@ -59,21 +60,59 @@ IsBuildOver file writing old new database run =
     ⊎ ((IsBuilt file old new database × (writing ≢ fails) × (run ≡ silent))
     ⊎ (Untouched (temp_of file) old new × (run ≡ cut_short))))
 
--- the run of `build` over these directories, with their twins or without; where it stops, the file is as it was
-abbrev pub IsBuild : Option PlainEnvironment → PlainDirectories → Bool → List ℕ → (List ℕ → List ℕ → Writing) → (List ℕ → Stored)
+-- the run of `build` to a file over these directories, with their twins or without; where they have no text file and the file is
+-- there, that stops, and where it stops, the file is as it was
+abbrev pub IsReplaced : Option PlainEnvironment → PlainDirectories → Bool → List ℕ → (List ℕ → List ℕ → Writing) → (List ℕ → Stored)
     → (List ℕ → Stored) → List (List ℕ) → Run → Type 0
-IsBuild environment dirs drop_twins file writes old new files run =
-    IsCommand old environment dirs
+IsReplaced environment dirs drop_twins file writes old new files run =
+    IsCommand old (Some file) environment dirs
     (λ database _. IsBuildOver file (writing_of writes file) old new (written_of drop_twins database)) files run
     × (stops run ≡ true → Untouched (temp_of file) old new)
 
--- what `build` may leave stored, however it ends: the file is as it was, or it is a cache of the database
--- of these directories, with its twins or without
-abbrev pub LeavesBuilt : Option PlainEnvironment → PlainDirectories → Bool → List ℕ → (List ℕ → Stored) → (List ℕ → Stored) → Type 0
-LeavesBuilt environment dirs drop_twins file old new =
+-- the message where standard output is a terminal
+abbrev pub no_terminal : List ℕ
+no_terminal = codes "mimelook: no cache is written to a terminal\n"
+
+-- the run over a database whose cache is printed: there can be none; or it is printed; or memory ran out before that
+abbrev pub IsPrintOver : PlainDatabase → Run → Type 0
+IsPrintOver database run =
+    ((cache_limit < room database) × (run ≡ stopped too_large silent))
+    ⊎ (((room database ≤ cache_limit) × ((cache : List ℕ) × IsCacheOf database cache × (run ≡ printed cache)))
+    ⊎ (run ≡ cut_short))
+
+-- the run of `build` to standard output, which is a terminal or isn't
+abbrev pub IsPrinted : Bool → (List ℕ → Stored) → Option PlainEnvironment → PlainDirectories → Bool → List (List ℕ) → Run → Type 0
+IsPrinted true stored environment dirs drop_twins files run = run ≡ stopped no_terminal silent
+IsPrinted false stored environment dirs drop_twins files run =
+    IsCommand stored None environment dirs (λ database _. IsPrintOver (written_of drop_twins database)) files run
+
+-- whether a file stands for standard output: a hyphen does
+abbrev pub is_output : List ℕ → Bool
+is_output file = bytes_eq file (codes "-")
+
+-- the run of `build`, to standard output or to a file
+abbrev pub IsBuildWhere : Bool → Option PlainEnvironment → Bool → PlainDirectories → Bool → List ℕ → (List ℕ → List ℕ → Writing)
+    → (List ℕ → Stored) → (List ℕ → Stored) → List (List ℕ) → Run → Type 0
+IsBuildWhere true environment to_terminal dirs drop_twins file writes old new = IsPrinted to_terminal old environment dirs drop_twins
+IsBuildWhere false environment to_terminal dirs drop_twins file writes old new = IsReplaced environment dirs drop_twins file writes old new
+
+-- the run of `build` with this file
+abbrev pub IsBuild : Option PlainEnvironment → Bool → PlainDirectories → Bool → List ℕ → (List ℕ → List ℕ → Writing)
+    → (List ℕ → Stored) → (List ℕ → Stored) → List (List ℕ) → Run → Type 0
+IsBuild environment to_terminal dirs drop_twins file = IsBuildWhere (is_output file) environment to_terminal dirs drop_twins file
+
+-- what `build` may leave stored, however it ends: all that was, where the cache is printed; else the file is as it was, or it is a
+-- cache of the database of these directories, with its twins or without
+abbrev pub LeavesWhere : Bool → Option PlainEnvironment → PlainDirectories → Bool → List ℕ → (List ℕ → Stored) → (List ℕ → Stored) → Type 0
+LeavesWhere true environment dirs drop_twins file old new = new ≡ old
+LeavesWhere false environment dirs drop_twins file old new =
     Untouched (temp_of file) old new
-    ⊎ ((database : PlainDatabase) × (messages : List ℕ) × IsDatabaseOf old environment dirs (Some database) messages
+    ⊎ ((database : PlainDatabase) × (messages : List ℕ) × IsDatabaseOf old (Some file) environment dirs (Some database) messages
     × IsBuilt file old new (written_of drop_twins database))
+
+-- the same of a build with this file
+abbrev pub LeavesBuilt : Option PlainEnvironment → PlainDirectories → Bool → List ℕ → (List ℕ → Stored) → (List ℕ → Stored) → Type 0
+LeavesBuilt environment dirs drop_twins file = LeavesWhere (is_output file) environment dirs drop_twins file
 
 -- ---- the parts of `build`
 
@@ -98,11 +137,15 @@ pub record BuildsOver (database : PlainDatabase) (file : List ℕ) (before after
       after.sinks result
   pub leaves : LeavesOver file before.stored after.stored database result
 
--- the run of `build`, up to the message of a stop
-pub record Builds (environment : Option PlainEnvironment) (dirs : PlainDirectories) (drop_twins : Bool) (file : List ℕ)
-    (before after : State) (result : Result ℕ Stop) : Type 0 where
+-- the run of `build` to standard output or to a file, up to the message of a stop
+pub record BuildsWhere (output : Bool) (environment : Option PlainEnvironment) (to_terminal : Bool) (dirs : PlainDirectories)
+    (drop_twins : Bool) (file : List ℕ) (before after : State) (result : Result ℕ Stop) : Type 0 where
   pub same_setting : after.setting ≡ before.setting
   pub sinks :
-      Ends (IsBuild environment dirs drop_twins file before.setting.writes before.stored after.stored) [] before.sinks
-      after.sinks result
-  pub leaves : LeavesBuilt environment dirs drop_twins file before.stored after.stored
+      Ends (IsBuildWhere output environment to_terminal dirs drop_twins file before.setting.writes before.stored after.stored) []
+      before.sinks after.sinks result
+  pub leaves : LeavesWhere output environment dirs drop_twins file before.stored after.stored
+
+-- the run of `build` with this file
+abbrev pub Builds : Option PlainEnvironment → Bool → PlainDirectories → Bool → List ℕ → State → State → Result ℕ Stop → Type 0
+Builds environment to_terminal dirs drop_twins file = BuildsWhere (is_output file) environment to_terminal dirs drop_twins file

@@ -1,5 +1,5 @@
 -- What the text files of data directories give, and the messages on them.
-use Rattle.std.specs.Prelude.{◌≡◌, ◌⊎◌, ℕ, Bool, true, false, List, [], ◌∷◌, ◌++◌, Option, Some, None, codes, decimal, if◌then◌else◌}
+use Rattle.std.specs.Prelude.{◌≡◌, ◌⊎◌, ℕ, Bool, true, false, List, [], ◌∷◌, ◌++◌, Option, Some, None, codes, decimal}
 use Rattle.std.specs.List.{flat_map, join_by}
 use Rattle.mime_base.specs.Database.{PlainDatabase}
 use Rattle.mime_base.specs.Database.PlainPairs.{plain_icons, plain_pairs}
@@ -23,7 +23,7 @@ use Rattle.mime_request.specs.Request.{PlainDirectories, named, user}
 use Rattle.mime_tool.specs.Environment.{PlainEnvironment, user_directories}
 use Rattle.mime_tool.specs.Files.{IsTextOf, IsThere, Stored}
 use Rattle.mime_tool.specs.Loading.{◌>>=◌, Gives}
-use Rattle.mime_tool.specs.Run.{Run, cannot_read, joined, refusal, said, silent, stopped}
+use Rattle.mime_tool.specs.Run.{Run, cannot_read, joined, not_replaced, refusal, said, silent, stopped}
 use Rattle.mime_tool.specs.Stop.{IsRefusal}
 use Rattle.mime_tool.specs.declared.stop.Stop.{Stop}
 use Rattle.mime_tool.specs.declared.stop.Stop.TheVariants as stop
@@ -177,21 +177,70 @@ HasFile stored names dir = OnePasses (λ name. IsThere (stored (path_of dir name
 abbrev pub HaveTextFile : (List ℕ → Stored) → List (List ℕ) → Bool → Type 0
 HaveTextFile stored = OnePasses (HasFile stored text_names)
 
--- the message on directories of which none has a text file
-abbrev pub no_text_files : List (List ℕ) → List ℕ
-no_text_files dirs = refusal (join_by (λ dir. dir) (codes ":") dirs) (codes "no text files")
+-- the first of the list that passes, if one does
+abbrev pub FirstPasses : {X : Type 0} → (X → Bool → Type 0) → List X → Option X → Type 0
+FirstPasses Passes [] first = first ≡ None
+FirstPasses Passes (x ∷ xs) first = (Passes x true × (first ≡ Some x)) ⊎ (Passes x false × FirstPasses Passes xs first)
 
--- what is said of directories before they are read: where there are some, and no text file is in one of them, just that
-abbrev pub IsNoticed : (List ℕ → Stored) → List (List ℕ) → Option (Unit {0}) → List ℕ → Type 0
-IsNoticed stored [] found messages = Gives tt found messages
-IsNoticed stored (dir ∷ dirs) found messages =
-    (one : Bool) × HaveTextFile stored (dir ∷ dirs) one × (found ≡ Some tt)
-    × (messages ≡ (if one then [] else no_text_files (dir ∷ dirs)))
+-- where the file `globs2` lies in a directory that is taken for the one before it
+abbrev pub globs2_beside : List ℕ → List ℕ
+globs2_beside dir = dir ++ codes "/globs2"
 
--- the database of directories
-unfoldable pub IsDatabase : (List ℕ → Stored) → List (List ℕ) → Option PlainDatabase → List ℕ → Type 0
-IsDatabase stored dirs = do
-  _ ← IsNoticed stored dirs
+-- what is said more of directories of which one is the folder mime of a data directory
+abbrev pub beside : Option (List ℕ) → List ℕ
+beside None = []
+beside (Some dir) = codes "; there is " ++ (dir ++ codes "/globs2: DIRS end before /mime")
+
+-- why directories of which this is the first are wrong
+abbrev pub why_missing : List ℕ → Option (List ℕ) → List ℕ
+why_missing dir one_beside = codes "no text files, such as " ++ (dir ++ (codes "/mime/globs2" ++ beside one_beside))
+
+-- the message on no directories
+abbrev pub no_directories : List ℕ
+no_directories = codes "mimelook: no data directories\n"
+
+-- what is said of directories of which none has a text file: a message names the first file that was looked for, in this one, and
+-- the first of them that is the folder mime of a data directory, if one is
+abbrev pub IsMissingFrom : (List ℕ → Stored) → List ℕ → List (List ℕ) → Option (Unit {0}) → List ℕ → Type 0
+IsMissingFrom stored first dirs found messages =
+    (found ≡ Some tt) × ((one_beside : Option (List ℕ)) × FirstPasses (λ d. IsThere (stored (globs2_beside d))) dirs one_beside
+    × (messages ≡ refusal (join_by (λ d. d) (codes ":") dirs) (why_missing first one_beside)))
+
+-- the same where there may be none
+abbrev pub IsMissing : (List ℕ → Stored) → List (List ℕ) → Option (Unit {0}) → List ℕ → Type 0
+IsMissing stored [] found messages = (found ≡ Some tt) × (messages ≡ no_directories)
+IsMissing stored (dir ∷ dirs) found messages = IsMissingFrom stored dir (dir ∷ dirs) found messages
+
+-- what comes after that where a file is kept if it is there: it is there, which is said, and that stops; or it isn't
+abbrev pub IsKeptWhere : Bool → List ℕ → Option (Unit {0}) → List ℕ → Type 0
+IsKeptWhere true file found messages = (found ≡ None) × (messages ≡ not_replaced file)
+IsKeptWhere false file found messages = Gives tt found messages
+
+-- the same where one is kept, or none
+abbrev pub IsKept : (List ℕ → Stored) → Option (List ℕ) → Option (Unit {0}) → List ℕ → Type 0
+IsKept stored None found messages = Gives tt found messages
+IsKept stored (Some file) found messages = (there : Bool) × IsThere (stored file) there × IsKeptWhere there file found messages
+
+-- what is said of directories without a text file, and of the file that is kept
+unfoldable pub IsMissingOver : (List ℕ → Stored) → Option (List ℕ) → List (List ℕ) → Option (Unit {0}) → List ℕ → Type 0
+IsMissingOver stored kept dirs = do
+  _ ← IsMissing stored dirs
+  IsKept stored kept
+
+-- what is said of directories before they are read: nothing where one has a text file
+abbrev pub IsNoticedWhere : Bool → (List ℕ → Stored) → Option (List ℕ) → List (List ℕ) → Option (Unit {0}) → List ℕ → Type 0
+IsNoticedWhere true stored kept dirs found messages = Gives tt found messages
+IsNoticedWhere false stored kept dirs found messages = IsMissingOver stored kept dirs found messages
+
+-- what is said of directories before they are read
+abbrev pub IsNoticed : (List ℕ → Stored) → Option (List ℕ) → List (List ℕ) → Option (Unit {0}) → List ℕ → Type 0
+IsNoticed stored kept dirs found messages =
+    (one : Bool) × HaveTextFile stored dirs one × IsNoticedWhere one stored kept dirs found messages
+
+-- the database of directories; where they have no text file, a file that is kept and is there stops
+unfoldable pub IsDatabase : (List ℕ → Stored) → Option (List ℕ) → List (List ℕ) → Option PlainDatabase → List ℕ → Type 0
+IsDatabase stored kept dirs = do
+  _ ← IsNoticed stored kept dirs
   IsMerged stored dirs
 
 -- the message where a variable of the environment is no text
@@ -199,14 +248,15 @@ abbrev pub not_text : List ℕ
 not_text = codes "mimelook: XDG_DATA_HOME, HOME or XDG_DATA_DIRS is not text (UTF-8)\n"
 
 -- the database of the user's directories, where the variables that name them are text
-abbrev pub IsUserDatabase : (List ℕ → Stored) → Option PlainEnvironment → Option PlainDatabase → List ℕ → Type 0
-IsUserDatabase stored None found messages = (found ≡ None) × (messages ≡ not_text)
-IsUserDatabase stored (Some environment) found messages = IsDatabase stored (user_directories environment) found messages
+abbrev pub IsUserDatabase : (List ℕ → Stored) → Option (List ℕ) → Option PlainEnvironment → Option PlainDatabase → List ℕ → Type 0
+IsUserDatabase stored kept None found messages = (found ≡ None) × (messages ≡ not_text)
+IsUserDatabase stored kept (Some environment) found messages = IsDatabase stored kept (user_directories environment) found messages
 
 -- the database of the directories that are named, or of the user's
-abbrev pub IsDatabaseOf : (List ℕ → Stored) → Option PlainEnvironment → PlainDirectories → Option PlainDatabase → List ℕ → Type 0
-IsDatabaseOf stored environment (named dirs) = IsDatabase stored dirs
-IsDatabaseOf stored environment user = IsUserDatabase stored environment
+abbrev pub IsDatabaseOf : (List ℕ → Stored) → Option (List ℕ) → Option PlainEnvironment → PlainDirectories
+    → Option PlainDatabase → List ℕ → Type 0
+IsDatabaseOf stored kept environment (named dirs) = IsDatabase stored kept dirs
+IsDatabaseOf stored kept environment user = IsUserDatabase stored kept environment
 
 -- ---- a command over a database
 
@@ -217,8 +267,8 @@ IsAfterLoading (Some database) messages IsOver files run =
     (rest : Run) × IsOver database files rest × (run ≡ joined (said messages) rest)
 
 -- the run of a command over the database of these directories
-abbrev pub IsCommand : (List ℕ → Stored) → Option PlainEnvironment → PlainDirectories
+abbrev pub IsCommand : (List ℕ → Stored) → Option (List ℕ) → Option PlainEnvironment → PlainDirectories
     → (PlainDatabase → List (List ℕ) → Run → Type 0) → List (List ℕ) → Run → Type 0
-IsCommand stored environment dirs IsOver files run =
-    (database : Option PlainDatabase) × (messages : List ℕ) × IsDatabaseOf stored environment dirs database messages
+IsCommand stored kept environment dirs IsOver files run =
+    (database : Option PlainDatabase) × (messages : List ℕ) × IsDatabaseOf stored kept environment dirs database messages
     × IsAfterLoading database messages IsOver files run

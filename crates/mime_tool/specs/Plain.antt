@@ -1,5 +1,5 @@
 -- What `plain` prints.
-use Rattle.std.specs.Prelude.{◌≡◌, ◌⊎◌, ℕ, Bool, true, false, List, [], Option, Some}
+use Rattle.std.specs.Prelude.{◌≡◌, ◌⊎◌, ℕ, Bool, true, false, List, [], Option, Some, None}
 use Rattle.mime_base.specs.Database.{PlainDatabase}
 use Rattle.mime_base.specs.declared.magic.host.Host.TheVariants.{Little}
 use Rattle.mime_lookup.specs.CheckingOrder.{Chooses, globs_suffice}
@@ -52,4 +52,4 @@ AreTypeLines subjects stored input options database =
 -- the run of `plain` over these directories with these options, for what is looked up
 abbrev pub IsPlain : (List ℕ → Stored) → PlainProcess → PlainDirectories → Options → PlainSubjects → List (List ℕ) → Run → Type 0
 IsPlain stored process dirs options subjects =
-    IsCommand stored process.environment dirs (AreTypeLines subjects stored process.input options)
+    IsCommand stored None process.environment dirs (AreTypeLines subjects stored process.input options)

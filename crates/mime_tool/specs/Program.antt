@@ -37,7 +37,7 @@ IsShown k run = (k ≢ kind.OutOfMemory) × ((text : List ℕ) × (run ≡ shown
 -- command has a line here
 abbrev pub IsAskedRun : PlainProcess → (List ℕ → List ℕ → Writing) → (List ℕ → Stored) → (List ℕ → Stored) → PlainRequest
     → List (List ℕ) → Run → Type 0
-IsAskedRun process writes old new (build dirs drop_twins file) = IsBuild process.environment dirs drop_twins file writes old new
+IsAskedRun process writes old new (build dirs drop_twins file) = IsBuild process.environment process.to_terminal dirs drop_twins file writes old new
 IsAskedRun process writes old new (plain dirs options subjects) = IsPlain old process dirs options subjects
 IsAskedRun process writes old new (list source) = IsList old process.environment source
 IsAskedRun process writes old new (is_a source kind base) = IsSubclassRun old process.environment source kind base

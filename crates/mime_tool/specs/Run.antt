@@ -62,6 +62,10 @@ cannot_read path = codes "mimelook: " ++ (path ++ codes ": cannot read\n")
 abbrev pub cannot_write : List ℕ → List ℕ
 cannot_write path = codes "mimelook: " ++ (path ++ codes ": cannot write\n")
 
+-- the message on a file that is left as it was
+abbrev pub not_replaced : List ℕ → List ℕ
+not_replaced path = codes "mimelook: " ++ (path ++ codes ": not replaced\n")
+
 -- memory ran out, and nothing is written
 abbrev pub cut_short : Run
 cut_short = record { status = 4; out = []; err = [] }

@@ -1,5 +1,5 @@
 -- What is asked: the bytes of a cache that is stored, or of one that is made of data directories.
-use Rattle.std.specs.Prelude.{◌≡◌, ◌⊎◌, ◌<◌, ◌≤◌, ℕ, List, [], Option, Result, Ok, Err, Vec}
+use Rattle.std.specs.Prelude.{◌≡◌, ◌⊎◌, ◌<◌, ◌≤◌, ℕ, List, [], Option, None, Result, Ok, Err, Vec}
 use Rattle.std.specs.declared.alloc.Global.{Global}
 use Rattle.mime_base.specs.Database.{PlainDatabase}
 use Rattle.mime_base.specs.Database.Limits.{IsWithinLimits}
@@ -40,13 +40,13 @@ IsOverMade IsOver database files run =
 abbrev pub IsSourceCommand : (List ℕ → Stored) → Option PlainEnvironment → PlainSource
     → (List ℕ → List ℕ → List (List ℕ) → Run → Type 0) → List (List ℕ) → Run → Type 0
 IsSourceCommand stored environment (cache_of path) IsOver = IsCacheCommand stored path (IsOver path)
-IsSourceCommand stored environment (made_of dirs) IsOver = IsCommand stored environment dirs (IsOverMade (IsOver []))
+IsSourceCommand stored environment (made_of dirs) IsOver = IsCommand stored None environment dirs (IsOverMade (IsOver []))
 
 -- ---- how a cache is come by
 
 -- the database of directories is loaded, as a plain value
 abbrev pub LoadsData : (List ℕ → Stored) → Option PlainEnvironment → PlainDirectories → Sinks → Sinks → Result PlainDatabase Stop → Type 0
-LoadsData stored environment dirs = Loads (λ database. database) (IsDatabaseOf stored environment dirs)
+LoadsData stored environment dirs = Loads (λ database. database) (IsDatabaseOf stored None environment dirs)
 
 -- a cache is made of directories; or they aren't loaded, or there can be no cache of them, or memory ran out
 abbrev pub MakesCache : (List ℕ → Stored) → Option PlainEnvironment → PlainDirectories → Sinks → Sinks → Result (Vec ℕ Global) Stop → Type 0

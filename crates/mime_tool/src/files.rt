@@ -36,7 +36,7 @@ pub enum Inode {
     Fifo,
     /// A socket.
     Socket,
-    /// A link that leads nowhere.
+    /// A link that leads nowhere: to nothing, to itself, or to where nothing may be looked at.
     Symlink,
 }
 

@@ -8,7 +8,7 @@
 //! let mut out = Stream(rt.stdout());
 //! let mut err = Stream(rt.stderr());
 //! let words = ["plain", "--name-only", "-d", "", "a"];
-//! let process = Process { environment: None, input: Untold(rt.stdin()) };
+//! let process = Process { environment: None, input: Untold(rt.stdin()), to_terminal: false };
 //! let status = run(alloc, &words, &[], process, &mut files, &mut out, &mut err);
 //! ```
 //!

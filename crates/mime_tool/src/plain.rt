@@ -35,8 +35,12 @@ pub(crate) fn print_types<D: Desk, I: Content + Drop>(
         (names_in (named_subjects raws.now (plain_subjects subjects.now)) (D.state desk.old).stored
         (given_by (I.remaining process.entry.input) (I.health process.entry.input)))) (D.state desk.old) (D.state desk.new) result }
 {
-    let Process { environment, input } = process;
-    let database = load(desk, environment, directories)?;
+    let Process {
+        environment,
+        input,
+        to_terminal: _,
+    } = process;
+    let database = load(desk, environment, directories, None)?;
     print_over(desk, &database, options, subjects, raws, input)
 }
 

@@ -9,4 +9,6 @@ pub struct Process<'a, I: Drop> {
     pub environment: Option<Environment<'a>>,
     /// Standard input, which `--stdin` looks up, and which is the list of `--files0-from -`.
     pub input: I,
+    /// Whether standard output is a terminal, to which `build` writes no cache.
+    pub to_terminal: bool,
 }

@@ -216,7 +216,14 @@ fn answer<D: Desk, I: Content + Drop>(
             directories,
             drop_twins,
             file,
-        } => build(desk, environment, directories, *drop_twins, *file),
+        } => build(
+            desk,
+            environment,
+            process.to_terminal,
+            directories,
+            *drop_twins,
+            *file,
+        ),
         Request::Plain {
             directories,
             options,

@@ -51,7 +51,7 @@ fn make_cache<D: Desk>(
     ensures { Works (MakesCache (D.state desk.old).stored (known_environment environment.entry) (plain_directories directories.now))
         (D.state desk.old) (D.state desk.new) result }
 {
-    let database = load(desk, environment, directories)?;
+    let database = load(desk, environment, directories, None)?;
     database_keeps_limits(&database);
     let cache = cache_of(desk.alloc(), &database)?;
     Ok(cache)

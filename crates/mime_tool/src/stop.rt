@@ -2,7 +2,7 @@
 
 ghost use Rattle.std.specs.Prelude.{◌≡◌, IsOk};
 ghost use Rattle.mime_tool.specs.declared.stop.Stop.TheVariants.{OutOfMemory};
-ghost use Rattle.mime_tool.specs.Run.{cannot_read, cannot_write};
+ghost use Rattle.mime_tool.specs.Run.{cannot_read, cannot_write, not_replaced};
 ghost use Rattle.mime_tool.specs.Sink.{HasRoom};
 ghost use Rattle.mime_tool.specs.Stop.{IsRefusal, Says, SaysStop, TellsStop, stop_of};
 
@@ -74,6 +74,17 @@ pub(crate) fn unwritable(alloc: Global, path: &str) -> Stop
     ensures { IsRefusal (cannot_write path.now) result }
 {
     match format!(in alloc; "mimelook: {path}: cannot write\n") {
+        Ok(message) => Stop::Refused(message),
+        Err(_) => Stop::OutOfMemory,
+    }
+}
+
+/// The file of this path is left as it was.
+pub(crate) fn unreplaced(alloc: Global, path: &str) -> Stop
+    // The stop has the message `not replaced`, or says that memory ran out.
+    ensures { IsRefusal (not_replaced path.now) result }
+{
+    match format!(in alloc; "mimelook: {path}: not replaced\n") {
         Ok(message) => Stop::Refused(message),
         Err(_) => Stop::OutOfMemory,
     }

@@ -156,15 +156,17 @@ fn require_regular(metadata: &Metadata) -> io::Result<()> {
     }
 }
 
-// The kind of what a path leads to, or a link where it leads nowhere.
+// The kind of what a path leads to, or a link where it leads nowhere: to nothing, to itself, or to where nothing may be looked at.
 fn inode_at<R: rt::Files>(rt: &R, path: &str) -> io::Result<Option<Inode>> {
     match fs::metadata(rt, path) {
         Ok(metadata) => Ok(inode_of(&metadata)),
-        Err(error) if error.kind() == ErrorKind::NotFound => {
-            let found = fs::symlink_metadata(rt, path)?;
-            Ok(found.is_symlink().then_some(Inode::Symlink))
-        }
-        Err(error) => Err(error),
+        Err(error) => match error.kind() {
+            ErrorKind::NotFound | ErrorKind::FilesystemLoop | ErrorKind::PermissionDenied => {
+                let found = fs::symlink_metadata(rt, path)?;
+                Ok(found.is_symlink().then_some(Inode::Symlink))
+            }
+            _ => Err(error),
+        },
     }
 }
 

@@ -34,7 +34,11 @@ pub(crate) fn print_types<D: Desk, I: Content + Drop>(
         (D.state desk.old).stored (given_by (I.remaining process.entry.input) (I.health process.entry.input))))
         (D.state desk.old) (D.state desk.new) result }
 {
-    let Process { environment, input } = process;
+    let Process {
+        environment,
+        input,
+        to_terminal: _,
+    } = process;
     let cache = read_source(desk, environment, source)?;
     let path = path_of(source);
     let bytes = cache.as_slice();

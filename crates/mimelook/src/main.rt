@@ -7,7 +7,7 @@ mod words;
 use mime_tool::{Environment, Process, Stream, SystemFiles, Untold, run};
 use std::alloc::AllocError;
 use std::env::VarError;
-use std::io::BufWriter;
+use std::io::{BufWriter, IsTerminal};
 use std::process::ExitCode;
 use std::{env, io};
 use words::Words;
@@ -42,6 +42,7 @@ fn run_system(rt: &HostRuntime) -> io::Result<u8> {
     let process = Process {
         environment,
         input: Untold(rt.stdin()),
+        to_terminal: rt.stdout().is_terminal(),
     };
     let mut files = SystemFiles::new(rt);
     let mut out = Stream(BufWriter::with_capacity(alloc, BUFFER, rt.stdout())?);

@@ -53,6 +53,7 @@ impl Job<'_> {
         let process = Process {
             environment: None,
             input,
+            to_terminal: false,
         };
         let mut out = Stream(BufWriter::with_capacity(self.alloc, BUFFER, &mut printed)?);
         let status = run(self.alloc, words, &[], process, shelf, &mut out, &mut err);

@@ -46,8 +46,8 @@ that have no twins.
 Exit status:
   0  FILE was written; or help or the version was printed
   2  the command line is wrong, or a word of it is not UTF-8
-  3  the data can't be read or is refused, the database is too large, or FILE
-     can't be written
+  3  the data can't be read or is refused, the database is too large, FILE
+     can't be written, or it is there and no directory has a text file
   4  out of memory
 
 Example:
@@ -183,7 +183,7 @@ an empty part is skipped";
 
 pub(crate) const OUTPUT: &str = "\
 The cache to write; it is written as FILE.new and then
-renamed";
+renamed; - is standard output, if that is no terminal";
 
 pub(crate) const DROP_TWINS: &str = "\
 Leave out each rule without cs where one with cs has

@@ -1,5 +1,5 @@
 -- From directories to the database of them.
-use Rattle.std.proofs.Common.{◌≡◌, ℕ, List, [], Some, Result, Ok, Err, Vec, ap, refl}
+use Rattle.std.proofs.Common.{◌≡◌, ℕ, List, [], Option, Some, Result, Ok, Err, Vec, ap, refl}
 use Rattle.std.specs.declared.alloc.Global.{Global}
 use Rattle.mime_base.specs.Database.{PlainDatabase, plain_database}
 use Rattle.mime_base.specs.declared.database.Database.{Database}
@@ -53,26 +53,26 @@ can_be_merged stored dirs =
     (λ ds. can_give PlainDatabase (visible_database (merged ds)))
 
 -- some database is that of directories
-pub can_be_database : (stored : List ℕ → Stored) (dirs : List (List ℕ)) → CanBe (IsDatabase stored dirs)
+pub can_be_database : (stored : List ℕ → Stored) (kept : Option (List ℕ)) (dirs : List (List ℕ)) → CanBe (IsDatabase stored kept dirs)
 unfolding IsDatabase
-can_be_database stored dirs =
-    can_then (Unit {0}) PlainDatabase (IsNoticed stored dirs) (λ _. IsMerged stored dirs) (can_be_noticed stored dirs)
+can_be_database stored kept dirs =
+    can_then (Unit {0}) PlainDatabase (IsNoticed stored kept dirs) (λ _. IsMerged stored dirs) (can_be_noticed stored kept dirs)
     (λ _. can_be_merged stored dirs)
 
 -- it is loaded, or not, after what is noticed
-pub database_noticed : (dirs : List (List ℕ)) (a b c : State) (u : Unit {0}) (r : Result Database Stop)
-    → Works (Loads (λ done. done) (IsNoticed a.stored dirs)) a b (Ok u)
-    → Works (Loads plain_database (IsMerged b.stored dirs)) b c r → Works (Loads plain_database (IsDatabase a.stored dirs)) a c r
+pub database_noticed : (kept : Option (List ℕ)) (dirs : List (List ℕ)) (a b c : State) (u : Unit {0}) (r : Result Database Stop)
+    → Works (Loads (λ done. done) (IsNoticed a.stored kept dirs)) a b (Ok u)
+    → Works (Loads plain_database (IsMerged b.stored dirs)) b c r → Works (Loads plain_database (IsDatabase a.stored kept dirs)) a c r
 unfolding IsDatabase
-database_noticed dirs a b c u r p q =
-    works_then (Unit {0}) (Unit {0}) Database PlainDatabase (λ done. done) plain_database (IsNoticed a.stored dirs)
+database_noticed kept dirs a b c u r p q =
+    works_then (Unit {0}) (Unit {0}) Database PlainDatabase (λ done. done) plain_database (IsNoticed a.stored kept dirs)
     (λ stored _. IsMerged stored dirs) a b c u r p q
 
 -- what is noticed isn't said
-pub database_unnoticed : (dirs : List (List ℕ)) (a b : State) (s : Stop)
-    → Works (Loads {X = Unit {0}} (λ done. done) (IsNoticed a.stored dirs)) a b (Err s)
-    → Works (Loads plain_database (IsDatabase a.stored dirs)) a b (Err s)
+pub database_unnoticed : (kept : Option (List ℕ)) (dirs : List (List ℕ)) (a b : State) (s : Stop)
+    → Works (Loads {X = Unit {0}} (λ done. done) (IsNoticed a.stored kept dirs)) a b (Err s)
+    → Works (Loads plain_database (IsDatabase a.stored kept dirs)) a b (Err s)
 unfolding IsDatabase
-database_unnoticed dirs a b s p =
-    works_stop (Unit {0}) (Unit {0}) Database PlainDatabase (λ done. done) plain_database (IsNoticed a.stored dirs)
+database_unnoticed kept dirs a b s p =
+    works_stop (Unit {0}) (Unit {0}) Database PlainDatabase (λ done. done) plain_database (IsNoticed a.stored kept dirs)
     (λ _. IsMerged a.stored dirs) a b s p (λ _. can_be_merged a.stored dirs)

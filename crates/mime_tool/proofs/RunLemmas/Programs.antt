@@ -1,5 +1,5 @@
 -- From the run of a command to the run of the program.
-use Rattle.std.proofs.Common.{◌≡◌, ◌≢◌, ◌∙◌, ℕ, Bool, List, [], Result, Ok, Err, ap, inl, inr, subst}
+use Rattle.std.proofs.Common.{◌≡◌, ◌≢◌, ◌∙◌, ℕ, Bool, true, false, List, [], Option, Result, Ok, Err, ap, inl, inr, subst}
 use Rattle.clap.specs.Values.{kind_of}
 use Rattle.clap.specs.declared.error.Error.{Error}
 use Rattle.clap.specs.declared.error.kind.ErrorKind.{ErrorKind}
@@ -7,8 +7,9 @@ use Rattle.clap.specs.declared.error.kind.ErrorKind.TheVariants as kind
 use Rattle.mime_request.specs.Request.{PlainDirectories, PlainRequest, Meaning, Means, plain_request, asks, build, icon, is_a, list}
 use Rattle.mime_request.specs.Request.{plain, refused, type_of}
 use Rattle.mime_request.specs.declared.request.Request.{Request}
-use Rattle.mime_tool.specs.Build.{Builds}
+use Rattle.mime_tool.specs.Build.{Builds, LeavesWhere, is_output}
 use Rattle.mime_tool.specs.Desk.{Ends, State, Works}
+use Rattle.mime_tool.specs.Environment.{PlainEnvironment}
 use Rattle.mime_tool.specs.Files.{Stored, Writing}
 use Rattle.mime_tool.specs.Finish.{Sinks}
 use Rattle.mime_tool.specs.Process.{PlainProcess}
@@ -54,9 +55,16 @@ error_shown v writes stored after (refused kinds) e a b r (inr among) p =
     ends_weaker (λ _. IsShown (kind_of e)) (IsAnswer v writes stored after (refused kinds)) [] a b r
     (λ fs run q. (kind_of e, among, q)) p
 
+-- `build` leaves what was stored
+leaves_where : (output : Bool) (e : Option PlainEnvironment) (dirs : PlainDirectories) (drop_twins : Bool) (file : List ℕ)
+    (old new : List ℕ → Stored) → new ≡ old → LeavesWhere output e dirs drop_twins file old new
+leaves_where true e dirs drop_twins file old new same = same
+leaves_where false e dirs drop_twins file old new same = inl (λ other _. ap (λ (stored : List ℕ → Stored). stored other) same)
+
 -- what is stored stays
 pub leaves_same : (v : PlainProcess) (m : Meaning) (old new : List ℕ → Stored) → new ≡ old → Leaves v m old new
-leaves_same v (asks (build dirs drop_twins file)) old new same = inl (λ other _. ap (λ (stored : List ℕ → Stored). stored other) same)
+leaves_same v (asks (build dirs drop_twins file)) old new same =
+    leaves_where (is_output file) v.environment dirs drop_twins file old new same
 leaves_same v (asks (plain dirs options subjects)) old new same = same
 leaves_same v (asks (list source)) old new same = same
 leaves_same v (asks (is_a source kind base)) old new same = same
@@ -75,7 +83,7 @@ answers_error v m e a b r means p = record {
 
 -- `build` leaves what it says
 pub answers_build : (v : PlainProcess) (dirs : PlainDirectories) (drop_twins : Bool) (file : List ℕ) (a b : State)
-    (r : Result ℕ Stop) → Builds v.environment dirs drop_twins file a b r → Answers v (asks (build dirs drop_twins file)) a b r
+    (r : Result ℕ Stop) → Builds v.environment v.to_terminal dirs drop_twins file a b r → Answers v (asks (build dirs drop_twins file)) a b r
 answers_build v dirs drop_twins file a b r p = record { same_setting = p.same_setting; sinks = p.sinks; leaves = p.leaves }
 
 -- the text of an error is shown

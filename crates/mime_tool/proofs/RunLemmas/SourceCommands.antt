@@ -1,5 +1,5 @@
 -- From what is asked, read or made, and a run over it, to the run of a command.
-use Rattle.std.proofs.Common.{ℕ, List, [], inl, inr, Option, Result, Ok, Err, Vec, ap, refl}
+use Rattle.std.proofs.Common.{ℕ, List, [], inl, inr, None, Option, Result, Ok, Err, Vec, ap, refl}
 use Rattle.std.specs.declared.alloc.Global.{Global}
 use Rattle.mime_base.specs.Database.{PlainDatabase, plain_database}
 use Rattle.mime_base.specs.Database.Limits.{IsWithinLimits}
@@ -43,9 +43,9 @@ pub source_unread : (stored : List ℕ → Stored) (e : Option PlainEnvironment)
     → Ends (IsSourceCommand stored e source IsOver) files a b (Err s)
 source_unread stored e (cache_of path) IsOver files a b s p = cache_unread stored path (IsOver path) files a b s p
 source_unread stored e (made_of dirs) IsOver files a b s (inl p) =
-    command_unloaded PlainDatabase (λ d. d) stored e dirs (IsOverMade (IsOver [])) files a b s (made_cut (IsOver [])) p
+    command_unloaded PlainDatabase (λ d. d) stored None e dirs (IsOverMade (IsOver [])) files a b s (made_cut (IsOver [])) p
 source_unread stored e (made_of dirs) IsOver files a b s (inr p) =
-    command_over PlainDatabase (λ d. d) stored e dirs (IsOverMade (IsOver [])) files p.0 a b b (Err s) (made_cut (IsOver []) p.0) p.1
+    command_over PlainDatabase (λ d. d) stored None e dirs (IsOverMade (IsOver [])) files p.0 a b b (Err s) (made_cut (IsOver []) p.0) p.1
     (unmade (IsOver []) p.0 files b s p.2)
 
 -- it is, and a run over it comes to its end
@@ -54,7 +54,7 @@ pub source_read : (stored : List ℕ → Stored) (e : Option PlainEnvironment) (
     → Ends (IsOver (path_of source) v.items) files b c r → Ends (IsSourceCommand stored e source IsOver) files a c r
 source_read stored e (cache_of path) IsOver files v a b c r p q = cache_read stored path (IsOver path) files v a b c r p q
 source_read stored e (made_of dirs) IsOver files v a b c r p q =
-    command_over PlainDatabase (λ d. d) stored e dirs (IsOverMade (IsOver [])) files p.0 a b c r (made_cut (IsOver []) p.0) p.1
+    command_over PlainDatabase (λ d. d) stored None e dirs (IsOverMade (IsOver [])) files p.0 a b c r (made_cut (IsOver []) p.0) p.1
     (ends_weaker (IsOver [] v.items) (IsOverMade (IsOver []) p.0) files b c r (λ fs run is. inr (inl (v.items, p.2, is))) q)
 
 -- ---- how a cache is made
@@ -68,16 +68,16 @@ loads_plain X plain IsStep a b (stop.Refused m) p = p
 
 -- the database isn't loaded
 pub make_unloaded : (e : Option PlainEnvironment) (dirs : PlainDirectories) (a b : State) (s : Stop)
-    → Works (Loads plain_database (IsDatabaseOf a.stored e dirs)) a b (Err s) → Works (MakesCache a.stored e dirs) a b (Err s)
+    → Works (Loads plain_database (IsDatabaseOf a.stored None e dirs)) a b (Err s) → Works (MakesCache a.stored e dirs) a b (Err s)
 make_unloaded e dirs a b s p = record {
   same_files = p.same_files;
   same_setting = p.same_setting;
-  sinks = inl (loads_plain Database plain_database (IsDatabaseOf a.stored e dirs) a.sinks b.sinks s p.sinks);
+  sinks = inl (loads_plain Database plain_database (IsDatabaseOf a.stored None e dirs) a.sinks b.sinks s p.sinks);
 }
 
 -- there can be no cache
 pub make_refused : (e : Option PlainEnvironment) (dirs : PlainDirectories) (a b : State) (database : Database) (s : Stop)
-    → Works (Loads plain_database (IsDatabaseOf a.stored e dirs)) a b (Ok database) → GivesCache (plain_database database) (Err s)
+    → Works (Loads plain_database (IsDatabaseOf a.stored None e dirs)) a b (Ok database) → GivesCache (plain_database database) (Err s)
     → Works (MakesCache a.stored e dirs) a b (Err s)
 make_refused e dirs a b database s p g = record {
   same_files = p.same_files;
@@ -87,7 +87,7 @@ make_refused e dirs a b database s p g = record {
 
 -- there is one
 pub make_made : (e : Option PlainEnvironment) (dirs : PlainDirectories) (a b : State) (database : Database) (v : Vec ℕ Global)
-    → Works (Loads plain_database (IsDatabaseOf a.stored e dirs)) a b (Ok database) → IsWithinLimits (plain_database database)
+    → Works (Loads plain_database (IsDatabaseOf a.stored None e dirs)) a b (Ok database) → IsWithinLimits (plain_database database)
     → GivesCache (plain_database database) (Ok v) → Works (MakesCache a.stored e dirs) a b (Ok v)
 make_made e dirs a b database v p limits g = record {
   same_files = p.same_files;

@@ -1,10 +1,10 @@
 //! What `build` stores, and what it says.
 
-use crate::tests::ran::{Said, alike, says};
+use crate::tests::ran::{Said, alike, in_environment, says};
 use crate::{Drawer, Entry, FailingDrawer, Shelf};
 use mime_base::{Database, GlobRule, Pattern, TypeName};
 use mime_store::write_cache;
-use mime_tool::{FileFault, Files};
+use mime_tool::{FileFault, Files, Process, run};
 use std::alloc::Global;
 use std::process::Abort;
 use std::test::Fail;
@@ -134,6 +134,113 @@ fn says_what_cannot_be_written(rt: HostRuntime) -> Result<(), Fail> {
     let mut files = drawer();
     says(&rt, rt.alloc(), "another file", &words, &mut files, wanted)?;
     is_not_stored(&rt, rt.alloc(), &mut files, "/f")
+}
+
+// Where no directory has a text file: what is said of the file, and of the directories.
+static OVER_NOTHING: [(&str, &str, &str, u8, &str); 4] = [
+    (
+        "a file that is there",
+        "/n",
+        "/c",
+        3,
+        "mimelook: /n: no text files, such as /n/mime/globs2\nmimelook: /c: not replaced\n",
+    ),
+    (
+        "no directory",
+        "",
+        "/c",
+        3,
+        "mimelook: no data directories\nmimelook: /c: not replaced\n",
+    ),
+    (
+        "one that isn't",
+        "/n:/m",
+        "/f",
+        0,
+        "mimelook: /n:/m: no text files, such as /n/mime/globs2\n",
+    ),
+    (
+        "a file beside it",
+        "/e:/n",
+        "/g",
+        3,
+        "mimelook: /g: cannot write\n",
+    ),
+];
+
+/// A build over nothing says this, and the file that is there stays.
+fn is_kept(
+    rt: &impl Abort,
+    alloc: Global,
+    name: &str,
+    (directories, file): (&str, &str),
+    (status, err): (u8, &str),
+) -> Result<(), Fail> {
+    let mut files = Drawer {
+        path: "/f",
+        ..drawer()
+    };
+    let words = ["build", "-d", directories, "-o", file];
+    let out = "";
+    says(
+        rt,
+        alloc,
+        name,
+        &words,
+        &mut files,
+        Said { status, out, err },
+    )?;
+    let cache = stored(alloc, &mut files, "/c")?.ok_or("the file is gone")?;
+    alike(rt, name, cache.as_slice(), b"old");
+    alike(
+        rt,
+        name,
+        stored(alloc, &mut files, "/f")?.is_some(),
+        status == 0,
+    );
+    Ok(())
+}
+
+#[test]
+fn keeps_a_file_over_nothing(rt: HostRuntime) -> Result<(), Fail> {
+    for &(name, directories, file, status, err) in &OVER_NOTHING {
+        is_kept(&rt, rt.alloc(), name, (directories, file), (status, err))?;
+    }
+    Ok(())
+}
+
+/// A build to standard output prints the cache of both directories, or nothing to a terminal, and stores nothing.
+fn is_printed(
+    rt: &impl Abort,
+    alloc: Global,
+    to_terminal: bool,
+    (status, err): (u8, &str),
+) -> Result<Vec<u8>, Fail> {
+    let process = Process {
+        to_terminal,
+        ..in_environment(None)
+    };
+    let (mut out, mut said) = (Vec::new(alloc), Vec::new(alloc));
+    let words = ["build", "-d", "/d:/e", "-o", "-"];
+    let mut files = Shelf { entries: ENTRIES };
+    let found = run(alloc, &words, &[], process, &mut files, &mut out, &mut said);
+    alike(rt, "status", found, status);
+    alike(rt, "said", str::from_utf8(said.as_slice())?, err);
+    Ok(out)
+}
+
+#[test]
+fn prints_the_cache(rt: HostRuntime) -> Result<(), Fail> {
+    let printed = is_printed(&rt, rt.alloc(), false, (0, IGNORED))?;
+    is_of_both(&rt, rt.alloc(), &printed)
+}
+
+#[test]
+fn prints_no_cache_to_a_terminal(rt: HostRuntime) -> Result<(), Fail> {
+    let refused = "mimelook: no cache is written to a terminal\n";
+    let printed = is_printed(&rt, rt.alloc(), true, (3, refused))?;
+    alike(&rt, "printed", printed.as_slice(), b"");
+    Ok(())
 }
 
 /// That many calls are met, and then one fails so: the run ends as is wanted, and the file stays.

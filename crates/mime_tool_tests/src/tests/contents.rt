@@ -61,7 +61,7 @@ static BY_CONTENT: [Row; 3] = [
         status: 0,
         out: "e: application/x-zerosize\nt: text/plain\n\
             b: application/octet-stream\nl: text/plain\n",
-        err: "",
+        err: "mimelook: no data directories\n",
     },
     Row {
         name: "content decides among kept rules",
@@ -315,7 +315,7 @@ fn says_why_a_file_has_no_line(rt: HostRuntime) -> Result<(), Fail> {
 /// A file whose name is too long is refused for what is stored there, if that can't be opened, and else for its name.
 fn is_refused(rt: &impl Abort, alloc: Global, why: &str) -> Result<(), Fail> {
     let long = "a".repeat(alloc, 4_097)?;
-    let message = format!(in alloc; "mimelook: {long}: {why}\n")?;
+    let message = format!(in alloc; "mimelook: no data directories\nmimelook: {long}: {why}\n")?;
     let wanted = Said {
         status: 1,
         out: "",

@@ -260,8 +260,17 @@ fn flushes_what_was_printed_before_memory_ran_out(rt: HostRuntime) -> Result<(),
         flushed: line.len(),
         err: NO_MEMORY,
     };
-    let words = ["plain", "--name-only", "-d", "", "x", long.as_str(), "y"];
+    let words = ["plain", "--name-only", "-d", "/e", "x", long.as_str(), "y"];
+    let entries = [("/e/mime/globs2", Entry::Bytes(b""))];
     let err = FailingSink::new(alloc, 0, 1, SinkFault::OutOfMemory);
-    is_taken(&rt, alloc, "no memory", &words, (sound(alloc), err), wanted);
+    is_taken_over(
+        &rt,
+        alloc,
+        "no memory",
+        &words,
+        &entries,
+        (sound(alloc), err),
+        wanted,
+    );
     Ok(())
 }

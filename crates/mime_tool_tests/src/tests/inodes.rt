@@ -139,7 +139,7 @@ fn stops_where_memory_runs_out(rt: HostRuntime) -> Result<(), Fail> {
     let wanted = Said {
         status: 4,
         out: "",
-        err: "mimelook: out of memory\n",
+        err: "mimelook: no data directories\nmimelook: out of memory\n",
     };
     let words = &["plain", "-d", "", "--inode", "--name-only", "x"];
     let mut files = FailingFiles(FileFault::Failed);

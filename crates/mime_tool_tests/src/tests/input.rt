@@ -147,6 +147,7 @@ fn is_answered(rt: &impl Abort, alloc: Global, row: &Row) -> Result<(), Fail> {
     let process = Process {
         environment: Some(UNSET),
         input: row.input,
+        to_terminal: false,
     };
     let mut files = Shelf { entries: ENTRIES };
     let status = run(

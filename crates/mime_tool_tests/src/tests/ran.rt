@@ -24,6 +24,7 @@ pub fn in_environment<'a>(environment: Option<Environment<'a>>) -> Process<'a, &
     Process {
         environment,
         input: b"",
+        to_terminal: false,
     }
 }
 

@@ -19,7 +19,7 @@ const GLOBS: &[u8] = b"50:text/x-readme:readme*\n50:t/a:*.a\n";
 
 const TYPED: &str = "x/README: text/x-readme\ny.a: t/a\nz: application/octet-stream\n";
 
-static PRINTED: [Row; 7] = [
+static PRINTED: [Row; 8] = [
     Row {
         name: "zero bytes",
         words: &["plain", "--name-only", "-d", "/s", "-0", "y.a", "z"],
@@ -51,7 +51,7 @@ static PRINTED: [Row; 7] = [
         globs: None,
         status: 0,
         out: "a: application/octet-stream\n",
-        err: "",
+        err: "mimelook: no data directories\n",
     },
     Row {
         name: "each file has a line",
@@ -62,12 +62,21 @@ static PRINTED: [Row; 7] = [
         err: "",
     },
     Row {
-        name: "a missing file counts as empty, and that all are missing is said",
+        name: "a missing file counts as empty, and that all are missing is said, with what was looked for",
         words: &["plain", "-d", "/s", "--name-only", "y.a"],
         globs: None,
         status: 0,
         out: "y.a: application/octet-stream\n",
-        err: "mimelook: /s: no text files\n",
+        err: "mimelook: /s: no text files, such as /s/mime/globs2\n",
+    },
+    Row {
+        name: "the first folder mime among several that have none is named",
+        words: &["plain", "-d", "/t:/s/mime:/s/mime", "--name-only", "y.a"],
+        globs: Some(Entry::Unreadable),
+        status: 0,
+        out: "y.a: application/octet-stream\n",
+        err: "mimelook: /t:/s/mime:/s/mime: no text files, such as /t/mime/globs2; \
+            there is /s/mime/globs2: DIRS end before /mime\n",
     },
     Row {
         name: "malformed lines are reported",

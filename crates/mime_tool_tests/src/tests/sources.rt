@@ -177,6 +177,7 @@ static USERS: [Row; 8] = [
             home: Some("/h"),
             data_dirs: Some("t"),
         }),
+        err: "mimelook: no data directories\n",
         ..ROW
     },
     Row {

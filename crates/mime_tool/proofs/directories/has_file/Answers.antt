@@ -1,7 +1,7 @@
 use Rattle.std.proofs.Common.{◌<◌, ◌∙◌, Bor, List, ℕ, [], arith, length}
 use Rattle.mime_tool.specs.Directories.{path_of}
 use Rattle.mime_tool.specs.Files.{IsThere}
-use Rattle.mime_tool.proofs.DirectoryLemmas.Notices.{none_more_at, one_at}
+use Rattle.mime_tool.proofs.DirectoryLemmas.Passing.{none_more_at, one_at}
 use Rattle.mime_tool.proofs.directories.has_file.Goals as goal
 
 abbrev no_text : Bor (List ℕ)

@@ -1,6 +1,6 @@
 use Rattle.std.proofs.Common.{◌<◌, ◌∙◌, Bor, List, ℕ, [], arith, length}
 use Rattle.mime_tool.specs.Directories.{HasFile, text_names}
-use Rattle.mime_tool.proofs.DirectoryLemmas.Notices.{none_more_at, one_at}
+use Rattle.mime_tool.proofs.DirectoryLemmas.Passing.{none_more_at, one_at}
 use Rattle.mime_tool.proofs.directories.have_text_file.Goals as goal
 
 abbrev no_text : Bor (List ℕ)

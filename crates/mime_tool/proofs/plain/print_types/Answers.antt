@@ -1,4 +1,4 @@
-use Rattle.std.proofs.Common.{◌∙◌}
+use Rattle.std.proofs.Common.{◌∙◌, None}
 use Rattle.std.proofs.lemmas.Result.{err_from_is_err_and}
 use Rattle.mime_base.specs.Database.{plain_database}
 use Rattle.mime_base.specs.declared.database.Database.{Database}
@@ -23,7 +23,7 @@ returns-in_err-database g c =
     rw (e.1, e.2) (record {
       same_files = load.same_files;
       same_setting = load.same_setting;
-      sinks = command_unloaded Database plain_database stored (known_environment c.args.process.environment)
+      sinks = command_unloaded Database plain_database stored None (known_environment c.args.process.environment)
           (plain_directories c.args.directories.now) (AreTypeLines subjects stored given c.args.options) (names_in subjects stored given) _ _ _
           (no_lines subjects stored given c.args.options) load.sinks;
     })
@@ -40,7 +40,7 @@ returns g c =
     record {
       same_files = lines.same_files ∙ load.same_files;
       same_setting = lines.same_setting ∙ load.same_setting;
-      sinks = command_over Database plain_database stored (known_environment c.args.process.environment)
+      sinks = command_over Database plain_database stored None (known_environment c.args.process.environment)
           (plain_directories c.args.directories.now) (AreTypeLines subjects stored given c.args.options) (names_in subjects stored given)
           c.in_ok-database.database _ _ _ _ (no_lines subjects stored given c.args.options (plain_database c.in_ok-database.database)) load.sinks
           here.sinks;

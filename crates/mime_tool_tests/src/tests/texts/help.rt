@@ -55,7 +55,7 @@ Options:
       --drop-twins        Leave out each rule without cs where one with cs has
                           the same weight, type and pattern
   -o, --output <FILE>     The cache to write; it is written as FILE.new and then
-                          renamed
+                          renamed; - is standard output, if that is no terminal
   -h, --help              Print help
   -V, --version           Print version
 
@@ -69,8 +69,8 @@ that have no twins.
 Exit status:
   0  FILE was written; or help or the version was printed
   2  the command line is wrong, or a word of it is not UTF-8
-  3  the data can't be read or is refused, the database is too large, or FILE
-     can't be written
+  3  the data can't be read or is refused, the database is too large, FILE
+     can't be written, or it is there and no directory has a text file
   4  out of memory
 
 Example:
