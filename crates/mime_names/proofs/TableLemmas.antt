@@ -27,6 +27,7 @@ fronts-low name key (inl any) = omega (arith, any)
 fronts-low name key (inr begins) = omega (arith, begins.0)
 
 module _ (table : KeyTable) (rules : List IndexedRule) (is : IsTableOf table rules) (own : All IsIndexedRule rules) (name : List ℕ) where
+  -- the keys of the endings of the name
   abbrev ends : ℕ → Type 0
   ends key = Ends table.width table.nexts.items (spelled table.symbols.items name) key
 

@@ -34,13 +34,15 @@ of_texts Full = false
 abbrev pub is_text : GlobRule → Bool
 is_text rule = of_texts (class_of rule.pattern)
 
--- the rules of texts, all others, and all
+-- whether a rule is one of a text, by its plain value
 abbrev pub texts : IndexedRule → Bool
 texts rule = is_text (plain rule)
 
+-- whether it is one of no text
 abbrev pub others : IndexedRule → Bool
 others rule = not (is_text (plain rule))
 
+-- each rule is one of all
 abbrev pub every : IndexedRule → Bool
 every rule = true
 

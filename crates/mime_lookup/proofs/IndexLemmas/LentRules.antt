@@ -26,9 +26,11 @@ filter-map {X} {Y} value p (x ∷ xs) = by_cases (p (value x)) (filter-map value
     by_cases false rest = rest
 
 module _ (pairs : Pairs) (rules : List GlobRule) (name : List ℕ) where
+  -- a rule after one alias step of its type
   abbrev step : GlobRule → GlobRule
   step = unaliased_rule pairs.aliases
 
+  -- a rule's type
   abbrev kind_of : GlobRule → List ℕ
   kind_of rule = rule.kind
 
