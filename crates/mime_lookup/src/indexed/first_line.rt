@@ -14,11 +14,16 @@ use mime_base::{Host, Meter};
 
 /// The number of the first line that holds, else the number of lines.
 ///
-/// The meter counts as a byte each table, each line and each place of the content's front that is looked at, and what is compared.
+/// The meter counts as a byte each table, each line and each place of the content's front that is looked at, and what is
+/// compared.
 pub fn first_line(heads: &Heads<'_>, content: &[u8], host: Host, meter: &mut Meter) -> usize
+    // Each line has its head.
     requires headed { AreLineHeads heads.now.lines.items (map (λ top. top.line.now) heads.now.tops.items) }
+    // Each is found by its place and its byte, or is asked by itself.
     requires tabled { AreTables heads.now.tables heads.now.lines.items 0 }
+    // No line before it holds, and it does, if there is one.
     ensures first { IsFirst heads.now.tops.items content.now host result }
+    // No record of a cache is visited.
     ensures nodes { meter.new.nodes ≡ meter.old.nodes }
 {
     meter.add_bytes(content.len().min(FRONT) as u64);
@@ -38,8 +43,10 @@ fn among_tables(tables: &Tables, asked: &LineSearch<'_>, meter: &mut Meter) -> u
     requires headed { AreLineHeads asked.now.heads.now (map (λ top. top.line.now) asked.now.tops.now) }
     requires size { length tables.now.nexts.items ≡ length asked.now.tops.now }
     requires slots { length tables.now.firsts.items ≡ length tables.now.places.items * 256 }
-    ensures narrows { Narrows asked.now.tops.now asked.now.content.now asked.now.host (length asked.now.tops.now) result }
-    ensures fail { TablesFail asked.now.tops.now asked.now.content.now asked.now.host tables.now result (length tables.now.places.items) }
+    ensures narrows { Narrows asked.now.tops.now asked.now.content.now asked.now.host
+        (length asked.now.tops.now) result }
+    ensures fail { TablesFail asked.now.tops.now asked.now.content.now asked.now.host tables.now result
+        (length tables.now.places.items) }
     ensures nodes { meter.new.nodes ≡ meter.old.nodes }
 {
     meter.add_bytes(tables.places.len() as u64);

@@ -1,8 +1,9 @@
 //! Heads of lines of magic, by which most lines are refused without a look at them.
 //!
-//! A head has four bytes of a line's value: the two that it begins with, and a later pair, where all bits of them count. A line
-//! holds for no content in which they stand together at none of its offsets. The heads of all top lines stand together, in the
-//! order of the lines. Where no such bytes are known, the head refuses nothing, and the line is tried.
+//! A head has four bytes of a line's value: the two that it begins with, and a later pair, where all bits of them
+//! count. A line holds for no content in which they stand together at none of its offsets. The heads of all top lines
+//! stand together, in the order of the lines. Where no such bytes are known, the head refuses nothing, and the line is
+//! tried.
 
 ghost use Rattle.std.specs.Prelude.{◌≡◌, ◌++◌, ◌<◌, ℕ, List, Option, length, slice_index, true, map, IfOk, OnOk};
 ghost use Rattle.std.specs.List.{flat_map};
@@ -142,7 +143,8 @@ fn keeps_bytes(line: &Matchlet, skip: u8) -> bool
 
 /// The head of a line of which all bits of these bytes count.
 fn head_from(start: u32, range: u32, word: u32, value: &[u8], skip: u8) -> LineHead
-    ensures { (mask : Option (List ℕ)) → KeepsBytes mask skip → IsHead result (line_from start range word value.now mask) }
+    ensures { (mask : Option (List ℕ)) → KeepsBytes mask skip
+        → IsHead result (line_from start range word value.now mask) }
 {
     if word != 1 || value.is_empty() || value.len() > LONGEST {
         return UNKNOWN;

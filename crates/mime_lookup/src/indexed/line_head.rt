@@ -1,7 +1,7 @@
 //! The head of a line of magic.
 
-/// Four bytes of a line's value, two pairs that stand side by side: a window in which another byte stands at one of their
-/// places differs from the value.
+/// Four bytes of a line's value, two pairs that stand side by side: a window in which another byte stands at one of
+/// their places differs from the value.
 #[derive(Clone, Copy, Debug)]
 pub struct LineHead {
     /// The first offset that is tried.

@@ -27,10 +27,15 @@ pub struct LineSearch<'a> {
 // Called from two loops, in which most lines are refused by a few instructions.
 #[inline(always)]
 pub fn line_holds(asked: &LineSearch<'_>, line: usize, meter: &mut Meter) -> bool
+    // Each line has its head.
     requires headed { AreLineHeads asked.now.heads.now (map (λ top. top.line.now) asked.now.tops.now) }
+    // It is the number of a line.
     requires inside { line < length asked.now.tops.now }
+    // The line holds where it says so.
     ensures holds { result ≡ true → Holds asked.now.tops.now asked.now.content.now asked.now.host line }
+    // It doesn't where it says not.
     ensures fails { result ≡ false → Fails asked.now.tops.now asked.now.content.now asked.now.host line }
+    // No record of a cache is visited.
     ensures nodes { meter.new.nodes ≡ meter.old.nodes }
 {
     if refuses(&asked.heads[line], asked.content, meter) {
@@ -95,7 +100,8 @@ fn lacks_pairs(
     requires order { start ≤ end }
     requires paired { head.now.skip + 1 < head.now.size }
     requires inside { end + head.now.size ≤ length content.now + 1 }
-    ensures lacks { result ≡ true → (place : ℕ) → start ≤ place → place < end → ShowsBytes head.now content.now place → ⊥ }
+    ensures lacks { result ≡ true → (place : ℕ) → start ≤ place → place < end
+        → ShowsBytes head.now content.now place → ⊥ }
     ensures nodes { meter.new.nodes ≡ meter.old.nodes }
 {
     let (bytes, skip) = (content.bytes(), usize::from(head.skip));

@@ -1,7 +1,7 @@
 //! A content, and where pairs of bytes stand near its front.
 //!
-//! A value of two bytes and more is sought at the offsets of a range only if its pairs may stand there: of each pair it is
-//! noted once where it stands first, by a number that few other pairs have.
+//! A value of two bytes and more is sought at the offsets of a range only if its pairs may stand there: of each pair it
+//! is noted once where it stands first, by a number that few other pairs have.
 
 ghost use Rattle.std.specs.Prelude.{◌≡◌, ℕ, ◌+◌, ◌*◌, ◌<◌, length, slice_index, true};
 
@@ -30,7 +30,8 @@ impl<'c> Model for NotedPairs<'c> {
 
     ghost view = { λ noted. noted.bytes.now };
 
-    ghost invariant = { λ noted. NotesPairs 0 noted.places noted.bytes.now × ((place : ℕ) → slice_index noted.bytes.now place < 256) };
+    ghost invariant = { λ noted. NotesPairs 0 noted.places noted.bytes.now
+        × ((place : ℕ) → slice_index noted.bytes.now place < 256) };
 }
 
 /// The number of a pair.
@@ -72,8 +73,8 @@ impl<'c> NotedPairs<'c> {
     #[inline(always)]
     pub fn lacks(&self, first: u8, second: u8, end: usize) -> bool
         // Then the pair stands at none of these places.
-        ensures { result ≡ true → (place : ℕ) → place < end → place + 1 < length self.now → slice_index self.now place ≡ first
-            → slice_index self.now (place + 1) ≡ second → ⊥ }
+        ensures { result ≡ true → (place : ℕ) → place < end → place + 1 < length self.now
+            → slice_index self.now place ≡ first → slice_index self.now (place + 1) ≡ second → ⊥ }
     {
         end <= FRONT && end <= usize::from(self.places[pair_number(first, second)])
     }

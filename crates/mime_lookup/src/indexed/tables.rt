@@ -1,9 +1,9 @@
 //! Lines of magic by the place and the byte that they look at first.
 //!
-//! Most lines have one place, and hold for no content in which another byte stands there than the first of their value. So
-//! each such place has a table of the 256 bytes, which names the first line of each, and each of these lines names the next. Only
-//! the lines of the bytes that stand in a content are asked of it, and all other lines by themselves. A line is named by its
-//! number and one more, so that 0 names none.
+//! Most lines have one place, and hold for no content in which another byte stands there than the first of their value.
+//! So each such place has a table of the 256 bytes, which names the first line of each, and each of these lines names the
+//! next. Only the lines of the bytes that stand in a content are asked of it, and all other lines by themselves. A line
+//! is named by its number and one more, so that 0 names none.
 
 ghost use Rattle.std.specs.Prelude.{◌≡◌, ◌+◌, ◌*◌, ◌<◌, ◌≤◌, length, slice_index, slice_set, IfOk, IfSome};
 ghost use Rattle.mime_lookup.specs.Tables.{AreTables, IsSlot};

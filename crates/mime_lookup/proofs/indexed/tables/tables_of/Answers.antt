@@ -12,12 +12,14 @@ loop-line-preserved-in-Some c =
     let next : line + 1 ≡ c.loop-line.line = omega (arith, c.loop-line-test.true) in
     let old : Tables =
     record { places = c.in_ok-places.places; firsts = c.loop-line.firsts; nexts = c.loop-line.nexts; others = c.loop-line.others } in
-    let new : Tables = record { places = c.in_ok-places.places; firsts = c.link.new.firsts; nexts = c.link.new.nexts; others = c.loop-line.others } in
+    let new : Tables =
+    record { places = c.in_ok-places.places; firsts = c.link.new.firsts; nexts = c.link.new.nexts; others = c.loop-line.others } in
     let are : AreTables old c.args.heads.now (line + 1) = rw next c.loop-line.invariant.tables in
     record {
       within = omega (arith, c.loop-line.invariant.within);
       tables =
-          tables_linked old new c.args.heads.now line are refl c.in-Some.slot (omega (arith, c.in-Some.ensures.inside, are.slots, ap (λ (xs : List ℕ). length xs) c.deref.ensures.value))
+          tables_linked old new c.args.heads.now line are refl c.in-Some.slot
+          (omega (arith, c.in-Some.ensures.inside, are.slots, ap (λ (xs : List ℕ). length xs) c.deref.ensures.value))
           (omega (arith, are.size, c.loop-line.invariant.within, next))
           c.link.ensures.nexts c.link.ensures.firsts refl (λ head is.
           let inside : line < length c.args.heads.now = omega (arith, c.loop-line.invariant.within, next) in
@@ -31,7 +33,8 @@ loop-line-preserved c =
     let next : line + 1 ≡ c.loop-line.line = omega (arith, c.loop-line-test.true) in
     let old : Tables =
     record { places = c.in_ok-places.places; firsts = c.loop-line.firsts; nexts = c.loop-line.nexts; others = c.loop-line.others } in
-    let new : Tables = record { places = c.in_ok-places.places; firsts = c.loop-line.firsts; nexts = c.loop-line.nexts; others = c.push.new.self } in
+    let new : Tables =
+    record { places = c.in_ok-places.places; firsts = c.loop-line.firsts; nexts = c.loop-line.nexts; others = c.push.new.self } in
     let are : AreTables old c.args.heads.now (line + 1) = rw next c.loop-line.invariant.tables in
     record {
       within = omega (arith, c.loop-line.invariant.within);
