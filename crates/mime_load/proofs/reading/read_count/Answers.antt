@@ -1,4 +1,4 @@
-use Rattle.std.proofs.Common.{◌≡◌, ◌+◌, ◌*◌, ◌<◌, ℕ, List, [], ◌∷◌, ap, get_or, length, rules, arith, ◌∙◌}
+use Rattle.std.proofs.Common.{◌≡◌, ◌+◌, ◌*◌, ◌<◌, ℕ, List, [], ◌∷◌, ap, get_or, length, rules, arith}
 use Rattle.mime_load.proofs.SameLemmas.{numbers_inside, same_numbers}
 use Rattle.mime_load.proofs.reading.read_count.Goals as goal
 
