@@ -1,6 +1,7 @@
 pub mod Extents
 pub mod JoinedRules
 pub mod LineLemmas
+pub mod NextRecords
 pub mod PairLemmas
 pub mod ParentEntries
 pub mod RecordLemmas

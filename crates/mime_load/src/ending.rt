@@ -2,7 +2,9 @@
 
 ghost use Rattle.std.specs.Prelude.{◌≡◌, ◌<◌, [], ◌∷◌, length, drop, OnOk, IfOk};
 
+use crate::leaf::LeafPattern;
 use crate::unread::Unread;
+use smallvec::SmallVec;
 use std::alloc::Global;
 use std::marker::Model;
 
@@ -54,13 +56,12 @@ impl NameEnding {
     }
 
     /// The pattern of the names that end so: a `*`, and the ending.
-    pub fn pattern(&self, alloc: Global) -> Result<Vec<u8>, Unread>
+    pub fn pattern(&self, alloc: Global) -> Result<LeafPattern, Unread>
         ensures pattern { IfOk result (λ pattern. pattern.items ≡ 42 ∷ self.now) }
     {
-        let mut pattern = Vec::with_capacity(alloc, self.path.len() + 1)?;
-        pattern.extend_from_slice(&self.path)?;
+        let mut pattern = SmallVec::from_slice(alloc, &self.path)?;
         pattern.push(b'*')?;
-        pattern.reverse();
+        pattern.as_mut_slice().reverse();
         Ok(pattern)
     }
 }

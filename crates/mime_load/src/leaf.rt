@@ -1,5 +1,10 @@
 //! Rules of the suffix tree.
 
+use smallvec::SmallVec;
+
+/// The pattern of a rule of the suffix tree. At most that many bytes need no allocation.
+pub type LeafPattern = SmallVec<u8, 16>;
+
 /// A rule of the suffix tree, whose type lies in the cache. Its ending lies scattered there, so the pattern has bytes of its own.
 #[derive(Debug, Drop)]
 pub struct LeafRule<'a> {
@@ -8,7 +13,7 @@ pub struct LeafRule<'a> {
     /// The type that the rule gives.
     pub kind: &'a [u8],
     /// The pattern: a `*` and the ending.
-    pub pattern: Vec<u8>,
+    pub pattern: LeafPattern,
     /// Whether it is case-sensitive.
     pub cased: bool,
 }

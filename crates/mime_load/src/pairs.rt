@@ -1,6 +1,6 @@
 //! Lists of pairs: aliases with their types, types with their icons.
 
-ghost use Rattle.std.specs.Prelude.{◌≡◌, ◌<◌, ◌≤◌, ◌^◌, ◌+◌, ◌*◌, ◌/◌, ℕ, true, false, length, get_or, IfOk, ◌-◌};
+ghost use Rattle.std.specs.Prelude.{◌≡◌, ◌<◌, ◌≤◌, ◌^◌, ◌+◌, ◌*◌, ◌/◌, ℕ, true, false, length, get_or, List, IfErr, IfOk, ◌-◌};
 ghost use Rattle.mime_base.specs.Cache.Bytes.{Stands};
 ghost use Rattle.mime_base.specs.Format.Pairs.{IsPair, PairsAt};
 ghost use Rattle.mime_base.specs.Format.Sorted.{text_lt};
@@ -27,6 +27,9 @@ pub fn aliases_at<'a>(
 ) -> Result<Vec<LentPair<'a>>, Unread>
     // A list of these pairs stands there.
     ensures stand { IfOk result (λ pairs. PairsAt (Stands source.now.counted.now) at (plain_pairs pairs.items)) }
+    // Of pairs that stand there only memory can be short.
+    ensures need { (pairs : List (List ℕ × List ℕ)) → PairsAt (Stands source.now.counted.now) at pairs →
+        IfErr result (λ e. e ≡ Unread.OutOfMemory) }
     // They take no room.
     ensures taken { taking.new.records ≡ taking.old.records }
     // Nor that of values.
@@ -65,6 +68,8 @@ fn pairs_at<'a>(
 ) -> Result<Vec<LentPair<'a>>, Unread>
     requires at { at < 2 ^ 32 }
     ensures stand { IfOk result (λ pairs. PairsAt (Stands source.now.counted.now) at (plain_pairs pairs.items)) }
+    ensures need { (pairs : List (List ℕ × List ℕ)) → PairsAt (Stands source.now.counted.now) at pairs →
+        IfErr result (λ e. e ≡ Unread.OutOfMemory) }
     ensures records { taking.new.records ≡ taking.old.records }
     ensures value_bytes { taking.new.value_bytes ≡ taking.old.value_bytes }
     ensures pays { Pays (1 + length source.now.counted.now / 8) (length source.now.counted.now / 4) taking.old taking.new }
@@ -83,8 +88,10 @@ fn pairs_at<'a>(
 
 /// Whether the name of a pair is not before that of the last of others.
 fn comes_next(pairs: &[LentPair<'_>], pair: &LentPair<'_>) -> bool
-    ensures { result ≡ true → (d : LentPair) → 0 < length pairs.now →
+    ensures rises { result ≡ true → (d : LentPair) → 0 < length pairs.now →
         text_lt pair.now.name.now (get_or pairs.now (length pairs.now - 1) d).name.now ≡ false }
+    ensures falls { result ≡ false → (d : LentPair) → (0 < length pairs.now) ×
+        (text_lt pair.now.name.now (get_or pairs.now (length pairs.now - 1) d).name.now ≡ true) }
 {
     match pairs.last() {
         Some(last) => !text_lt(pair.name, last.name),
@@ -99,6 +106,8 @@ fn read_pair<'a>(
     taking: &mut Taking,
 ) -> Result<LentPair<'a>, Unread>
     ensures stands { IfOk result (λ pair. RecordAt (Stands source.now.counted.now) (IsPair (Stands source.now.counted.now)) at (plain_pair pair)) }
+    ensures need { (pair : List ℕ × List ℕ) → RecordAt (Stands source.now.counted.now) (IsPair (Stands source.now.counted.now)) at pair →
+        IfErr result (λ e. e ≡ Unread.OutOfMemory) }
     ensures records { taking.new.records ≡ taking.old.records }
     ensures value_bytes { taking.new.value_bytes ≡ taking.old.value_bytes }
     ensures pays { Pays 1 2 taking.old taking.new }

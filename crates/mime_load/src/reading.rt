@@ -1,6 +1,6 @@
 //! Texts, and how many members a list has.
 
-ghost use Rattle.std.specs.Prelude.{◌≡◌, ◌*◌, ◌+◌, ◌^◌, ◌≤◌, ◌<◌, [], ◌∷◌, length, IfOk};
+ghost use Rattle.std.specs.Prelude.{◌≡◌, ◌*◌, ◌+◌, ◌^◌, ◌≤◌, ◌<◌, [], ◌∷◌, ℕ, List, length, IfErr, IfOk, OnErr};
 ghost use Rattle.mime_base.specs.Cache.Bytes.{Stands};
 ghost use Rattle.mime_base.specs.Format.Records.{CardsAt, TextAt};
 ghost use Rattle.mime_load.specs.Taking.{Pays};
@@ -18,6 +18,8 @@ pub fn read_numbers<const N: usize>(
     requires most { N ≤ 10 }
     // The numbers stand there.
     ensures stand { IfOk result (λ numbers. CardsAt (Stands source.now.counted.now) at numbers) }
+    // Or it does not lie in the cache.
+    ensures fault { OnErr result (length source.now.counted.now < at + 4 * N) }
     // No room is taken.
     ensures records { taking.new.records ≡ taking.old.records }
     // Nor that of values.
@@ -37,6 +39,8 @@ pub fn read_text<'a>(
 ) -> Result<&'a [u8], Unread>
     // This text stands there.
     ensures stands { IfOk result (λ text. TextAt (Stands source.now.counted.now) at text.now) }
+    // A text that stands is read.
+    ensures need { (text : List ℕ) → TextAt (Stands source.now.counted.now) at text → IfErr result (λ e. e ≡ Unread.OutOfMemory) }
     // No room is taken.
     ensures records { taking.new.records ≡ taking.old.records }
     // Nor that of values.
@@ -63,6 +67,9 @@ pub fn read_count(
     ensures count { IfOk result (λ count. CardsAt (Stands source.now.counted.now) at (count ∷ [])) }
     // The records lie in the cache.
     ensures inside { IfOk result (λ count. at + 4 + size * count ≤ length source.now.counted.now) }
+    // The count of records that lie in the cache is read.
+    ensures need { (count : ℕ) → CardsAt (Stands source.now.counted.now) at (count ∷ []) →
+        at + 4 + size * count ≤ length source.now.counted.now → IfErr result (λ e. e ≡ Unread.OutOfMemory) }
     // No room is taken.
     ensures records { taking.new.records ≡ taking.old.records }
     // Nor that of values.
