@@ -2,7 +2,6 @@
 use Rattle.std.proofs.Common.{◌≡◌, ◌⊎◌, inl, inr, ℕ, ◌<◌, ◌≤◌, Bool, true, false, not, List, length, get_or, refl, sym, ap, subst, ◌∙◌, arith}
 use Rattle.std.specs.List.{All}
 use Rattle.std.proofs.lemmas.Bool.{cases_Bool, true≢false}
-use Rattle.mime_base.specs.Kept.{class_of}
 use Rattle.mime_names.specs.Chains.{AreBelow}
 use Rattle.mime_names.specs.Keys.{Ends, Fronts, IsTable, IsTableOf}
 use Rattle.mime_names.specs.Places.{AreNear, AreSorted}

@@ -1,5 +1,5 @@
 -- Rules as an index has them.
-use Rattle.std.specs.Prelude.{◌≡◌, ℕ, Bool, true, false, not, ◌&&◌, List, filter, map}
+use Rattle.std.specs.Prelude.{◌≡◌, ℕ, Bool, true, false, not, ◌&&◌, List, filter}
 use Rattle.std.specs.Borrow.{Bor}
 use Rattle.mime_base.specs.Kept.{FitsRank, class_of, rank_of_rule}
 use Rattle.mime_base.specs.Matching.Matches.{rule_matches}

@@ -1,4 +1,4 @@
-use Rattle.std.proofs.Common.{◌≡◌, ℕ, List, map, take, take_all, sym, ap, ◌∙◌}
+use Rattle.std.proofs.Common.{◌≡◌, ℕ, List, map, take_all, ap, ◌∙◌}
 use denote.Bor.{Bor}
 use Rattle.mime_base.specs.Falling.{falling}
 use Rattle.mime_base.specs.Kept.{candidate_rules}

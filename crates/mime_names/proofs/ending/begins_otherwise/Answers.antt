@@ -1,4 +1,4 @@
-use Rattle.std.proofs.Common.{◌+◌, get_or, length, ap, sym, ◌∙◌, arith}
+use Rattle.std.proofs.Common.{◌+◌, get_or, ap, sym, ◌∙◌, arith}
 use Rattle.std.proofs.lemmas.Bool.{eq-eqb, not-true, true≢false}
 use Rattle.mime_base.specs.Matching.Folding.{compared_byte}
 use Rattle.mime_names.proofs.CompareLemmas.{byte-other}

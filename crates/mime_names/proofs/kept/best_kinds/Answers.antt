@@ -1,7 +1,5 @@
-use Rattle.std.proofs.Common.{◌≡◌, ℕ, ◌+◌, ◌<◌, ◌∷◌, ◌++◌, [], Bool, true, false, length, get_or, map, subst, take, take_all, sym, ap, ◌∙◌, arith}
-use Rattle.std.proofs.lemmas.List.{get_or_default}
+use Rattle.std.proofs.Common.{◌≡◌, ◌<◌, ◌∷◌, ◌++◌, [], Bool, true, false, length, get_or, map, subst, take, take_all, sym, ap, ◌∙◌, arith}
 use Rattle.std.proofs.lemmas.List.Elements.{Contains-get_or}
-use Rattle.std.specs.List.{Contains}
 use Rattle.mime_base.specs.Kept.{best}
 use Rattle.mime_names.specs.Places.{AreNear}
 use Rattle.mime_names.specs.Rules.{IsIndexedRule, hits_of, is_match, offer_of}

@@ -1,9 +1,8 @@
-use Rattle.std.proofs.Common.{◌≡◌, List, length, map, sym, ap, ◌∙◌, arith}
+use Rattle.std.proofs.Common.{◌≡◌, List, map, ap, ◌∙◌, arith}
 use Rattle.mime_base.specs.Kept.{kept_rules, of_greatest, rank_of_rule}
 use Rattle.mime_base.specs.declared.database.rule.GlobRule.{GlobRule}
 use Rattle.mime_names.specs.Index.{texts_of}
 use Rattle.mime_names.specs.Rules.{hits_of, others, plain, texts}
-use Rattle.mime_names.specs.declared.indexed_rule.IndexedRule.{IndexedRule}
 use Rattle.mime_names.proofs.KeptLemmas.{kept-none, kept-others, kept-some, kept-texts}
 use Rattle.mime_names.proofs.TableLemmas.{near-others, near-texts}
 use Rattle.mime_names.proofs.kept.kept_kinds.Goals as goal

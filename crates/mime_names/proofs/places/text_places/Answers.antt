@@ -1,6 +1,6 @@
 use Rattle.std.proofs.Common.{length, ap, arith}
 use Rattle.std.proofs.lemmas.List.Sorted.{length_permutation}
-use Rattle.mime_names.specs.Keys.{Ends, Fronts}
+use Rattle.mime_names.specs.Keys.{Ends}
 use Rattle.mime_names.specs.Tree.{spelled}
 use Rattle.mime_names.proofs.PlaceLemmas.{sorted_places}
 use Rattle.mime_names.proofs.places.text_places.Goals as goal
