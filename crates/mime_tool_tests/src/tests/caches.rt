@@ -1,6 +1,7 @@
 //! What the commands over a cache print and say.
 
 mod answers;
+mod checks;
 mod cost;
 mod failing;
 mod faults;
