@@ -19,7 +19,7 @@ returns-in_err-open g c =
     })
 
 pub tell-requires : goal.tell-requires
-tell-requires g c = few_lists c.args.cache.now c.lists_of-read.result c.lists_of-read.ensures
+tell-requires g c = record { few = few_lists c.args.cache.now c.lists_of-read.result c.lists_of-read.ensures }
 
 pub returns : goal.returns
 returns g c =
