@@ -1,5 +1,5 @@
 -- From what is read back of a cache to what `check` says of it.
-use Rattle.std.proofs.Common.{◌≤◌, ◌+◌, ℕ, IfOk, List, Ok, Err, Result, arith, inl, inr, length}
+use Rattle.std.proofs.Common.{ℕ, IfOk, List, Ok, Err, Result, arith, inl, inr}
 use Rattle.mime_base.specs.Database.{PlainDatabase}
 use Rattle.mime_load.specs.Lent.{plain_lists}
 use Rattle.mime_load.specs.declared.lists.Lists.{Lists}

@@ -23,11 +23,6 @@ const NOTHING: &str =
 const OF_SAMPLE: &str =
     "rules 2\naliases 1\nsubclasses 1\nsections 1\nlines 1\nicons 0\ngeneric-icons 0\n";
 
-/// The sample with the byte at an offset changed.
-const fn at(at: usize, byte: u8) -> Cache {
-    Cache { at, byte, ..WHOLE }
-}
-
 static CHECKS: [Row; 19] = [
     Row {
         name: "the sample",
@@ -54,55 +49,91 @@ static CHECKS: [Row; 19] = [
     Row {
         name: "a literal rule that is case-sensitive",
         words: CHECK,
-        cache: at(86, 1),
+        cache: Cache {
+            at: 86,
+            byte: 1,
+            ..WHOLE
+        },
         out: OF_SAMPLE,
         ..ROW
     },
     Row {
         name: "more aliases than bytes",
-        cache: at(40, 0xff),
+        cache: Cache {
+            at: 40,
+            byte: 0xff,
+            ..WHOLE
+        },
         err: "mimelook: /c: no database: aliases\n",
         ..NO_DATABASE
     },
     Row {
         name: "more types with parents than bytes",
-        cache: at(52, 0xff),
+        cache: Cache {
+            at: 52,
+            byte: 0xff,
+            ..WHOLE
+        },
         err: "mimelook: /c: no database: subclasses\n",
         ..NO_DATABASE
     },
     Row {
         name: "a literal with a capital, without regard to case",
-        cache: at(232, b'M'),
+        cache: Cache {
+            at: 232,
+            byte: b'M',
+            ..WHOLE
+        },
         err: "mimelook: /c: no database: literals\n",
         ..NO_DATABASE
     },
     Row {
         name: "a tree that loops",
-        cache: at(107, 0x60),
+        cache: Cache {
+            at: 107,
+            byte: 0x60,
+            ..WHOLE
+        },
         err: "mimelook: /c: no database: suffixes\n",
         ..NO_DATABASE
     },
     Row {
         name: "more globs than bytes",
-        cache: at(144, 0xff),
+        cache: Cache {
+            at: 144,
+            byte: 0xff,
+            ..WHOLE
+        },
         err: "mimelook: /c: no database: globs\n",
         ..NO_DATABASE
     },
     Row {
         name: "an extent that is greater by one",
-        cache: at(155, 4),
+        cache: Cache {
+            at: 155,
+            byte: 4,
+            ..WHOLE
+        },
         err: "mimelook: /c: no database: magic\n",
         ..NO_DATABASE
     },
     Row {
         name: "more icons than bytes",
-        cache: at(212, 0xff),
+        cache: Cache {
+            at: 212,
+            byte: 0xff,
+            ..WHOLE
+        },
         err: "mimelook: /c: no database: icons\n",
         ..NO_DATABASE
     },
     Row {
         name: "more generic icons than bytes",
-        cache: at(216, 0xff),
+        cache: Cache {
+            at: 216,
+            byte: 0xff,
+            ..WHOLE
+        },
         err: "mimelook: /c: no database: generic icons\n",
         ..NO_DATABASE
     },
@@ -129,7 +160,11 @@ static CHECKS: [Row; 19] = [
     Row {
         name: "another version",
         words: CHECK,
-        cache: at(3, 1),
+        cache: Cache {
+            at: 3,
+            byte: 1,
+            ..WHOLE
+        },
         status: 3,
         err: "mimelook: /c: version 1.1\n",
         ..ROW
@@ -190,7 +225,9 @@ fn checks_a_line_that_is_its_own_child(rt: HostRuntime) -> Result<(), Fail> {
 const ENTRIES: &[(&str, Entry<'static>)] = &[
     (
         "/s/mime/globs2",
-        Entry::Bytes(b"50:t/a:README\n50:t/a:readme:cs\n60:t/b:*.tar.gz\n50:t/c:*.gz\n50:t/d:*\n50:t/e:a*b\n"),
+        Entry::Bytes(
+            b"50:t/a:README\n50:t/a:readme:cs\n60:t/b:*.tar.gz\n50:t/c:*.gz\n50:t/d:*\n50:t/e:a*b\n",
+        ),
     ),
     ("/s/mime/aliases", Entry::Bytes(b"t/a t/c\nt/b t/c\n")),
     (
@@ -203,10 +240,7 @@ const ENTRIES: &[(&str, Entry<'static>)] = &[
             b"MIME-Magic\0\n[50:t/a]\n>4=\0\x02ab\n1>0=\0\x02cd\n2>0=\0\x02ef\n>0=\0\x01g\n[40:t/b]\n>0=\0\x01h\n",
         ),
     ),
-    (
-        "/s/mime/icons",
-        Entry::Bytes(b"t/g:pkg\nt/a:pkg\n"),
-    ),
+    ("/s/mime/icons", Entry::Bytes(b"t/g:pkg\nt/a:pkg\n")),
     (
         "/s/mime/generic-icons",
         Entry::Bytes(b"t/g:package-x-generic\n"),
@@ -216,10 +250,7 @@ const ENTRIES: &[(&str, Entry<'static>)] = &[
         "/twins/mime/globs2",
         Entry::Bytes(b"50:a/p:*.C:cs\n50:a/p:*.C\n50:a/c:*.c:cs\n50:a/c:*.c\n"),
     ),
-    (
-        "/aliases/mime/aliases",
-        Entry::Bytes(b"t/a t/c\nt/b t/c\n"),
-    ),
+    ("/aliases/mime/aliases", Entry::Bytes(b"t/a t/c\nt/b t/c\n")),
 ];
 
 const OF_ALL: &str =
@@ -272,7 +303,12 @@ fn built(rt: &impl Abort, alloc: Global, directory: &str) -> Result<Vec<u8>, Fai
     };
     let (mut out, mut err) = (Vec::new(alloc), Vec::new(alloc));
     let words = ["build", "-d", directory, "-o", "cache"];
-    alike(rt, directory, ran(alloc, &words, &mut files, &mut out, &mut err), 0);
+    alike(
+        rt,
+        directory,
+        ran(alloc, &words, &mut files, &mut out, &mut err),
+        0,
+    );
     match files.laid {
         Some(bytes) => Ok(bytes),
         None => Err(Fail::from("nothing was built")),
