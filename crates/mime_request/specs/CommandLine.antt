@@ -93,6 +93,10 @@ app_of_source name = with_rule (with_rule (new_app name) cache_rule) directories
 abbrev pub list_app : App
 list_app = app_of_source (codes "list")
 
+-- `check [-c CACHE | -d DIRS]`
+abbrev pub check_app : App
+check_app = app_of_source (codes "check")
+
 -- `isa [-c CACHE | -d DIRS] TYPE BASE`
 abbrev pub is_a_app : App
 is_a_app = with_rule (with_rule (app_of_source (codes "isa")) kind_rule) base_rule
@@ -119,7 +123,11 @@ mimelook_alone = on_top (λ s. record s {
 abbrev pub mimelook_of_directories : App
 mimelook_of_directories = with_subcommand (with_subcommand mimelook_alone build_app.top) plain_app.top
 
+-- `mimelook` with these and the commands over a whole cache
+abbrev pub mimelook_of_caches : App
+mimelook_of_caches = with_subcommand (with_subcommand mimelook_of_directories list_app.top) check_app.top
+
 -- `mimelook` with all its commands
 abbrev pub mimelook : App
-mimelook = with_subcommand (with_subcommand (with_subcommand (with_subcommand
-    mimelook_of_directories list_app.top) is_a_app.top) icon_app.top) type_app.top
+mimelook = with_subcommand (with_subcommand (with_subcommand
+    mimelook_of_caches is_a_app.top) icon_app.top) type_app.top

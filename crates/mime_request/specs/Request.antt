@@ -47,6 +47,8 @@ pub data PlainRequest : Type 0 where
   plain : PlainDirectories → Options → PlainSubjects → PlainRequest
   -- the glob rules of this cache
   list : PlainSource → PlainRequest
+  -- whether this cache spells a database, and how much of it there is
+  check : PlainSource → PlainRequest
   -- by this cache, whether the first type is the second
   is_a : PlainSource → Text → Text → PlainRequest
   -- by this cache, the icons of the type
@@ -145,6 +147,10 @@ plain_meaning rows = apart (options_in rows) (λ options. right (subjects_in row
 abbrev pub list_meaning : List Row → Meaning
 list_meaning rows = apart (source_in rows) (λ source. asks (list source))
 
+-- what `check` means by what clap found after it
+abbrev pub check_meaning : List Row → Meaning
+check_meaning rows = apart (source_in rows) (λ source. asks (check source))
+
 -- what `isa` means by what clap found after it
 abbrev pub is_a_meaning : List Row → Meaning
 is_a_meaning rows = apart (source_in rows) (λ source.
@@ -164,7 +170,7 @@ type_meaning rows = apart (source_in rows) (λ source. apart (options_in rows) (
 -- the commands: the name of each, and what it means
 abbrev pub commands : List (Text × (List Row → Meaning))
 commands = (codes "build", build_meaning) ∷ (codes "plain", plain_meaning)
-    ∷ (codes "list", list_meaning) ∷ (codes "isa", is_a_meaning) ∷ (codes "icon", icon_meaning)
+    ∷ (codes "list", list_meaning) ∷ (codes "check", check_meaning) ∷ (codes "isa", is_a_meaning) ∷ (codes "icon", icon_meaning)
     ∷ (codes "type", type_meaning) ∷ []
 
 -- what the command of this name means, if it is among these
@@ -213,6 +219,7 @@ abbrev pub plain_request : Request → PlainRequest
 plain_request (request.Build dirs drop_twins file) = build (plain_directories dirs) drop_twins file.now
 plain_request (request.Plain dirs options of) = plain (plain_directories dirs) options (plain_subjects of)
 plain_request (request.List from) = list (plain_source from)
+plain_request (request.Check from) = check (plain_source from)
 plain_request (request.IsA from kind base) = is_a (plain_source from) kind.now base.now
 plain_request (request.Icon from kind) = icon (plain_source from) kind.now
 plain_request (request.Type from options of) = type_of (plain_source from) options (plain_subjects of)

@@ -146,6 +146,10 @@ plain_words dirs before after subjects =
 abbrev pub list_words : Named → List Text
 list_words by = codes "list" ∷ source_words by
 
+-- `check [-c CACHE | -d DIRS]`
+abbrev pub check_words : Named → List Text
+check_words by = codes "check" ∷ source_words by
+
 -- `isa [-c CACHE | -d DIRS] TYPE BASE`
 abbrev pub is_a_words : Named → Text → Text → List Text
 is_a_words by kind base = codes "isa" ∷ (source_words by ++ kind ∷ base ∷ [])

@@ -3,9 +3,9 @@
 ghost use Rattle.std.specs.Prelude.{◌≡◌, IfOk, false};
 ghost use Rattle.clap.specs.Words.{app_of, rule_of};
 ghost use Rattle.clap.specs.declared.builder.command.Command.TheViews.{out-Command};
-ghost use Rattle.mime_request.specs.CommandLine.{app_of_source, base_rule, build_app, cache_rule, directories_rule, files_rule};
+ghost use Rattle.mime_request.specs.CommandLine.{app_of_source, base_rule, build_app, cache_rule, check_app, directories_rule, files_rule};
 ghost use Rattle.mime_request.specs.CommandLine.{flag_rule, icon_app, input_rule, is_a_app, kind_rule, list_app, list_rule, mimelook, mimelook_alone};
-ghost use Rattle.mime_request.specs.CommandLine.{mimelook_of_directories, output_rule, plain_app, short_flag_rule, type_app};
+ghost use Rattle.mime_request.specs.CommandLine.{mimelook_of_caches, mimelook_of_directories, output_rule, plain_app, short_flag_rule, type_app};
 ghost use Rattle.mime_request.specs.CommandLine.{with_looks, with_output, with_subjects};
 
 mod texts;
@@ -13,7 +13,7 @@ mod texts;
 use clap::{Arg, ArgAction, Command};
 use std::alloc::{AllocError, Global};
 use texts::{
-    ALL_GLOBS, BRIEF, BUILD, CACHE, CONTENT_ONLY, COST, DIRS, DROP_TWINS, ESCAPE, FILES,
+    ALL_GLOBS, BRIEF, BUILD, CACHE, CHECK, CONTENT_ONLY, COST, DIRS, DROP_TWINS, ESCAPE, FILES,
     FILES_LIST, HelpTexts, ICON, INODE, INPUT, IS_A, LIST, MAGIC_FIRST, MIMELOOK, NAME_ONLY, NULL,
     OUTPUT, PLAIN, TYPE,
 };
@@ -239,6 +239,14 @@ fn list_command<'a>(alloc: Global) -> Result<Command<'a>, AllocError>
     command_of_source(alloc, "list", LIST)
 }
 
+// The command `check`, likewise.
+fn check_command<'a>(alloc: Global) -> Result<Command<'a>, AllocError>
+    ensures app { IfOk result (λ c. app_of c ≡ check_app) }
+    ensures local { IfOk result (λ c. (out-Command c).has_globals ≡ false) }
+{
+    command_of_source(alloc, "check", CHECK)
+}
+
 // The command `isa`, likewise.
 fn is_a_command<'a>(alloc: Global) -> Result<Command<'a>, AllocError>
     ensures app { IfOk result (λ c. app_of c ≡ is_a_app) }
@@ -298,13 +306,23 @@ fn over_directories<'a>(alloc: Global) -> Result<Command<'a>, AllocError>
     Ok(command)
 }
 
+// With these and the commands over a whole cache.
+fn over_caches<'a>(alloc: Global) -> Result<Command<'a>, AllocError>
+    ensures app { IfOk result (λ c. app_of c ≡ mimelook_of_caches) }
+    ensures local { IfOk result (λ c. (out-Command c).has_globals ≡ false) }
+{
+    let command = over_directories(alloc)?;
+    let command = command.subcommand(list_command(alloc)?)?;
+    let command = command.subcommand(check_command(alloc)?)?;
+    Ok(command)
+}
+
 /// The command line after the program's name.
 pub(crate) fn mimelook_command<'a>(alloc: Global) -> Result<Command<'a>, AllocError>
     // It is the command line that the definitions describe, unless memory ran out.
     ensures { IfOk result (λ c. app_of c ≡ mimelook) }
 {
-    let command = over_directories(alloc)?;
-    let command = command.subcommand(list_command(alloc)?)?;
+    let command = over_caches(alloc)?;
     let command = command.subcommand(is_a_command(alloc)?)?;
     let command = command.subcommand(icon_command(alloc)?)?;
     let command = command.subcommand(type_command(alloc)?)?;

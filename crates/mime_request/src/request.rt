@@ -12,7 +12,7 @@ mod found;
 mod over_directories;
 
 use crate::command::mimelook_command;
-use cache::{request_of_icon, request_of_is_a, request_of_list, request_of_type};
+use cache::{request_of_check, request_of_icon, request_of_is_a, request_of_list, request_of_type};
 use clap::error::ErrorKind;
 use clap::{ArgMatches, Error};
 use found::{refusal, subcommand_of};
@@ -105,6 +105,11 @@ pub enum Request<'a> {
     },
     /// The glob rules of a cache.
     List {
+        /// The cache.
+        source: Source<'a>,
+    },
+    /// Whether a cache spells a database, and how much there is of it.
+    Check {
         /// The cache.
         source: Source<'a>,
     },
@@ -205,6 +210,7 @@ fn asked_by<'a>(alloc: Global, matches: &ArgMatches<'a>) -> Result<Request<'a>, 
         "build" => request_of_build(alloc, inner),
         "plain" => request_of_plain(alloc, inner),
         "list" => request_of_list(alloc, inner),
+        "check" => request_of_check(alloc, inner),
         "isa" => request_of_is_a(alloc, inner),
         "icon" => request_of_icon(alloc, inner),
         "type" => request_of_type(alloc, inner),

@@ -5,3 +5,4 @@ pub mod RunLemmas
 pub mod DirectoryLemmas
 pub mod DeskLemmas
 pub mod NameLemmas
+pub mod CheckLemmas

@@ -1,5 +1,6 @@
 pub mod Build
 pub mod Cache
+pub mod Check
 pub mod Desk
 pub mod Directories
 pub mod Environment

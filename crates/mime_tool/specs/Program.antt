@@ -3,8 +3,9 @@ use Rattle.std.specs.Prelude.{◌≡◌, ◌≢◌, ℕ, Bool, true, false, List
 use Rattle.clap.specs.Kinds.{IsAmong}
 use Rattle.clap.specs.declared.error.kind.ErrorKind.{ErrorKind}
 use Rattle.clap.specs.declared.error.kind.ErrorKind.TheVariants as kind
-use Rattle.mime_request.specs.Request.{PlainRequest, Meaning, asks, build, icon, is_a, list, plain, refused, type_of}
+use Rattle.mime_request.specs.Request.{PlainRequest, Meaning, asks, build, check, icon, is_a, list, plain, refused, type_of}
 use Rattle.mime_tool.specs.Build.{IsBuild, LeavesBuilt}
+use Rattle.mime_tool.specs.Check.{IsCheck}
 use Rattle.mime_tool.specs.Desk.{Ends, State}
 use Rattle.mime_tool.specs.Files.{Stored, Writing}
 use Rattle.mime_tool.specs.Icon.{IsIcon}
@@ -40,6 +41,7 @@ abbrev pub IsAskedRun : PlainProcess → (List ℕ → List ℕ → Writing) →
 IsAskedRun process writes old new (build dirs drop_twins file) = IsBuild process.environment process.to_terminal dirs drop_twins file writes old new
 IsAskedRun process writes old new (plain dirs options subjects) = IsPlain old process dirs options subjects
 IsAskedRun process writes old new (list source) = IsList old process.environment source
+IsAskedRun process writes old new (check source) = IsCheck old process.environment source
 IsAskedRun process writes old new (is_a source kind base) = IsSubclassRun old process.environment source kind base
 IsAskedRun process writes old new (icon source kind) = IsIcon old process.environment source kind
 IsAskedRun process writes old new (type_of source options subjects) = IsType old process source options subjects

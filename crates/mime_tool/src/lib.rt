@@ -21,6 +21,7 @@
 
 mod build;
 mod cache;
+mod check;
 mod desk;
 mod directories;
 mod environment;

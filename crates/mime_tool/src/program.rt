@@ -17,6 +17,7 @@ ghost use Rattle.mime_tool.specs.Subjects.{file_words};
 ghost use Rattle.mime_tool.specs.Words.{heard, heard_in, means, not_text, with_names};
 
 use crate::build::build;
+use crate::check::check;
 use crate::desk::{Desk, Streams};
 use crate::files::Files;
 use crate::icon::icon;
@@ -230,6 +231,7 @@ fn answer<D: Desk, I: Content + Drop>(
             subjects,
         } => plain::print_types(desk, process, directories, *options, subjects, raws),
         Request::List { source } => list(desk, environment, source),
+        Request::Check { source } => check(desk, environment, source),
         Request::IsA { source, kind, base } => is_a(desk, environment, source, *kind, *base),
         Request::Icon { source, kind } => icon(desk, environment, source, *kind),
         Request::Type {

@@ -1,15 +1,16 @@
--- What the usual spellings of `list`, `isa` and `icon` mean.
+-- What the usual spellings of `list`, `check`, `isa` and `icon` mean.
 use Rattle.std.proofs.Common.{◌≡◌, false, [], ◌∷◌, Some, None, append-nil, refl, codes}
 use Rattle.clap.specs.Walk.{Text, Walk, finished, idle, used}
 use Rattle.clap.specs.Simple.{filled, with_index}
 use Rattle.clap.proofs.OnLiterals.{clap_on_literals}
 use Rattle.mime_request.specs.CommandLine.{kind_rule}
-use Rattle.mime_request.specs.Request.{asks, icon, icon_meaning, is_a, is_a_meaning, list, list_meaning, meaning_of}
-use Rattle.mime_request.specs.Spelling.{Named, by_cache, by_directories, by_nothing, icon_words, is_a_words, is_option, list_words}
+use Rattle.mime_request.specs.Request.{asks, check, check_meaning, icon, icon_meaning, is_a, is_a_meaning, list, list_meaning, meaning_of}
+use Rattle.mime_request.specs.Spelling.{Named, by_cache, by_directories, by_nothing, check_words, icon_words, is_a_words, is_option, list_words}
 use Rattle.mime_request.specs.Spelling.{source_of, source_word, source_words}
 use Rattle.mime_request.proofs.WalkLemmas.CommandWords.{meaning_of-met}
 use Rattle.mime_request.proofs.WalkLemmas.PlainWords.{IsPlainWord, plain_word}
-use Rattle.mime_request.proofs.CommandLemmas.Shapes.{cache_met, icon_over, icon_shape, is_a_over, is_a_shape, list_over, list_shape}
+use Rattle.mime_request.proofs.CommandLemmas.Shapes.{cache_met, check_over, check_shape, icon_over, icon_shape, is_a_over, is_a_shape}
+use Rattle.mime_request.proofs.CommandLemmas.Shapes.{list_over, list_shape}
 use Rattle.mime_request.proofs.WalkLemmas.SourceWords.{after_source, over_source, source_used}
 use Rattle.mime_request.proofs.WalkLemmas.ValueWords.{positional_takes}
 use Rattle.mime_request.proofs.WalkLemmas.Walks.{Steps, at_position, end_fault, ends, goes}
@@ -49,6 +50,13 @@ list_fits (by_cache cache) = refl
 list_fits (by_directories dirs) = refl
 list_fits by_nothing = refl
 
+-- nothing is missing at the end of the words of `check`
+check_fits : (by : Named) → end_fault check_shape false (after_source by).held ≡ []
+unfolding clap_on_literals
+check_fits (by_cache cache) = refl
+check_fits (by_directories dirs) = refl
+check_fits by_nothing = refl
+
 -- nothing is missing at the end of the words of `icon`
 icon_fits : (by : Named) (kind : Text) → end_fault icon_shape false (after_kind by kind).held ≡ []
 unfolding clap_on_literals
@@ -69,6 +77,13 @@ unfolding clap_on_literals
 list_means (by_cache cache) = refl
 list_means (by_directories dirs) = refl
 list_means by_nothing = refl
+
+-- what is held at the end of the words of `check` asks for a check
+check_means : (by : Named) → check_meaning (finished check_shape.rules (after_source by).held) ≡ asks (check (source_of by))
+unfolding clap_on_literals
+check_means (by_cache cache) = refl
+check_means (by_directories dirs) = refl
+check_means by_nothing = refl
 
 -- what is held at the end of the words of `icon` asks for its icons
 icon_means : (by : Named) (kind : Text)
@@ -91,6 +106,13 @@ pub meaning_of-usual_list : (by : Named) → is_option (source_word by) ≡ fals
 meaning_of-usual_list by h =
     rw (append-nil (source_words by)) at (meaning_of-met (cache_met list_over) _ (after_source by) _
     (over_source list_over by [] _ h (ends (after_source by))) (list_fits by) (list_means by))
+
+-- what `check [-c CACHE | -d DIRS]` means
+pub meaning_of-usual_check : (by : Named) → is_option (source_word by) ≡ false
+    → meaning_of (check_words by) ≡ asks (check (source_of by))
+meaning_of-usual_check by h =
+    rw (append-nil (source_words by)) at (meaning_of-met (cache_met check_over) _ (after_source by) _
+    (over_source check_over by [] _ h (ends (after_source by))) (check_fits by) (check_means by))
 
 -- what `icon [-c CACHE | -d DIRS] TYPE` means
 pub meaning_of-usual_icon : (by : Named) (kind : Text) → is_option (source_word by) ≡ false → is_option kind ≡ false

@@ -6,7 +6,7 @@ use Rattle.clap.proofs.OnLiterals.{clap_on_literals}
 use Rattle.mime_request.specs.CommandLine.{cache_rule, directories_rule}
 use Rattle.mime_request.specs.Spelling.{Named, by_cache, by_directories, by_nothing, is_option, source_word, source_words}
 use Rattle.mime_request.proofs.WalkLemmas.PlainWords.{IsPlainWord, plain_word}
-use Rattle.mime_request.proofs.CommandLemmas.Shapes.{OverCache, cache_met, icon_over, is_a_over, list_over, shape_of, type_over}
+use Rattle.mime_request.proofs.CommandLemmas.Shapes.{OverCache, cache_met, check_over, icon_over, is_a_over, list_over, shape_of, type_over}
 use Rattle.mime_request.proofs.WalkLemmas.ValueWords.{value_taken}
 use Rattle.mime_request.proofs.WalkLemmas.Walks.{Steps, Leads, after_value, before_value, goes}
 
@@ -27,6 +27,7 @@ option_c : (m : OverCache)
     → Steps (shape_of (cache_met m)) [] (walk_from nothing_held) (codes "-c") (before_value (codes "cache") [])
 unfolding clap_on_literals
 option_c list_over = record { no_fault = refl; moves = refl }
+option_c check_over = record { no_fault = refl; moves = refl }
 option_c is_a_over = record { no_fault = refl; moves = refl }
 option_c icon_over = record { no_fault = refl; moves = refl }
 option_c type_over = record { no_fault = refl; moves = refl }
@@ -35,6 +36,7 @@ option_c type_over = record { no_fault = refl; moves = refl }
 cache_value : (m : OverCache) (cache : Text) → IsPlainWord cache
     → Steps (shape_of (cache_met m)) [] (before_value (codes "cache") []) cache (after_source (by_cache cache))
 cache_value list_over cache h = value_taken _ _ _ [] cache refl refl h
+cache_value check_over cache h = value_taken _ _ _ [] cache refl refl h
 cache_value is_a_over cache h = value_taken _ _ _ [] cache refl refl h
 cache_value icon_over cache h = value_taken _ _ _ [] cache refl refl h
 cache_value type_over cache h = value_taken _ _ _ [] cache refl refl h
@@ -44,6 +46,7 @@ option_d : (m : OverCache)
     → Steps (shape_of (cache_met m)) [] (walk_from nothing_held) (codes "-d") (before_value (codes "dirs") [])
 unfolding clap_on_literals
 option_d list_over = record { no_fault = refl; moves = refl }
+option_d check_over = record { no_fault = refl; moves = refl }
 option_d is_a_over = record { no_fault = refl; moves = refl }
 option_d icon_over = record { no_fault = refl; moves = refl }
 option_d type_over = record { no_fault = refl; moves = refl }
@@ -52,6 +55,7 @@ option_d type_over = record { no_fault = refl; moves = refl }
 directories_value : (m : OverCache) (dirs : Text) → IsPlainWord dirs
     → Steps (shape_of (cache_met m)) [] (before_value (codes "dirs") []) dirs (after_source (by_directories dirs))
 directories_value list_over dirs h = value_taken _ _ _ [] dirs refl refl h
+directories_value check_over dirs h = value_taken _ _ _ [] dirs refl refl h
 directories_value is_a_over dirs h = value_taken _ _ _ [] dirs refl refl h
 directories_value icon_over dirs h = value_taken _ _ _ [] dirs refl refl h
 directories_value type_over dirs h = value_taken _ _ _ [] dirs refl refl h

@@ -19,7 +19,7 @@ XDG_DATA_DIRS, or else /usr/local/share and /usr/share.
 
 Exit status:
   0  what was asked for was done; or help or the version was printed
-  1  some file not answered, or isa says no
+  1  some file not answered, isa says no, or check finds no database
   2  the command line is wrong
   3  database, cache or output refused
   4  out of memory
@@ -99,6 +99,35 @@ Exit status:
 Example:
   $ mimelook list -c /usr/share/mime/mime.cache
   50:text/plain:*.txt",
+};
+
+pub(crate) const CHECK: HelpTexts<'static> = HelpTexts {
+    about: "Prints how much a cache has of each list, if it is sound",
+    usage: "mimelook check [-c CACHE | -d DIRS]",
+    after_help: "\
+Messages go to standard error. The cache is read back, and each of its lists is
+counted, and the lines of magic. One that spells no database is refused by its
+first part that can't be read back: header, aliases, subclasses, literals,
+suffixes, globs, magic, icons or generic icons. With -d the cache is made of
+DIRS, as build makes it; without -c and -d, of the user's data directories (see
+mimelook --help).
+
+Exit status:
+  0  the counts were printed; or help or the version was printed
+  1  the cache can be opened, but spells no database
+  2  the command line is wrong, or a word of it is not UTF-8
+  3  the data can't be read or is refused, or the output can't be written
+  4  out of memory
+
+Example:
+  $ mimelook check -c mime.cache
+  rules 2
+  aliases 1
+  subclasses 1
+  sections 1
+  lines 1
+  icons 0
+  generic-icons 0",
 };
 
 pub(crate) const IS_A: HelpTexts<'static> = HelpTexts {

@@ -1,7 +1,7 @@
 //! The commands over a cache.
 
 ghost use Rattle.clap.specs.Words.{found_of, rows_of};
-ghost use Rattle.mime_request.specs.Request.{Means, icon_meaning, is_a_meaning, list_meaning, type_meaning};
+ghost use Rattle.mime_request.specs.Request.{Means, check_meaning, icon_meaning, is_a_meaning, list_meaning, type_meaning};
 
 use super::Request;
 use super::data::source_of;
@@ -22,6 +22,17 @@ pub(super) fn request_of_list<'a>(
 {
     let source = source_of(alloc, matches)?;
     Ok(Request::List { source })
+}
+
+pub(super) fn request_of_check<'a>(
+    alloc: Global,
+    matches: &ArgMatches<'a>,
+) -> Result<Request<'a>, Error>
+    // The result is what `check` means by what clap found after it.
+    ensures { Means (check_meaning (rows_of (found_of matches.now))) result }
+{
+    let source = source_of(alloc, matches)?;
+    Ok(Request::Check { source })
 }
 
 pub(super) fn request_of_is_a<'a>(

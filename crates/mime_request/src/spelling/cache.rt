@@ -2,8 +2,8 @@
 
 ghost use Rattle.std.specs.Prelude.{◌≡◌, ◌++◌, List, false};
 ghost use Rattle.clap.specs.Walk.{Text};
-ghost use Rattle.mime_request.specs.Request.{PlainSubjects, asks, icon, is_a, list, meaning_of, type_of};
-ghost use Rattle.mime_request.specs.Spelling.{AreUsual, Flag, Named, icon_words, is_a_words, is_option, list_words};
+ghost use Rattle.mime_request.specs.Request.{PlainSubjects, asks, check, icon, is_a, list, meaning_of, type_of};
+ghost use Rattle.mime_request.specs.Spelling.{AreUsual, Flag, Named, check_words, icon_words, is_a_words, is_option, list_words};
 ghost use Rattle.mime_request.specs.Spelling.{options_by, source_word, source_of, type_words};
 
 /// `list [-c CACHE | -d DIRS]` asks for the rules of this cache, or of one made of these directories
@@ -12,6 +12,14 @@ pub fn usual_spelling_of_list()
     // For any CACHE or DIRS that doesn't begin with a hyphen, and without either.
     ensures { (by : Named) → is_option (source_word by) ≡ false
         → meaning_of (list_words by) ≡ asks (list (source_of by)) }
+{}
+
+/// `check [-c CACHE | -d DIRS]` asks whether this cache spells a database, or one made of these
+/// directories or of the user's.
+pub fn usual_spelling_of_check()
+    // For any CACHE or DIRS that doesn't begin with a hyphen, and without either.
+    ensures { (by : Named) → is_option (source_word by) ≡ false
+        → meaning_of (check_words by) ≡ asks (check (source_of by)) }
 {}
 
 /// `isa [-c CACHE | -d DIRS] TYPE BASE` asks, by this cache, whether TYPE is BASE.

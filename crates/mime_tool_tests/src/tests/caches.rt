@@ -1,6 +1,7 @@
 //! What the commands over a cache print and say.
 
 mod answers;
+mod checks;
 mod cost;
 mod failing;
 mod faults;
@@ -17,6 +18,7 @@ use std::process::Abort;
 use std::test::Fail;
 
 /// What is stored at the path `/c`: a front of the cache, with one byte changed.
+#[derive(Clone, Copy)]
 struct Cache {
     length: usize,
     at: usize,
@@ -32,6 +34,7 @@ const WHOLE: Cache = Cache {
 };
 
 /// Words over a cache, and the status and the texts that answer them.
+#[derive(Clone, Copy)]
 struct Row {
     name: &'static str,
     words: &'static [&'static str],

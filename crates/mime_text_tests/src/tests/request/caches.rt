@@ -70,6 +70,29 @@ static LISTS: [Asked; 7] = [
     },
 ];
 
+static CHECKS: [Asked; 4] = [
+    Asked {
+        name: "no source",
+        words: &["check"],
+        request: r#"Check { source: Directories(User) }"#,
+    },
+    Asked {
+        name: "DIRS",
+        words: &["check", "-d", "b::a"],
+        request: r#"Check { source: Directories(Named(["b", "a"])) }"#,
+    },
+    Asked {
+        name: "usual words",
+        words: &["check", "-c", "c"],
+        request: r#"Check { source: Cache("c") }"#,
+    },
+    Asked {
+        name: "command's name",
+        words: &["check", "--cache", "check"],
+        request: r#"Check { source: Cache("check") }"#,
+    },
+];
+
 static IS_AS: [Asked; 8] = [
     Asked {
         name: "no source",
@@ -303,6 +326,11 @@ fn asks_for_the_users_directories(rt: HostRuntime) -> Result<(), Fail> {
 #[test]
 fn asks_for_the_rules_of_a_cache(rt: HostRuntime) -> Result<(), Fail> {
     asks(&rt, rt.alloc(), &LISTS)
+}
+
+#[test]
+fn asks_for_a_check(rt: HostRuntime) -> Result<(), Fail> {
+    asks(&rt, rt.alloc(), &CHECKS)
 }
 
 #[test]

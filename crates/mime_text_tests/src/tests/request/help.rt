@@ -16,6 +16,8 @@ const OF_PLAIN: &str = "Prints FILE: TYPE for each FILE, with no cache between";
 
 const OF_LIST: &str = "Prints a line WEIGHT:TYPE:PATTERN for each glob rule of a cache";
 
+const OF_CHECK: &str = "Prints how much a cache has of each list, if it is sound";
+
 const OF_IS_A: &str = "Prints yes where TYPE is BASE or is derived from it, and else no";
 
 const OF_ICON: &str = "Prints the icon and the generic icon of a type";
@@ -29,7 +31,7 @@ struct Help {
     first_line: &'static str,
 }
 
-static HELPS: [Help; 12] = [
+static HELPS: [Help; 13] = [
     Help {
         name: "help",
         words: &["--help"],
@@ -74,6 +76,11 @@ static HELPS: [Help; 12] = [
         name: "help of list",
         words: &["list", "--help"],
         first_line: OF_LIST,
+    },
+    Help {
+        name: "help of check",
+        words: &["check", "--help"],
+        first_line: OF_CHECK,
     },
     Help {
         name: "help of isa",

@@ -11,6 +11,8 @@ use std::test::Fail;
 
 const LIST: &[&str] = &["list", "-c", "/c"];
 
+const CHECK: &[&str] = &["check", "-c", "/c"];
+
 const IS_A: &[&str] = &["isa", "-c", "/c", "t/h", "t/m"];
 
 const ICON: &[&str] = &["icon", "-c", "/c", "t/h"];
@@ -53,10 +55,15 @@ const NO_ROOM: Row = Row {
     ..ROW
 };
 
-static ROWS: [Row; 15] = [
+static ROWS: [Row; 17] = [
     Row {
         name: "list, no cache",
         words: LIST,
+        ..ROW
+    },
+    Row {
+        name: "check, no cache",
+        words: CHECK,
         ..ROW
     },
     Row {
@@ -76,6 +83,11 @@ static ROWS: [Row; 15] = [
     Row {
         name: "list, no memory for the cache",
         words: LIST,
+        ..NO_ROOM
+    },
+    Row {
+        name: "check, no memory for the cache",
+        words: CHECK,
         ..NO_ROOM
     },
     Row {
@@ -177,12 +189,21 @@ struct Puts {
     said: &'static str,
 }
 
-static PUTS: [Puts; 4] = [
+static PUTS: [Puts; 5] = [
     Puts {
         name: "list",
         words: LIST,
         pieces: &[
             "50", ":", "t/m", ":", "mk", "\n", "50", ":", "t/g", ":", "*.gz", "\n",
+        ],
+        handed_on: 0,
+        said: "",
+    },
+    Puts {
+        name: "check",
+        words: CHECK,
+        pieces: &[
+            "rules 2\naliases 1\nsubclasses 1\nsections 1\nlines 1\nicons 0\ngeneric-icons 0\n",
         ],
         handed_on: 0,
         said: "",

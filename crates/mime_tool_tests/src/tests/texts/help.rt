@@ -14,6 +14,7 @@ Commands:
   build  Writes a mime.cache from the text files of data directories
   plain  Prints FILE: TYPE for each FILE, with no cache between
   list   Prints a line WEIGHT:TYPE:PATTERN for each glob rule of a cache
+  check  Prints how much a cache has of each list, if it is sound
   isa    Prints yes where TYPE is BASE or is derived from it, and else no
   icon   Prints the icon and the generic icon of a type
   type   Prints FILE: TYPE for each FILE, by a cache
@@ -30,7 +31,7 @@ XDG_DATA_DIRS, or else /usr/local/share and /usr/share.
 
 Exit status:
   0  what was asked for was done; or help or the version was printed
-  1  some file not answered, or isa says no
+  1  some file not answered, isa says no, or check finds no database
   2  the command line is wrong
   3  database, cache or output refused
   4  out of memory

@@ -3,7 +3,7 @@
 use super::{Refused, are_refused};
 use clap::error::ErrorKind;
 
-static REFUSED: [Refused; 21] = [
+static REFUSED: [Refused; 23] = [
     Refused {
         name: "-c without CACHE",
         words: &["list", "-c"],
@@ -33,6 +33,16 @@ static REFUSED: [Refused; 21] = [
         name: "an option of plain after list",
         words: &["list", "-c", "c", "--name-only"],
         kind: ErrorKind::UnknownArgument,
+    },
+    Refused {
+        name: "a word after check",
+        words: &["check", "c"],
+        kind: ErrorKind::UnknownArgument,
+    },
+    Refused {
+        name: "both -c and -d after check",
+        words: &["check", "-d", "a", "-c", "c"],
+        kind: ErrorKind::ArgumentConflict,
     },
     Refused {
         name: "no words after isa",

@@ -32,6 +32,45 @@ Example:
   50:text/plain:*.txt
 ";
 
+const CHECK_HELP: &str = "\
+Prints how much a cache has of each list, if it is sound
+
+Usage: mimelook check [-c CACHE | -d DIRS]
+
+Options:
+  -c, --cache <CACHE>     The cache to read, such as
+                          /usr/share/mime/mime.cache
+  -d, --data-dirs <DIRS>  Data directories, most preferred first, with colons
+                          between them, such as /usr/local/share:/usr/share;
+                          an empty part is skipped
+  -h, --help              Print help
+  -V, --version           Print version
+
+Messages go to standard error. The cache is read back, and each of its lists is
+counted, and the lines of magic. One that spells no database is refused by its
+first part that can't be read back: header, aliases, subclasses, literals,
+suffixes, globs, magic, icons or generic icons. With -d the cache is made of
+DIRS, as build makes it; without -c and -d, of the user's data directories (see
+mimelook --help).
+
+Exit status:
+  0  the counts were printed; or help or the version was printed
+  1  the cache can be opened, but spells no database
+  2  the command line is wrong, or a word of it is not UTF-8
+  3  the data can't be read or is refused, or the output can't be written
+  4  out of memory
+
+Example:
+  $ mimelook check -c mime.cache
+  rules 2
+  aliases 1
+  subclasses 1
+  sections 1
+  lines 1
+  icons 0
+  generic-icons 0
+";
+
 const IS_A_HELP: &str = "\
 Prints yes where TYPE is BASE or is derived from it, and else no
 
@@ -168,11 +207,17 @@ Example:
   notes.txt: text/plain
 ";
 
-static HELPS: [Row<'static>; 4] = [
+static HELPS: [Row<'static>; 5] = [
     Row {
         name: "help of list",
         words: &["list", "--help"],
         out: LIST_HELP,
+        ..PRINTED
+    },
+    Row {
+        name: "help of check",
+        words: &["check", "--help"],
+        out: CHECK_HELP,
         ..PRINTED
     },
     Row {
