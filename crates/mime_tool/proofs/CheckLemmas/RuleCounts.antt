@@ -5,7 +5,8 @@ use Rattle.std.specs.declared.alloc.Global.{Global}
 use Rattle.std.proofs.lemmas.List.{length-map}
 use Rattle.mime_base.specs.Format.Stored.{glob_rules, is_in_literals, is_in_tree, literal_rules, tree_rules}
 use Rattle.mime_base.specs.declared.database.rule.GlobRule.{GlobRule}
-use Rattle.mime_load.specs.Lent.{plain_leaf, plain_leaves, plain_lists, plain_rule, plain_rules}
+use Rattle.mime_base.specs.Database.Lent.{plain_rule}
+use Rattle.mime_load.specs.Lent.{plain_leaf, plain_leaves, plain_lists, plain_rules}
 use Rattle.mime_load.specs.declared.lists.Lists.{Lists}
 
 -- one rule more, which is in one of three lists
