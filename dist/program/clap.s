@@ -8699,7 +8699,7 @@
 	shll	$3, %r9d
 	leaq	".Lswitch.table.clap::builder::command::building::build_levels"(%rip), %r10
 	movq	(%r9,%r10), %r10
-	leaq	".Lswitch.table.clap::builder::command::building::build_levels.2243"(%rip), %r11
+	leaq	".Lswitch.table.clap::builder::command::building::build_levels.2479"(%rip), %r11
 	movq	(%r9,%r11), %r9
 	movq	$1, -83(%rdi,%rsi)
 	movq	%r10, -75(%rdi,%rsi)
@@ -33610,7 +33610,7 @@
 	movq	$-1, 264(%rsp)
 	leaq	224(%rsp), %rdi
 	leaq	192(%rsp), %rsi
-	callq	"core::fmt::formatter::Formatter::write_piece::<#0584b03bf03810b7>"
+	callq	"core::fmt::formatter::Formatter::write_piece::<#499173829830abb3>"
 	testb	%al, %al
 	jne	209f
 	leaq	252(%rsp), %rbp
@@ -33994,7 +33994,7 @@
 	shll	$3, %eax
 	leaq	".Lswitch.table.clap::parser::parse::Parser::check_value"(%rip), %rcx
 	movq	(%rax,%rcx), %rdx
-	leaq	".Lswitch.table.clap::parser::parse::Parser::check_value.2244"(%rip), %rcx
+	leaq	".Lswitch.table.clap::parser::parse::Parser::check_value.2480"(%rip), %rcx
 	movq	(%rax,%rcx), %rsi
 	cmpq	$0, 272(%rsp)
 	jne	241f
@@ -34069,7 +34069,7 @@
 192:
 	leaq	224(%rsp), %rdi
 	leaq	184(%rsp), %rsi
-	callq	"core::fmt::formatter::Formatter::write_piece::<#0584b03bf03810b7>"
+	callq	"core::fmt::formatter::Formatter::write_piece::<#499173829830abb3>"
 	testb	%al, %al
 	jne	209f
 	movb	%r14b, %r15b
@@ -34227,7 +34227,7 @@
 208:
 	leaq	224(%rsp), %rdi
 	leaq	176(%rsp), %rsi
-	callq	"core::fmt::formatter::Formatter::write_piece::<#0584b03bf03810b7>"
+	callq	"core::fmt::formatter::Formatter::write_piece::<#499173829830abb3>"
 	testb	%al, %al
 	je	218f
 209:
@@ -46918,7 +46918,7 @@
 	jne	37b
 	movq	%r8, 104(%rsp)
 	leaq	40(%rsp), %rdi
-	callq	"std_alloc::vec::Vec::grow_amortized::<#3e74848cb5369e83>"
+	callq	"std_alloc::vec::Vec::grow_amortized::<#383af2bc39eacab1>"
 	testb	%al, %al
 	je	61f
 	movq	40(%rsp), %rsi
@@ -46966,7 +46966,7 @@
 	movq	%rbp, 96(%rsp)
 	movq	%r11, %rbp
 	leaq	40(%rsp), %rdi
-	callq	"std_alloc::vec::Vec::grow_amortized::<#3e74848cb5369e83>"
+	callq	"std_alloc::vec::Vec::grow_amortized::<#383af2bc39eacab1>"
 	testb	%al, %al
 	jne	43b
 	cmpq	$0, 56(%rsp)

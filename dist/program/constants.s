@@ -42,6 +42,12 @@
 	.ascii	"XDG_DATA_DIRS"
 	.size	.L04051264a0a2, 13
 
+	.type	.L043ca65c74e6,@object
+	.section	.rodata,"a",@progbits
+.L043ca65c74e6:
+	.ascii	"check"
+	.size	.L043ca65c74e6, 5
+
 	.type	.L048e159fe161,@object
 	.section	.rodata.cst8,"aM",@progbits,8
 .L048e159fe161:
@@ -144,6 +150,12 @@
 	.ascii	"[OPTIONS] "
 	.size	.L13a276205647, 10
 
+	.type	.L13ac6419e7c4,@object
+	.section	.rodata,"a",@progbits
+.L13ac6419e7c4:
+	.ascii	"\nlines "
+	.size	.L13ac6419e7c4, 7
+
 	.type	.L14f56114f1a6,@object
 	.section	.rodata,"a",@progbits
 .L14f56114f1a6:
@@ -179,6 +191,12 @@
 .L1a16e401f121:
 	.ascii	"-x-generic"
 	.size	.L1a16e401f121, 10
+
+	.type	.L1aa1dd9a1423,@object
+	.section	.rodata,"a",@progbits
+.L1aa1dd9a1423:
+	.ascii	"/mime/globs2"
+	.size	.L1aa1dd9a1423, 12
 
 	.type	.L1b44da35fd51,@object
 	.section	.rodata,"a",@progbits
@@ -271,6 +289,12 @@
 	.ascii	"isa"
 	.size	.L2423db314c3e, 3
 
+	.type	.L2592ead59db3,@object
+	.section	.rodata,"a",@progbits
+.L2592ead59db3:
+	.ascii	"/globs2: DIRS end before /mime"
+	.size	.L2592ead59db3, 30
+
 	.type	.L26d6a82f2e39,@object
 	.section	.rodata.cst4,"aM",@progbits,4
 .L26d6a82f2e39:
@@ -282,6 +306,18 @@
 .L27dbf9885ebd:
 	.ascii	"\\u{"
 	.size	.L27dbf9885ebd, 3
+
+	.type	.L28bf7eaf625e,@object
+	.section	.rodata,"a",@progbits
+.L28bf7eaf625e:
+	.ascii	"no database: magic"
+	.size	.L28bf7eaf625e, 18
+
+	.type	.L28ccb1e04a55,@object
+	.section	.rodata,"a",@progbits
+.L28ccb1e04a55:
+	.ascii	"Messages go to standard error. The cache is read back, and each of its lists is\ncounted, and the lines of magic. One that spells no database is refused by its\nfirst part that can't be read back: header, aliases, subclasses, literals,\nsuffixes, globs, magic, icons or generic icons. With -d the cache is made of\nDIRS, as build makes it; without -c and -d, of the user's data directories (see\nmimelook --help).\n\nExit status:\n  0  the counts were printed; or help or the version was printed\n  1  the cache can be opened, but spells no database\n  2  the command line is wrong, or a word of it is not UTF-8\n  3  the data can't be read or is refused, or the output can't be written\n  4  out of memory\n\nExample:\n  $ mimelook check -c mime.cache\n  rules 2\n  aliases 1\n  subclasses 1\n  sections 1\n  lines 1\n  icons 0\n  generic-icons 0"
+	.size	.L28ccb1e04a55, 825
 
 	.type	.L28ef7528cbc3,@object
 	.section	.rodata,"a",@progbits
@@ -312,6 +348,12 @@
 .L2e403fc0c1a9:
 	.ascii	"inode/directory"
 	.size	.L2e403fc0c1a9, 15
+
+	.type	.L32cfbbe30233,@object
+	.section	.rodata,"a",@progbits
+.L32cfbbe30233:
+	.ascii	"no database: globs"
+	.size	.L32cfbbe30233, 18
 
 	.type	.L32d1a5938230,@object
 	.section	.rodata,"a",@progbits
@@ -433,6 +475,12 @@
 	.ascii	"'.\n"
 	.size	.L3ef631d2bde6, 3
 
+	.type	.L3f2a817f0bb3,@object
+	.section	.rodata,"a",@progbits
+.L3f2a817f0bb3:
+	.ascii	"no database: suffixes"
+	.size	.L3f2a817f0bb3, 21
+
 	.type	.L3f2f752be469,@object
 	.section	.rodata.cst16,"aM",@progbits,16
 .L3f2f752be469:
@@ -511,6 +559,12 @@
 	.ascii	"\n  tip: to pass '"
 	.size	.L4aed72c3dd5d, 17
 
+	.type	.L4c6ba88da681,@object
+	.section	.rodata,"a",@progbits
+.L4c6ba88da681:
+	.ascii	"The cache to write; it is written as FILE.new and then\nrenamed; - is standard output, if that is no terminal"
+	.size	.L4c6ba88da681, 108
+
 	.type	.L4ebc56ecf78e,@object
 	.section	.rodata,"a",@progbits
 .L4ebc56ecf78e:
@@ -570,6 +624,12 @@
 	.ascii	"dirs"
 	.size	.L558c2c36d03f, 4
 
+	.type	.L578e4c20615e,@object
+	.section	.rodata,"a",@progbits
+.L578e4c20615e:
+	.ascii	"no database: header"
+	.size	.L578e4c20615e, 19
+
 	.type	.L579358eabf37,@object
 	.section	.rodata,"a",@progbits
 .L579358eabf37:
@@ -581,12 +641,6 @@
 .L5860946f919d:
 	.ascii	"Print help"
 	.size	.L5860946f919d, 10
-
-	.type	.L5892175444b0,@object
-	.section	.rodata,"a",@progbits
-.L5892175444b0:
-	.ascii	"Messages go to standard error. The --help of a command says more of its exit\nstatuses. Without -c CACHE and -d DIRS, each command asks the user's data\ndirectories: XDG_DATA_HOME, or else .local/share below HOME, and then those of\nXDG_DATA_DIRS, or else /usr/local/share and /usr/share.\n\nExit status:\n  0  what was asked for was done; or help or the version was printed\n  1  some file not answered, or isa says no\n  2  the command line is wrong\n  3  database, cache or output refused\n  4  out of memory\n\nExamples:\n  $ mimelook type notes.txt\n  notes.txt: text/plain\n  $ mimelook type -c /usr/share/mime/mime.cache notes.txt\n  notes.txt: text/plain\n  $ mimelook build -d /usr/local/share:/usr/share -o mime.cache"
-	.size	.L5892175444b0, 710
 
 	.type	.L599d078cb9c2,@object
 	.section	.rodata,"a",@progbits
@@ -618,6 +672,12 @@
 	.ascii	" values required for '"
 	.size	.L614b23338c11, 22
 
+	.type	.L62256f76d65b,@object
+	.section	.rodata,"a",@progbits
+.L62256f76d65b:
+	.ascii	"no database: aliases"
+	.size	.L62256f76d65b, 20
+
 	.type	.L623ff20ee80d,@object
 	.section	.rodata,"a",@progbits
 .L623ff20ee80d:
@@ -642,11 +702,23 @@
 	.ascii	"application/octet-stream"
 	.size	.L67248b46a1a0, 24
 
+	.type	.L6816ec0e2931,@object
+	.section	.rodata,"a",@progbits
+.L6816ec0e2931:
+	.ascii	"rules "
+	.size	.L6816ec0e2931, 6
+
 	.type	.L68dfee7977ff,@object
 	.section	.rodata,"a",@progbits
 .L68dfee7977ff:
 	.ascii	"give -o FILE"
 	.size	.L68dfee7977ff, 12
+
+	.type	.L6916822dd05f,@object
+	.section	.rodata,"a",@progbits
+.L6916822dd05f:
+	.ascii	"no database: literals"
+	.size	.L6916822dd05f, 21
 
 	.type	.L697ad99c4710,@object
 	.section	.rodata,"a",@progbits
@@ -781,6 +853,12 @@
 	.ascii	"Data directories, most preferred first, with colons\nbetween them, such as /usr/local/share:/usr/share;\nan empty part is skipped"
 	.size	.L797f014df943, 127
 
+	.type	.L7990ae6ec50f,@object
+	.section	.rodata,"a",@progbits
+.L7990ae6ec50f:
+	.ascii	"mimelook: no cache is written to a terminal\n"
+	.size	.L7990ae6ec50f, 44
+
 	.type	.L79d79dcad8f3,@object
 	.section	.rodata,"a",@progbits
 .L79d79dcad8f3:
@@ -829,6 +907,12 @@
 	.ascii	", "
 	.size	.L807e89e39460, 2
 
+	.type	.L81cfd07821a2,@object
+	.section	.rodata,"a",@progbits
+.L81cfd07821a2:
+	.ascii	": not replaced\n"
+	.size	.L81cfd07821a2, 15
+
 	.type	.L81e54fa2e54f,@object
 	.section	.rodata,"a",@progbits
 .L81e54fa2e54f:
@@ -851,6 +935,12 @@
 .L85097403f6a7:
 	.ascii	"BASE"
 	.size	.L85097403f6a7, 4
+
+	.type	.L86b0a5dcfbaa,@object
+	.section	.rodata,"a",@progbits
+.L86b0a5dcfbaa:
+	.ascii	"sections "
+	.size	.L86b0a5dcfbaa, 9
 
 	.type	.L87269e8ec07e,@object
 	.section	.rodata,"a",@progbits
@@ -1026,6 +1116,12 @@
 	.ascii	"mimelook: out of memory"
 	.size	.L9eed94c034fc, 23
 
+	.type	.La0a61d465b98,@object
+	.section	.rodata,"a",@progbits
+.La0a61d465b98:
+	.ascii	"Messages go to standard error. The files are DIR/mime/globs2, magic, aliases,\nsubclasses, icons and generic-icons; a missing one counts as empty. Without -d\nthe directories are the user's (see mimelook --help).\nglobs2 gives each rule with cs a twin without it, by which CORE and A.GS have a\ntype. With --drop-twins they have none, since GLib, Qt and xdgmime read caches\nthat have no twins.\n\nExit status:\n  0  FILE was written; or help or the version was printed\n  2  the command line is wrong, or a word of it is not UTF-8\n  3  the data can't be read or is refused, the database is too large, FILE\n     can't be written, or it is there and no directory has a text file\n  4  out of memory\n\nExample:\n  $ mimelook build -d /usr/local/share:/usr/share -o mime.cache"
+	.size	.La0a61d465b98, 761
+
 	.type	.La1415167c923,@object
 	.section	.rodata,"a",@progbits
 .La1415167c923:
@@ -1037,6 +1133,12 @@
 .La1f949b3aadb:
 	.ascii	"not a type"
 	.size	.La1f949b3aadb, 10
+
+	.type	.La3c42d80fcd3,@object
+	.section	.rodata,"a",@progbits
+.La3c42d80fcd3:
+	.ascii	"no database: icons"
+	.size	.La3c42d80fcd3, 18
 
 	.type	.La487fc8a0498,@object
 	.section	.rodata,"a",@progbits
@@ -1080,12 +1182,6 @@
 	.ascii	"es"
 	.size	.La7e343717825, 2
 
-	.type	.Laa12b8a65fd3,@object
-	.section	.rodata,"a",@progbits
-.Laa12b8a65fd3:
-	.ascii	"The cache to write; it is written as FILE.new and then\nrenamed"
-	.size	.Laa12b8a65fd3, 62
-
 	.type	.Laa68302af712,@object
 	.section	.rodata,"a",@progbits
 .Laa68302af712:
@@ -1104,6 +1200,12 @@
 	.ascii	"give a FILE, --files0-from LIST or --stdin NAME"
 	.size	.Lab5c34a0a1e7, 47
 
+	.type	.Lac43eb984e3c,@object
+	.section	.rodata,"a",@progbits
+.Lac43eb984e3c:
+	.ascii	"\nicons "
+	.size	.Lac43eb984e3c, 7
+
 	.type	.Lac7356f345ce,@object
 	.section	.rodata,"a",@progbits
 .Lac7356f345ce:
@@ -1115,6 +1217,12 @@
 .Lacc9607a0d71:
 	.ascii	"Go by the names alone: no FILE is opened"
 	.size	.Lacc9607a0d71, 40
+
+	.type	.Lad6fdadda423,@object
+	.section	.rodata,"a",@progbits
+.Lad6fdadda423:
+	.ascii	"; there is "
+	.size	.Lad6fdadda423, 11
 
 	.type	.Ladfe6cd27f2c,@object
 	.section	.rodata,"a",@progbits
@@ -1146,23 +1254,29 @@
 	.ascii	"' found; no more were expected"
 	.size	.Lb497d0178b7a, 30
 
+	.type	.Lb4d0460a73df,@object
+	.section	.rodata,"a",@progbits
+.Lb4d0460a73df:
+	.ascii	"no database: subclasses"
+	.size	.Lb4d0460a73df, 23
+
 	.type	.Lb4e2c38a2c91,@object
 	.section	.rodata,"a",@progbits
 .Lb4e2c38a2c91:
 	.ascii	"give --magic-first or --all-globs, not both"
 	.size	.Lb4e2c38a2c91, 43
 
+	.type	.Lb66bf336b47e,@object
+	.section	.rodata,"a",@progbits
+.Lb66bf336b47e:
+	.ascii	"Messages go to standard error. The --help of a command says more of its exit\nstatuses. Without -c CACHE and -d DIRS, each command asks the user's data\ndirectories: XDG_DATA_HOME, or else .local/share below HOME, and then those of\nXDG_DATA_DIRS, or else /usr/local/share and /usr/share.\n\nExit status:\n  0  what was asked for was done; or help or the version was printed\n  1  some file not answered, isa says no, or check finds no database\n  2  the command line is wrong\n  3  database, cache or output refused\n  4  out of memory\n\nExamples:\n  $ mimelook type notes.txt\n  notes.txt: text/plain\n  $ mimelook type -c /usr/share/mime/mime.cache notes.txt\n  notes.txt: text/plain\n  $ mimelook build -d /usr/local/share:/usr/share -o mime.cache"
+	.size	.Lb66bf336b47e, 735
+
 	.type	.Lb6d94fa03dd2,@object
 	.section	.rodata,"a",@progbits
 .Lb6d94fa03dd2:
 	.ascii	"- "
 	.size	.Lb6d94fa03dd2, 2
-
-	.type	.Lb765a8e8f8e2,@object
-	.section	.rodata,"a",@progbits
-.Lb765a8e8f8e2:
-	.ascii	"no text files"
-	.size	.Lb765a8e8f8e2, 13
 
 	.type	.Lb7b781d5a1fb,@object
 	.section	.rodata,"a",@progbits
@@ -1310,6 +1424,12 @@
 	.asciz	"\r\000\000\000\000\000\000\000globs2magicaliasessubclassesiconsgeneric-icons\000"
 	.size	.Lc86eb0c0bc7c, 144
 
+	.type	.Lc870429636bc,@object
+	.section	.rodata,"a",@progbits
+.Lc870429636bc:
+	.ascii	"\naliases "
+	.size	.Lc870429636bc, 9
+
 	.type	.Lc8848e2626bc,@object
 	.section	.rodata,"a",@progbits
 .Lc8848e2626bc:
@@ -1345,6 +1465,12 @@
 .Lca64d732d5f8:
 	.ascii	"mimelook list [-c CACHE | -d DIRS]"
 	.size	.Lca64d732d5f8, 34
+
+	.type	.Lcae166085bec,@object
+	.section	.rodata,"a",@progbits
+.Lcae166085bec:
+	.ascii	"\ngeneric-icons "
+	.size	.Lcae166085bec, 15
 
 	.type	.Lcbd2e040a5e1,@object
 	.section	.rodata,"a",@progbits
@@ -1382,6 +1508,12 @@
 	.ascii	"subclasses"
 	.size	.Lcf324260551e, 10
 
+	.type	.Ld07916865064,@object
+	.section	.rodata,"a",@progbits
+.Ld07916865064:
+	.ascii	"\nsubclasses "
+	.size	.Ld07916865064, 12
+
 	.type	.Ld225cf273187,@object
 	.section	.rodata,"a",@progbits
 .Ld225cf273187:
@@ -1393,6 +1525,12 @@
 .Ld27fc74a6e00:
 	.ascii	"mimelook"
 	.size	.Ld27fc74a6e00, 8
+
+	.type	.Ld38e3d4473f4,@object
+	.section	.rodata,"a",@progbits
+.Ld38e3d4473f4:
+	.ascii	"/globs2"
+	.size	.Ld38e3d4473f4, 7
 
 	.type	.Ld40b30192e9d,@object
 	.section	.rodata,"a",@progbits
@@ -1430,17 +1568,17 @@
 	.byte	62
 	.size	.Ld6f1b0994a9e, 1
 
-	.type	.Ld79c217e2349,@object
-	.section	.rodata,"a",@progbits
-.Ld79c217e2349:
-	.ascii	"Messages go to standard error. The files are DIR/mime/globs2, magic, aliases,\nsubclasses, icons and generic-icons; a missing one counts as empty. Without -d\nthe directories are the user's (see mimelook --help).\nglobs2 gives each rule with cs a twin without it, by which CORE and A.GS have a\ntype. With --drop-twins they have none, since GLib, Qt and xdgmime read caches\nthat have no twins.\n\nExit status:\n  0  FILE was written; or help or the version was printed\n  2  the command line is wrong, or a word of it is not UTF-8\n  3  the data can't be read or is refused, the database is too large, or FILE\n     can't be written\n  4  out of memory\n\nExample:\n  $ mimelook build -d /usr/local/share:/usr/share -o mime.cache"
-	.size	.Ld79c217e2349, 715
-
 	.type	.Ld9078770f0cd,@object
 	.section	.rodata,"a",@progbits
 .Ld9078770f0cd:
 	.ascii	"mimelook: "
 	.size	.Ld9078770f0cd, 10
+
+	.type	.Ld93099d7ee70,@object
+	.section	.rodata,"a",@progbits
+.Ld93099d7ee70:
+	.ascii	"mimelook check [-c CACHE | -d DIRS]"
+	.size	.Ld93099d7ee70, 35
 
 	.type	.Ld973209b3923,@object
 	.section	.rodata,"a",@progbits
@@ -1533,6 +1671,12 @@
 	.ascii	"' as a value, use '-- "
 	.size	.Le52463dbde38, 22
 
+	.type	.Le6dda6977809,@object
+	.section	.rodata,"a",@progbits
+.Le6dda6977809:
+	.ascii	"mimelook: no data directories\n"
+	.size	.Le6dda6977809, 30
+
 	.type	.Le77ae2271c7f,@object
 	.section	.rodata,"a",@progbits
 .Le77ae2271c7f:
@@ -1563,6 +1707,12 @@
 	.ascii	":\n"
 	.size	.Le8bc6d23da8b, 2
 
+	.type	.Le9a4351e97e0,@object
+	.section	.rodata,"a",@progbits
+.Le9a4351e97e0:
+	.ascii	"no text files, such as "
+	.size	.Le9a4351e97e0, 23
+
 	.type	.Leb88b6dc7e6f,@object
 	.section	.rodata,"a",@progbits
 .Leb88b6dc7e6f:
@@ -1580,6 +1730,12 @@
 .Lec2ba9672c9d:
 	.ascii	"give --cost without -0 and -b"
 	.size	.Lec2ba9672c9d, 29
+
+	.type	.Ledb79723a52c,@object
+	.section	.rodata,"a",@progbits
+.Ledb79723a52c:
+	.ascii	"Prints how much a cache has of each list, if it is sound"
+	.size	.Ledb79723a52c, 56
 
 	.type	.Ledcfde804ed8,@object
 	.section	.rodata,"a",@progbits
@@ -1658,6 +1814,12 @@
 .Lf633811c48da:
 	.byte	123
 	.size	.Lf633811c48da, 1
+
+	.type	.Lf638752c7fdf,@object
+	.section	.rodata,"a",@progbits
+.Lf638752c7fdf:
+	.ascii	"no database: generic icons"
+	.size	.Lf638752c7fdf, 26
 
 	.type	.Lf64a66e42f56,@object
 	.section	.rodata,"a",@progbits
@@ -1738,12 +1900,12 @@
 	.quad	0,0,2,2,5,0,0,0,0
 	.size	".Lswitch.table.clap::builder::command::building::build_levels", 72
 
-	.type	".Lswitch.table.clap::builder::command::building::build_levels.2243",@object
+	.type	".Lswitch.table.clap::builder::command::building::build_levels.2479",@object
 	.section	.rodata,"a",@progbits
 	.p2align	3, 0x0
-".Lswitch.table.clap::builder::command::building::build_levels.2243":
+".Lswitch.table.clap::builder::command::building::build_levels.2479":
 	.quad	0,0,0,0,255,0,0,0,0
-	.size	".Lswitch.table.clap::builder::command::building::build_levels.2243", 72
+	.size	".Lswitch.table.clap::builder::command::building::build_levels.2479", 72
 
 	.type	".Lswitch.table.clap::parser::parse::Parser::check_value",@object
 	.section	.rodata.cst32,"aM",@progbits,32
@@ -1752,15 +1914,27 @@
 	.quad	38,29,38,38
 	.size	".Lswitch.table.clap::parser::parse::Parser::check_value", 32
 
-	.type	".Lswitch.table.clap::parser::parse::Parser::check_value.2244",@object
+	.type	".Lswitch.table.clap::parser::parse::Parser::check_value.2480",@object
 	.section	.data.rel.ro,"aw",@progbits
 	.p2align	3, 0x0
-".Lswitch.table.clap::parser::parse::Parser::check_value.2244":
+".Lswitch.table.clap::parser::parse::Parser::check_value.2480":
 	.quad	.Lc1b67e27bb9f
 	.quad	.Laa68302af712
 	.quad	.L6e2fce03fc0a
 	.quad	.L2cc55e3b3d11
-	.size	".Lswitch.table.clap::parser::parse::Parser::check_value.2244", 32
+	.size	".Lswitch.table.clap::parser::parse::Parser::check_value.2480", 32
+
+	.type	".Lswitch.table.mime_tool::desk::StreamsDesk::exists::<#6c31bac265adaac4>",@object
+	.section	.rodata,"a",@progbits
+".Lswitch.table.mime_tool::desk::StreamsDesk::exists::<#6c31bac265adaac4>":
+	.asciz	"\000\000\000\000\000\000\000\000\000\000\000\000\000\000\000\000\000\000\000\000\000\000\000\000\000\000\000\000\000\000\000\000\000\000\000\000\000\000\001\000\000"
+	.size	".Lswitch.table.mime_tool::desk::StreamsDesk::exists::<#6c31bac265adaac4>", 42
+
+	.type	".Lswitch.table.mime_tool::desk::StreamsDesk::exists::<#6c31bac265adaac4>.2482",@object
+	.section	.rodata,"a",@progbits
+".Lswitch.table.mime_tool::desk::StreamsDesk::exists::<#6c31bac265adaac4>.2482":
+	.ascii	"\000\001\001\001\001\001\001\001\001\001\001\001\001\001\001\001\001\001\001\001\001\001\001\001\001\001\001\001\001\001\001\001\001\001\001\001\001\001\000\001\001\001"
+	.size	".Lswitch.table.mime_tool::desk::StreamsDesk::exists::<#6c31bac265adaac4>.2482", 42
 
 	.type	".Lswitch.table.mime_tool::line::print_line::<#2e1b2a3647f851f7>",@object
 	.section	.rodata,"a",@progbits
@@ -1773,20 +1947,42 @@
 	.quad	17
 	.size	".Lswitch.table.mime_tool::line::print_line::<#2e1b2a3647f851f7>", 48
 
-	.type	".Lswitch.table.mime_tool::line::print_line::<#2e1b2a3647f851f7>.2246",@object
+	.type	".Lswitch.table.mime_tool::line::print_line::<#2e1b2a3647f851f7>.2484",@object
 	.section	.data.rel.ro,"aw",@progbits
 	.p2align	3, 0x0
-".Lswitch.table.mime_tool::line::print_line::<#2e1b2a3647f851f7>.2246":
+".Lswitch.table.mime_tool::line::print_line::<#2e1b2a3647f851f7>.2484":
 	.quad	.L1fba8e2a4222
 	.quad	.L1f2087385df6
 	.zero	8
 	.quad	.L2e403fc0c1a9
 	.zero	8
 	.quad	.Lbf28a0ac4edc
-	.size	".Lswitch.table.mime_tool::line::print_line::<#2e1b2a3647f851f7>.2246", 48
+	.size	".Lswitch.table.mime_tool::line::print_line::<#2e1b2a3647f851f7>.2484", 48
 
-	.type	".Lswitch.table.mime_tool::system::SystemFilesFiles::whole::<#a1ba6ce099ef6b20>.2245",@object
+	.type	".Lswitch.table.mime_tool::program::answer::<#2d382ade8d012bfb>",@object
 	.section	.rodata,"a",@progbits
-".Lswitch.table.mime_tool::system::SystemFilesFiles::whole::<#a1ba6ce099ef6b20>.2245":
+	.p2align	3, 0x0
+".Lswitch.table.mime_tool::program::answer::<#2d382ade8d012bfb>":
+	.quad	19,20,23,21,21,18,18,18,26
+	.size	".Lswitch.table.mime_tool::program::answer::<#2d382ade8d012bfb>", 72
+
+	.type	".Lswitch.table.mime_tool::program::answer::<#2d382ade8d012bfb>.2481.rel",@object
+	.section	.rodata,"a",@progbits
+	.p2align	2, 0x0
+".Lswitch.table.mime_tool::program::answer::<#2d382ade8d012bfb>.2481.rel":
+	.long	.L578e4c20615e-".Lswitch.table.mime_tool::program::answer::<#2d382ade8d012bfb>.2481.rel"
+	.long	.L62256f76d65b-".Lswitch.table.mime_tool::program::answer::<#2d382ade8d012bfb>.2481.rel"
+	.long	.Lb4d0460a73df-".Lswitch.table.mime_tool::program::answer::<#2d382ade8d012bfb>.2481.rel"
+	.long	.L6916822dd05f-".Lswitch.table.mime_tool::program::answer::<#2d382ade8d012bfb>.2481.rel"
+	.long	.L3f2a817f0bb3-".Lswitch.table.mime_tool::program::answer::<#2d382ade8d012bfb>.2481.rel"
+	.long	.L32cfbbe30233-".Lswitch.table.mime_tool::program::answer::<#2d382ade8d012bfb>.2481.rel"
+	.long	.L28bf7eaf625e-".Lswitch.table.mime_tool::program::answer::<#2d382ade8d012bfb>.2481.rel"
+	.long	.La3c42d80fcd3-".Lswitch.table.mime_tool::program::answer::<#2d382ade8d012bfb>.2481.rel"
+	.long	.Lf638752c7fdf-".Lswitch.table.mime_tool::program::answer::<#2d382ade8d012bfb>.2481.rel"
+	.size	".Lswitch.table.mime_tool::program::answer::<#2d382ade8d012bfb>.2481.rel", 36
+
+	.type	".Lswitch.table.mime_tool::system::SystemFilesFiles::whole::<#a1ba6ce099ef6b20>.2483",@object
+	.section	.rodata,"a",@progbits
+".Lswitch.table.mime_tool::system::SystemFilesFiles::whole::<#a1ba6ce099ef6b20>.2483":
 	.ascii	"\001\001\001\001\001\001\001\001\001\001\001\001\001\001\001\000\001\001\001\001\001\001\001\001\001\001\001\001\001\001\001\001\001\001\001\001\001\001\002\001\001\001"
-	.size	".Lswitch.table.mime_tool::system::SystemFilesFiles::whole::<#a1ba6ce099ef6b20>.2245", 42
+	.size	".Lswitch.table.mime_tool::system::SystemFilesFiles::whole::<#a1ba6ce099ef6b20>.2483", 42

@@ -11964,7 +11964,7 @@
 	jmp	27f
 26:
 	movq	%rbp, %rdi
-	callq	"std_alloc::vec::Vec::grow_amortized::<#ba495c36d82fece9>"
+	callq	"std_alloc::vec::Vec::grow_amortized::<#75574408efed45b1>"
 	testb	%al, %al
 	je	36f
 	movq	8(%rbp), %rax
@@ -12404,7 +12404,7 @@
 	jmp	27b
 29:
 	movq	%rbp, %rdi
-	callq	"std_alloc::vec::Vec::grow_amortized::<#ba495c36d82fece9>"
+	callq	"std_alloc::vec::Vec::grow_amortized::<#75574408efed45b1>"
 	testb	%al, %al
 	je	43f
 	movq	8(%rbp), %rax
