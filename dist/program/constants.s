@@ -1900,12 +1900,12 @@
 	.quad	0,0,2,2,5,0,0,0,0
 	.size	".Lswitch.table.clap::builder::command::building::build_levels", 72
 
-	.type	".Lswitch.table.clap::builder::command::building::build_levels.2479",@object
+	.type	".Lswitch.table.clap::builder::command::building::build_levels.2480",@object
 	.section	.rodata,"a",@progbits
 	.p2align	3, 0x0
-".Lswitch.table.clap::builder::command::building::build_levels.2479":
+".Lswitch.table.clap::builder::command::building::build_levels.2480":
 	.quad	0,0,0,0,255,0,0,0,0
-	.size	".Lswitch.table.clap::builder::command::building::build_levels.2479", 72
+	.size	".Lswitch.table.clap::builder::command::building::build_levels.2480", 72
 
 	.type	".Lswitch.table.clap::parser::parse::Parser::check_value",@object
 	.section	.rodata.cst32,"aM",@progbits,32
@@ -1914,15 +1914,15 @@
 	.quad	38,29,38,38
 	.size	".Lswitch.table.clap::parser::parse::Parser::check_value", 32
 
-	.type	".Lswitch.table.clap::parser::parse::Parser::check_value.2480",@object
+	.type	".Lswitch.table.clap::parser::parse::Parser::check_value.2481",@object
 	.section	.data.rel.ro,"aw",@progbits
 	.p2align	3, 0x0
-".Lswitch.table.clap::parser::parse::Parser::check_value.2480":
+".Lswitch.table.clap::parser::parse::Parser::check_value.2481":
 	.quad	.Lc1b67e27bb9f
 	.quad	.Laa68302af712
 	.quad	.L6e2fce03fc0a
 	.quad	.L2cc55e3b3d11
-	.size	".Lswitch.table.clap::parser::parse::Parser::check_value.2480", 32
+	.size	".Lswitch.table.clap::parser::parse::Parser::check_value.2481", 32
 
 	.type	".Lswitch.table.mime_tool::desk::StreamsDesk::exists::<#6c31bac265adaac4>",@object
 	.section	.rodata,"a",@progbits
@@ -1930,11 +1930,11 @@
 	.asciz	"\000\000\000\000\000\000\000\000\000\000\000\000\000\000\000\000\000\000\000\000\000\000\000\000\000\000\000\000\000\000\000\000\000\000\000\000\000\000\001\000\000"
 	.size	".Lswitch.table.mime_tool::desk::StreamsDesk::exists::<#6c31bac265adaac4>", 42
 
-	.type	".Lswitch.table.mime_tool::desk::StreamsDesk::exists::<#6c31bac265adaac4>.2482",@object
+	.type	".Lswitch.table.mime_tool::desk::StreamsDesk::exists::<#6c31bac265adaac4>.2483",@object
 	.section	.rodata,"a",@progbits
-".Lswitch.table.mime_tool::desk::StreamsDesk::exists::<#6c31bac265adaac4>.2482":
+".Lswitch.table.mime_tool::desk::StreamsDesk::exists::<#6c31bac265adaac4>.2483":
 	.ascii	"\000\001\001\001\001\001\001\001\001\001\001\001\001\001\001\001\001\001\001\001\001\001\001\001\001\001\001\001\001\001\001\001\001\001\001\001\001\001\000\001\001\001"
-	.size	".Lswitch.table.mime_tool::desk::StreamsDesk::exists::<#6c31bac265adaac4>.2482", 42
+	.size	".Lswitch.table.mime_tool::desk::StreamsDesk::exists::<#6c31bac265adaac4>.2483", 42
 
 	.type	".Lswitch.table.mime_tool::line::print_line::<#2e1b2a3647f851f7>",@object
 	.section	.rodata,"a",@progbits
@@ -1947,17 +1947,17 @@
 	.quad	17
 	.size	".Lswitch.table.mime_tool::line::print_line::<#2e1b2a3647f851f7>", 48
 
-	.type	".Lswitch.table.mime_tool::line::print_line::<#2e1b2a3647f851f7>.2484",@object
+	.type	".Lswitch.table.mime_tool::line::print_line::<#2e1b2a3647f851f7>.2485",@object
 	.section	.data.rel.ro,"aw",@progbits
 	.p2align	3, 0x0
-".Lswitch.table.mime_tool::line::print_line::<#2e1b2a3647f851f7>.2484":
+".Lswitch.table.mime_tool::line::print_line::<#2e1b2a3647f851f7>.2485":
 	.quad	.L1fba8e2a4222
 	.quad	.L1f2087385df6
 	.zero	8
 	.quad	.L2e403fc0c1a9
 	.zero	8
 	.quad	.Lbf28a0ac4edc
-	.size	".Lswitch.table.mime_tool::line::print_line::<#2e1b2a3647f851f7>.2484", 48
+	.size	".Lswitch.table.mime_tool::line::print_line::<#2e1b2a3647f851f7>.2485", 48
 
 	.type	".Lswitch.table.mime_tool::program::answer::<#2d382ade8d012bfb>",@object
 	.section	.rodata,"a",@progbits
@@ -1966,23 +1966,23 @@
 	.quad	19,20,23,21,21,18,18,18,26
 	.size	".Lswitch.table.mime_tool::program::answer::<#2d382ade8d012bfb>", 72
 
-	.type	".Lswitch.table.mime_tool::program::answer::<#2d382ade8d012bfb>.2481.rel",@object
+	.type	".Lswitch.table.mime_tool::program::answer::<#2d382ade8d012bfb>.2482.rel",@object
 	.section	.rodata,"a",@progbits
 	.p2align	2, 0x0
-".Lswitch.table.mime_tool::program::answer::<#2d382ade8d012bfb>.2481.rel":
-	.long	.L578e4c20615e-".Lswitch.table.mime_tool::program::answer::<#2d382ade8d012bfb>.2481.rel"
-	.long	.L62256f76d65b-".Lswitch.table.mime_tool::program::answer::<#2d382ade8d012bfb>.2481.rel"
-	.long	.Lb4d0460a73df-".Lswitch.table.mime_tool::program::answer::<#2d382ade8d012bfb>.2481.rel"
-	.long	.L6916822dd05f-".Lswitch.table.mime_tool::program::answer::<#2d382ade8d012bfb>.2481.rel"
-	.long	.L3f2a817f0bb3-".Lswitch.table.mime_tool::program::answer::<#2d382ade8d012bfb>.2481.rel"
-	.long	.L32cfbbe30233-".Lswitch.table.mime_tool::program::answer::<#2d382ade8d012bfb>.2481.rel"
-	.long	.L28bf7eaf625e-".Lswitch.table.mime_tool::program::answer::<#2d382ade8d012bfb>.2481.rel"
-	.long	.La3c42d80fcd3-".Lswitch.table.mime_tool::program::answer::<#2d382ade8d012bfb>.2481.rel"
-	.long	.Lf638752c7fdf-".Lswitch.table.mime_tool::program::answer::<#2d382ade8d012bfb>.2481.rel"
-	.size	".Lswitch.table.mime_tool::program::answer::<#2d382ade8d012bfb>.2481.rel", 36
+".Lswitch.table.mime_tool::program::answer::<#2d382ade8d012bfb>.2482.rel":
+	.long	.L578e4c20615e-".Lswitch.table.mime_tool::program::answer::<#2d382ade8d012bfb>.2482.rel"
+	.long	.L62256f76d65b-".Lswitch.table.mime_tool::program::answer::<#2d382ade8d012bfb>.2482.rel"
+	.long	.Lb4d0460a73df-".Lswitch.table.mime_tool::program::answer::<#2d382ade8d012bfb>.2482.rel"
+	.long	.L6916822dd05f-".Lswitch.table.mime_tool::program::answer::<#2d382ade8d012bfb>.2482.rel"
+	.long	.L3f2a817f0bb3-".Lswitch.table.mime_tool::program::answer::<#2d382ade8d012bfb>.2482.rel"
+	.long	.L32cfbbe30233-".Lswitch.table.mime_tool::program::answer::<#2d382ade8d012bfb>.2482.rel"
+	.long	.L28bf7eaf625e-".Lswitch.table.mime_tool::program::answer::<#2d382ade8d012bfb>.2482.rel"
+	.long	.La3c42d80fcd3-".Lswitch.table.mime_tool::program::answer::<#2d382ade8d012bfb>.2482.rel"
+	.long	.Lf638752c7fdf-".Lswitch.table.mime_tool::program::answer::<#2d382ade8d012bfb>.2482.rel"
+	.size	".Lswitch.table.mime_tool::program::answer::<#2d382ade8d012bfb>.2482.rel", 36
 
-	.type	".Lswitch.table.mime_tool::system::SystemFilesFiles::whole::<#a1ba6ce099ef6b20>.2483",@object
+	.type	".Lswitch.table.mime_tool::system::SystemFilesFiles::whole::<#a1ba6ce099ef6b20>.2484",@object
 	.section	.rodata,"a",@progbits
-".Lswitch.table.mime_tool::system::SystemFilesFiles::whole::<#a1ba6ce099ef6b20>.2483":
+".Lswitch.table.mime_tool::system::SystemFilesFiles::whole::<#a1ba6ce099ef6b20>.2484":
 	.ascii	"\001\001\001\001\001\001\001\001\001\001\001\001\001\001\001\000\001\001\001\001\001\001\001\001\001\001\001\001\001\001\001\001\001\001\001\001\001\001\002\001\001\001"
-	.size	".Lswitch.table.mime_tool::system::SystemFilesFiles::whole::<#a1ba6ce099ef6b20>.2483", 42
+	.size	".Lswitch.table.mime_tool::system::SystemFilesFiles::whole::<#a1ba6ce099ef6b20>.2484", 42

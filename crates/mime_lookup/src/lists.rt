@@ -64,8 +64,9 @@ pub fn look_up_plain<'a, R: Content>(
 
 /// A database that answers by trying all of its lists.
 #[derive(Clone, Copy)]
-struct Lists<'a> {
-    database: &'a Database,
+pub struct Lists<'a> {
+    /// The database.
+    pub database: &'a Database,
 }
 
 impl<'a> Asked<'a> for Lists<'a> {

@@ -7,7 +7,7 @@ ghost use Rattle.mime_base.specs.Database.Lent.{plain_rule};
 
 use crate::indexed_rule::{IndexedRule, indexed_rules};
 use crate::keys::{KeyTable, key_table};
-use mime_base::{LentRule, OutOfMemory};
+use mime_base::{Class, LentRule, OutOfMemory};
 use std::alloc::Global;
 use std::marker::Model;
 
@@ -21,6 +21,8 @@ pub struct NameIndex<'a> {
     pub(crate) rules: Vec<IndexedRule<'a>>,
     /// The keys by which names find them.
     pub(crate) table: KeyTable,
+    /// How many of them are no text and no star before a text.
+    general: usize,
 }
 
 impl<'a> Model for NameIndex<'a> {
@@ -45,6 +47,28 @@ impl<'a> NameIndex<'a> {
     {
         let rules = indexed_rules(alloc, rules)?;
         let table = key_table(alloc, &rules)?;
-        Ok(NameIndex { rules, table })
+        let general = count_general(&rules);
+        Ok(NameIndex {
+            rules,
+            table,
+            general,
+        })
     }
+
+    /// Whether most rules are no text and no star before a text, so that a name that begins as they do is held against them all, and
+    /// an index over them gains nothing.
+    pub fn is_mostly_general(&self) -> bool {
+        self.general > self.rules.len() / 2
+    }
+}
+
+/// How many rules are no text and no star before a text.
+fn count_general(rules: &[IndexedRule<'_>]) -> usize {
+    let mut count: usize = 0;
+    for rule in rules {
+        if let Class::Full = rule.class {
+            count = count.saturating_add(1);
+        }
+    }
+    count
 }

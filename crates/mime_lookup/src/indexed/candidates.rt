@@ -5,7 +5,9 @@ ghost use Rattle.mime_base.specs.Database.{pairs_of, plain_database};
 ghost use Rattle.mime_lookup.specs.Ancestry.{kinds_of};
 ghost use Rattle.mime_lookup.specs.Choice.{candidates};
 
+use crate::asked::Asked;
 use crate::indexed::IndexedDatabase;
+use crate::lists::Lists;
 use mime_base::{Meter, OutOfMemory};
 use std::alloc::Global;
 
@@ -21,6 +23,12 @@ pub fn candidate_kinds<'a>(
     // No record of a cache is visited.
     ensures nodes { meter.new.nodes ≡ meter.old.nodes }
 {
+    if index.names.is_mostly_general() {
+        let lists = Lists {
+            database: index.database,
+        };
+        return lists.candidate_kinds(alloc, name, meter);
+    }
     let kinds = mime_names::candidate_kinds(alloc, &index.names, name, meter)?;
     Ok(kinds)
 }

@@ -7,6 +7,7 @@ ghost use Rattle.mime_lookup.specs.Choice.{kept};
 
 use crate::asked::Asked;
 use crate::indexed::IndexedDatabase;
+use crate::lists::Lists;
 use mime_base::{Meter, OutOfMemory};
 use std::alloc::Global;
 
@@ -23,6 +24,12 @@ pub fn kept_kinds<'a>(
     ensures nodes { meter.new.nodes ≡ meter.old.nodes }
 {
     index.keeps_limits();
+    if index.names.is_mostly_general() {
+        let lists = Lists {
+            database: index.database,
+        };
+        return lists.kept_kinds(alloc, name, meter);
+    }
     let kinds = mime_names::kept_kinds(alloc, &index.names, name, meter)?;
     Ok(kinds)
 }
