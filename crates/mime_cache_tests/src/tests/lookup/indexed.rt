@@ -20,6 +20,10 @@ const GLOBS: &[u8] =
 /// The same, and a rule that every name matches.
 const WITH_ANY: &[u8] = b"50:t/1:*~\n40:t/any:*\n50:t/2:*.c\n50:t/l1:a\n";
 
+/// Rules of which most are no text and no star before a text: two of three of a name's first byte, and one that any name may match.
+const MOSTLY_GENERAL: &[u8] =
+    b"50:t/1:a*c\n60:t/2:a?\n50:t/3:[ab]*\n50:t/4:ab\n50:t/2-capital:*.C:cs\n50:t/old:?*.old\n";
+
 /// Lines of one section and of more: near and far, in ranges that end where places are noted or one later, with a mask, with
 /// words, with no value, no offset, and children.
 const MAGIC: &[u8] =
@@ -39,6 +43,11 @@ const TEXTS: Texts<'static> = Texts {
 
 const ANY: Texts<'static> = Texts {
     globs2: WITH_ANY,
+    ..TEXTS
+};
+
+const GENERAL: Texts<'static> = Texts {
+    globs2: MOSTLY_GENERAL,
     ..TEXTS
 };
 
@@ -193,6 +202,7 @@ fn names_are_alike(rt: &impl Abort, alloc: Global, texts: Texts<'_>) -> Result<(
 fn names_and_contents(rt: HostRuntime) -> Result<(), Fail> {
     names_are_alike(&rt, rt.alloc(), TEXTS)?;
     names_are_alike(&rt, rt.alloc(), ANY)?;
+    names_are_alike(&rt, rt.alloc(), GENERAL)?;
     names_are_alike(&rt, rt.alloc(), EMPTY)
 }
 
