@@ -315,9 +315,9 @@ fn built(rt: &impl Abort, alloc: Global, directory: &str) -> Result<Vec<u8>, Fai
     }
 }
 
-/// Bytes with the eight bytes from an offset and the eight after them exchanged.
-fn exchanged(mut bytes: Vec<u8>, at: usize) -> Vec<u8> {
-    for i in at..at + 8 {
+/// A cache whose two aliases stand after the header, four texts of four bytes and the count, with their entries exchanged.
+fn exchanged(mut bytes: Vec<u8>) -> Vec<u8> {
+    for i in 60..68 {
         if i + 8 < bytes.len() {
             bytes.swap(i, i + 8);
         }
@@ -345,8 +345,7 @@ fn checks_what_is_built(rt: HostRuntime) -> Result<(), Fail> {
 #[test]
 fn checks_aliases_that_fall(rt: HostRuntime) -> Result<(), Fail> {
     let alloc = rt.alloc();
-    // two entries are after the header, four texts of four bytes and the count
-    let cache = exchanged(built(&rt, alloc, "/aliases")?, 60);
+    let cache = exchanged(built(&rt, alloc, "/aliases")?);
     let row = Row {
         err: "mimelook: /c: no database: aliases\n",
         ..NO_DATABASE
