@@ -209,7 +209,17 @@ fn leads_by_index(
 ) -> Result<bool, Fail> {
     let kind = TypeName::new(alloc, kind)?;
     let base = TypeName::new(alloc, base)?;
-    let (found, _meter) = is_a_indexed(alloc, index, &kind, &base)?;
+    leads_at(alloc, index, &kind, &base)
+}
+
+/// The same of types.
+fn leads_at(
+    alloc: Global,
+    index: &IndexedDatabase<'_>,
+    kind: &TypeName,
+    base: &TypeName,
+) -> Result<bool, Fail> {
+    let (found, _meter) = is_a_indexed(alloc, index, kind, base)?;
     Ok(found)
 }
 
