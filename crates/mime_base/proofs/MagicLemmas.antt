@@ -3,6 +3,7 @@ pub mod Masks
 pub mod Mirroring
 pub mod Windows
 pub mod HoldingLines
+pub mod HoldingMatchlets
 pub mod Ranges
 pub mod Lanes
 pub mod PassedPairs

@@ -53,6 +53,7 @@ pub use magic::holding::{line_matches, some_line_matches};
 pub use magic::host::Host;
 pub use magic::matchlet::Matchlet;
 pub use magic::pairs::{Passed, pass_pairs};
+pub use magic::ranges::value_in_range;
 pub use magic::textual::{TEXTUAL_FRONT, looks_textual};
 pub use matching::elements::begins_otherwise;
 pub use matching::folding::{as_compared, fold};

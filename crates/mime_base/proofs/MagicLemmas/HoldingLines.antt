@@ -1,17 +1,12 @@
 -- Lines of magic that hold, in the steps of a search through offsets and lines.
 use Rattle.std.proofs.Common.{◌≡◌, ℕ, zero, suc, ◌+◌, ◌<◌, ◌≤◌, ◌&&◌, ◌||◌, true, false, List, [], ◌∷◌}
-use Rattle.std.proofs.Common.{length, take, drop, get_or, Option, Some, refl, sym, ap, ◌∙◌, arith}
+use Rattle.std.proofs.Common.{length, take, drop, Option, Some, refl, sym, ap, ◌∙◌, arith}
 use Rattle.std.proofs.Math.Bool.{or-false}
-use Rattle.std.proofs.lemmas.List.{drop_more}
 use Rattle.std.proofs.lemmas.Bool.{and_from, and_left, and_right, le-leb, lt-leb, or_left}
 use Rattle.mime_base.specs.Magic.Holds.{bytes_of_mask, equals_at, equals_from, is_bare, line_holds, some_holds}
-use Rattle.mime_base.specs.Magic.{Forest, PlainLine, PlainMatchlet, bare, forest_of, line, line_from, mask_bytes}
-use Rattle.mime_base.specs.Magic.{plain_matchlet, plain_matchlet_over, plain_matchlets}
+use Rattle.mime_base.specs.Magic.{Forest, PlainLine, PlainMatchlet, bare, forest_of, line, line_from}
 use Rattle.mime_base.specs.Magic.Masking.{window_equals}
 use Rattle.mime_base.specs.declared.magic.host.Host.{Host}
-use Rattle.mime_base.specs.declared.magic.matchlet.Matchlet.{Matchlet}
-use Rattle.mime_base.specs.declared.magic.matchlet.Matchlet.TheFolds.{fold_out-Matchlet}
-use Rattle.mime_base.specs.declared.magic.matchlet.Matchlet.TheViews.{out-Matchlet}
 
 module _ (own : PlainLine) (host : Host) (content : List ℕ) where
   -- the window at an offset
@@ -72,21 +67,13 @@ equals_from-mask start range word value mask host content at (suc n) =
     ap (λ b. equals_at (line_from start range word value mask) host content at || b)
     (equals_from-mask start range word value mask host content (suc at) n)
 
--- a matchlet of the code, one level opened
-pub plain_matchlet-out : (m : Matchlet) → plain_matchlet m ≡ record {
-  own = line_from (out-Matchlet m).start (out-Matchlet m).range (out-Matchlet m).word (out-Matchlet m).value.items
-      (mask_bytes (out-Matchlet m).mask);
-  children = forest_of (plain_matchlets (out-Matchlet m).children.items);
-}
-plain_matchlet-out = fold_out-Matchlet PlainMatchlet plain_matchlet_over
-
--- matchlets, none or some
-is_bare-none : (lines : List Matchlet) → length lines ≡ 0 → is_bare (forest_of (plain_matchlets lines)) ≡ true
+-- a forest of no lines is bare
+is_bare-none : (lines : List PlainMatchlet) → length lines ≡ 0 → is_bare (forest_of lines) ≡ true
 is_bare-none [] none = refl
 is_bare-none (m ∷ lines) none = absurd (omega arith)
 
--- a forest of some lines is not bare
-is_bare-some : (lines : List Matchlet) → 0 < length lines → is_bare (forest_of (plain_matchlets lines)) ≡ false
+-- a forest of some lines is not
+is_bare-some : (lines : List PlainMatchlet) → 0 < length lines → is_bare (forest_of lines) ≡ false
 is_bare-some [] some = absurd (omega arith)
 is_bare-some (m ∷ lines) some = refl
 
@@ -97,7 +84,7 @@ module _ (content : List ℕ) (host : Host) where
   some_holds-none = refl
 
   -- the first line, and those after it
-  some_holds-line : (m : PlainMatchlet) (rest : Forest) →
+  pub some_holds-line : (m : PlainMatchlet) (rest : Forest) →
       some_holds (line m.own m.children rest) content host ≡ (line_holds m content host || some_holds rest content host)
   unfolding some_holds
   some_holds-line m rest = ap (λ b. b || some_holds rest content host) (sym (or-false _))
@@ -115,35 +102,16 @@ module _ (content : List ℕ) (host : Host) where
   line_holds-equals m equal =
       or-false _ ∙ ap (λ b. b && (is_bare m.children || some_holds m.children content host)) equal
 
-  -- the lines from one on
-  pub some_holds-from : (lines : List Matchlet) (i : ℕ) (m : Matchlet) → i < length lines → m ≡ get_or lines i m →
-      some_holds (forest_of (plain_matchlets (drop i lines))) content host
-      ≡ (line_holds (plain_matchlet m) content host
-      || some_holds (forest_of (plain_matchlets (drop (i + 1) lines))) content host)
-  some_holds-from lines i m within is =
-      ap (λ ms. some_holds (forest_of (plain_matchlets ms)) content host)
-      (drop_more lines i m within ∙ ap (λ first. first ∷ drop (i + 1) lines) (sym is))
-      ∙ some_holds-line (plain_matchlet m) (forest_of (plain_matchlets (drop (i + 1) lines)))
-
-  -- of the code's matchlet the children
-  children_of : (m : Matchlet) → (plain_matchlet m).children ≡ forest_of (plain_matchlets (out-Matchlet m).children.items)
-  children_of m = ap (λ (p : PlainMatchlet). p.children) (plain_matchlet-out m)
-
-  -- a matchlet without children that equals its value holds
-  pub line_holds-alone : (m : Matchlet) →
-      equals_from (plain_matchlet m).own host content (plain_matchlet m).own.start (plain_matchlet m).own.range ≡ true →
-      length (out-Matchlet m).children.items ≡ 0 → line_holds (plain_matchlet m) content host ≡ true
-  line_holds-alone m equal alone =
-      line_holds-equals (plain_matchlet m) equal
-      ∙ or_left _ _ (ap is_bare (children_of m) ∙ is_bare-none (out-Matchlet m).children.items alone)
+  -- a line without children that equals its value holds
+  pub holds-alone : (m : PlainMatchlet) (children : List PlainMatchlet) → m.children ≡ forest_of children →
+      equals_from m.own host content m.own.start m.own.range ≡ true → length children ≡ 0 → line_holds m content host ≡ true
+  holds-alone m children are equal alone = line_holds-equals m equal ∙ or_left _ _ (ap is_bare are ∙ is_bare-none children alone)
 
   -- one with children holds if some child does
-  pub line_holds-parent : (m : Matchlet) →
-      equals_from (plain_matchlet m).own host content (plain_matchlet m).own.start (plain_matchlet m).own.range ≡ true →
-      0 < length (out-Matchlet m).children.items →
-      line_holds (plain_matchlet m) content host ≡ some_holds (forest_of (plain_matchlets (out-Matchlet m).children.items)) content host
-  line_holds-parent m equal some =
-      line_holds-equals (plain_matchlet m) equal
-      ∙ ap (λ forest. is_bare forest || some_holds forest content host) (children_of m)
-      ∙ ap (λ b. b || some_holds (forest_of (plain_matchlets (out-Matchlet m).children.items)) content host)
-      (is_bare-some (out-Matchlet m).children.items some)
+  pub holds-parent : (m : PlainMatchlet) (children : List PlainMatchlet) → m.children ≡ forest_of children →
+      equals_from m.own host content m.own.start m.own.range ≡ true → 0 < length children →
+      line_holds m content host ≡ some_holds (forest_of children) content host
+  holds-parent m children are equal some =
+      line_holds-equals m equal
+      ∙ ap (λ forest. is_bare forest || some_holds forest content host) are
+      ∙ ap (λ b. b || some_holds (forest_of children) content host) (is_bare-some children some)

@@ -4,7 +4,7 @@ use Rattle.mime_base.specs.Magic.Extent.{forest_extent}
 use Rattle.mime_base.specs.Magic.{forest_of, plain_matchlets}
 use Rattle.mime_base.specs.declared.magic.matchlet.Matchlet.TheViews.{out-Matchlet}
 use Rattle.mime_base.proofs.MagicLemmas.Extents.{forest_extent-from}
-use Rattle.mime_base.proofs.MagicLemmas.HoldingLines.{plain_matchlet-out}
+use Rattle.mime_base.proofs.MagicLemmas.HoldingMatchlets.{plain_matchlet-out}
 use Rattle.mime_base.proofs.magic.extent.+extent.Goals as goal
 
 pub lines_extent-loop-line-preserved : goal.lines_extent-loop-line-preserved

@@ -4,8 +4,8 @@ use Rattle.std.proofs.lemmas.List.{drop_all}
 use Rattle.mime_base.specs.Magic.Holds.{some_holds}
 use Rattle.mime_base.specs.Magic.{forest_of, plain_matchlet, plain_matchlets}
 use Rattle.mime_base.specs.declared.magic.matchlet.Matchlet.TheViews.{out-Matchlet}
-use Rattle.mime_base.proofs.MagicLemmas.HoldingLines.{line_holds-alone, line_holds-differs, line_holds-parent}
-use Rattle.mime_base.proofs.MagicLemmas.HoldingLines.{some_holds-from, some_holds-none}
+use Rattle.mime_base.proofs.MagicLemmas.HoldingLines.{line_holds-differs, some_holds-none}
+use Rattle.mime_base.proofs.MagicLemmas.HoldingMatchlets.{line_holds-alone, line_holds-parent, some_holds-from}
 use Rattle.mime_base.proofs.magic.holding.+holding.Goals as goal
 
 pub line_matches-returns-then-not-equals_in_range-clause-holds :

@@ -2,7 +2,8 @@ use Rattle.std.proofs.Common.{ℕ, List, Some, ap, ◌∙◌}
 use Rattle.mime_base.specs.Magic.Holds.{equals_from}
 use Rattle.mime_base.specs.Magic.{line_from, mask_bytes}
 use Rattle.mime_base.specs.declared.magic.matchlet.Matchlet.TheViews.{out-Matchlet}
-use Rattle.mime_base.proofs.MagicLemmas.HoldingLines.{equals_from-mask, plain_matchlet-out}
+use Rattle.mime_base.proofs.MagicLemmas.HoldingLines.{equals_from-mask}
+use Rattle.mime_base.proofs.MagicLemmas.HoldingMatchlets.{plain_matchlet-out}
 use Rattle.mime_base.proofs.magic.holding.equals_in_range.Goals as goal
 
 pub returns-clause-equal : goal.returns-clause-equal
