@@ -20,26 +20,26 @@ use Rattle.mime_names.proofs.NearLemmas.{hit_more}
 use Rattle.mime_names.proofs.RankLemmas.{greatest-texts}
 
 -- the offers of one hit more
-pub offers-hit : (part : IndexedRule → Bool) (rules : List IndexedRule) (name : List ℕ) (place from : ℕ) (rule : IndexedRule) →
-    place < length rules → rule ≡ get_or rules place rule → part rule ≡ true → is_match name rule ≡ true →
-    hits_of part (take place rules) name ≡ hits_of part (take from rules) name →
-    map offer_of (hits_of part (take (place + 1) rules) name) ≡ map offer_of (hits_of part (take from rules) name) ++ offer_of rule ∷ []
-offers-hit part rules name place from rule within is own matches skipped =
-    ap (map offer_of) (hit_more part rules name place rule within is own matches ∙ ap (λ front. front ++ rule ∷ []) skipped)
-    ∙ map-append offer_of (hits_of part (take from rules) name) (rule ∷ [])
+pub offers-hit : (patterns : List ℕ) (part : IndexedRule → Bool) (rules : List IndexedRule) (name : List ℕ) (place from : ℕ) (rule : IndexedRule) →
+    place < length rules → rule ≡ get_or rules place rule → part rule ≡ true → is_match patterns name rule ≡ true →
+    hits_of patterns part (take place rules) name ≡ hits_of patterns part (take from rules) name →
+    map (offer_of patterns) (hits_of patterns part (take (place + 1) rules) name) ≡ map (offer_of patterns) (hits_of patterns part (take from rules) name) ++ offer_of patterns rule ∷ []
+offers-hit patterns part rules name place from rule within is own matches skipped =
+    ap (map (offer_of patterns)) (hit_more patterns part rules name place rule within is own matches ∙ ap (λ front. front ++ rule ∷ []) skipped)
+    ∙ map-append (offer_of patterns) (hits_of patterns part (take from rules) name) (rule ∷ [])
 
 -- the types of the best offers
-pub best-kinds : (found : List IndexedRule) →
-    map (λ offer. offer.1) (best (map offer_of found)) ≡ map (λ rule. rule.lent.kind) (of_greatest (λ rule. rank_of_rule (plain rule)) found)
-best-kinds found =
-    ap (map (λ (offer : ℕ × Bor (List ℕ)). offer.1)) (of_greatest-map (λ offer. offer.0) offer_of found)
-    ∙ map-map (λ (offer : ℕ × Bor (List ℕ)). offer.1) offer_of (of_greatest (λ rule. rank_of_rule (plain rule)) found)
+pub best-kinds : (patterns : List ℕ) (found : List IndexedRule) →
+    map (λ offer. offer.1) (best (map (offer_of patterns) found)) ≡ map (λ rule. rule.kind) (of_greatest (λ rule. rank_of_rule (plain patterns rule)) found)
+best-kinds patterns found =
+    ap (map (λ (offer : ℕ × Bor (List ℕ)). offer.1)) (of_greatest-map (λ offer. offer.0) (offer_of patterns) found)
+    ∙ map-map (λ (offer : ℕ × Bor (List ℕ)). offer.1) (offer_of patterns) (of_greatest (λ rule. rank_of_rule (plain patterns rule)) found)
 
 -- where a type is kept a rule was found
-pub kept-some : (found : List IndexedRule) (kinds : List (Bor (List ℕ))) →
-    kinds ≡ map (λ rule. rule.lent.kind) (of_greatest (λ rule. rank_of_rule (plain rule)) found) → 0 < length kinds → 0 < length found
-kept-some [] kinds is some = absurd (omega (arith, some, ap length is))
-kept-some (rule ∷ found) kinds is some = omega arith
+pub kept-some : (patterns : List ℕ) (found : List IndexedRule) (kinds : List (Bor (List ℕ))) →
+    kinds ≡ map (λ rule. rule.kind) (of_greatest (λ rule. rank_of_rule (plain patterns rule)) found) → 0 < length kinds → 0 < length found
+kept-some patterns [] kinds is some = absurd (omega (arith, some, ap length is))
+kept-some patterns (rule ∷ found) kinds is some = omega arith
 
 -- a list without a length is empty
 no-length : {X : Type 0} (xs : List X) → length xs ≡ 0 → xs ≡ []
@@ -47,12 +47,12 @@ no-length [] none = refl
 no-length (x ∷ xs) none = absurd (omega arith)
 
 -- where none is kept none was found
-pub kept-none : (found : List IndexedRule) (kinds : List (Bor (List ℕ))) →
-    kinds ≡ map (λ rule. rule.lent.kind) (of_greatest (λ rule. rank_of_rule (plain rule)) found) → length kinds ≡ 0 → found ≡ []
-kept-none found kinds is none =
-    let rank = λ (rule : IndexedRule). rank_of_rule (plain rule) in
+pub kept-none : (patterns : List ℕ) (found : List IndexedRule) (kinds : List (Bor (List ℕ))) →
+    kinds ≡ map (λ rule. rule.kind) (of_greatest (λ rule. rank_of_rule (plain patterns rule)) found) → length kinds ≡ 0 → found ≡ []
+kept-none patterns found kinds is none =
+    let rank = λ (rule : IndexedRule). rank_of_rule (plain patterns rule) in
     of_greatest-none rank found (no-length (of_greatest rank found)
-    (sym (length-map (of_greatest rank found) (λ (rule : IndexedRule). rule.lent.kind)) ∙ sym (ap length is) ∙ none))
+    (sym (length-map (of_greatest rank found) (λ (rule : IndexedRule). rule.kind)) ∙ sym (ap length is) ∙ none))
 
 -- filtering values is filtering by value
 filter-map : {X Y : Type 0} (value : X → Y) (p : Y → Bool) (xs : List X) → filter p (map value xs) ≡ map value (filter (λ x. p (value x)) xs)
@@ -91,68 +91,68 @@ filter-none {X} p q (x ∷ xs) none = by_cases (p x) (q x) (filter-none p q xs) 
     by_cases false true again none = ap (λ ys. x ∷ ys) (again none)
     by_cases false false again none = again none
 
-module _ (rules : List IndexedRule) (name : List ℕ) where
+module _ (patterns : List ℕ) (rules : List IndexedRule) (name : List ℕ) where
   -- the hits of the plain rules
-  hits-plain : hits (rules_of rules) name ≡ map plain (hits_of every rules name)
-  hits-plain = filter-map plain (λ rule. rule_matches rule.pattern rule.cased name) rules
+  hits-plain : hits (rules_of patterns rules) name ≡ map (plain patterns) (hits_of patterns (every patterns) rules name)
+  hits-plain = filter-map (plain patterns) (λ rule. rule_matches rule.pattern rule.cased name) rules
 
   -- the types of all by falling rank
-  pub candidates-kinds : texts_of (map (λ offer. offer.1) (falling (λ offer. offer.0) (map offer_of (hits_of every rules name))))
-      ≡ map (λ rule. rule.kind) (candidate_rules (rules_of rules) name)
+  pub candidates-kinds : texts_of (map (λ offer. offer.1) (falling (λ offer. offer.0) (map (offer_of patterns) (hits_of patterns (every patterns) rules name))))
+      ≡ map (λ rule. rule.kind) (candidate_rules (rules_of patterns rules) name)
   unfolding candidate_rules
   candidates-kinds =
-      let found = hits_of every rules name in
-      let rank = λ (rule : IndexedRule). rank_of_rule (plain rule) in
-      ap (λ offers. texts_of (map (λ (offer : ℕ × Bor (List ℕ)). offer.1) offers)) (sym (falling-map offer_of (λ (offer : ℕ × Bor (List ℕ)). offer.0) found))
-      ∙ ap texts_of (map-map (λ (offer : ℕ × Bor (List ℕ)). offer.1) offer_of (falling rank found))
-      ∙ map-map (λ (kind : Bor (List ℕ)). kind.now) (λ (rule : IndexedRule). rule.lent.kind) (falling rank found)
-      ∙ sym (map-map (λ (rule : GlobRule). rule.kind) plain (falling rank found))
-      ∙ ap (map (λ (rule : GlobRule). rule.kind)) (falling-map plain rank_of_rule found ∙ ap (falling rank_of_rule) (sym hits-plain))
+      let found = hits_of patterns (every patterns) rules name in
+      let rank = λ (rule : IndexedRule). rank_of_rule (plain patterns rule) in
+      ap (λ offers. texts_of (map (λ (offer : ℕ × Bor (List ℕ)). offer.1) offers)) (sym (falling-map (offer_of patterns) (λ (offer : ℕ × Bor (List ℕ)). offer.0) found))
+      ∙ ap texts_of (map-map (λ (offer : ℕ × Bor (List ℕ)). offer.1) (offer_of patterns) (falling rank found))
+      ∙ map-map (λ (kind : Bor (List ℕ)). kind.now) (λ (rule : IndexedRule). rule.kind) (falling rank found)
+      ∙ sym (map-map (λ (rule : GlobRule). rule.kind) (plain patterns) (falling rank found))
+      ∙ ap (map (λ (rule : GlobRule). rule.kind)) (falling-map (plain patterns) rank_of_rule found ∙ ap (falling rank_of_rule) (sym hits-plain))
 
-  module _ (own : All IsIndexedRule rules) where
+  module _ (own : All (IsIndexedRule patterns) rules) where
     -- every hit has its room in a rank
-    fits : All FitsRank (hits (rules_of rules) name)
+    fits : All FitsRank (hits (rules_of patterns rules) name)
     fits =
-        All-filter (λ rule. rule_matches rule.pattern rule.cased name) FitsRank (rules_of rules)
-        (All-map FitsRank plain rules (All-weaker IsIndexedRule (λ rule. FitsRank (plain rule)) (λ rule is. is.fits) rules own))
+        All-filter (λ rule. rule_matches rule.pattern rule.cased name) FitsRank (rules_of patterns rules)
+        (All-map FitsRank (plain patterns) rules (All-weaker (IsIndexedRule patterns) (λ rule. FitsRank (plain patterns rule)) (λ rule is. is.fits) rules own))
 
     -- the types of the greatest rank of some rules
-    kinds-plain : (found : List IndexedRule) → texts_of (map (λ rule. rule.lent.kind) (of_greatest (λ rule. rank_of_rule (plain rule)) found))
-        ≡ map (λ rule. rule.kind) (of_greatest rank_of_rule (map plain found))
+    kinds-plain : (found : List IndexedRule) → texts_of (map (λ rule. rule.kind) (of_greatest (λ rule. rank_of_rule (plain patterns rule)) found))
+        ≡ map (λ rule. rule.kind) (of_greatest rank_of_rule (map (plain patterns) found))
     kinds-plain found =
-        let rank = λ (rule : IndexedRule). rank_of_rule (plain rule) in
-        map-map (λ (kind : Bor (List ℕ)). kind.now) (λ (rule : IndexedRule). rule.lent.kind) (of_greatest rank found)
-        ∙ sym (map-map (λ (rule : GlobRule). rule.kind) plain (of_greatest rank found))
-        ∙ ap (map (λ (rule : GlobRule). rule.kind)) (sym (of_greatest-map rank_of_rule plain found))
+        let rank = λ (rule : IndexedRule). rank_of_rule (plain patterns rule) in
+        map-map (λ (kind : Bor (List ℕ)). kind.now) (λ (rule : IndexedRule). rule.kind) (of_greatest rank found)
+        ∙ sym (map-map (λ (rule : GlobRule). rule.kind) (plain patterns) (of_greatest rank found))
+        ∙ ap (map (λ (rule : GlobRule). rule.kind)) (sym (of_greatest-map rank_of_rule (plain patterns) found))
 
     -- the hits that are texts
-    texts-plain : filter is_text (hits (rules_of rules) name) ≡ map plain (hits_of texts rules name)
+    texts-plain : filter is_text (hits (rules_of patterns rules) name) ≡ map (plain patterns) (hits_of patterns (texts patterns) rules name)
     texts-plain =
         ap (filter is_text) hits-plain
-        ∙ filter-map plain is_text (hits_of every rules name)
-        ∙ ap (map plain) (filter-both texts (is_match name) rules)
+        ∙ filter-map (plain patterns) is_text (hits_of patterns (every patterns) rules name)
+        ∙ ap (map (plain patterns)) (filter-both (texts patterns) (is_match patterns name) rules)
 
     -- where a text matches, the types of the greatest rank among texts are those of the kept rules
-    pub kept-texts : 0 < length (hits_of texts rules name) →
-        texts_of (map (λ rule. rule.lent.kind) (of_greatest (λ rule. rank_of_rule (plain rule)) (hits_of texts rules name)))
-        ≡ map (λ rule. rule.kind) (kept_rules (rules_of rules) name)
+    pub kept-texts : 0 < length (hits_of patterns (texts patterns) rules name) →
+        texts_of (map (λ rule. rule.kind) (of_greatest (λ rule. rank_of_rule (plain patterns rule)) (hits_of patterns (texts patterns) rules name)))
+        ≡ map (λ rule. rule.kind) (kept_rules (rules_of patterns rules) name)
     unfolding kept_rules
     kept-texts some =
-        let found = hits (rules_of rules) name in
-        kinds-plain (hits_of texts rules name)
+        let found = hits (rules_of patterns rules) name in
+        kinds-plain (hits_of patterns (texts patterns) rules name)
         ∙ ap (map (λ (rule : GlobRule). rule.kind))
         (ap (of_greatest rank_of_rule) (sym texts-plain)
-        ∙ sym (greatest-texts found fits (omega (arith, some, ap length texts-plain, length-map (hits_of texts rules name) plain)))
+        ∙ sym (greatest-texts found fits (omega (arith, some, ap length texts-plain, length-map (hits_of patterns (texts patterns) rules name) (plain patterns))))
         ∙ of_greatest-rank_of_rule found fits)
 
     -- where none does, those among all others are
-    pub kept-others : hits_of texts rules name ≡ [] →
-        texts_of (map (λ rule. rule.lent.kind) (of_greatest (λ rule. rank_of_rule (plain rule)) (hits_of others rules name)))
-        ≡ map (λ rule. rule.kind) (kept_rules (rules_of rules) name)
+    pub kept-others : hits_of patterns (texts patterns) rules name ≡ [] →
+        texts_of (map (λ rule. rule.kind) (of_greatest (λ rule. rank_of_rule (plain patterns rule)) (hits_of patterns (others patterns) rules name)))
+        ≡ map (λ rule. rule.kind) (kept_rules (rules_of patterns rules) name)
     unfolding kept_rules
     kept-others none =
-        kinds-plain (hits_of others rules name)
+        kinds-plain (hits_of patterns (others patterns) rules name)
         ∙ ap (map (λ (rule : GlobRule). rule.kind))
-        (ap (λ found. of_greatest rank_of_rule (map plain found)) (filter-none texts (is_match name) rules none)
+        (ap (λ found. of_greatest rank_of_rule (map (plain patterns) found)) (filter-none (texts patterns) (is_match patterns name) rules none)
         ∙ ap (of_greatest rank_of_rule) (sym hits-plain)
-        ∙ of_greatest-rank_of_rule (hits (rules_of rules) name) fits)
+        ∙ of_greatest-rank_of_rule (hits (rules_of patterns rules) name) fits)

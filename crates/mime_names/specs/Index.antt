@@ -8,14 +8,14 @@ use Rattle.mime_names.specs.Rules.{IsIndexedRule, plain}
 use Rattle.mime_names.specs.declared.indexed_rule.IndexedRule.{IndexedRule}
 use Rattle.mime_names.specs.declared.keys.KeyTable.{KeyTable}
 
--- each rule has its class, its rank and its key
-pub record IsIndex (rules : List IndexedRule) (table : KeyTable) : Type 0 where
-  pub own : All IsIndexedRule rules
-  pub keyed : IsTableOf table rules
+-- each rule has its pattern, its class, its rank and its key
+pub record IsIndex (patterns : List ℕ) (rules : List IndexedRule) (table : KeyTable) : Type 0 where
+  pub own : All (IsIndexedRule patterns) rules
+  pub keyed : IsTableOf table patterns rules
 
 -- the plain values of its rules
-abbrev pub rules_of : List IndexedRule → List GlobRule
-rules_of rules = map plain rules
+abbrev pub rules_of : List ℕ → List IndexedRule → List GlobRule
+rules_of patterns rules = map (plain patterns) rules
 
 -- the types that are lent
 abbrev pub texts_of : List (Bor (List ℕ)) → List (List ℕ)

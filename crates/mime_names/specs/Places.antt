@@ -13,10 +13,10 @@ pub record AreSorted (Passes : ℕ → Type 0) (keys places : List ℕ) : Type 0
   pub only : (p : ℕ) → Contains places p → Passes (get_or keys p 0)
 
 -- Places of rules of a part alone, in rising order, among them each that matches a name.
-pub record AreNear (part : IndexedRule → Bool) (rules : List IndexedRule) (name places : List ℕ) : Type 0 where
+pub record AreNear (patterns : List ℕ) (part : IndexedRule → Bool) (rules : List IndexedRule) (name places : List ℕ) : Type 0 where
   pub rise : IsNonDecreasing places
   pub below : AreBelow (length rules) places
   pub all :
       (p : ℕ) (rule : IndexedRule) → p < length rules → rule ≡ get_or rules p rule →
-      part rule ≡ true → is_match name rule ≡ true → Contains places p
+      part rule ≡ true → is_match patterns name rule ≡ true → Contains places p
   pub only : (p : ℕ) (rule : IndexedRule) → Contains places p → rule ≡ get_or rules p rule → part rule ≡ true

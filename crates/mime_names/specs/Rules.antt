@@ -1,5 +1,5 @@
--- Rules as an index has them.
-use Rattle.std.specs.Prelude.{◌≡◌, ℕ, Bool, true, false, not, ◌&&◌, List, filter}
+-- Rules as an index has them: their patterns stand in one text.
+use Rattle.std.specs.Prelude.{◌≡◌, ℕ, ◌+◌, ◌≤◌, Bool, true, false, not, ◌&&◌, List, length, take, drop, filter}
 use Rattle.std.specs.Borrow.{Bor}
 use Rattle.mime_base.specs.Kept.{FitsRank, class_of, rank_of_rule}
 use Rattle.mime_base.specs.Matching.Matches.{rule_matches}
@@ -7,22 +7,26 @@ use Rattle.mime_base.specs.declared.database.rule.GlobRule.{GlobRule}
 use Rattle.mime_base.specs.declared.kept.class.Class.{Class}
 use Rattle.mime_base.specs.declared.kept.class.Class.TheVariants.{Literal, Suffix, Full}
 use Rattle.mime_names.specs.declared.indexed_rule.IndexedRule.{IndexedRule}
-use Rattle.mime_base.specs.Database.Lent.{plain_rule}
-use Rattle.mime_base.specs.declared.database.lent.LentRule.{LentRule}
+use Rattle.mime_names.specs.declared.named_rule.NamedRule.{NamedRule}
 
--- the rule without what was found of it
-abbrev pub lent : IndexedRule → LentRule
-lent rule = rule.lent
+-- the plain value of a rule that is lent
+abbrev pub plain_named : NamedRule → GlobRule
+plain_named rule = record { weight = rule.weight; kind = rule.kind.now; pattern = rule.pattern.now; cased = rule.cased }
+
+-- a rule's pattern, where the patterns of all stand
+abbrev pub pattern_of : List ℕ → IndexedRule → List ℕ
+pattern_of patterns rule = take rule.length (drop rule.start patterns)
 
 -- the plain value of a rule of an index
-abbrev pub plain : IndexedRule → GlobRule
-plain rule = plain_rule rule.lent
+abbrev pub plain : List ℕ → IndexedRule → GlobRule
+plain patterns rule = record { weight = rule.weight; kind = rule.kind.now; pattern = pattern_of patterns rule; cased = rule.cased }
 
--- class and rank are the rule's own, and have their room
-pub record IsIndexedRule (rule : IndexedRule) : Type 0 where
-  pub class : rule.class ≡ class_of rule.lent.pattern.now
-  pub rank : rule.rank ≡ rank_of_rule (plain_rule rule.lent)
-  pub fits : FitsRank (plain_rule rule.lent)
+-- the pattern is there, and class and rank are the rule's own, and have their room
+pub record IsIndexedRule (patterns : List ℕ) (rule : IndexedRule) : Type 0 where
+  pub within : rule.start + rule.length ≤ length patterns
+  pub class : rule.class ≡ class_of (pattern_of patterns rule)
+  pub rank : rule.rank ≡ rank_of_rule (plain patterns rule)
+  pub fits : FitsRank (plain patterns rule)
 
 -- whether a class is one of texts
 abbrev pub of_texts : Class → Bool
@@ -35,25 +39,25 @@ abbrev pub is_text : GlobRule → Bool
 is_text rule = of_texts (class_of rule.pattern)
 
 -- whether a rule is one of a text, by its plain value
-abbrev pub texts : IndexedRule → Bool
-texts rule = is_text (plain rule)
+abbrev pub texts : List ℕ → IndexedRule → Bool
+texts patterns rule = is_text (plain patterns rule)
 
 -- whether it is one of no text
-abbrev pub others : IndexedRule → Bool
-others rule = not (is_text (plain rule))
+abbrev pub others : List ℕ → IndexedRule → Bool
+others patterns rule = not (is_text (plain patterns rule))
 
 -- each rule is one of all
-abbrev pub every : IndexedRule → Bool
-every rule = true
+abbrev pub every : List ℕ → IndexedRule → Bool
+every patterns rule = true
 
 -- a rule's rank and its type
-abbrev pub offer_of : IndexedRule → ℕ × Bor (List ℕ)
-offer_of rule = (rank_of_rule (plain rule), rule.lent.kind)
+abbrev pub offer_of : List ℕ → IndexedRule → ℕ × Bor (List ℕ)
+offer_of patterns rule = (rank_of_rule (plain patterns rule), rule.kind)
 
 -- whether a rule matches a name
-abbrev pub is_match : List ℕ → IndexedRule → Bool
-is_match name rule = rule_matches rule.lent.pattern.now rule.lent.cased name
+abbrev pub is_match : List ℕ → List ℕ → IndexedRule → Bool
+is_match patterns name rule = rule_matches (pattern_of patterns rule) rule.cased name
 
 -- the rules of a part that match a name
-abbrev pub hits_of : (IndexedRule → Bool) → List IndexedRule → List ℕ → List IndexedRule
-hits_of part rules name = filter (λ rule. part rule && is_match name rule) rules
+abbrev pub hits_of : List ℕ → (IndexedRule → Bool) → List IndexedRule → List ℕ → List IndexedRule
+hits_of patterns part rules name = filter (λ rule. part rule && is_match patterns name rule) rules

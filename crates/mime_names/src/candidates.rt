@@ -30,7 +30,7 @@ pub fn candidate_kinds<'a>(
     ensures nodes { meter.new.nodes ≡ meter.old.nodes }
 {
     let places = all_places(alloc, &index.table, name, &mut Meter::new())?;
-    let found = offers(alloc, &index.rules, &places, name, meter)?;
+    let found = offers(alloc, &index.patterns, &index.rules, &places, name, meter)?;
     let sorted = by_rank(found)?;
     let mut kinds = Vec::new(alloc);
     for offer in &sorted {
@@ -42,16 +42,17 @@ pub fn candidate_kinds<'a>(
 /// The rank and the type of each rule that matches a name, of those at some places.
 fn offers<'a>(
     alloc: Global,
+    patterns: &[u8],
     rules: &[IndexedRule<'a>],
     places: &[usize],
     name: &[u8],
     meter: &mut Meter,
 ) -> Result<Vec<(u32, &'a [u8])>, OutOfMemory>
-    requires own { All IsIndexedRule rules.now }
+    requires own { All (IsIndexedRule patterns.now) rules.now }
     requires below { AreBelow (length rules.now) places.now }
     requires rise { IsNonDecreasing places.now }
-    ensures offers { (part : spec.IndexedRule → Bool) → AreNear part rules.now name.now places.now → IfOk result (λ found.
-        found.items ≡ map offer_of (hits_of part rules.now name.now)) }
+    ensures offers { (part : spec.IndexedRule → Bool) → AreNear patterns.now part rules.now name.now places.now → IfOk result (λ found.
+        found.items ≡ map (offer_of patterns.now) (hits_of patterns.now part rules.now name.now)) }
     ensures nodes { meter.new.nodes ≡ meter.old.nodes }
 {
     let mut found = Vec::new(alloc);
@@ -60,8 +61,8 @@ fn offers<'a>(
         let place = places[near];
         if from <= place {
             let rule = rule_at(rules, place);
-            if is_match(rule, name, meter) {
-                found.push((rule.rank, rule.lent.kind))?;
+            if is_match(patterns, rule, name, meter) {
+                found.push((rule.rank, rule.kind))?;
             }
             from = place + 1;
         }

@@ -1,7 +1,7 @@
 //! Whether a name ends with a text, compared from the end on.
 
 ghost use Rattle.std.specs.Prelude.{◌≡◌, ◌+◌, ◌≤◌, ℕ, true, false, length, drop};
-ghost use Rattle.mime_base.specs.Matching.Folding.{compared};
+ghost use Rattle.mime_base.specs.Matching.Folding.{compared, compared_byte};
 ghost use Rattle.mime_base.specs.Matching.Matches.{EndsSo};
 
 use mime_base::{Meter, as_compared};
@@ -28,13 +28,22 @@ pub fn ends_so(text: &[u8], cased: bool, name: &[u8], meter: &mut Meter) -> bool
     let mut left = text.len();
     while left > 0 {
         left -= 1;
-        if as_compared(cased, text[left]) != as_compared(cased, name[start + left]) {
+        if !are_alike(cased, text[left], name[start + left]) {
             meter.add_bytes((text.len() - left) as u64);
             return false;
         }
     }
     meter.add_bytes(text.len() as u64);
     true
+}
+
+/// Whether two bytes are compared as equal: most that are, are equal.
+#[inline]
+fn are_alike(cased: bool, left: u8, right: u8) -> bool
+    ensures alike { result ≡ true → compared_byte cased left ≡ compared_byte cased right }
+    ensures otherwise { result ≡ false → compared_byte cased left ≡ compared_byte cased right → ⊥ }
+{
+    left == right || as_compared(cased, left) == as_compared(cased, right)
 }
 
 /// Whether the first byte of a text is compared as another than that at a place of a name.
@@ -44,5 +53,5 @@ fn begins_otherwise(text: &[u8], cased: bool, name: &[u8], start: usize) -> bool
     requires { start + length text.now ≡ length name.now }
     ensures { result ≡ true → (k : ℕ) → compared cased (drop k name.now) ≡ compared cased text.now → ⊥ }
 {
-    text.len() > 0 && as_compared(cased, text[0]) != as_compared(cased, name[start])
+    text.len() > 0 && !are_alike(cased, text[0], name[start])
 }

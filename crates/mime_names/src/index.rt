@@ -3,22 +3,25 @@
 ghost use Rattle.std.specs.Prelude.{◌≡◌, map, IfOk};
 ghost use Rattle.std.specs.List.{All};
 ghost use Rattle.mime_base.specs.Kept.{FitsRank};
-ghost use Rattle.mime_base.specs.Database.Lent.{plain_rule};
+ghost use Rattle.mime_names.specs.Rules.{plain_named};
 
-use crate::indexed_rule::{IndexedRule, indexed_rules};
+use crate::indexed_rule::{IndexedRule, IndexedRules, indexed_rules};
 use crate::keys::{KeyTable, key_table};
-use mime_base::{Class, LentRule, OutOfMemory};
+use crate::named_rule::NamedRule;
+use mime_base::{Class, OutOfMemory};
 use std::alloc::Global;
 use std::marker::Model;
 
-/// An index over glob rules, whose texts are lent. This project's own.
+/// An index over glob rules, whose types are lent. This project's own.
 ///
-/// For each rule it has 64 bytes, and for each row of its tree 4 bytes a symbol: at most a row a rule, and those of the last two
-/// symbols of all patterns.
+/// For each rule it has its pattern and some 80 bytes, and for each row of its tree 256 bytes: at most a row a rule, and those of
+/// the last byte of all patterns.
 #[derive(Drop)]
 pub struct NameIndex<'a> {
     /// The rules.
     pub(crate) rules: Vec<IndexedRule<'a>>,
+    /// Their patterns.
+    pub(crate) patterns: Vec<u8>,
     /// The keys by which names find them.
     pub(crate) table: KeyTable,
     /// How many of them are no text and no star before a text.
@@ -32,24 +35,25 @@ impl<'a> Model for NameIndex<'a> {
 
     ghost Value = { List GlobRule };
 
-    ghost view = { λ index. rules_of index.rules.items };
+    ghost view = { λ index. rules_of index.patterns.items index.rules.items };
 
-    ghost invariant = { λ index. IsIndex index.rules.items index.table };
+    ghost invariant = { λ index. IsIndex index.patterns.items index.rules.items index.table };
 }
 
 impl<'a> NameIndex<'a> {
     /// The index over some rules. Its time and memory grow with their number and their lengths.
-    pub fn new(alloc: Global, rules: &[LentRule<'a>]) -> Result<NameIndex<'a>, OutOfMemory>
+    pub fn new<'p>(alloc: Global, rules: &[NamedRule<'p, 'a>]) -> Result<NameIndex<'a>, OutOfMemory>
         // The rules keep the limits of ranks.
-        requires { All FitsRank (map plain_rule rules.now) }
+        requires { All FitsRank (map plain_named rules.now) }
         // It is the index over these rules.
-        ensures { IfOk result (λ index. index ≡ map plain_rule rules.now) }
+        ensures { IfOk result (λ index. index ≡ map plain_named rules.now) }
     {
-        let rules = indexed_rules(alloc, rules)?;
-        let table = key_table(alloc, &rules)?;
+        let IndexedRules { rules, patterns } = indexed_rules(alloc, rules)?;
+        let table = key_table(alloc, &patterns, &rules)?;
         let general = count_general(&rules);
         Ok(NameIndex {
             rules,
+            patterns,
             table,
             general,
         })

@@ -1,54 +1,97 @@
-//! A rule with what is found of it once.
+//! Rules with what is found of each once, and their patterns in one text.
 
 ghost use Rattle.std.specs.Prelude.{◌≡◌, ◌<◌, ℕ, List, ◌∷◌, get_or, length, map, IfOk};
 ghost use Rattle.std.specs.List.{All};
-ghost use Rattle.mime_base.specs.Kept.{FitsRank};
-ghost use Rattle.mime_base.specs.Database.Lent.{plain_rule};
-ghost use Rattle.mime_names.specs.Rules.{IsIndexedRule, is_match, lent};
+ghost use Rattle.mime_base.specs.Kept.{FitsRank, class_of, rank_of_rule};
+ghost use Rattle.mime_names.specs.Rules.{IsIndexedRule, is_match, pattern_of, plain, plain_named};
 
 use crate::ending::ends_so;
-use mime_base::{Class, LentRule, Meter, OutOfMemory, class_of_bytes, glob_matches, rank_of};
+use crate::named_rule::NamedRule;
+use mime_base::{Class, Meter, OutOfMemory, class_of_bytes, glob_matches, rank_of};
 use std::alloc::Global;
 
-/// A rule with its class and its rank.
+/// A rule with its class and its rank. Its pattern stands in a text with those of all others.
 #[derive(Debug, Drop)]
 pub struct IndexedRule<'a> {
-    /// The rule.
-    pub lent: LentRule<'a>,
-    /// The class of its pattern.
-    pub class: Class,
+    /// The type that the rule gives.
+    pub kind: &'a [u8],
+    /// Where its pattern begins.
+    pub start: usize,
+    /// How long its pattern is.
+    pub length: usize,
     /// Its rank: of two rules that match, the one that is preferred has the greater.
     pub rank: u32,
+    /// Its weight.
+    pub weight: u8,
+    /// Whether it is case-sensitive.
+    pub cased: bool,
+    /// The class of its pattern.
+    pub class: Class,
+}
+
+/// Rules, and the text in which their patterns stand.
+#[derive(Drop)]
+pub struct IndexedRules<'a> {
+    /// The rules.
+    pub rules: Vec<IndexedRule<'a>>,
+    /// Their patterns.
+    pub patterns: Vec<u8>,
 }
 
 /// Each rule with its class and its rank.
-pub fn indexed_rules<'a>(
+pub fn indexed_rules<'p, 'a>(
     alloc: Global,
-    rules: &[LentRule<'a>],
-) -> Result<Vec<IndexedRule<'a>>, OutOfMemory>
-    requires limits { All FitsRank (map plain_rule rules.now) }
-    // Each has its own class and rank.
-    ensures own { IfOk result (λ all. All IsIndexedRule all.items) }
+    named: &[NamedRule<'p, 'a>],
+) -> Result<IndexedRules<'a>, OutOfMemory>
+    requires limits { All FitsRank (map plain_named named.now) }
+    // Each has its own pattern, class and rank.
+    ensures own { IfOk result (λ all. All (IsIndexedRule all.patterns.items) all.rules.items) }
     // They are these rules, in their order.
-    ensures rules { IfOk result (λ all. map lent all.items ≡ rules.now) }
+    ensures rules { IfOk result (λ all. map (plain all.patterns.items) all.rules.items ≡ map plain_named named.now) }
 {
-    let mut all = Vec::with_capacity(alloc, rules.len())?;
-    for place in 0..rules.len() {
-        let rule = indexed_rule(rules[place]);
-        all.push(rule)?;
+    let mut rules = Vec::with_capacity(alloc, named.len())?;
+    let mut patterns = Vec::new(alloc);
+    for place in 0..named.len() {
+        let lent = named_at(named, place);
+        let rule = indexed_rule(lent, patterns.len());
+        patterns.extend_from_slice(lent.pattern)?;
+        rules.push_reserved(rule);
     }
-    Ok(all)
+    Ok(IndexedRules { rules, patterns })
 }
 
-/// A rule with its class and its rank.
-fn indexed_rule(lent: LentRule<'_>) -> IndexedRule<'_>
-    requires limits { FitsRank (plain_rule lent) }
-    ensures own { IsIndexedRule result }
-    ensures lent { result.lent ≡ lent.entry }
+/// The rule at a place.
+#[inline]
+fn named_at<'b, 'p, 'a>(named: &'b [NamedRule<'p, 'a>], place: usize) -> &'b NamedRule<'p, 'a>
+    requires { place < length named.now }
+    ensures { result.now ≡ get_or named.now place result.now }
 {
-    let class = class_of_bytes(lent.pattern);
-    let rank = rank_of(class, lent.weight, lent.pattern.len() as u16, lent.cased);
-    IndexedRule { lent, class, rank }
+    &named[place]
+}
+
+/// A rule with its class and its rank, whose pattern begins at a place.
+#[inline]
+fn indexed_rule<'a>(named: &NamedRule<'_, 'a>, start: usize) -> IndexedRule<'a>
+    requires limits { FitsRank (plain_named named.now) }
+    ensures start { result.start ≡ start }
+    ensures length { result.length ≡ length named.now.pattern.now }
+    ensures weight { result.weight ≡ named.now.weight }
+    ensures kind { result.kind ≡ named.now.kind }
+    ensures cased { result.cased ≡ named.now.cased }
+    ensures class { result.class ≡ class_of named.now.pattern.now }
+    ensures rank { result.rank ≡ rank_of_rule (plain_named named.now) }
+{
+    let pattern = named.pattern;
+    let class = class_of_bytes(pattern);
+    IndexedRule {
+        kind: named.kind,
+        start,
+        length: pattern.len(),
+        rank: rank_of(class, named.weight, pattern.len() as u16, named.cased),
+        weight: named.weight,
+        cased: named.cased,
+        class,
+    }
 }
 
 /// The rule at a place.
@@ -62,21 +105,31 @@ pub fn rule_at<'a, 'b>(rules: &'b [IndexedRule<'a>], place: usize) -> &'b Indexe
     &rules[place]
 }
 
+/// A rule's pattern.
+#[inline]
+pub fn pattern_of<'b>(patterns: &'b [u8], rule: &IndexedRule<'_>) -> &'b [u8]
+    // It is there.
+    requires { IsIndexedRule patterns.now rule.now }
+    // It is the rule's own.
+    ensures { result.now ≡ pattern_of patterns.now rule.now }
+{
+    &patterns[rule.start..rule.start + rule.length]
+}
+
 /// Whether a rule matches a name.
 #[inline]
-pub fn is_match(rule: &IndexedRule<'_>, name: &[u8], meter: &mut Meter) -> bool
-    requires own { IsIndexedRule rule.now }
+pub fn is_match(patterns: &[u8], rule: &IndexedRule<'_>, name: &[u8], meter: &mut Meter) -> bool
+    requires own { IsIndexedRule patterns.now rule.now }
     // It is true exactly where the pattern matches.
-    ensures exact { result ≡ is_match name.now rule.now }
+    ensures exact { result ≡ is_match patterns.now name.now rule.now }
     // No record of a cache is visited.
     ensures nodes { meter.new.nodes ≡ meter.old.nodes }
 {
-    let pattern = rule.lent.pattern;
+    let pattern = pattern_of(patterns, rule);
     match rule.class {
-        Class::Literal => pattern.len() == name.len()
-            && ends_so(pattern, rule.lent.cased, name, meter),
-        Class::Suffix => ends_so(after_first(pattern), rule.lent.cased, name, meter),
-        Class::Full => glob_matches(pattern, rule.lent.cased, name, meter),
+        Class::Literal => pattern.len() == name.len() && ends_so(pattern, rule.cased, name, meter),
+        Class::Suffix => ends_so(after_first(pattern), rule.cased, name, meter),
+        Class::Full => glob_matches(pattern, rule.cased, name, meter),
     }
 }
 

@@ -31,28 +31,29 @@ pub fn kept_kinds<'a>(
     ensures nodes { meter.new.nodes ≡ meter.old.nodes }
 {
     let texts = text_places(alloc, &index.table, name, &mut Meter::new())?;
-    let kept = best_kinds(alloc, &index.rules, &texts, name, meter)?;
+    let kept = best_kinds(alloc, &index.patterns, &index.rules, &texts, name, meter)?;
     if kept.len() > 0 {
         return Ok(kept);
     }
     let others = front_places(alloc, &index.table, name, &mut Meter::new())?;
-    let kinds = best_kinds(alloc, &index.rules, &others, name, meter)?;
+    let kinds = best_kinds(alloc, &index.patterns, &index.rules, &others, name, meter)?;
     Ok(kinds)
 }
 
 /// The types of the rules of the greatest rank, of those at some places that match a name.
 fn best_kinds<'a>(
     alloc: Global,
+    patterns: &[u8],
     rules: &[IndexedRule<'a>],
     places: &[usize],
     name: &[u8],
     meter: &mut Meter,
 ) -> Result<Vec<&'a [u8]>, OutOfMemory>
-    requires own { All IsIndexedRule rules.now }
+    requires own { All (IsIndexedRule patterns.now) rules.now }
     requires below { AreBelow (length rules.now) places.now }
     requires rise { IsNonDecreasing places.now }
-    ensures kept { (part : spec.IndexedRule → Bool) → AreNear part rules.now name.now places.now → IfOk result (λ kinds. kinds.items
-        ≡ map (λ rule. rule.lent.kind) (of_greatest (λ rule. rank_of_rule (plain rule)) (hits_of part rules.now name.now))) }
+    ensures kept { (part : spec.IndexedRule → Bool) → AreNear patterns.now part rules.now name.now places.now → IfOk result (λ kinds. kinds.items
+        ≡ map (λ rule. rule.kind) (of_greatest (λ rule. rank_of_rule (plain patterns.now rule)) (hits_of patterns.now part rules.now name.now))) }
     ensures nodes { meter.new.nodes ≡ meter.old.nodes }
 {
     let mut best = Best::new(alloc);
@@ -61,8 +62,8 @@ fn best_kinds<'a>(
         let place = places[near];
         if from <= place {
             let rule = rule_at(rules, place);
-            if is_match(rule, name, meter) {
-                best.offer(rule.rank, rule.lent.kind)?;
+            if is_match(patterns, rule, name, meter) {
+                best.offer(rule.rank, rule.kind)?;
             }
             from = place + 1;
         }

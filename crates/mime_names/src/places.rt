@@ -3,14 +3,16 @@
 ghost use Rattle.std.specs.Prelude.{◌≡◌, ◌⊎◌, ℕ, ◌+◌, ◌*◌, ◌≤◌, ◌<◌, length, IfOk, OnOk};
 ghost use Rattle.std.specs.List.Sorted.{IsNonDecreasing, IsPermutation};
 ghost use Rattle.mime_names.specs.Chains.{Gathers, Walks};
-ghost use Rattle.mime_names.specs.Keys.{Begins, Ends, Fronts, IsTable, row_key};
+ghost use Rattle.mime_names.specs.Keys.{Begins, Ends, Fronts, IsTable, node_key};
 ghost use Rattle.mime_names.specs.Places.{AreSorted};
 ghost use Rattle.mime_names.specs.Tree.{spelled};
 
-use crate::chains::push_chain;
-use crate::keys::{ANY_NAME, FIRST_ROW, KeyTable};
-use crate::symbols::symbol_of;
+use crate::chains::{Found, push_chain};
+use crate::keys::{ANY_NAME, FIRST_NODE, KeyTable};
+use crate::symbols::{BEGIN, symbol_of};
+use crate::tree::next_of;
 use mime_base::{Meter, OutOfMemory, as_compared};
+use smallvec::SmallVec;
 use std::alloc::Global;
 
 /// The places of the rules of a name's endings, and of the whole name, in rising order.
@@ -19,16 +21,16 @@ pub fn text_places(
     table: &KeyTable,
     name: &[u8],
     steps: &mut Meter,
-) -> Result<Vec<usize>, OutOfMemory>
+) -> Result<Found, OutOfMemory>
     // It is a table.
     requires { IsTable table.now }
     // They are of just the rules of the keys that the name's endings and the whole name have.
-    ensures near { IfOk result (λ places. AreSorted (Ends table.now.width table.now.nexts.items (spelled table.now.symbols.items name.now))
+    ensures near { IfOk result (λ places. AreSorted (Ends table.now.tree (spelled name.now))
         table.now.keys.items places.items) }
     // At most two nodes are counted for each byte of the name, three, and one for each place, however many rules there are.
     ensures steps { IfOk result (λ places. steps.new.nodes ≤ steps.old.nodes + length places.items + 2 * length name.now + 3) }
 {
-    let mut found = Vec::new(alloc);
+    let mut found = SmallVec::new(alloc);
     push_endings(&mut found, table, name, steps)?;
     in_order(&mut found);
     Ok(found)
@@ -40,7 +42,7 @@ pub fn front_places(
     table: &KeyTable,
     name: &[u8],
     steps: &mut Meter,
-) -> Result<Vec<usize>, OutOfMemory>
+) -> Result<Found, OutOfMemory>
     // It is a table.
     requires { IsTable table.now }
     // They are of just the rules of these two keys.
@@ -48,7 +50,7 @@ pub fn front_places(
     // Two nodes are counted at most, and one for each place.
     ensures steps { IfOk result (λ places. steps.new.nodes ≤ steps.old.nodes + length places.items + 2) }
 {
-    let mut found = Vec::new(alloc);
+    let mut found = SmallVec::new(alloc);
     push_fronts(&mut found, table, name, steps)?;
     in_order(&mut found);
     Ok(found)
@@ -60,16 +62,16 @@ pub fn all_places(
     table: &KeyTable,
     name: &[u8],
     steps: &mut Meter,
-) -> Result<Vec<usize>, OutOfMemory>
+) -> Result<Found, OutOfMemory>
     // It is a table.
     requires { IsTable table.now }
     // They are of just the rules of all keys that the name asks for.
-    ensures near { IfOk result (λ places. AreSorted (λ key. Ends table.now.width table.now.nexts.items (spelled table.now.symbols.items name.now) key
+    ensures near { IfOk result (λ places. AreSorted (λ key. Ends table.now.tree (spelled name.now) key
         ⊎ Fronts name.now key) table.now.keys.items places.items) }
     // At most two nodes are counted for each byte of the name, five, and one for each place, however many rules there are.
     ensures steps { IfOk result (λ places. steps.new.nodes ≤ steps.old.nodes + length places.items + 2 * length name.now + 5) }
 {
-    let mut found = Vec::new(alloc);
+    let mut found = SmallVec::new(alloc);
     push_endings(&mut found, table, name, steps)?;
     push_fronts(&mut found, table, name, steps)?;
     in_order(&mut found);
@@ -78,18 +80,18 @@ pub fn all_places(
 
 /// Sorts places.
 #[inline]
-fn in_order(places: &mut Vec<usize>)
+fn in_order(places: &mut Found)
     ensures sorted { IsNonDecreasing places.new.items }
     ensures permutation { IsPermutation places.old.items places.new.items }
 {
     if places.len() > 1 {
-        places.sort_unstable();
+        places.as_mut_slice().sort_unstable();
     }
 }
 
 /// Adds the places of the rules of a name's first byte, and of those that any name may match.
 fn push_fronts(
-    found: &mut Vec<usize>,
+    found: &mut Found,
     table: &KeyTable,
     name: &[u8],
     steps: &mut Meter,
@@ -105,7 +107,7 @@ fn push_fronts(
 
 /// Adds the places of the rules of a name's first byte.
 fn push_front(
-    found: &mut Vec<usize>,
+    found: &mut Found,
     table: &KeyTable,
     name: &[u8],
     steps: &mut Meter,
@@ -123,18 +125,23 @@ fn push_front(
 }
 
 /// Adds the places of the rules of a key.
-#[inline]
+#[inline(always)]
 fn push_key(
-    found: &mut Vec<usize>,
+    found: &mut Found,
     table: &KeyTable,
     key: usize,
     steps: &mut Meter,
 ) -> Result<(), OutOfMemory>
     requires table { IsTable table.now }
-    requires key { key < row_key table.now.width (length table.now.nexts.items) }
+    requires key { key < node_key (length table.now.tree.starts.items) }
     ensures walks { OnOk result (Walks table.now.keys.items key found.old.items found.new.items) }
     ensures steps { OnOk result (steps.new.nodes + length found.old.items ≤ steps.old.nodes + length found.new.items + 1) }
 {
+    // Most nodes have no rule.
+    if table.chains.lasts[key] == 0 {
+        steps.add_node();
+        return Ok(());
+    }
     push_chain(
         found,
         &table.keys,
@@ -147,32 +154,32 @@ fn push_key(
 
 /// Adds the places of the rules of a name's endings, and of the whole name.
 fn push_endings(
-    found: &mut Vec<usize>,
+    found: &mut Found,
     table: &KeyTable,
     name: &[u8],
     steps: &mut Meter,
 ) -> Result<(), OutOfMemory>
     requires { IsTable table.now }
-    ensures gathers { OnOk result (Gathers (Ends table.now.width table.now.nexts.items (spelled table.now.symbols.items name.now))
+    ensures gathers { OnOk result (Gathers (Ends table.now.tree (spelled name.now))
         table.now.keys.items found.old.items found.new.items) }
     ensures steps { OnOk result (steps.new.nodes + length found.old.items ≤ steps.old.nodes + length found.new.items + 2 * length name.now + 3) }
 {
-    push_key(found, table, FIRST_ROW, steps)?;
+    push_key(found, table, FIRST_NODE, steps)?;
     let mut at = 0;
     let mut left = name.len();
     while left > 0 {
         left -= 1;
         steps.add_node();
-        at = table.nexts[at + symbol_of(&table.symbols, name[left])] as usize;
+        at = next_of(&table.tree, at, symbol_of(name[left]));
         if at == 0 {
             return Ok(());
         }
-        push_key(found, table, at / table.width + FIRST_ROW, steps)?;
+        push_key(found, table, at + FIRST_NODE, steps)?;
     }
     steps.add_node();
-    let whole = table.nexts[at] as usize;
+    let whole = next_of(&table.tree, at, BEGIN);
     if whole > 0 {
-        push_key(found, table, whole / table.width + FIRST_ROW, steps)?;
+        push_key(found, table, whole + FIRST_NODE, steps)?;
     }
     Ok(())
 }

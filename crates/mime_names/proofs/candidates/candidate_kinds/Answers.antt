@@ -11,14 +11,15 @@ use Rattle.mime_names.proofs.candidates.candidate_kinds.Goals as goal
 
 pub returns-clause-candidates : goal.returns-clause-candidates
 returns-clause-candidates c =
+    let patterns = c.index.inside.patterns.items in
     let rules = c.index.inside.rules.items in
     let name = c.args.name.now in
     let second = λ (offer : ℕ × Bor (List ℕ)). offer.1 in
-    let near = near-every c.index.inside.table rules c.index.invariant.keyed c.index.invariant.own name c.in_ok-places.places.items c.in_ok-places.ensures.near in
-    let found : c.in_ok-found.found.items ≡ map offer_of (hits_of every rules name) =
-    (rw (c.deref.ensures.value, c.deref-2.ensures.value) at (c.in_ok-found.ensures.offers every)) near in
+    let near = near-every c.index.inside.table patterns rules c.index.invariant.keyed c.index.invariant.own name c.in_ok-places.places.items c.in_ok-places.ensures.near in
+    let found : c.in_ok-found.found.items ≡ map (offer_of patterns) (hits_of patterns (every patterns) rules name) =
+    (rw (c.deref.ensures.value, c.deref-2.ensures.value, c.deref-3.ensures) at (c.in_ok-found.ensures.offers (every patterns))) near in
     ap texts_of (c.loop-offer.invariant
     ∙ ap (map second) (take_all c.loop-offer.offer-index c.deref-offer-items.result.now c.loop-offer-test.false ∙ c.deref-offer-items.ensures.value)
     ∙ ap (map second) (c.in_ok-sorted.ensures ∙ ap (falling (λ (offer : ℕ × Bor (List ℕ)). offer.0)) found))
-    ∙ candidates-kinds rules name
+    ∙ candidates-kinds patterns rules name
     ∙ ap (λ (all : List GlobRule). map (λ (rule : GlobRule). rule.kind) (candidate_rules all name)) c.index.view_is

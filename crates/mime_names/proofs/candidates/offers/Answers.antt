@@ -10,6 +10,7 @@ use Rattle.mime_names.proofs.candidates.offers.Goals.{then-from-place, then-is_m
 
 pub loop-near-preserved : goal.loop-near-preserved
 loop-near-preserved c =
+    let patterns = c.args.patterns.now in
     let rules = c.args.rules.now in
     let name = c.args.name.now in
     let places = c.args.places.now in
@@ -21,25 +22,25 @@ loop-near-preserved c =
       | then-from-place w ↦
           (let rule = w.rule_at-rule.result.now in
           let low : place < length rules = c.requires.below i inside in
-          let skipped : (part : IndexedRule → Bool) → AreNear part rules name places →
-          hits_of part (take place rules) name ≡ hits_of part (take c.loop-near.from rules) name =
-          λ part near. passed part rules name places near c.loop-near.from place i before.past
+          let skipped : (part : IndexedRule → Bool) → AreNear patterns part rules name places →
+          hits_of patterns part (take place rules) name ≡ hits_of patterns part (take c.loop-near.from rules) name =
+          λ part near. passed patterns part rules name places near c.loop-near.from place i before.past
           (λ j order within. near.rise i j 0 order within) w.if-from-place.true (omega (arith, low)) in
-          let indexed : IsIndexedRule rule = subst IsIndexedRule (sym w.rule_at-rule.ensures) (c.requires.own place rule low) in
-          let offered : (rule.rank, rule.lent.kind) ≡ offer_of rule = ap (λ n. (n, rule.lent.kind)) indexed.rank in
+          let indexed : IsIndexedRule patterns rule = subst (IsIndexedRule patterns) (sym w.rule_at-rule.ensures) (c.requires.own place rule low) in
+          let offered : (rule.rank, rule.kind) ≡ offer_of patterns rule = ap (λ n. (n, rule.kind)) indexed.rank in
           record {
             found = λ part near. elim w.if-is_match.branch [
               | then-is_match+in_ok-push v ↦
                   (let own = near.only place rule (Contains-get_or places i 0 inside) w.rule_at-rule.ensures in
-                  let hit : is_match name rule ≡ true = sym w.is_match.ensures.exact ∙ v.if-is_match.true in
+                  let hit : is_match patterns name rule ≡ true = sym w.is_match.ensures.exact ∙ v.if-is_match.true in
                   rw (w.from-is, w.found-is, v.found-is)
                   (v.in_ok-push.ensures.items
                   ∙ ap (λ offer. c.loop-near.found.items ++ offer ∷ []) offered
-                  ∙ ap (λ front. front ++ offer_of rule ∷ []) (before.found part near)
-                  ∙ sym (offers-hit part rules name place c.loop-near.from rule low w.rule_at-rule.ensures own hit (skipped part near))))
+                  ∙ ap (λ front. front ++ offer_of patterns rule ∷ []) (before.found part near)
+                  ∙ sym (offers-hit patterns part rules name place c.loop-near.from rule low w.rule_at-rule.ensures own hit (skipped part near))))
               | else-is_match v ↦
-                  (let miss : is_match name rule ≡ false = sym w.is_match.ensures.exact ∙ v.if-is_match.false in
-                  rw (w.from-is, w.found-is, v.found-is, miss_more part rules name place rule low w.rule_at-rule.ensures miss, skipped part near)
+                  (let miss : is_match patterns name rule ≡ false = sym w.is_match.ensures.exact ∙ v.if-is_match.false in
+                  rw (w.from-is, w.found-is, v.found-is, miss_more patterns part rules name place rule low w.rule_at-rule.ensures miss, skipped part near)
                   (before.found part near))
             ];
             within = omega (arith, w.from-is, low);
@@ -56,12 +57,13 @@ loop-near-preserved c =
 
 pub returns-clause-offers : goal.returns-clause-offers
 returns-clause-offers c = λ part near.
+    let patterns = c.args.patterns.now in
     let rules = c.args.rules.now in
     let name = c.args.name.now in
     let places = c.args.places.now in
     let before = c.loop-near.invariant in
-    let all : hits_of part (take c.loop-near.from rules) name ≡ hits_of part rules name =
-    sym (passed part rules name places near c.loop-near.from (length rules) c.loop-near.near before.past
+    let all : hits_of patterns part (take c.loop-near.from rules) name ≡ hits_of patterns part rules name =
+    sym (passed patterns part rules name places near c.loop-near.from (length rules) c.loop-near.near before.past
     (λ j order within. absurd (omega (arith, order, within, c.loop-near-test.false))) before.within (omega arith))
-    ∙ ap (λ rs. hits_of part rs name) (take_all (length rules) rules (omega arith)) in
-    before.found part near ∙ ap (map offer_of) all
+    ∙ ap (λ rs. hits_of patterns part rs name) (take_all (length rules) rules (omega arith)) in
+    before.found part near ∙ ap (map (offer_of patterns)) all

@@ -1,10 +1,13 @@
-use Rattle.std.proofs.Common.{◌≡◌, map, take}
+use Rattle.std.proofs.Common.{◌≡◌, ◌≤◌, length, map, take}
 use Rattle.std.specs.List.{All}
-use Rattle.mime_names.specs.Rules.{IsIndexedRule, lent}
+use Rattle.std.specs.Vec.{vec_capacity}
+use Rattle.mime_names.specs.Rules.{IsIndexedRule, plain, plain_named}
 use Rattle.mime_names.proofs.indexed_rule.indexed_rules.Given as goal
 
 abbrev pub invariant-loop-place : goal.invariant-loop-place
 invariant-loop-place l = record {
-  own : All IsIndexedRule l.all.items;
-  rules : map lent l.all.items ≡ take l.place l.rules;
+  long : length l.rules.items ≡ l.place;
+  room : length l.named ≤ vec_capacity l.rules;
+  own : All (IsIndexedRule l.patterns.items) l.rules.items;
+  rules : map (plain l.patterns.items) l.rules.items ≡ map plain_named (take l.place l.named);
 }

@@ -11,6 +11,7 @@ use Rattle.mime_names.proofs.kept.best_kinds.Goals.{then-from-place, then-is_mat
 
 pub loop-near-preserved : goal.loop-near-preserved
 loop-near-preserved c =
+    let patterns = c.args.patterns.now in
     let rules = c.args.rules.now in
     let name = c.args.name.now in
     let places = c.args.places.now in
@@ -22,24 +23,24 @@ loop-near-preserved c =
       | then-from-place w ↦
           (let rule = w.rule_at-rule.result.now in
           let low : place < length rules = c.requires.below i inside in
-          let skipped : (part : IndexedRule → Bool) → AreNear part rules name places →
-          hits_of part (take place rules) name ≡ hits_of part (take c.loop-near.from rules) name =
-          λ part near. passed part rules name places near c.loop-near.from place i before.past
+          let skipped : (part : IndexedRule → Bool) → AreNear patterns part rules name places →
+          hits_of patterns part (take place rules) name ≡ hits_of patterns part (take c.loop-near.from rules) name =
+          λ part near. passed patterns part rules name places near c.loop-near.from place i before.past
           (λ j order within. near.rise i j 0 order within) w.if-from-place.true (omega (arith, low)) in
-          let indexed : IsIndexedRule rule = subst IsIndexedRule (sym w.rule_at-rule.ensures) (c.requires.own place rule low) in
-          let offered : (rule.rank, rule.lent.kind) ≡ offer_of rule = ap (λ n. (n, rule.lent.kind)) indexed.rank in
+          let indexed : IsIndexedRule patterns rule = subst (IsIndexedRule patterns) (sym w.rule_at-rule.ensures) (c.requires.own place rule low) in
+          let offered : (rule.rank, rule.kind) ≡ offer_of patterns rule = ap (λ n. (n, rule.kind)) indexed.rank in
           record {
             kept = λ part near. elim w.if-is_match.branch [
               | then-is_match+in_ok-offer v ↦
                   (let own = near.only place rule (Contains-get_or places i 0 inside) w.rule_at-rule.ensures in
-                  let hit : is_match name rule ≡ true = sym w.is_match.ensures.exact ∙ v.if-is_match.true in
+                  let hit : is_match patterns name rule ≡ true = sym w.is_match.ensures.exact ∙ v.if-is_match.true in
                   rw (w.from-is, w.best-is, v.best-is)
-                  (v.in_ok-offer.ensures.kept (map offer_of (hits_of part (take c.loop-near.from rules) name)) (before.kept part near)
-                  ∙ ap (λ offer. best (map offer_of (hits_of part (take c.loop-near.from rules) name) ++ offer ∷ [])) offered
-                  ∙ ap best (sym (offers-hit part rules name place c.loop-near.from rule low w.rule_at-rule.ensures own hit (skipped part near)))))
+                  (v.in_ok-offer.ensures.kept (map (offer_of patterns) (hits_of patterns part (take c.loop-near.from rules) name)) (before.kept part near)
+                  ∙ ap (λ offer. best (map (offer_of patterns) (hits_of patterns part (take c.loop-near.from rules) name) ++ offer ∷ [])) offered
+                  ∙ ap best (sym (offers-hit patterns part rules name place c.loop-near.from rule low w.rule_at-rule.ensures own hit (skipped part near)))))
               | else-is_match v ↦
-                  (let miss : is_match name rule ≡ false = sym w.is_match.ensures.exact ∙ v.if-is_match.false in
-                  rw (w.from-is, w.best-is, v.best-is, miss_more part rules name place rule low w.rule_at-rule.ensures miss, skipped part near)
+                  (let miss : is_match patterns name rule ≡ false = sym w.is_match.ensures.exact ∙ v.if-is_match.false in
+                  rw (w.from-is, w.best-is, v.best-is, miss_more patterns part rules name place rule low w.rule_at-rule.ensures miss, skipped part near)
                   (before.kept part near))
             ];
             within = omega (arith, w.from-is, low);
@@ -56,14 +57,15 @@ loop-near-preserved c =
 
 pub returns-clause-kept : goal.returns-clause-kept
 returns-clause-kept c = λ part near.
+    let patterns = c.args.patterns.now in
     let rules = c.args.rules.now in
     let name = c.args.name.now in
     let places = c.args.places.now in
     let before = c.loop-near.invariant in
-    let all : hits_of part (take c.loop-near.from rules) name ≡ hits_of part rules name =
-    sym (passed part rules name places near c.loop-near.from (length rules) c.loop-near.near before.past
+    let all : hits_of patterns part (take c.loop-near.from rules) name ≡ hits_of patterns part rules name =
+    sym (passed patterns part rules name places near c.loop-near.from (length rules) c.loop-near.near before.past
     (λ j order within. absurd (omega (arith, order, within, c.loop-near-test.false))) before.within (omega arith))
-    ∙ ap (λ rs. hits_of part rs name) (take_all (length rules) rules (omega arith)) in
+    ∙ ap (λ rs. hits_of patterns part rs name) (take_all (length rules) rules (omega arith)) in
     c.into_items.ensures
-    ∙ ap (map (λ offer. offer.1)) (before.kept part near ∙ ap (λ found. best (map offer_of found)) all)
-    ∙ best-kinds (hits_of part rules name)
+    ∙ ap (map (λ offer. offer.1)) (before.kept part near ∙ ap (λ found. best (map (offer_of patterns) found)) all)
+    ∙ best-kinds patterns (hits_of patterns part rules name)

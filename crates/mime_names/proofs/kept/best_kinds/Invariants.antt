@@ -7,7 +7,7 @@ use Rattle.mime_names.proofs.kept.best_kinds.Given as goal
 
 abbrev pub invariant-loop-near : goal.invariant-loop-near
 invariant-loop-near l = record {
-  kept : (part : IndexedRule → Bool) → AreNear part l.rules l.name l.places → l.best ≡ best (map offer_of (hits_of part (take l.from l.rules) l.name));
+  kept : (part : IndexedRule → Bool) → AreNear l.patterns part l.rules l.name l.places → l.best ≡ best (map (offer_of l.patterns) (hits_of l.patterns part (take l.from l.rules) l.name));
   within : l.from ≤ length l.rules;
   past : (j : ℕ) → j < l.near → get_or l.places j 0 < l.from;
   nodes : l.meter.nodes ≡ l.fn.meter.nodes;

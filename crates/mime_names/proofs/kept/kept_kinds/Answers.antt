@@ -9,27 +9,29 @@ use Rattle.mime_names.proofs.kept.kept_kinds.Goals as goal
 
 pub returns-then-len-gt0-clause-kept : goal.returns-then-len-gt0-clause-kept
 returns-then-len-gt0-clause-kept c =
+    let patterns = c.index.inside.patterns.items in
     let rules = c.index.inside.rules.items in
     let name = c.args.name.now in
     let own = c.index.invariant.own in
-    let near = near-texts c.index.inside.table rules c.index.invariant.keyed own name c.in_ok-texts.texts.items c.in_ok-texts.ensures.near in
-    let kept : c.in_ok-kept.kept.items ≡ map (λ rule. rule.lent.kind) (of_greatest (λ rule. rank_of_rule (plain rule)) (hits_of texts rules name)) =
-    (rw (c.deref.ensures.value, c.deref-2.ensures.value) at (c.in_ok-kept.ensures.kept texts)) near in
+    let near = near-texts c.index.inside.table patterns rules c.index.invariant.keyed own name c.in_ok-texts.texts.items c.in_ok-texts.ensures.near in
+    let kept : c.in_ok-kept.kept.items ≡ map (λ rule. rule.kind) (of_greatest (λ rule. rank_of_rule (plain patterns rule)) (hits_of patterns (texts patterns) rules name)) =
+    (rw (c.deref.ensures.value, c.deref-2.ensures.value, c.deref-3.ensures) at (c.in_ok-kept.ensures.kept (texts patterns))) near in
     ap texts_of kept
-    ∙ kept-texts rules name own (kept-some (hits_of texts rules name) c.in_ok-kept.kept.items kept (omega (arith, c.if-len-gt0.true, c.len.ensures)))
+    ∙ kept-texts patterns rules name own (kept-some patterns (hits_of patterns (texts patterns) rules name) c.in_ok-kept.kept.items kept (omega (arith, c.if-len-gt0.true, c.len.ensures)))
     ∙ ap (λ (all : List GlobRule). map (λ (rule : GlobRule). rule.kind) (kept_rules all name)) c.index.view_is
 
 pub returns-clause-kept : goal.returns-clause-kept
 returns-clause-kept c =
+    let patterns = c.index.inside.patterns.items in
     let rules = c.index.inside.rules.items in
     let name = c.args.name.now in
     let own = c.index.invariant.own in
-    let near = near-texts c.index.inside.table rules c.index.invariant.keyed own name c.in_ok-texts.texts.items c.in_ok-texts.ensures.near in
-    let kept : c.in_ok-kept.kept.items ≡ map (λ rule. rule.lent.kind) (of_greatest (λ rule. rank_of_rule (plain rule)) (hits_of texts rules name)) =
-    (rw (c.deref.ensures.value, c.deref-2.ensures.value) at (c.in_ok-kept.ensures.kept texts)) near in
-    let also = near-others c.index.inside.table rules c.index.invariant.keyed own name c.in_ok-others.others.items c.in_ok-others.ensures.near in
-    let kinds : c.in_ok-kinds.kinds.items ≡ map (λ rule. rule.lent.kind) (of_greatest (λ rule. rank_of_rule (plain rule)) (hits_of others rules name)) =
-    (rw (c.deref-3.ensures.value, c.deref-4.ensures.value) at (c.in_ok-kinds.ensures.kept others)) also in
+    let near = near-texts c.index.inside.table patterns rules c.index.invariant.keyed own name c.in_ok-texts.texts.items c.in_ok-texts.ensures.near in
+    let kept : c.in_ok-kept.kept.items ≡ map (λ rule. rule.kind) (of_greatest (λ rule. rank_of_rule (plain patterns rule)) (hits_of patterns (texts patterns) rules name)) =
+    (rw (c.deref.ensures.value, c.deref-2.ensures.value, c.deref-3.ensures) at (c.in_ok-kept.ensures.kept (texts patterns))) near in
+    let also = near-others c.index.inside.table patterns rules c.index.invariant.keyed own name c.in_ok-others.others.items c.in_ok-others.ensures.near in
+    let kinds : c.in_ok-kinds.kinds.items ≡ map (λ rule. rule.kind) (of_greatest (λ rule. rank_of_rule (plain patterns rule)) (hits_of patterns (others patterns) rules name)) =
+    (rw (c.deref-4.ensures.value, c.deref-5.ensures.value, c.deref-6.ensures) at (c.in_ok-kinds.ensures.kept (others patterns))) also in
     ap texts_of kinds
-    ∙ kept-others rules name own (kept-none (hits_of texts rules name) c.in_ok-kept.kept.items kept (omega (arith, c.if-len-gt0.false, c.len.ensures)))
+    ∙ kept-others patterns rules name own (kept-none patterns (hits_of patterns (texts patterns) rules name) c.in_ok-kept.kept.items kept (omega (arith, c.if-len-gt0.false, c.len.ensures)))
     ∙ ap (λ (all : List GlobRule). map (λ (rule : GlobRule). rule.kind) (kept_rules all name)) c.index.view_is

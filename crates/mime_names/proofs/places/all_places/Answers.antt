@@ -11,7 +11,7 @@ returns-clause-near c =
     let table = c.args.table.now in
     let name = c.args.name.now in
     let keys = table.keys.items in
-    let ends = Ends table.width table.nexts.items (spelled table.symbols.items name) in
+    let ends = Ends table.tree (spelled name) in
     let both : ℕ → Type 0 = λ key. ends key ⊎ Fronts name key in
     sorted_places both keys _ c.push_fronts.new.found.items c.in_order.new.places.items c.new-found.ensures.items
     (gathers-both keys ends (Fronts name) both _ _ _ (λ key asks. asks) (λ key one. inl one) (λ key other. inr other)

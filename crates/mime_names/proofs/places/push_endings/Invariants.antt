@@ -1,4 +1,4 @@
-use Rattle.std.proofs.Common.{◌+◌, ◌*◌, ◌≤◌, length, drop}
+use Rattle.std.proofs.Common.{◌+◌, ◌*◌, ◌≤◌, ◌<◌, length, drop}
 use Rattle.mime_names.specs.Chains.{Gathers}
 use Rattle.mime_names.specs.Keys.{EndsFrom}
 use Rattle.mime_names.specs.Tree.{IsAt, spelled}
@@ -8,9 +8,9 @@ abbrev pub invariant-loop-left : goal.invariant-loop-left
 invariant-loop-left l = record {
   steps : l.steps.nodes + length l.fn.found.items + 2 * l.left ≤ l.fn.steps.nodes + length l.found.items + 2 * length l.name + 1;
   within : l.left ≤ length l.name;
-  row : l.at + l.table.width ≤ length l.table.nexts.items;
-  leads : IsAt l.table.nexts.items (drop l.left (spelled l.table.symbols.items l.name)) l.at;
-  gathered : Gathers (EndsFrom l.table.width l.table.nexts.items (spelled l.table.symbols.items l.name) l.left) l.table.keys.items l.fn.found.items l.found.items;
+  node : l.at < length l.table.tree.starts.items;
+  leads : IsAt l.table.tree (drop l.left (spelled l.name)) l.at;
+  gathered : Gathers (EndsFrom l.table.tree (spelled l.name) l.left) l.table.keys.items l.fn.found.items l.found.items;
 }
 
 abbrev pub decreases-loop-left : goal.decreases-loop-left

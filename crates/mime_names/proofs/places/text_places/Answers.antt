@@ -7,7 +7,7 @@ use Rattle.mime_names.proofs.places.text_places.Goals as goal
 
 pub returns-clause-near : goal.returns-clause-near
 returns-clause-near c =
-    sorted_places (Ends c.args.table.now.width c.args.table.now.nexts.items (spelled c.args.table.now.symbols.items c.args.name.now)) c.args.table.now.keys.items
+    sorted_places (Ends c.args.table.now.tree (spelled c.args.name.now)) c.args.table.now.keys.items
     _ c.push_endings.new.found.items c.in_order.new.places.items c.new-found.ensures.items c.in_ok-push_endings.ensures.gathers c.in_order.ensures.permutation c.in_order.ensures.sorted
 
 pub returns-clause-steps : goal.returns-clause-steps

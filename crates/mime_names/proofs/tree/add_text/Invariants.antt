@@ -5,7 +5,7 @@ use Rattle.mime_names.proofs.tree.add_text.Given as goal
 abbrev pub invariant-loop-left : goal.invariant-loop-left
 invariant-loop-left l = record {
   within : l.left ≤ length l.text;
-  added : Adds (length l.blank) l.initial.nexts.items (drop l.left (spelled l.symbols l.text)) l.nexts.items l.at;
+  added : Adds l.initial.tree (drop l.left (spelled l.text)) l.tree l.at;
 }
 
 abbrev pub decreases-loop-left : goal.decreases-loop-left

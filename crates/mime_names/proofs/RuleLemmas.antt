@@ -1,0 +1,79 @@
+-- Rules whose patterns stand in one text, to which others are added.
+use Rattle.std.proofs.Common.{◌≡◌, ℕ, suc, ◌+◌, ◌≤◌, List, [], ◌∷◌, ◌++◌, length, take, take_all, drop, map, refl, sym, ap, ap₂, subst, ◌∙◌, arith}
+use Rattle.std.specs.List.{All}
+use Rattle.std.proofs.lemmas.List.{drop-append-le, length-append, length-drop, map-append, take-append-le}
+use Rattle.std.proofs.lemmas.List.Elements.{All-push, All-weaker}
+use Rattle.std.proofs.Math.Seq.{drop-append_seam}
+use Rattle.mime_base.specs.Kept.{FitsRank, class_of, rank_of_rule}
+use Rattle.mime_base.specs.declared.database.rule.GlobRule.{GlobRule}
+use Rattle.mime_names.specs.Rules.{IsIndexedRule, pattern_of, plain, plain_named}
+use Rattle.mime_names.specs.declared.indexed_rule.IndexedRule.{IndexedRule}
+use Rattle.mime_names.specs.declared.named_rule.NamedRule.{NamedRule}
+
+-- a rule's plain value, with a pattern
+abbrev with_pattern : IndexedRule → List ℕ → GlobRule
+with_pattern rule pattern = record { weight = rule.weight; kind = rule.kind.now; pattern = pattern; cased = rule.cased }
+
+module _ (old more : List ℕ) where
+  -- a pattern is where it was
+  pattern-grows : (rule : IndexedRule) → rule.start + rule.length ≤ length old → pattern_of (old ++ more) rule ≡ pattern_of old rule
+  pattern-grows rule within =
+      ap (take rule.length) (drop-append-le rule.start old more (omega (arith, within)))
+      ∙ take-append-le rule.length (drop rule.start old) more (omega (arith, within, length-drop rule.start old))
+
+  -- so is the plain value
+  plain-grows : (rule : IndexedRule) → IsIndexedRule old rule → plain (old ++ more) rule ≡ plain old rule
+  plain-grows rule is = ap (with_pattern rule) (pattern-grows rule is.within)
+
+  -- and what is found of the rule
+  indexed-grows : (rule : IndexedRule) → IsIndexedRule old rule → IsIndexedRule (old ++ more) rule
+  indexed-grows rule is = record {
+    within = omega (arith, is.within, length-append old more);
+    class = is.class ∙ ap class_of (sym (pattern-grows rule is.within));
+    rank = is.rank ∙ ap rank_of_rule (sym (plain-grows rule is));
+    fits = subst FitsRank (sym (plain-grows rule is)) is.fits;
+  }
+
+  -- the plain values are what they were
+  plains-grow : (rules : List IndexedRule) → All (IsIndexedRule old) rules → map (plain (old ++ more)) rules ≡ map (plain old) rules
+  plains-grow [] own = refl
+  plains-grow (rule ∷ rest) own =
+      ap₂ (λ x xs. x ∷ xs) (plain-grows rule (own 0 rule (omega arith)))
+      (plains-grow rest (λ k other within. own (suc k) other (omega (arith, within))))
+
+  -- one rule more
+  pub rules-more : (rules : List IndexedRule) (rule : IndexedRule) → All (IsIndexedRule old) rules → IsIndexedRule (old ++ more) rule →
+      All (IsIndexedRule (old ++ more)) (rules ++ rule ∷ [])
+  rules-more rules rule own is =
+      All-push (IsIndexedRule (old ++ more)) rules rule
+      (All-weaker (IsIndexedRule old) (IsIndexedRule (old ++ more)) indexed-grows rules own) is
+
+  -- and its plain value
+  pub plains-more : (rules : List IndexedRule) (rule : IndexedRule) (plains : List GlobRule) (last : GlobRule) → All (IsIndexedRule old) rules →
+      map (plain old) rules ≡ plains → plain (old ++ more) rule ≡ last → map (plain (old ++ more)) (rules ++ rule ∷ []) ≡ plains ++ last ∷ []
+  plains-more rules rule plains last own are is =
+      map-append (plain (old ++ more)) rules (rule ∷ [])
+      ∙ ap₂ (λ front own. front ++ own ∷ []) (plains-grow rules own ∙ are) is
+
+-- the pattern that comes last
+pub pattern-last : (old more : List ℕ) (rule : IndexedRule) → rule.start ≡ length old → rule.length ≡ length more → pattern_of (old ++ more) rule ≡ more
+pattern-last old more rule start size =
+    ap (λ n. take rule.length (drop n (old ++ more))) start
+    ∙ ap (take rule.length) (drop-append_seam old more)
+    ∙ take_all rule.length more (omega (arith, size))
+
+-- a rule is found as it is made, by the pattern that comes last
+pub indexed-last : (old more : List ℕ) (rule : IndexedRule) (named : GlobRule) → rule.start ≡ length old → rule.length ≡ length more →
+    rule.class ≡ class_of more → rule.rank ≡ rank_of_rule named → plain (old ++ more) rule ≡ named → FitsRank named → IsIndexedRule (old ++ more) rule
+indexed-last old more rule named start size class rank is fits = record {
+  within = omega (arith, start, size, length-append old more);
+  class = class ∙ ap class_of (sym (pattern-last old more rule start size));
+  rank = rank ∙ ap rank_of_rule (sym is);
+  fits = subst FitsRank (sym is) fits;
+}
+
+-- a rule has the plain value of the one that it was made of
+pub plain-made : (patterns : List ℕ) (rule : IndexedRule) (named : NamedRule) → rule.weight ≡ named.weight → rule.kind ≡ named.kind →
+    rule.cased ≡ named.cased → pattern_of patterns rule ≡ named.pattern.now → plain patterns rule ≡ plain_named named
+plain-made patterns rule named weight kind cased pattern =
+    λ k. record { weight = weight k; kind = (kind k).now; pattern = pattern k; cased = cased k }
