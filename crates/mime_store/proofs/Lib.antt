@@ -5,3 +5,4 @@ pub mod ParentsLemmas
 pub mod MagicLemmas
 pub mod SuffixTreeLemmas
 pub mod CacheLemmas
+pub mod BoundLemmas

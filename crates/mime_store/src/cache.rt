@@ -3,7 +3,7 @@
 //! It is written from the bottom: what a record points to stands before the record, so that each offset is
 //! known when it is written. The 40 bytes of the header are kept free first and written last.
 
-ghost use Rattle.std.specs.Prelude.{◌≡◌, ◌+◌, ◌^◌, ◌<◌, ◌≤◌, length, map, min, IfErr, IfOk, MatchOption};
+ghost use Rattle.std.specs.Prelude.{◌≡◌, ◌+◌, ◌^◌, ◌<◌, ◌≤◌, length, map, min, nat_le, IfErr, IfOk, MatchOption};
 ghost use Rattle.mime_base.specs.Database.{plain_database};
 ghost use Rattle.mime_base.specs.Format.Packed.{Packed};
 ghost use Rattle.mime_base.specs.Format.Room.{room};
@@ -13,13 +13,14 @@ ghost use Rattle.mime_store.specs.Parts.{AreParts, parts_room};
 ghost use Rattle.mime_store.specs.Runs.{AreRuns, plain_run};
 ghost use Rattle.mime_store.specs.Views.{pair_texts};
 
+use crate::bound::is_bounded;
 use crate::bytes::{append_list, append_zeros, patch};
 use crate::fault::StoreFault;
 use crate::list::{take_list, write_list};
 use crate::magic::write_magic;
 use crate::parents::runs;
 use crate::parts::{Parts, parts_of};
-use crate::room::take_tree;
+use crate::room::{FIXED_ROOM, take_tree};
 use crate::run::Run;
 use crate::suffix_tree::write_tree;
 use crate::text_pair::TextPair;
@@ -31,9 +32,6 @@ const VERSION: u32 = 65_538;
 
 /// The bytes of the header.
 const HEADER_LENGTH: usize = 40;
-
-/// The bytes of the header, of all counts and of all heads.
-const FIXED_ROOM: usize = 88;
 
 /// The cache that spells a database, of at most `limit` bytes ("The mime.cache files").
 ///
@@ -67,6 +65,22 @@ pub fn write_cache(alloc: Global, database: &Database, limit: usize) -> Result<V
     };
     let cache = write_parts(alloc, size, database, &parts, &runs)?;
     Ok(cache)
+}
+
+/// Whether a database fits in a cache of at most `limit` bytes, which is then not refused as [`StoreFault::TooLarge`].
+///
+/// Nothing is allocated where a bound says that it does.
+pub fn fits_in_cache(alloc: Global, database: &Database, limit: usize) -> Result<bool, OutOfMemory>
+    // It fits exactly where it takes at most the limit, and at most 268,435,456 bytes.
+    ensures { IfOk result (λ fits. fits ≡ nat_le (room (plain_database database.now)) (min limit cache_limit)) }
+{
+    let limit = lesser(limit, LARGEST_CACHE);
+    if is_bounded(limit, database) {
+        return Ok(true);
+    }
+    let parts = parts_of(alloc, database)?;
+    let runs = runs(alloc, &parts.parents)?;
+    Ok(size_within(limit, database, &parts, &runs).is_some())
 }
 
 fn lesser(left: usize, right: usize) -> usize

@@ -14,6 +14,7 @@
 //! writes the part of its name.
 #![tactic(auto)]
 
+mod bound;
 mod bytes;
 mod cache;
 mod ending;
@@ -33,5 +34,5 @@ mod suffix_tree;
 mod text_pair;
 mod texts;
 
-pub use cache::write_cache;
+pub use cache::{fits_in_cache, write_cache};
 pub use fault::StoreFault;

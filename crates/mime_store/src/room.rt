@@ -11,6 +11,9 @@ use crate::bytes::padding;
 use crate::ending::Ending;
 use mime_base::Matchlet;
 
+/// The bytes of the header, of all counts and of all heads.
+pub const FIXED_ROOM: usize = 88;
+
 /// Room for bytes, padded.
 fn take_padded(left: usize, size: usize) -> Option<usize>
     requires { left < 2 ^ 32 }

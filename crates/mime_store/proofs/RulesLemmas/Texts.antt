@@ -127,6 +127,10 @@ path_keeps rule is =
 pub some_pattern : (pattern : List ℕ) → is_pattern pattern ≡ true → 0 < length pattern
 some_pattern pattern is = let limits = compared_pattern true pattern is in omega (arith, limits.0, length-map pattern (compared_byte true))
 
+-- a pattern is short
+pub short_pattern : (pattern : List ℕ) → is_pattern pattern ≡ true → length pattern ≤ 255
+short_pattern pattern is = let limits = compared_pattern true pattern is in omega (arith, limits.1, length-map pattern (compared_byte true))
+
 -- a case-sensitive text is compared as it is
 pub compared_cased : (text : List ℕ) → compared true text ≡ text
 compared_cased [] = refl
