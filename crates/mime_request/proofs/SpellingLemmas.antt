@@ -6,3 +6,4 @@ pub mod UsualEnds
 pub mod UsualMeanings
 pub mod UsualRows
 pub mod UsualWords
+pub mod ExplainWords

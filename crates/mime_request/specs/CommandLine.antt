@@ -36,6 +36,10 @@ files_rule = record (new_rule (codes "file")) {
   value_names = 1;
 }
 
+-- `FILE...`
+abbrev pub explained_rule : Rule
+explained_rule = record files_rule { required = true }
+
 -- `--files0-from LIST`
 abbrev pub list_rule : Rule
 list_rule = record (new_rule (codes "files0-from")) { long = Some (codes "files0-from"); value_names = 1 }
@@ -66,10 +70,14 @@ abbrev pub build_app : App
 build_app = with_rule (with_rule (with_rule (new_app (codes "build")) directories_rule) (flag_rule (codes "drop-twins")))
     output_rule
 
--- with `[--name-only] [--content-only] [--magic-first] [--all-globs] [--inode]`
+-- with `[--name-only] [--content-only] [--magic-first] [--all-globs]`
+abbrev pub with_orders : App → App
+with_orders app = with_rule (with_rule (with_rule (with_rule app (flag_rule (codes "name-only")))
+    (flag_rule (codes "content-only"))) (flag_rule (codes "magic-first"))) (flag_rule (codes "all-globs"))
+
+-- with these and `[--inode]`
 abbrev pub with_looks : App → App
-with_looks app = with_rule (with_rule (with_rule (with_rule (with_rule app (flag_rule (codes "name-only")))
-    (flag_rule (codes "content-only"))) (flag_rule (codes "magic-first"))) (flag_rule (codes "all-globs"))) (flag_rule (codes "inode"))
+with_looks app = with_rule (with_orders app) (flag_rule (codes "inode"))
 
 -- with `[-0] [-b] [--escape]`, of which the first two are `--null` and `--brief` too
 abbrev pub with_output : App → App
@@ -96,6 +104,10 @@ list_app = app_of_source (codes "list")
 -- `check [-c CACHE | -d DIRS]`
 abbrev pub check_app : App
 check_app = app_of_source (codes "check")
+
+-- `explain [-c CACHE | -d DIRS] [--name-only] [--content-only] [--magic-first] [--all-globs] [--escape] FILE...`
+abbrev pub explain_app : App
+explain_app = with_rule (with_rule (with_orders (app_of_source (codes "explain"))) (flag_rule (codes "escape"))) explained_rule
 
 -- `isa [-c CACHE | -d DIRS] TYPE BASE`
 abbrev pub is_a_app : App
@@ -125,7 +137,8 @@ mimelook_of_directories = with_subcommand (with_subcommand mimelook_alone build_
 
 -- `mimelook` with these and the commands over a whole cache
 abbrev pub mimelook_of_caches : App
-mimelook_of_caches = with_subcommand (with_subcommand mimelook_of_directories list_app.top) check_app.top
+mimelook_of_caches = with_subcommand (with_subcommand (with_subcommand mimelook_of_directories list_app.top) check_app.top)
+    explain_app.top
 
 -- `mimelook` with all its commands
 abbrev pub mimelook : App

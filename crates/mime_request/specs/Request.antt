@@ -49,6 +49,8 @@ pub data PlainRequest : Type 0 where
   list : PlainSource → PlainRequest
   -- whether this cache spells a database, and how much of it there is
   check : PlainSource → PlainRequest
+  -- from this cache, with these options, why these files have their types
+  explain : PlainSource → Options → List Text → PlainRequest
   -- by this cache, whether the first type is the second
   is_a : PlainSource → Text → Text → PlainRequest
   -- by this cache, the icons of the type
@@ -151,6 +153,11 @@ list_meaning rows = apart (source_in rows) (λ source. asks (list source))
 abbrev pub check_meaning : List Row → Meaning
 check_meaning rows = apart (source_in rows) (λ source. asks (check source))
 
+-- what `explain` means by what clap found after it
+abbrev pub explain_meaning : List Row → Meaning
+explain_meaning rows = apart (source_in rows) (λ source. apart (options_in rows) (λ options.
+    given (all_of (codes "file") rows) (λ files. asks (explain source options files))))
+
 -- what `isa` means by what clap found after it
 abbrev pub is_a_meaning : List Row → Meaning
 is_a_meaning rows = apart (source_in rows) (λ source.
@@ -170,8 +177,8 @@ type_meaning rows = apart (source_in rows) (λ source. apart (options_in rows) (
 -- the commands: the name of each, and what it means
 abbrev pub commands : List (Text × (List Row → Meaning))
 commands = (codes "build", build_meaning) ∷ (codes "plain", plain_meaning)
-    ∷ (codes "list", list_meaning) ∷ (codes "check", check_meaning) ∷ (codes "isa", is_a_meaning) ∷ (codes "icon", icon_meaning)
-    ∷ (codes "type", type_meaning) ∷ []
+    ∷ (codes "list", list_meaning) ∷ (codes "check", check_meaning) ∷ (codes "explain", explain_meaning)
+    ∷ (codes "isa", is_a_meaning) ∷ (codes "icon", icon_meaning) ∷ (codes "type", type_meaning) ∷ []
 
 -- what the command of this name means, if it is among these
 abbrev pub meaning_among : List (Text × (List Row → Meaning)) → Text → List Row → Meaning
@@ -220,6 +227,7 @@ plain_request (request.Build dirs drop_twins file) = build (plain_directories di
 plain_request (request.Plain dirs options of) = plain (plain_directories dirs) options (plain_subjects of)
 plain_request (request.List from) = list (plain_source from)
 plain_request (request.Check from) = check (plain_source from)
+plain_request (request.Explain from options files) = explain (plain_source from) options (texts files.items)
 plain_request (request.IsA from kind base) = is_a (plain_source from) kind.now base.now
 plain_request (request.Icon from kind) = icon (plain_source from) kind.now
 plain_request (request.Type from options of) = type_of (plain_source from) options (plain_subjects of)

@@ -150,6 +150,14 @@ list_words by = codes "list" ∷ source_words by
 abbrev pub check_words : Named → List Text
 check_words by = codes "check" ∷ source_words by
 
+-- `explain [-c CACHE | -d DIRS] FILE...`
+abbrev pub explain_words : Named → List Text → List Text
+explain_words by files = codes "explain" ∷ (source_words by ++ files)
+
+-- no option is on
+abbrev pub no_options : Options
+no_options = options_by []
+
 -- `isa [-c CACHE | -d DIRS] TYPE BASE`
 abbrev pub is_a_words : Named → Text → Text → List Text
 is_a_words by kind base = codes "isa" ∷ (source_words by ++ kind ∷ base ∷ [])
@@ -190,7 +198,8 @@ lacking_words =
     ∷ (codes "plain" ∷ codes "--name-only" ∷ codes "-d" ∷ [] ∷ [])
     ∷ (codes "type" ∷ codes "--cost" ∷ codes "-c" ∷ [] ∷ [])
     ∷ (codes "isa" ∷ codes "-c" ∷ [] ∷ [] ∷ [])
-    ∷ (codes "icon" ∷ codes "-c" ∷ [] ∷ []) ∷ []
+    ∷ (codes "icon" ∷ codes "-c" ∷ [] ∷ [])
+    ∷ (codes "explain" ∷ codes "-c" ∷ [] ∷ []) ∷ []
 
 -- words of which two can't be given together
 abbrev pub conflicting_words : List (List Text)
@@ -205,6 +214,7 @@ conflicting_words =
     ∷ (codes "type" ∷ codes "--content-only" ∷ codes "--magic-first" ∷ codes "a" ∷ [])
     ∷ (codes "plain" ∷ codes "--magic-first" ∷ codes "--all-globs" ∷ codes "a" ∷ [])
     ∷ (codes "type" ∷ codes "--content-only" ∷ codes "--all-globs" ∷ codes "a" ∷ [])
+    ∷ (codes "explain" ∷ codes "--magic-first" ∷ codes "--all-globs" ∷ codes "a" ∷ [])
     ∷ (codes "type" ∷ codes "--stdin" ∷ codes "a" ∷ codes "a" ∷ [])
     ∷ (codes "plain" ∷ codes "--stdin" ∷ [] ∷ codes "a" ∷ [])
     ∷ (codes "plain" ∷ codes "--stdin" ∷ [] ∷ codes "--stdin" ∷ [] ∷ [])

@@ -3,19 +3,19 @@
 ghost use Rattle.std.specs.Prelude.{◌≡◌, IfOk, false};
 ghost use Rattle.clap.specs.Words.{app_of, rule_of};
 ghost use Rattle.clap.specs.declared.builder.command.Command.TheViews.{out-Command};
-ghost use Rattle.mime_request.specs.CommandLine.{app_of_source, base_rule, build_app, cache_rule, check_app, directories_rule, files_rule};
-ghost use Rattle.mime_request.specs.CommandLine.{flag_rule, icon_app, input_rule, is_a_app, kind_rule, list_app, list_rule, mimelook, mimelook_alone};
+ghost use Rattle.mime_request.specs.CommandLine.{app_of_source, base_rule, build_app, cache_rule, check_app, directories_rule, explain_app};
+ghost use Rattle.mime_request.specs.CommandLine.{explained_rule, files_rule, flag_rule, icon_app, input_rule, is_a_app, kind_rule, list_app, list_rule, mimelook, mimelook_alone};
 ghost use Rattle.mime_request.specs.CommandLine.{mimelook_of_caches, mimelook_of_directories, output_rule, plain_app, short_flag_rule, type_app};
-ghost use Rattle.mime_request.specs.CommandLine.{with_looks, with_output, with_subjects};
+ghost use Rattle.mime_request.specs.CommandLine.{with_looks, with_orders, with_output, with_subjects};
 
 mod texts;
 
 use clap::{Arg, ArgAction, Command};
 use std::alloc::{AllocError, Global};
 use texts::{
-    ALL_GLOBS, BRIEF, BUILD, CACHE, CHECK, CONTENT_ONLY, COST, DIRS, DROP_TWINS, ESCAPE, FILES,
-    FILES_LIST, HelpTexts, ICON, INODE, INPUT, IS_A, LIST, MAGIC_FIRST, MIMELOOK, NAME_ONLY, NULL,
-    OUTPUT, PLAIN, TYPE,
+    ALL_GLOBS, BRIEF, BUILD, CACHE, CHECK, CONTENT_ONLY, COST, DIRS, DROP_TWINS, ESCAPE, EXPLAIN,
+    EXPLAINED, FILES, FILES_LIST, HelpTexts, ICON, INODE, INPUT, IS_A, LIST, MAGIC_FIRST, MIMELOOK,
+    NAME_ONLY, NULL, OUTPUT, PLAIN, TYPE,
 };
 
 /// A command that looks up FILEs.
@@ -94,15 +94,24 @@ fn short_flag<'a>(alloc: Global, name: &'a str, short: char, help: &'a str) -> A
     flag(alloc, name, help).short(short)
 }
 
-// With the flags that say what is looked at.
-fn with_looks<'a>(alloc: Global, command: Command<'a>) -> Result<Command<'a>, AllocError>
-    ensures app { IfOk result (λ c. app_of c ≡ with_looks (app_of command.entry)) }
+// With the flags that say what decides.
+fn with_orders<'a>(alloc: Global, command: Command<'a>) -> Result<Command<'a>, AllocError>
+    ensures app { IfOk result (λ c. app_of c ≡ with_orders (app_of command.entry)) }
     ensures local { IfOk result (λ c. (out-Command c).has_globals ≡ (out-Command command.entry).has_globals) }
 {
     let command = command.arg(flag(alloc, "name-only", NAME_ONLY))?;
     let command = command.arg(flag(alloc, "content-only", CONTENT_ONLY))?;
     let command = command.arg(flag(alloc, "magic-first", MAGIC_FIRST))?;
     let command = command.arg(flag(alloc, "all-globs", ALL_GLOBS))?;
+    Ok(command)
+}
+
+// With these and the flag that says what has a type of its own.
+fn with_looks<'a>(alloc: Global, command: Command<'a>) -> Result<Command<'a>, AllocError>
+    ensures app { IfOk result (λ c. app_of c ≡ with_looks (app_of command.entry)) }
+    ensures local { IfOk result (λ c. (out-Command c).has_globals ≡ (out-Command command.entry).has_globals) }
+{
+    let command = with_orders(alloc, command)?;
     let command = command.arg(flag(alloc, "inode", INODE))?;
     Ok(command)
 }
@@ -157,6 +166,17 @@ fn files<'a>(alloc: Global) -> Arg<'a>
         .value_name("FILE")
         .num_args(1..)
         .help(FILES)
+}
+
+fn explained<'a>(alloc: Global) -> Arg<'a>
+    ensures rule { rule_of result ≡ explained_rule }
+    ensures local { result.global ≡ false }
+{
+    Arg::new(alloc, "file")
+        .value_name("FILE")
+        .num_args(1..)
+        .required(true)
+        .help(EXPLAINED)
 }
 
 fn output<'a>(alloc: Global) -> Arg<'a>
@@ -247,6 +267,18 @@ fn check_command<'a>(alloc: Global) -> Result<Command<'a>, AllocError>
     command_of_source(alloc, "check", CHECK)
 }
 
+// The command `explain`, likewise.
+fn explain_command<'a>(alloc: Global) -> Result<Command<'a>, AllocError>
+    ensures app { IfOk result (λ c. app_of c ≡ explain_app) }
+    ensures local { IfOk result (λ c. (out-Command c).has_globals ≡ false) }
+{
+    let command = command_of_source(alloc, "explain", EXPLAIN)?;
+    let command = with_orders(alloc, command)?;
+    let command = command.arg(flag(alloc, "escape", ESCAPE))?;
+    let command = command.arg(explained(alloc))?;
+    Ok(command)
+}
+
 // The command `isa`, likewise.
 fn is_a_command<'a>(alloc: Global) -> Result<Command<'a>, AllocError>
     ensures app { IfOk result (λ c. app_of c ≡ is_a_app) }
@@ -314,6 +346,7 @@ fn over_caches<'a>(alloc: Global) -> Result<Command<'a>, AllocError>
     let command = over_directories(alloc)?;
     let command = command.subcommand(list_command(alloc)?)?;
     let command = command.subcommand(check_command(alloc)?)?;
+    let command = command.subcommand(explain_command(alloc)?)?;
     Ok(command)
 }
 

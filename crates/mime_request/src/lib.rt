@@ -14,9 +14,9 @@
 //! Here `directories` names `/usr/local/share` and `/usr/share`, `options.name_only` is on, the other
 //! options are off, and `subjects` are the files `["notes.txt"]`. `build -d DIRS -o FILE` gives a
 //! [`Request::Build`]. Over a cache, `list -c CACHE` gives a [`Request::List`], `check
-//! -c CACHE` a [`Request::Check`], `isa -c CACHE TYPE
+//! -c CACHE` a [`Request::Check`], `explain -c CACHE FILE...` a [`Request::Explain`], `isa -c CACHE TYPE
 //! BASE` a [`Request::IsA`], `icon -c CACHE TYPE` a [`Request::Icon`], and `type -c CACHE FILE...` a
-//! [`Request::Type`]; these five take `-d DIRS` in place of `-c CACHE`. Without either, any command is
+//! [`Request::Type`]; these six take `-d DIRS` in place of `-c CACHE`. Without either, any command is
 //! over the user's data directories.
 //!
 //! Read `specs/Request.antt` first for what words mean, then [`request_of`]; `command` describes the
@@ -31,7 +31,7 @@ pub use request::{Directories, Options, Output, Request, Source, Subjects, reque
 pub use spelling::{
     no_words, output_first_spelling_of_build, parts_of_directories, spelling_of_build_of_user,
     spelling_of_build_without_twins, spellings_of_help, spellings_of_version,
-    usual_spelling_of_build, usual_spelling_of_check, usual_spelling_of_icon,
-    usual_spelling_of_is_a, usual_spelling_of_list, usual_spelling_of_plain,
-    usual_spelling_of_type, words_that_conflict, words_that_lack,
+    usual_spelling_of_build, usual_spelling_of_check, usual_spelling_of_explain,
+    usual_spelling_of_icon, usual_spelling_of_is_a, usual_spelling_of_list,
+    usual_spelling_of_plain, usual_spelling_of_type, words_that_conflict, words_that_lack,
 };

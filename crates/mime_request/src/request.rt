@@ -12,7 +12,10 @@ mod found;
 mod over_directories;
 
 use crate::command::mimelook_command;
-use cache::{request_of_check, request_of_icon, request_of_is_a, request_of_list, request_of_type};
+use cache::{
+    request_of_check, request_of_explain, request_of_icon, request_of_is_a, request_of_list,
+    request_of_type,
+};
 use clap::error::ErrorKind;
 use clap::{ArgMatches, Error};
 use found::{refusal, subcommand_of};
@@ -113,6 +116,15 @@ pub enum Request<'a> {
         /// The cache.
         source: Source<'a>,
     },
+    /// Why files have their types, from a cache.
+    Explain {
+        /// The cache.
+        source: Source<'a>,
+        /// The options. Nothing but what decides and `--escape` is given.
+        options: Options,
+        /// The files, as they were written. There is at least one.
+        files: Vec<&'a str>,
+    },
     /// Whether one type is another, by a cache.
     IsA {
         /// The cache.
@@ -211,6 +223,7 @@ fn asked_by<'a>(alloc: Global, matches: &ArgMatches<'a>) -> Result<Request<'a>, 
         "plain" => request_of_plain(alloc, inner),
         "list" => request_of_list(alloc, inner),
         "check" => request_of_check(alloc, inner),
+        "explain" => request_of_explain(alloc, inner),
         "isa" => request_of_is_a(alloc, inner),
         "icon" => request_of_icon(alloc, inner),
         "type" => request_of_type(alloc, inner),

@@ -11,8 +11,8 @@ pub use build::{
     usual_spelling_of_build,
 };
 pub use cache::{
-    usual_spelling_of_check, usual_spelling_of_icon, usual_spelling_of_is_a,
-    usual_spelling_of_list, usual_spelling_of_type,
+    usual_spelling_of_check, usual_spelling_of_explain, usual_spelling_of_icon,
+    usual_spelling_of_is_a, usual_spelling_of_list, usual_spelling_of_type,
 };
 pub use directories::parts_of_directories;
 pub use plain::usual_spelling_of_plain;

@@ -2,7 +2,7 @@
 use Rattle.std.proofs.Common.{codes}
 use Rattle.clap.specs.Walk.{Text}
 use Rattle.clap.specs.Simple.{App, Shape, built_leaf, inherited, marked_built, with_leaf_noted}
-use Rattle.mime_request.specs.CommandLine.{build_app, check_app, icon_app, is_a_app, list_app, mimelook, plain_app, type_app}
+use Rattle.mime_request.specs.CommandLine.{build_app, check_app, explain_app, icon_app, is_a_app, list_app, mimelook, plain_app, type_app}
 
 -- the shape of a command below the program
 abbrev below : App → Shape
@@ -24,6 +24,10 @@ list_shape = below list_app
 abbrev pub check_shape : Shape
 check_shape = below check_app
 
+-- what `explain` takes
+abbrev pub explain_shape : Shape
+explain_shape = below explain_app
+
 -- what `isa` takes
 abbrev pub is_a_shape : Shape
 is_a_shape = below is_a_app
@@ -40,6 +44,7 @@ type_shape = below type_app
 pub data OverCache : Type 0 where
   list_over : OverCache
   check_over : OverCache
+  explain_over : OverCache
   is_a_over : OverCache
   icon_over : OverCache
   type_over : OverCache
@@ -56,6 +61,7 @@ name_of build_met = codes "build"
 name_of plain_met = codes "plain"
 name_of (cache_met list_over) = codes "list"
 name_of (cache_met check_over) = codes "check"
+name_of (cache_met explain_over) = codes "explain"
 name_of (cache_met is_a_over) = codes "isa"
 name_of (cache_met icon_over) = codes "icon"
 name_of (cache_met type_over) = codes "type"
@@ -66,6 +72,7 @@ shape_of build_met = build_shape
 shape_of plain_met = plain_shape
 shape_of (cache_met list_over) = list_shape
 shape_of (cache_met check_over) = check_shape
+shape_of (cache_met explain_over) = explain_shape
 shape_of (cache_met is_a_over) = is_a_shape
 shape_of (cache_met icon_over) = icon_shape
 shape_of (cache_met type_over) = type_shape

@@ -7,8 +7,8 @@ use Rattle.clap.specs.Kinds.{Kinds}
 use Rattle.clap.proofs.OnLiterals.{clap_on_literals}
 use Rattle.mime_request.specs.CommandLine.{mimelook}
 use Rattle.mime_request.specs.Request.{Meaning, meaning_by, meaning_of, subcommand_meaning}
-use Rattle.mime_request.proofs.CommandLemmas.Shapes.{Met, build_met, cache_met, check_over, icon_over, is_a_over, list_over, name_of, plain_met}
-use Rattle.mime_request.proofs.CommandLemmas.Shapes.{shape_of, type_over}
+use Rattle.mime_request.proofs.CommandLemmas.Shapes.{Met, build_met, cache_met, check_over, explain_over, icon_over, is_a_over}
+use Rattle.mime_request.proofs.CommandLemmas.Shapes.{list_over, name_of, plain_met, shape_of, type_over}
 use Rattle.mime_request.proofs.WalkLemmas.Walks.{Steps, Leads, end_fault, ends, goes, no_level_fault, walk_leads}
 
 -- what the program takes before a command
@@ -36,6 +36,7 @@ meets build_met = record { no_fault = refl; moves = refl }
 meets plain_met = record { no_fault = refl; moves = refl }
 meets (cache_met list_over) = record { no_fault = refl; moves = refl }
 meets (cache_met check_over) = record { no_fault = refl; moves = refl }
+meets (cache_met explain_over) = record { no_fault = refl; moves = refl }
 meets (cache_met is_a_over) = record { no_fault = refl; moves = refl }
 meets (cache_met icon_over) = record { no_fault = refl; moves = refl }
 meets (cache_met type_over) = record { no_fault = refl; moves = refl }
@@ -73,6 +74,7 @@ enters build_met words = refl
 enters plain_met words = refl
 enters (cache_met list_over) words = refl
 enters (cache_met check_over) words = refl
+enters (cache_met explain_over) words = refl
 enters (cache_met is_a_over) words = refl
 enters (cache_met icon_over) words = refl
 enters (cache_met type_over) words = refl
@@ -85,6 +87,7 @@ command_fault build_met words = refl
 command_fault plain_met words = refl
 command_fault (cache_met list_over) words = refl
 command_fault (cache_met check_over) words = refl
+command_fault (cache_met explain_over) words = refl
 command_fault (cache_met is_a_over) words = refl
 command_fault (cache_met icon_over) words = refl
 command_fault (cache_met type_over) words = refl

@@ -44,12 +44,12 @@ over_files s takes rows before (file ∷ files) h =
     goes _ _ _ file files (next_file s takes rows file before (plain_word file both.0)) rest
 
 -- any text is a value
-values_fit : (files : List Text) → values_kinds false vp.String files ≡ []
+pub values_fit : (files : List Text) → values_kinds false vp.String files ≡ []
 values_fit [] = refl
 values_fit (v ∷ vs) = values_fit vs
 
 -- so is a count that is below 2^64
-range_fits : (n : ℕ) → 0 < n → n < 2 ^ 64 → range_kinds 1 usize_max n ≡ []
+pub range_fits : (n : ℕ) → 0 < n → n < 2 ^ 64 → range_kinds 1 usize_max n ≡ []
 range_fits n some few = grind (arith, nat_tests)
 
 -- as many FILEs as memory can hold are taken

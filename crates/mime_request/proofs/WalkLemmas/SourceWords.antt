@@ -6,7 +6,8 @@ use Rattle.clap.proofs.OnLiterals.{clap_on_literals}
 use Rattle.mime_request.specs.CommandLine.{cache_rule, directories_rule}
 use Rattle.mime_request.specs.Spelling.{Named, by_cache, by_directories, by_nothing, is_option, source_word, source_words}
 use Rattle.mime_request.proofs.WalkLemmas.PlainWords.{IsPlainWord, plain_word}
-use Rattle.mime_request.proofs.CommandLemmas.Shapes.{OverCache, cache_met, check_over, icon_over, is_a_over, list_over, shape_of, type_over}
+use Rattle.mime_request.proofs.CommandLemmas.Shapes.{OverCache, cache_met, check_over, explain_over, icon_over, is_a_over}
+use Rattle.mime_request.proofs.CommandLemmas.Shapes.{list_over, shape_of, type_over}
 use Rattle.mime_request.proofs.WalkLemmas.ValueWords.{value_taken}
 use Rattle.mime_request.proofs.WalkLemmas.Walks.{Steps, Leads, after_value, before_value, goes}
 
@@ -28,6 +29,7 @@ option_c : (m : OverCache)
 unfolding clap_on_literals
 option_c list_over = record { no_fault = refl; moves = refl }
 option_c check_over = record { no_fault = refl; moves = refl }
+option_c explain_over = record { no_fault = refl; moves = refl }
 option_c is_a_over = record { no_fault = refl; moves = refl }
 option_c icon_over = record { no_fault = refl; moves = refl }
 option_c type_over = record { no_fault = refl; moves = refl }
@@ -37,6 +39,7 @@ cache_value : (m : OverCache) (cache : Text) → IsPlainWord cache
     → Steps (shape_of (cache_met m)) [] (before_value (codes "cache") []) cache (after_source (by_cache cache))
 cache_value list_over cache h = value_taken _ _ _ [] cache refl refl h
 cache_value check_over cache h = value_taken _ _ _ [] cache refl refl h
+cache_value explain_over cache h = value_taken _ _ _ [] cache refl refl h
 cache_value is_a_over cache h = value_taken _ _ _ [] cache refl refl h
 cache_value icon_over cache h = value_taken _ _ _ [] cache refl refl h
 cache_value type_over cache h = value_taken _ _ _ [] cache refl refl h
@@ -47,6 +50,7 @@ option_d : (m : OverCache)
 unfolding clap_on_literals
 option_d list_over = record { no_fault = refl; moves = refl }
 option_d check_over = record { no_fault = refl; moves = refl }
+option_d explain_over = record { no_fault = refl; moves = refl }
 option_d is_a_over = record { no_fault = refl; moves = refl }
 option_d icon_over = record { no_fault = refl; moves = refl }
 option_d type_over = record { no_fault = refl; moves = refl }
@@ -56,6 +60,7 @@ directories_value : (m : OverCache) (dirs : Text) → IsPlainWord dirs
     → Steps (shape_of (cache_met m)) [] (before_value (codes "dirs") []) dirs (after_source (by_directories dirs))
 directories_value list_over dirs h = value_taken _ _ _ [] dirs refl refl h
 directories_value check_over dirs h = value_taken _ _ _ [] dirs refl refl h
+directories_value explain_over dirs h = value_taken _ _ _ [] dirs refl refl h
 directories_value is_a_over dirs h = value_taken _ _ _ [] dirs refl refl h
 directories_value icon_over dirs h = value_taken _ _ _ [] dirs refl refl h
 directories_value type_over dirs h = value_taken _ _ _ [] dirs refl refl h

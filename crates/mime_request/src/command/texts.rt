@@ -19,7 +19,8 @@ XDG_DATA_DIRS, or else /usr/local/share and /usr/share.
 
 Exit status:
   0  what was asked for was done; or help or the version was printed
-  1  some file not answered, isa says no, or check finds no database
+  1  some file not answered, isa says no, or the cache that check or explain
+     reads back spells no database
   2  the command line is wrong
   3  database, cache or output refused
   4  out of memory
@@ -130,6 +131,42 @@ Example:
   generic-icons 0",
 };
 
+pub(crate) const EXPLAIN: HelpTexts<'static> = HelpTexts {
+    about: "Prints FILE: TYPE for each FILE, and below it why",
+    usage: "\
+mimelook explain [-c CACHE | -d DIRS] [--name-only | --content-only]
+                        [--magic-first | --all-globs] [--escape] FILE...",
+    after_help: "\
+Messages go to standard error. The cache is read back; one that spells no
+database is refused as by check. Below FILE: TYPE stand, each after two spaces,
+a line glob WEIGHT PATTERN TYPE for each glob rule that matches the name, the
+preferred first; a line magic PRIORITY TYPE for the first section of magic that
+holds for the content, or magic none TYPE for one that has its type by its bytes
+alone; and what decides. Behind a rule stand cs where it is case-sensitive, kept
+where no other is preferred to it, and -> OTHER where TYPE is an alias of OTHER.
+By name: the rules give one type. By content: the content gives it, since no
+rule matches or it is asked first. By both: of the types of the rules one is
+that of the content or derived from it. By default: neither; it is the first
+type of the rules, or the default.
+The content is read even where the name decides, but no further than magic can
+look. With -d the cache is made of DIRS, as build makes it; without -c and -d,
+of the user's data directories (see mimelook --help).
+
+Exit status:
+  0  every FILE was answered; or help or the version was printed
+  1  some FILE can't be opened or read, or its name is too long (above 4096
+     bytes); the others were answered; or the cache spells no database
+  2  the command line is wrong, or a word but a FILE is not UTF-8
+  3  the data can't be read or is refused, or the output can't be written
+  4  out of memory
+
+Example:
+  $ mimelook explain --name-only notes.txt
+  notes.txt: text/plain
+    glob 50 *.txt text/plain kept
+    by name",
+};
+
 pub(crate) const IS_A: HelpTexts<'static> = HelpTexts {
     about: "Prints yes where TYPE is BASE or is derived from it, and else no",
     usage: "mimelook isa [-c CACHE | -d DIRS] TYPE BASE",
@@ -221,6 +258,10 @@ the same weight, type and pattern";
 pub(crate) const FILES: &str = "\
 The files to tell the types of; put -- before one that begins
 with -";
+
+pub(crate) const EXPLAINED: &str = "\
+The files to explain the types of; put -- before one that
+begins with -";
 
 pub(crate) const FILES_LIST: &str = "\
 Take the FILEs from the file LIST, or from standard

@@ -1,12 +1,12 @@
 //! The commands over a cache.
 
 ghost use Rattle.clap.specs.Words.{found_of, rows_of};
-ghost use Rattle.mime_request.specs.Request.{Means, check_meaning, icon_meaning, is_a_meaning, list_meaning, type_meaning};
+ghost use Rattle.mime_request.specs.Request.{Means, check_meaning, explain_meaning, icon_meaning, is_a_meaning, list_meaning, type_meaning};
 
 use super::Request;
 use super::data::source_of;
 use super::flags::options_of;
-use super::found::{given, subjects_of};
+use super::found::{files_of, given, subjects_of};
 use crate::command::FilesCommand;
 use clap::{ArgMatches, Error};
 use std::alloc::Global;
@@ -33,6 +33,23 @@ pub(super) fn request_of_check<'a>(
 {
     let source = source_of(alloc, matches)?;
     Ok(Request::Check { source })
+}
+
+pub(super) fn request_of_explain<'a>(
+    alloc: Global,
+    matches: &ArgMatches<'a>,
+) -> Result<Request<'a>, Error>
+    // The result is what `explain` means by what clap found after it.
+    ensures { Means (explain_meaning (rows_of (found_of matches.now))) result }
+{
+    let source = source_of(alloc, matches)?;
+    let options = options_of(alloc, matches)?;
+    let files = files_of(alloc, matches)?;
+    Ok(Request::Explain {
+        source,
+        options,
+        files,
+    })
 }
 
 pub(super) fn request_of_is_a<'a>(

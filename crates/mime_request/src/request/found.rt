@@ -1,6 +1,6 @@
 //! What clap found of an argument, and the errors where it found too little.
 
-ghost use Rattle.std.specs.Prelude.{◌≡◌, IfErr, IfOk, Ok, Some, option_map, [], ◌∷◌};
+ghost use Rattle.std.specs.Prelude.{◌≡◌, IfErr, IfOk, Ok, Some, codes, option_map, [], ◌∷◌};
 ghost use Rattle.clap.specs.Words.{all_of, first_of, found_of, rows_of, subcommand_rows_of};
 ghost use Rattle.clap.specs.Walk.{texts};
 ghost use Rattle.clap.specs.Kinds.{HasKind};
@@ -73,6 +73,21 @@ pub(super) fn subjects_of<'a>(
             Err(refusal(alloc, ErrorKind::ArgumentConflict, message))
         }
     }
+}
+
+// The FILEs, where there has to be one.
+pub(super) fn files_of<'a>(alloc: Global, matches: &ArgMatches<'a>) -> Result<Vec<&'a str>, Error>
+    // They are all FILEs that were found, in their order.
+    ensures found { IfOk result (λ files. all_of (codes "file") (rows_of (found_of matches.now)) ≡ Some (texts files.items)) }
+
+    // An error says that there is none, or that memory ran out.
+    ensures missing { IfErr result (HasKind (missing (all_of (codes "file") (rows_of (found_of matches.now))))) }
+{
+    let Some(files) = values_of(matches, "file") else {
+        return Err(refusal(alloc, ErrorKind::MissingRequiredArgument, "give a FILE"));
+    };
+    let files = files.to_vec(alloc)?;
+    Ok(files)
 }
 
 // The first value of an argument.

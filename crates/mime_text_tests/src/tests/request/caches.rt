@@ -93,6 +93,37 @@ static CHECKS: [Asked; 4] = [
     },
 ];
 
+static EXPLAINS: [Asked; 4] = [
+    Asked {
+        name: "no source",
+        words: &["explain", "a"],
+        request: r#"Explain { source: Directories(User), options: Options { name_only: false, content_only: false, magic_first: false, all_globs: false, inode: false, cost: false, output: Output { null: false, brief: false, escape: false } }, files: ["a"] }"#,
+    },
+    Asked {
+        name: "usual words",
+        words: &["explain", "-c", "c", "a", "b"],
+        request: r#"Explain { source: Cache("c"), options: Options { name_only: false, content_only: false, magic_first: false, all_globs: false, inode: false, cost: false, output: Output { null: false, brief: false, escape: false } }, files: ["a", "b"] }"#,
+    },
+    Asked {
+        name: "its options",
+        words: &[
+            "explain",
+            "--name-only",
+            "-d",
+            "b::a",
+            "--all-globs",
+            "a",
+            "--escape",
+        ],
+        request: r#"Explain { source: Directories(Named(["b", "a"])), options: Options { name_only: true, content_only: false, magic_first: false, all_globs: true, inode: false, cost: false, output: Output { null: false, brief: false, escape: true } }, files: ["a"] }"#,
+    },
+    Asked {
+        name: "hyphens",
+        words: &["explain", "--magic-first", "--", "-c", "explain"],
+        request: r#"Explain { source: Directories(User), options: Options { name_only: false, content_only: false, magic_first: true, all_globs: false, inode: false, cost: false, output: Output { null: false, brief: false, escape: false } }, files: ["-c", "explain"] }"#,
+    },
+];
+
 static IS_AS: [Asked; 8] = [
     Asked {
         name: "no source",
@@ -331,6 +362,11 @@ fn asks_for_the_rules_of_a_cache(rt: HostRuntime) -> Result<(), Fail> {
 #[test]
 fn asks_for_a_check(rt: HostRuntime) -> Result<(), Fail> {
     asks(&rt, rt.alloc(), &CHECKS)
+}
+
+#[test]
+fn asks_for_an_explanation(rt: HostRuntime) -> Result<(), Fail> {
+    asks(&rt, rt.alloc(), &EXPLAINS)
 }
 
 #[test]

@@ -18,6 +18,8 @@ const OF_LIST: &str = "Prints a line WEIGHT:TYPE:PATTERN for each glob rule of a
 
 const OF_CHECK: &str = "Prints how much a cache has of each list, if it is sound";
 
+const OF_EXPLAIN: &str = "Prints FILE: TYPE for each FILE, and below it why";
+
 const OF_IS_A: &str = "Prints yes where TYPE is BASE or is derived from it, and else no";
 
 const OF_ICON: &str = "Prints the icon and the generic icon of a type";
@@ -31,7 +33,7 @@ struct Help {
     first_line: &'static str,
 }
 
-static HELPS: [Help; 13] = [
+static HELPS: [Help; 14] = [
     Help {
         name: "help",
         words: &["--help"],
@@ -81,6 +83,11 @@ static HELPS: [Help; 13] = [
         name: "help of check",
         words: &["check", "--help"],
         first_line: OF_CHECK,
+    },
+    Help {
+        name: "help of explain",
+        words: &["explain", "--help"],
+        first_line: OF_EXPLAIN,
     },
     Help {
         name: "help of isa",

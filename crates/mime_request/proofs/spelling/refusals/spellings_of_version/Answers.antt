@@ -5,4 +5,4 @@ use Rattle.mime_request.proofs.spelling.refusals.spellings_of_version.Goals as g
 
 pub returns : goal.returns
 unfolding clap_on_literals meaning_of
-returns c = (refl, (refl, (refl, (refl, (refl, (refl, (refl, (refl, (refl, (refl, (refl, (refl, (refl, (refl, (refl, (refl, tt))))))))))))))))
+returns c = (refl, (refl, (refl, (refl, (refl, (refl, (refl, (refl, (refl, (refl, (refl, (refl, (refl, (refl, (refl, (refl, (refl, (refl, tt))))))))))))))))))

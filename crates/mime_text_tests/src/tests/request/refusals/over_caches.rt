@@ -3,7 +3,7 @@
 use super::{Refused, are_refused};
 use clap::error::ErrorKind;
 
-static REFUSED: [Refused; 23] = [
+static REFUSED: [Refused; 27] = [
     Refused {
         name: "-c without CACHE",
         words: &["list", "-c"],
@@ -37,6 +37,26 @@ static REFUSED: [Refused; 23] = [
     Refused {
         name: "a word after check",
         words: &["check", "c"],
+        kind: ErrorKind::UnknownArgument,
+    },
+    Refused {
+        name: "explain without FILE",
+        words: &["explain", "-c", "c"],
+        kind: ErrorKind::MissingRequiredArgument,
+    },
+    Refused {
+        name: "both -c and -d after explain",
+        words: &["explain", "-d", "a", "-c", "c", "a"],
+        kind: ErrorKind::ArgumentConflict,
+    },
+    Refused {
+        name: "two orders after explain",
+        words: &["explain", "--content-only", "--all-globs", "a"],
+        kind: ErrorKind::ArgumentConflict,
+    },
+    Refused {
+        name: "an option of type after explain",
+        words: &["explain", "--inode", "a"],
         kind: ErrorKind::UnknownArgument,
     },
     Refused {
