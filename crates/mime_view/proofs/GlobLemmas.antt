@@ -1,4 +1,3 @@
 -- Lemmas on the glob list.
 pub mod GlobEntries
 pub mod GlobLists
-pub mod LearntGlobs

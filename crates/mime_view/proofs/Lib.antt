@@ -9,4 +9,3 @@ pub mod GlobLemmas
 pub mod SuffixTreeLemmas
 pub mod LiteralLemmas
 pub mod ListingLemmas
-pub mod HeadsLemmas

@@ -9,11 +9,11 @@ pub mod Texts
 pub mod Pairs
 pub mod Parents
 pub mod Magic
+pub mod MagicRows
 pub mod Globs
 pub mod Literals
 pub mod SuffixTree
 pub mod NameHits
 pub mod RuleHits
 pub mod Listing
-pub mod Heads
-pub mod Learning
+pub mod Rows

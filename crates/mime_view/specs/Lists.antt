@@ -73,6 +73,10 @@ pub record IsListFault (c : List ℕ) (at size : ℕ) (e : CacheFault) : Type 0 
   pub outside : length c < at + 4 + size * field c at 0
   pub is : e ≡ OutOfRange at
 
+-- the head of a list at `at`, of that many bytes, lies in the cache
+abbrev pub LiesHead : List ℕ → ℕ → ℕ → Type 0
+LiesHead c at size = at + size ≤ length c
+
 -- the head of a list at `at`, of that many bytes, does not lie in the cache
 abbrev pub IsHeadFault : List ℕ → ℕ → ℕ → CacheFault → Type 0
 IsHeadFault c at size e = (length c < at + size) × (e ≡ OutOfRange at)

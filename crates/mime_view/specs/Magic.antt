@@ -8,8 +8,9 @@ use Rattle.mime_base.specs.Format.Magic.{line_count, width}
 use Rattle.mime_base.specs.Format.Packed.{forest_value_length, matchlet_count, value_length}
 use Rattle.mime_base.specs.Magic.{Forest, PlainLine, PlainSection, are_allowed, are_allowed_sections, bare, line}
 use Rattle.mime_base.specs.Magic.Holds.{bytes_of_mask, equals_from, first_magic, some_holds}
+use Rattle.mime_base.specs.Magic.Ranges.{stated_line}
 use Rattle.mime_base.specs.declared.magic.host.Host.{Host}
-use Rattle.mime_view.specs.Lists.{IsHeadFault, IsNoText}
+use Rattle.mime_view.specs.Lists.{IsHeadFault, IsNoText, LiesHead}
 use Rattle.mime_view.specs.Spending.{Price, Spends}
 use Rattle.mime_view.specs.declared.budget.Budget.{Budget}
 use Rattle.mime_view.specs.declared.fault.CacheFault.{CacheFault}
@@ -58,6 +59,13 @@ pub record ReadsMagic (c : List ℕ) (at : ℕ) (sections : List PlainSection) :
   pub count : field c at 0 ≡ length sections
   pub block : LiesBlock c (field c at 2) 16 (length sections)
   pub sections_read : ReadsSections c (field c at 2) sections
+
+-- The head of the magic list at `at` and its sections lie in the cache.
+pub record LiesMagic (c : List ℕ) (at : ℕ) : Type 0 where
+  -- The head.
+  pub head : LiesHead c at 12
+  -- The sections.
+  pub sections : LiesBlock c (field c at 2) 16 (field c at 0)
 
 -- at most that many records and value bytes are taken
 pub record Takes (records value_bytes : ℕ) (old new : Budget) : Type 0 where
@@ -167,10 +175,33 @@ IsLineSpent c r after e = (e ≡ Spent) × ((after.records ≡ 0) ⊎ (after.val
 abbrev pub IsSeenFault : List ℕ → ℕ → Budget → CacheFault → Type 0
 IsSeenFault c r after e = IsValueFault c r e ⊎ IsLineSpent c r after e
 
--- why a line on this level gives no answer: it is not seen, its children do not lie in the cache, or it has some on the last level
-abbrev pub IsOwnFault : List ℕ → ℕ → ℕ → Budget → CacheFault → Type 0
-IsOwnFault c r level after e =
-    IsSeenFault c r after e ⊎ IsBlockFault c (field c r 7) 32 (field c r 6) e ⊎ (e ≡ TooDeep) × (0 < field c r 6) × (level ≡ 63)
+-- the line that the record at r states
+abbrev pub line_at : List ℕ → ℕ → PlainLine
+line_at c r =
+    stated_line c (record { at = field c r 4; mask_at = field c r 5; size = field c r 3; word = field c r 2 }) (field c r 0) (field c r 1)
+
+-- The line at r equals its value at an offset of its range.
+pub record EqualsAt (c : List ℕ) (r : ℕ) (content : List ℕ) (host : Host) : Type 0 where
+  -- Its value lies in the cache, and its mask if it has one.
+  pub lies : both_lie c (field c r 4) (field c r 5) (field c r 3) ≡ true
+  -- Some window of the content equals it.
+  pub equals : equals_from (line_at c r) host content (field c r 0) (field c r 1) ≡ true
+
+-- The line at r holds by itself on the last level, and has children.
+pub record IsTooDeep (c : List ℕ) (r level : ℕ) (content : List ℕ) (host : Host) (e : CacheFault) : Type 0 where
+  -- That is the fault.
+  pub is : e ≡ TooDeep
+  -- It is on the last of 64 levels.
+  pub last : level ≡ 63
+  -- It equals its value.
+  pub equals : EqualsAt c r content host
+  -- It has a child.
+  pub some : 0 < field c r 6
+
+-- why a line on this level gives no answer: it is not seen, its children do not lie in the cache, or they are too deep
+abbrev pub IsOwnFault : List ℕ → ℕ → ℕ → List ℕ → Host → Budget → CacheFault → Type 0
+IsOwnFault c r level content host after e =
+    IsSeenFault c r after e ⊎ IsBlockFault c (field c r 7) 32 (field c r 6) e ⊎ IsTooDeep c r level content host e
 
 -- that many steps, each from a line to one of its children, lead from the line at `at` to the one at r
 abbrev pub LeadsToLine : List ℕ → ℕ → ℕ → ℕ → Type 0
@@ -178,7 +209,7 @@ LeadsToLine c zero at r = r ≡ at
 LeadsToLine c (suc steps) at r = (i : ℕ) × (i < field c at 6) × LeadsToLine c steps (field c at 7 + 32 * i) r
 
 -- The line at `at`, on this level, or one below it gives no answer.
-pub record IsLineFault (c : List ℕ) (at level : ℕ) (after : Budget) (e : CacheFault) : Type 0 where
+pub record IsLineFault (c : List ℕ) (at level : ℕ) (content : List ℕ) (host : Host) (after : Budget) (e : CacheFault) : Type 0 where
   -- How many levels below it the line is.
   pub steps : ℕ
   -- It is on one of 64 levels.
@@ -188,23 +219,24 @@ pub record IsLineFault (c : List ℕ) (at level : ℕ) (after : Budget) (e : Cac
   -- It is below the line at `at`.
   pub leads : LeadsToLine c steps at r
   -- Why it gives no answer.
-  pub fault : IsOwnFault c r (level + steps) after e
+  pub fault : IsOwnFault c r (level + steps) content host after e
 
 -- one of that many lines on a level, or one below it, gives no answer
-abbrev pub IsLinesFault : List ℕ → ℕ → ℕ → ℕ → Budget → CacheFault → Type 0
-IsLinesFault c first count level after e = (i : ℕ) × (i < count) × IsLineFault c (first + 32 * i) level after e
+abbrev pub IsLinesFault : List ℕ → ℕ → ℕ → ℕ → List ℕ → Host → Budget → CacheFault → Type 0
+IsLinesFault c first count level content host after e =
+    (i : ℕ) × (i < count) × IsLineFault c (first + 32 * i) level content host after e
 
 -- why the section at `at` gives no answer: where its lines are, what is left, its lines, or its type
-abbrev pub IsSectionFault : List ℕ → ℕ → Budget → CacheFault → Type 0
-IsSectionFault c at after e =
+abbrev pub IsSectionFault : List ℕ → ℕ → List ℕ → Host → Budget → CacheFault → Type 0
+IsSectionFault c at content host after e =
     IsBlockFault c (field c at 3) 32 (field c at 2) e ⊎ ((e ≡ Spent) × (after.records ≡ 0))
-    ⊎ IsLinesFault c (field c at 3) (field c at 2) 0 after e ⊎ IsNoText c (field c at 1) e
+    ⊎ IsLinesFault c (field c at 3) (field c at 2) 0 content host after e ⊎ IsNoText c (field c at 1) e
 
--- the magic list at `at`, or one of its sections, gives no answer
-abbrev pub IsMagicFault : List ℕ → ℕ → Budget → CacheFault → Type 0
-IsMagicFault c at after e =
+-- the magic list at `at`, or one of its sections, gives no answer of a content, with the order of bytes of words
+abbrev pub IsMagicFault : List ℕ → ℕ → List ℕ → Host → Budget → CacheFault → Type 0
+IsMagicFault c at content host after e =
     IsHeadFault c at 12 e ⊎ IsBlockFault c (field c at 2) 16 (field c at 0) e
-    ⊎ (i : ℕ) × (i < field c at 0) × IsSectionFault c (field c at 2 + 16 * i) after e
+    ⊎ (i : ℕ) × (i < field c at 0) × IsSectionFault c (field c at 2 + 16 * i) content host after e
 
 -- The line at r is one of a section of the magic list at `at`, or below one.
 pub record IsMagicLine (c : List ℕ) (at r : ℕ) : Type 0 where

@@ -12,10 +12,10 @@ use Rattle.mime_base.specs.Matching.Folding.{compared}
 use Rattle.mime_base.specs.declared.database.rule.GlobRule.{GlobRule}
 use Rattle.mime_view.specs.Gathered.{asked_rules}
 use Rattle.mime_view.specs.Hits.{hit_visits, near}
-use Rattle.mime_view.specs.Lists.{IsNoText}
+use Rattle.mime_view.specs.Lists.{IsNoText, LiesList}
 use Rattle.mime_view.specs.Spending.{halving}
 use Rattle.mime_view.specs.Steps.{Part, Searches, either_part, list_part}
-use Rattle.mime_view.specs.SuffixTree.{tree_part}
+use Rattle.mime_view.specs.SuffixTree.{LiesTree, tree_part}
 use Rattle.mime_view.specs.declared.budget.Budget.{Budget}
 use Rattle.mime_view.specs.declared.fault.CacheFault.{CacheFault}
 use Rattle.mime_view.specs.declared.fault.CacheFault.TheVariants.{OutOfMemory, Spent}
@@ -64,6 +64,15 @@ walks_part c at name = either_part (tree_part c at name) (tree_part c at (compar
 abbrev pub lists_part : List ℕ → RuleLists → List ℕ → Part
 lists_part c lists name =
     either_part (list_part c lists.literals) (either_part (walks_part c lists.tree name) (list_part c lists.globs))
+
+-- The three lists lie in the cache, the tree as far as a walk along a name and along the folded name begins there.
+pub record LieLists (c : List ℕ) (lists : RuleLists) (name : List ℕ) : Type 0 where
+  -- The literal list.
+  pub literals : LiesList c lists.literals 12
+  -- The tree.
+  pub tree : LiesTree c lists.tree name
+  -- The glob list.
+  pub globs : LiesList c lists.globs 12
 
 -- a search of the three lists on any bytes: a record costs as in the glob list; the halving comes besides, for both cases
 abbrev pub SearchesLists : Query → RuleLists → Progress → Progress → Result (Unit {0}) CacheFault → Type 0

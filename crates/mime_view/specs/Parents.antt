@@ -9,7 +9,7 @@ use Rattle.mime_base.specs.Cache.Texts.{text_at}
 use Rattle.mime_base.specs.Database.Subclass.{parents}
 use Rattle.mime_base.specs.declared.cache.byte_fault.ByteFault.{ByteFault}
 use Rattle.mime_view.specs.Faults.{cache_fault}
-use Rattle.mime_view.specs.Lists.{IsKeysFault, IsListFault, IsNamedFault, KeysAt, ReadsKeys, place_of}
+use Rattle.mime_view.specs.Lists.{IsKeysFault, IsListFault, IsNamedFault, KeysAt, LiesList, ReadsKeys, place_of}
 use Rattle.mime_view.specs.Spending.{Gives}
 use Rattle.mime_view.specs.declared.fault.CacheFault.{CacheFault}
 use Rattle.mime_view.specs.declared.fault.CacheFault.TheVariants.{OutOfMemory, Spent}
@@ -101,6 +101,8 @@ pub record TakesTexts (c : List ℕ) (at : ℕ) (old new : Spending) (texts : Li
 -- Parents of a type, if it has an entry, were taken on any bytes, with these marks before and after.
 pub record TakesParents (c : List ℕ) (at : ℕ) (kind : List ℕ) (old new : Spending) (before after : List ℕ)
     (found : Option Parents) : Type 0 where
+  -- The list lies in the cache.
+  pub inside : LiesList c at 8
   -- The entry is the type's; it has no parents where it was marked, else those that stand there.
   pub read : IfSome found (IsRead c at before kind)
   -- It is marked afterwards, and no other is that was not.

@@ -1,6 +1,6 @@
 -- The reverse suffix tree as it is read along a name, and why a walk gives no answer.
-use Rattle.std.specs.Prelude.{◌≡◌, ◌⊎◌, ℕ, zero, suc, ◌+◌, ◌*◌, ◌<◌, ◌≤◌, ◌==◌, if◌then◌else◌, List, [], get_or, length, reverse, filter, All}
-use Rattle.std.specs.Prelude.{Result, Ok, Option, None, Some, IfSome}
+use Rattle.std.specs.Prelude.{◌≡◌, ◌⊎◌, ℕ, zero, suc, ◌+◌, ◌-◌, ◌*◌, ◌<◌, ◌≤◌, ◌==◌, if◌then◌else◌}
+use Rattle.std.specs.Prelude.{List, [], get_or, length, reverse, filter, All, Result, Ok, Option, None, Some, IfSome}
 use Rattle.mime_base.specs.Cache.Bytes.{field}
 use Rattle.mime_base.specs.Cache.Texts.{text_at}
 use Rattle.mime_base.specs.Format.Stored.{weight_and_flags}
@@ -9,7 +9,7 @@ use Rattle.mime_base.specs.Kept.{class_of}
 use Rattle.mime_base.specs.declared.database.rule.GlobRule.{GlobRule}
 use Rattle.mime_base.specs.declared.kept.class.Class.TheVariants.{Suffix}
 use Rattle.mime_view.specs.Hits.{takes_rule, visits}
-use Rattle.mime_view.specs.Lists.{IsHeadFault}
+use Rattle.mime_view.specs.Lists.{IsHeadFault, LiesHead}
 use Rattle.mime_view.specs.Magic.{IsBlockFault, LiesBlock}
 use Rattle.mime_view.specs.Steps.{FindsRules, Part}
 use Rattle.mime_view.specs.declared.fault.CacheFault.{CacheFault}
@@ -152,6 +152,13 @@ abbrev pub LeadsAlong : List ℕ → ℕ → List ℕ → ℕ → ℕ → Type 0
 LeadsAlong c at name zero r = IsSibling c (record { first = field c at 1; count = field c at 0 }) r
 LeadsAlong c at name (suc depth) r =
     (block : Siblings) × IsNamedBlock c (LeadsAlong c at name depth) (get_or (reverse name) depth 0) block × IsSibling c block r
+
+-- The tree at `at` lies in the cache as far as a walk along a name begins there.
+pub record LiesTree (c : List ℕ) (at : ℕ) (name : List ℕ) : Type 0 where
+  -- Its head does.
+  pub head : LiesHead c at 8
+  -- So do its roots, where the name has a last byte that is not zero.
+  pub roots : 0 < get_or name (length name - 1) 0 → LiesBlock c (field c at 1) 12 (field c at 0)
 
 -- the tree at `at` along a name: its head, its roots, and each block that an ending of the name leads to
 abbrev pub tree_part : List ℕ → ℕ → List ℕ → Part

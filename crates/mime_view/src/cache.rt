@@ -1,8 +1,8 @@
 //! A cache whose header was read ("The mime.cache files").
 
-ghost use Rattle.std.specs.Prelude.{◌≡◌, true, false, ℕ, ◌+◌, ◌*◌, ◌/◌, ◌≤◌, List, All, length, map, ⊤};
+ghost use Rattle.std.specs.Prelude.{◌≡◌, true, false, ℕ, ◌+◌, ◌*◌, ◌≤◌, List, All, length, map, ⊤};
 ghost use Rattle.std.specs.Prelude.{IfErr, IfOk, IfSome, IsOkAnd, MatchResult, OnOk};
-ghost use Rattle.mime_base.specs.Cache.Bytes.{Stands, field, fields};
+ghost use Rattle.mime_base.specs.Cache.Bytes.{Stands, field};
 ghost use Rattle.mime_base.specs.Database.Limits.{KeepsLimits};
 ghost use Rattle.mime_base.specs.Database.Subclass.{resolved};
 ghost use Rattle.mime_base.specs.Format.Header.{HeaderAt, Offsets};
@@ -12,11 +12,11 @@ ghost use Rattle.mime_base.specs.Format.Parents.{ParentsAt};
 ghost use Rattle.mime_base.specs.Meter.{raised};
 ghost use Rattle.mime_base.specs.Magic.{PlainSection, are_allowed_sections};
 ghost use Rattle.mime_base.specs.declared.database.rule.GlobRule.{GlobRule};
-ghost use Rattle.mime_view.specs.Globs.{AreLearnt, globs_listed};
-ghost use Rattle.mime_view.specs.Magic.{AnswersMagic, IsMagicFault, NamesText, magic_price};
+ghost use Rattle.mime_view.specs.Globs.{globs_listed};
+ghost use Rattle.mime_view.specs.Magic.{AnswersMagic, IsMagicFault, LiesMagic, NamesText, magic_price};
 ghost use Rattle.mime_base.specs.Magic.Extent.{sections_extent};
-ghost use Rattle.mime_view.specs.Lists.{IsHeadFault};
-ghost use Rattle.mime_view.specs.NameHits.{AreHits, GivesHits, GivesTexts, IsHitsFault, SpellsRules, lists_of};
+ghost use Rattle.mime_view.specs.Lists.{IsHeadFault, LiesHead};
+ghost use Rattle.mime_view.specs.NameHits.{AreHits, GivesHits, GivesTexts, IsHitsFault, LieLists, SpellsRules, lists_of};
 ghost use Rattle.mime_view.specs.RuleHits.{AreRuleHits, gives_types};
 ghost use Rattle.mime_view.specs.Pairs.{GivesSecondName, GivesUnaliased, LooksUp};
 ghost use Rattle.mime_view.specs.Parents.{GivesParents, TakesOrStops};
@@ -27,12 +27,9 @@ ghost use Rattle.mime_view.specs.Listing.Faults.{IsListingFault};
 
 use crate::budget::Budget;
 use crate::fault::CacheFault;
-use crate::globs::learnt::LearntGlob;
-use crate::heads::MagicHeads;
-use crate::heads::walk::sniff_known;
 use crate::hits::Case;
 use crate::list::count_at;
-use crate::magic::MagicQuery;
+use crate::magic::{MagicQuery, sniff};
 use crate::marks::Marks;
 use crate::name::{RuleLists, glob_hits, rule_hits};
 use crate::name_hits::{NameHits, Which};
@@ -42,7 +39,7 @@ use crate::query::Query;
 use crate::rule_hits::RuleHits;
 use crate::rules::{Listed, ListingSource, list_rules};
 use crate::spending::Spending;
-use mime_base::{Content, Counted, Host, LARGEST_CACHE, Meter, OutOfMemory};
+use mime_base::{Content, Counted, Host, LARGEST_CACHE, Meter};
 use std::alloc::Global;
 use std::marker::Model;
 
@@ -63,12 +60,10 @@ const HEADER: u64 = 40;
 pub struct Cache<'a> {
     counted: Counted<'a>,
     header: [u32; 10],
-    /// What was learnt of its magic list and its glob list, where it was.
-    heads: Option<&'a MagicHeads<'a>>,
 }
 
 impl<'a> Model for Cache<'a> {
-    ghost use Rattle.std.specs.Prelude.{◌≡◌, ℕ, List, IfSome};
+    ghost use Rattle.std.specs.Prelude.{◌≡◌, ℕ, List};
     ghost use Rattle.mime_base.specs.Cache.Bytes.{fields};
     ghost use Rattle.mime_view.specs.Opening.{Opens};
 
@@ -76,8 +71,7 @@ impl<'a> Model for Cache<'a> {
 
     ghost view = { λ cache. cache.counted };
 
-    ghost invariant = { λ cache. (cache.header ≡ fields cache.counted 0 10) × Opens cache.counted
-        × IfSome cache.heads (λ heads. heads.now ≡ cache.counted) };
+    ghost invariant = { λ cache. (cache.header ≡ fields cache.counted 0 10) × Opens cache.counted };
 }
 
 impl<'a> Cache<'a> {
@@ -102,77 +96,21 @@ impl<'a> Cache<'a> {
         // It compares nothing.
         ensures bytes { meter.new.bytes ≡ meter.old.bytes }
     {
-        let header = read_header(&counted, meter)?;
-        Ok(Cache {
-            counted,
-            header,
-            heads: None,
-        })
-    }
-
-    /// The same of the cache that something was learnt of: contents are sniffed by that, and names looked up.
-    ///
-    /// Each call answers, refuses and counts what it does without.
-    pub fn open_learnt(
-        heads: &'a MagicHeads<'a>,
-        meter: &mut Meter,
-    ) -> Result<Cache<'a>, CacheFault>
-        // It opens the cache; else the first thing that is wrong is the fault.
-        ensures opened { MatchResult result
-            (λ cache. (cache ≡ heads.now) × Opens heads.now) (IsOpenFault heads.now) }
-        // For an answer the header is counted as one record.
-        ensures counted { OnOk result (meter.new.nodes ≡ raised meter.old.nodes 1) }
-        // Before a fault it is counted at most once.
-        ensures nodes { meter.new.nodes ≤ meter.old.nodes + 1 }
-        // The count of records never falls.
-        ensures rises { meter.old.nodes ≤ meter.new.nodes }
-        // It compares nothing.
-        ensures bytes { meter.new.bytes ≡ meter.old.bytes }
-    {
-        let counted = heads.cache();
-        let header = read_header(&counted, meter)?;
-        Ok(Cache {
-            counted,
-            header,
-            heads: Some(heads),
-        })
-    }
-
-    /// Learns what the top lines of the magic list look at, for many contents; nothing where it can't be gone through so.
-    ///
-    /// It takes nothing of a budget. It takes memory for each section and each of these lines, at most for one of each for each 32
-    /// bytes of the cache.
-    pub fn learn_heads(
-        &self,
-        alloc: Global,
-        meter: &mut Meter,
-    ) -> Result<Option<MagicHeads<'a>>, OutOfMemory>
-        // What is learnt is of the cache.
-        ensures cache { IfOk result (λ learnt. IfSome learnt (λ heads. heads ≡ self.now)) }
-        // It adds at most two nodes and four bytes for each 32 bytes of the cache; a node comes besides.
-        ensures cost { Looks (1 + 2 * (length self.now / 32)) (4 * (length self.now / 32)) meter.old meter.new }
-    {
-        MagicHeads::learn(alloc, self.counted.again(), self.header[6], meter)
-    }
-
-    /// Learns what the entries of the glob list say, for many names; nothing where there is none.
-    ///
-    /// It takes nothing of a budget. It takes an allocation for the pattern of each entry, and some 40 bytes of a list that doubles
-    /// where it is full. Of each entry 64 bytes and its pattern's are charged against the cache's length: the first ones are learnt,
-    /// as many as that is enough for.
-    pub fn learn_globs(
-        &self,
-        alloc: Global,
-        meter: &mut Meter,
-    ) -> Result<Option<MagicHeads<'a>>, OutOfMemory>
-        // What is learnt is of the cache.
-        ensures cache { IfOk result (λ learnt. IfSome learnt (λ heads. heads ≡ self.now)) }
-        // It adds at most a node for each 64 bytes of the cache, and a byte for each; two nodes and 256 bytes come besides.
-        ensures cost { Looks (2 + length self.now / 64) (256 + length self.now) meter.old meter.new }
-        // Nor does it add more than a node for each entry that the list states; a node comes besides.
-        ensures listed { meter.new.nodes ≤ meter.old.nodes + 1 + globs_listed self.now }
-    {
-        MagicHeads::learn_globs(alloc, self.counted.again(), self.header[5], meter)
+        let length = counted.length();
+        if length < HEADER {
+            return Err(CacheFault::Truncated);
+        }
+        let header = counted.cards::<10>(0, meter)?;
+        let [version, ..] = header;
+        let major = (version / 65_536) as u16;
+        let minor = (version % 65_536) as u16;
+        if (major, minor) != (1, 2) {
+            return Err(CacheFault::Version(major, minor));
+        }
+        if length > LARGEST_CACHE as u64 {
+            return Err(CacheFault::TooLarge);
+        }
+        Ok(Cache { counted, header })
     }
 
     /// How many entries the glob list has, where all of it lies in the cache.
@@ -219,6 +157,8 @@ impl<'a> Cache<'a> {
             GivesHits (AreHits which) name.now rules budget.old budget.new result }
         // Whatever the bytes are, each type is a text of the cache, and was paid for by a record.
         ensures texts { GivesTexts self.now (spending_of meter.old budget.old) (spending_of meter.new budget.new) result }
+        // For an answer the three lists lie in the cache.
+        ensures inside { OnOk result (LieLists self.now (lists_of self.now) name.now) }
         // Why nothing is said of the name.
         ensures fault { IfErr result (IsHitsFault self.now (lists_of self.now) name.now budget.new) }
         // A record costs as in the glob list, and the text of a type; the halving comes besides, for both cases.
@@ -228,7 +168,6 @@ impl<'a> Cache<'a> {
             counted: &self.counted,
             key: name,
             case: Case::Both,
-            learnt: self.learnt_globs(),
         };
         let mut spending = Spending {
             meter: *meter,
@@ -259,6 +198,8 @@ impl<'a> Cache<'a> {
         // Whatever the bytes are, each type is a text of the cache, and was paid for by a record.
         ensures texts { GivesTexts self.now (spending_of meter.old budget.old) (spending_of meter.new budget.new)
             (gives_types result) }
+        // For an answer the three lists lie in the cache.
+        ensures inside { OnOk result (LieLists self.now (lists_of self.now) name.now) }
         // Why nothing is said of the name.
         ensures fault { IfErr result (IsHitsFault self.now (lists_of self.now) name.now budget.new) }
         // A record costs as in the glob list, and the text of a type; the halving comes besides, for both cases.
@@ -268,7 +209,6 @@ impl<'a> Cache<'a> {
             counted: &self.counted,
             key: name,
             case: Case::Both,
-            learnt: self.learnt_globs(),
         };
         let mut spending = Spending {
             meter: *meter,
@@ -289,17 +229,6 @@ impl<'a> Cache<'a> {
             literals: self.header[3],
             tree: self.header[4],
             globs: self.header[5],
-        }
-    }
-
-    /// What was learnt of the glob list; nothing where nothing was.
-    fn learnt_globs(&self) -> &[LearntGlob]
-        // It is of the list that the header names.
-        ensures { AreLearnt self.now (lists_of self.now).globs result.now }
-    {
-        match self.heads {
-            Some(heads) => heads.globs(),
-            None => &[],
         }
     }
 
@@ -442,10 +371,12 @@ impl<'a> Cache<'a> {
         ensures answers { (offsets : Offsets) (sections : List PlainSection) → HeaderAt (Stands self.now) offsets →
             are_allowed_sections sections ≡ true → MagicAt (Stands self.now) offsets.magic sections →
             AnswersMagic content.now host ⊤ sections (spending_of meter.old budget.old) (spending_of meter.new budget.new) result }
-        // On any bytes the type is a text of the cache.
+        // On any bytes an answer means that the list lies in the cache.
+        ensures inside { OnOk result (LiesMagic self.now (field self.now 0 6)) }
+        // Its type is a text of the cache.
         ensures text { IfOk result (NamesText self.now) }
         // A fault is one of the list, of a section or a line, or the budget is spent.
-        ensures fault { IfErr result (IsMagicFault self.now (field self.now 0 6) budget.new) }
+        ensures fault { IfErr result (IsMagicFault self.now (field self.now 0 6) content.now host budget.new) }
         // A record costs one node and one text, a value byte one comparison for each place of the content; one node comes besides.
         ensures cost { Pays (magic_price (length content.now)) 1 0 meter.old meter.new budget.old budget.new }
     {
@@ -458,7 +389,7 @@ impl<'a> Cache<'a> {
             meter: *meter,
             budget: *budget,
         };
-        let found = sniff_known(&query, self.header[6], self.heads, &mut spending);
+        let found = sniff(&query, self.header[6], &mut spending);
         *meter = spending.meter;
         *budget = spending.budget;
         found
@@ -474,7 +405,9 @@ impl<'a> Cache<'a> {
             MagicAt (Stands self.now) offsets.magic sections → IsOkAnd result (λ extent. extent ≡ sections_extent sections) }
         // On any bytes it gives the number that stands there.
         ensures stated { IfOk result (λ extent. extent ≡ field self.now (field self.now 0 6) 1) }
-        // The only fault is that the head of the list does not lie in the cache.
+        // An answer means that the head of the list lies in the cache.
+        ensures inside { OnOk result (LiesHead self.now (field self.now 0 6) 12) }
+        // The only fault is that it does not.
         ensures fault { IfErr result (IsHeadFault self.now (field self.now 0 6) 12) }
         // It takes nothing of the budget.
         ensures budget { budget.new ≡ budget.old }
@@ -532,30 +465,4 @@ impl<'a> Cache<'a> {
         *budget = spending.budget;
         rules
     }
-}
-
-/// The header of a cache.
-fn read_header(counted: &Counted<'_>, meter: &mut Meter) -> Result<[u32; 10], CacheFault>
-    ensures opened { MatchResult result
-        (λ header. (header ≡ fields counted.now 0 10) × Opens counted.now) (IsOpenFault counted.now) }
-    ensures counted { OnOk result (meter.new.nodes ≡ raised meter.old.nodes 1) }
-    ensures nodes { meter.new.nodes ≤ meter.old.nodes + 1 }
-    ensures rises { meter.old.nodes ≤ meter.new.nodes }
-    ensures bytes { meter.new.bytes ≡ meter.old.bytes }
-{
-    let length = counted.length();
-    if length < HEADER {
-        return Err(CacheFault::Truncated);
-    }
-    let header = counted.cards::<10>(0, meter)?;
-    let [version, ..] = header;
-    let major = (version / 65_536) as u16;
-    let minor = (version % 65_536) as u16;
-    if (major, minor) != (1, 2) {
-        return Err(CacheFault::Version(major, minor));
-    }
-    if length > LARGEST_CACHE as u64 {
-        return Err(CacheFault::TooLarge);
-    }
-    Ok(header)
 }

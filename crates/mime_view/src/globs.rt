@@ -1,17 +1,15 @@
 //! The glob list: the rules that stand in neither the literal list nor the suffix tree ("The mime.cache
 //! files").
 
-ghost use Rattle.std.specs.Prelude.{◌≡◌, ◌==◌, ◌+◌, ◌*◌, ◌/◌, ◌%◌, ◌<◌, ◌≤◌, [], ◌∷◌, length};
+ghost use Rattle.std.specs.Prelude.{◌≡◌, ◌==◌, ◌+◌, ◌*◌, ◌/◌, ◌%◌, ◌<◌, ◌≤◌, [], ◌∷◌, length, OnOk};
 ghost use Rattle.mime_base.specs.Format.Rules.{GlobsAt};
 ghost use Rattle.mime_base.specs.Format.Stored.{glob_rules};
 ghost use Rattle.mime_base.specs.Kept.{FitsRank, class_of, hits as matching, rank};
 ghost use Rattle.mime_base.specs.declared.database.rule.GlobRule.{GlobRule};
+ghost use Rattle.mime_view.specs.Lists.{LiesList};
 ghost use Rattle.mime_view.specs.Globs.{ReadsGlob};
 ghost use Rattle.mime_view.specs.Hits.{glob_list_hits};
 ghost use Rattle.mime_view.specs.Steps.{FindsAt, FindsRules, Searches, entry_part, list_part, progress_of};
-
-pub mod learning;
-pub mod learnt;
 
 use crate::fault::CacheFault;
 use crate::flags::weight_and_case;
@@ -32,6 +30,8 @@ pub fn glob_list_hits(
     // Of the rules that stand in the list, it offers those that match.
     ensures finds { FindsAt query.now GlobsAt at (glob_list_hits query.now.key.now)
         (λ rules. length (glob_rules rules)) progress.old progress.new result }
+    // For an answer the list lies in the cache.
+    ensures inside { OnOk result (LiesList query.now.counted.now at 12) }
     // An entry costs its text and the tests of that against the name; the count of the list comes besides.
     ensures searches { Searches (list_part query.now.counted.now at) (256 * (length query.now.key.now + 2)) 1
         progress.old progress.new result }
@@ -62,7 +62,7 @@ pub fn glob_list_hits(
 /// where a hit of its rank would not be kept.
 // Always inlined: the body of a loop.
 #[inline(always)]
-pub fn take_glob(
+fn take_glob(
     query: &Query<'_, '_>,
     at: u64,
     hits: &mut Hits,
@@ -101,7 +101,7 @@ pub fn take_glob(
 /// The rank of a rule of the glob list with this pattern, weight and flag.
 // Called at two places of a loop.
 #[inline]
-pub fn rank_of_entry(pattern: &[u8], flags: u32) -> u32
+fn rank_of_entry(pattern: &[u8], flags: u32) -> u32
     // The pattern's length has 16 bits.
     requires short { length pattern.now < 65536 }
     // Its class, weight, length and flag, in this order.

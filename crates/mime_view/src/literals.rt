@@ -12,6 +12,7 @@ ghost use Rattle.mime_base.specs.Cache.Texts.{text_at};
 ghost use Rattle.mime_base.specs.Format.Rules.{LiteralsAt};
 ghost use Rattle.mime_base.specs.Format.Stored.{stored_text, weight_and_flags};
 ghost use Rattle.mime_base.specs.declared.database.rule.GlobRule.{GlobRule};
+ghost use Rattle.mime_view.specs.Lists.{LiesList};
 ghost use Rattle.mime_view.specs.Gathered.{Offers, TakesOne};
 ghost use Rattle.mime_view.specs.Hits.{takes_rule, literal_hits, literal_visits, visits};
 ghost use Rattle.mime_view.specs.Literals.{AreRun, IsLiteral, ReadsRule, ReadsRules, run_visits, taken};
@@ -40,6 +41,8 @@ pub fn literal_hits(
     // Of the rules that stand in the list, it offers those of the key that the case takes.
     ensures finds { FindsAt query.now LiteralsAt at (literal_hits query.now.case query.now.key.now)
         (λ rules. visits query.now.case * literal_visits query.now.key.now rules) progress.old progress.new result }
+    // For an answer the list lies in the cache.
+    ensures inside { OnOk result (LiesList query.now.counted.now at 12) }
     // An entry costs its text; the halving comes besides.
     ensures searches { Searches (list_part query.now.counted.now at) 256 28 progress.old progress.new result }
 {

@@ -14,9 +14,9 @@
 
 ghost use Rattle.std.specs.Prelude.{◌≡◌, ℕ, ◌+◌, ◌*◌, ◌^◌, ◌<◌, ◌≤◌, List, [], ◌∷◌, length, true, false, Ok, IfErr, IfOk, OnOk};
 ghost use Rattle.mime_base.specs.Magic.{PlainLine, PlainSection};
-ghost use Rattle.mime_view.specs.Magic.{AnswersLine, AnswersLineAt, AnswersLinesAt, AnswersMagicAt, AnswersSections, Ends};
+ghost use Rattle.mime_view.specs.Magic.{AnswersLine, AnswersLineAt, AnswersLinesAt, AnswersMagicAt, AnswersSections, Ends, EqualsAt};
 ghost use Rattle.mime_view.specs.Magic.{IsBlockFault, IsLineFault, IsLinesFault, IsMagicFault, IsSectionFault, IsSeenFault};
-ghost use Rattle.mime_view.specs.Magic.{LiesBlock, NamesChildren, NamesText, ReadsLine, ReadsSection, line_price, magic_price};
+ghost use Rattle.mime_view.specs.Magic.{LiesBlock, LiesMagic, NamesChildren, NamesText, ReadsLine, ReadsSection, line_price, magic_price};
 ghost use Rattle.mime_view.specs.Spending.{Spends};
 
 use crate::fault::CacheFault;
@@ -47,10 +47,13 @@ pub fn sniff<'a>(
 ) -> Result<Option<(&'a [u8], u32)>, CacheFault>
     // Where a list stands, it answers of its sections.
     ensures sections { AnswersMagicAt query.now at spending.old spending.new result }
+    // For an answer the list lies in the cache.
+    ensures inside { OnOk result (LiesMagic query.now.counted.now at) }
     // A type that is given is a text of the cache.
     ensures text { IfOk result (NamesText query.now.counted.now) }
     // On any bytes: why there is no answer, and what the call costs.
-    ensures ends { Ends (IsMagicFault query.now.counted.now at) (magic_price (length query.now.content)) 1 spending.old spending.new result }
+    ensures ends { Ends (IsMagicFault query.now.counted.now at query.now.content query.now.host)
+        (magic_price (length query.now.content)) 1 spending.old spending.new result }
 {
     let mut own = *spending;
     let result = sniff_sections(query, at, &mut own);
@@ -67,10 +70,13 @@ fn sniff_sections<'a>(
 ) -> Result<Option<(&'a [u8], u32)>, CacheFault>
     // Where a list stands, it answers of its sections.
     ensures sections { AnswersMagicAt query.now at spending.old spending.new result }
+    // For an answer the list lies in the cache.
+    ensures inside { OnOk result (LiesMagic query.now.counted.now at) }
     // A type that is given is a text of the cache.
     ensures text { IfOk result (NamesText query.now.counted.now) }
     // On any bytes: why there is no answer, and what the call costs.
-    ensures ends { Ends (IsMagicFault query.now.counted.now at) (magic_price (length query.now.content)) 1 spending.old spending.new result }
+    ensures ends { Ends (IsMagicFault query.now.counted.now at query.now.content query.now.host)
+        (magic_price (length query.now.content)) 1 spending.old spending.new result }
 {
     let counted = query.counted;
     let [count, _, first] = counted.cards::<3>(u64::from(at), &mut spending.meter)?;
@@ -101,7 +107,8 @@ fn take_section<'a>(
     // A type that is given is a text of the cache.
     ensures text { IfOk result (NamesText query.now.counted.now) }
     // On any bytes: why there is no answer, and what the step costs.
-    ensures ends { Ends (IsSectionFault query.now.counted.now at) (magic_price (length query.now.content)) 0 spending.old spending.new result }
+    ensures ends { Ends (IsSectionFault query.now.counted.now at query.now.content query.now.host)
+        (magic_price (length query.now.content)) 0 spending.old spending.new result }
 {
     spending.budget.take_record()?;
     let counted = query.counted;
@@ -156,7 +163,8 @@ fn some_line_holds(
     // Lines that stand answer whether one holds.
     ensures lines { AnswersLinesAt query.now first count level spending.old spending.new result }
     // On any bytes: why there is no answer, and what the step costs.
-    ensures ends { Ends (IsLinesFault query.now.counted.now first count level) (line_price query.now) 0 spending.old spending.new result }
+    ensures ends { Ends (IsLinesFault query.now.counted.now first count level query.now.content query.now.host)
+        (line_price query.now) 0 spending.old spending.new result }
 {
     let start = u64::from(first);
     for i in 0..u64::from(count) {
@@ -171,7 +179,7 @@ fn some_line_holds(
 // The body of the loop over lines.
 #[cycle(sniffing)]
 #[inline(always)]
-pub(crate) fn line_holds(
+fn line_holds(
     query: &MagicQuery<'_, '_>,
     at: u64,
     level: u32,
@@ -182,7 +190,8 @@ pub(crate) fn line_holds(
     // A line that stands with its children answers as a forest of it alone does.
     ensures line { AnswersLineAt query.now at level spending.old spending.new result }
     // On any bytes: why there is no answer, and what the step costs.
-    ensures ends { Ends (IsLineFault query.now.counted.now at level) (line_price query.now) 0 spending.old spending.new result }
+    ensures ends { Ends (IsLineFault query.now.counted.now at level query.now.content query.now.host)
+        (line_price query.now) 0 spending.old spending.new result }
 {
     if differs_at_once(query, at, spending) {
         return Ok(false);
@@ -246,7 +255,8 @@ fn holds_apart(
     // A line that stands with its children answers as a forest of it alone does.
     ensures line { AnswersLineAt query.now at level spending.old spending.new result }
     // On any bytes: why there is no answer, and what the step costs.
-    ensures ends { Ends (IsLineFault query.now.counted.now at level) (line_price query.now) 0 spending.old spending.new result }
+    ensures ends { Ends (IsLineFault query.now.counted.now at level query.now.content query.now.host)
+        (line_price query.now) 0 spending.old spending.new result }
 {
     let mut apart = *spending;
     let result = whole_line_holds(query, at, level, &mut apart);
@@ -268,7 +278,8 @@ fn whole_line_holds(
     // A line that stands with its children answers as a forest of it alone does.
     ensures line { AnswersLineAt query.now at level spending.old spending.new result }
     // On any bytes: why there is no answer, and what the step costs.
-    ensures ends { Ends (IsLineFault query.now.counted.now at level) (line_price query.now) 0 spending.old spending.new result }
+    ensures ends { Ends (IsLineFault query.now.counted.now at level query.now.content query.now.host)
+        (line_price query.now) 0 spending.old spending.new result }
 {
     let Seen {
         equals,
@@ -290,10 +301,10 @@ fn whole_line_holds(
 
 /// Whether a line by itself holds, and where its children stand.
 #[derive(Clone, Copy)]
-pub(crate) struct Seen {
-    pub(crate) equals: bool,
-    pub(crate) count: u32,
-    pub(crate) first: u32,
+struct Seen {
+    equals: bool,
+    count: u32,
+    first: u32,
 }
 
 /// Takes the record and the value of the line at `at`, and compares the value.
@@ -306,6 +317,9 @@ fn see_line(
     requires inside { at + 32 ≤ length query.now.counted.now }
     // What is given names the line's children.
     ensures children { IfOk result (NamesChildren query.now.counted.now at) }
+    // On any bytes a line that is said to hold by itself does.
+    ensures equals { IfOk result (λ seen. seen.equals ≡ true
+        → EqualsAt query.now.counted.now at query.now.content query.now.host) }
     // A line that stands answers whether it holds by itself.
     ensures line { (own : PlainLine) → ReadsLine query.now.counted.now at own →
         AnswersLine query.now own spending.old spending.new result }
@@ -344,7 +358,7 @@ fn see_line(
 // In code of its own: few lines have children.
 #[cycle(sniffing)]
 #[inline(never)]
-pub(crate) fn some_child_holds(
+fn some_child_holds(
     query: &MagicQuery<'_, '_>,
     first: u32,
     count: u32,
@@ -356,7 +370,8 @@ pub(crate) fn some_child_holds(
     // Children that stand answer whether one holds.
     ensures lines { AnswersLinesAt query.now first count level spending.old spending.new result }
     // On any bytes: why there is no answer, and what the step costs.
-    ensures ends { Ends (IsLinesFault query.now.counted.now first count level) (line_price query.now) 0 spending.old spending.new result }
+    ensures ends { Ends (IsLinesFault query.now.counted.now first count level query.now.content query.now.host)
+        (line_price query.now) 0 spending.old spending.new result }
 {
     some_line_holds(query, first, count, level, spending)
 }

@@ -11,17 +11,19 @@ ghost use Rattle.mime_base.specs.Kept.{FitsRank};
 ghost use Rattle.mime_base.specs.Matching.Folding.{compared};
 ghost use Rattle.mime_base.specs.declared.database.rule.GlobRule.{GlobRule};
 ghost use Rattle.mime_view.specs.Gathered.{HoldsRules};
-ghost use Rattle.mime_view.specs.Globs.{AreLearnt};
 ghost use Rattle.mime_view.specs.Hits.{hit_visits, literal_visits_twice, literals_twice, offered_once, offered_twice};
 ghost use Rattle.mime_view.specs.Hits.{tree_twice, tree_visits_twice};
-ghost use Rattle.mime_view.specs.NameHits.{AreHits, FindsInLists, GivesTexts, IsHitsFault, RulesAt, SearchesLists, lists_part, walks_part};
+ghost use Rattle.mime_view.specs.Lists.{LiesList};
+ghost use Rattle.mime_view.specs.SuffixTree.{LiesTree};
+ghost use Rattle.mime_view.specs.NameHits.{AreHits, FindsInLists, GivesTexts, IsHitsFault, LieLists, RulesAt, SearchesLists};
+ghost use Rattle.mime_view.specs.NameHits.{lists_part, walks_part};
 ghost use Rattle.mime_view.specs.RuleHits.{AreRuleHits, gives_types};
 ghost use Rattle.mime_view.specs.Spending.{SpendsOnName};
 ghost use Rattle.mime_view.specs.Steps.{FindsAt, FindsRules, FindsStanding, Searches, list_part};
 
 use crate::capitals::has_capitals;
 use crate::fault::CacheFault;
-use crate::globs::learnt::known_list_hits;
+use crate::globs::glob_list_hits;
 use crate::hits::{Case, Hits};
 use crate::literals::literal_hits;
 use crate::name_hits::{NameHits, Which};
@@ -51,12 +53,12 @@ pub fn glob_hits<'a>(
     lists: RuleLists,
     spending: &mut Spending,
 ) -> Result<NameHits<'a>, CacheFault>
-    // What was learnt is of the glob list.
-    requires learnt { AreLearnt query.now.counted.now lists.globs query.now.learnt.now }
     // Of the rules that stand in the lists, it gives the types of those that are asked for.
     ensures found { FindsInLists (AreHits which) query.now lists spending.old spending.new result }
     // Whatever the bytes are, it gives texts of the cache.
     ensures gives { GivesTexts query.now.counted.now spending.old spending.new result }
+    // For an answer the three lists lie in the cache.
+    ensures inside { OnOk result (LieLists query.now.counted.now lists query.now.key.now) }
     // Why it gives none.
     ensures fault { IfErr result (IsHitsFault query.now.counted.now lists query.now.key.now spending.new.budget) }
     // A record costs as in the glob list, and the text of a type; the halving comes besides, for both cases.
@@ -73,12 +75,12 @@ pub fn rule_hits<'a>(
     lists: RuleLists,
     spending: &mut Spending,
 ) -> Result<RuleHits<'a>, CacheFault>
-    // What was learnt is of the glob list.
-    requires learnt { AreLearnt query.now.counted.now lists.globs query.now.learnt.now }
     // Of the rules that stand in the lists, it gives those that match, and how many are kept.
     ensures found { FindsInLists AreRuleHits query.now lists spending.old spending.new result }
     // Whatever the bytes are, their types are texts of the cache.
     ensures gives { GivesTexts query.now.counted.now spending.old spending.new (gives_types result) }
+    // For an answer the three lists lie in the cache.
+    ensures inside { OnOk result (LieLists query.now.counted.now lists query.now.key.now) }
     // Why it gives none.
     ensures fault { IfErr result (IsHitsFault query.now.counted.now lists query.now.key.now spending.new.budget) }
     // A record costs as in the glob list, and the text of a type; the halving comes besides, for both cases.
@@ -98,8 +100,6 @@ fn hits_of(
     lists: RuleLists,
     spending: &mut Spending,
 ) -> Result<Hits, CacheFault>
-    // What was learnt is of the glob list.
-    requires learnt { AreLearnt query.now.counted.now lists.globs query.now.learnt.now }
     // Of the rules that stand in the lists, it holds those that are asked for.
     ensures found { FindsInLists (HoldsRules query.now.counted.now which) query.now lists spending.old spending.new result }
     // Whatever the bytes are, those that are asked for are held.
@@ -108,6 +108,8 @@ fn hits_of(
     ensures named { IfOk result (λ hits. All (λ hit. (lists_part query.now.counted.now lists query.now.key.now).Kind hit.1) hits.offers) }
     // Each was paid for by a record.
     ensures paid { IfOk result (λ hits. length hits.offers + spending.new.budget.records ≤ spending.old.budget.records) }
+    // For an answer the three lists lie in the cache.
+    ensures inside { OnOk result (LieLists query.now.counted.now lists query.now.key.now) }
     // Why there are none.
     ensures fault { IfErr result (IsHitsFault query.now.counted.now lists query.now.key.now spending.new.budget) }
     // A record costs as in the glob list; the halving comes besides, for both cases.
@@ -130,8 +132,6 @@ fn gather_hits(
     lists: RuleLists,
     progress: &mut Progress,
 ) -> Result<(), CacheFault>
-    // What was learnt is of the glob list.
-    requires learnt { AreLearnt query.now.counted.now lists.globs query.now.learnt.now }
     // Nothing was offered before.
     requires none { progress.now.hits.offers ≡ [] }
     // The hits are of the rules that are asked for.
@@ -140,6 +140,8 @@ fn gather_hits(
     // It takes no more records than the rules' visits.
     ensures finds { (rules : List GlobRule) → RulesAt query.now.counted.now lists rules →
         FindsRules query.now.counted.now ⊥ [] (hit_visits query.now.key.now rules) progress.old progress.new result }
+    // For an answer the three lists lie in the cache.
+    ensures inside { OnOk result (LieLists query.now.counted.now lists query.now.key.now) }
     // A record costs as in the glob list; the halving comes besides, for both cases.
     ensures searches { SearchesLists query.now lists progress.old progress.new result }
 {
@@ -157,13 +159,13 @@ fn offer_once(
     lists: RuleLists,
     progress: &mut Progress,
 ) -> Result<(), CacheFault>
-    // What was learnt is of the glob list.
-    requires learnt { AreLearnt query.now.counted.now lists.globs query.now.learnt.now }
     // The name is its own folded name.
     requires alone { compared false query.now.key.now ≡ query.now.key.now }
     // Of the rules that stand in the lists, it offers those that match, each once.
     ensures finds { FindsStanding query.now (RulesAt query.now.counted.now lists) (offered_once query.now.key.now)
         (hit_visits query.now.key.now) progress.old progress.new result }
+    // For an answer the three lists lie in the cache.
+    ensures inside { OnOk result (LieLists query.now.counted.now lists query.now.key.now) }
     // A record costs as in the glob list; the halving comes besides.
     ensures searches { SearchesLists query.now lists progress.old progress.new result }
 {
@@ -171,11 +173,10 @@ fn offer_once(
         counted: query.counted,
         key: query.key,
         case: Case::Both,
-        learnt: query.learnt,
     };
     literal_hits(&both, lists.literals, progress)?;
     tree_hits(&both, lists.tree, progress)?;
-    known_list_hits(query, lists.globs, progress)
+    glob_list_hits(query, lists.globs, progress)
 }
 
 /// Offers the rules that match a name, with a search each by the name and by the folded name.
@@ -185,19 +186,19 @@ fn offer_twice(
     lists: RuleLists,
     progress: &mut Progress,
 ) -> Result<(), CacheFault>
-    // What was learnt is of the glob list.
-    requires learnt { AreLearnt query.now.counted.now lists.globs query.now.learnt.now }
     // The other text is the folded name.
     requires folded { folded.now ≡ compared false query.now.key.now }
     // Of the rules that stand in the lists, it offers those that match.
     ensures finds { FindsStanding query.now (RulesAt query.now.counted.now lists) (offered_twice query.now.key.now)
         (hit_visits query.now.key.now) progress.old progress.new result }
+    // For an answer the three lists lie in the cache.
+    ensures inside { OnOk result (LieLists query.now.counted.now lists query.now.key.now) }
     // A record costs as in the glob list; the halving comes besides, for both cases.
     ensures searches { SearchesLists query.now lists progress.old progress.new result }
 {
     search_twice(query, folded, lists.literals, progress)?;
     walk_twice(query, folded, lists.tree, progress)?;
-    known_list_hits(query, lists.globs, progress)
+    glob_list_hits(query, lists.globs, progress)
 }
 
 /// Offers the case-sensitive literal rules of a name, and the others of the folded name.
@@ -212,6 +213,8 @@ fn search_twice(
     // Of the rules that stand in the list, it offers those of either text.
     ensures finds { FindsAt query.now LiteralsAt at (literals_twice query.now.key.now)
         (literal_visits_twice query.now.key.now) progress.old progress.new result }
+    // For an answer the list lies in the cache.
+    ensures inside { OnOk result (LiesList query.now.counted.now at 12) }
     // It costs two searches.
     ensures searches { Searches (list_part query.now.counted.now at) 256 56 progress.old progress.new result }
 {
@@ -219,13 +222,11 @@ fn search_twice(
         counted: query.counted,
         key: query.key,
         case: Case::Exact,
-        learnt: query.learnt,
     };
     let other = Query {
         counted: query.counted,
         key: folded,
         case: Case::Folded,
-        learnt: query.learnt,
     };
     literal_hits(&exact, at, progress)?;
     literal_hits(&other, at, progress)
@@ -243,6 +244,8 @@ fn walk_twice(
     // Of the rules that stand in the tree, it offers those with an ending of either text.
     ensures finds { FindsAt query.now SuffixTreeAt at (tree_twice query.now.key.now)
         (tree_visits_twice query.now.key.now) progress.old progress.new result }
+    // For an answer the tree lies in the cache as far as a walk along the name begins there.
+    ensures inside { OnOk result (LiesTree query.now.counted.now at query.now.key.now) }
     // It costs two walks.
     ensures searches { Searches (walks_part query.now.counted.now at query.now.key.now) 256 (58 * length query.now.key.now + 2)
         progress.old progress.new result }
@@ -251,13 +254,11 @@ fn walk_twice(
         counted: query.counted,
         key: query.key,
         case: Case::Exact,
-        learnt: query.learnt,
     };
     let other = Query {
         counted: query.counted,
         key: folded,
         case: Case::Folded,
-        learnt: query.learnt,
     };
     tree_hits(&exact, at, progress)?;
     tree_hits(&other, at, progress)

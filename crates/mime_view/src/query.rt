@@ -2,7 +2,6 @@
 
 ghost use Rattle.std.specs.Prelude.{◌^◌, ◌≤◌, length};
 
-use crate::globs::learnt::LearntGlob;
 use crate::hits::{Case, Hits};
 use crate::spending::Spending;
 use mime_base::Counted;
@@ -16,8 +15,6 @@ pub struct Query<'q, 'a> {
     pub key: &'q [u8],
     /// Which rules the search takes.
     pub case: Case,
-    /// What was learnt of the glob list; nothing where nothing was.
-    pub learnt: &'q [LearntGlob],
     /// The cache is small enough for its lists' offsets and counts.
     pub ghost limit: { length counted.now ≤ 2 ^ 28 },
     /// The name is no longer than a name may be.

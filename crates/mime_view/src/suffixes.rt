@@ -11,7 +11,7 @@
 //! leaves.
 
 ghost use Rattle.std.specs.Prelude.{◌≡◌, ◌==◌, true, false, get_or, ◌+◌, ◌-◌, ◌*◌, ◌≤◌, ◌<◌, List, [], ◌∷◌, length};
-ghost use Rattle.std.specs.Prelude.{IfOk, IfErr};
+ghost use Rattle.std.specs.Prelude.{IfOk, IfErr, OnOk};
 ghost use Rattle.mime_base.specs.Cache.Bytes.{field};
 ghost use Rattle.mime_base.specs.Format.SuffixTree.{SuffixTreeAt};
 ghost use Rattle.mime_base.specs.Format.Tree.{Tree};
@@ -21,7 +21,7 @@ ghost use Rattle.mime_view.specs.Hits.{tree_hits, tree_visits, visits};
 ghost use Rattle.mime_view.specs.Magic.{IsBlockFault, LiesBlock};
 ghost use Rattle.mime_view.specs.Spending.{Looks};
 ghost use Rattle.mime_view.specs.Steps.{FindsAt, FindsRules, Searches};
-ghost use Rattle.mime_view.specs.SuffixTree.{FindsLeaves, IsBlockBelow, IsCharacterPlace, IsSibling, IsSuffixRule};
+ghost use Rattle.mime_view.specs.SuffixTree.{FindsLeaves, IsBlockBelow, IsCharacterPlace, IsSibling, IsSuffixRule, LiesTree};
 ghost use Rattle.mime_view.specs.SuffixTree.{ReadsBlock, ReadsLeaf, admitted, below_character, below_part, leaf_part, leaves_part, tree_part};
 
 use crate::fault::CacheFault;
@@ -52,6 +52,8 @@ pub fn tree_hits(query: &Query<'_, '_>, at: u32, progress: &mut Progress) -> Res
     // Of the rules that stand in the tree, it offers those with an ending of the name that the case takes.
     ensures finds { FindsAt query.now SuffixTreeAt at (tree_hits query.now.case query.now.key.now)
         (λ rules. visits query.now.case * tree_visits query.now.key.now rules) progress.old progress.new result }
+    // For an answer the tree lies in the cache as far as the walk begins there.
+    ensures inside { OnOk result (LiesTree query.now.counted.now at query.now.key.now) }
     // A leaf costs its visit; the halving among siblings comes besides, once for each byte of the name.
     ensures searches { Searches (tree_part query.now.counted.now at query.now.key.now) 256 (29 * length query.now.key.now + 1)
         progress.old progress.new result }

@@ -30,7 +30,7 @@ impl<'a> Model for Texts<'a> {
 
 impl<'a> Texts<'a> {
     /// No texts. It never allocates.
-    pub(crate) fn none(alloc: Global) -> Texts<'a>
+    pub fn none(alloc: Global) -> Texts<'a>
         // There are none.
         ensures { result ≡ [] }
     {
@@ -40,7 +40,7 @@ impl<'a> Texts<'a> {
     }
 
     /// One text. It never allocates.
-    pub(crate) fn one(text: &'a [u8]) -> Texts<'a>
+    pub fn one(text: &'a [u8]) -> Texts<'a>
         // It is the one.
         ensures { result ≡ text.entry.now ∷ [] }
     {
@@ -50,7 +50,7 @@ impl<'a> Texts<'a> {
     }
 
     /// The texts of a list.
-    pub(crate) fn of(texts: Vec<&'a [u8]>) -> Texts<'a>
+    pub fn of(texts: Vec<&'a [u8]>) -> Texts<'a>
         // They are those of the list.
         ensures { result ≡ map (λ text. text.now) texts.entry.items }
     {

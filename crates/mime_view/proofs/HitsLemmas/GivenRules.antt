@@ -106,7 +106,7 @@ module _ (P : GlobRule → Type 0) where
       [ true ↦ (all.0, all-insert rule rest here all.1) | false ↦ (here, all) ]
 
   -- all by falling rank
-  all-falling : (rules : List GlobRule) → AllByRecursion P rules → AllByRecursion P (falling rank_of_rule rules)
+  pub all-falling : (rules : List GlobRule) → AllByRecursion P rules → AllByRecursion P (falling rank_of_rule rules)
   all-falling [] all = tt
   all-falling (rule ∷ rules) all = all-insert rule (falling rank_of_rule rules) all.0 (all-falling rules all.1)
 

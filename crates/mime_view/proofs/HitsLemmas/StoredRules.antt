@@ -22,7 +22,7 @@ compared-again cased [] = refl
 compared-again cased (b ∷ text) = ap₂ (λ (x : ℕ) (xs : List ℕ). x ∷ xs) (compared_byte-again cased b) (compared-again cased text)
 
 -- what is compared of a text has its class
-class_of-compared : (cased : Bool) (text : List ℕ) → class_of (compared cased text) ≡ class_of text
+pub class_of-compared : (cased : Bool) (text : List ℕ) → class_of (compared cased text) ≡ class_of text
 unfolding class_of
 class_of-compared cased [] = refl
 class_of-compared cased (b ∷ rest) =

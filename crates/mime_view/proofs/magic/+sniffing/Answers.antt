@@ -75,7 +75,7 @@ pub whole_line_holds-returns-in_err-equals-clause-ends : goal.whole_line_holds-r
 whole_line_holds-returns-in_err-equals-clause-ends t c =
     let p = err_from_is_err_and c.from_residual.result c.from_residual.ensures.1 in
     rw (p.1, p.2) (record {
-      fault = own_fault c.args.query.now.counted.now c.args.at c.args.level _ _ (omega arith) (inl c.in_err-equals.ensures.ends.fault);
+      fault = own_fault c.args.query.now.counted.now c.args.at c.args.level _ _ _ _ (omega arith) (inl c.in_err-equals.ensures.ends.fault);
       cost = c.in_err-equals.ensures.ends.cost;
     })
 
@@ -83,7 +83,12 @@ pub whole_line_holds-returns-then-level-eq-LAST_LEVEL-clause-ends : goal.whole_l
 whole_line_holds-returns-then-level-eq-LAST_LEVEL-clause-ends t c =
     let some : 0 < field c.args.query.now.counted.now c.args.at 6 = omega (arith, c.in_ok-equals.ensures.children.count) in
     record {
-      fault = own_fault c.args.query.now.counted.now c.args.at c.args.level _ _ (omega arith) (inr (inr (refl, some, omega arith)));
+      fault = own_fault c.args.query.now.counted.now c.args.at c.args.level _ _ _ _ (omega arith) (inr (inr (record {
+        is = refl;
+        last = omega arith;
+        equals = c.in_ok-equals.ensures.equals c.if-not-equals.false;
+        some = some;
+      })));
       cost = c.in_ok-equals.ensures.ends.cost;
     }
 
@@ -92,14 +97,14 @@ whole_line_holds-returns-in_err-check_block-clause-ends t c =
     let p = err_from_is_err_and c.from_residual-in_err-check_block.result c.from_residual-in_err-check_block.ensures.1 in
     let block = c.in_err-check_block.ensures.fault in
     rw (p.1, p.2) (record {
-      fault = own_fault c.args.query.now.counted.now c.args.at c.args.level _ _ (omega arith) (inr (inl (search rules)));
+      fault = own_fault c.args.query.now.counted.now c.args.at c.args.level _ _ _ _ (omega arith) (inr (inl (search rules)));
       cost = c.in_ok-equals.ensures.ends.cost;
     })
 
 pub whole_line_holds-returns-clause-ends : goal.whole_line_holds-returns-clause-ends
 whole_line_holds-returns-clause-ends t c = record {
   fault = IfErr-weaker c.some_child_holds.result _ _
-      (λ e. fault_below c.args.query.now.counted.now c.args.at _ _ c.args.level _ e
+      (λ e. fault_below c.args.query.now.counted.now c.args.at _ _ c.args.level _ _ _ e
       c.in_ok-equals.ensures.children.count c.in_ok-equals.ensures.children.first)
       c.some_child_holds.ensures.ends.fault;
   cost = spends_then (line_price c.args.query.now) 0 0 0 0 c.args.spending.now c.see_line.new.spending c.some_child_holds.new.spending
@@ -110,7 +115,8 @@ pub some_line_holds-returns-in_err-line_holds-clause-ends : goal.some_line_holds
 some_line_holds-returns-in_err-line_holds-clause-ends t c =
     let p = err_from_is_err_and c.from_residual.result c.from_residual.ensures.1 in
     let line = subst (λ (n : ℕ). IsLineFault c.args.query.now.counted.now (n + 32 * c.loop-i.i) c.args.level
-    c.line_holds.new.spending.budget c.in_err-line_holds.field-0.0) c.from-start.ensures c.in_err-line_holds.ensures.ends.fault in
+    c.args.query.now.content c.args.query.now.host c.line_holds.new.spending.budget c.in_err-line_holds.field-0.0)
+    c.from-start.ensures c.in_err-line_holds.ensures.ends.fault in
     rw (p.1, p.2) (record {
       fault = (c.loop-i.i, omega (arith, c.loop-i-test.true), line);
       cost = spends_then (line_price c.args.query.now) 0 0 0 0 c.args.spending.now c.loop-i.spending c.line_holds.new.spending

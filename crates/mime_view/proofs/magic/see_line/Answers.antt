@@ -1,5 +1,5 @@
 use Rattle.std.proofs.Common.{◌≡◌, ℕ, ◌+◌, ◌*◌, List, length, get_or, refl, sym, arith, ap, ◌∙◌}
-use Rattle.mime_view.proofs.MagicLemmas.LineValues.{line_stated}
+use Rattle.mime_view.proofs.MagicLemmas.LineValues.{lies_where, line_equals, line_stated}
 use Rattle.mime_view.proofs.magic.see_line.Goals as goal
 
 pub returns-clause-line : goal.returns-clause-line
@@ -15,6 +15,13 @@ returns-clause-line c = λ own reads.
         most_value_bytes = omega (arith, c.in_ok-take_value_bytes.ensures.taken);
       };
     }
+
+pub returns-clause-equals : goal.returns-clause-equals
+returns-clause-equals c = λ yes.
+    let equal = c.in_ok-equals.ensures in
+    let lie = lies_where _ c.in_ok-equals.equals _ equal.outside equal.needs yes in
+    rw (sym c.bytes.ensures.same) (line_equals c.args.query.now.counted.now c.args.at c.cards_within.result c.args.query.now.host
+    c.bytes.result.now c.cards_within.ensures.numbers lie (sym (equal.equal lie) ∙ yes))
 
 pub returns-clause-ends : goal.returns-clause-ends
 returns-clause-ends c =

@@ -39,9 +39,36 @@ returns-in_err-found-clause-ends c =
     ap (λ (ns : List ℕ). get_or ns 2 0) c.in_ok-count.ensures.numbers.1
     ∙ ap (λ (n : ℕ). field c.args.query.now.counted.now n 2) c.from.ensures in
     let section = subst (λ (n : ℕ). IsSectionFault c.args.query.now.counted.now (n + 16 * c.loop-i.i)
-    c.take_section.new.spending.budget c.in_err-found.field-0.0) (c.from-first.ensures ∙ first) c.in_err-found.ensures.ends.fault in
+    c.args.query.now.content c.args.query.now.host c.take_section.new.spending.budget c.in_err-found.field-0.0)
+    (c.from-first.ensures ∙ first) c.in_err-found.ensures.ends.fault in
     rw (p.1, p.2) (record {
       fault = inr (inr (c.loop-i.i, omega (arith, c.loop-i-test.true, c.from-count.ensures, count), section));
       cost = spends_then (magic_price (length c.args.query.now.content)) 1 0 0 0 c.args.spending.now c.loop-i.spending
           c.take_section.new.spending c.loop-i.invariant.cost c.in_err-found.ensures.ends.cost;
     })
+
+pub returns-in-Some-clause-inside : goal.returns-in-Some-clause-inside
+returns-in-Some-clause-inside c =
+    let count : get_or c.in_ok-count.field-0 0 0 ≡ field c.args.query.now.counted.now c.args.at 0 =
+    ap (λ (ns : List ℕ). get_or ns 0 0) c.in_ok-count.ensures.numbers.1
+    ∙ ap (λ (n : ℕ). field c.args.query.now.counted.now n 0) c.from.ensures in
+    let first : get_or c.in_ok-count.field-0 2 0 ≡ field c.args.query.now.counted.now c.args.at 2 =
+    ap (λ (ns : List ℕ). get_or ns 2 0) c.in_ok-count.ensures.numbers.1
+    ∙ ap (λ (n : ℕ). field c.args.query.now.counted.now n 2) c.from.ensures in
+    record {
+      head = omega (arith, c.in_ok-count.ensures.numbers.0, c.from.ensures);
+      sections = rw (c.from-first.ensures ∙ first, c.from-count.ensures ∙ count) at c.in_ok-check_block.ensures.lies;
+    }
+
+pub returns-clause-inside : goal.returns-clause-inside
+returns-clause-inside c =
+    let count : get_or c.in_ok-count.field-0 0 0 ≡ field c.args.query.now.counted.now c.args.at 0 =
+    ap (λ (ns : List ℕ). get_or ns 0 0) c.in_ok-count.ensures.numbers.1
+    ∙ ap (λ (n : ℕ). field c.args.query.now.counted.now n 0) c.from.ensures in
+    let first : get_or c.in_ok-count.field-0 2 0 ≡ field c.args.query.now.counted.now c.args.at 2 =
+    ap (λ (ns : List ℕ). get_or ns 2 0) c.in_ok-count.ensures.numbers.1
+    ∙ ap (λ (n : ℕ). field c.args.query.now.counted.now n 2) c.from.ensures in
+    record {
+      head = omega (arith, c.in_ok-count.ensures.numbers.0, c.from.ensures);
+      sections = rw (c.from-first.ensures ∙ first, c.from-count.ensures ∙ count) at c.in_ok-check_block.ensures.lies;
+    }

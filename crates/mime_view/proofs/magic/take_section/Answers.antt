@@ -41,7 +41,8 @@ returns-in_err-some_line_holds-clause-ends c =
     λ i. ap (λ (ns : List ℕ). get_or ns i 0) c.cards_within.ensures.numbers in
     let p = err_from_is_err_and c.from_residual-in_err-some_line_holds.result c.from_residual-in_err-some_line_holds.ensures.1 in
     let fault : IsLinesFault c.args.query.now.counted.now (field c.args.query.now.counted.now c.args.at 3)
-    (field c.args.query.now.counted.now c.args.at 2) 0 c.some_line_holds.new.spending.budget c.in_err-some_line_holds.field-0.0 =
+    (field c.args.query.now.counted.now c.args.at 2) 0
+    c.args.query.now.content c.args.query.now.host c.some_line_holds.new.spending.budget c.in_err-some_line_holds.field-0.0 =
     rw (number 3, number 2) at c.in_err-some_line_holds.ensures.ends.fault in
     rw (p.1, p.2) (record { fault = inr (inr (inl fault)); cost = search rules })
 

@@ -4,7 +4,7 @@ use Rattle.mime_view.proofs.HitsLemmas.NameOffers.{gathered_once, gathered_twice
 use Rattle.mime_view.proofs.name.gather_hits.Goals as goal
 
 pub offer_once-requires : goal.offer_once-requires
-offer_once-requires c = record { learnt = c.requires.learnt; alone = no_capitals c.args.query.now.key.now (sym c.has_capitals.ensures ∙ c.if-not-has_capitals.true) }
+offer_once-requires c = record { alone = no_capitals c.args.query.now.key.now (sym c.has_capitals.ensures ∙ c.if-not-has_capitals.true) }
 
 pub returns-then-not-has_capitals-clause-answer : goal.returns-then-not-has_capitals-clause-answer
 returns-then-not-has_capitals-clause-answer c = λ rules fits at.

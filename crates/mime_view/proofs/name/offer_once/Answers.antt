@@ -14,7 +14,7 @@ pub returns-clause-finds : goal.returns-clause-finds
 returns-clause-finds c = λ rules at.
     let first = c.in_ok-literal_hits.ensures.finds rules at.literals in
     let second = c.in_ok-tree_hits.ensures.finds rules at.tree in
-    let third = c.known_list_hits.ensures.finds rules at.globs in
+    let third = c.glob_list_hits.ensures.finds rules at.globs in
     rw c.requires.alone
     (finds_then {n = 2 * tree_visits c.args.query.now.key.now rules + length (glob_rules rules)} first
     (finds_then second third (omega arith)) (omega arith))
@@ -26,7 +26,7 @@ returns-clause-searches c =
     let part : Part = lists_part cache c.args.lists name in
     let one = searches_within (literals_within cache c.args.lists name) c.in_ok-literal_hits.ensures.searches in
     let two = searches_within (walk_within cache c.args.lists name) c.in_ok-tree_hits.ensures.searches in
-    let last = searches_within (globs_within cache c.args.lists name) c.known_list_hits.ensures.searches in
+    let last = searches_within (globs_within cache c.args.lists name) c.glob_list_hits.ensures.searches in
     let old : List (ℕ × ℕ) = c.args.progress.now.hits.offers in
     let first : List (ℕ × ℕ) = c.literal_hits.new.progress.hits.offers in
     let second : List (ℕ × ℕ) = c.tree_hits.new.progress.hits.offers in
@@ -34,8 +34,8 @@ returns-clause-searches c =
       fault = last.fault;
       asked = search rules;
       few = search rules;
-      added = on_ok_weaker c.known_list_hits.result
-          (adds_then part.Kind old second c.known_list_hits.new.progress.hits.offers (adds_then part.Kind old first second one.added two.added))
+      added = on_ok_weaker c.glob_list_hits.result
+          (adds_then part.Kind old second c.glob_list_hits.new.progress.hits.offers (adds_then part.Kind old first second one.added two.added))
           last.added;
       cost = search rules;
     }

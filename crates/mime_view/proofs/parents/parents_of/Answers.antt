@@ -26,6 +26,7 @@ returns-then-contains-clause-taken c =
     let is = entry_is c.args.counted.now c.args.at c.args.kind.now c.in-Some.found.place entry.within entry.text in
     let marked : has_place c.args.marks.now c.in-Some.found.place ≡ true = sym c.contains.ensures ∙ c.if-contains.true in
     record {
+      inside = c.in_ok-found.ensures.found.inside;
       read = record {
         entry = is;
         marked = λ _. c.none-types.ensures;
@@ -127,6 +128,7 @@ returns-clause-taken c =
     let at : c.from.result ≡ parents_at c.args.counted.now c.args.at c.in-Some.found.place = c.from.ensures ∙ entry.second in
     let taken = c.in_ok-types.ensures.texts in
     record {
+      inside = c.in_ok-found.ensures.found.inside;
       read = record {
         entry = is;
         marked = λ other. absurd (cc (unmarked, other));
