@@ -1,8 +1,9 @@
 -- Entries of a parent list that were read one after another.
-use Rattle.std.proofs.Common.{◌≡◌, ℕ, suc, ◌+◌, ◌*◌, Bool, true, false, List, [], ◌∷◌, ◌++◌, map, bytes_eq, sym, ap, refl, ◌∙◌, arith, true≢false, append_assoc, ◌<◌}
+use Rattle.std.proofs.Common.{◌≡◌, ℕ, suc, ◌+◌, ◌*◌, Bool, true, false, List, [], ◌∷◌, ◌++◌, get_or, map, bytes_eq, sym, ap, refl, ◌∙◌, arith, true≢false, append_assoc, ◌<◌}
 use Rattle.std.specs.List.{All, AllPairs, flat_map}
 use Rattle.std.specs.Set.{is_member}
 use Rattle.std.proofs.lemmas.Grind.{flat_map-append}
+use Rattle.std.proofs.Math.Seq.{get_or-append_seam}
 use Rattle.std.proofs.lemmas.List.{append-nil, length-map, length_push, map-append}
 use Rattle.std.proofs.lemmas.List.Elements.{All-append, All-cons, All-head, All-nil, All-push, All-tail, All-weaker}
 use Rattle.std.proofs.lemmas.List.Kept.{AllPairs-cons}
@@ -42,6 +43,7 @@ entries_none c first previous = record {
   good = All-nil IsGood;
   before = λ i j d l within. absurd (omega arith);
   last = All-nil (λ (run : PlainRun). (kind : List ℕ) → text_lt previous kind ≡ true → text_lt run.0 kind ≡ true);
+  previous_is = λ d some. absurd (omega arith);
   stand = tt;
 }
 
@@ -62,6 +64,8 @@ entries_more c first i previous kind before after e rises one =
       last = All-push (λ (r : PlainRun). (next : List ℕ) → text_lt kind next ≡ true → text_lt r.0 next ≡ true) e.runs run
           (λ k d within next later. e.last k d within next (through previous kind next (rises (omega (arith, e.size, within))) later))
           (λ next later. later);
+      previous_is = λ d some. ap (λ (k : ℕ). (get_or (e.runs ++ run ∷ []) k d).0) (omega (arith, length_push e.runs run))
+          ∙ ap (λ (r : PlainRun). r.0) (get_or-append_seam e.runs run [] d);
       stand = records_more (Stands c) 8 (IsRun (Stands c)) first (first + 8 * i) e.runs run e.stand (ap (λ (n : ℕ). first + 8 * n) e.size)
           (record {
             numbers = one.kind_at ∷ one.list ∷ [];

@@ -1,5 +1,5 @@
--- Records one after another, one more at their end.
-use Rattle.std.proofs.Common.{◌≡◌, ℕ, suc, ◌+◌, ◌*◌, List, [], ◌∷◌, ◌++◌, length, map, ap, sym, subst, ◌∙◌, arith}
+-- Records one after another, one more at their end, and that at a place.
+use Rattle.std.proofs.Common.{◌≡◌, ℕ, zero, suc, ◌+◌, ◌*◌, ◌<◌, List, [], ◌∷◌, ◌++◌, length, get_or, map, ap, sym, subst, ◌∙◌, arith}
 use Rattle.std.proofs.lemmas.List.{length-map, map-append}
 use Rattle.mime_base.specs.Format.Records.{CardsAt, ListAt, RecordsAt, Standing}
 use Rattle.mime_load.specs.Parts.{RecordAt}
@@ -36,3 +36,15 @@ pub list_said : {X : Type 0} (S : Standing) (size : ℕ) (Is : X → List ℕ �
     → CardsAt S at (count ∷ []) → length xs ≡ count → RecordsAt S size Is (at + 4) xs → ListAt S size Is at xs
 list_said S size Is at count xs head long stand =
     record { count = subst (λ (n : ℕ). CardsAt S at (n ∷ [])) (sym long) head; records = stand }
+
+-- the record of the member at a place
+pub record_at : {X : Type 0} (S : Standing) (size : ℕ) (Is : X → List ℕ → Type 0) (at i there : ℕ) (xs : List X) (d : X)
+    → i < length xs → at + size * i ≡ there → RecordsAt S size Is at xs → RecordAt S Is there (get_or xs i d)
+record_at S size Is at i there [] d within place stand = absurd (omega arith)
+record_at S size Is at zero there (x ∷ xs) d within place (numbers, cards, is, rest) =
+    record { numbers = numbers; cards = subst (λ (k : ℕ). CardsAt S k numbers) (omega (arith, place)) cards; is = is }
+record_at S size Is at (suc i) there (x ∷ xs) d within place (numbers, cards, is, rest) =
+    record_at S size Is (at + size) i there xs d (omega arith) (move size i at there place) rest
+  where
+    move : (s n at next : ℕ) → at + s * suc n ≡ next → at + s + s * n ≡ next
+    move s n at next is = omega (arith, is)

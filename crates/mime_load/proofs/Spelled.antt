@@ -51,7 +51,7 @@ ten (a ∷ b ∷ c ∷ d ∷ f ∷ g ∷ h ∷ i ∷ j ∷ k ∷ []) e = refl
 ten (a ∷ b ∷ c ∷ d ∷ f ∷ g ∷ h ∷ i ∷ j ∷ k ∷ l ∷ more) e = absurd (omega arith)
 
 -- the header stands with these offsets
-header_at : (c numbers : List ℕ) → IsHeader c numbers → HeaderAt (Stands c) (offsets_of numbers)
+pub header_at : (c numbers : List ℕ) → IsHeader c numbers → HeaderAt (Stands c) (offsets_of numbers)
 header_at c numbers is =
     subst (CardsAt (Stands c) 0) (ten numbers is.count ∙ ap (λ (n : ℕ). n ∷ slice_index numbers 1 ∷ slice_index numbers 2
     ∷ slice_index numbers 3 ∷ slice_index numbers 4 ∷ slice_index numbers 5 ∷ slice_index numbers 6 ∷ slice_index numbers 7

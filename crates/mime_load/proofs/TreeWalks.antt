@@ -130,3 +130,18 @@ pub more_leaves : (before after : List LeafRule) (added : List GlobRule) → pla
 more_leaves before after added is other =
     more_rules (plain_leaves before) (plain_leaves after) added is
     (λ same. other (sym (length-map after plain_leaf) ∙ same ∙ length-map before plain_leaf))
+
+-- so there are more where the tree that was added has a leaf
+pub some_leaves : (before after : List LeafRule) (tree : Tree) → plain_leaves after ≡ plain_leaves before ++ reverse (rules_in tree)
+    → 0 < leaf_count tree → length after ≡ length before → ⊥
+some_leaves before after tree is some same =
+    absurd (omega (
+      arith,
+      ap (λ (xs : List GlobRule). length xs) is,
+      length-append (plain_leaves before) (reverse (rules_in tree)),
+      leaf_count-is tree,
+      length-map before plain_leaf,
+      length-map after plain_leaf,
+      some,
+      same,
+    ))

@@ -1,6 +1,7 @@
 pub mod Faults
 pub mod Lent
 pub mod MagicStanding
+pub mod NameLists
 pub mod ParentLists
 pub mod Parts
 pub mod Taking

@@ -1,6 +1,7 @@
 -- Lines and sections of the code that stand in a cache.
 use Rattle.std.specs.Prelude.{◌≡◌, ℕ, ◌+◌, Bool, true, ◌&&◌, nat_lt, List}
 use Rattle.mime_base.specs.Cache.Bytes.{Stands}
+use Rattle.mime_base.specs.Format.Header.{HeaderAt, Offsets}
 use Rattle.mime_base.specs.Format.Magic.{IsSection, LinesAt, MagicAt, MaskAt, line_numbers}
 use Rattle.mime_base.specs.Format.Records.{CardsAt, RecordsAt}
 use Rattle.mime_base.specs.Magic.{Forest, PlainLine, PlainSection, are_allowed, are_allowed_sections, fits_word, forest_of, is_allowed, line_from}
@@ -63,3 +64,12 @@ pub record MagicStands (c : List ℕ) (at : ℕ) (sections : List PlainSection) 
   pub list : MagicAt (Stands c) at sections
   -- Each line is one that magic can spell.
   pub allowed : are_allowed_sections sections ≡ true
+
+-- The magic list of a cache is of these sections, and magic can spell them.
+pub record HasMagic (c : List ℕ) (sections : List PlainSection) : Type 0 where
+  -- Where the lists are.
+  pub offsets : Offsets
+  -- The header says so.
+  pub header : HeaderAt (Stands c) offsets
+  -- The magic list is there.
+  pub magic : MagicStands c offsets.magic sections

@@ -1,5 +1,5 @@
 -- What is read back of a parent list.
-use Rattle.std.specs.Prelude.{◌≡◌, ◌<◌, ◌++◌, ℕ, true, All, List, [], ◌∷◌, length, map}
+use Rattle.std.specs.Prelude.{◌≡◌, ◌<◌, ◌-◌, ◌++◌, ℕ, true, All, List, [], ◌∷◌, length, get_or, map}
 use Rattle.std.specs.List.{AllPairs, flat_map}
 use Rattle.mime_base.specs.Cache.Bytes.{Stands}
 use Rattle.mime_base.specs.Format.Parents.{IsName}
@@ -22,6 +22,14 @@ pub record IsEntry (c : List ℕ) (at : ℕ) (kind : List ℕ) (before after : L
   pub cards : CardsAt (Stands c) at (kind_at ∷ list ∷ [])
   pub text : TextAt (Stands c) kind_at kind
   pub adds : Adds c list kind before after
+
+-- The entry of a type and its parents stands at `at`.
+pub record EntryStands (c : List ℕ) (at : ℕ) (kind : List ℕ) (targets : List (List ℕ)) : Type 0 where
+  pub kind_at : ℕ
+  pub list : ℕ
+  pub cards : CardsAt (Stands c) at (kind_at ∷ list ∷ [])
+  pub text : TextAt (Stands c) kind_at kind
+  pub stand : ListAt (Stands c) 4 (IsName (Stands c)) list targets
 
 -- The pairs of a type and i of its parents were added, whose records stand from `first` on.
 pub record Adding (c : List ℕ) (first i : ℕ) (kind : List ℕ) (before after : List (List ℕ × List ℕ)) : Type 0 where
@@ -48,4 +56,5 @@ pub record Entries (c : List ℕ) (first i : ℕ) (previous : List ℕ) (pairs :
   pub good : All IsGood runs
   pub before : AllPairs IsBefore runs
   pub last : All (λ (run : PlainRun). (kind : List ℕ) → text_lt previous kind ≡ true → text_lt run.0 kind ≡ true) runs
+  pub previous_is : (d : PlainRun) → 0 < length runs → (get_or runs (length runs - 1) d).0 ≡ previous
   pub stand : RecordsAt (Stands c) 8 (IsRun (Stands c)) first runs

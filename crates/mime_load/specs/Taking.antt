@@ -12,6 +12,10 @@ pub record Pays (nodes texts : ℕ) (old new : Taking) : Type 0 where
   pub bytes_paid : new.meter.bytes + (2 * new.value_bytes + 64 * new.records)
       ≤ old.meter.bytes + (2 * old.value_bytes + 64 * old.records) + 256 * texts
 
+-- each record that was visited was taken from the room with sixteen bytes, but for that many records
+abbrev pub PaysWide : ℕ → Taking → Taking → Type 0
+PaysWide nodes old new = 16 * new.meter.nodes + new.records ≤ 16 * old.meter.nodes + old.records + 16 * nodes
+
 -- Lines at all depths took a record each, and their values their bytes.
 pub record TakesLines (old new : Taking) (lines : Forest) : Type 0 where
   pub records : new.records + 32 * line_count lines ≡ old.records

@@ -45,3 +45,31 @@ pub record Walked (c : List ℕ) (at count : ℕ) (ending : List ℕ) (next : �
   pub rules : after ≡ before ++ reverse (rules_in tree)
   -- Their nodes took twelve bytes each.
   pub nodes : new + 12 * node_count tree ≡ old
+
+-- the character of the first of siblings, 0 for a leaf
+abbrev pub first_character : Tree → ℕ
+first_character bare = 0
+first_character (leaf rule rest) = 0
+first_character (node character below rest) = character
+
+-- how many nodes the first of siblings is, with what is below it
+abbrev pub first_nodes : Tree → ℕ
+first_nodes bare = 0
+first_nodes (leaf rule rest) = 1
+first_nodes (node character below rest) = 1 + node_count below
+
+-- Siblings stand from `at` on, in order, and each leaf's rule ends as its path says, below an ending.
+pub record TreeStands (c : List ℕ) (at : ℕ) (ending : List ℕ) (tree : Tree) : Type 0 where
+  -- They stand.
+  pub stand : TreeAt (Stands c) at tree
+  -- The character of the node before them, 0 where there is none.
+  pub before : ℕ
+  -- They are in order after it.
+  pub ordered : InOrder before tree
+  -- Each leaf's rule ends as its path says.
+  pub ended : Ended ending tree
+
+-- A sibling before that many that stand from `at` on has a character below `next`.
+pub record IsNext (c : List ℕ) (at count next : ℕ) : Type 0 where
+  pub lower : (before : ℕ) (tree : Tree) → before < 256 → TreeAt (Stands c) at tree → sibling_count tree ≡ count → InOrder before tree
+      → before < next

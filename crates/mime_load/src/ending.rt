@@ -1,6 +1,6 @@
 //! An ending of names, which grows to the front on the way down the suffix tree.
 
-ghost use Rattle.std.specs.Prelude.{◌≡◌, ◌<◌, [], ◌∷◌, length, drop, OnOk, IfOk};
+ghost use Rattle.std.specs.Prelude.{◌≡◌, ◌<◌, [], ◌∷◌, length, drop, OnOk, IfErr, IfOk};
 
 use crate::leaf::LeafPattern;
 use crate::unread::Unread;
@@ -43,6 +43,7 @@ impl NameEnding {
     /// Puts a byte before it.
     pub fn grow(&mut self, byte: u8) -> Result<(), Unread>
         ensures grown { OnOk result (self.new ≡ byte ∷ self.old) }
+        ensures need { IfErr result (λ e. e ≡ Unread.OutOfMemory) }
     {
         self.path.push(byte)?;
         Ok(())
@@ -58,6 +59,7 @@ impl NameEnding {
     /// The pattern of the names that end so: a `*`, and the ending.
     pub fn pattern(&self, alloc: Global) -> Result<LeafPattern, Unread>
         ensures pattern { IfOk result (λ pattern. pattern.items ≡ 42 ∷ self.now) }
+        ensures need { IfErr result (λ e. e ≡ Unread.OutOfMemory) }
     {
         let mut pattern = SmallVec::from_slice(alloc, &self.path)?;
         pattern.push(b'*')?;

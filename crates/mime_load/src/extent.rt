@@ -10,6 +10,7 @@ use crate::section::LentSection;
 
 /// The extent of sections.
 pub fn sections_extent(sections: &[LentSection<'_>]) -> u64
+    // It is the greatest extent of their lines, at all depths.
     ensures { result ≡ sections_extent (plain_sections sections.now) }
 {
     let mut greatest = 0;

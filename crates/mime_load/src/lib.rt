@@ -1,7 +1,8 @@
 //! The inverse of the writer: the bytes of a cache are read back into the lists that they spell, lent from the bytes.
 //!
 //! It promises that what is read back is spelled by the bytes, by the definitions of mime_base that the writer and the reader of
-//! caches share, whatever the bytes are; or it names the first part that is not read back.
+//! caches share, whatever the bytes are; or it names the first part that is not read back. What was written is read back, unless memory
+//! is refused.
 //!
 //! ```text
 //! let lists = read_back(alloc, &Counted::new(&bytes), &mut meter)?;
@@ -9,15 +10,18 @@
 //! ```
 //!
 //! Read `reading_back` first: it reads each part in turn. `pairs`, `parents`, `rules`, `suffix_tree` and `sections` read the part of
-//! their name and can be called alone. `taking` bounds what is read by the cache's length, whatever records share or repeat.
+//! their name and can be called alone. `holding` says whether a line that was read holds for a content. `taking` bounds what is read by the cache's length, whatever records share or repeat.
 #![tactic(auto)]
 
 mod ending;
 mod extent;
+mod holding;
 mod leaf;
 mod line;
 mod lines;
 mod lists;
+mod magic_alone;
+mod name_lists;
 mod order;
 mod own;
 mod pair;
@@ -34,9 +38,13 @@ mod suffix_tree;
 mod taking;
 mod unread;
 
+pub use extent::sections_extent;
+pub use holding::lent_line_matches;
 pub use leaf::LeafRule;
 pub use line::LentLine;
 pub use lists::Lists;
+pub use magic_alone::read_magic;
+pub use name_lists::{NameLists, read_names};
 pub use pair::LentPair;
 pub use pairs::{aliases_at, icons_at};
 pub use parents::parents_at;

@@ -5,7 +5,7 @@ ghost use Rattle.mime_base.specs.Format.Magic.{width};
 ghost use Rattle.mime_base.specs.Magic.{Forest, PlainLine, bare, forest_of, line};
 ghost use Rattle.mime_load.specs.Lent.{plain_lines};
 ghost use Rattle.mime_load.specs.MagicStanding.{ForestStands, LinesStand};
-ghost use Rattle.mime_load.specs.Taking.{HasRoom, Pays, TakesLines};
+ghost use Rattle.mime_load.specs.Taking.{HasRoom, Pays, PaysWide, TakesLines};
 
 use crate::line::{LentLine, with_children};
 use crate::own::own_at;
@@ -36,6 +36,8 @@ pub fn lines_at<'a>(
         HasRoom taking.old lines → IfErr result (λ e. e ≡ Unread.OutOfMemory) }
     // What was looked at was taken.
     ensures pays { Pays 0 0 taking.old taking.new }
+    // Each record that was visited took sixteen bytes of room at least.
+    ensures wide { PaysWide 0 taking.old taking.new }
 {
     if levels == 0 && count != 0 {
         return Err(Unread::NotSpelled);
@@ -67,6 +69,8 @@ fn line_at<'a>(
         HasRoom taking.old (line own children bare) → IfErr result (λ e. e ≡ Unread.OutOfMemory) }
     // What was looked at was taken.
     ensures pays { Pays 0 0 taking.old taking.new }
+    // Each record that was visited took sixteen bytes of room at least.
+    ensures wide { PaysWide 0 taking.old taking.new }
 {
     let own = own_at(source, at, taking)?;
     let children = lines_at(source, own.first, own.count, levels - 1, taking)?;

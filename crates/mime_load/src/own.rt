@@ -6,7 +6,7 @@ ghost use Rattle.mime_base.specs.Format.Magic.{MaskAt};
 ghost use Rattle.mime_base.specs.Magic.{PlainLine, fits_mask, fits_word};
 ghost use Rattle.mime_load.specs.Lent.{lent_mask};
 ghost use Rattle.mime_load.specs.MagicStanding.{LineStands, OwnStands, is_spellable};
-ghost use Rattle.mime_load.specs.Taking.{Pays};
+ghost use Rattle.mime_load.specs.Taking.{Pays, PaysWide};
 
 use crate::source::Source;
 use crate::taking::{Taking, take_numbers, take_value_bytes};
@@ -42,6 +42,8 @@ pub fn own_at<'a>(source: &Source<'_, 'a>, at: u64, taking: &mut Taking) -> Resu
         32 ≤ taking.old.records → length own.value ≤ taking.old.value_bytes → IfErr result (λ e. e ≡ Unread.OutOfMemory) }
     // What was looked at was taken.
     ensures pays { Pays 0 0 taking.old taking.new }
+    // Each record that was visited took sixteen bytes of room at least.
+    ensures wide { PaysWide 0 taking.old taking.new }
 {
     let [start, range, word, size, value, mask, count, first] = take_numbers::<8>(
         source, at, LINE, taking,

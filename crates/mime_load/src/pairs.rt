@@ -48,6 +48,9 @@ pub fn icons_at<'a>(
 ) -> Result<Vec<LentPair<'a>>, Unread>
     // A list of these pairs stands there.
     ensures stand { IfOk result (λ pairs. PairsAt (Stands source.now.counted.now) at (plain_pairs pairs.items)) }
+    // Of pairs that stand there, and with room for them, only memory can be short.
+    ensures need { (pairs : List (List ℕ × List ℕ)) → PairsAt (Stands source.now.counted.now) at pairs →
+        8 * length pairs ≤ taking.old.records → IfErr result (λ e. e ≡ Unread.OutOfMemory) }
     // They take eight bytes each.
     ensures taken { IfOk result (λ pairs. taking.new.records + 8 * length pairs.items ≡ taking.old.records) }
     // They take no room of values.

@@ -1,11 +1,12 @@
 //! The parent list.
 
-ghost use Rattle.std.specs.Prelude.{◌≡◌, ◌<◌, ◌≤◌, ◌+◌, ◌*◌, ◌/◌, ◌^◌, ℕ, List, true, false, length, map, IfOk};
+ghost use Rattle.std.specs.Prelude.{◌≡◌, ◌<◌, ◌≤◌, ◌+◌, ◌*◌, ◌/◌, ◌^◌, ℕ, List, true, false, length, map, IfErr, IfOk};
 ghost use Rattle.mime_base.specs.Cache.Bytes.{Stands};
 ghost use Rattle.mime_base.specs.Format.Parents.{IsName, ParentsAt};
+ghost use Rattle.mime_base.specs.Format.Records.{ListAt};
 ghost use Rattle.mime_base.specs.Format.Sorted.{text_lt};
 ghost use Rattle.mime_load.specs.Lent.{plain_pairs};
-ghost use Rattle.mime_load.specs.ParentLists.{Adds, IsEntry};
+ghost use Rattle.mime_load.specs.ParentLists.{Adds, EntryStands, IsEntry};
 ghost use Rattle.mime_load.specs.Parts.{RecordAt};
 ghost use Rattle.mime_load.specs.Taking.{Pays};
 
@@ -28,6 +29,9 @@ pub fn parents_at<'a>(
 ) -> Result<Vec<LentPair<'a>>, Unread>
     // A parent list of these pairs stands there.
     ensures stand { IfOk result (λ pairs. ParentsAt (Stands source.now.counted.now) at (plain_pairs pairs.items)) }
+    // Of pairs whose parent list stands there, and with room for them, only memory can be short.
+    ensures need { (pairs : List (List ℕ × List ℕ)) → ParentsAt (Stands source.now.counted.now) at pairs →
+        4 * length pairs ≤ taking.old.records → IfErr result (λ e. e ≡ Unread.OutOfMemory) }
     // They take four bytes each.
     ensures taken { IfOk result (λ pairs. taking.new.records + 4 * length pairs.items ≡ taking.old.records) }
     // They take no room of values.
@@ -51,7 +55,8 @@ pub fn parents_at<'a>(
 
 /// Whether a type is after the previous one, if any was read.
 fn comes_next(read: u32, previous: &[u8], kind: &[u8]) -> bool
-    ensures { result ≡ true → 0 < read → text_lt previous.now kind.now ≡ true }
+    ensures rises { result ≡ true → 0 < read → text_lt previous.now kind.now ≡ true }
+    ensures falls { result ≡ false → (0 < read) × (text_lt previous.now kind.now ≡ false) }
 {
     read == 0 || text_lt(previous, kind)
 }
@@ -63,6 +68,8 @@ fn read_entry<'a>(
     pairs: &mut Vec<LentPair<'a>>,
     taking: &mut Taking,
 ) -> Result<&'a [u8], Unread>
+    ensures need { (kind : List ℕ) (targets : List (List ℕ)) → EntryStands source.now.counted.now at kind targets → 0 < length targets →
+        4 * length targets ≤ taking.old.records → IfErr result (λ e. e ≡ Unread.OutOfMemory) }
     ensures entry { IfOk result (λ kind. IsEntry source.now.counted.now at kind.now (plain_pairs pairs.old.items) (plain_pairs pairs.new.items)) }
     ensures taken { IfOk result (λ kind. taking.new.records + 4 * length pairs.new.items ≡ taking.old.records + 4 * length pairs.old.items) }
     ensures value_bytes { taking.new.value_bytes ≡ taking.old.value_bytes }
@@ -84,6 +91,9 @@ fn read_parents<'a>(
     taking: &mut Taking,
 ) -> Result<(), Unread>
     requires at { at < 2 ^ 32 }
+    ensures need { (targets : List (List ℕ)) →
+        ListAt (Stands source.now.counted.now) 4 (IsName (Stands source.now.counted.now)) at targets →
+        0 < length targets → 4 * length targets ≤ taking.old.records → IfErr result (λ e. e ≡ Unread.OutOfMemory) }
     ensures adds { IfOk result (λ _. Adds source.now.counted.now at kind.now (plain_pairs pairs.old.items) (plain_pairs pairs.new.items)) }
     ensures taken { IfOk result (λ _. taking.new.records + 4 * length pairs.new.items ≡ taking.old.records + 4 * length pairs.old.items) }
     ensures value_bytes { taking.new.value_bytes ≡ taking.old.value_bytes }
@@ -108,6 +118,8 @@ fn read_parent<'a>(
     taking: &mut Taking,
 ) -> Result<&'a [u8], Unread>
     ensures stands { IfOk result (λ target. RecordAt (Stands source.now.counted.now) (IsName (Stands source.now.counted.now)) at target.now) }
+    ensures need { (target : List ℕ) → RecordAt (Stands source.now.counted.now) (IsName (Stands source.now.counted.now)) at target →
+        IfErr result (λ e. e ≡ Unread.OutOfMemory) }
     ensures records { taking.new.records ≡ taking.old.records }
     ensures value_bytes { taking.new.value_bytes ≡ taking.old.value_bytes }
     ensures pays { Pays 1 1 taking.old taking.new }

@@ -1,9 +1,12 @@
 //! A whole cache.
 
-ghost use Rattle.std.specs.Prelude.{◌≡◌, ◌≤◌, ◌+◌, ◌*◌, ◌/◌, length, slice_index, Ok, IfOk};
+ghost use Rattle.std.specs.Prelude.{◌≡◌, ◌≤◌, ◌+◌, ◌*◌, ◌/◌, length, slice_index, Ok, IfErr, IfOk};
+ghost use Rattle.mime_base.specs.Cache.Bytes.{Stands};
+ghost use Rattle.mime_base.specs.Database.{PlainDatabase};
 ghost use Rattle.mime_base.specs.Database.Limits.{IsWithinLimits};
-ghost use Rattle.mime_base.specs.Format.Packed.{Packed};
-ghost use Rattle.mime_base.specs.Format.Spells.{Spells};
+ghost use Rattle.mime_base.specs.Format.Packed.{Packed, record_bytes, value_length};
+ghost use Rattle.mime_base.specs.Format.Header.{HeaderAt, Offsets};
+ghost use Rattle.mime_base.specs.Format.Spells.{Spells, cache_limit};
 ghost use Rattle.mime_load.specs.Lent.{plain_lists};
 ghost use Rattle.mime_load.specs.Taking.{Pays};
 ghost use Rattle.mime_load.specs.Whole.{AreLists, IsHeader};
@@ -41,6 +44,9 @@ pub fn read_back<'a>(
     ensures packed { IfOk result (λ lists. Packed counted.now (plain_lists lists)) }
     // Each rule and each line is one that the text files can spell.
     ensures limits { IfOk result (λ lists. IsWithinLimits (plain_lists lists)) }
+    // A cache that was written is read back, unless memory is refused.
+    ensures written { (b : PlainDatabase) → IsWithinLimits b → Spells counted.now b → Packed counted.now b →
+        IfErr result (λ e. e ≡ LoadFault.OutOfMemory) }
     // It visits at most as many records as the cache has bytes, and ten, whatever the bytes are.
     ensures nodes { meter.new.nodes ≤ meter.old.nodes + length counted.now + 10 }
     // It reads at most 300 times as many bytes as the cache has.
@@ -55,6 +61,9 @@ pub fn read_back<'a>(
 
 /// The lists of a cache, and what they took.
 fn lists_of<'a>(source: &Source<'_, 'a>, taking: &mut Taking) -> Result<Lists<'a>, LoadFault>
+    // Of a database that the cache spells, and with room for it, only memory can be short.
+    ensures need { (b : PlainDatabase) → IsWithinLimits b → Spells source.now.counted.now b → record_bytes b ≤ taking.old.records →
+        value_length b.sections ≤ taking.old.value_bytes → IfErr result (λ e. e ≡ LoadFault.OutOfMemory) }
     // The lists stand, and took their room.
     ensures lists { IfOk result (λ lists. AreLists source.now.counted.now taking.old taking.new lists) }
     // What was looked at was taken, but for the heads of lists, aliases, types with parents and icons.
@@ -84,6 +93,7 @@ fn lists_of<'a>(source: &Source<'_, 'a>, taking: &mut Taking) -> Result<Lists<'a
 /// What was read of a part, or its fault.
 fn of_part<T: Drop>(part: Part, read: Result<T, Unread>) -> Result<T, LoadFault>
     ensures read { IfOk result (λ value. read ≡ Ok value) }
+    ensures need { IfErr read (λ e. e ≡ Unread.OutOfMemory) → IfErr result (λ e. e ≡ LoadFault.OutOfMemory) }
 {
     match read {
         Ok(value) => Ok(value),
@@ -92,10 +102,17 @@ fn of_part<T: Drop>(part: Part, read: Result<T, Unread>) -> Result<T, LoadFault>
 }
 
 /// The header of a cache of this version that is not too large.
-fn read_header(source: &Source<'_, '_>, taking: &mut Taking) -> Result<[u32; 10], Unread>
+pub fn read_header(source: &Source<'_, '_>, taking: &mut Taking) -> Result<[u32; 10], Unread>
+    // Such a header stands at the beginning.
     ensures header { IfOk result (λ numbers. IsHeader source.now.counted.now numbers) }
+    // One that stands is read.
+    ensures need { (offsets : Offsets) → HeaderAt (Stands source.now.counted.now) offsets → length source.now.counted.now ≤ cache_limit →
+        IfErr result (λ e. e ≡ Unread.OutOfMemory) }
+    // No room is taken.
     ensures records { taking.new.records ≡ taking.old.records }
+    // Nor that of values.
     ensures value_bytes { taking.new.value_bytes ≡ taking.old.value_bytes }
+    // One record was visited.
     ensures pays { Pays 1 0 taking.old taking.new }
 {
     let header = read_numbers::<10>(source, 0, taking)?;

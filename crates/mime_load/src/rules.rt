@@ -1,14 +1,18 @@
 //! The literal list and the glob list.
 
-ghost use Rattle.std.specs.Prelude.{◌≡◌, ◌==◌, ◌<◌, ◌^◌, ◌+◌, ◌-◌, ◌*◌, ◌%◌, true, false, All, length, get_or, IfOk};
+ghost use Rattle.std.specs.Prelude.{◌≡◌, ◌==◌, ◌<◌, ◌≤◌, ◌^◌, ◌+◌, ◌-◌, ◌*◌, ◌%◌, true, false, All, List, length, get_or, IfErr, IfOk};
 ghost use Rattle.std.specs.List.{list_all};
+ghost use Rattle.mime_base.specs.Cache.Bytes.{Stands};
+ghost use Rattle.mime_base.specs.Database.Limits.{KeepsLimits};
+ghost use Rattle.mime_base.specs.Format.Rules.{IsRule};
 ghost use Rattle.mime_base.specs.Format.Sorted.{text_lt};
 ghost use Rattle.mime_base.specs.Format.Stored.{is_in_globs, is_in_literals};
 ghost use Rattle.mime_base.specs.Matching.Folding.{compared_byte};
 ghost use Rattle.mime_base.specs.declared.database.lent.LentRule.{LentRule};
+ghost use Rattle.mime_base.specs.declared.database.rule.GlobRule.{GlobRule};
 ghost use Rattle.mime_base.specs.Database.Lent.{plain_rule};
 ghost use Rattle.mime_load.specs.Lent.{plain_rules};
-ghost use Rattle.mime_load.specs.Parts.{IsGlobList, IsLiteralList, IsRuleAt};
+ghost use Rattle.mime_load.specs.Parts.{IsGlobList, IsLiteralList, IsRuleAt, RecordAt};
 ghost use Rattle.mime_load.specs.Taking.{Pays};
 
 use crate::order::text_lt;
@@ -29,6 +33,9 @@ pub fn literals_at<'a>(
 ) -> Result<Vec<LentRule<'a>>, Unread>
     // A list of these rules stands there, and they keep their limits.
     ensures stand { IfOk result (λ rules. IsLiteralList source.now.counted.now at (plain_rules rules.items)) }
+    // Of rules that stand there, and with room for them, only memory can be short.
+    ensures need { (rules : List GlobRule) → IsLiteralList source.now.counted.now at rules → 12 * length rules ≤ taking.old.records →
+        IfErr result (λ e. e ≡ Unread.OutOfMemory) }
     // They take twelve bytes each.
     ensures taken { IfOk result (λ rules. taking.new.records + 12 * length rules.items ≡ taking.old.records) }
     // They take no room of values.
@@ -57,6 +64,9 @@ pub fn globs_at<'a>(
 ) -> Result<Vec<LentRule<'a>>, Unread>
     // A list of these rules stands there, and they keep their limits.
     ensures stand { IfOk result (λ rules. IsGlobList source.now.counted.now at (plain_rules rules.items)) }
+    // Of rules that stand there, and with room for them, only memory can be short.
+    ensures need { (rules : List GlobRule) → IsGlobList source.now.counted.now at rules → 12 * length rules ≤ taking.old.records →
+        IfErr result (λ e. e ≡ Unread.OutOfMemory) }
     // They take twelve bytes each.
     ensures taken { IfOk result (λ rules. taking.new.records + 12 * length rules.items ≡ taking.old.records) }
     // They take no room of values.
@@ -101,8 +111,10 @@ fn is_in_globs(rule: &LentRule<'_>) -> bool
 
 /// Whether the pattern of a rule is not before that of the last of others.
 fn comes_next(rules: &[LentRule<'_>], rule: &LentRule<'_>) -> bool
-    ensures { result ≡ true → (d : LentRule) → 0 < length rules.now →
+    ensures rises { result ≡ true → (d : LentRule) → 0 < length rules.now →
         text_lt rule.now.pattern.now (get_or rules.now (length rules.now - 1) d).pattern.now ≡ false }
+    ensures falls { result ≡ false → (d : LentRule) → (0 < length rules.now) ×
+        (text_lt rule.now.pattern.now (get_or rules.now (length rules.now - 1) d).pattern.now ≡ true) }
 {
     match rules.last() {
         Some(last) => !text_lt(rule.pattern, last.pattern),
@@ -117,6 +129,9 @@ fn read_rule<'a>(
     taking: &mut Taking,
 ) -> Result<LentRule<'a>, Unread>
     ensures stands { IfOk result (λ rule. IsRuleAt source.now.counted.now at (plain_rule rule)) }
+    ensures need { (rule : GlobRule) → RecordAt (Stands source.now.counted.now) (IsRule (Stands source.now.counted.now)) at rule →
+        KeepsLimits rule →
+        12 ≤ taking.old.records → IfErr result (λ e. e ≡ Unread.OutOfMemory) }
     ensures taken { IfOk result (λ rule. taking.new.records + 12 ≡ taking.old.records) }
     ensures value_bytes { taking.new.value_bytes ≡ taking.old.value_bytes }
     ensures pays { Pays 0 0 taking.old taking.new }

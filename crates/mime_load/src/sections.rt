@@ -4,7 +4,7 @@ ghost use Rattle.std.specs.Prelude.{◌≡◌, ◌<◌, ◌≤◌, ℕ, ◌+◌,
 ghost use Rattle.mime_base.specs.Magic.{PlainSection};
 ghost use Rattle.mime_load.specs.Lent.{plain_section, plain_sections};
 ghost use Rattle.mime_load.specs.MagicStanding.{MagicStands, SectionStands, SectionsStand};
-ghost use Rattle.mime_load.specs.Taking.{HasSectionRoom, Pays, TakesSections};
+ghost use Rattle.mime_load.specs.Taking.{HasSectionRoom, Pays, PaysWide, TakesSections};
 
 use crate::extent::sections_extent;
 use crate::lines::lines_at;
@@ -38,6 +38,8 @@ pub fn sections_at<'a>(
         IfOk result (λ found. plain_sections found.items ≡ sections) }
     // One record was visited besides.
     ensures pays { Pays 1 0 taking.old taking.new }
+    // Each record but one that was visited took sixteen bytes of room at least.
+    ensures wide { PaysWide 1 taking.old taking.new }
 {
     let [count, extent, first] = source
         .counted
@@ -62,6 +64,7 @@ fn sections_from<'a>(
     ensures count { IfOk result (λ sections. length sections.items ≡ count) }
     ensures taken { IfOk result (λ sections. TakesSections taking.old taking.new (plain_sections sections.items)) }
     ensures pays { Pays 0 0 taking.old taking.new }
+    ensures wide { PaysWide 0 taking.old taking.new }
 {
     let mut sections = Vec::new(source.alloc);
     for i in 0..count {
@@ -83,6 +86,7 @@ fn section_at<'a>(
         HasSectionRoom taking.old (section ∷ []) → IfErr result (λ e. e ≡ Unread.OutOfMemory) }
     ensures taken { IfOk result (λ section. TakesSections taking.old taking.new (plain_section section ∷ [])) }
     ensures pays { Pays 0 0 taking.old taking.new }
+    ensures wide { PaysWide 0 taking.old taking.new }
 {
     let [priority, kind, count, first] = take_numbers::<4>(source, at, SECTION, taking)?;
     let kind = source.counted.text_at(u64::from(kind), &mut taking.meter)?;

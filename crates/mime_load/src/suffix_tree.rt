@@ -3,13 +3,14 @@
 //! Siblings are read from the last to the first, so that what was read is a tree to which one more is put in front, and the
 //! rules come from the last to the first.
 
-ghost use Rattle.std.specs.Prelude.{◌≡◌, ℕ, ◌+◌, ◌*◌, ◌^◌, ◌<◌, ◌≤◌, true, List, length, IfOk, OnOk};
+ghost use Rattle.std.specs.Prelude.{◌≡◌, ℕ, ◌+◌, ◌*◌, ◌^◌, ◌<◌, ◌≤◌, true, List, length, IfErr, IfOk, OnOk};
 ghost use Rattle.mime_base.specs.Format.SuffixTree.{tree_size};
+ghost use Rattle.mime_base.specs.Format.Tree.{Tree, node_count, sibling_count};
 ghost use Rattle.mime_base.specs.declared.database.rule.GlobRule.{GlobRule};
 ghost use Rattle.mime_load.specs.Lent.{plain_leaf, plain_leaves};
 ghost use Rattle.mime_load.specs.Parts.{IsTreeList};
 ghost use Rattle.mime_load.specs.Taking.{Pays};
-ghost use Rattle.mime_load.specs.Walks.{IsLeafRule, Walked, is_suffix};
+ghost use Rattle.mime_load.specs.Walks.{IsLeafRule, IsNext, TreeStands, Walked, first_character, first_nodes, is_suffix};
 
 use crate::ending::NameEnding;
 use crate::leaf::LeafRule;
@@ -34,6 +35,9 @@ pub fn leaves_at<'a>(
 ) -> Result<Vec<LeafRule<'a>>, Unread>
     // A tree of these rules stands there, and they keep their limits.
     ensures stand { IfOk result (λ rules. IsTreeList source.now.counted.now at (plain_leaves rules.items)) }
+    // Of rules whose tree stands there, and with room for its nodes, only memory can be short.
+    ensures need { (rules : List GlobRule) → IsTreeList source.now.counted.now at rules → 12 * tree_size rules ≤ taking.old.records →
+        IfErr result (λ e. e ≡ Unread.OutOfMemory) }
     // Its nodes, leaves included, take twelve bytes each.
     ensures taken { IfOk result (λ rules. taking.new.records + 12 * tree_size (plain_leaves rules.items) ≡ taking.old.records) }
     // They take no room of values.
@@ -74,6 +78,9 @@ fn read_siblings<'a>(
     // They stand, and their rules are added, from the last to the first.
     ensures walked { OnOk result (Walked source.now.counted.now first count ending.old 1 (plain_leaves rules.old.items) (plain_leaves rules.new.items)
         taking.old.records taking.new.records) }
+    // Of siblings that stand there, and with room for their nodes, only memory can be short.
+    ensures need { (tree : Tree) → TreeStands source.now.counted.now first ending.old tree → sibling_count tree ≡ count →
+        12 * node_count tree ≤ taking.old.records → IfErr result (λ e. e ≡ Unread.OutOfMemory) }
     // The ending is then as it was.
     ensures ending_stays { OnOk result (ending.new ≡ ending.old) }
     ensures value_bytes { taking.new.value_bytes ≡ taking.old.value_bytes }
@@ -106,6 +113,12 @@ fn read_sibling<'a>(
     ensures walked { IfOk result (λ before. (count before_left : ℕ) (first : List GlobRule) →
         Walked source.now.counted.now (at + 12) count ending.old next first (plain_leaves rules.old.items) before_left taking.old.records →
         Walked source.now.counted.now at (count + 1) ending.old before first (plain_leaves rules.new.items) before_left taking.new.records) }
+    // If it stands, with a character below `next` and with room for its nodes, only memory can be short.
+    ensures need { (tree : Tree) → TreeStands source.now.counted.now at ending.old tree → 0 < sibling_count tree →
+        first_character tree < next →
+        12 * first_nodes tree ≤ taking.old.records → IfErr result (λ e. e ≡ Unread.OutOfMemory) }
+    // A sibling before it has a lower character.
+    ensures is_next { IfOk result (λ before. (count : ℕ) → IsNext source.now.counted.now at (count + 1) before) }
     // The character before it fits.
     ensures fits { IfOk result (λ before. (1 ≤ before) × (before ≤ 256)) }
     // The ending is then as it was.
@@ -156,6 +169,9 @@ fn read_leaf<'a>(
     requires depth { length ending.now ≤ 254 }
     // It is the leaf's.
     ensures is { IfOk result (λ rule. IsLeafRule source.now.counted.now kind flags ending.now (plain_leaf rule)) }
+    // Of a leaf that stands only memory can be short.
+    ensures need { (rule : GlobRule) → IsLeafRule source.now.counted.now kind flags ending.now rule →
+        IfErr result (λ e. e ≡ Unread.OutOfMemory) }
     ensures records { taking.new.records ≡ taking.old.records }
     ensures value_bytes { taking.new.value_bytes ≡ taking.old.value_bytes }
     ensures pays { Pays 0 1 taking.old taking.new }

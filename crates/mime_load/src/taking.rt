@@ -6,7 +6,7 @@
 ghost use Rattle.std.specs.Prelude.{◌≡◌, ◌⊎◌, ◌+◌, ◌*◌, ◌<◌, ◌≤◌, IfOk, OnErr, OnOk, length};
 ghost use Rattle.mime_base.specs.Cache.Bytes.{Stands, fields};
 ghost use Rattle.mime_base.specs.Format.Records.{CardsAt};
-ghost use Rattle.mime_load.specs.Taking.{Pays};
+ghost use Rattle.mime_load.specs.Taking.{Pays, PaysWide};
 
 use crate::source::Source;
 use crate::unread::Unread;
@@ -78,6 +78,8 @@ pub fn take_numbers<const N: usize>(
     ensures no_bytes { taking.new.meter.bytes ≡ taking.old.meter.bytes }
     // What was looked at was taken.
     ensures pays { Pays 0 0 taking.old taking.new }
+    // A record of sixteen bytes and more took as many at least.
+    ensures wide { 16 ≤ bytes → PaysWide 0 taking.old taking.new }
 {
     if taking.records < bytes {
         return Err(Unread::NotSpelled);

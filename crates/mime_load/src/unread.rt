@@ -1,6 +1,6 @@
 //! Why a part of a cache is not read back.
 
-use mime_base::ByteFault;
+use mime_base::{ByteFault, OutOfMemory};
 use std::alloc::{AllocError, AllocFailed};
 use thiserror::Error;
 
@@ -18,6 +18,17 @@ pub enum Unread {
 impl From<ByteFault> for Unread {
     fn from(_fault: ByteFault) -> Unread {
         Unread::NotSpelled
+    }
+}
+
+impl From<OutOfMemory> for Unread {
+    ghost use Rattle.std.specs.Prelude.{◌≡◌};
+    ghost use Rattle.mime_load.specs.declared.unread.Unread.TheVariants.{OutOfMemory};
+
+    ghost from_gives = { λ _ e. e ≡ OutOfMemory };
+
+    fn from(_error: OutOfMemory) -> Unread {
+        Unread::OutOfMemory
     }
 }
 

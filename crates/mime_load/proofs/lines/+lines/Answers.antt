@@ -29,6 +29,7 @@ lines_at-loop-i-preserved t c =
       taken = rw pushed (lines_taken c.args.taking.now c.loop-i.taking c.line_at.new.taking c.loop-i.lines.items c.in_ok-line.line
           c.loop-i.invariant.taken c.in_ok-line.ensures.taken);
       pays = pays_then c.args.taking.now c.loop-i.taking c.line_at.new.taking c.loop-i.invariant.pays c.line_at.ensures.pays;
+      wide = omega (arith, c.loop-i.invariant.wide, c.line_at.ensures.wide);
     }
 
 pub line_at-returns-in_err-own-clause-need : goal.line_at-returns-in_err-own-clause-need

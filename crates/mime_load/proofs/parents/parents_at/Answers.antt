@@ -1,6 +1,16 @@
-use Rattle.std.proofs.Common.{[], arith, rules}
-use Rattle.mime_load.specs.Lent.{plain_pairs}
+use Rattle.std.proofs.Common.{◌<◌, ℕ, ◌+◌, ◌*◌, List, [], ◌∷◌, length, get_or, ap, refl, arith, rules}
+use Rattle.std.proofs.lemmas.List.{length-map}
+use Rattle.std.proofs.lemmas.Result.{err_from_is_err_and}
+use Rattle.mime_base.specs.Cache.Bytes.{Stands}
+use Rattle.mime_base.specs.Database.Subclass.{parents}
+use Rattle.mime_base.specs.Format.Parents.{IsSubclass, ParentsAt}
+use Rattle.mime_base.specs.Format.Records.{CardsAt}
+use Rattle.mime_load.specs.Lent.{plain_pair, plain_pairs}
 use Rattle.mime_load.proofs.ParentEntries.{entries_more, entries_none, parents_whole}
+use Rattle.mime_load.proofs.NextRecords.{list_inside}
+use Rattle.mime_load.proofs.ParentTypes.{kind_parents, kind_there, next_parents, next_rises}
+use Rattle.mime_load.proofs.ParentsRead.{subclass_long}
+use Rattle.mime_load.proofs.SameLemmas.{same_numbers}
 use Rattle.mime_load.proofs.TakingLemmas.{pays_entries, pays_entries_more}
 use Rattle.mime_load.proofs.parents.parents_at.Goals as goal
 
@@ -16,7 +26,7 @@ pub loop-i-preserved : goal.loop-i-preserved
 loop-i-preserved c = record {
   entries = entries_more c.args.source.now.counted.now _ c.loop-i.i c.loop-i.previous.now c.in_ok-kind.kind.now
       (plain_pairs c.loop-i.pairs.items) (plain_pairs c.read_entry.new.pairs.items) c.loop-i.invariant.entries
-      (c.comes_next.ensures (search rules)) (rw c.from.ensures at c.in_ok-kind.ensures.entry);
+      (c.comes_next.ensures.rises (search rules)) (rw c.from.ensures at c.in_ok-kind.ensures.entry);
   records = search rules;
   value_bytes = search rules;
   pays = record {
@@ -46,3 +56,55 @@ pub returns-clause-pays : goal.returns-clause-pays
 returns-clause-pays c =
     pays_entries c.args.source.now.counted.now c.loop-i.i c.args.taking.now c.read_count.new.taking c.loop-i.taking c.read_count.ensures.pays
     c.loop-i.invariant.pays (omega (arith, c.in_ok-count.ensures.inside, c.loop-i-test.false, c.loop-i.auto.i-end))
+
+pub returns-in_err-count-clause-need : goal.returns-in_err-count-clause-need
+returns-in_err-count-clause-need c = λ pairs list room.
+    let cache = c.args.source.now.counted.now in
+    let need = rw c.from-start.ensures at c.in_err-count.ensures.need in
+    let p = err_from_is_err_and c.from_residual.result c.from_residual.ensures.1 in
+    rw (p.1, p.2) (need (length list.kinds) list.stand.count
+    (list_inside cache 8 (IsSubclass (Stands cache) pairs) (subclass_long cache pairs) c.args.at list.kinds list.stand))
+
+-- the next type of those that stand
+within_kinds : (cache : List ℕ) (at count i : ℕ) (pairs : List (List ℕ × List ℕ)) (list : ParentsAt (Stands cache) at pairs)
+    → CardsAt (Stands cache) at (count ∷ []) → i < count → i < length list.kinds
+within_kinds cache at count i pairs list head low =
+    omega (
+      arith,
+      low,
+      ap (λ (ns : List ℕ). get_or ns 0 0) (same_numbers cache at (count ∷ []) (length list.kinds ∷ []) refl head list.stand.count),
+    )
+
+pub returns-in_err-kind-clause-need : goal.returns-in_err-kind-clause-need
+returns-in_err-kind-clause-need c = λ pairs list room.
+    let cache = c.args.source.now.counted.now in
+    let within = within_kinds cache c.args.at c.in_ok-count.count c.loop-i.i pairs list
+    (rw c.from-start.ensures at c.in_ok-count.ensures.count)
+    c.loop-i-test.true in
+    let entries = rw c.from-start.ensures at c.loop-i.invariant.entries in
+    let stands = kind_there cache c.args.at pairs list c.loop-i.i (c.from-start.result + 4 + 8 * c.from.result) within
+    (omega (arith, c.from-start.ensures, c.from.ensures)) in
+    let fits = next_parents cache c.args.at pairs list c.loop-i.i c.loop-i.previous.now (plain_pairs c.loop-i.pairs.items) entries within in
+    let p = err_from_is_err_and c.from_residual-in_err-kind.result c.from_residual-in_err-kind.ensures.1 in
+    rw (p.1, p.2) (c.in_err-kind.ensures.need (get_or list.kinds c.loop-i.i []) (parents pairs (get_or list.kinds c.loop-i.i [])) stands
+    (kind_parents cache c.args.at pairs list c.loop-i.i within)
+    (omega (
+      arith,
+      room,
+      fits,
+      length-map c.loop-i.pairs.items plain_pair,
+      c.loop-i.invariant.records,
+      c.read_count.ensures.records,
+    )))
+
+pub returns-then-not-comes_next-clause-need : goal.returns-then-not-comes_next-clause-need
+returns-then-not-comes_next-clause-need c = λ pairs list room.
+    let cache = c.args.source.now.counted.now in
+    let within = within_kinds cache c.args.at c.in_ok-count.count c.loop-i.i pairs list
+    (rw c.from-start.ensures at c.in_ok-count.ensures.count)
+    c.loop-i-test.true in
+    let entries = rw c.from-start.ensures at c.loop-i.invariant.entries in
+    let falls = c.comes_next.ensures.falls c.if-not-comes_next.true in
+    absurd (next_rises cache c.args.at pairs list c.loop-i.i c.loop-i.previous.now (plain_pairs c.loop-i.pairs.items) entries within
+    c.in_ok-kind.kind.now (plain_pairs c.read_entry.new.pairs.items)
+    (rw (c.from-start.ensures, c.from.ensures) at c.in_ok-kind.ensures.entry) falls.0 falls.1)

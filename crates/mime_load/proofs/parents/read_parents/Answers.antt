@@ -1,7 +1,14 @@
-use Rattle.std.proofs.Common.{◌+◌, arith, rules}
+use Rattle.std.proofs.Common.{ℕ, ◌+◌, ◌*◌, List, [], ◌∷◌, length, get_or, ap, refl, arith, rules}
+use Rattle.std.proofs.lemmas.Result.{err_from_is_err_and}
+use Rattle.mime_base.specs.Cache.Bytes.{Stands}
+use Rattle.mime_base.specs.Format.Parents.{IsName}
 use Rattle.mime_load.specs.Lent.{plain_pair, plain_pairs}
 use Rattle.mime_load.proofs.ParentEntries.{adding_more, adding_none, adding_whole}
+use Rattle.mime_load.proofs.NextRecords.{list_inside}
+use Rattle.mime_load.proofs.ParentsRead.{name_long}
+use Rattle.mime_load.proofs.RecordLemmas.{record_at}
 use Rattle.mime_load.proofs.RuleLists.{mapped_pushed}
+use Rattle.mime_load.proofs.SameLemmas.{same_numbers}
 use Rattle.mime_load.proofs.TakingLemmas.{pays_both, pays_parents, pays_parents_more}
 use Rattle.mime_load.proofs.parents.read_parents.Goals as goal
 
@@ -61,3 +68,35 @@ returns-clause-taken c =
       c.loop-i-test.false,
       c.loop-i.auto.i-end,
     )
+
+pub returns-in_err-count-clause-need : goal.returns-in_err-count-clause-need
+returns-in_err-count-clause-need c = λ targets list some room.
+    let cache = c.args.source.now.counted.now in
+    let p = err_from_is_err_and c.from_residual.result c.from_residual.ensures.1 in
+    rw (p.1, p.2) (c.in_err-count.ensures.need (length targets) list.count
+    (list_inside cache 4 (IsName (Stands cache)) (name_long cache) c.args.at targets list))
+
+pub returns-then-count-eq0-clause-need : goal.returns-then-count-eq0-clause-need
+returns-then-count-eq0-clause-need c = λ targets list some room.
+    let count = ap (λ (ns : List ℕ). get_or ns 0 0)
+    (same_numbers c.args.source.now.counted.now c.args.at (c.in_ok-count.count ∷ []) (length targets ∷ []) refl c.in_ok-count.ensures.count
+    list.count) in
+    absurd (omega (arith, count, some, c.if-count-eq0.true))
+
+pub returns-in_err-take_records-clause-need : goal.returns-in_err-take_records-clause-need
+returns-in_err-take_records-clause-need c = λ targets list some room.
+    let count = ap (λ (ns : List ℕ). get_or ns 0 0)
+    (same_numbers c.args.source.now.counted.now c.args.at (c.in_ok-count.count ∷ []) (length targets ∷ []) refl c.in_ok-count.ensures.count
+    list.count) in
+    absurd (omega (arith, count, room, c.read_count.ensures.records, c.from.ensures, c.in_err-take_records.ensures.fault))
+
+pub returns-in_err-target-clause-need : goal.returns-in_err-target-clause-need
+returns-in_err-target-clause-need c = λ targets list some room.
+    let cache = c.args.source.now.counted.now in
+    let count = ap (λ (ns : List ℕ). get_or ns 0 0)
+    (same_numbers cache c.args.at (c.in_ok-count.count ∷ []) (length targets ∷ []) refl c.in_ok-count.ensures.count list.count) in
+    let target = record_at (Stands cache) 4 (IsName (Stands cache)) (c.args.at + 4) c.loop-i.i
+    (c.args.at + 4 + 4 * c.from-in-loop-i.result) targets []
+    (omega (arith, count, c.loop-i-test.true)) (omega (arith, c.from-in-loop-i.ensures)) list.records in
+    let p = err_from_is_err_and c.from_residual-in_err-target.result c.from_residual-in_err-target.ensures.1 in
+    rw (p.1, p.2) (c.in_err-target.ensures.need (get_or targets c.loop-i.i []) target)

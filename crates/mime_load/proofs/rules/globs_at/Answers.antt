@@ -1,14 +1,21 @@
-use Rattle.std.proofs.Common.{◌≡◌, ◌+◌, ◌*◌, arith, rules, sym, subst, true}
+use Rattle.std.proofs.Common.{◌≡◌, ◌+◌, ◌*◌, List, length, get_or, ap, ◌∙◌, arith, rules, sym, subst, true, true≢false}
+use Rattle.std.proofs.lemmas.List.Elements.{All-filter, filter_passes}
+use Rattle.std.proofs.lemmas.Result.{err_from_is_err_and}
 use Rattle.mime_base.specs.Cache.Bytes.{Stands}
 use Rattle.mime_base.specs.Database.Limits.{KeepsLimits}
 use Rattle.mime_base.specs.Format.Records.{ListAt}
 use Rattle.mime_base.specs.Format.Rules.{IsRule}
-use Rattle.mime_base.specs.Format.Stored.{is_in_globs}
+use Rattle.mime_base.specs.Format.Stored.{glob_rules, is_in_globs}
+use Rattle.mime_base.specs.declared.database.rule.GlobRule.{GlobRule}
 use Rattle.mime_base.specs.Database.Lent.{plain_rule}
 use Rattle.mime_load.specs.Lent.{plain_rules}
 use Rattle.mime_load.specs.Parts.{IsRuleAt}
+use Rattle.mime_load.proofs.NextRecords.{list_inside}
 use Rattle.mime_load.proofs.RecordLemmas.{list_whole, records_pushed}
 use Rattle.mime_load.proofs.RuleLists.{all_kept, all_pushed}
+use Rattle.mime_load.proofs.RuleEntries.{entry_there, no_rule}
+use Rattle.mime_load.proofs.RulesRead.{rule_long, same_stored}
+use Rattle.mime_load.proofs.StoredPatterns.{same_in_globs}
 use Rattle.mime_load.proofs.TakingLemmas.{pays_more}
 use Rattle.mime_load.proofs.rules.globs_at.Goals as goal
 
@@ -63,3 +70,37 @@ returns-in_err-push-clause-pays c =
 pub returns-clause-pays : goal.returns-clause-pays
 returns-clause-pays c =
     pays_more 1 0 c.args.taking.now c.read_count.new.taking c.loop-i.taking c.read_count.ensures.pays c.loop-i.invariant.pays
+
+pub returns-in_err-count-clause-need : goal.returns-in_err-count-clause-need
+returns-in_err-count-clause-need c = λ rules list room.
+    let cache = c.args.source.now.counted.now in
+    let need = rw c.from-start.ensures at c.in_err-count.ensures.need in
+    let p = err_from_is_err_and c.from_residual.result c.from_residual.ensures.1 in
+    rw (p.1, p.2) (need (length (glob_rules rules)) list.stand.count
+    (list_inside cache 12 (IsRule (Stands cache)) (rule_long cache) c.args.at (glob_rules rules) list.stand))
+
+pub returns-in_err-rule-clause-need : goal.returns-in_err-rule-clause-need
+returns-in_err-rule-clause-need c = λ rules list room.
+    let next = entry_there c.args.source.now.counted.now c.args.at c.in_ok-count.count c.loop-i.i
+    (c.from-start.result + 4 + 12 * c.from.result)
+    (glob_rules rules) (rw c.from-start.ensures at c.in_ok-count.ensures.count) list.stand c.loop-i-test.true
+    (omega (arith, c.from-start.ensures, c.from.ensures)) in
+    let size = ap (λ (xs : List GlobRule). length xs) (all_kept is_in_globs rules list.globs) in
+    let p = err_from_is_err_and c.from_residual-in_err-rule.result c.from_residual-in_err-rule.ensures.1 in
+    rw (p.1, p.2) (c.in_err-rule.ensures.need (get_or (glob_rules rules) c.loop-i.i no_rule) next.stands
+    (All-filter is_in_globs KeepsLimits rules list.limits c.loop-i.i no_rule next.within)
+    (omega (arith, room, size, next.within, c.loop-i.invariant.records, c.read_count.ensures.records)))
+
+pub returns-then-not-is_in_globs-clause-need : goal.returns-then-not-is_in_globs-clause-need
+returns-then-not-is_in_globs-clause-need c = λ rules list room.
+    let cache = c.args.source.now.counted.now in
+    let next = entry_there cache c.args.at c.in_ok-count.count c.loop-i.i (c.from-start.result + 4 + 12 * c.from.result)
+    (glob_rules rules) (rw c.from-start.ensures at c.in_ok-count.ensures.count) list.stand c.loop-i-test.true
+    (omega (arith, c.from-start.ensures, c.from.ensures)) in
+    let read : IsRuleAt cache (c.from-start.result + 4 + 12 * c.from.result) (plain_rule c.in_ok-rule.rule) = c.in_ok-rule.ensures.stands in
+    let same = same_stored cache (c.from-start.result + 4 + 12 * c.from.result) (plain_rule c.in_ok-rule.rule)
+    (get_or (glob_rules rules) c.loop-i.i no_rule) read.stand next.stands in
+    let fits : is_in_globs (plain_rule c.in_ok-rule.rule) ≡ true =
+    same_in_globs (plain_rule c.in_ok-rule.rule) (get_or (glob_rules rules) c.loop-i.i no_rule) same
+    ∙ filter_passes is_in_globs rules c.loop-i.i no_rule next.within in
+    absurd (true≢false (sym fits ∙ sym c.is_in_globs.ensures ∙ c.if-not-is_in_globs.true))

@@ -21,6 +21,7 @@ loop-i-preserved c =
       taken = rw pushed (sections_taken c.args.taking.now c.loop-i.taking c.section_at.new.taking c.loop-i.sections.items
           c.in_ok-section.section before.taken c.in_ok-section.ensures.taken);
       pays = pays_then c.args.taking.now c.loop-i.taking c.section_at.new.taking before.pays c.section_at.ensures.pays;
+      wide = omega (arith, before.wide, c.section_at.ensures.wide);
     }
 
 pub returns-in_err-section-clause-need : goal.returns-in_err-section-clause-need

@@ -1,11 +1,16 @@
-use Rattle.std.proofs.Common.{ℕ, ◌+◌, ◌-◌, ◌*◌, ◌∷◌, get_or, arith, rules, refl, sym, subst, ◌∙◌}
+use Rattle.std.proofs.Common.{◌≡◌, ℕ, List, ◌+◌, ◌-◌, ◌*◌, ◌∷◌, get_or, arith, rules, refl, sym, subst, ◌∙◌}
+use Rattle.std.proofs.lemmas.Result.{err_from_is_err_and}
 use Rattle.mime_base.specs.Cache.Bytes.{Stands}
 use Rattle.mime_base.specs.Format.Records.{CardsAt}
+use Rattle.mime_base.specs.Format.Tree.{TreeAt}
 use Rattle.mime_load.specs.Lent.{plain_leaf, plain_leaves}
-use Rattle.mime_load.specs.Walks.{Walked}
+use Rattle.mime_load.specs.Walks.{TreeStands, Walked}
 use Rattle.mime_load.proofs.RuleLists.{mapped_pushed}
+use Rattle.mime_load.proofs.SiblingCounts.{same_counts}
+use Rattle.mime_load.proofs.NextSiblings.{lower_before, next_as, next_sibling, none_before}
+use Rattle.mime_load.proofs.SiblingsRead.{sibling_inside, sibling_read}
 use Rattle.mime_load.proofs.TakingLemmas.{pays_more}
-use Rattle.mime_load.proofs.TreeWalks.{more_leaves, three, walked_as, walked_leaf, walked_node, walked_none}
+use Rattle.mime_load.proofs.TreeWalks.{more_leaves, some_leaves, three, walked_as, walked_leaf, walked_node, walked_none}
 use Rattle.mime_load.proofs.suffix_tree.+siblings.Goals as goal
 
 pub read_sibling-returns-then-character-eq0-clause-walked :
@@ -37,8 +42,9 @@ read_sibling-returns-clause-walked t c = λ count all first w.
 
 pub read_siblings-loop-done-init : goal.read_siblings-loop-done-init
 read_siblings-loop-done-init t c = record {
-  walked = walked_none c.args.source.now.counted.now (c.args.first + 12 * (c.args.count - 0)) c.args.ending.now 256
+  walked = walked_none c.args.source.now.counted.now (c.args.first + 12 * (c.args.count - 0)) c.args.ending.now _
       (plain_leaves c.args.rules.now.items) c.args.taking.now.records;
+  is_next = none_before c.args.source.now.counted.now (c.args.first + 12 * (c.args.count - 0));
   ending = refl;
   some = omega arith;
   fits = omega arith;
@@ -60,6 +66,9 @@ read_siblings-loop-done-preserved t c =
       walked = walked_as at (c.args.first + 12 * (c.args.count - (c.loop-done.done + 1))) c.loop-done.ending c.args.ending.now
           (omega arith) c.loop-done.invariant.ending
           (steps c.loop-done.done c.args.taking.now.records (plain_leaves c.args.rules.now.items) here);
+      is_next = next_as c.args.source.now.counted.now at (c.args.first + 12 * (c.args.count - (c.loop-done.done + 1)))
+          (c.loop-done.done + 1)
+          c.in_ok-before.before (omega arith) (c.in_ok-before.ensures.is_next c.loop-done.done);
       ending = c.in_ok-before.ensures.ending_stays ∙ c.loop-done.invariant.ending;
       some = fits.0;
       fits = fits.1;
@@ -71,3 +80,85 @@ read_siblings-loop-done-preserved t c =
 pub read_siblings-returns-in_err-before-clause-pays : goal.read_siblings-returns-in_err-before-clause-pays
 read_siblings-returns-in_err-before-clause-pays t c =
     pays_more 0 0 c.args.taking.now c.loop-done.taking c.read_sibling.new.taking c.loop-done.invariant.pays c.read_sibling.ensures.pays
+
+pub read_siblings-returns-in_err-before-clause-need : goal.read_siblings-returns-in_err-before-clause-need
+read_siblings-returns-in_err-before-clause-need t c = λ tree stands count room.
+    let cache = c.args.source.now.counted.now in
+    let at : ℕ = c.args.first + 12 * (c.args.count - 1 - c.loop-done.done) in
+    let place : c.args.first + 12 * (c.args.count - c.loop-done.done) ≡ at + 12 = omega (arith, c.loop-done-test.true) in
+    let read = c.loop-done.invariant.walked in
+    let there : TreeStands cache c.args.first c.loop-done.ending tree =
+    subst (λ (e : List ℕ). TreeStands cache c.args.first e tree) (sym c.loop-done.invariant.ending) stands in
+    let next = next_sibling cache c.args.first at 0 c.loop-done.ending tree read.tree (c.args.count - 1 - c.loop-done.done) c.loop-done.done
+    c.loop-done.next c.args.taking.now.records c.loop-done.taking.records there (omega (arith, count, c.loop-done-test.true)) refl
+    (read.ordered 0 (omega (arith, c.loop-done.invariant.some)))
+    (subst (λ (a : ℕ). TreeAt (Stands cache) a read.tree) place read.stand) read.siblings c.loop-done.invariant.some
+    (next_as cache (c.args.first + 12 * (c.args.count - c.loop-done.done)) (at + 12) c.loop-done.done c.loop-done.next place
+    c.loop-done.invariant.is_next) room read.nodes in
+    let p = err_from_is_err_and c.from_residual.result c.from_residual.ensures.1 in
+    rw (p.1, p.2) (c.in_err-before.ensures.need next.tree next.stands next.some next.low next.within)
+
+pub read_sibling-returns-in_err-numbers-clause-need : goal.read_sibling-returns-in_err-numbers-clause-need
+read_sibling-returns-in_err-numbers-clause-need t c = λ tree stands some low room.
+    let inside = sibling_inside c.args.source.now.counted.now c.args.at c.args.ending.now tree stands some in
+    absurd (omega (arith, inside, c.in_err-numbers.ensures.fault))
+
+pub read_sibling-returns-then-next-character-clause-need : goal.read_sibling-returns-then-next-character-clause-need
+read_sibling-returns-then-next-character-clause-need t c = λ tree stands some low room.
+    let read = sibling_read c.args.source.now.counted.now c.in_ok-numbers.numbers c.args.at c.args.ending.now tree (search rules)
+    c.in_ok-numbers.ensures.stand stands some in
+    absurd (omega (arith, read.character, low, c.if-next-character.true))
+
+pub read_sibling-returns-in_err-rule-clause-need : goal.read_sibling-returns-in_err-rule-clause-need
+read_sibling-returns-in_err-rule-clause-need t c = λ tree stands some low room.
+    let read = sibling_read c.args.source.now.counted.now c.in_ok-numbers.numbers c.args.at c.args.ending.now tree (search rules)
+    c.in_ok-numbers.ensures.stand stands some in
+    let one = read.leaf_read c.if-character-eq0.true in
+    let p = err_from_is_err_and c.from_residual-in_err-rule.result c.from_residual-in_err-rule.ensures.1 in
+    rw (p.1, p.2) (c.in_err-rule.ensures.need one.rule one.is)
+
+pub read_sibling-returns-then-character-eq0-clause-is_next : goal.read_sibling-returns-then-character-eq0-clause-is_next
+read_sibling-returns-then-character-eq0-clause-is_next t c = λ count.
+    lower_before c.args.source.now.counted.now c.in_ok-numbers.numbers c.args.at count 1 (search rules) c.in_ok-numbers.ensures.stand
+    (omega (arith, c.if-character-eq0.true)) (omega arith)
+
+pub read_sibling-returns-then-length-eq-DEEPEST-clause-need : goal.read_sibling-returns-then-length-eq-DEEPEST-clause-need
+read_sibling-returns-then-length-eq-DEEPEST-clause-need t c = λ tree stands some low room.
+    let read = sibling_read c.args.source.now.counted.now c.in_ok-numbers.numbers c.args.at c.args.ending.now tree (search rules)
+    c.in_ok-numbers.ensures.stand stands some in
+    let below = read.node_read (omega (arith, c.if-character-eq0.false)) in
+    absurd (omega (arith, below.fits.short, c.length.ensures, c.if-length-eq-DEEPEST.true))
+
+pub read_sibling-returns-in_err-read_siblings-clause-need : goal.read_sibling-returns-in_err-read_siblings-clause-need
+read_sibling-returns-in_err-read_siblings-clause-need t c = λ tree stands some low room.
+    let read = sibling_read c.args.source.now.counted.now c.in_ok-numbers.numbers c.args.at c.args.ending.now tree (search rules)
+    c.in_ok-numbers.ensures.stand stands some in
+    let below = read.node_read (omega (arith, c.if-character-eq0.false)) in
+    let need = rw (c.from.ensures, c.from-2.ensures, c.in_ok-grow.ensures.grown) at c.in_err-read_siblings.ensures.need in
+    let p = err_from_is_err_and c.from_residual-in_err-read_siblings.result c.from_residual-in_err-read_siblings.ensures.1 in
+    rw (p.1, p.2) (need below.below below.stands below.siblings
+    (omega (arith, room, below.counted, c.in_ok-take_records.ensures.taken, c.read_numbers.ensures.records)))
+
+pub read_sibling-returns-then-len-before-clause-need : goal.read_sibling-returns-then-len-before-clause-need
+read_sibling-returns-then-len-before-clause-need t c = λ tree stands some low room.
+    let cache = c.args.source.now.counted.now in
+    let numbers = c.in_ok-numbers.numbers in
+    let read = sibling_read cache c.in_ok-numbers.numbers c.args.at c.args.ending.now tree (search rules) c.in_ok-numbers.ensures.stand
+    stands
+    some in
+    let below = read.node_read (omega (arith, c.if-character-eq0.false)) in
+    let down : Walked cache (get_or numbers 2 0) (get_or numbers 1 0) (get_or numbers 0 0 ∷ c.args.ending.now) 1
+    (plain_leaves c.args.rules.now.items) (plain_leaves c.read_siblings.new.rules.items) c.read_numbers.new.taking.records
+    c.read_siblings.new.taking.records =
+    rw (c.from.ensures, c.from-2.ensures, c.in_ok-grow.ensures.grown) at c.in_ok-read_siblings.ensures.walked in
+    let same = same_counts cache (get_or numbers 2 0) 0 below.stands.before down.tree below.below (down.ordered 0 (omega arith))
+    below.stands.ordered down.stand below.stands.stand (down.siblings ∙ sym below.siblings) in
+    absurd (some_leaves c.args.rules.now.items c.read_siblings.new.rules.items down.tree down.rules
+    (omega (arith, same.leaves, below.leaves))
+    (search rules))
+
+pub read_sibling-returns-clause-is_next : goal.read_sibling-returns-clause-is_next
+read_sibling-returns-clause-is_next t c = λ count.
+    let numbers = c.in_ok-numbers.numbers in
+    lower_before c.args.source.now.counted.now c.in_ok-numbers.numbers c.args.at count (get_or numbers 0 0) (search rules)
+    c.in_ok-numbers.ensures.stand (omega arith) (omega (arith, c.if-character-eq0.false))

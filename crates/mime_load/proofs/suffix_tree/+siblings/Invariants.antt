@@ -1,7 +1,7 @@
 use Rattle.std.proofs.Common.{◌≡◌, ◌+◌, ◌-◌, ◌*◌, ◌≤◌, length}
 use Rattle.mime_load.specs.Lent.{plain_leaves}
 use Rattle.mime_load.specs.Taking.{Pays}
-use Rattle.mime_load.specs.Walks.{Walked}
+use Rattle.mime_load.specs.Walks.{IsNext, Walked}
 use Rattle.mime_load.proofs.suffix_tree.+siblings.Given as goal
 
 abbrev pub decreases-read_sibling : goal.decreases-read_sibling
@@ -14,6 +14,7 @@ abbrev pub invariant-read_siblings-loop-done : goal.invariant-read_siblings-loop
 invariant-read_siblings-loop-done l = record {
   walked : Walked l.source.counted.now (l.first + 12 * (l.count - l.done)) l.done l.initial.ending l.next (plain_leaves l.initial.rules.items)
       (plain_leaves l.rules.items) l.initial.taking.records l.taking.records;
+  is_next : IsNext l.source.counted.now (l.first + 12 * (l.count - l.done)) l.done l.next;
   ending : l.ending ≡ l.initial.ending;
   some : 1 ≤ l.next;
   fits : l.next ≤ 256;
