@@ -6,3 +6,4 @@ pub mod CostLemmas
 pub mod LookUpLemmas
 pub mod StopLemmas
 pub mod IndexLemmas
+pub mod SpellingLemmas

@@ -4,4 +4,5 @@ pub mod FirstSections
 pub mod Findings
 pub mod FoundFronts
 pub mod Front
+pub mod MagicTexts
 pub mod TakenFronts

@@ -4,3 +4,4 @@ pub mod OpenFaults
 pub mod StepStops
 pub mod Cause
 pub mod PlacedFaults
+pub mod NoMemory

@@ -6,7 +6,7 @@ use Rattle.mime_base.specs.Format.Packed.{Packed}
 use Rattle.mime_base.specs.declared.meter.Meter.{Meter}
 use Rattle.mime_lookup.specs.Bounds.{KeepsBounds}
 use Rattle.mime_lookup.specs.Spelling.{SpellsPairs}
-use Rattle.mime_lookup.specs.StepFaults.{IsLookUpFault}
+use Rattle.mime_lookup.specs.StepFaults.{IsSubclassFault}
 use Rattle.mime_lookup.specs.declared.stopped.Cause.{Cause}
 use Rattle.mime_lookup.specs.declared.stopped.Cause.TheVariants as cause
 use Rattle.mime_lookup.specs.declared.stopped.Stopped.{Stopped}
@@ -14,10 +14,13 @@ use Rattle.mime_view.specs.Opening.{IsOpenFault, Opens}
 use Rattle.mime_view.specs.declared.fault.CacheFault.{CacheFault}
 use Rattle.mime_view.specs.declared.fault.CacheFault.TheVariants as fault
 
+-- the cache has such a fault, which is not that an allocation was refused
+abbrev pub IsOfCache : (CacheFault → Type 0) → Cause → Type 0
+IsOfCache IsFault stop = (e : CacheFault) × (stop ≡ cause.Cache e) × (e ≢ fault.OutOfMemory) × IsFault e
+
 -- an allocation was refused, or the cache has such a fault
 abbrev pub IsCaused : (CacheFault → Type 0) → Cause → Type 0
-IsCaused IsFault stop =
-    (stop ≡ cause.OutOfMemory) ⊎ ((e : CacheFault) × (stop ≡ cause.Cache e) × (e ≢ fault.OutOfMemory) × IsFault e)
+IsCaused IsFault stop = (stop ≡ cause.OutOfMemory) ⊎ IsOfCache IsFault stop
 
 -- When such a question stops, and why; `why` is the cause that its error says.
 pub record StopsAsking {X E : Type 0} (why : E → Cause) (c : List ℕ) (IsFault : CacheFault → Type 0)
@@ -38,7 +41,7 @@ SaysIsA says c kind base result = (b : PlainDatabase) → SpellsPairs c b → If
 
 -- when that question stops, and why: where the pairs of a packed database stand, only for memory
 abbrev pub StopsIsA : {X E : Type 0} → (E → Cause) → List ℕ → Result X E → Type 0
-StopsIsA why c result = StopsAsking why c (IsLookUpFault c) (λ b. SpellsPairs c b × Packed c b) result
+StopsIsA why c result = StopsAsking why c (IsSubclassFault c) (λ b. SpellsPairs c b × Packed c b) result
 
 -- whatever the bytes are, such a question keeps to the bounds of an empty name without content
 abbrev pub KeepsAsking : {X : Type 0} → (X → Meter) → List ℕ → Result X Stopped → Type 0

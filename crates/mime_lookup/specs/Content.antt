@@ -56,6 +56,11 @@ abbrev pub known_content : {R : Type 0} → (R → Option (List ℕ)) → Option
 known_content remaining None = Some None
 known_content remaining (Some reader) = option_map (λ bytes. Some bytes) (remaining reader)
 
+-- what the content may be, whatever is known of it: there is none where none is available, else it has some bytes
+abbrev pub MayBe : {R : Type 0} → Option R → Option (List ℕ) → Type 0
+MayBe None content = content ≡ None
+MayBe (Some reader) content = (bytes : List ℕ) × (content ≡ Some bytes)
+
 -- a reader stays, and its states before and after are so; of no reader another fact holds
 abbrev pub OfReader : {R : Type 0} → (R → R → Type 0) → Type 0 → Option R → Option R → Type 0
 OfReader IsSo Otherwise None None = Otherwise

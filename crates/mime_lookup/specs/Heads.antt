@@ -1,14 +1,14 @@
 -- Heads of lines of magic: bytes that stand in each window that equals a line's value.
-use Rattle.std.specs.Prelude.{◌≡◌, ℕ, ◌+◌, ◌<◌, ◌≤◌, false, List, [], ◌∷◌, length, map, get_or, Option, slice_index}
-use Rattle.std.specs.List.{flat_map}
+use Rattle.std.specs.Prelude.{◌≡◌, ℕ, ◌+◌, ◌<◌, ◌≤◌, false, List, [], ◌∷◌, length, get_or, Option, slice_index}
 use Rattle.mime_base.specs.Magic.Holds.{bytes_of_mask, equals_from, line_holds}
-use Rattle.mime_base.specs.Magic.{PlainLine, plain_matchlet}
-use Rattle.mime_base.specs.declared.magic.Section.{Section}
+use Rattle.mime_base.specs.Magic.{PlainLine, PlainMatchlet}
 use Rattle.mime_base.specs.declared.magic.host.Host.{Host}
-use Rattle.mime_base.specs.declared.magic.matchlet.Matchlet.{Matchlet}
+use Rattle.mime_lookup.specs.TopLines.{PlainTop}
 use Rattle.mime_lookup.specs.declared.indexed.line_head.LineHead.{LineHead}
-use Rattle.mime_lookup.specs.declared.indexed.top_line.TopLine.{TopLine}
-use Rattle.mime_view.specs.Heads.{AreBytes}
+
+-- each byte of a content is below 256
+abbrev pub AreBytes : List ℕ → Type 0
+AreBytes content = (place : ℕ) → slice_index content place < 256
 
 -- all bits of the bytes of a head count
 pub record KeepsBytes (mask : Option (List ℕ)) (skip : ℕ) : Type 0 where
@@ -38,26 +38,12 @@ IsHead head own = (content : List ℕ) (host : Host) → RefusesContent head con
     → equals_from own host content own.start own.range ≡ false
 
 -- so the line doesn't hold
-abbrev pub IsHeadOf : LineHead → Matchlet → Type 0
-IsHeadOf head line = (content : List ℕ) (host : Host) → RefusesContent head content
-    → line_holds (plain_matchlet line) content host ≡ false
+abbrev pub IsHeadOf : LineHead → PlainMatchlet → Type 0
+IsHeadOf head line = (content : List ℕ) (host : Host) → RefusesContent head content → line_holds line content host ≡ false
 
--- each line has its head, in their order
-abbrev pub AreLineHeads : List LineHead → List Matchlet → Type 0
+-- each line of indent 0 has its head, in their order
+abbrev pub AreLineHeads : List LineHead → List PlainTop → Type 0
 AreLineHeads [] [] = Unit {0}
-AreLineHeads [] (line ∷ lines) = ⊥
+AreLineHeads [] (top ∷ tops) = ⊥
 AreLineHeads (head ∷ heads) [] = ⊥
-AreLineHeads (head ∷ heads) (line ∷ lines) = IsHeadOf head line × AreLineHeads heads lines
-
--- a line of indent 0 with its section
-abbrev pub plain_top : TopLine → Section × Matchlet
-plain_top top = (top.section.now, top.line.now)
-
--- the lines of indent 0 of a section, each with it
-abbrev pub tops_of : Section → List (Section × Matchlet)
-tops_of section = map (λ line. (section, line)) section.lines.items
-
--- Each line of indent 0 is kept with its section, in their order, and has its head.
-pub record AreHeads (heads : List LineHead) (tops : List TopLine) (sections : List Section) : Type 0 where
-  pub headed : AreLineHeads heads (map (λ top. top.line.now) tops)
-  pub whole : map plain_top tops ≡ flat_map tops_of sections
+AreLineHeads (head ∷ heads) (top ∷ tops) = IsHeadOf head top.line × AreLineHeads heads tops

@@ -1,15 +1,24 @@
 -- What an index keeps of its database.
 use Rattle.std.specs.Prelude.{◌≡◌, ℕ, ◌<◌, List, map}
+use Rattle.std.specs.Borrow.{Bor}
 use Rattle.mime_base.specs.Database.{plain_database}
 use Rattle.mime_base.specs.Database.PlainPairs.{plain_pairs}
 use Rattle.mime_base.specs.Database.Subclass.{resolved}
 use Rattle.mime_base.specs.declared.database.Database.{Database}
+use Rattle.mime_base.specs.Magic.{PlainSection, plain_sections}
 use Rattle.mime_base.specs.declared.database.rule.GlobRule.{GlobRule}
+use Rattle.mime_base.specs.declared.magic.matchlet.Matchlet.{Matchlet}
+use Rattle.mime_load.specs.Lent.{plain_line}
+use Rattle.mime_load.specs.declared.line.LentLine.{LentLine}
 use Rattle.mime_lookup.specs.CheckingOrder.{read_limit}
-use Rattle.mime_lookup.specs.Heads.{AreHeads}
+use Rattle.mime_lookup.specs.Heads.{AreLineHeads}
 use Rattle.mime_lookup.specs.Places.{ArePlaced}
 use Rattle.mime_lookup.specs.Tables.{AreTables}
+use Rattle.mime_lookup.specs.TopLines.{PlainTop, lent_matchlet, plain_tops, top_lines}
 use Rattle.mime_lookup.specs.declared.indexed.heads.Heads.{Heads}
+use Rattle.mime_lookup.specs.declared.indexed.line_head.LineHead.{LineHead}
+use Rattle.mime_lookup.specs.declared.indexed.tables.Tables.{Tables}
+use Rattle.mime_lookup.specs.declared.indexed.top_line.TopLine.{TopLine}
 use Rattle.mime_lookup.specs.declared.places.PlacedPairs.{PlacedPairs}
 
 -- a rule whose type went one alias step
@@ -21,13 +30,22 @@ unaliased_rule aliases rule =
 pub record AreUnaliased (names : List GlobRule) (database : Database) : Type 0 where
   pub are : names ≡ map (unaliased_rule (plain_pairs database.aliases.items)) database.rules.items
 
+-- Each line of indent 0 has its head, and is found by its place and its byte, or is asked by itself.
+pub record AreFound (heads : List LineHead) (tables : Tables) (tops : List PlainTop) : Type 0 where
+  pub headed : AreLineHeads heads tops
+  pub tabled : AreTables tables heads 0
+
+-- an index of these sections of magic: it has their lines of indent 0, in their order, each with the type and the priority of its section
+abbrev pub IsMagicIndex : List (TopLine LentLine) → List PlainSection → Type 0
+IsMagicIndex tops sections = plain_tops plain_line tops ≡ top_lines sections
+
 -- the index of a database's rules, the places of its pairs, the heads of its lines, and how much of a content is read at most
-pub record IsIndexOf (database : Database) (names : List GlobRule) (pairs : PlacedPairs) (heads : Heads) (limit : ℕ) : Type 0 where
+pub record IsIndexOf (database : Database) (names : List GlobRule) (pairs : PlacedPairs) (heads : Heads (Bor Matchlet)) (limit : ℕ) : Type 0 where
   pub named : AreUnaliased names database
   pub placed : ArePlaced pairs
   pub aliases : pairs.aliases.pairs.now ≡ database.aliases.items
   pub parents : pairs.parents.pairs.now ≡ database.parents.items
-  pub headed : AreHeads heads.lines.items heads.tops.items database.sections.items
-  pub tabled : AreTables heads.tables heads.lines.items 0
+  pub found : AreFound heads.lines.items heads.tables (plain_tops lent_matchlet heads.tops.items)
+  pub whole : plain_tops lent_matchlet heads.tops.items ≡ top_lines (plain_sections database.sections.items)
   pub limits : limit ≡ read_limit (plain_database database)
   pub some : 0 < limit

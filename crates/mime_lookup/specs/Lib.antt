@@ -7,6 +7,8 @@ pub mod Places
 pub mod Script
 pub mod Reads
 pub mod Spelling
+pub mod SpelledOnce
+pub mod ReadBack
 pub mod Costs
 pub mod NameTypes
 pub mod Bounds
@@ -23,11 +25,15 @@ pub mod Steps
 pub mod Halves
 pub mod Fronts
 pub mod LookUps
+pub mod MagicOf
 pub mod Question
 pub mod Wanted
 pub mod NameAlone
 pub mod ContentAlone
+pub mod TopLines
 pub mod Heads
 pub mod Pairs
 pub mod Tables
 pub mod Indexed
+pub mod Paid
+pub mod Rows

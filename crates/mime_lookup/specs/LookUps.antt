@@ -1,5 +1,7 @@
 -- What a lookup over a cache promises: what it answers, when it stops, what it reads, and what it costs.
-use Rattle.std.specs.Prelude.{◌≡◌, ◌⊎◌, ℕ, ◌<◌, ◌≤◌, max, List, length, Option, None, Result, Ok, Err, IfErr, IfSome, IsErrAnd, OnOk}
+use Rattle.std.specs.Prelude.{◌≡◌, ◌⊎◌, ℕ, ◌<◌, ◌≤◌, true, max, List, length, Option, None, Result, Ok, Err}
+use Rattle.std.specs.Prelude.{IfErr, IfSome, IsErrAnd, OnOk}
+use Rattle.mime_base.specs.Cache.Bytes.{field}
 use Rattle.mime_base.specs.Database.{PlainDatabase}
 use Rattle.mime_base.specs.Database.Limits.{IsWithinLimits}
 use Rattle.mime_base.specs.Format.Packed.{Packed}
@@ -9,7 +11,7 @@ use Rattle.mime_base.specs.declared.meter.Meter.{Meter}
 use Rattle.mime_lookup.specs.Bounds.{KeepsBounds, near_max, stated_extent}
 use Rattle.mime_lookup.specs.Cached.{IsKind, IsStop}
 use Rattle.mime_lookup.specs.CheckingOrder.{Chooses, GlobsDecide, globs_suffice, read_of}
-use Rattle.mime_lookup.specs.Content.{Health, Tally, known_content}
+use Rattle.mime_lookup.specs.Content.{Health, MayBe, Tally, known_content}
 use Rattle.mime_lookup.specs.Reads.{AsksUnless, Reads}
 use Rattle.mime_lookup.specs.Spelling.{SpellsGlobs}
 use Rattle.mime_lookup.specs.Spent.{UsesUp}
@@ -21,6 +23,7 @@ use Rattle.mime_lookup.specs.declared.stopped.Cause.{Cause}
 use Rattle.mime_lookup.specs.declared.stopped.Cause.TheVariants as cause
 use Rattle.mime_lookup.specs.declared.stopped.Stopped.{Stopped}
 use Rattle.mime_view.specs.Hits.{near}
+use Rattle.mime_view.specs.Lists.{LiesHead}
 use Rattle.mime_view.specs.Opening.{IsOpenFault, Opens}
 use Rattle.mime_view.specs.declared.fault.CacheFault.{CacheFault}
 use Rattle.mime_view.specs.declared.fault.CacheFault.TheVariants.{Spent}
@@ -44,6 +47,11 @@ meter_in (Err stopped) = stopped.meter
 abbrev pub name_too_long : {X : Type 0} → Result X Stopped
 name_too_long = Err (record { cause = cause.NameTooLong; read = 0; meter = record { nodes = 0; bytes = 0 } })
 
+-- the order gives the type to the name and to some content, whatever is known of it
+abbrev pub ChoosesSome : {R : Type 0} → PlainDatabase → List ℕ → Option R → Host → Order → List ℕ → Type 0
+ChoosesSome b name reader host order kind =
+    (content : Option (List ℕ)) × MayBe reader content × Chooses b name content host order kind
+
 -- What a lookup by a database answers for a content that is known.
 pub record IsPlainAnswer (b : PlainDatabase) (name : List ℕ) (content : Option (List ℕ)) (host : Host) (order : Order)
     (answer : Answer) : Type 0 where
@@ -65,6 +73,9 @@ pub record AnswersLookUp {R : Type 0} (remaining : R → Option (List ℕ)) (c n
   -- Where enough of a database stands, it is the type that the order gives to the name and the content.
   pub chosen : (b : PlainDatabase) → Suffices c name order (content ≡ None) b →
       IfSome (known_content remaining content) (λ known. Chooses b name known host order kind)
+  -- Where the glob rules stand and suffice, it is the type that the order gives to the name and any content, known or not.
+  pub by_globs : (b : PlainDatabase) → SpellsGlobs c b → globs_suffice b name order ≡ true →
+      (any : Option (List ℕ)) → Chooses b name any host order kind
   -- Whatever the bytes are, it is a text of the cache, or a fixed type.
   pub allowed : IsKind c kind
 
@@ -78,8 +89,8 @@ pub record StopsLookUp {R : Type 0} (c name : List ℕ) (order : Order) (before 
   -- Where there is an answer they do open.
   pub opened : OnOk result (Opens c)
   -- For another name a read failed, memory was refused, or the header or another part of the cache shows the fault.
-  pub fault : length name ≤ 4096 → IfErr result (λ stopped. IsStop (IsLookUpFault c) stopped.cause)
-  -- It is spent only where what may be taken of the cache is used up.
+  pub fault : length name ≤ 4096 → IfErr result (λ stopped. IsStop (IsLookUpFault c name (before ≡ None)) stopped.cause)
+  -- It is spent only where more records were visited than a quarter of the cache's length, or, with content, a line of magic has a value.
   pub spent : IfErr result
       (λ stopped. stopped.cause ≡ cause.Cache Spent → UsesUp c (before ≡ None) stopped.meter.nodes)
   -- Where enough of a packed database stands, memory was refused, or a read failed and the globs didn't decide alone.
@@ -94,6 +105,10 @@ pub record ReadsLookUp {R X : Type 0} (remaining : R → Option (List ℕ)) (tal
   pub reader : Reads remaining tally health (max 128 (stated_extent c)) before after read result
   -- Where the glob rules stand, the reader is asked only if they don't suffice.
   pub asks : (b : PlainDatabase) → SpellsGlobs c b → AsksUnless health (globs_suffice b name order) before after result
+  -- Where they suffice, nothing is read.
+  pub unread : (b : PlainDatabase) → SpellsGlobs c b → globs_suffice b name order ≡ true → read ≡ 0
+  -- Nor is anything where the head of magic, which states the extent, does not lie in the cache.
+  pub head : 0 < read → LiesHead c (field c 0 6) 12
   -- For an answer over a database that the cache spells, as much is read as the order says.
   pub exact : (b : PlainDatabase) → IsWithinLimits b → Spells c b →
       OnOk result (IfSome (known_content remaining before) (λ known. read ≡ read_of b name known order))

@@ -11,7 +11,7 @@ use Rattle.mime_lookup.specs.CheckingOrder.{Chooses, GlobsDecide, globs_suffice}
 use Rattle.mime_lookup.specs.LookUps.{name_too_long}
 use Rattle.mime_lookup.specs.Spelling.{SpellsGlobs}
 use Rattle.mime_lookup.specs.Spent.{UsesUp}
-use Rattle.mime_lookup.specs.StepFaults.{IsLookUpFault}
+use Rattle.mime_lookup.specs.StepFaults.{IsNameFault}
 use Rattle.mime_lookup.specs.Steps.{Suffices}
 use Rattle.mime_lookup.specs.Wanted.{IsWanted, SufficesForWanted}
 use Rattle.mime_lookup.specs.declared.answer.NameAnswer.{NameAnswer}
@@ -47,8 +47,8 @@ pub record IsNameLookUp (c name : List ℕ) (order : Order) (result : Result Nam
   -- Where there is an answer they do open.
   pub opened : OnOk result (Opens c)
   -- For another name memory was refused, or the header or another part of the cache shows the fault.
-  pub fault : length name ≤ 4096 → IfErr result (λ stopped. IsCaused (IsLookUpFault c) stopped.cause)
-  -- It is spent only where what may be taken of the cache is used up.
+  pub fault : length name ≤ 4096 → IfErr result (λ stopped. IsCaused (IsNameFault c name) stopped.cause)
+  -- It is spent only where more records were visited than a quarter of the cache's length.
   pub spent : IfErr result (λ stopped. stopped.cause ≡ cause.Cache Spent → UsesUp c ⊤ stopped.meter.nodes)
   -- Where enough of a packed database stands, only memory is refused.
   pub need : (b : PlainDatabase) → SufficesForName c name order b → length c ≤ 268435456 → Packed c b → length name ≤ 4096 →

@@ -32,7 +32,7 @@ AnswersQuestion remaining c question content kind =
 -- why it stops: where enough stands and is afforded, for memory, or for a read if the globs do not decide the question alone
 abbrev pub StopsQuestion : {R : Type 0} → List ℕ → Question → Option R → Type 0 → (PlainDatabase → Type 0) → Cause → Type 0
 StopsQuestion c question content IsUsed IsAfforded stop =
-    Stops c IsUsed (λ b. Suffices c question.name.now question.order (content ≡ None) b × IsAfforded b)
+    Stops IsUsed (λ b. Suffices c question.name.now question.order (content ≡ None) b × IsAfforded b)
     (λ b. GlobsDecide b question.name.now question.order (content ≡ None) → ⊥) stop
 
 -- what it reads of the content for a question

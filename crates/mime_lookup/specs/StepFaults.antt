@@ -1,6 +1,8 @@
 -- Why a step of a lookup over a cache gives no answer, with the record or the text that shows it.
-use Rattle.std.specs.Prelude.{◌≡◌, ◌⊎◌, ℕ, ◌+◌, ◌<◌, List, length}
+use Rattle.std.specs.Prelude.{◌≡◌, ◌⊎◌, ℕ, ◌+◌, ◌<◌, max, List, length, take, Option, None, Some, ⊤}
 use Rattle.mime_base.specs.Cache.Bytes.{field}
+use Rattle.mime_base.specs.declared.magic.host.Host.{Host}
+use Rattle.mime_lookup.specs.Bounds.{stated_extent}
 use Rattle.mime_view.specs.Lists.{IsPairsFault}
 use Rattle.mime_view.specs.Magic.{IsMagicFault}
 use Rattle.mime_view.specs.NameHits.{IsHitsFault, lists_of}
@@ -22,9 +24,23 @@ IsGlobsFault c name after e = IsHitsFault c (lists_of c) name after e ⊎ IsAlia
 abbrev pub IsMagicHeadFault : List ℕ → CacheFault → Type 0
 IsMagicHeadFault c e = (length c < field c 0 6 + 12) × (e ≡ OutOfRange (field c 0 6))
 
--- of what a content is sniffed as: the head of magic, or its sections
-abbrev pub IsSniffFault : List ℕ → Budget → CacheFault → Type 0
-IsSniffFault c after e = IsMagicHeadFault c e ⊎ IsMagicFault c (field c 0 6) after e
+-- of what a front of a content is sniffed as: the magic list
+abbrev pub IsSniffFault : List ℕ → List ℕ → Host → Budget → CacheFault → Type 0
+IsSniffFault c front host after e = IsMagicFault c (field c 0 6) front host after e
+
+-- of what a front is sniffed as, where there is one
+abbrev pub IsFrontFault : List ℕ → Option (List ℕ) → Host → Budget → CacheFault → Type 0
+IsFrontFault c None host after e = ⊥
+IsFrontFault c (Some front) host after e = IsSniffFault c front host after e
+
+-- of a front by itself over an opened cache: an alias step, or what it is sniffed as
+abbrev pub IsSniffStepFault : List ℕ → List ℕ → Host → Budget → CacheFault → Type 0
+IsSniffStepFault c front host after e = IsAliasFault c e ⊎ IsSniffFault c front host after e
+
+-- of a content by itself: the header, or what comes of its front once that is open
+abbrev pub IsSniffingFault : List ℕ → List ℕ → Host → CacheFault → Type 0
+IsSniffingFault c content host e = IsOpenFault c e
+    ⊎ ((after : Budget) × IsSniffStepFault c (take (max 128 (stated_extent c)) content) host after e)
 
 -- the parents of some type are not given
 pub record IsSomeParentsFault (c : List ℕ) (after : Budget) (e : CacheFault) : Type 0 where
@@ -37,12 +53,30 @@ pub record IsSomeParentsFault (c : List ℕ) (after : Budget) (e : CacheFault) :
 abbrev pub IsSearchFault : List ℕ → Budget → CacheFault → Type 0
 IsSearchFault c after e = IsSomeParentsFault c after e ⊎ IsAliasFault c e ⊎ (e ≡ OutOfMemory)
 
--- of a lookup: its header, the types of a name, what the content is sniffed as, or a search for a subclass
-pub data IsLookUpFault (c : List ℕ) (e : CacheFault) : Type 0 where
-  of_header : IsOpenFault c e → IsLookUpFault c e
-  of_globs : (name : List ℕ) (after : Budget) → IsGlobsFault c name after e → IsLookUpFault c e
-  of_magic : (after : Budget) → IsSniffFault c after e → IsLookUpFault c e
-  of_search : (after : Budget) → IsSearchFault c after e → IsLookUpFault c e
+-- of a subclass: the header, or the search for it
+abbrev pub IsSubclassFault : List ℕ → CacheFault → Type 0
+IsSubclassFault c e = IsOpenFault c e ⊎ ((after : Budget) × IsSearchFault c after e)
+
+-- of the types of a name and the choice among them: the glob rules, an alias step, or a search for a subclass
+abbrev pub IsChoiceFault : List ℕ → List ℕ → Budget → CacheFault → Type 0
+IsChoiceFault c name after e = IsGlobsFault c name after e ⊎ IsSearchFault c after e
+
+-- of what a name leaves: the front, where there is one, or the types of the name and the choice among them
+abbrev pub IsRestFault : List ℕ → List ℕ → Option (List ℕ) → Host → Budget → CacheFault → Type 0
+IsRestFault c name front host after e = IsFrontFault c front host after e ⊎ IsChoiceFault c name after e
+
+-- of a lookup of a name: the header, the types of the name and the choice among them; where there is a content, also the extent, and what
+-- a front is sniffed as
+pub data IsLookUpFault (c name : List ℕ) (NoContent : Type 0) (e : CacheFault) : Type 0 where
+  of_header : IsOpenFault c e → IsLookUpFault c name NoContent e
+  of_choice : (after : Budget) → IsChoiceFault c name after e → IsLookUpFault c name NoContent e
+  of_head : (NoContent → ⊥) → IsMagicHeadFault c e → IsLookUpFault c name NoContent e
+  of_magic : (NoContent → ⊥) → (front : List ℕ) (host : Host) (after : Budget) → IsSniffFault c front host after e
+      → IsLookUpFault c name NoContent e
+
+-- of a lookup of a name alone: the extent, or what comes of a name without a content
+abbrev pub IsNameFault : List ℕ → List ℕ → CacheFault → Type 0
+IsNameFault c name e = IsMagicHeadFault c e ⊎ IsLookUpFault c name ⊤ e
 
 -- of icons: the header, an alias step, or one of the two lists
 abbrev pub IsIconFault : List ℕ → CacheFault → Type 0

@@ -5,11 +5,10 @@ use Rattle.mime_base.specs.Database.Limits.{IsWithinLimits}
 use Rattle.mime_base.specs.Format.Packed.{Packed, value_length}
 use Rattle.mime_base.specs.Format.Spells.{Spells}
 use Rattle.mime_lookup.specs.Affords.{magic_records}
-use Rattle.mime_lookup.specs.Cached.{IsStop, cause_of}
+use Rattle.mime_lookup.specs.Cached.{cause_of}
 use Rattle.mime_lookup.specs.CheckingOrder.{GlobsDecide}
 use Rattle.mime_lookup.specs.Spelling.{SpellsGlobs, SpellsMagic, SpellsPairs}
 use Rattle.mime_lookup.specs.Spent.{IsUsedUp}
-use Rattle.mime_lookup.specs.StepFaults.{IsLookUpFault}
 use Rattle.mime_lookup.specs.declared.order.Order.{Order}
 use Rattle.mime_lookup.specs.declared.stopped.Cause.{Cause}
 use Rattle.mime_lookup.specs.declared.stopped.Cause.TheVariants as cause
@@ -31,10 +30,8 @@ SufficesForContent c NoContent b = SpellsMagic c b ⊎ NoContent
 abbrev pub SufficesForChoice : List ℕ → List (List ℕ) → PlainDatabase → Type 0
 SufficesForChoice c kinds b = SpellsPairs c b ⊎ ((length kinds ≤ 1) × SpellsGlobs c b)
 
--- Why a step of a lookup stops.
-pub record Stops (c : List ℕ) (IsUsed : Type 0) (IsEnough IsRead : PlainDatabase → Type 0) (stop : Cause) : Type 0 where
-  -- A read failed, memory was refused, or a part of the cache shows the fault.
-  pub fault : IsStop (IsLookUpFault c) stop
+-- When a step of a lookup stops.
+pub record Stops (IsUsed : Type 0) (IsEnough IsRead : PlainDatabase → Type 0) (stop : Cause) : Type 0 where
   -- It is spent only where what may be taken of the cache is used up.
   pub spent : stop ≡ cause.Cache Spent → IsUsed
   -- Where enough of a database stands and is afforded, memory was refused, or a read failed where one is made.
@@ -43,7 +40,7 @@ pub record Stops (c : List ℕ) (IsUsed : Type 0) (IsEnough IsRead : PlainDataba
 -- why a step stops that reads nothing of the content: with this left of the budget, and for memory alone where enough stands
 abbrev pub StopsUnread : {X : Type 0} → List ℕ → Type 0 → Budget → (PlainDatabase → Type 0) → Result X CacheFault → Type 0
 StopsUnread c NoContent left IsEnough result =
-    IfErr result (λ e. Stops c (IsUsedUp c NoContent left) IsEnough (λ _. ⊥) (cause_of e))
+    IfErr result (λ e. Stops (IsUsedUp c NoContent left) IsEnough (λ _. ⊥) (cause_of e))
 
 -- why a step stops that sniffs a content: for memory alone where enough stands, and each record and value byte of magic is left
 abbrev pub StopsSniffing : {X : Type 0} → List ℕ → Type 0 → (PlainDatabase → Type 0) → Spending → Spending → Result X CacheFault → Type 0

@@ -1,11 +1,10 @@
 -- Lines of magic by the place and the byte that they look at first.
 use Rattle.std.specs.Prelude.{◌≡◌, ◌⊎◌, ℕ, zero, suc, ◌+◌, ◌-◌, ◌*◌, ◌<◌, ◌≤◌, true, false, List, Contains, length, slice_index, get_or}
 use Rattle.mime_base.specs.Magic.Holds.{line_holds}
-use Rattle.mime_base.specs.Magic.{plain_matchlet}
 use Rattle.mime_base.specs.declared.magic.host.Host.{Host}
+use Rattle.mime_lookup.specs.TopLines.{PlainTop}
 use Rattle.mime_lookup.specs.declared.indexed.line_head.LineHead.{LineHead}
 use Rattle.mime_lookup.specs.declared.indexed.tables.Tables.{Tables}
-use Rattle.mime_lookup.specs.declared.indexed.top_line.TopLine.{TopLine}
 
 -- from a line that is named on the next ones that are named lead to another line in that many steps, each after the one before
 -- it, and all after the first `low`
@@ -37,43 +36,43 @@ pub record AreTables (tables : Tables) (heads : List LineHead) (low : ℕ) : Typ
       → Contains tables.others.items line ⊎ IsFound tables low line head
 
 -- a line doesn't hold
-abbrev pub Fails : List TopLine → List ℕ → Host → ℕ → Type 0
+abbrev pub Fails : List PlainTop → List ℕ → Host → ℕ → Type 0
 Fails tops content host line =
-    (top : TopLine) → line < length tops → top ≡ get_or tops line top → line_holds (plain_matchlet top.line.now) content host ≡ false
+    (top : PlainTop) → line < length tops → top ≡ get_or tops line top → line_holds top.line content host ≡ false
 
 -- a line holds
-abbrev pub Holds : List TopLine → List ℕ → Host → ℕ → Type 0
+abbrev pub Holds : List PlainTop → List ℕ → Host → ℕ → Type 0
 Holds tops content host line =
-    (top : TopLine) → top ≡ get_or tops line top → line_holds (plain_matchlet top.line.now) content host ≡ true
+    (top : PlainTop) → top ≡ get_or tops line top → line_holds top.line content host ≡ true
 
 -- of the lines that a line leads to, itself and those after it, none before `until` holds
-abbrev pub ChainFails : List TopLine → List ℕ → Host → List ℕ → ℕ → ℕ → Type 0
+abbrev pub ChainFails : List PlainTop → List ℕ → Host → List ℕ → ℕ → ℕ → Type 0
 ChainFails tops content host nexts link until =
     (line steps : ℕ) → Leads steps nexts 0 link line → line < until → Fails tops content host line
 
 -- of the lines that a table names for the byte that stands at its place none before `until` holds
-abbrev pub TableFails : List TopLine → List ℕ → Host → Tables → ℕ → ℕ → Type 0
+abbrev pub TableFails : List PlainTop → List ℕ → Host → Tables → ℕ → ℕ → Type 0
 TableFails tops content host tables until table =
     slice_index tables.places.items table < length content
     → ChainFails tops content host tables.nexts.items
     (slice_index tables.firsts.items (table * 256 + slice_index content (slice_index tables.places.items table))) until
 
 -- so it is with the tables before this one
-abbrev pub TablesFail : List TopLine → List ℕ → Host → Tables → ℕ → ℕ → Type 0
+abbrev pub TablesFail : List PlainTop → List ℕ → Host → Tables → ℕ → ℕ → Type 0
 TablesFail tops content host tables until end = (table : ℕ) → table < end → TableFails tops content host tables until table
 
 -- of the lines asked by themselves, from this one on, none before `until` holds
-abbrev pub OthersFail : List TopLine → List ℕ → Host → List ℕ → ℕ → ℕ → Type 0
+abbrev pub OthersFail : List PlainTop → List ℕ → Host → List ℕ → ℕ → ℕ → Type 0
 OthersFail tops content host others until from =
     (i : ℕ) → from ≤ i → i < length others → slice_index others i < until → Fails tops content host (slice_index others i)
 
 -- A line that was found to hold is none after the one before it.
-pub record Narrows (tops : List TopLine) (content : List ℕ) (host : Host) (old new : ℕ) : Type 0 where
+pub record Narrows (tops : List PlainTop) (content : List ℕ) (host : Host) (old new : ℕ) : Type 0 where
   pub less : new ≤ old
   pub holds : new < old → Holds tops content host new
 
 -- No line before `first` holds, and that one does, if there is one.
-pub record IsFirst (tops : List TopLine) (content : List ℕ) (host : Host) (first : ℕ) : Type 0 where
+pub record IsFirst (tops : List PlainTop) (content : List ℕ) (host : Host) (first : ℕ) : Type 0 where
   pub within : first ≤ length tops
   pub before : (line : ℕ) → line < first → Fails tops content host line
   pub holds : first < length tops → Holds tops content host first

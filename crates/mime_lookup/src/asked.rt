@@ -3,7 +3,7 @@
 //! Whoever answers it says which database that is: `lists` tries every rule, line and pair of one, `indexed` looks
 //! where an index says. The order itself is in `checking`, and what a content is sniffed as in `sniff`.
 
-ghost use Rattle.std.specs.Prelude.{◌≡◌, ◌<◌, option_map, IfOk};
+ghost use Rattle.std.specs.Prelude.{◌≡◌, ◌<◌, IfOk};
 ghost use Rattle.std.specs.List.{All};
 ghost use Rattle.mime_base.specs.Database.{PlainDatabase, pairs_of};
 ghost use Rattle.mime_base.specs.Database.Subclass.{resolved};
@@ -12,8 +12,9 @@ ghost use Rattle.mime_base.specs.Magic.Holds.{first_magic};
 ghost use Rattle.mime_lookup.specs.Ancestry.{kinds_of};
 ghost use Rattle.mime_lookup.specs.CheckingOrder.{read_limit};
 ghost use Rattle.mime_lookup.specs.Choice.{IsFirst, candidates, kept};
+ghost use Rattle.mime_view.specs.Magic.{plain_found};
 
-use mime_base::{Host, Meter, OutOfMemory, Section};
+use mime_base::{Host, Meter, OutOfMemory};
 use std::alloc::Global;
 
 /// A database that the checking order asks.
@@ -47,11 +48,15 @@ pub trait Asked<'a> {
         // No record of a cache is visited.
         ensures nodes { meter.new.nodes ≡ meter.old.nodes };
 
-    /// The first section with a line of indent 0 that holds for a content.
-    fn first_section(&self, content: &[u8], host: Host, meter: &mut Meter) -> Option<&'a Section>
-        // It is the first section that holds.
-        ensures first { option_map (λ section. (section.now.kind, section.now.priority)) result
-            ≡ first_magic (plain self.now).sections content.now host }
+    /// The type and the priority of the first section with a line of indent 0 that holds for a content.
+    fn first_section(
+        &self,
+        content: &[u8],
+        host: Host,
+        meter: &mut Meter,
+    ) -> Option<(&'a [u8], u32)>
+        // They are those of the first section that holds.
+        ensures first { plain_found result ≡ first_magic (plain self.now).sections content.now host }
         // No record of a cache is visited.
         ensures nodes { meter.new.nodes ≡ meter.old.nodes };
 

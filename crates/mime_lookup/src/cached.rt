@@ -1,6 +1,7 @@
 //! Lookup over the bytes of a cache, whatever they are.
 
-ghost use Rattle.std.specs.Prelude.{◌≡◌, ◌+◌, ◌<◌, ◌≤◌, IfErr, IfOk, IfSome, MatchResult, None, OnOk, false, length, max, option_map};
+ghost use Rattle.std.specs.Prelude.{◌≡◌, ◌+◌, ◌<◌, ◌≤◌, IfErr, IfOk, None, OnOk, false, length, max, option_map};
+ghost use Rattle.mime_base.specs.Cache.Bytes.{field};
 ghost use Rattle.mime_base.specs.Database.{PlainDatabase};
 ghost use Rattle.mime_lookup.specs.Affords.{Affords};
 ghost use Rattle.mime_lookup.specs.Bounds.{stated_extent};
@@ -12,19 +13,24 @@ ghost use Rattle.mime_lookup.specs.Question.{AnswersQuestion, CostsQuestion, IsD
 ghost use Rattle.mime_lookup.specs.Reads.{AsksUnless, Reads};
 ghost use Rattle.mime_lookup.specs.Spelling.{SpellsGlobs};
 ghost use Rattle.mime_lookup.specs.Spent.{IsUsedUp, UsesUp};
+ghost use Rattle.mime_lookup.specs.Cached.{IsStop};
+ghost use Rattle.mime_lookup.specs.StepFaults.{IsLookUpFault, IsMagicHeadFault};
 ghost use Rattle.mime_lookup.specs.Steps.{IsPacked, Stops, SufficesForContent};
-ghost use Rattle.mime_base.specs.Meter.{raised};
 ghost use Rattle.mime_view.specs.Hits.{near};
-ghost use Rattle.mime_view.specs.Opening.{IsOpenFault, Opens};
+ghost use Rattle.mime_view.specs.Lists.{LiesHead};
 
+mod again;
 mod ancestry;
+mod below;
 mod by_content;
 mod by_name;
 mod by_name_alone;
 mod content_alone;
 mod icons;
-mod learnt;
-mod name_types;
+mod indexed_cache;
+mod magic_of;
+pub mod name_types;
+mod paid_cache;
 mod sniff;
 mod subclass;
 
@@ -37,12 +43,15 @@ use crate::order::Order;
 use crate::question::Question;
 use crate::reading::read_front;
 use crate::stopped::{Cause, Stopped};
-pub use by_name_alone::look_up_name;
-pub use content_alone::{SniffedContent, sniff_alone};
+pub use again::look_up_again;
+pub use below::is_below;
+pub use by_name_alone::{look_up_name, look_up_name_again};
+pub use content_alone::{SniffedContent, sniff_again, sniff_alone};
 pub use icons::{Icons, icon_of};
-pub use learnt::look_up_learnt;
+pub use indexed_cache::IndexedCache;
 use mime_base::{Counted, Host, Meter, TEXTUAL_FRONT};
-use mime_view::{Budget, Cache, CacheFault, MagicHeads, Spending};
+use mime_view::Spending;
+pub use paid_cache::PaidCache;
 use std::alloc::Global;
 pub use subclass::is_a;
 
@@ -92,97 +101,93 @@ pub fn look_up<'a, R: Content>(
         return Err(Stopped { cause, read, meter });
     }
     let question = Question { name, host, order };
-    match open_and_find(
-        alloc, cache, None, &question, content, &mut read, &mut meter,
-    ) {
+    match open_and_find(alloc, cache, &question, content, &mut read, &mut meter) {
         Ok(kind) => Ok(Answer { kind, read, meter }),
         Err(cause) => Err(Stopped { cause, read, meter }),
     }
 }
 
 /// The type of a name and a content by the bytes of a cache, and how many bytes of the content were read.
-// Part of each of its two callers: whether something was learnt is known there.
-#[inline(always)]
 #[tactic(auto, using(crate::proofs::StopLemmas::OpenFaults::opens_without_fault))]
 fn open_and_find<'a, R: Content>(
     alloc: Global,
     cache: Counted<'a>,
-    heads: Option<&'a MagicHeads<'a>>,
     question: &Question<'_>,
     content: &mut Option<R>,
     read: &mut u64,
     meter: &mut Meter,
 ) -> Result<&'a [u8], Cause>
-    requires heads { IfSome heads (λ it. it.now ≡ cache) }
     requires none { read.old ≡ 0 }
     requires fresh { meter.old ≡ record { nodes = 0; bytes = 0 } }
     ensures answers { IfOk result (λ kind. AnswersQuestion R.remaining cache.entry question.now content.old kind.now) }
     ensures opens { OpensFirst cache.entry result }
     ensures stops { IfErr result (StopsQuestion cache.entry question.now content.old
         (UsesUp cache.entry (content.old ≡ None) meter.new.nodes) (IsPacked cache.entry)) }
+    ensures fault { IfErr result (IsStop (IsLookUpFault cache.entry question.now.name.now (content.old ≡ None))) }
     ensures reads { ReadsQuestion R.remaining R.tally R.health cache.entry question.now
         content.old content.new read.new result }
     ensures costs { CostsQuestion cache.entry question.now content.old read.new meter.new result }
 {
-    let cache = open_known(cache, heads, meter)?;
-    let budget = Budget::of(&cache);
-    let mut spending = Spending {
-        meter: *meter,
-        budget,
-    };
-    let kind = find(alloc, &cache, question, content, read, &mut spending);
-    *meter = spending.meter;
-    kind
+    let indexed = IndexedCache::open(cache, meter)?;
+    find_opened(alloc, &indexed, question, content, read, meter)
 }
 
-/// Opens a cache, with what was learnt of it where that is there.
-// Always inlined, as its caller is.
-#[inline(always)]
-fn open_known<'a>(
-    cache: Counted<'a>,
-    heads: Option<&'a MagicHeads<'a>>,
+/// The same over an opened cache, whose header was counted.
+fn find_opened<'a, R: Content>(
+    alloc: Global,
+    indexed: &IndexedCache<'a>,
+    question: &Question<'_>,
+    content: &mut Option<R>,
+    read: &mut u64,
     meter: &mut Meter,
-) -> Result<Cache<'a>, CacheFault>
-    requires heads { IfSome heads (λ it. it.now ≡ cache) }
-    ensures opened { MatchResult result
-        (λ opened. (opened ≡ cache.entry) × Opens cache.entry) (IsOpenFault cache.entry) }
-    ensures counted { OnOk result (meter.new.nodes ≡ raised meter.old.nodes 1) }
-    ensures nodes { meter.new.nodes ≤ meter.old.nodes + 1 }
-    ensures rises { meter.old.nodes ≤ meter.new.nodes }
-    ensures bytes { meter.new.bytes ≡ meter.old.bytes }
+) -> Result<&'a [u8], Cause>
+    requires none { read.old ≡ 0 }
+    requires header { meter.old ≡ record { nodes = 1; bytes = 0 } }
+    ensures answers { IfOk result (λ kind. AnswersQuestion R.remaining indexed.now question.now content.old kind.now) }
+    ensures opens { OpensFirst indexed.now result }
+    ensures stops { IfErr result (StopsQuestion indexed.now question.now content.old
+        (UsesUp indexed.now (content.old ≡ None) meter.new.nodes) (IsPacked indexed.now)) }
+    ensures fault { IfErr result (IsStop (IsLookUpFault indexed.now question.now.name.now (content.old ≡ None))) }
+    ensures reads { ReadsQuestion R.remaining R.tally R.health indexed.now question.now
+        content.old content.new read.new result }
+    ensures costs { CostsQuestion indexed.now question.now content.old read.new meter.new result }
 {
-    match heads {
-        Some(heads) => Cache::open_learnt(heads, meter),
-        None => Cache::open(cache, meter),
-    }
+    let mut spending = Spending {
+        meter: *meter,
+        budget: indexed.budget(),
+    };
+    let kind = find(alloc, indexed, question, content, read, &mut spending);
+    *meter = spending.meter;
+    kind
 }
 
 /// The lookup over an opened cache: the name, and where that leaves a choice the front of the content.
 fn find<'a, R: Content>(
     alloc: Global,
-    cache: &Cache<'a>,
+    indexed: &IndexedCache<'a>,
     question: &Question<'_>,
     content: &mut Option<R>,
     read: &mut u64,
     spending: &mut Spending,
 ) -> Result<&'a [u8], Cause>
     requires none { read.old ≡ 0 }
-    ensures answers { IfOk result (λ kind. AnswersQuestion R.remaining cache.now question.now content.old kind.now) }
-    ensures stops { IfErr result (StopsQuestion cache.now question.now content.old
-        (IsUsedUp cache.now (content.old ≡ None) spending.new.budget) (λ b. Affords b spending.old.budget)) }
-    ensures reads { ReadsQuestion R.remaining R.tally R.health cache.now question.now
+    ensures answers { IfOk result (λ kind. AnswersQuestion R.remaining indexed.now question.now content.old kind.now) }
+    ensures stops { IfErr result (StopsQuestion indexed.now question.now content.old
+        (IsUsedUp indexed.now (content.old ≡ None) spending.new.budget) (λ b. Affords b spending.old.budget)) }
+    ensures fault { IfErr result (IsStop (IsLookUpFault indexed.now question.now.name.now (content.old ≡ None))) }
+    ensures reads { ReadsQuestion R.remaining R.tally R.health indexed.now question.now
         content.old content.new read.new result }
-    ensures near { (b : PlainDatabase) → SpellsGlobs cache.now b → IsDecided b question.now (content.old ≡ None)
+    ensures near { (b : PlainDatabase) → SpellsGlobs indexed.now b → IsDecided b question.now (content.old ≡ None)
         → OnOk result (spending.new.meter.nodes < spending.old.meter.nodes + near_most b question.now) }
     ensures cost { CostsSearch (length question.now.name.now) (read.new + 1) 31 spending.old spending.new }
 {
-    let given = by_name(alloc, cache, question, spending)?;
+    let given = by_name(alloc, indexed, question, content.is_some(), spending)?;
     match given {
         NameDecision::Decided(kind) => Ok(kind),
         NameDecision::Left(candidates) => {
-            let front = read_content(alloc, cache, content, read, spending)?;
+            let front = read_content(alloc, indexed, content, read, spending)?;
             let front = front.as_deref();
-            let kind = by_content(alloc, cache, question, candidates, front, spending)?;
+            let kind = by_content(alloc, indexed, question, candidates, front, spending)?;
             Ok(kind)
         }
     }
@@ -191,25 +196,27 @@ fn find<'a, R: Content>(
 /// The front of a content that is wanted: as much as the cache says that magic can look at, and at least 128 bytes.
 fn read_content<R: Content>(
     alloc: Global,
-    cache: &Cache<'_>,
+    indexed: &IndexedCache<'_>,
     content: &mut Option<R>,
     read: &mut u64,
     spending: &mut Spending,
 ) -> Result<Option<Vec<u8>>, Cause>
     requires none { read.old ≡ 0 }
-    ensures front { IfOk result (λ front. ReadsFront R.remaining cache.now content.old read.new
+    ensures front { IfOk result (λ front. ReadsFront R.remaining indexed.now content.old read.new
         (option_map (λ bytes. bytes.items) front)) }
-    ensures stops { IfErr result (Stops cache.now ⊥ (SufficesForContent cache.now (content.old ≡ None))
+    ensures stops { IfErr result (Stops ⊥ (SufficesForContent indexed.now (content.old ≡ None))
         (λ _. content.old ≡ None → ⊥)) }
-    ensures reader { Reads R.remaining R.tally R.health (max 128 (stated_extent cache.now)) content.old content.new read.new result }
+    ensures fault { IfErr result (IsStop (λ e. (content.old ≡ None → ⊥) × IsMagicHeadFault indexed.now e)) }
+    ensures reader { Reads R.remaining R.tally R.health (max 128 (stated_extent indexed.now)) content.old content.new read.new result }
     ensures asks { AsksUnless R.health false content.old content.new result }
+    ensures head { 0 < read.new → LiesHead indexed.now (field indexed.now 0 6) 12 }
     ensures nothing { content.old ≡ None → spending.new ≡ spending.old }
     ensures cost { LooksAt 1 spending.old spending.new }
 {
     let Some(reader) = content else {
         return Ok(None);
     };
-    let extent = cache.extent(&mut spending.meter, &mut spending.budget)?;
+    let extent = indexed.extent(&mut spending.meter, &mut spending.budget)?;
     let limit = TEXTUAL_FRONT.max(extent) as usize;
     let front = read_front(alloc, reader, limit, read)?;
     Ok(Some(front))

@@ -12,7 +12,7 @@ ghost use Rattle.mime_lookup.specs.CheckingOrder.{IsSniffed, are_one_type, asked
 ghost use Rattle.mime_lookup.specs.CheckingOrder.{has_magic, read_limit, types_before};
 ghost use Rattle.mime_lookup.specs.Choice.{ChoosesAmong};
 ghost use Rattle.mime_lookup.specs.Content.{known_content};
-ghost use Rattle.mime_lookup.specs.LookUps.{IsPlainAnswer, cause_in, meter_in, name_too_long, read_in};
+ghost use Rattle.mime_lookup.specs.LookUps.{ChoosesSome, IsPlainAnswer, cause_in, meter_in, name_too_long, read_in};
 ghost use Rattle.mime_lookup.specs.Question.{ChoosesFor, ReadsFor};
 ghost use Rattle.mime_lookup.specs.Reads.{AsksUnless, IsReadOrMemory, Reads};
 
@@ -40,6 +40,9 @@ pub fn look_up_over<'a, A: Asked<'a>, R: Content>(
     // The type is the one that the checking order gives to the name and the whole content, of which it reads as much as it says.
     ensures answers { IfOk result (λ answer. IfSome (known_content R.remaining content.old)
         (λ known. IsPlainAnswer (A.plain database.now) name.now known host order answer)) }
+    // Whatever is known of the content, the order gives the type to the name and to some content.
+    ensures some { IfOk result (λ answer.
+        ChoosesSome (A.plain database.now) name.now content.old host order answer.kind.now) }
     // A name of more than 4,096 bytes is too long, before anything else.
     ensures too_long { 4096 < length name.now → (content.new ≡ content.old) × (result ≡ name_too_long) }
     // For another name it stops only for a read or for memory, so never for a cache.
@@ -79,6 +82,9 @@ fn kind_of<'a, A: Asked<'a>, R: Content>(
     requires none { read.old ≡ 0 }
     // The type is the one that the checking order gives to the name and the whole content, where that is known.
     ensures chosen { ChoosesFor R.remaining (A.plain database.now) question.now content.old result }
+    // Whatever is known of the content, the order gives the type to the name and to some content.
+    ensures some { IfOk result (λ kind. ChoosesSome (A.plain database.now) question.now.name.now content.old
+        question.now.host question.now.order kind.now) }
     // It reads as much of it as the order says.
     ensures read { ReadsFor R.remaining (A.plain database.now) question.now content.old read.new result }
     // It stops only for a read or for memory.

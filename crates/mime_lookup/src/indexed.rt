@@ -10,6 +10,8 @@ pub mod kept;
 pub mod line_head;
 pub mod line_search;
 pub mod look_up;
+pub mod magic_index;
+pub mod magic_line;
 pub mod noted_pairs;
 pub mod rules;
 pub mod sniff;
@@ -21,9 +23,10 @@ ghost use Rattle.std.specs.Prelude.{◌≡◌, IfOk};
 
 use crate::indexed::heads::{Heads, heads_of};
 use crate::indexed::rules::lent_rules;
+use crate::indexed::top_line::tops_of;
 use crate::lists::front_limit;
 use crate::places::{PlacedPairs, places_of};
-use mime_base::{Database, OutOfMemory, database_keeps_limits};
+use mime_base::{Database, Matchlet, OutOfMemory, database_keeps_limits};
 use mime_names::NameIndex;
 use std::alloc::Global;
 use std::marker::Model;
@@ -42,8 +45,8 @@ pub struct IndexedDatabase<'a> {
     names: NameIndex<'a>,
     /// The places of its aliases and of its subclass pairs.
     pairs: PlacedPairs<'a>,
-    /// The heads of the top lines of its sections.
-    heads: Heads<'a>,
+    /// The top lines of its sections with their heads.
+    heads: Heads<'a, &'a Matchlet>,
     /// How much of a content is read at most.
     limit: usize,
 }
@@ -74,7 +77,8 @@ impl<'a> IndexedDatabase<'a> {
         database_keeps_limits(database);
         let rules = lent_rules(alloc, &database.rules, &aliases)?;
         let names = NameIndex::new(alloc, &rules)?;
-        let heads = heads_of(alloc, &database.sections)?;
+        let tops = tops_of(alloc, &database.sections)?;
+        let heads = heads_of(alloc, tops)?;
         Ok(IndexedDatabase {
             database,
             names,

@@ -11,9 +11,12 @@
 //! type that it answers is the one that the definition of the checking order gives to the name and the
 //! whole content, of which it reads no more than magic can look at; [`Content`] is what it reads from,
 //! and may tell whether its reads can fail. [`look_up_name`] is a lookup without a content, which says too how much of
-//! one would be read. [`is_a`] and [`icon_of`] go by the same bytes. [`look_up_learnt`] is the lookup for many names and contents.
+//! one would be read. [`is_a`] and [`icon_of`] go by the same bytes. [`look_up_again`] is the lookup for
+//! many names and contents, over an [`IndexedCache`], and so are [`look_up_name_again`] and [`sniff_again`]. A
+//! [`PaidCache`] is read back once its answers have paid for that.
 //! [`look_up_plain`] answers the same by trying every rule, line and pair of a database, and [`look_up_indexed`] and
-//! [`is_a_indexed`] by an [`IndexedDatabase`] that is made of one for many questions.
+//! [`is_a_indexed`] by an [`IndexedDatabase`] that is made of one for many questions. A [`MagicIndex`] is made of the magic
+//! that was read back from a cache.
 //!
 //! Read `cached` first, which has the two halves of a lookup: `cached::by_name`, what a name gives by
 //! itself, and `cached::by_content`, what a front of the content then gives. Then what these take in
@@ -41,6 +44,7 @@ mod pairs;
 mod places;
 mod question;
 mod queue;
+mod read_back;
 mod reading;
 mod script;
 mod sniff;
@@ -49,15 +53,18 @@ mod subclass;
 
 pub use answer::{Answer, NameAnswer};
 pub use cached::{
-    Icons, SniffedContent, icon_of, is_a, look_up, look_up_learnt, look_up_name, sniff_alone,
+    Icons, IndexedCache, PaidCache, SniffedContent, icon_of, is_a, is_below, look_up,
+    look_up_again, look_up_name, look_up_name_again, sniff_again, sniff_alone,
 };
 pub use content::{Content, ReadFault, Untold};
 pub use indexed::IndexedDatabase;
 pub use indexed::look_up::look_up_indexed;
+pub use indexed::magic_index::MagicIndex;
 pub use indexed::subclass::is_a_indexed;
 pub use limits::LONGEST_NAME;
 pub use lists::look_up_plain;
 pub use order::Order;
+pub use reading::read_front;
 pub use script::{Script, Step};
-pub use sniff::front_is_enough;
+pub use sniff::{HIGH_PRIORITY, by_bytes, front_is_enough};
 pub use stopped::{Cause, Stopped};

@@ -1,13 +1,14 @@
 //! Lookup by trying every rule, line and pair of a database.
 
-ghost use Rattle.std.specs.Prelude.{◌≡◌, ◌<◌, ◌≤◌, length, option_map, IfErr, IfOk, IfSome};
+ghost use Rattle.std.specs.Prelude.{◌≡◌, ◌<◌, ◌≤◌, length, IfErr, IfOk, IfSome};
 ghost use Rattle.mime_base.specs.Database.{plain_database};
 ghost use Rattle.mime_base.specs.Magic.Holds.{first_magic};
 ghost use Rattle.mime_base.specs.Magic.{plain_sections};
 ghost use Rattle.mime_lookup.specs.CheckingOrder.{globs_suffice, read_limit};
 ghost use Rattle.mime_lookup.specs.Content.{known_content};
-ghost use Rattle.mime_lookup.specs.LookUps.{IsPlainAnswer, cause_in, meter_in, name_too_long, read_in};
+ghost use Rattle.mime_lookup.specs.LookUps.{ChoosesSome, IsPlainAnswer, cause_in, meter_in, name_too_long, read_in};
 ghost use Rattle.mime_lookup.specs.Reads.{AsksUnless, IsReadOrMemory, Reads};
+ghost use Rattle.mime_view.specs.Magic.{plain_found};
 
 use crate::ancestry::first_of;
 use crate::answer::Answer;
@@ -46,6 +47,9 @@ pub fn look_up_plain<'a, R: Content>(
     // The type is the one that the checking order gives to the name and the whole content, of which it reads as much as it says.
     ensures answers { IfOk result (λ answer. IfSome (known_content R.remaining content.old)
         (λ known. IsPlainAnswer (plain_database database.entry.now) name.now known host order answer)) }
+    // Whatever is known of the content, the order gives the type to the name and to some content.
+    ensures some { IfOk result (λ answer.
+        ChoosesSome (plain_database database.entry.now) name.now content.old host order answer.kind.now) }
     // A name of more than 4,096 bytes is too long, before anything else.
     ensures too_long { 4096 < length name.now → (content.new ≡ content.old) × (result ≡ name_too_long) }
     // For another name it stops only for a read or for memory, so never for a cache.
@@ -96,7 +100,12 @@ impl<'a> Asked<'a> for Lists<'a> {
         Ok(kinds)
     }
 
-    fn first_section(&self, content: &[u8], host: Host, meter: &mut Meter) -> Option<&'a Section> {
+    fn first_section(
+        &self,
+        content: &[u8],
+        host: Host,
+        meter: &mut Meter,
+    ) -> Option<(&'a [u8], u32)> {
         first_section(&self.database.sections, content, host, meter)
     }
 
@@ -124,20 +133,19 @@ impl<'a> Asked<'a> for Lists<'a> {
     }
 }
 
-/// The first section with a line of indent 0 that holds.
+/// The type and the priority of the first section with a line of indent 0 that holds.
 fn first_section<'a>(
     sections: &'a [Section],
     content: &[u8],
     host: Host,
     meter: &mut Meter,
-) -> Option<&'a Section>
-    ensures first { option_map (λ section. (section.now.kind, section.now.priority)) result
-        ≡ first_magic (plain_sections sections.entry.now) content.now host }
+) -> Option<(&'a [u8], u32)>
+    ensures first { plain_found result ≡ first_magic (plain_sections sections.entry.now) content.now host }
     ensures nodes { meter.new.nodes ≡ meter.old.nodes }
 {
     for section in sections {
         if some_line_matches(&section.lines, content, host, meter) {
-            return Some(section);
+            return Some((section.kind.bytes(), section.priority));
         }
     }
     None

@@ -29,6 +29,7 @@ pub fn read_front<R: Content>(
     limit: usize,
     read: &mut u64,
 ) -> Result<Vec<u8>, Cause>
+    // Nothing was read.
     requires none { read.old ≡ 0 }
     // The front is what the reader gave, and as many bytes as were read.
     ensures front { IfOk result (λ front.

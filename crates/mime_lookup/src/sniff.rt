@@ -1,8 +1,8 @@
 //! What a content is sniffed as ("Recommended checking order").
 
-ghost use Rattle.std.specs.Prelude.{◌≡◌, false, IfErr, IfOk, IfSome, OnOk, Some};
+ghost use Rattle.std.specs.Prelude.{◌≡◌, ℕ, false, List, Option, IfErr, IfOk, IfSome, OnOk, Some};
 ghost use Rattle.mime_lookup.specs.CheckingOrder.{IsSniffed, front_size, read_limit};
-ghost use Rattle.mime_lookup.specs.Content.{known_content};
+ghost use Rattle.mime_lookup.specs.Content.{MayBe, known_content};
 ghost use Rattle.mime_lookup.specs.Reads.{AsksUnless, IsReadOrMemory, Reads};
 ghost use Rattle.mime_lookup.specs.Sniffing.{FrontIsEnough, sniffed_by_bytes};
 
@@ -51,6 +51,9 @@ pub fn sniff_content<'a, A: Asked<'a>, R: Content>(
     // It is what the content is sniffed as.
     ensures sniffed { IfOk result (λ found. IfSome (known_content R.remaining content.old)
         (λ known. IsSniffed (A.plain database.now) known host found)) }
+    // Whatever is known of the content, it is what some content is sniffed as.
+    ensures some { IfOk result (λ found. (some : Option (List ℕ)) × MayBe content.old some
+        × IsSniffed (A.plain database.now) some host found) }
     // As much is read as magic can look at.
     ensures read { OnOk result (IfSome (known_content R.remaining content.old)
         (λ known. read.new ≡ front_size (A.plain database.now) known)) }
@@ -93,9 +96,9 @@ fn sniff<'a, A: Asked<'a>>(
     ensures nodes { meter.new.nodes ≡ meter.old.nodes }
 {
     match database.first_section(content, host, meter) {
-        Some(section) => Sniffed {
-            kind: database.unalias(section.kind.bytes()),
-            is_high: section.priority >= HIGH_PRIORITY,
+        Some((kind, priority)) => Sniffed {
+            kind: database.unalias(kind),
+            is_high: priority >= HIGH_PRIORITY,
             by_magic: true,
         },
         None => Sniffed {

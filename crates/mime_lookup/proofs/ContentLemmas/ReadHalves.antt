@@ -1,7 +1,8 @@
 -- What a lookup in two halves reads, by where it ends.
-use Rattle.std.proofs.Common.{◌≡◌, ℕ, max, List, Option, Result, Ok, Err}
+use Rattle.std.proofs.Common.{◌≡◌, ◌∙◌, ℕ, ◌<◌, max, List, Option, Result, Ok, Err, arith, sym, true≢false}
 use Rattle.std.specs.Prelude.{IsErrAnd, false}
 use denote.Bor.{Bor}
+use Rattle.mime_base.specs.Cache.Bytes.{field}
 use Rattle.mime_base.specs.Database.{PlainDatabase}
 use Rattle.mime_lookup.specs.Bounds.{stated_extent}
 use Rattle.mime_lookup.specs.Cached.{cause_of}
@@ -21,6 +22,7 @@ use Rattle.mime_lookup.proofs.ContentLemmas.Reads.{asks_left, asks_nothing, asks
 use Rattle.mime_lookup.proofs.ContentLemmas.Reads.{reads_stopped}
 use Rattle.mime_lookup.proofs.LookUpLemmas.SpelledParts.{spelled_globs, spelled_magic}
 use Rattle.mime_lookup.proofs.StopLemmas.StepStops.{no_read_fault, not_ok, passed_on}
+use Rattle.mime_view.specs.Lists.{LiesHead}
 use Rattle.mime_view.specs.declared.fault.CacheFault.{CacheFault}
 
 module _ {R : Type 0} (remaining : R → Option (List ℕ)) (tally : R → Option Tally) (health : R → Health) (c name : List ℕ)
@@ -33,18 +35,24 @@ module _ {R : Type 0} (remaining : R → Option (List ℕ)) (tally : R → Optio
     reads_early content read e result passed none = record {
       reader = no_read remaining tally health (max 128 (stated_extent c)) content read (cause_of e) result passed (no_read_fault e) none;
       asks = λ b globs. not_asked health _ content content (cause_of e) result passed (no_read_fault e);
+      unread = λ b globs suffice. none;
+      head = λ some. absurd (omega (arith, some, none));
       exact = λ b within spells. not_ok _ _ result passed;
     }
 
     -- and after it
-    pub reads_late : {X Y : Type 0} (before after : Option R) (read : ℕ) (x : X) (e : CacheFault) (result : Result Y Cause)
-        → IsErrAnd result (λ passed. passed ≡ cause_of e)
+    pub reads_late : {X Y : Type 0} (candidates : Candidates)
+        (gives : (b : PlainDatabase) → SpellsGlobs c b → Decides b name order (Left candidates)) (before after : Option R) (read : ℕ)
+        (x : X) (e : CacheFault) (result : Result Y Cause)
+        → IsErrAnd result (λ passed. passed ≡ cause_of e) → (0 < read → LiesHead c (field c 0 6) 12)
         → Reads remaining tally health (max 128 (stated_extent c)) before after read (Ok x)
         → ReadsLookUp remaining tally health c name order before after read result
-    reads_late before after read x e result passed is = record {
+    reads_late candidates gives before after read x e result passed head is = record {
       reader = reads_onward remaining tally health (max 128 (stated_extent c)) before after read x is result
           (passed_on (λ cause. cause ≡ Read → ⊥) (cause_of e) result passed (no_read_fault e));
       asks = λ b globs. not_asked health _ before after (cause_of e) result passed (no_read_fault e);
+      unread = λ b globs suffice. absurd (true≢false (sym suffice ∙ (gives b globs).0));
+      head = head;
       exact = λ b within spells. not_ok _ _ result passed;
     }
 
@@ -55,6 +63,8 @@ module _ {R : Type 0} (remaining : R → Option (List ℕ)) (tally : R → Optio
     reads_decided content read kind none gives = record {
       reader = reads_nothing remaining tally health (max 128 (stated_extent c)) content read kind none;
       asks = λ b globs. asks_nothing health _ content kind (gives b globs).0;
+      unread = λ b globs suffice. none;
+      head = λ some. absurd (omega (arith, some, none));
       exact = λ b within spells.
           none_read b name order (known_content remaining content) read none (gives b (spelled_globs c b within spells)).0;
     }
@@ -64,11 +74,13 @@ module _ {R : Type 0} (remaining : R → Option (List ℕ)) (tally : R → Optio
       pub reads_refused : {X Y : Type 0} (before after : Option R) (read : ℕ) (stop : Cause) (result : Result Y Cause)
           → IsErrAnd result (λ passed. passed ≡ stop)
           → Reads {X = X} remaining tally health (max 128 (stated_extent c)) before after read (Err stop)
-          → AsksUnless {X = X} health false before after (Err stop)
+          → AsksUnless {X = X} health false before after (Err stop) → (0 < read → LiesHead c (field c 0 6) 12)
           → ReadsLookUp remaining tally health c name order before after read result
-      reads_refused before after read stop result passed is asked = record {
+      reads_refused before after read stop result passed is asked head = record {
         reader = reads_stopped remaining tally health (max 128 (stated_extent c)) before after read stop result passed is;
         asks = λ b globs. asks_stopped health _ before after stop result (gives b globs).0 passed asked;
+        unread = λ b globs suffice. absurd (true≢false (sym suffice ∙ (gives b globs).0));
+        head = head;
         exact = λ b within spells. not_ok _ _ result passed;
       }
 
@@ -76,10 +88,12 @@ module _ {R : Type 0} (remaining : R → Option (List ℕ)) (tally : R → Optio
       pub reads_chosen : {X Y : Type 0} (before after : Option R) (read : ℕ) (x : X) (front : Option (List ℕ)) (y : Y)
           → Reads remaining tally health (max 128 (stated_extent c)) before after read (Ok x)
           → AsksUnless health false before after (Ok x) → ReadsFront remaining c before read front
-          → ReadsLookUp remaining tally health c name order before after read (Ok y)
-      reads_chosen before after read x front y is asked reads = record {
+          → (0 < read → LiesHead c (field c 0 6) 12) → ReadsLookUp remaining tally health c name order before after read (Ok y)
+      reads_chosen before after read x front y is asked reads head = record {
         reader = reads_onward remaining tally health (max 128 (stated_extent c)) before after read x is (Ok y) tt;
         asks = λ b globs. asks_left health _ before after x y (gives b globs).0 asked;
+        unread = λ b globs suffice. absurd (true≢false (sym suffice ∙ (gives b globs).0));
+        head = head;
         exact = λ b within spells.
             read_front remaining c name before order candidates b (gives b (spelled_globs c b within spells)) read front reads
             (spelled_magic c b within spells);

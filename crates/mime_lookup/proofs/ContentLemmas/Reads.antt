@@ -2,10 +2,15 @@
 use Rattle.std.proofs.Common.{◌≡◌, ℕ, ◌+◌, Bool, true, false, List, [], Option, None, Some, Result, Ok, Err}
 use Rattle.std.proofs.Common.{refl, sym, subst, ap, ◌∙◌, arith}
 use Rattle.std.specs.Prelude.{IfErr, IsErrAnd}
-use Rattle.mime_lookup.specs.Content.{Advances, Health, Interrupts, Tally}
+use Rattle.mime_lookup.specs.Content.{Advances, Health, Interrupts, MayBe, Tally}
 use Rattle.mime_lookup.specs.Reads.{AsksUnless, Reads}
 use Rattle.mime_lookup.specs.declared.stopped.Cause.{Cause}
 use Rattle.mime_lookup.specs.declared.stopped.Cause.TheVariants.{Read}
+
+-- there is something that the content may be
+pub some_content : {R : Type 0} (reader : Option R) → (content : Option (List ℕ)) × MayBe reader content
+some_content None = (None, refl)
+some_content (Some reader) = (Some [], ([], refl))
 
 -- no read was interrupted
 interrupts-none : (tally : Option Tally) → Interrupts tally tally 0

@@ -2,11 +2,12 @@
 use Rattle.std.proofs.Common.{◌≡◌, ◌∙◌, ◌⊎◌, ℕ, ◌+◌, ◌*◌, ◌/◌, ◌<◌, ◌≤◌, false, List, length, inl, inr, sym, arith}
 use Rattle.mime_base.specs.Cache.Bytes.{field}
 use Rattle.mime_base.specs.Matching.Folding.{compared}
+use Rattle.mime_base.specs.declared.magic.host.Host.{Host}
 use Rattle.mime_lookup.specs.Costs.{Costs}
 use Rattle.mime_lookup.specs.Spent.{IsUsedUp, UsesUp}
 use Rattle.mime_lookup.specs.StepFaults.{IsAliasFault, IsGlobsFault, IsSearchFault, IsSniffFault}
 use Rattle.mime_lookup.proofs.StopLemmas.PlacedFaults.{no_alias, no_keys, no_list, no_memory, no_named, no_place, no_text, no_tree}
-use Rattle.mime_view.specs.Magic.{IsMagicFault, IsMagicLine, IsOwnFault, IsSectionFault}
+use Rattle.mime_view.specs.Magic.{IsMagicLine, IsOwnFault, IsSectionFault}
 use Rattle.mime_view.specs.Parents.{IsParentsFault, IsTextsFault, parents_at}
 use Rattle.mime_view.specs.declared.budget.Budget.{Budget}
 use Rattle.mime_view.specs.declared.fault.CacheFault.{CacheFault}
@@ -48,21 +49,21 @@ choice_spent c left e (inr (inr (inl alias))) same = absurd (no_alias c e alias 
 choice_spent c left e (inr (inr (inr memory))) same = absurd (no_memory e memory same)
 
 -- magic does where no record is left, or fewer value bytes than a line states
-module _ (c : List ℕ) (left : Budget) (NoContent : Type 0) (content : NoContent → ⊥) where
+module _ (c front : List ℕ) (host : Host) (left : Budget) (NoContent : Type 0) (content : NoContent → ⊥) where
   -- a line that is spent has used up the budget
-  line_spent : (r level : ℕ) (e : CacheFault) → IsMagicLine c (field c 0 6) r → IsOwnFault c r level left e → e ≡ Spent
+  line_spent : (r level : ℕ) (e : CacheFault) → IsMagicLine c (field c 0 6) r → IsOwnFault c r level front host left e → e ≡ Spent
       → IsUsedUp c NoContent left
   line_spent r level e of_magic (inl (inl value)) same = absurd (no_place _ (sym value.is ∙ same))
   line_spent r level e of_magic (inl (inr (is, inl records))) same = inl records
   line_spent r level e of_magic (inl (inr (is, inr value))) same = inr (content, r, of_magic, value)
   line_spent r level e of_magic (inr (inl block)) same = absurd (no_place _ (sym block.is ∙ same))
   line_spent r level e of_magic (inr (inr deep)) same =
-      let both : TooDeep ≡ Spent = sym deep.0 ∙ same in
+      let both : TooDeep ≡ Spent = sym deep.is ∙ same in
       absurd cc
 
   -- so has a section of magic
-  section_spent : (i : ℕ) (e : CacheFault) → i < field c (field c 0 6) 0 → IsSectionFault c (field c (field c 0 6) 2 + 16 * i) left e
-      → e ≡ Spent → IsUsedUp c NoContent left
+  section_spent : (i : ℕ) (e : CacheFault) → i < field c (field c 0 6) 0
+      → IsSectionFault c (field c (field c 0 6) 2 + 16 * i) front host left e → e ≡ Spent → IsUsedUp c NoContent left
   section_spent i e within (inl block) same = absurd (no_place _ (sym block.is ∙ same))
   section_spent i e within (inr (inl spent)) same = inl spent.1
   section_spent i e within (inr (inr (inl (top, one, line)))) same =
@@ -79,24 +80,15 @@ module _ (c : List ℕ) (left : Budget) (NoContent : Type 0) (content : NoConten
       line.fault same
   section_spent i e within (inr (inr (inr text))) same = absurd (no_text c _ e text same)
 
-  -- and magic
-  magic_spent : (e : CacheFault) → IsMagicFault c (field c 0 6) left e → e ≡ Spent → IsUsedUp c NoContent left
-  magic_spent e (inl head) same = absurd (no_place (field c 0 6) (sym head.1 ∙ same))
-  magic_spent e (inr (inl block)) same = absurd (no_place _ (sym block.is ∙ same))
-  magic_spent e (inr (inr (i, within, section))) same = section_spent i e within section same
-
   -- and so has a sniffed type
-  pub sniff_fault_spent : (e : CacheFault) → IsSniffFault c left e → e ≡ Spent → IsUsedUp c NoContent left
+  pub sniff_fault_spent : (e : CacheFault) → IsSniffFault c front host left e → e ≡ Spent → IsUsedUp c NoContent left
   sniff_fault_spent e (inl head) same = absurd (no_place (field c 0 6) (sym head.1 ∙ same))
-  sniff_fault_spent e (inr magic) same = magic_spent e magic same
+  sniff_fault_spent e (inr (inl block)) same = absurd (no_place _ (sym block.is ∙ same))
+  sniff_fault_spent e (inr (inr (i, within, section))) same = section_spent i e within section same
 
 -- what was left of a cache's own budget, after the header and all steps
 pub uses_up : (c : List ℕ) {NoContent : Type 0} {each value more : ℕ} {old left : Spending} → length c ≤ 268435456
     → old.budget.records ≡ length c / 4 → old.budget.value_bytes ≡ length c → 1 ≤ old.meter.nodes → Costs each value more old left
     → IsUsedUp c NoContent left.budget → UsesUp c NoContent left.meter.nodes
-uses_up c {left = left} limit records value_bytes one cost used = record {
-  left = left.budget;
-  records = omega (arith, cost.fair, one, records, limit);
-  value_bytes = omega (arith, cost.value_bytes, value_bytes);
-  used_up = used;
-}
+uses_up c limit records value_bytes one cost (inl none) = inl (omega (arith, cost.fair, one, records, limit, none))
+uses_up c limit records value_bytes one cost (inr value) = inr (value.0, value.1, value.2, omega (arith, value.3))

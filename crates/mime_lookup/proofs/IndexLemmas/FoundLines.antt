@@ -1,30 +1,28 @@
 -- Lines by the place and the byte that they look at first: those that no table names are refused by their heads.
-use Rattle.std.proofs.Common.{◌≡◌, ℕ, zero, suc, ◌+◌, ◌*◌, ◌<◌, ◌≤◌, inl, inr, List, [], ◌∷◌, length, get_or, map, drop}
+use Rattle.std.proofs.Common.{◌≡◌, ℕ, zero, suc, ◌+◌, ◌*◌, ◌<◌, ◌≤◌, inl, inr, List, [], ◌∷◌, length, get_or, drop}
 use Rattle.std.proofs.Common.{None, Some, refl, sym, ap, ◌∙◌, arith}
-use Rattle.std.specs.List.{flat_map}
 use Rattle.std.proofs.lemmas.Bool.{cases_eq, cases_lt, cond-false, cond-true}
 use Rattle.std.proofs.lemmas.List.{drop_all, get_or_default}
 use Rattle.std.proofs.lemmas.List.Elements.{at_from_Contains}
 use Rattle.mime_base.specs.Magic.Holds.{first_magic}
-use Rattle.mime_base.specs.Magic.{plain_sections}
-use Rattle.mime_base.specs.declared.magic.Section.{Section}
+use Rattle.mime_base.specs.Magic.{PlainSection}
 use Rattle.mime_base.specs.declared.magic.host.Host.{Host}
-use Rattle.mime_lookup.proofs.IndexLemmas.TopLines.{first_of_tops, first_top, tops-length, tops_from}
-use Rattle.mime_lookup.specs.Heads.{AreLineHeads, IsHeadOf, RefusesContent, plain_top, tops_of}
+use Rattle.mime_lookup.proofs.IndexLemmas.LineHeads.{line_heads-length}
+use Rattle.mime_lookup.proofs.IndexLemmas.TopLines.{all_tops, first_top, tops_from}
+use Rattle.mime_lookup.specs.Heads.{AreBytes, AreLineHeads, IsHeadOf, RefusesContent}
 use Rattle.mime_lookup.specs.Tables.{AreTables, Fails, IsFirst, IsFound, Narrows, OthersFail, TablesFail}
+use Rattle.mime_lookup.specs.TopLines.{PlainTop, top_lines}
 use Rattle.mime_lookup.specs.declared.indexed.line_head.LineHead.{LineHead}
 use Rattle.mime_lookup.specs.declared.indexed.tables.Tables.{Tables}
-use Rattle.mime_lookup.specs.declared.indexed.top_line.TopLine.{TopLine}
-use Rattle.mime_view.specs.Heads.{AreBytes}
 
 -- no head
 abbrev pub no_head : LineHead
 no_head = record { start = 0; range = 0; size = 0; skip = 0; first = 0; second = 0; third = 0; fourth = 0 }
 
 -- the head of a line at a place
-head_at : (line : ℕ) (heads : List LineHead) (tops : List TopLine) (head : LineHead) (top : TopLine) →
-    AreLineHeads heads (map (λ (top : TopLine). top.line.now) tops) → line < length tops → head ≡ get_or heads line head →
-    top ≡ get_or tops line top → IsHeadOf head top.line.now
+head_at : (line : ℕ) (heads : List LineHead) (tops : List PlainTop) (head : LineHead) (top : PlainTop) →
+    AreLineHeads heads tops → line < length tops → head ≡ get_or heads line head →
+    top ≡ get_or tops line top → IsHeadOf head top.line
 head_at line [] [] head top are within is top_is = absurd (omega arith)
 head_at line [] (_ ∷ _) head top are within is top_is = absurd are
 head_at line (_ ∷ _) [] head top are within is top_is = absurd are
@@ -33,8 +31,8 @@ head_at zero (h ∷ heads) (t ∷ tops) head top are within is top_is =
 head_at (suc line) (h ∷ heads) (t ∷ tops) head top are within is top_is =
     head_at line heads tops head top are.1 (omega arith) is top_is
 
-module _ (heads : List LineHead) (tops : List TopLine) (content : List ℕ) (host : Host)
-    (are : AreLineHeads heads (map (λ (top : TopLine). top.line.now) tops)) where
+module _ (heads : List LineHead) (tops : List PlainTop) (content : List ℕ) (host : Host)
+    (are : AreLineHeads heads tops) where
   -- a line whose head refuses a content doesn't hold for it
   pub refused_fails : (line : ℕ) (head : LineHead) → head ≡ get_or heads line head → RefusesContent head content →
       Fails tops content host line
@@ -75,7 +73,7 @@ module _ (heads : List LineHead) (tops : List TopLine) (content : List ℕ) (hos
         Narrows tops content host found first → TablesFail tops content host tables found (length tables.places.items) →
         OthersFail tops content host tables.others.items first 0 → IsFirst tops content host first
     is_first found first tabled told asked tables_fail others_fail =
-        let many = tops-length heads tops are in
+        let many = line_heads-length heads tops are in
         record {
           within = omega (arith, told.less, asked.less);
           before = λ line below.
@@ -98,28 +96,28 @@ module _ (heads : List LineHead) (tops : List TopLine) (content : List ℕ) (hos
 
 module _ (content : List ℕ) (host : Host) where
   -- lines that don't hold, from the first on
-  failed-first : (until : ℕ) (tops : List TopLine) → until ≤ length tops → ((line : ℕ) → line < until → Fails tops content host line) →
-      first_top content host (map plain_top tops) ≡ first_top content host (map plain_top (drop until tops))
+  failed-first : (until : ℕ) (tops : List PlainTop) → until ≤ length tops → ((line : ℕ) → line < until → Fails tops content host line) →
+      first_top content host tops ≡ first_top content host (drop until tops)
   failed-first zero tops within fail = refl
   failed-first (suc until) [] within fail = absurd (omega arith)
   failed-first (suc until) (top ∷ tops) within fail =
       cond-false _ _ _ (fail 0 (omega arith) top (omega arith) refl)
       ∙ failed-first until tops (omega arith) (λ line below other inside is. fail (suc line) (omega arith) other (omega arith) is)
 
-  module _ (tops : List TopLine) (sections : List Section) (whole : map plain_top tops ≡ flat_map tops_of sections)
+  module _ (tops : List PlainTop) (sections : List PlainSection) (whole : tops ≡ top_lines sections)
       (first : ℕ) (is : IsFirst tops content host first) where
     -- the section of the first line that holds
-    pub first_holds : (top : TopLine) → first < length tops → top ≡ get_or tops first top →
-        first_magic (plain_sections sections) content host ≡ Some (top.section.now.kind, top.section.now.priority)
+    pub first_holds : (top : PlainTop) → first < length tops → top ≡ get_or tops first top →
+        first_magic sections content host ≡ Some (top.kind, top.priority)
     first_holds top inside top_is =
-        first_of_tops content host tops sections whole
+        sym (all_tops content host sections) ∙ ap (first_top content host) (sym whole)
         ∙ failed-first first tops is.within is.before
         ∙ tops_from content host tops first top inside top_is
         ∙ cond-true _ _ _ (is.holds inside top top_is)
 
     -- and none where no line holds
-    pub none_holds : (first < length tops → ⊥) → first_magic (plain_sections sections) content host ≡ None
+    pub none_holds : (first < length tops → ⊥) → first_magic sections content host ≡ None
     none_holds past =
-        first_of_tops content host tops sections whole
+        sym (all_tops content host sections) ∙ ap (first_top content host) (sym whole)
         ∙ failed-first first tops is.within is.before
-        ∙ ap (λ ts. first_top content host (map plain_top ts)) (drop_all first tops (omega (arith, past)))
+        ∙ ap (first_top content host) (drop_all first tops (omega (arith, past)))

@@ -7,17 +7,15 @@ use Rattle.std.proofs.lemmas.Slice.Eq.{bytes_eq-Decides}
 use Rattle.mime_base.specs.Magic.Holds.{bytes_of_mask, equals_from}
 use Rattle.mime_base.specs.Magic.Masking.{in_order, under_mask, window_equals}
 use Rattle.mime_base.specs.Magic.Mirrored.{mirrored}
-use Rattle.mime_base.specs.Magic.{PlainLine, line_from, mask_bytes, plain_matchlet}
+use Rattle.mime_base.specs.Magic.{PlainLine, PlainMatchlet}
 use Rattle.mime_base.specs.declared.magic.host.Host.{Host}
-use Rattle.mime_base.specs.declared.magic.matchlet.Matchlet.{Matchlet}
-use Rattle.mime_base.specs.declared.magic.matchlet.Matchlet.TheViews.{out-Matchlet}
-use Rattle.mime_base.proofs.MagicLemmas.HoldingLines.{equals_from-none, equals_from-outside, equals_from-passed, line_holds-differs, plain_matchlet-out}
+use Rattle.mime_base.proofs.MagicLemmas.HoldingLines.{equals_from-none, equals_from-outside, equals_from-passed, line_holds-differs}
 use Rattle.mime_base.proofs.MagicLemmas.Masks.{bits, get_or-under_mask, place}
 use Rattle.mime_base.proofs.MagicLemmas.Mirroring.{mirrors}
 use Rattle.mime_base.proofs.MagicLemmas.Skipping.{whole_byte, word_of_one}
-use Rattle.mime_lookup.specs.Heads.{AreLineHeads, IsHead, IsHeadOf, KeepsBytes, ShowsBytes}
+use Rattle.mime_lookup.specs.Heads.{AreBytes, AreLineHeads, IsHead, IsHeadOf, KeepsBytes, ShowsBytes}
+use Rattle.mime_lookup.specs.TopLines.{PlainTop}
 use Rattle.mime_lookup.specs.declared.indexed.line_head.LineHead.{LineHead}
-use Rattle.mime_view.specs.Heads.{AreBytes}
 
 module _ (value mask : List ℕ) (word : ℕ) (host : Host) (window : List ℕ) (same : length window ≡ length value) (one : word ≡ 1)
     (value_bytes : AreBytes value) (window_bytes : AreBytes window) where
@@ -104,22 +102,20 @@ module _ (own : PlainLine) (host : Host) (content : List ℕ) (head : LineHead) 
   ]
 
 -- a head of what a line seeks is a head of the line
-pub head_of_line : (head : LineHead) (m : Matchlet) →
-    IsHead head (line_from (out-Matchlet m).start (out-Matchlet m).range (out-Matchlet m).word (out-Matchlet m).value.items
-    (mask_bytes (out-Matchlet m).mask)) → IsHeadOf head m
-head_of_line head m is = λ content host refuses. line_holds-differs content host (plain_matchlet m) (rw (plain_matchlet-out m) (is content host refuses))
+pub head_of_line : (head : LineHead) (m : PlainMatchlet) → IsHead head m.own → IsHeadOf head m
+head_of_line head m is = λ content host refuses. line_holds-differs content host m (is content host refuses)
 
 -- a head more, and a line
-pub line_heads-more : (heads : List LineHead) (lines : List Matchlet) (head : LineHead) (line : Matchlet) → AreLineHeads heads lines →
-    IsHeadOf head line → AreLineHeads (heads ++ head ∷ []) (lines ++ line ∷ [])
-line_heads-more [] [] head line are is = (is, tt)
-line_heads-more [] (_ ∷ _) head line are is = absurd are
-line_heads-more (_ ∷ _) [] head line are is = absurd are
-line_heads-more (h ∷ heads) (l ∷ lines) head line are is = (are.0, line_heads-more heads lines head line are.1 is)
+pub line_heads-more : (heads : List LineHead) (tops : List PlainTop) (head : LineHead) (top : PlainTop) → AreLineHeads heads tops →
+    IsHeadOf head top.line → AreLineHeads (heads ++ head ∷ []) (tops ++ top ∷ [])
+line_heads-more [] [] head top are is = (is, tt)
+line_heads-more [] (_ ∷ _) head top are is = absurd are
+line_heads-more (_ ∷ _) [] head top are is = absurd are
+line_heads-more (h ∷ heads) (t ∷ tops) head top are is = (are.0, line_heads-more heads tops head top are.1 is)
 
 -- there are as many heads as lines
-pub line_heads-length : (heads : List LineHead) (lines : List Matchlet) → AreLineHeads heads lines → length heads ≡ length lines
+pub line_heads-length : (heads : List LineHead) (tops : List PlainTop) → AreLineHeads heads tops → length heads ≡ length tops
 line_heads-length [] [] are = refl
 line_heads-length [] (_ ∷ _) are = absurd are
 line_heads-length (_ ∷ _) [] are = absurd are
-line_heads-length (h ∷ heads) (l ∷ lines) are = ap suc (line_heads-length heads lines are.1)
+line_heads-length (h ∷ heads) (t ∷ tops) are = ap suc (line_heads-length heads tops are.1)

@@ -94,13 +94,13 @@ module _ {R : Type 0} (remaining : R → Option (List ℕ)) (c name : List ℕ) 
   where
     pub stops_front : (old kept after : Budget) (stop : Cause) → kept.value_bytes ≡ old.value_bytes
         → ((b : PlainDatabase) → SpellsGlobs c b → old.records + owed_records b candidates ≤ kept.records + rule_records b)
-        → Stops c (IsUsedUp c (front ≡ None) after)
+        → Stops (IsUsedUp c (front ≡ None) after)
         (λ b. Suffices c name (order_of candidates) (front ≡ None) b × Leaves b name candidates × AffordsRest b candidates kept) (λ _. ⊥)
         stop
-        → Stops c (IsUsedUp c (content ≡ None) after) (λ b. Suffices c name order (content ≡ None) b × Affords b old)
+        → Stops (IsUsedUp c (content ≡ None) after) (λ b. Suffices c name order (content ≡ None) b × Affords b old)
         (λ b. GlobsDecide b name order (content ≡ None) → ⊥) stop
     stops_front old kept after stop same takes is =
-        stops_then c stop is (used_for c after reads.absent)
+        stops_then stop is (used_for c after reads.absent)
         (λ b enough.
         let globs = suffices_globs c name (content ≡ None) b order enough.0 in (
           front_stands remaining c name content order candidates b (gives b globs) read front reads enough.0,

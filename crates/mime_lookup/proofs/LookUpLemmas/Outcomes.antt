@@ -3,11 +3,13 @@ use Rattle.std.proofs.Common.{◌≡◌, ◌⊎◌, ℕ, ◌≤◌, List, length
 use Rattle.std.specs.Prelude.{IfOk}
 use Rattle.mime_base.specs.declared.magic.host.Host.{Host}
 use Rattle.mime_base.specs.declared.meter.Meter.{Meter}
+use Rattle.mime_lookup.specs.Cached.{IsStop}
 use Rattle.mime_lookup.specs.CheckingOrder.{GlobsDecide}
 use Rattle.mime_lookup.specs.Content.{GivesUp, Health, OfReader, Tally}
 use Rattle.mime_lookup.specs.Headline.{IsHeadline, IsRefused}
 use Rattle.mime_lookup.specs.LookUps.{AnswersLookUp, CostsLookUp, ReadsLookUp, StopsLookUp, cause_in, meter_in, read_in}
 use Rattle.mime_lookup.specs.Spent.{UsesUp}
+use Rattle.mime_lookup.specs.StepFaults.{IsLookUpFault}
 use Rattle.mime_lookup.specs.Steps.{IsPacked, Stops, Suffices}
 use Rattle.mime_lookup.specs.declared.answer.Answer.{Answer}
 use Rattle.mime_lookup.specs.declared.order.Order.{Order}
@@ -26,6 +28,8 @@ module _ {R : Type 0} {remaining : R → Option (List ℕ)} {tally : R → Optio
     reads_answer y is = record {
       reader = record { gives_up = tt; goes = is.reader.goes; fails = tt; advances = is.reader.advances; within = is.reader.within };
       asks = λ b globs. record { answers = (is.asks b globs).answers; asked = tt };
+      unread = is.unread;
+      head = is.head;
       exact = is.exact;
     }
 
@@ -41,21 +45,24 @@ module _ {R : Type 0} {remaining : R → Option (List ℕ)} {tally : R → Optio
         within = is.reader.within;
       };
       asks = λ b globs. record { answers = tt; asked = (is.asks b globs).asked };
+      unread = is.unread;
+      head = is.head;
       exact = λ b within spells. tt;
     }
 
 -- when it stops, of a cause
 pub stops_cause : {R : Type 0} {c name : List ℕ} {order : Order} {before after : Option R} (read : ℕ) (meter : Meter) (stop : Cause)
     → length name ≤ 4096 → ((e : CacheFault) → IsOpenFault c e → stop ≡ cause.Cache e)
-    → Stops c (UsesUp c (before ≡ None) meter.nodes)
+    → IsStop (IsLookUpFault c name (before ≡ None)) stop
+    → Stops (UsesUp c (before ≡ None) meter.nodes)
     (λ b. Suffices c name order (before ≡ None) b × IsPacked c b)
     (λ b. GlobsDecide b name order (before ≡ None) → ⊥) stop
     → StopsLookUp c name order before after (Err (record { cause = stop; read = read; meter = meter }))
-stops_cause read meter stop short refused is = record {
+stops_cause read meter stop short refused fault is = record {
   too_long = λ long. absurd (omega arith);
   refused = λ _ e opens. refused e opens;
   opened = tt;
-  fault = λ _. is.fault;
+  fault = λ _. fault;
   spent = is.spent;
   need = λ b enough limit packed _. is.need b (enough, record { small = limit; packed = packed });
 }

@@ -9,17 +9,17 @@ use Rattle.mime_lookup.specs.CheckingOrder.{globs_suffice, read_limit}
 use Rattle.mime_lookup.specs.NameAlone.{IsNameLookUp, SufficesForName}
 use Rattle.mime_lookup.specs.Spelling.{SpellsGlobs, SpellsMagic}
 use Rattle.mime_lookup.specs.Spent.{UsesUp}
-use Rattle.mime_lookup.specs.StepFaults.{IsMagicHeadFault, of_magic}
+use Rattle.mime_lookup.specs.StepFaults.{IsMagicHeadFault, IsNameFault}
 use Rattle.mime_lookup.specs.Steps.{IsPacked, Stops}
 use Rattle.mime_lookup.specs.Wanted.{IsWanted, wanted_of}
 use Rattle.mime_lookup.specs.declared.order.Order.{Order}
 use Rattle.mime_lookup.specs.declared.stopped.Stopped.{Stopped}
 use Rattle.mime_lookup.proofs.LookUpLemmas.EnoughFronts.{enough}
+use Rattle.mime_lookup.proofs.StopLemmas.Cause.{caused}
 use Rattle.mime_lookup.proofs.StopLemmas.OpenFaults.{cause_of-open_fault}
 use Rattle.mime_lookup.proofs.StopLemmas.PlacedFaults.{no_place}
 use Rattle.mime_lookup.proofs.StopLemmas.StepStops.{no_read_fault, stops_for}
 use Rattle.mime_view.specs.Opening.{IsOpenFault}
-use Rattle.mime_view.specs.declared.budget.Budget.{Budget}
 use Rattle.mime_view.specs.declared.fault.CacheFault.{CacheFault}
 
 module _ (c name : List ℕ) (order : Order) where
@@ -49,11 +49,11 @@ module _ (c name : List ℕ) (order : Order) where
       }
 
   -- the head of magic does not lie in the cache
-  pub stops_limit : (e : CacheFault) (IsUsed : Type 0) (IsEnough : PlainDatabase → Type 0) (after : Budget)
+  pub stops_limit : (e : CacheFault) (IsUsed : Type 0) (IsEnough : PlainDatabase → Type 0)
       → IsMagicHeadFault c e → ((b : PlainDatabase) → IsEnough b → ⊥)
-      → Stops c IsUsed IsEnough (λ _. ⊥) (cause_of e)
-  stops_limit e IsUsed IsEnough after head need =
-      stops_for c IsUsed IsEnough (λ _. ⊥) e (of_magic after (inl head))
+      → Stops IsUsed IsEnough (λ _. ⊥) (cause_of e)
+  stops_limit e IsUsed IsEnough head need =
+      stops_for IsUsed IsEnough (λ _. ⊥) e
       (λ same. absurd (no_place (field c 0 6) (sym head.1 ∙ same))) (λ b enough. absurd (need b enough))
 
   -- where they don't, what is enough to say so is the magic
@@ -65,15 +65,15 @@ module _ (c name : List ℕ) (order : Order) where
   -- no answer, for a fault of the cache
   pub stops_name : (e : CacheFault) (stopped : Stopped) → stopped.cause ≡ cause_of e → stopped.read ≡ 0 → length name ≤ 4096
       → ((x : CacheFault) → IsOpenFault c x → e ≡ x)
-      → Stops c (UsesUp c ⊤ stopped.meter.nodes)
+      → Stops (UsesUp c ⊤ stopped.meter.nodes)
       (λ b. SufficesForName c name order b × IsPacked c b) (λ _. ⊥) (cause_of e)
-      → KeepsBounds (length name) c 0 stopped.meter → IsNameLookUp c name order (Err stopped)
-  stops_name e stopped same none short refused stops bounds = record {
+      → IsNameFault c name e → KeepsBounds (length name) c 0 stopped.meter → IsNameLookUp c name order (Err stopped)
+  stops_name e stopped same none short refused stops fault bounds = record {
     answers = tt;
     too_long = λ long. absurd (omega (arith, short, long));
     refused = λ _ x opens. same ∙ ap cause_of (refused x opens) ∙ cause_of-open_fault c x opens;
     opened = tt;
-    fault = λ _. rw same (unread (no_read_fault e) stops.fault);
+    fault = λ _. rw same (caused (IsNameFault c name) e fault);
     spent = λ spent. stops.spent (sym same ∙ spent);
     need = λ b enough small packed _. same ∙ memory (stops.need b (enough, record { small = small; packed = packed }));
     read = none;
@@ -83,11 +83,6 @@ module _ (c name : List ℕ) (order : Order) where
     near = λ b globs decide. tt;
   }
     where
-      -- what is no failed read is one of the others
-      unread : {P Q : Type 0} → (P → ⊥) → P ⊎ Q → Q
-      unread never (inl read) = absurd (never read)
-      unread never (inr other) = other
-
       -- where no read can fail, memory was refused
       memory : {P Q : Type 0} → P ⊎ (Q × ⊥) → P
       memory (inl refused) = refused

@@ -1,16 +1,18 @@
 //! The first half of a lookup: what a name gives without its content ("Recommended checking order").
 
-ghost use Rattle.std.specs.Prelude.{◌≤◌, IfOk, ⊤};
+ghost use Rattle.std.specs.Prelude.{◌≤◌, IfErr, IfOk, ⊤};
 ghost use Rattle.mime_base.specs.Database.{PlainDatabase};
 ghost use Rattle.mime_lookup.specs.Affords.{rule_records};
 ghost use Rattle.mime_lookup.specs.Halves.{AreTextsByName, CostsByName, Decides};
 ghost use Rattle.mime_lookup.specs.Spelling.{SpellsGlobs};
+ghost use Rattle.mime_lookup.specs.StepFaults.{IsGlobsFault};
 ghost use Rattle.mime_lookup.specs.Steps.{StopsUnread};
 
-use crate::cached::name_types::{NameTypes, types_of};
+use crate::cached::indexed_cache::IndexedCache;
+use crate::cached::name_types::NameTypes;
 use crate::order::Order;
 use crate::question::Question;
-use mime_view::{Cache, CacheFault, Spending, Texts, Which};
+use mime_view::{CacheFault, Spending, Texts, Which};
 use std::alloc::Global;
 
 /// What a name gives without its content.
@@ -35,36 +37,51 @@ pub enum Candidates<'a> {
     Ignored,
 }
 
-/// What a name gives without its content, under an order.
+/// What a name gives without its content, if there is one, under an order.
 // Always inlined, so that the candidates are not moved.
 #[inline(always)]
 pub fn by_name<'a>(
     alloc: Global,
-    cache: &Cache<'a>,
+    indexed: &IndexedCache<'a>,
     question: &Question<'_>,
+    has_content: bool,
     spending: &mut Spending,
 ) -> Result<NameDecision<'a>, CacheFault>
     // Where the glob rules of a database stand, it is what the name gives.
-    ensures gives { (b : PlainDatabase) → SpellsGlobs cache.now b → IfOk result
+    ensures gives { (b : PlainDatabase) → SpellsGlobs indexed.now b → IfOk result
         (Decides b question.now.name.now question.now.order) }
     // Its types are texts of the cache.
-    ensures texts { IfOk result (AreTextsByName cache.now) }
+    ensures texts { IfOk result (AreTextsByName indexed.now) }
     // Where the glob rules stand and each record that they may take is left, only memory is refused.
-    ensures stops { StopsUnread cache.now ⊤ spending.new.budget
-        (λ b. SpellsGlobs cache.now b × (rule_records b ≤ spending.old.budget.records)) result }
+    ensures stops { StopsUnread indexed.now ⊤ spending.new.budget
+        (λ b. SpellsGlobs indexed.now b × (rule_records b ≤ spending.old.budget.records)) result }
+    // The glob rules or an alias step show the fault.
+    ensures fault { IfErr result (IsGlobsFault indexed.now question.now.name.now spending.new.budget) }
     // It costs a search for the types of the name, and what the candidates owe.
-    ensures costs { CostsByName cache.now question.now.name.now spending.old spending.new result }
+    ensures costs { CostsByName indexed.now question.now.name.now spending.old spending.new result }
 {
     match question.order {
         Order::GlobsFirst => {
-            let types = types_of(alloc, cache, question.name, Which::Kept, spending)?;
+            let types = indexed.types_of(
+                alloc,
+                question.name,
+                Which::Kept,
+                !has_content,
+                spending,
+            )?;
             match types {
                 NameTypes::One(kind) => Ok(NameDecision::Decided(kind)),
                 NameTypes::Others(kinds, _) => Ok(NameDecision::Left(Candidates::Kept(kinds))),
             }
         }
         Order::AllGlobs => {
-            let types = types_of(alloc, cache, question.name, Which::Candidates, spending)?;
+            let types = indexed.types_of(
+                alloc,
+                question.name,
+                Which::Candidates,
+                !has_content,
+                spending,
+            )?;
             match types {
                 NameTypes::One(kind) => Ok(NameDecision::Decided(kind)),
                 NameTypes::Others(kinds, asked) => {

@@ -1,6 +1,7 @@
 //! A lookup of a name alone, for those who read contents themselves ("Recommended checking order").
 
 ghost use Rattle.std.specs.Prelude.{◌≡◌, ◌+◌, ◌<◌, ◌≤◌, max, length, IfErr, IfOk, IsErrAnd, OnOk, ⊤};
+ghost use Rattle.mime_base.specs.Cache.Bytes.{field};
 ghost use Rattle.mime_base.specs.Database.{PlainDatabase};
 ghost use Rattle.mime_lookup.specs.Affords.{Affords};
 ghost use Rattle.mime_lookup.specs.Bounds.{KeepsBounds, stated_extent};
@@ -11,20 +12,22 @@ ghost use Rattle.mime_lookup.specs.NameAlone.{IsNameLookUp};
 ghost use Rattle.mime_lookup.specs.Question.{IsDecided, NamesQuestion, SufficesUnread, extent_asked, near_most};
 ghost use Rattle.mime_lookup.specs.Spelling.{SpellsGlobs, SpellsMagic};
 ghost use Rattle.mime_lookup.specs.Spent.{UsesUp};
-ghost use Rattle.mime_lookup.specs.StepFaults.{IsMagicHeadFault};
+ghost use Rattle.mime_lookup.specs.StepFaults.{IsMagicHeadFault, IsNameFault};
 ghost use Rattle.mime_lookup.specs.Steps.{IsPacked, Stops, StopsUnread};
 ghost use Rattle.mime_view.specs.Hits.{near};
+ghost use Rattle.mime_view.specs.Lists.{LiesHead};
 ghost use Rattle.mime_view.specs.Opening.{IsOpenFault, Opens};
 
 use crate::answer::NameAnswer;
 use crate::cached::by_content::by_content;
 use crate::cached::by_name::{NameDecision, by_name};
+use crate::cached::indexed_cache::IndexedCache;
 use crate::limits::LONGEST_NAME;
 use crate::order::Order;
 use crate::question::Question;
 use crate::stopped::{Cause, Stopped};
 use mime_base::{Counted, Host, Meter, TEXTUAL_FRONT};
-use mime_view::{Budget, Cache, CacheFault, Spending};
+use mime_view::{CacheFault, Spending};
 use std::alloc::Global;
 
 /// The type that the checking order gives to a name whose content is not available, and how much of a content a lookup of
@@ -72,6 +75,41 @@ pub fn look_up_name<'a>(
     }
 }
 
+/// [`look_up_name`] over a cache that was opened once, for many names: by the index of what was read back of it, and by a walk of the rest.
+pub fn look_up_name_again<'a>(
+    alloc: Global,
+    indexed: &IndexedCache<'a>,
+    name: &[u8],
+    order: Order,
+) -> Result<NameAnswer<'a>, Stopped>
+    // It is all that is promised of the name over the bytes.
+    ensures promises { IsNameLookUp indexed.now name.now order result }
+{
+    let mut meter = Meter::new();
+    if name.len() > LONGEST_NAME {
+        return Err(Stopped {
+            cause: Cause::NameTooLong,
+            read: 0,
+            meter,
+        });
+    }
+    meter.add_node();
+    let host = Host::Little;
+    let question = Question { name, host, order };
+    match ask_opened(alloc, indexed, &question, &mut meter) {
+        Ok((kind, wanted)) => Ok(NameAnswer {
+            kind,
+            wanted,
+            meter,
+        }),
+        Err(fault) => Err(Stopped {
+            cause: Cause::from(fault),
+            read: 0,
+            meter,
+        }),
+    }
+}
+
 /// The same of a name that is short enough: the type and how much is wanted, or the fault alone.
 fn open_and_ask<'a>(
     alloc: Global,
@@ -83,56 +121,83 @@ fn open_and_ask<'a>(
     ensures answers { IfOk result (λ found. NamesQuestion cache.entry question.now found.0.now found.1) }
     ensures refused { (e : CacheFault) → IsOpenFault cache.entry e → IsErrAnd result (λ fault. fault ≡ e) }
     ensures opened { OnOk result (Opens cache.entry) }
-    ensures stops { IfErr result (λ e. Stops cache.entry (UsesUp cache.entry ⊤ meter.new.nodes)
+    ensures stops { IfErr result (λ e. Stops (UsesUp cache.entry ⊤ meter.new.nodes)
         (λ b. SufficesUnread cache.entry question.now b × IsPacked cache.entry b) (λ _. ⊥) (cause_of e)) }
+    ensures fault { IfErr result (IsNameFault cache.entry question.now.name.now) }
     ensures bounds { KeepsBounds (length question.now.name.now) cache.entry 0 meter.new }
     ensures counted { OnOk result (1 ≤ meter.new.nodes) }
     ensures near { (b : PlainDatabase) → SpellsGlobs cache.entry b → IsDecided b question.now ⊤
         → OnOk result (meter.new.nodes ≤ near_most b question.now + extent_asked b question.now) }
 {
-    let cache = Cache::open(cache, meter)?;
+    let indexed = IndexedCache::open(cache, meter)?;
+    ask_opened(alloc, &indexed, question, meter)
+}
+
+/// The same over an opened cache, whose header was counted.
+fn ask_opened<'a>(
+    alloc: Global,
+    indexed: &IndexedCache<'a>,
+    question: &Question<'_>,
+    meter: &mut Meter,
+) -> Result<(&'a [u8], u64), CacheFault>
+    requires header { meter.old ≡ record { nodes = 1; bytes = 0 } }
+    ensures answers { IfOk result (λ found. NamesQuestion indexed.now question.now found.0.now found.1) }
+    ensures opens { Opens indexed.now }
+    ensures stops { IfErr result (λ e. Stops (UsesUp indexed.now ⊤ meter.new.nodes)
+        (λ b. SufficesUnread indexed.now question.now b × IsPacked indexed.now b) (λ _. ⊥) (cause_of e)) }
+    ensures fault { IfErr result (IsNameFault indexed.now question.now.name.now) }
+    ensures bounds { KeepsBounds (length question.now.name.now) indexed.now 0 meter.new }
+    ensures counted { 1 ≤ meter.new.nodes }
+    ensures near { (b : PlainDatabase) → SpellsGlobs indexed.now b → IsDecided b question.now ⊤
+        → OnOk result (meter.new.nodes ≤ near_most b question.now + extent_asked b question.now) }
+{
     let mut spending = Spending {
         meter: *meter,
-        budget: Budget::of(&cache),
+        budget: indexed.budget(),
     };
-    let found = ask(alloc, &cache, question, &mut spending);
+    let found = ask(alloc, indexed, question, &mut spending);
     *meter = spending.meter;
     found
 }
 
-/// The same over an opened cache.
+/// The type, and how much is wanted, within a budget.
 fn ask<'a>(
     alloc: Global,
-    cache: &Cache<'a>,
+    indexed: &IndexedCache<'a>,
     question: &Question<'_>,
     spending: &mut Spending,
 ) -> Result<(&'a [u8], u64), CacheFault>
-    ensures answers { IfOk result (λ found. NamesQuestion cache.now question.now found.0.now found.1) }
-    ensures stops { StopsUnread cache.now ⊤ spending.new.budget
-        (λ b. SufficesUnread cache.now question.now b × Affords b spending.old.budget) result }
-    ensures near { (b : PlainDatabase) → SpellsGlobs cache.now b → IsDecided b question.now ⊤ → OnOk result
+    ensures answers { IfOk result (λ found. NamesQuestion indexed.now question.now found.0.now found.1) }
+    ensures stops { StopsUnread indexed.now ⊤ spending.new.budget
+        (λ b. SufficesUnread indexed.now question.now b × Affords b spending.old.budget) result }
+    ensures fault { IfErr result (IsNameFault indexed.now question.now.name.now) }
+    ensures near { (b : PlainDatabase) → SpellsGlobs indexed.now b → IsDecided b question.now ⊤ → OnOk result
         (spending.new.meter.nodes < spending.old.meter.nodes + near_most b question.now + extent_asked b question.now) }
     ensures cost { CostsSearch (length question.now.name.now) 1 31 spending.old spending.new }
 {
-    let given = by_name(alloc, cache, question, spending)?;
+    let given = by_name(alloc, indexed, question, false, spending)?;
     match given {
         NameDecision::Decided(kind) => Ok((kind, 0)),
         NameDecision::Left(candidates) => {
-            let wanted = front_limit(cache, spending)?;
-            let kind = by_content(alloc, cache, question, candidates, None, spending)?;
+            let wanted = front_limit(indexed, spending)?;
+            let kind = by_content(alloc, indexed, question, candidates, None, spending)?;
             Ok((kind, wanted))
         }
     }
 }
 
 /// The longest front that a lookup reads: as much as the cache says that magic can look at, and at least 128 bytes.
-pub(super) fn front_limit(cache: &Cache<'_>, spending: &mut Spending) -> Result<u64, CacheFault>
-    ensures stated { IfOk result (λ size. size ≡ max 128 (stated_extent cache.now)) }
-    ensures spelled { (b : PlainDatabase) → SpellsMagic cache.now b → IfOk result (λ size. size ≡ read_limit b) }
-    ensures need { (b : PlainDatabase) → SpellsMagic cache.now b → IfErr result (λ _. ⊥) }
-    ensures fault { IfErr result (IsMagicHeadFault cache.now) }
+pub(super) fn front_limit(
+    indexed: &IndexedCache<'_>,
+    spending: &mut Spending,
+) -> Result<u64, CacheFault>
+    ensures stated { IfOk result (λ size. size ≡ max 128 (stated_extent indexed.now)) }
+    ensures spelled { (b : PlainDatabase) → SpellsMagic indexed.now b → IfOk result (λ size. size ≡ read_limit b) }
+    ensures need { (b : PlainDatabase) → SpellsMagic indexed.now b → IfErr result (λ _. ⊥) }
+    ensures inside { OnOk result (LiesHead indexed.now (field indexed.now 0 6) 12) }
+    ensures fault { IfErr result (IsMagicHeadFault indexed.now) }
     ensures cost { LooksAt 1 spending.old spending.new }
 {
-    let extent = cache.extent(&mut spending.meter, &mut spending.budget)?;
+    let extent = indexed.extent(&mut spending.meter, &mut spending.budget)?;
     Ok(u64::from(TEXTUAL_FRONT.max(extent)))
 }

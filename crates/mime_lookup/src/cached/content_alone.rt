@@ -1,21 +1,25 @@
 //! What a content is sniffed as by itself ("Recommended checking order").
 
-ghost use Rattle.std.specs.Prelude.{◌≡◌, ◌+◌, ◌≤◌, IfErr, IfOk, IsErrAnd, OnOk, length, max, take};
+ghost use Rattle.std.specs.Prelude.{◌≡◌, ◌⊎◌, ◌+◌, ◌<◌, IfErr, IfOk, IsErrAnd, OnOk, length, max, take};
+ghost use Rattle.mime_base.specs.Cache.Bytes.{field};
 ghost use Rattle.mime_lookup.specs.Bounds.{stated_extent};
 ghost use Rattle.mime_lookup.specs.Cached.{IsKind, cause_of, plain_finding};
-ghost use Rattle.mime_lookup.specs.ContentAlone.{IsSniffing, LooksWithin, SniffsAs};
+ghost use Rattle.mime_lookup.specs.ContentAlone.{IsSniffing, LooksWithin, SniffsAs, looked_at};
 ghost use Rattle.mime_lookup.specs.Costs.{Costs};
 ghost use Rattle.mime_lookup.specs.Finding.{priority_of};
 ghost use Rattle.mime_lookup.specs.Spelling.{SpellsMagic};
 ghost use Rattle.mime_lookup.specs.Spent.{UsesUp};
+ghost use Rattle.mime_lookup.specs.StepFaults.{IsSniffStepFault, IsSniffingFault};
 ghost use Rattle.mime_lookup.specs.Steps.{IsPacked, Stops, StopsSniffing};
+ghost use Rattle.mime_view.specs.Lists.{LiesHead};
 ghost use Rattle.mime_view.specs.Opening.{IsOpenFault, Opens};
 
 use crate::cached::by_name_alone::front_limit;
-use crate::cached::sniff::{Finding, sniff_front, unalias};
+use crate::cached::indexed_cache::IndexedCache;
+use crate::cached::sniff::{Finding, unalias};
 use crate::stopped::{Cause, Stopped};
 use mime_base::{Counted, Host, Meter};
-use mime_view::{Budget, Cache, CacheFault, Spending};
+use mime_view::{CacheFault, Spending};
 
 /// What a content is sniffed as, and what it took to find out.
 #[derive(Clone, Copy, Debug)]
@@ -65,6 +69,34 @@ pub fn sniff_alone<'a>(
     }
 }
 
+/// [`sniff_alone`] over a cache that was opened once, for many contents: by the index of what was read back of it, and by a walk of the
+/// rest.
+pub fn sniff_again<'a>(
+    indexed: &IndexedCache<'a>,
+    content: &[u8],
+    host: Host,
+) -> Result<SniffedContent<'a>, Stopped>
+    // It is all that is promised of the content over the bytes.
+    ensures promises { IsSniffing indexed.now content.now host result }
+{
+    let mut read = 0;
+    let mut meter = Meter::new();
+    meter.add_node();
+    match sniff_metered(indexed, content, host, &mut read, &mut meter) {
+        Ok((kind, priority)) => Ok(SniffedContent {
+            kind,
+            priority,
+            read,
+            meter,
+        }),
+        Err(fault) => Err(Stopped {
+            cause: Cause::from(fault),
+            read,
+            meter,
+        }),
+    }
+}
+
 /// The type and the priority, with how much of the content was looked at.
 fn open_and_sniff<'a>(
     cache: Counted<'a>,
@@ -79,40 +111,67 @@ fn open_and_sniff<'a>(
     ensures kind { IfOk result (λ found. IsKind cache.entry found.0.now) }
     ensures refused { (e : CacheFault) → IsOpenFault cache.entry e → IsErrAnd result (λ fault. fault ≡ e) }
     ensures opened { OnOk result (Opens cache.entry) }
-    ensures stops { IfErr result (λ e. Stops cache.entry (UsesUp cache.entry ⊥ meter.new.nodes)
+    ensures stops { IfErr result (λ e. Stops (UsesUp cache.entry ⊥ meter.new.nodes)
         (λ b. SpellsMagic cache.entry b × IsPacked cache.entry b) (λ _. ⊥) (cause_of e)) }
+    ensures fault { IfErr result (IsSniffingFault cache.entry content.now host) }
+    ensures read { OnOk result (read.new ≡ looked_at cache.entry content.now) }
     ensures within { LooksWithin cache.entry content.now read.new meter.new }
 {
-    let cache = Cache::open(cache, meter)?;
+    let indexed = IndexedCache::open(cache, meter)?;
+    sniff_metered(&indexed, content, host, read, meter)
+}
+
+/// The same over an opened cache, whose header was counted.
+fn sniff_metered<'a>(
+    indexed: &IndexedCache<'a>,
+    content: &[u8],
+    host: Host,
+    read: &mut u64,
+    meter: &mut Meter,
+) -> Result<(&'a [u8], Option<u32>), CacheFault>
+    requires none { read.old ≡ 0 }
+    requires header { meter.old ≡ record { nodes = 1; bytes = 0 } }
+    ensures answer { SniffsAs indexed.now content.now host result }
+    ensures kind { IfOk result (λ found. IsKind indexed.now found.0.now) }
+    ensures opens { Opens indexed.now }
+    ensures stops { IfErr result (λ e. Stops (UsesUp indexed.now ⊥ meter.new.nodes)
+        (λ b. SpellsMagic indexed.now b × IsPacked indexed.now b) (λ _. ⊥) (cause_of e)) }
+    ensures fault { IfErr result (IsSniffingFault indexed.now content.now host) }
+    ensures read { OnOk result (read.new ≡ looked_at indexed.now content.now) }
+    ensures within { LooksWithin indexed.now content.now read.new meter.new }
+{
     let mut spending = Spending {
         meter: *meter,
-        budget: Budget::of(&cache),
+        budget: indexed.budget(),
     };
-    let found = sniff_opened(&cache, content, host, read, &mut spending);
+    let found = sniff_opened(indexed, content, host, read, &mut spending);
     *meter = spending.meter;
     found
 }
 
 /// The same over an opened cache.
 fn sniff_opened<'a>(
-    cache: &Cache<'a>,
+    indexed: &IndexedCache<'a>,
     content: &[u8],
     host: Host,
     read: &mut u64,
     spending: &mut Spending,
 ) -> Result<(&'a [u8], Option<u32>), CacheFault>
     requires none { read.old ≡ 0 }
-    ensures answer { SniffsAs cache.now content.now host result }
-    ensures kind { IfOk result (λ found. IsKind cache.now found.0.now) }
-    ensures stops { StopsSniffing cache.now ⊥ (SpellsMagic cache.now) spending.old spending.new result }
-    ensures there { read.new ≤ length content.now }
-    ensures limit { read.new ≤ max 128 (stated_extent cache.now) }
+    ensures answer { SniffsAs indexed.now content.now host result }
+    ensures kind { IfOk result (λ found. IsKind indexed.now found.0.now) }
+    ensures stops { StopsSniffing indexed.now ⊥ (SpellsMagic indexed.now) spending.old spending.new result }
+    ensures fault { IfErr result (IsSniffStepFault indexed.now (take (max 128 (stated_extent indexed.now)) content.now)
+        host spending.new.budget) }
+    ensures read { OnOk result (read.new ≡ looked_at indexed.now content.now) }
+    ensures looked { (read.new ≡ 0) ⊎ (read.new ≡ looked_at indexed.now content.now) }
+    ensures head { 0 < read.new → LiesHead indexed.now (field indexed.now 0 6) 12 }
     ensures cost { Costs 256 (read.new + 1) 31 spending.old spending.new }
 {
-    let limit = front_limit(cache, spending)?;
+    let limit = front_limit(indexed, spending)?;
     let front = front_of(content, limit);
     *read = front.len() as u64;
-    sniff_whole(cache, front, host, spending)
+    sniff_whole(indexed, front, host, spending)
 }
 
 /// The front of a content, of at most that many bytes.
@@ -128,18 +187,19 @@ fn front_of(content: &[u8], limit: u64) -> &[u8]
 
 /// What a front is sniffed as, as if it were the whole.
 fn sniff_whole<'a>(
-    cache: &Cache<'a>,
+    indexed: &IndexedCache<'a>,
     front: &[u8],
     host: Host,
     spending: &mut Spending,
 ) -> Result<(&'a [u8], Option<u32>), CacheFault>
-    ensures answer { SniffsAs cache.now front.now host result }
-    ensures kind { IfOk result (λ found. IsKind cache.now found.0.now) }
-    ensures stops { StopsSniffing cache.now ⊥ (SpellsMagic cache.now) spending.old spending.new result }
+    ensures answer { SniffsAs indexed.now front.now host result }
+    ensures kind { IfOk result (λ found. IsKind indexed.now found.0.now) }
+    ensures stops { StopsSniffing indexed.now ⊥ (SpellsMagic indexed.now) spending.old spending.new result }
+    ensures fault { IfErr result (IsSniffStepFault indexed.now front.now host spending.new.budget) }
     ensures cost { Costs 256 (length front.now + 1) 30 spending.old spending.new }
 {
-    let finding = sniff_front(cache, Some(front), host, spending)?;
-    let kind = unalias(cache, finding, spending)?;
+    let finding = indexed.sniff_front(Some(front), host, true, spending)?;
+    let kind = unalias(indexed, finding, spending)?;
     Ok((kind, priority_of(finding)))
 }
 

@@ -96,7 +96,7 @@ fn resolved_hits<'a>(
 }
 
 /// How many of the first types are asked where no magic holds: those that are kept, or one where these are one type.
-fn count_asked(types: &[&[u8]], kept: usize, meter: &mut Meter) -> usize
+pub fn count_asked(types: &[&[u8]], kept: usize, meter: &mut Meter) -> usize
     requires front { kept ≤ length types.now }
     requires conflict { are_one_type (kinds_of types.now) ≡ false }
     ensures count { result ≡ asked_count (take kept (kinds_of types.now)) }
@@ -113,7 +113,7 @@ fn count_asked(types: &[&[u8]], kept: usize, meter: &mut Meter) -> usize
 }
 
 /// Whether there are types, and all are one type.
-fn are_one_type(kinds: &[&[u8]], meter: &mut Meter) -> bool
+pub fn are_one_type(kinds: &[&[u8]], meter: &mut Meter) -> bool
     ensures answer { result ≡ are_one_type (kinds_of kinds.now) }
     ensures compares { ComparesTypes kinds.now meter.old meter.new }
 {

@@ -10,13 +10,16 @@ ghost use Rattle.mime_lookup.specs.Cached.{IsCacheText, IsFinding, IsKind, plain
 ghost use Rattle.mime_lookup.specs.Costs.{Costs, LooksAt};
 ghost use Rattle.mime_lookup.specs.Finding.{found_by, found_in, is_high, resolved_finding};
 ghost use Rattle.mime_lookup.specs.Halves.{bytes_of, front_length};
-ghost use Rattle.mime_lookup.specs.StepFaults.{IsAliasFault};
+ghost use Rattle.mime_lookup.specs.MagicOf.{IsMagicOf};
+ghost use Rattle.mime_lookup.specs.StepFaults.{IsAliasFault, IsFrontFault};
 ghost use Rattle.mime_lookup.specs.Steps.{StopsSniffing, SufficesForContent};
 ghost use Rattle.mime_view.specs.Magic.{plain_found};
 
+use crate::cached::indexed_cache::IndexedCache;
 use crate::fixed::OCTET_STREAM;
+use crate::indexed::magic_index::MagicIndex;
 use crate::sniff::{HIGH_PRIORITY, by_bytes};
-use mime_base::Host;
+use mime_base::{Host, Meter};
 use mime_view::{Cache, CacheFault, Spending};
 
 /// What was found in a content, before its alias step.
@@ -41,24 +44,24 @@ pub fn is_high(finding: Finding<'_>) -> bool
 
 /// Its type, after one alias step. A fixed type is not resolved.
 pub fn unalias<'a>(
-    cache: &Cache<'a>,
+    indexed: &IndexedCache<'a>,
     finding: Finding<'a>,
     spending: &mut Spending,
 ) -> Result<&'a [u8], CacheFault>
-    requires finding { IsFinding cache.now finding }
+    requires finding { IsFinding indexed.now finding }
     // Where the aliases stand, there is an answer: the type after one alias step.
-    ensures answer { (b : PlainDatabase) (offsets : Offsets) → HeaderAt (Stands cache.now) offsets →
-        PairsAt (Stands cache.now) offsets.aliases b.aliases → IsOkAnd result
+    ensures answer { (b : PlainDatabase) (offsets : Offsets) → HeaderAt (Stands indexed.now) offsets →
+        PairsAt (Stands indexed.now) offsets.aliases b.aliases → IsOkAnd result
         (λ kind. kind.now ≡ resolved_finding b.aliases (plain_finding finding.entry)) }
     // It is a text of the cache, or fixed.
-    ensures kind { IfOk result (λ kind. IsKind cache.now kind.now) }
+    ensures kind { IfOk result (λ kind. IsKind indexed.now kind.now) }
     // The list of aliases or a text shows the fault.
-    ensures fault { IfErr result (IsAliasFault cache.now) }
+    ensures fault { IfErr result (IsAliasFault indexed.now) }
     // It visits at most 29 records, and takes nothing of the budget.
     ensures cost { LooksAt 29 spending.old spending.new }
 {
     match finding {
-        Finding::Magic(kind, _) => cache.unalias(kind, &mut spending.meter, &mut spending.budget),
+        Finding::Magic(kind, _) => indexed.unalias(kind, &mut spending.meter, &mut spending.budget),
         Finding::Fixed(kind) => Ok(kind),
     }
 }
@@ -78,6 +81,8 @@ pub fn sniff_front<'a>(
     // Where enough stands and is afforded, it doesn't stop.
     ensures stops { StopsSniffing cache.now (bytes_of front.entry ≡ None)
         (SufficesForContent cache.now (bytes_of front.entry ≡ None)) spending.old spending.new result }
+    // The magic list shows the fault.
+    ensures fault { IfErr result (IsFrontFault cache.now (bytes_of front.entry) host spending.new.budget) }
     // Without a front nothing is looked at.
     ensures nothing { bytes_of front.entry ≡ None → spending.new ≡ spending.old }
     // Where the magic stands, no more records are taken than it has.
@@ -91,6 +96,21 @@ pub fn sniff_front<'a>(
     };
     let section = cache.sniff(front, host, &mut spending.meter, &mut spending.budget)?;
     Ok(finding_of(section, front))
+}
+
+/// What is found in a front of a content by an index of the magic list of a cache, as if it were the whole.
+pub fn sniff_indexed<'a>(index: &MagicIndex<'a>, front: Option<&[u8]>, host: Host) -> Finding<'a>
+    // Where the magic of a database stands, or there is no front, it is what the front has as a content.
+    ensures found { (c : List ℕ) (b : PlainDatabase) → IsMagicOf c index.now → SufficesForContent c (bytes_of front.entry ≡ None) b
+        → plain_finding result ≡ found_in b (bytes_of front.entry) host }
+    // Its type is a text of the cache, or fixed.
+    ensures finding { (c : List ℕ) → IsMagicOf c index.now → IsFinding c result }
+{
+    let Some(front) = front else {
+        return Finding::Fixed(OCTET_STREAM);
+    };
+    let section = index.first_section(front, host, &mut Meter::new());
+    finding_of(section, front)
 }
 
 /// What the first section that holds makes of a content, or its bytes alone.

@@ -2,12 +2,15 @@
 //!
 //! The lowest number of a line that was found to hold is kept, and no line after it is asked.
 
-ghost use Rattle.std.specs.Prelude.{◌≡◌, ◌+◌, ◌*◌, ◌<◌, ◌≤◌, length, map};
+ghost use Rattle.std.specs.Prelude.{◌≡◌, ◌+◌, ◌*◌, ◌<◌, ◌≤◌, length};
 ghost use Rattle.mime_lookup.specs.Heads.{AreLineHeads};
-ghost use Rattle.mime_lookup.specs.Tables.{AreTables, ChainFails, IsFirst, Narrows, OthersFail, TableFails, TablesFail};
+ghost use Rattle.mime_lookup.specs.Indexed.{AreFound};
+ghost use Rattle.mime_lookup.specs.Tables.{ChainFails, IsFirst, Narrows, OthersFail, TableFails, TablesFail};
+ghost use Rattle.mime_lookup.specs.TopLines.{plain_tops};
 
 use crate::indexed::heads::Heads;
 use crate::indexed::line_search::{LineSearch, line_holds};
+use crate::indexed::magic_line::MagicLine;
 use crate::indexed::noted_pairs::{FRONT, NotedPairs};
 use crate::indexed::tables::Tables;
 use mime_base::{Host, Meter};
@@ -16,13 +19,16 @@ use mime_base::{Host, Meter};
 ///
 /// The meter counts as a byte each table, each line and each place of the content's front that is looked at, and what is
 /// compared.
-pub fn first_line(heads: &Heads<'_>, content: &[u8], host: Host, meter: &mut Meter) -> usize
-    // Each line has its head.
-    requires headed { AreLineHeads heads.now.lines.items (map (λ top. top.line.now) heads.now.tops.items) }
-    // Each is found by its place and its byte, or is asked by itself.
-    requires tabled { AreTables heads.now.tables heads.now.lines.items 0 }
+pub fn first_line<L: MagicLine>(
+    heads: &Heads<'_, L>,
+    content: &[u8],
+    host: Host,
+    meter: &mut Meter,
+) -> usize
+    // Each line has its head, and is found by its place and its byte, or is asked by itself.
+    requires found { AreFound heads.now.lines.items heads.now.tables (plain_tops L.plain heads.now.tops.items) }
     // No line before it holds, and it does, if there is one.
-    ensures first { IsFirst heads.now.tops.items content.now host result }
+    ensures first { IsFirst (plain_tops L.plain heads.now.tops.items) content.now host result }
     // No record of a cache is visited.
     ensures nodes { meter.new.nodes ≡ meter.old.nodes }
 {
@@ -39,13 +45,17 @@ pub fn first_line(heads: &Heads<'_>, content: &[u8], host: Host, meter: &mut Met
 }
 
 /// The first line of those that the tables name that holds, else the number of lines.
-fn among_tables(tables: &Tables, asked: &LineSearch<'_>, meter: &mut Meter) -> usize
-    requires headed { AreLineHeads asked.now.heads.now (map (λ top. top.line.now) asked.now.tops.now) }
+fn among_tables<L: MagicLine>(
+    tables: &Tables,
+    asked: &LineSearch<'_, L>,
+    meter: &mut Meter,
+) -> usize
+    requires headed { AreLineHeads asked.now.heads.now (plain_tops L.plain asked.now.tops.now) }
     requires size { length tables.now.nexts.items ≡ length asked.now.tops.now }
     requires slots { length tables.now.firsts.items ≡ length tables.now.places.items * 256 }
-    ensures narrows { Narrows asked.now.tops.now asked.now.content.now asked.now.host
+    ensures narrows { Narrows (plain_tops L.plain asked.now.tops.now) asked.now.content.now asked.now.host
         (length asked.now.tops.now) result }
-    ensures fail { TablesFail asked.now.tops.now asked.now.content.now asked.now.host tables.now result
+    ensures fail { TablesFail (plain_tops L.plain asked.now.tops.now) asked.now.content.now asked.now.host tables.now result
         (length tables.now.places.items) }
     ensures nodes { meter.new.nodes ≡ meter.old.nodes }
 {
@@ -59,20 +69,20 @@ fn among_tables(tables: &Tables, asked: &LineSearch<'_>, meter: &mut Meter) -> u
 
 /// The first line before `until` that a table names that holds, else `until`.
 #[inline]
-fn in_table(
+fn in_table<L: MagicLine>(
     tables: &Tables,
     table: usize,
-    asked: &LineSearch<'_>,
+    asked: &LineSearch<'_, L>,
     until: usize,
     meter: &mut Meter,
 ) -> usize
-    requires headed { AreLineHeads asked.now.heads.now (map (λ top. top.line.now) asked.now.tops.now) }
+    requires headed { AreLineHeads asked.now.heads.now (plain_tops L.plain asked.now.tops.now) }
     requires size { length tables.now.nexts.items ≡ length asked.now.tops.now }
     requires table { table * 256 + 256 ≤ length tables.now.firsts.items }
     requires place { table < length tables.now.places.items }
     requires until { until ≤ length asked.now.tops.now }
-    ensures narrows { Narrows asked.now.tops.now asked.now.content.now asked.now.host until result }
-    ensures fail { TableFails asked.now.tops.now asked.now.content.now asked.now.host tables.now result table }
+    ensures narrows { Narrows (plain_tops L.plain asked.now.tops.now) asked.now.content.now asked.now.host until result }
+    ensures fail { TableFails (plain_tops L.plain asked.now.tops.now) asked.now.content.now asked.now.host tables.now result table }
     ensures nodes { meter.new.nodes ≡ meter.old.nodes }
 {
     let bytes = asked.content.bytes();
@@ -86,18 +96,18 @@ fn in_table(
 
 /// The first line before `until` that holds, of the one that is named and those that follow it, else `until`.
 #[inline]
-fn in_chain(
+fn in_chain<L: MagicLine>(
     nexts: &[u16],
     named: u16,
-    asked: &LineSearch<'_>,
+    asked: &LineSearch<'_, L>,
     until: usize,
     meter: &mut Meter,
 ) -> usize
-    requires headed { AreLineHeads asked.now.heads.now (map (λ top. top.line.now) asked.now.tops.now) }
+    requires headed { AreLineHeads asked.now.heads.now (plain_tops L.plain asked.now.tops.now) }
     requires size { length nexts.now ≡ length asked.now.tops.now }
     requires until { until ≤ length asked.now.tops.now }
-    ensures narrows { Narrows asked.now.tops.now asked.now.content.now asked.now.host until result }
-    ensures fail { ChainFails asked.now.tops.now asked.now.content.now asked.now.host nexts.now named result }
+    ensures narrows { Narrows (plain_tops L.plain asked.now.tops.now) asked.now.content.now asked.now.host until result }
+    ensures fail { ChainFails (plain_tops L.plain asked.now.tops.now) asked.now.content.now asked.now.host nexts.now named result }
     ensures nodes { meter.new.nodes ≡ meter.old.nodes }
 {
     let (mut low, mut link) = (0, usize::from(named));
@@ -113,11 +123,16 @@ fn in_chain(
 }
 
 /// The first line of the others, before `until`, that holds, else `until`.
-fn among_others(others: &[usize], asked: &LineSearch<'_>, until: usize, meter: &mut Meter) -> usize
-    requires headed { AreLineHeads asked.now.heads.now (map (λ top. top.line.now) asked.now.tops.now) }
+fn among_others<L: MagicLine>(
+    others: &[usize],
+    asked: &LineSearch<'_, L>,
+    until: usize,
+    meter: &mut Meter,
+) -> usize
+    requires headed { AreLineHeads asked.now.heads.now (plain_tops L.plain asked.now.tops.now) }
     requires until { until ≤ length asked.now.tops.now }
-    ensures narrows { Narrows asked.now.tops.now asked.now.content.now asked.now.host until result }
-    ensures fail { OthersFail asked.now.tops.now asked.now.content.now asked.now.host others.now result 0 }
+    ensures narrows { Narrows (plain_tops L.plain asked.now.tops.now) asked.now.content.now asked.now.host until result }
+    ensures fail { OthersFail (plain_tops L.plain asked.now.tops.now) asked.now.content.now asked.now.host others.now result 0 }
     ensures nodes { meter.new.nodes ≡ meter.old.nodes }
 {
     meter.add_bytes(others.len() as u64);

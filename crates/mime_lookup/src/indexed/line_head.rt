@@ -1,4 +1,13 @@
-//! The head of a line of magic.
+//! The head of a line of magic, by which most lines are refused without a look at them.
+//!
+//! A head has four bytes of a line's value: the two that it begins with, and a later pair, where all bits of them
+//! count. A line holds for no content in which they stand together at none of its offsets. Where no such bytes are
+//! known, the head refuses nothing, and the line is tried.
+
+ghost use Rattle.std.specs.Prelude.{◌≡◌, ◌<◌, ℕ, List, Option, length, slice_index, true};
+ghost use Rattle.mime_base.specs.Magic.{line_from};
+ghost use Rattle.mime_load.specs.Lent.{lent_mask};
+ghost use Rattle.mime_lookup.specs.Heads.{IsHead, KeepsBytes};
 
 /// Four bytes of a line's value, two pairs that stand side by side: a window in which another byte stands at one of
 /// their places differs from the value.
@@ -20,4 +29,104 @@ pub struct LineHead {
     pub third: u8,
     /// The second byte of the later pair.
     pub fourth: u8,
+}
+
+/// The longest value of which a head tells the size.
+const LONGEST: usize = 65_535;
+
+/// The later pair of a value begins before this place of it.
+const NEAR: u8 = 16;
+
+/// A head that refuses nothing.
+const UNKNOWN: LineHead = LineHead {
+    start: 0,
+    range: 0,
+    size: 0,
+    skip: 0,
+    first: 0,
+    second: 0,
+    third: 0,
+    fourth: 0,
+};
+
+/// The head of a line of these parts.
+pub fn head_of(start: u32, range: u32, word: u32, value: &[u8], mask: Option<&[u8]>) -> LineHead
+    // A content that it refuses has no window that equals the value.
+    ensures { IsHead result (line_from start range word value.now (lent_mask mask.entry)) }
+{
+    let skip = later_pair(range, value, mask);
+    if keeps_bytes(mask, skip) {
+        return head_from(start, range, word, value, skip);
+    }
+    UNKNOWN
+}
+
+/// Where the later pair of a line's value begins: under a mask with its first byte.
+fn later_pair(range: u32, value: &[u8], mask: Option<&[u8]>) -> u8 {
+    if mask.is_some() || value.len() < 4 {
+        return 0;
+    }
+    if range == 1 {
+        return 2;
+    }
+    rarest_pair(value)
+}
+
+/// The last pair of a value, from its third byte on and near its front, that has the fewest common bytes.
+fn rarest_pair(value: &[u8]) -> u8 {
+    let (mut rarest, mut least) = (0, 2);
+    for place in 2..NEAR {
+        let at = usize::from(place);
+        if at + 1 >= value.len() {
+            return rarest;
+        }
+        let common = u8::from(is_common(value[at])) + u8::from(is_common(value[at + 1]));
+        if common <= least {
+            (rarest, least) = (place, common);
+        }
+    }
+    rarest
+}
+
+/// Whether a byte is one of those that most contents have many of: small letters, spaces and zeros.
+fn is_common(byte: u8) -> bool {
+    matches!(byte, b'a'..=b'z' | b' ' | 0)
+}
+
+/// Whether all bits of a value's first two bytes count, and of its later pair.
+fn keeps_bytes(mask: Option<&[u8]>, skip: u8) -> bool
+    ensures { result ≡ true → KeepsBytes (lent_mask mask.entry) skip }
+{
+    match mask {
+        Some(mask) => skip == 0 && mask.len() > 1 && mask[0] == 255 && mask[1] == 255,
+        None => true,
+    }
+}
+
+/// The head of a line of which all bits of these bytes count.
+fn head_from(start: u32, range: u32, word: u32, value: &[u8], skip: u8) -> LineHead
+    ensures { (mask : Option (List ℕ)) → KeepsBytes mask skip
+        → IsHead result (line_from start range word value.now mask) }
+{
+    if word != 1 || value.is_empty() || value.len() > LONGEST {
+        return UNKNOWN;
+    }
+    let later = usize::from(skip);
+    LineHead {
+        start,
+        range,
+        size: value.len() as u16,
+        skip,
+        first: value[0],
+        second: byte_at(value, 1),
+        third: byte_at(value, later),
+        fourth: byte_at(value, later + 1),
+    }
+}
+
+/// The byte at a place of a value, or 0 past its end.
+fn byte_at(value: &[u8], place: usize) -> u8
+    ensures { place < length value.now → result ≡ slice_index value.now place }
+{
+    if place < value.len() { value[place] } else { 0 }
 }

@@ -1,22 +1,24 @@
 //! Lines of magic, and the content that they are asked of.
 
-ghost use Rattle.std.specs.Prelude.{◌≡◌, ℕ, ◌+◌, ◌<◌, ◌≤◌, true, false, length, map, slice_index};
+ghost use Rattle.std.specs.Prelude.{◌≡◌, ℕ, ◌+◌, ◌<◌, ◌≤◌, true, false, length, slice_index};
 ghost use Rattle.mime_lookup.specs.Heads.{AreLineHeads, RefusesContent, ShowsBytes};
 ghost use Rattle.mime_lookup.specs.Tables.{Fails, Holds};
+ghost use Rattle.mime_lookup.specs.TopLines.{plain_tops};
 
 use crate::indexed::line_head::LineHead;
+use crate::indexed::magic_line::MagicLine;
 use crate::indexed::noted_pairs::{FRONT, NotedPairs};
 use crate::indexed::top_line::TopLine;
 use memchr::memchr;
-use mime_base::{Host, Meter, line_matches, pass_pairs};
+use mime_base::{Host, Meter, pass_pairs};
 
 /// Lines, and the content that they are asked of.
-#[derive(Clone, Copy)]
-pub struct LineSearch<'a> {
+#[derive(Drop)]
+pub struct LineSearch<'a, L> {
     /// The head of each line.
     pub heads: &'a [LineHead],
     /// The lines.
-    pub tops: &'a [TopLine<'a>],
+    pub tops: &'a [TopLine<'a, L>],
     /// The content.
     pub content: &'a NotedPairs<'a>,
     /// The host, by which words are read.
@@ -26,27 +28,23 @@ pub struct LineSearch<'a> {
 /// Whether a line holds: most that don't are refused by their heads.
 // Called from two loops, in which most lines are refused by a few instructions.
 #[inline(always)]
-pub fn line_holds(asked: &LineSearch<'_>, line: usize, meter: &mut Meter) -> bool
+pub fn line_holds<L: MagicLine>(asked: &LineSearch<'_, L>, line: usize, meter: &mut Meter) -> bool
     // Each line has its head.
-    requires headed { AreLineHeads asked.now.heads.now (map (λ top. top.line.now) asked.now.tops.now) }
+    requires headed { AreLineHeads asked.now.heads.now (plain_tops L.plain asked.now.tops.now) }
     // It is the number of a line.
     requires inside { line < length asked.now.tops.now }
     // The line holds where it says so.
-    ensures holds { result ≡ true → Holds asked.now.tops.now asked.now.content.now asked.now.host line }
+    ensures holds { result ≡ true → Holds (plain_tops L.plain asked.now.tops.now) asked.now.content.now asked.now.host line }
     // It doesn't where it says not.
-    ensures fails { result ≡ false → Fails asked.now.tops.now asked.now.content.now asked.now.host line }
+    ensures fails { result ≡ false → Fails (plain_tops L.plain asked.now.tops.now) asked.now.content.now asked.now.host line }
     // No record of a cache is visited.
     ensures nodes { meter.new.nodes ≡ meter.old.nodes }
 {
     if refuses(&asked.heads[line], asked.content, meter) {
         return false;
     }
-    line_matches(
-        asked.tops[line].line,
-        asked.content.bytes(),
-        asked.host,
-        meter,
-    )
+    let top = &asked.tops[line];
+    top.line.holds(asked.content.bytes(), asked.host, meter)
 }
 
 /// Whether a line's head refuses a content.

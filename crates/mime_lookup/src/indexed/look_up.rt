@@ -4,7 +4,7 @@ ghost use Rattle.std.specs.Prelude.{◌≡◌, ◌<◌, ◌≤◌, length, IfErr
 ghost use Rattle.mime_base.specs.Database.{plain_database};
 ghost use Rattle.mime_lookup.specs.CheckingOrder.{globs_suffice, read_limit};
 ghost use Rattle.mime_lookup.specs.Content.{known_content};
-ghost use Rattle.mime_lookup.specs.LookUps.{IsPlainAnswer, cause_in, meter_in, name_too_long, read_in};
+ghost use Rattle.mime_lookup.specs.LookUps.{ChoosesSome, IsPlainAnswer, cause_in, meter_in, name_too_long, read_in};
 ghost use Rattle.mime_lookup.specs.Reads.{AsksUnless, IsReadOrMemory, Reads};
 
 use crate::ancestry::first_at;
@@ -19,7 +19,7 @@ use crate::indexed::sniff::first_section;
 use crate::order::Order;
 use crate::places::unalias_at;
 use crate::stopped::Stopped;
-use mime_base::{Host, Meter, OutOfMemory, Section, database_keeps_limits};
+use mime_base::{Host, Meter, OutOfMemory, database_keeps_limits};
 use std::alloc::Global;
 
 /// The type that the checking order gives to a name and a content, over an index: as [`crate::look_up_plain`]
@@ -44,6 +44,9 @@ pub fn look_up_indexed<'a, R: Content>(
     // The type is the one that the checking order gives to the name and the whole content, of which it reads as much as it says.
     ensures answers { IfOk result (λ answer. IfSome (known_content R.remaining content.old)
         (λ known. IsPlainAnswer (plain_database index.now) name.now known host order answer)) }
+    // Whatever is known of the content, the order gives the type to the name and to some content.
+    ensures some { IfOk result (λ answer.
+        ChoosesSome (plain_database index.now) name.now content.old host order answer.kind.now) }
     // A name of more than 4,096 bytes is too long, before anything else.
     ensures too_long { 4096 < length name.now → (content.new ≡ content.old) × (result ≡ name_too_long) }
     // For another name it stops only for a read or for memory, so never for a cache.
@@ -85,7 +88,12 @@ impl<'a> Asked<'a> for IndexedDatabase<'a> {
         candidate_kinds(alloc, self, name, meter)
     }
 
-    fn first_section(&self, content: &[u8], host: Host, meter: &mut Meter) -> Option<&'a Section> {
+    fn first_section(
+        &self,
+        content: &[u8],
+        host: Host,
+        meter: &mut Meter,
+    ) -> Option<(&'a [u8], u32)> {
         first_section(&self.heads, content, host, meter)
     }
 

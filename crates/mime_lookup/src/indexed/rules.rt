@@ -4,10 +4,11 @@ ghost use Rattle.std.specs.Prelude.{◌≡◌, map, IfOk};
 ghost use Rattle.mime_base.specs.Database.PlainPairs.{plain_pairs};
 ghost use Rattle.mime_lookup.specs.Indexed.{unaliased_rule};
 ghost use Rattle.mime_lookup.specs.Places.{IsPlaced};
-ghost use Rattle.mime_base.specs.Database.Lent.{plain_rule};
+ghost use Rattle.mime_names.specs.Rules.{plain_named};
 
 use crate::places::{Places, unalias_at};
-use mime_base::{GlobRule, LentRule, OutOfMemory};
+use mime_base::{GlobRule, OutOfMemory};
+use mime_names::NamedRule;
 use std::alloc::Global;
 
 /// The rules, each with its type after one alias step.
@@ -15,19 +16,19 @@ pub fn lent_rules<'a>(
     alloc: Global,
     rules: &'a [GlobRule],
     aliases: &Places<'a>,
-) -> Result<Vec<LentRule<'a>>, OutOfMemory>
+) -> Result<Vec<NamedRule<'a, 'a>>, OutOfMemory>
     requires placed { IsPlaced aliases.now }
     // They are these rules, but each type went one alias step.
-    ensures { IfOk result (λ lent. map plain_rule lent.items ≡ map (unaliased_rule (plain_pairs aliases.now.pairs.now)) rules.entry.now) }
+    ensures { IfOk result (λ lent. map plain_named lent.items ≡ map (unaliased_rule (plain_pairs aliases.now.pairs.now)) rules.entry.now) }
 {
     let mut lent = Vec::with_capacity(alloc, rules.len())?;
     for rule in rules {
-        lent.push(LentRule {
+        lent.push_reserved(NamedRule {
             weight: rule.weight,
             kind: unalias_at(aliases, rule.kind.bytes()),
             pattern: rule.pattern.bytes(),
             cased: rule.cased,
-        })?;
+        });
     }
     Ok(lent)
 }

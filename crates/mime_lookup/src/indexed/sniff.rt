@@ -1,34 +1,37 @@
 //! The first section of magic that holds for a content, of lines that their heads don't refuse.
 
-ghost use Rattle.std.specs.Prelude.{◌≡◌, List, map, option_map};
-ghost use Rattle.std.specs.List.{flat_map};
+ghost use Rattle.std.specs.Prelude.{◌≡◌, List};
 ghost use Rattle.mime_base.specs.Magic.Holds.{first_magic};
-ghost use Rattle.mime_base.specs.Magic.{plain_sections};
-ghost use Rattle.mime_base.specs.declared.magic.Section.{Section};
-ghost use Rattle.mime_lookup.specs.Heads.{AreLineHeads, plain_top, tops_of};
-ghost use Rattle.mime_lookup.specs.Tables.{AreTables};
+ghost use Rattle.mime_base.specs.Magic.{PlainSection};
+ghost use Rattle.mime_lookup.specs.Indexed.{AreFound};
+ghost use Rattle.mime_lookup.specs.TopLines.{plain_tops, top_lines};
+ghost use Rattle.mime_view.specs.Magic.{plain_found};
 
 use crate::indexed::first_line::first_line;
 use crate::indexed::heads::Heads;
-use mime_base::{Host, Meter, Section};
+use crate::indexed::magic_line::MagicLine;
+use mime_base::{Host, Meter};
 
-/// The first section with a line of indent 0 that holds.
+/// The type and the priority of the first section with a line of indent 0 that holds.
 // As `crate::lists::first_section`, but line by line, and only those that the tables name for the content, and the others.
-pub fn first_section<'a>(
-    heads: &Heads<'a>,
+pub fn first_section<'a, L: MagicLine>(
+    heads: &Heads<'a, L>,
     content: &[u8],
     host: Host,
     meter: &mut Meter,
-) -> Option<&'a Section>
-    requires headed { AreLineHeads heads.now.lines.items (map (λ top. top.line.now) heads.now.tops.items) }
-    requires tabled { AreTables heads.now.tables heads.now.lines.items 0 }
-    ensures first { (sections : List Section) → map plain_top heads.now.tops.items ≡ flat_map tops_of sections
-        → option_map (λ section. (section.now.kind, section.now.priority)) result ≡ first_magic (plain_sections sections) content.now host }
+) -> Option<(&'a [u8], u32)>
+    // Each line has its head, and is found by its place and its byte, or is asked by itself.
+    requires found { AreFound heads.now.lines.items heads.now.tables (plain_tops L.plain heads.now.tops.items) }
+    // Of sections with these lines of indent 0 it is the first that holds.
+    ensures first { (sections : List PlainSection) → plain_tops L.plain heads.now.tops.items ≡ top_lines sections
+        → plain_found result ≡ first_magic sections content.now host }
+    // No record of a cache is visited.
     ensures nodes { meter.new.nodes ≡ meter.old.nodes }
 {
     let first = first_line(heads, content, host, meter);
     if first < heads.tops.len() {
-        return Some(heads.tops[first].section);
+        let top = &heads.tops[first];
+        return Some((top.kind, top.priority));
     }
     None
 }

@@ -1,4 +1,3 @@
-use Rattle.std.proofs.Common.{◌≡◌}
 use Rattle.mime_lookup.specs.Places.{placed}
 use Rattle.mime_lookup.proofs.AncestryLemmas.Marks.{none_marked}
 use Rattle.mime_lookup.proofs.ancestry.leads_to.Goals as goal

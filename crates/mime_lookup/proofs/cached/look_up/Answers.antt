@@ -21,7 +21,7 @@ returns-in-Ok-clause-costs g c =
 
 pub returns-in-Err-clause-stops : goal.returns-in-Err-clause-stops
 returns-in-Err-clause-stops g c =
-    stops_cause _ _ c.in-Err.cause (omega arith) c.in-Err.ensures.opens.refused c.in-Err.ensures.stops
+    stops_cause _ _ c.in-Err.cause (omega arith) c.in-Err.ensures.opens.refused c.in-Err.ensures.fault c.in-Err.ensures.stops
 
 pub returns-in-Err-clause-reads : goal.returns-in-Err-clause-reads
 returns-in-Err-clause-reads g c = reads_cause c.in-Err.ensures.reads

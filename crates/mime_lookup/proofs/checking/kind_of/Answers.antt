@@ -1,4 +1,4 @@
-use Rattle.std.proofs.Common.{◌≡◌, ◌∙◌, ℕ, true, false, List, ap, sym}
+use Rattle.std.proofs.Common.{◌≡◌, ◌∙◌, ℕ, true, false, List, Some, ap, sym}
 use Rattle.std.proofs.lemmas.Option.{IfSome_then}
 use denote.Bor.{Bor}
 use Rattle.mime_lookup.specs.Ancestry.{kinds_of}
@@ -6,7 +6,7 @@ use Rattle.mime_lookup.specs.CheckingOrder.{IsSniffed, are_one_type}
 use Rattle.mime_lookup.proofs.OrderLemmas.Answering.{first_text}
 use Rattle.mime_lookup.proofs.OrderLemmas.TypesBefore.{by_asked_types, by_one_before, by_sniffed, suffice_before}
 use Rattle.mime_lookup.proofs.LookUpLemmas.LookUps.{front_read, none_read}
-use Rattle.mime_lookup.proofs.ContentLemmas.Reads.{asks_nothing, asks_stopped}
+use Rattle.mime_lookup.proofs.ContentLemmas.Reads.{asks_nothing, asks_stopped, some_content}
 use Rattle.mime_lookup.proofs.checking.kind_of.Goals as goal
 
 -- the types that the name gives suffice: the order gives this type
@@ -19,6 +19,21 @@ returns-then-are_one_type-clause-chosen g c =
     by_one_before (g.A.Asked.plain c.args.database.now) question.name.now question.host c.keeps_limits.ensures
     question.order _ (kinds_of named) _ c.in_ok-named.ensures.named one
     (ap (λ (text : Bor (List ℕ)). text.now) c.index.ensures ∙ first_text named c.index.result.now one)
+
+-- whatever the content is
+pub returns-then-are_one_type-clause-some : goal.returns-then-are_one_type-clause-some
+returns-then-are_one_type-clause-some g c =
+    let named = c.in_ok-named.named.items in
+    let question = c.args.question.now in
+    let one : are_one_type (kinds_of named) ≡ true =
+    rw c.deref.ensures.value at (sym c.are_one_type.ensures ∙ c.if-are_one_type.true) in
+    let some = some_content c.args.content.now in (
+      some.0,
+      some.1,
+      by_one_before (g.A.Asked.plain c.args.database.now) question.name.now question.host c.keeps_limits.ensures
+          question.order (Some some.0) (kinds_of named) _ c.in_ok-named.ensures.named one
+          (ap (λ (text : Bor (List ℕ)). text.now) c.index.ensures ∙ first_text named c.index.result.now one),
+    )
 
 -- and nothing is read
 pub returns-then-are_one_type-clause-read : goal.returns-then-are_one_type-clause-read
@@ -58,6 +73,18 @@ returns-then-precedes_globs-clause-chosen g c =
     by_sniffed b question.name.now content question.host question.order c.in_ok-sniffed.sniffed.kind.now
     (rw c.if-precedes_globs.true at (c.precedes_globs.ensures b content question.host is)))
 
+-- and gives it to some content
+pub returns-then-precedes_globs-clause-some : goal.returns-then-precedes_globs-clause-some
+returns-then-precedes_globs-clause-some g c =
+    let b = g.A.Asked.plain c.args.database.now in
+    let question = c.args.question.now in
+    let some = c.in_ok-sniffed.ensures.some in (
+      some.0,
+      some.1,
+      by_sniffed b question.name.now some.0 question.host question.order c.in_ok-sniffed.sniffed.kind.now
+          (rw c.if-precedes_globs.true at (c.precedes_globs.ensures b some.0 question.host some.2)),
+    )
+
 -- and the front is read
 pub returns-then-precedes_globs-clause-read : goal.returns-then-precedes_globs-clause-read
 returns-then-precedes_globs-clause-read g c =
@@ -79,6 +106,21 @@ returns-clause-chosen g c =
     (rw c.if-precedes_globs.false at (c.precedes_globs.ensures b content question.host is))
     (c.in_ok-asked.ensures.asked content is.magic) is.kind
     (rw c.deref-2.ensures.value at c.in_ok-kind.ensures.chosen))
+
+-- and gives it to some content
+pub returns-clause-some : goal.returns-clause-some
+returns-clause-some g c =
+    let b = g.A.Asked.plain c.args.database.now in
+    let question = c.args.question.now in
+    let some = c.in_ok-sniffed.ensures.some in (
+      some.0,
+      some.1,
+      by_asked_types b question.name.now some.0 question.host question.order (kinds_of c.in_ok-asked.asked.items)
+          c.in_ok-sniffed.sniffed.kind.now c.in_ok-kind.kind.now
+          (rw c.if-precedes_globs.false at (c.precedes_globs.ensures b some.0 question.host some.2))
+          (c.in_ok-asked.ensures.asked some.0 some.2.magic) some.2.kind
+          (rw c.deref-2.ensures.value at c.in_ok-kind.ensures.chosen),
+    )
 
 -- and the front is read
 pub returns-clause-read : goal.returns-clause-read

@@ -8,9 +8,9 @@ pub returns-then-some_line_matches-clause-first : goal.returns-then-some_line_ma
 returns-then-some_line_matches-clause-first c =
     let held = ap (λ ms. some_holds (forest_of (plain_matchlets ms)) c.args.content.now c.args.host) (sym c.deref.ensures.value)
     ∙ sym c.some_line_matches.ensures.holds ∙ c.if-some_line_matches.true in
-    sym (c.loop-section.invariant.left
+    rw c.bytes.ensures.text (sym (c.loop-section.invariant.left
     ∙ first_magic-here c.args.content.now c.args.host c.args.sections.now c.loop-section.section-index c.section-item.result
-    c.loop-section-test.true c.section-item.is held)
+    c.loop-section-test.true c.section-item.is held))
 
 pub loop-section-preserved : goal.loop-section-preserved
 loop-section-preserved c =

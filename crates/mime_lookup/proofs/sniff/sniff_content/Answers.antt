@@ -1,4 +1,4 @@
-use Rattle.std.proofs.Common.{◌≤◌, length, arith}
+use Rattle.std.proofs.Common.{◌≤◌, Some, length, arith, refl}
 use Rattle.mime_lookup.specs.CheckingOrder.{read_limit}
 use Rattle.mime_lookup.proofs.SniffLemmas.Sniffs.{front_size-known, is_sniffed-known}
 use Rattle.mime_lookup.proofs.sniff.sniff_content.Goals as goal
@@ -13,6 +13,11 @@ returns-in_ok-front-in-Some-clause-sniffed g c =
     (is_sniffed-known (g.A.Asked.plain c.args.database.now) c.args.host _ _ front read.front.1 limited
     (λ short. read.whole (omega (arith, short, read.front.0, c.front_limit-limit.ensures.limit)))
     _ (rw c.deref.ensures.value at c.sniff.ensures.sniffed))
+
+pub returns-in_ok-front-in-Some-clause-some : goal.returns-in_ok-front-in-Some-clause-some
+returns-in_ok-front-in-Some-clause-some g c =
+    let front = c.in_ok-front-in-Some.front.items in
+    rw c.in-Some.is (Some front, (front, refl), rw c.deref.ensures.value at c.sniff.ensures.sniffed)
 
 pub returns-in_ok-front-in-Some-clause-read : goal.returns-in_ok-front-in-Some-clause-read
 returns-in_ok-front-in-Some-clause-read g c =

@@ -19,8 +19,8 @@ pub returns-in_err-finding-clause-stops : goal.returns-in_err-finding-clause-sto
 returns-in_err-finding-clause-stops c =
     let sniff = c.in_err-finding in
     passed_on _ sniff.field-0.0 c.from_residual.result c.from_residual.ensures.1
-    (stops_then c.args.cache.now (cause_of sniff.field-0.0) sniff.ensures.stops (λ used. used) (λ b enough. (
-      suffices_content c.args.cache.now c.args.question.now.name.now (bytes_of c.args.front ≡ None) b c.args.candidates enough.1 enough.0,
+    (stops_then (cause_of sniff.field-0.0) sniff.ensures.stops (λ used. used) (λ b enough. (
+      suffices_content c.args.indexed.now c.args.question.now.name.now (bytes_of c.args.front ≡ None) b c.args.candidates enough.1 enough.0,
       omega (arith, enough.2.records),
       enough.2.value_bytes,
     )) (λ b enough read. read))
@@ -36,10 +36,10 @@ pub returns-in_err-kind-in-Kept-clause-stops : goal.returns-in_err-kind-in-Kept-
 returns-in_err-kind-in-Kept-clause-stops c =
     let choose = rw c.as_slice.ensures at c.in_err-kind-in-Kept.ensures.stops in
     rw c.in-Kept.is (passed_on _ c.in_err-kind-in-Kept.field-0.0 c.from_residual-in_err-kind-in-Kept.result
-    c.from_residual-in_err-kind-in-Kept.ensures.1 (stops_then c.args.cache.now (cause_of c.in_err-kind-in-Kept.field-0.0) choose
-    (used_for c.args.cache.now c.choose.new.spending.budget (λ none. tt)) (λ b enough.
-    let content = suffices_content c.args.cache.now c.args.question.now.name.now (bytes_of c.args.front ≡ None) b (Kept c.in-Kept.kinds) enough.1 enough.0 in (
-      suffices_choice c.args.cache.now c.args.question.now.name.now (bytes_of c.args.front ≡ None) b c.in-Kept.kinds enough.1.1 enough.1.0 enough.0,
+    c.from_residual-in_err-kind-in-Kept.ensures.1 (stops_then (cause_of c.in_err-kind-in-Kept.field-0.0) choose
+    (used_for c.args.indexed.now c.choose.new.spending.budget (λ none. tt)) (λ b enough.
+    let content = suffices_content c.args.indexed.now c.args.question.now.name.now (bytes_of c.args.front ≡ None) b (Kept c.in-Kept.kinds) enough.1 enough.0 in (
+      suffices_choice c.args.indexed.now c.args.question.now.name.now (bytes_of c.args.front ≡ None) b c.in-Kept.kinds enough.1.1 enough.1.0 enough.0,
       omega (arith, enough.2.records, c.in_ok-finding.ensures.takes b content),
     )) (λ b enough read. read)))
 
@@ -53,9 +53,9 @@ returns-in_ok-kind-in-Kept-clause-chosen c =
     rw c.in-Kept.is (λ b enough leaves.
     with_content b c.args.question.now.name.now c.args.question.now.host (plain_finding c.in_ok-finding.finding) (Some _) c.in-Kept.kinds
     c.in_ok-kind-in-Kept.kind.now leaves.1
-    (c.in_ok-finding.ensures.found b (suffices_content c.args.cache.now c.args.question.now.name.now (bytes_of c.args.front ≡ None) b (Kept c.in-Kept.kinds) leaves enough))
+    (c.in_ok-finding.ensures.found b (suffices_content c.args.indexed.now c.args.question.now.name.now (bytes_of c.args.front ≡ None) b (Kept c.in-Kept.kinds) leaves enough))
     ((rw c.as_slice.ensures at c.in_ok-kind-in-Kept.ensures.chosen) b
-    (suffices_choice c.args.cache.now c.args.question.now.name.now (bytes_of c.args.front ≡ None) b c.in-Kept.kinds leaves.1 leaves.0 enough)))
+    (suffices_choice c.args.indexed.now c.args.question.now.name.now (bytes_of c.args.front ≡ None) b c.in-Kept.kinds leaves.1 leaves.0 enough)))
 
 pub returns-in_ok-kind-in-Kept-clause-near : goal.returns-in_ok-kind-in-Kept-clause-near
 returns-in_ok-kind-in-Kept-clause-near c =
@@ -86,6 +86,9 @@ returns-then-is_high-clause-cost = of_unasked.returns-then-is_high-clause-cost
 
 pub returns-in_err-kind-in-Unasked-2-clause-stops : goal.returns-in_err-kind-in-Unasked-2-clause-stops
 returns-in_err-kind-in-Unasked-2-clause-stops = of_unasked.returns-in_err-kind-in-Unasked-2-clause-stops
+
+pub returns-in_err-kind-in-Unasked-2-clause-fault : goal.returns-in_err-kind-in-Unasked-2-clause-fault
+returns-in_err-kind-in-Unasked-2-clause-fault = of_unasked.returns-in_err-kind-in-Unasked-2-clause-fault
 
 pub returns-in_err-kind-in-Unasked-2-clause-cost : goal.returns-in_err-kind-in-Unasked-2-clause-cost
 returns-in_err-kind-in-Unasked-2-clause-cost = of_unasked.returns-in_err-kind-in-Unasked-2-clause-cost

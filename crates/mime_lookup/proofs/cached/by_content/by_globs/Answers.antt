@@ -1,11 +1,10 @@
-use Rattle.std.proofs.Common.{◌+◌, ◌*◌, ap, arith, inl, length}
+use Rattle.std.proofs.Common.{◌+◌, ◌*◌, ap, arith, inl, inr, length}
 use Rattle.std.specs.Prelude.{⊤}
 use Rattle.mime_base.specs.Database.{pairs_of}
 use Rattle.mime_lookup.specs.Cached.{cause_of, plain_finding}
 use Rattle.mime_lookup.specs.Choice.{kept}
 use Rattle.mime_lookup.specs.Costs.{glob_cost, record_cost}
 use Rattle.mime_lookup.specs.Finding.{resolved_finding}
-use Rattle.mime_lookup.specs.StepFaults.{of_globs}
 use Rattle.mime_lookup.specs.declared.order.Order.TheVariants.{GlobsFirst}
 use Rattle.mime_lookup.proofs.OrderLemmas.Answering.{one_type_chosen}
 use Rattle.mime_lookup.proofs.OrderLemmas.ByContents.{suffices_choice, suffices_globs}
@@ -19,10 +18,15 @@ pub returns-in_err-types-clause-stops : goal.returns-in_err-types-clause-stops
 returns-in_err-types-clause-stops c =
     let types = c.in_err-types in
     passed_on _ types.field-0.0 c.from_residual.result c.from_residual.ensures.1
-    (stops_for c.args.cache.now _ _ _ types.field-0.0 (of_globs c.args.name.now c.types_of.new.spending.budget types.ensures.fault)
-    (λ same. inl (globs_spent c.args.cache.now c.args.name.now c.types_of.new.spending.budget types.field-0.0 types.ensures.fault same))
-    (λ b enough. (types.ensures.gives b (suffices_globs c.args.cache.now c.args.name.now ⊤ b GlobsFirst enough.0)).given.need
+    (stops_for _ _ _ types.field-0.0
+    (λ same. inl (globs_spent c.args.indexed.now c.args.name.now c.types_of.new.spending.budget types.field-0.0 types.ensures.fault same))
+    (λ b enough. (types.ensures.gives b (suffices_globs c.args.indexed.now c.args.name.now ⊤ b GlobsFirst enough.0)).given.need
     (omega (arith, enough.1))))
+
+pub returns-in_err-types-clause-fault : goal.returns-in_err-types-clause-fault
+returns-in_err-types-clause-fault c =
+    let types = c.in_err-types in
+    passed_on _ types.field-0.0 c.from_residual.result c.from_residual.ensures.1 (inl types.ensures.fault)
 
 pub returns-in_err-types-clause-cost : goal.returns-in_err-types-clause-cost
 returns-in_err-types-clause-cost c =
@@ -30,7 +34,7 @@ returns-in_err-types-clause-cost c =
 
 pub returns-in-One-clause-chosen : goal.returns-in-One-clause-chosen
 returns-in-One-clause-chosen c b enough =
-    let globs = suffices_globs c.args.cache.now c.args.name.now ⊤ b GlobsFirst enough in
+    let globs = suffices_globs c.args.indexed.now c.args.name.now ⊤ b GlobsFirst enough in
     let is = rw c.in-One.is at (c.in_ok-types.ensures.gives b globs).given.answer in
     rw is.1 (one_type_chosen (pairs_of b) (kept (pairs_of b) b.rules c.args.name.now)
     (resolved_finding b.aliases (plain_finding c.args.finding)) is.0)
@@ -53,14 +57,20 @@ returns-in_err-kind-in-Others-clause-stops c =
     let choose = rw c.as_slice.ensures at c.in_err-kind-in-Others.ensures.stops in
     passed_on _ c.in_err-kind-in-Others.field-0.0 c.from_residual-in_err-kind-in-Others.result
     c.from_residual-in_err-kind-in-Others.ensures.1
-    (stops_then c.args.cache.now (cause_of c.in_err-kind-in-Others.field-0.0) choose (λ used. used)
+    (stops_then (cause_of c.in_err-kind-in-Others.field-0.0) choose (λ used. used)
     (λ b enough.
-    let globs = suffices_globs c.args.cache.now c.args.name.now ⊤ b GlobsFirst enough.0 in
+    let globs = suffices_globs c.args.indexed.now c.args.name.now ⊤ b GlobsFirst enough.0 in
     let is = rw c.in-Others.is at (c.in_ok-types.ensures.gives b globs).given.answer in (
-      suffices_choice c.args.cache.now c.args.name.now ⊤ b c.in-Others.kinds is.1 is.0 enough.0,
+      suffices_choice c.args.indexed.now c.args.name.now ⊤ b c.in-Others.kinds is.1 is.0 enough.0,
       omega (arith, enough.1, (c.in_ok-types.ensures.gives b globs).given.most),
     ))
     (λ b enough read. read))
+
+pub returns-in_err-kind-in-Others-clause-fault : goal.returns-in_err-kind-in-Others-clause-fault
+returns-in_err-kind-in-Others-clause-fault c =
+    let kind = c.in_err-kind-in-Others in
+    passed_on _ kind.field-0.0 c.from_residual-in_err-kind-in-Others.result c.from_residual-in_err-kind-in-Others.ensures.1
+    (inr kind.ensures.fault)
 
 pub returns-in_err-kind-in-Others-clause-cost : goal.returns-in_err-kind-in-Others-clause-cost
 returns-in_err-kind-in-Others-clause-cost c =
@@ -72,10 +82,10 @@ returns-in_err-kind-in-Others-clause-cost c =
 
 pub returns-in_ok-kind-in-Others-clause-chosen : goal.returns-in_ok-kind-in-Others-clause-chosen
 returns-in_ok-kind-in-Others-clause-chosen c b enough =
-    let globs = suffices_globs c.args.cache.now c.args.name.now ⊤ b GlobsFirst enough in
+    let globs = suffices_globs c.args.indexed.now c.args.name.now ⊤ b GlobsFirst enough in
     let is = rw c.in-Others.is at (c.in_ok-types.ensures.gives b globs).given.answer in
     rw (← is.1) ((rw c.as_slice.ensures at c.in_ok-kind-in-Others.ensures.chosen) b
-    (suffices_choice c.args.cache.now c.args.name.now ⊤ b c.in-Others.kinds is.1 is.0 enough))
+    (suffices_choice c.args.indexed.now c.args.name.now ⊤ b c.in-Others.kinds is.1 is.0 enough))
 
 pub returns-in_ok-kind-in-Others-clause-near : goal.returns-in_ok-kind-in-Others-clause-near
 returns-in_ok-kind-in-Others-clause-near c b globs decide =

@@ -11,7 +11,7 @@ use Rattle.mime_lookup.proofs.OrderLemmas.ByContents.{choice_aliases}
 use Rattle.mime_lookup.proofs.OrderLemmas.Choices.{chooses-found, chooses-from_found, one_of}
 use Rattle.mime_lookup.proofs.CostLemmas.Costs.{costs_looks, costs_then, costs_wider}
 use Rattle.mime_lookup.proofs.LookUpLemmas.KindTexts.{chosen_kind, kind_short}
-use Rattle.mime_lookup.proofs.StopLemmas.StepStops.{choice_fault, passed_on, stops_for}
+use Rattle.mime_lookup.proofs.StopLemmas.StepStops.{passed_on, stops_for}
 use Rattle.mime_lookup.proofs.CostLemmas.UsedUp.{choice_spent}
 use Rattle.mime_lookup.proofs.cached.by_content.choose.Goals as goal
 
@@ -20,11 +20,16 @@ returns-in_err-base-clause-stops c =
     let base = c.in_err-base in
     let left = c.unalias.new.spending.budget in
     passed_on _ base.field-0.0 c.from_residual.result c.from_residual.ensures.1
-    (stops_for c.args.cache.now _ _ _ base.field-0.0 (choice_fault c.args.cache.now left base.field-0.0 (inl base.ensures.fault))
-    (λ same. inl (choice_spent c.args.cache.now left base.field-0.0 (inl base.ensures.fault) same))
+    (stops_for _ _ _ base.field-0.0
+    (λ same. inl (choice_spent c.args.indexed.now left base.field-0.0 (inl base.ensures.fault) same))
     (λ b enough.
-    let aliases = choice_aliases c.args.cache.now (kinds_of c.args.kinds.now) b enough.0 in
+    let aliases = choice_aliases c.args.indexed.now (kinds_of c.args.kinds.now) b enough.0 in
     absurd (base.ensures.answer b aliases.0 aliases.1.0 aliases.1.1)))
+
+pub returns-in_err-base-clause-fault : goal.returns-in_err-base-clause-fault
+returns-in_err-base-clause-fault c =
+    let base = c.in_err-base in
+    passed_on _ base.field-0.0 c.from_residual.result c.from_residual.ensures.1 (inr (inl base.ensures.fault))
 
 pub returns-in_err-base-clause-cost : goal.returns-in_err-base-clause-cost
 returns-in_err-base-clause-cost c =
@@ -34,7 +39,7 @@ returns-in_err-base-clause-cost c =
 pub returns-then-is_empty-clause-chosen : goal.returns-then-is_empty-clause-chosen
 returns-then-is_empty-clause-chosen c b enough =
     let none : length c.args.kinds.now ≡ 0 = grind (arith, eqb-true) in
-    let aliases = choice_aliases c.args.cache.now (kinds_of c.args.kinds.now) b enough in
+    let aliases = choice_aliases c.args.indexed.now (kinds_of c.args.kinds.now) b enough in
     chooses-found (pairs_of b) c.in_ok-base.base.now (resolved_finding b.aliases (plain_finding c.args.finding)) c.args.kinds.now
     (c.in_ok-base.ensures.answer b aliases.0 aliases.1.0 aliases.1.1) none
 
@@ -44,7 +49,7 @@ returns-then-is_empty-clause-cost c =
     (omega arith)
 
 pub first_of-requires : goal.first_of-requires
-first_of-requires c = record { base = omega (arith, kind_short c.args.cache.now c.in_ok-base.base.now c.in_ok-base.ensures.kind) }
+first_of-requires c = record { base = omega (arith, kind_short c.args.indexed.now c.in_ok-base.base.now c.in_ok-base.ensures.kind) }
 
 pub returns-in_err-kind-clause-stops : goal.returns-in_err-kind-clause-stops
 returns-in_err-kind-clause-stops c =
@@ -53,8 +58,8 @@ returns-in_err-kind-clause-stops c =
     let search = c.in_err-kind in
     let left = c.first_of.new.spending.budget in
     passed_on _ search.field-0.0 c.from_residual-in_err-kind.result c.from_residual-in_err-kind.ensures.1
-    (stops_for c.args.cache.now _ _ _ search.field-0.0 (choice_fault c.args.cache.now left search.field-0.0 (inr search.ensures.fault))
-    (λ same. inl (choice_spent c.args.cache.now left search.field-0.0 (inr search.ensures.fault) same))
+    (stops_for _ _ _ search.field-0.0
+    (λ same. inl (choice_spent c.args.indexed.now left search.field-0.0 (inr search.ensures.fault) same))
     (λ b enough. elim enough.0 [
       | inl pairs ↦ search.ensures.need b pairs (rw c.in_ok-base.ensures.cost.budget enough.1)
       | inr few ↦ absurd (omega (arith, some, other, length-map c.args.kinds.now (λ (text : Bor (List ℕ)). text.now), few.0))
@@ -86,7 +91,7 @@ pub returns-clause-kind : goal.returns-clause-kind
 returns-clause-kind c =
     let some : 0 < length c.args.kinds.now = grind (arith, eqb-false) in
     let other = c.if-kinds-eq1.false in
-    chosen_kind c.args.cache.now c.in_ok-kind.kind.now _ c.requires.texts
+    chosen_kind c.args.indexed.now c.in_ok-kind.kind.now _ c.requires.texts
     (inr (one_of c.args.kinds.now _ c.in_ok-kind.kind.now some c.in_ok-kind.ensures.one))
 
 pub returns-clause-alone : goal.returns-clause-alone

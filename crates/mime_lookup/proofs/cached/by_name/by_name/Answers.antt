@@ -1,5 +1,4 @@
 use Rattle.std.proofs.Common.{inl, arith}
-use Rattle.mime_lookup.specs.StepFaults.{of_globs}
 use Rattle.mime_lookup.proofs.OrderLemmas.ByNames.{costs_passed, gives_all, gives_every, gives_nothing, gives_one, gives_one_of_all, gives_others}
 use Rattle.mime_lookup.proofs.StopLemmas.StepStops.{passed_on, stops_for}
 use Rattle.mime_lookup.proofs.CostLemmas.UsedUp.{globs_spent}
@@ -10,14 +9,14 @@ returns-in_err-types-in-GlobsFirst-clause-stops c =
     let types = c.in_err-types-in-GlobsFirst in
     let left = c.types_of.new.spending.budget in
     passed_on _ types.field-0.0 c.from_residual.result c.from_residual.ensures.1
-    (stops_for c.args.cache.now _ _ _ types.field-0.0 (of_globs c.args.question.now.name.now left types.ensures.fault)
-    (λ same. inl (globs_spent c.args.cache.now c.args.question.now.name.now left types.field-0.0 types.ensures.fault same))
+    (stops_for _ _ _ types.field-0.0
+    (λ same. inl (globs_spent c.args.indexed.now c.args.question.now.name.now left types.field-0.0 types.ensures.fault same))
     (λ b enough. (types.ensures.gives b enough.0).given.need enough.1))
 
 pub returns-in_err-types-in-GlobsFirst-clause-costs : goal.returns-in_err-types-in-GlobsFirst-clause-costs
 returns-in_err-types-in-GlobsFirst-clause-costs c =
     let types = c.in_err-types-in-GlobsFirst in
-    costs_passed c.args.cache.now c.args.question.now.name.now types.field-0.0 c.from_residual.result c.from_residual.ensures.1 (record {
+    costs_passed c.args.indexed.now c.args.question.now.name.now types.field-0.0 c.from_residual.result c.from_residual.ensures.1 (record {
       takes = λ b globs. omega (arith, (types.ensures.gives b globs).given.most);
       near = λ b globs. tt;
       cost = types.ensures.cost;
@@ -62,14 +61,14 @@ returns-in_err-types-in-AllGlobs-clause-stops c =
     let types = c.in_err-types-in-AllGlobs in
     let left = c.types_of-in-AllGlobs.new.spending.budget in
     passed_on _ types.field-0.0 c.from_residual-in_err-types-in-AllGlobs.result c.from_residual-in_err-types-in-AllGlobs.ensures.1
-    (stops_for c.args.cache.now _ _ _ types.field-0.0 (of_globs c.args.question.now.name.now left types.ensures.fault)
-    (λ same. inl (globs_spent c.args.cache.now c.args.question.now.name.now left types.field-0.0 types.ensures.fault same))
+    (stops_for _ _ _ types.field-0.0
+    (λ same. inl (globs_spent c.args.indexed.now c.args.question.now.name.now left types.field-0.0 types.ensures.fault same))
     (λ b enough. (types.ensures.gives b enough.0).given.need enough.1))
 
 pub returns-in_err-types-in-AllGlobs-clause-costs : goal.returns-in_err-types-in-AllGlobs-clause-costs
 returns-in_err-types-in-AllGlobs-clause-costs c =
     let types = c.in_err-types-in-AllGlobs in
-    costs_passed c.args.cache.now c.args.question.now.name.now types.field-0.0 c.from_residual-in_err-types-in-AllGlobs.result c.from_residual-in_err-types-in-AllGlobs.ensures.1 (record {
+    costs_passed c.args.indexed.now c.args.question.now.name.now types.field-0.0 c.from_residual-in_err-types-in-AllGlobs.result c.from_residual-in_err-types-in-AllGlobs.ensures.1 (record {
       takes = λ b globs. omega (arith, (types.ensures.gives b globs).given.most);
       near = λ b globs. tt;
       cost = types.ensures.cost;

@@ -1,7 +1,6 @@
-use Rattle.std.proofs.Common.{◌∙◌, inl, sym}
+use Rattle.std.proofs.Common.{◌∙◌, sym}
 use Rattle.std.proofs.lemmas.Result.{IfOk-weaker}
 use Rattle.mime_base.specs.Cache.Bytes.{field}
-use Rattle.mime_lookup.specs.StepFaults.{of_magic}
 use Rattle.mime_lookup.proofs.SniffLemmas.TakenFronts.{taken_front}
 use Rattle.mime_lookup.proofs.StopLemmas.PlacedFaults.{no_place}
 use Rattle.mime_lookup.proofs.StopLemmas.StepStops.{passed_on, stops_for}
@@ -11,8 +10,8 @@ pub returns-in_err-limit-clause-stops : goal.returns-in_err-limit-clause-stops
 returns-in_err-limit-clause-stops c =
     let step = c.in_err-limit in
     passed_on _ step.field-0.0 c.from_residual.result c.from_residual.ensures.1
-    (stops_for c.args.cache.now _ _ _ step.field-0.0 (of_magic c.front_limit.new.spending.budget (inl step.ensures.fault))
-    (λ same. absurd (no_place (field c.args.cache.now 0 6) (sym step.ensures.fault.1 ∙ same)))
+    (stops_for _ _ _ step.field-0.0
+    (λ same. absurd (no_place (field c.args.indexed.now 0 6) (sym step.ensures.fault.1 ∙ same)))
     (λ b enough. absurd (step.ensures.need b enough.0)))
 
 pub returns-clause-answer : goal.returns-clause-answer

@@ -1,27 +1,31 @@
-use Rattle.std.proofs.Common.{◌∙◌, ap, inl, sym, Some}
+use Rattle.std.proofs.Common.{◌∙◌, ap, inl, inr, sym, Some}
 use Rattle.mime_lookup.specs.Cached.{cause_of}
 use Rattle.mime_lookup.specs.Finding.{priority_of, resolved_finding}
 use Rattle.mime_lookup.proofs.OrderLemmas.ByContents.{used_for}
 use Rattle.mime_lookup.proofs.SniffLemmas.Findings.{priority-found, sniffed-found}
 use Rattle.mime_lookup.proofs.StopLemmas.PlacedFaults.{no_alias}
-use Rattle.mime_lookup.proofs.StopLemmas.StepStops.{choice_fault, passed_on, stops_for, stops_then}
+use Rattle.mime_lookup.proofs.StopLemmas.StepStops.{passed_on, stops_for, stops_then}
 use Rattle.mime_lookup.proofs.cached.content_alone.sniff_whole.Goals as goal
 
 pub returns-in_err-finding-clause-stops : goal.returns-in_err-finding-clause-stops
 returns-in_err-finding-clause-stops c =
     let step = c.in_err-finding in
     passed_on _ step.field-0.0 c.from_residual.result c.from_residual.ensures.1
-    (stops_then c.args.cache.now (cause_of step.field-0.0) step.ensures.stops
-    (used_for c.args.cache.now c.sniff_front.new.spending.budget (λ none. absurd none))
+    (stops_then (cause_of step.field-0.0) step.ensures.stops
+    (used_for c.args.indexed.now c.sniff_front.new.spending.budget (λ none. absurd none))
     (λ b enough. (inl enough.0, enough.1, enough.2)) (λ b enough read. read))
+
+pub returns-in_err-finding-clause-fault : goal.returns-in_err-finding-clause-fault
+returns-in_err-finding-clause-fault c =
+    let step = c.in_err-finding in
+    passed_on _ step.field-0.0 c.from_residual.result c.from_residual.ensures.1 (inr step.ensures.fault)
 
 pub returns-in_err-kind-clause-stops : goal.returns-in_err-kind-clause-stops
 returns-in_err-kind-clause-stops c =
     let step = c.in_err-kind in
-    let left = c.unalias.new.spending.budget in
     passed_on _ step.field-0.0 c.from_residual-in_err-kind.result c.from_residual-in_err-kind.ensures.1
-    (stops_for c.args.cache.now _ _ _ step.field-0.0 (choice_fault c.args.cache.now left step.field-0.0 (inl step.ensures.fault))
-    (λ same. absurd (no_alias c.args.cache.now step.field-0.0 step.ensures.fault same))
+    (stops_for _ _ _ step.field-0.0
+    (λ same. absurd (no_alias c.args.indexed.now step.field-0.0 step.ensures.fault same))
     (λ b enough. absurd (step.ensures.answer b enough.0.offsets enough.0.header enough.0.aliases)))
 
 pub returns-clause-answer : goal.returns-clause-answer

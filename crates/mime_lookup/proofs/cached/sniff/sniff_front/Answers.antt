@@ -1,7 +1,6 @@
-use Rattle.std.proofs.Common.{◌∙◌, length, inr, sym, ap}
+use Rattle.std.proofs.Common.{◌∙◌, length, sym, ap}
 use Rattle.std.proofs.lemmas.Bool.{true≢false}
 use Rattle.mime_lookup.specs.Finding.{found_by}
-use Rattle.mime_lookup.specs.StepFaults.{of_magic}
 use Rattle.mime_lookup.proofs.OrderLemmas.ByContents.{content_magic}
 use Rattle.mime_lookup.proofs.CostLemmas.Costs.{costs_magic}
 use Rattle.mime_lookup.proofs.StopLemmas.StepStops.{passed_on, stops_for}
@@ -12,12 +11,18 @@ pub returns-in_err-section-clause-stops : goal.returns-in_err-section-clause-sto
 returns-in_err-section-clause-stops c =
     let sniff = c.in_err-section in
     rw c.in-Some.is (passed_on _ sniff.field-0.0 c.from_residual.result c.from_residual.ensures.1
-    (stops_for c.args.cache.now _ _ _ sniff.field-0.0 (of_magic c.sniff.new.budget (inr sniff.ensures.fault))
-    (sniff_fault_spent c.args.cache.now c.sniff.new.budget _ (λ none. absurd cc) sniff.field-0.0 (inr sniff.ensures.fault))
+    (stops_for _ _ _ sniff.field-0.0
+    (sniff_fault_spent c.args.cache.now c.in-Some.front.now c.args.host c.sniff.new.budget _ (λ none. absurd cc) sniff.field-0.0
+    sniff.ensures.fault)
     (λ b enough.
     let spells = content_magic c.args.cache.now c.in-Some.front.now b enough.0 in
     absurd (true≢false (sym
     ((sniff.ensures.answers spells.offsets b.sections spells.header spells.lines spells.magic).need tt enough.1 enough.2))))))
+
+pub returns-in_err-section-clause-fault : goal.returns-in_err-section-clause-fault
+returns-in_err-section-clause-fault c =
+    let sniff = c.in_err-section in
+    rw c.in-Some.is (passed_on _ sniff.field-0.0 c.from_residual.result c.from_residual.ensures.1 sniff.ensures.fault)
 
 pub returns-in_err-section-clause-nothing : goal.returns-in_err-section-clause-nothing
 returns-in_err-section-clause-nothing c = rw c.in-Some.is (λ none. absurd cc)

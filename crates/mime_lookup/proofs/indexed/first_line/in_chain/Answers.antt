@@ -4,14 +4,14 @@ use Rattle.mime_lookup.proofs.IndexLemmas.Chains.{leads-next, leads-onward, none
 use Rattle.mime_lookup.proofs.indexed.first_line.in_chain.Goals as goal
 
 pub returns-then-line_holds-clause-fail : goal.returns-then-line_holds-clause-fail
-returns-then-line_holds-clause-fail c = λ line steps leads below.
+returns-then-line_holds-clause-fail g c = λ line steps leads below.
     elim (c.loop-low.invariant.left line steps leads (omega (arith, below, c.if-link-until.true))) [
       | inl fails ↦ fails
       | inr rest ↦ absurd (omega (arith, below, c.loop-low-test.true, leads-onward rest.0 c.args.nexts.now c.loop-low.low c.loop-low.link line rest.1))
     ]
 
 pub loop-low-preserved : goal.loop-low-preserved
-loop-low-preserved c = record {
+loop-low-preserved g c = record {
   low = omega (arith, c.if-link-until.true);
   left = λ line steps leads below. elim (c.loop-low.invariant.left line steps leads below) [
     | inl fails ↦ inl fails
@@ -26,14 +26,14 @@ loop-low-preserved c = record {
 }
 
 pub returns-else-link-until-clause-fail : goal.returns-else-link-until-clause-fail
-returns-else-link-until-clause-fail c = λ line steps leads below.
+returns-else-link-until-clause-fail g c = λ line steps leads below.
     elim (c.loop-low.invariant.left line steps leads below) [
       | inl fails ↦ fails
       | inr rest ↦ absurd (omega (arith, below, c.if-link-until.false, leads-onward rest.0 c.args.nexts.now c.loop-low.low c.loop-low.link line rest.1))
     ]
 
 pub returns-after-loop-low-clause-fail : goal.returns-after-loop-low-clause-fail
-returns-after-loop-low-clause-fail c = λ line steps leads below.
+returns-after-loop-low-clause-fail g c = λ line steps leads below.
     elim (c.loop-low.invariant.left line steps leads below) [
       | inl fails ↦ fails
       | inr rest ↦ absurd (none-leads rest.0 c.args.nexts.now c.loop-low.low c.loop-low.link line c.loop-low-test.false rest.1)

@@ -1,6 +1,7 @@
-use Rattle.std.proofs.Common.{map, take}
+use Rattle.std.proofs.Common.{take}
 use Rattle.mime_lookup.specs.Heads.{AreLineHeads}
+use Rattle.mime_lookup.specs.TopLines.{plain_tops}
 use Rattle.mime_lookup.proofs.indexed.heads.heads_of.Given as goal
 
 abbrev pub invariant-loop-top : goal.invariant-loop-top
-invariant-loop-top l = AreLineHeads l.lines.items (map (λ top. top.line.now) (take l.top-index l.top-items))
+invariant-loop-top g l = AreLineHeads l.lines.items (plain_tops g.L.MagicLine.plain (take l.top-index l.top-items))

@@ -1,4 +1,4 @@
-use Rattle.std.proofs.Common.{◌≡◌, ◌∙◌, sym, true≢false}
+use Rattle.std.proofs.Common.{◌∙◌, sym, true≢false}
 use Rattle.mime_lookup.specs.Places.{placed}
 use Rattle.mime_lookup.proofs.AncestryLemmas.Above.{as_parent, never}
 use Rattle.mime_lookup.proofs.indexed.subclass.climbs_to.Goals as goal

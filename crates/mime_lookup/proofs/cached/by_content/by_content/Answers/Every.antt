@@ -17,7 +17,7 @@ use Rattle.mime_lookup.proofs.cached.by_content.by_content.Goals as goal
 pub choose-requires-in-Every-clause-texts : goal.choose-requires-in-Every-clause-texts
 choose-requires-in-Every-clause-texts c =
     let asked = rw c.as_slice-in-Every.ensures at c.asked_of-kinds.ensures in
-    rw asked (asked_all (IsCacheText c.args.cache.now) (is_by_magic (plain_finding c.in_ok-finding.finding)) c.in-Every.kinds c.in-Every.asked
+    rw asked (asked_all (IsCacheText c.args.indexed.now) (is_by_magic (plain_finding c.in_ok-finding.finding)) c.in-Every.kinds c.in-Every.asked
     (rw c.in-Every.is at c.requires.texts).0)
 
 -- the choice stops: the reason
@@ -26,10 +26,10 @@ returns-in_err-kind-in-Every-clause-stops c =
     let asked = rw c.as_slice-in-Every.ensures at c.asked_of-kinds.ensures in
     let choose = rw asked at c.in_err-kind-in-Every.ensures.stops in
     rw c.in-Every.is (passed_on _ c.in_err-kind-in-Every.field-0.0 c.from_residual-in_err-kind-in-Every.result
-    c.from_residual-in_err-kind-in-Every.ensures.1 (stops_then c.args.cache.now (cause_of c.in_err-kind-in-Every.field-0.0) choose
-    (used_for c.args.cache.now c.choose-in-Every.new.spending.budget (λ none. tt)) (λ b enough.
-    let content = suffices_content c.args.cache.now c.args.question.now.name.now (bytes_of c.args.front ≡ None) b (Every c.in-Every.kinds c.in-Every.asked) enough.1 enough.0 in (
-      suffices_asked c.args.cache.now c.args.question.now.name.now (bytes_of c.args.front) b c.args.question.now.host (plain_finding c.in_ok-finding.finding)
+    c.from_residual-in_err-kind-in-Every.ensures.1 (stops_then (cause_of c.in_err-kind-in-Every.field-0.0) choose
+    (used_for c.args.indexed.now c.choose-in-Every.new.spending.budget (λ none. tt)) (λ b enough.
+    let content = suffices_content c.args.indexed.now c.args.question.now.name.now (bytes_of c.args.front ≡ None) b (Every c.in-Every.kinds c.in-Every.asked) enough.1 enough.0 in (
+      suffices_asked c.args.indexed.now c.args.question.now.name.now (bytes_of c.args.front) b c.args.question.now.host (plain_finding c.in_ok-finding.finding)
           c.in-Every.kinds c.in-Every.asked (c.in_ok-finding.ensures.found b content) enough.1 enough.0,
       omega (arith, enough.2.records, c.in_ok-finding.ensures.takes b content),
     )) (λ b enough read. read)))
@@ -48,13 +48,13 @@ returns-in_ok-kind-in-Every-clause-chosen c =
     let asked = rw c.as_slice-in-Every.ensures at c.asked_of-kinds.ensures in
     rw c.in-Every.is (λ b enough leaves.
     let name = c.args.question.now.name.now in
-    let globs = suffices_globs c.args.cache.now name (bytes_of c.args.front ≡ None) b AllGlobs enough in
-    let content = suffices_content c.args.cache.now name (bytes_of c.args.front ≡ None) b (Every c.in-Every.kinds c.in-Every.asked) leaves enough in
+    let globs = suffices_globs c.args.indexed.now name (bytes_of c.args.front ≡ None) b AllGlobs enough in
+    let content = suffices_content c.args.indexed.now name (bytes_of c.args.front ≡ None) b (Every c.in-Every.kinds c.in-Every.asked) leaves enough in
     let found = c.in_ok-finding.ensures.found b content in
     every_with_content b name c.args.question.now.host globs.ranks (plain_finding c.in_ok-finding.finding) (Some _)
     c.in_ok-kind-in-Every.kind.now found
     (rw (leaves.1, leaves.2) at ((rw asked at c.in_ok-kind-in-Every.ensures.chosen) b
-    (suffices_asked c.args.cache.now name (bytes_of c.args.front) b c.args.question.now.host (plain_finding c.in_ok-finding.finding)
+    (suffices_asked c.args.indexed.now name (bytes_of c.args.front) b c.args.question.now.host (plain_finding c.in_ok-finding.finding)
     c.in-Every.kinds c.in-Every.asked found leaves enough))))
 
 -- a type is chosen: the records where the globs decide
@@ -65,7 +65,7 @@ returns-in_ok-kind-in-Every-clause-near c =
     let name = c.args.question.now.name.now in
     let none = (few_asked b name _ c.in-Every.asked leaves.2 leaves.0 decide).1 in
     let found = c.in_ok-finding.ensures.found b (inr none) in
-    let unspent = (rw asked at c.in_ok-kind-in-Every.ensures.alone) (one_asked c.args.cache.now name (bytes_of c.args.front) b
+    let unspent = (rw asked at c.in_ok-kind-in-Every.ensures.alone) (one_asked c.args.indexed.now name (bytes_of c.args.front) b
     c.args.question.now.host (plain_finding c.in_ok-finding.finding) c.in-Every.kinds c.in-Every.asked found leaves decide) in
     omega (arith, unspent.looks.most_nodes, ap (λ (spending : Spending). spending.meter.nodes) (c.in_ok-finding.ensures.nothing none)))
 

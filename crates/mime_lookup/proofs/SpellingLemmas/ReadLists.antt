@@ -1,0 +1,51 @@
+-- The lists of a cache that were read back are a database that it spells.
+use Rattle.std.proofs.Common.{◌≡◌, ℕ, List, [], map, arith}
+use Rattle.std.specs.List.{All}
+use Rattle.std.proofs.lemmas.List.Elements.{All-map, All-weaker}
+use Rattle.mime_base.specs.Database.{PlainDatabase}
+use Rattle.mime_base.specs.Database.Limits.{KeepsLimits}
+use Rattle.mime_base.specs.Kept.{FitsRank}
+use Rattle.mime_base.specs.declared.database.rule.GlobRule.{GlobRule}
+use Rattle.mime_load.specs.Lent.{plain_pairs}
+use Rattle.mime_load.specs.NameLists.{AreNameLists, listed_rules}
+use Rattle.mime_load.specs.declared.name_lists.NameLists.{NameLists}
+use Rattle.mime_lookup.specs.Indexed.{unaliased_rule}
+use Rattle.mime_lookup.specs.ReadBack.{AreRulesOf}
+use Rattle.mime_lookup.specs.Spelling.{SpellsGlobs}
+
+-- their rules and aliases
+abbrev pub listed : NameLists → PlainDatabase
+listed lists = record {
+  rules = listed_rules lists;
+  aliases = plain_pairs lists.aliases.items;
+  parents = [];
+  sections = [];
+  icons = [];
+  generic_icons = [];
+}
+
+module _ (c : List ℕ) (lists : NameLists) (stand : AreNameLists c lists) where
+  -- their rules keep the limits of ranks
+  ranks : All FitsRank (listed_rules lists)
+  ranks = All-weaker KeepsLimits FitsRank (λ rule is. (is.0, omega (arith, is.1))) (listed_rules lists) stand.limits
+
+  -- they are spelled
+  spelled : SpellsGlobs c (listed lists)
+  spelled = record {
+    ranks = ranks;
+    offsets = stand.offsets;
+    header = stand.header;
+    aliases = stand.aliases;
+    literals = stand.rules.literals_stand;
+    tree = stand.rules.tree_stands;
+    globs = stand.rules.globs_stand;
+  }
+
+  -- so do these after one alias step
+  pub steps_fit : All FitsRank (map (unaliased_rule (plain_pairs lists.aliases.items)) (listed_rules lists))
+  steps_fit = All-map FitsRank (unaliased_rule (plain_pairs lists.aliases.items)) (listed_rules lists) ranks
+
+  -- these are the rules of the cache
+  pub rules_of_lists : (rules : List GlobRule) → rules ≡ map (unaliased_rule (plain_pairs lists.aliases.items)) (listed_rules lists)
+      → AreRulesOf c rules
+  rules_of_lists rules are = record { database = listed lists; spelled = spelled; are = are }

@@ -1,0 +1,43 @@
+-- The glob rules of a cache that were read back, and the types of names by them.
+use Rattle.std.specs.Prelude.{◌≡◌, ℕ, List, map, length, bytes_eq}
+use Rattle.std.specs.Borrow.{Bor}
+use Rattle.std.specs.HashMap.{HashMap, get_by}
+use Rattle.std.specs.Option.{option_map_or}
+use Rattle.mime_base.specs.Database.{PlainDatabase, pairs_of}
+use Rattle.mime_base.specs.Database.Subclass.{resolved}
+use Rattle.mime_base.specs.declared.database.rule.GlobRule.{GlobRule}
+use Rattle.mime_lookup.specs.Choice.{kept}
+use Rattle.mime_lookup.specs.Indexed.{unaliased_rule}
+use Rattle.mime_lookup.specs.NameTypes.{types_for}
+use Rattle.mime_lookup.specs.Spelling.{SpellsGlobs}
+use Rattle.mime_view.specs.declared.name_hits.NameHits.{NameHits}
+use Rattle.mime_view.specs.declared.name_hits.Which.{Which}
+
+-- the target that a map has for a type, or the type itself
+abbrev pub target_in : {S : Type 0} → HashMap (Bor (List ℕ)) (Bor (List ℕ)) S → List ℕ → List ℕ
+target_in targets kind = option_map_or (λ target. target.now) (get_by (λ key. bytes_eq kind key.now) targets) kind
+
+-- each type goes one alias step by the targets that a map has
+abbrev pub AreTargets : {S : Type 0} → List (List ℕ × List ℕ) → HashMap (Bor (List ℕ)) (Bor (List ℕ)) S → Type 0
+AreTargets aliases targets = (kind : List ℕ) → resolved aliases kind ≡ target_in targets kind
+
+-- a rule whose type went one alias step by the targets that a map has
+abbrev pub target_rule : {S : Type 0} → HashMap (Bor (List ℕ)) (Bor (List ℕ)) S → GlobRule → GlobRule
+target_rule targets rule =
+    record { weight = rule.weight; kind = target_in targets rule.kind; pattern = rule.pattern; cased = rule.cased }
+
+-- Rules are those of a cache, each with its type after one alias step.
+pub record AreRulesOf (c : List ℕ) (rules : List GlobRule) : Type 0 where
+  -- What the cache spells.
+  pub database : PlainDatabase
+  -- It does.
+  pub spelled : SpellsGlobs c database
+  -- They are its rules.
+  pub are : rules ≡ map (unaliased_rule database.aliases) database.rules
+
+-- The types of the rules that are asked for, and how many of these are kept.
+pub record AreTypesOf (which : Which) (b : PlainDatabase) (name : List ℕ) (hits : NameHits) : Type 0 where
+  -- The types, each after one alias step.
+  pub types : hits.kinds ≡ types_for which b name
+  -- As many of the first are those of the kept rules.
+  pub count : hits.kept ≡ length (kept (pairs_of b) b.rules name)

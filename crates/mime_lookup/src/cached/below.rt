@@ -1,0 +1,36 @@
+//! Whether a type lies below another, by an opened cache ("Subclassing").
+
+ghost use Rattle.std.specs.Prelude.{◌≡◌, ◌↔◌, ◌≤◌, IfErr, IfOk, IsTrue, length};
+ghost use Rattle.mime_base.specs.Database.{PlainDatabase, pairs_of};
+ghost use Rattle.mime_base.specs.Database.Subclass.{IsA};
+ghost use Rattle.mime_base.specs.Format.Packed.{Packed};
+ghost use Rattle.mime_lookup.specs.Spelling.{SpellsPairs};
+
+use crate::cached::ancestry::leads_to;
+use mime_base::Meter;
+use mime_view::{Budget, Cache, CacheFault, Marks, Spending};
+use std::alloc::Global;
+
+/// Whether a type is the base or a subclass of it, by the parents of a cache. No alias step is gone first.
+pub fn is_below<'a>(
+    alloc: Global,
+    cache: &Cache<'a>,
+    kind: &'a [u8],
+    base: &[u8],
+) -> Result<bool, CacheFault>
+    // Any text of the cache and any type name is this short.
+    requires base { length base.now ≤ 255 }
+    // Where the pairs stand, it says whether the type is the base or a subclass of it.
+    ensures answer { (b : PlainDatabase) → SpellsPairs cache.now b → IfOk result
+        (λ found. IsTrue found ↔ IsA (pairs_of b) kind.entry.now base.now) }
+    // Where the pairs of a packed database stand, only memory is refused.
+    ensures need { (b : PlainDatabase) → SpellsPairs cache.now b → Packed cache.now b
+        → IfErr result (λ e. e ≡ CacheFault.OutOfMemory) }
+{
+    let mut marks = Marks::new(alloc);
+    let mut spending = Spending {
+        meter: Meter::new(),
+        budget: Budget::of(cache),
+    };
+    leads_to(alloc, cache, &mut marks, kind, base, &mut spending)
+}

@@ -1,0 +1,162 @@
+//! A cache that is read back once its answers have paid for that. This project's own.
+//!
+//! What names need is read back once answers have visited as many records as that may visit. The magic list is read back once twice as
+//! many were visited by those whose content was read, since one of its records takes as long as two that a walk visits; the entries of
+//! the glob list aren't counted there, which a walk passes quickly. So what answers take stays within a stated multiple of what walks
+//! take, whatever the cache is, and few questions read nothing back. Each part is read back once at most: where memory is refused, or the
+//! cache spells no such list, the walk goes on.
+
+ghost use Rattle.std.specs.Prelude.{◌≡◌, ◌+◌, ◌≤◌, length, MatchResult, OnOk};
+ghost use Rattle.mime_base.specs.Meter.{raised};
+ghost use Rattle.mime_lookup.specs.Paid.{magic_price, names_price};
+ghost use Rattle.mime_view.specs.Opening.{IsOpenFault, Opens};
+
+use crate::cached::indexed_cache::IndexedCache;
+use mime_base::{Counted, Meter};
+use mime_view::CacheFault;
+use std::alloc::Global;
+use std::marker::Model;
+
+/// An opened cache, with what is still to be paid before more of it is read back.
+#[derive(Drop)]
+pub struct PaidCache<'a> {
+    indexed: IndexedCache<'a>,
+    /// What is owed for the names, none where they were read back or can't be.
+    names: Option<u64>,
+    /// What is owed for the magic list.
+    magic: Option<u64>,
+    /// How many entries the glob list has.
+    listed: u64,
+}
+
+impl<'a> Model for PaidCache<'a> {
+    ghost use Rattle.std.specs.Prelude.{ℕ, List};
+
+    ghost Value = { List ℕ };
+
+    ghost view = { λ paid. paid.indexed };
+}
+
+impl<'a> PaidCache<'a> {
+    /// Opens a cache, of which nothing is read back and nothing is paid, as [`IndexedCache::open`] does.
+    pub fn open(counted: Counted<'a>, meter: &mut Meter) -> Result<PaidCache<'a>, CacheFault>
+        // It opens a cache of version 1.2 that is neither too short nor too long; else the first thing that is wrong is the fault.
+        ensures opened { MatchResult result
+            (λ paid. (paid ≡ counted.entry) × Opens counted.entry) (IsOpenFault counted.entry) }
+        // For an answer the header is counted as one record.
+        ensures counted { OnOk result (meter.new.nodes ≡ raised meter.old.nodes 1) }
+        // Before a fault it is counted at most once.
+        ensures nodes { meter.new.nodes ≤ meter.old.nodes + 1 }
+        // It compares nothing.
+        ensures bytes { meter.new.bytes ≡ meter.old.bytes }
+    {
+        let length = counted.length();
+        let indexed = IndexedCache::open(counted, meter)?;
+        let listed = indexed.cache().glob_count(&mut Meter::new()).unwrap_or(0);
+        Ok(PaidCache {
+            indexed,
+            names: Some(names_price(length)),
+            magic: Some(magic_price(length)),
+            listed,
+        })
+    }
+
+    /// The cache, with what was read back of it.
+    pub fn indexed(&self) -> &IndexedCache<'a>
+        // It is the cache.
+        ensures { result.now ≡ self.now }
+    {
+        &self.indexed
+    }
+
+    /// Reads back what is paid.
+    #[inline]
+    pub fn read_paid(&mut self, alloc: Global)
+        // The cache is the same.
+        ensures same { self.new ≡ self.old }
+    {
+        if is_paid(self.names) {
+            self.names = None;
+            self.read_names(alloc, &mut Meter::new());
+        } else if is_paid(self.magic) {
+            self.magic = None;
+            self.read_magic(alloc, &mut Meter::new());
+        }
+    }
+
+    /// Counts what the answer to a name visited, and whether its content was read.
+    #[inline]
+    pub fn pay(&mut self, visited: u64, is_read: bool)
+        // The cache is the same.
+        ensures same { self.new ≡ self.old }
+    {
+        self.names = less(self.names, visited);
+        if is_read {
+            self.magic = less(self.magic, visited.saturating_sub(self.listed));
+        }
+    }
+
+    /// Counts what the answer to a content alone visited.
+    #[inline]
+    pub fn pay_sniffed(&mut self, visited: u64)
+        // The cache is the same.
+        ensures same { self.new ≡ self.old }
+    {
+        self.magic = less(self.magic, visited);
+    }
+
+    // Never inlined: it is done once.
+    #[inline(never)]
+    fn read_names(&mut self, alloc: Global, meter: &mut Meter)
+        ensures same { self.new ≡ self.old }
+        // It visits no more records than were paid for it.
+        ensures cost { meter.new.nodes ≤ meter.old.nodes + names_price (length self.old) }
+    {
+        // Where nothing was read back, the walk goes on.
+        let _ = self.indexed.read_names(alloc, meter);
+    }
+
+    // Never inlined: it is done once.
+    #[inline(never)]
+    fn read_magic(&mut self, alloc: Global, meter: &mut Meter)
+        ensures same { self.new ≡ self.old }
+        // It visits no more records than were paid for it.
+        ensures cost { meter.new.nodes ≤ meter.old.nodes + magic_price (length self.old) }
+    {
+        // Where nothing was read back, the walk goes on.
+        let _ = self.indexed.read_magic(alloc, meter);
+    }
+}
+
+/// What is paid before the names of a cache of this length are read back: as many records as that may visit.
+fn names_price(length: u64) -> u64
+    requires small { length ≤ 268435456 }
+    ensures { result ≡ names_price length }
+{
+    5 + length / 4 + length / 8
+}
+
+/// What is paid before its magic list is: twice as many.
+fn magic_price(length: u64) -> u64
+    requires small { length ≤ 268435456 }
+    ensures { result ≡ magic_price length }
+{
+    2 + length / 8
+}
+
+/// What is owed after that much was paid.
+#[inline]
+fn less(owed: Option<u64>, paid: u64) -> Option<u64> {
+    match owed {
+        Some(owed) => Some(owed.saturating_sub(paid)),
+        None => None,
+    }
+}
+
+#[inline]
+fn is_paid(owed: Option<u64>) -> bool {
+    match owed {
+        Some(owed) => owed == 0,
+        None => false,
+    }
+}

@@ -1,0 +1,109 @@
+//! An index of the magic that was read back from a cache.
+
+ghost use Rattle.std.specs.Prelude.{◌≡◌, ◌++◌, List, IfOk, OnOk};
+ghost use Rattle.mime_base.specs.Magic.Holds.{first_magic};
+ghost use Rattle.mime_base.specs.Magic.{PlainSection};
+ghost use Rattle.mime_load.specs.Lent.{plain_line, plain_section, plain_sections};
+ghost use Rattle.mime_lookup.specs.Indexed.{IsMagicIndex};
+ghost use Rattle.mime_lookup.specs.TopLines.{plain_tops, tops_of};
+ghost use Rattle.mime_view.specs.Magic.{plain_found};
+
+use crate::indexed::heads::{Heads, heads_of};
+use crate::indexed::sniff::first_section;
+use crate::indexed::top_line::TopLine;
+use mime_base::{Host, Meter, OutOfMemory};
+use mime_load::{LentLine, LentSection};
+use std::alloc::Global;
+use std::marker::Model;
+
+/// An index of the sections of magic that were read back from a cache. This project's own.
+///
+/// It owns their lines, and lends their bytes from the cache.
+///
+/// ```
+/// let lists = read_back(alloc, &Counted::new(&bytes), &mut meter)?;
+/// let index = MagicIndex::new(alloc, lists.sections)?;
+/// // index.first_section(content, host, &mut meter) is the type and the priority of the first section that holds
+/// ```
+#[derive(Drop)]
+pub struct MagicIndex<'a> {
+    /// The top lines with their heads, and where they are found.
+    heads: Heads<'a, LentLine<'a>>,
+}
+
+impl<'a> Model for MagicIndex<'a> {
+    ghost use Rattle.std.specs.Prelude.{List};
+    ghost use Rattle.std.specs.Coded.{codes};
+    ghost use denote.Signature.{static_lft};
+    ghost use Rattle.mime_load.specs.contracts.line.LentLine as line;
+    ghost use Rattle.mime_load.specs.declared.line.LentLine.{LentLine};
+    ghost use Rattle.mime_load.specs.Lent.{plain_line};
+    ghost use Rattle.mime_lookup.specs.Indexed.{AreFound};
+    ghost use Rattle.mime_lookup.specs.TopLines.{plain_tops};
+    ghost use Rattle.mime_lookup.specs.declared.indexed.top_line.TopLine.{TopLine};
+
+    ghost Value = { List (TopLine LentLine) };
+
+    ghost coded = { Prim.hlevel (codes, (line.the_row static_lft).coded) };
+
+    ghost view = { λ index. index.heads.tops.items };
+
+    ghost invariant = { λ index. AreFound index.heads.lines.items index.heads.tables (plain_tops plain_line index.heads.tops.items) };
+}
+
+impl<'a> MagicIndex<'a> {
+    /// The index of sections. Its time and memory grow with their lines.
+    pub fn new(alloc: Global, sections: Vec<LentSection<'a>>) -> Result<MagicIndex<'a>, OutOfMemory>
+        // It is an index of these sections: of their lines of indent 0, in their order, each with what its section gives.
+        ensures { IfOk result (λ index. IsMagicIndex index (plain_sections sections.entry.items)) }
+    {
+        let mut tops = Vec::new(alloc);
+        for section in sections {
+            push_tops(&mut tops, section)?;
+        }
+        let heads = heads_of(alloc, tops)?;
+        Ok(MagicIndex { heads })
+    }
+
+    /// The type and the priority of the first section with a line of indent 0 that holds for a content.
+    ///
+    /// The meter counts as a byte each table, each line and each place of the content's front that is looked at, and what
+    /// is compared.
+    pub fn first_section(
+        &self,
+        content: &[u8],
+        host: Host,
+        meter: &mut Meter,
+    ) -> Option<(&'a [u8], u32)>
+        // Of the sections that it is an index of it is the first that holds.
+        ensures first { (sections : List PlainSection) → IsMagicIndex self.now sections
+            → plain_found result ≡ first_magic sections content.now host }
+        // No record of a cache is visited.
+        ensures nodes { meter.new.nodes ≡ meter.old.nodes }
+    {
+        first_section(&self.heads, content, host, meter)
+    }
+}
+
+/// Adds the top lines of a section.
+fn push_tops<'a>(
+    tops: &mut Vec<TopLine<'a, LentLine<'a>>>,
+    section: LentSection<'a>,
+) -> Result<(), OutOfMemory>
+    ensures { OnOk result (plain_tops plain_line tops.new.items
+        ≡ plain_tops plain_line tops.old.items ++ tops_of (plain_section section.entry)) }
+{
+    let LentSection {
+        priority,
+        kind,
+        lines,
+    } = section;
+    for line in lines {
+        tops.push(TopLine {
+            kind,
+            priority,
+            line,
+        })?;
+    }
+    Ok(())
+}

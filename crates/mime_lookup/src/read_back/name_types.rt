@@ -1,0 +1,64 @@
+//! The types of a name by the rules of a cache that were read back.
+
+ghost use Rattle.std.specs.Prelude.{◌≡◌, ◌≤◌, length, true, IfErr, IfOk};
+ghost use Rattle.mime_base.specs.Database.{PlainDatabase};
+ghost use Rattle.mime_lookup.specs.Cached.{AreCacheTexts};
+ghost use Rattle.mime_lookup.specs.Costs.{CostsOwing, glob_cost, record_cost};
+ghost use Rattle.mime_lookup.specs.NameTypes.{GivesTypes, owed_types};
+ghost use Rattle.mime_lookup.specs.Spelling.{SpellsGlobs};
+ghost use Rattle.mime_lookup.specs.StepFaults.{IsGlobsFault};
+
+use crate::cached::name_types::{
+    NameTypes, are_one_type, count_asked, types_of as cached_types_of,
+};
+use crate::read_back::names::IndexedNames;
+use mime_base::Meter;
+use mime_view::{Cache, CacheFault, NameHits, Spending, Which};
+use std::alloc::Global;
+
+/// The types of a name as [`crate::cached::name_types::types_of`] gives them, by the rules that were read back.
+///
+/// They take nothing of the budget. So the cache is asked where a search among several types comes after them, and where there is none,
+/// unless a content is sniffed by an index then: these go by what a walk for types leaves.
+pub fn types_of<'a>(
+    alloc: Global,
+    cache: &Cache<'a>,
+    names: &IndexedNames<'a>,
+    allows_none: bool,
+    name: &[u8],
+    which: Which,
+    spending: &mut Spending,
+) -> Result<NameTypes<'a>, CacheFault>
+    requires short { length name.now ≤ 4096 }
+    // The rules are those of the cache.
+    requires same { names.now ≡ cache.now }
+    // Where the glob rules stand, these are the types of the name, and no more is taken than the rules have.
+    ensures gives { (b : PlainDatabase) → SpellsGlobs cache.now b →
+        GivesTypes which b name.now spending.old spending.new result }
+    // They are texts of the cache.
+    ensures text { IfOk result (AreCacheTexts cache.now) }
+    // The lists of rules, the tree of suffixes or an alias step shows the fault.
+    ensures fault { IfErr result (IsGlobsFault cache.now name.now spending.new.budget) }
+    // Whatever the bytes are, it costs a search, and leaves enough to try each type.
+    ensures cost { CostsOwing (owed_types result) (record_cost (length name.now)) 0 (glob_cost (length name.now))
+        spending.old spending.new }
+{
+    let hits = names.types(alloc, name, which)?;
+    let types = hits.kinds.as_slice();
+    if !is_alone(types.len(), allows_none) {
+        return cached_types_of(alloc, cache, name, which, spending);
+    }
+    let mut meter = Meter::new();
+    if are_one_type(types, &mut meter) {
+        return Ok(NameTypes::One(types[0]));
+    }
+    let asked = count_asked(types, hits.kept, &mut meter);
+    Ok(NameTypes::Others(hits.kinds, asked))
+}
+
+/// Whether nothing of the budget is taken after so many types.
+fn is_alone(count: usize, allows_none: bool) -> bool
+    ensures { result ≡ true → count ≤ 1 }
+{
+    count == 1 || (count == 0 && allows_none)
+}

@@ -1,0 +1,97 @@
+//! An index over the glob rules of a cache.
+
+ghost use Rattle.std.specs.Prelude.{◌≡◌, ◌≤◌, ℕ, All, List, length, IfOk};
+ghost use Rattle.mime_base.specs.Database.{PlainDatabase};
+ghost use Rattle.mime_load.specs.NameLists.{AreNameLists};
+ghost use Rattle.mime_lookup.specs.Cached.{IsCacheText};
+ghost use Rattle.mime_lookup.specs.ReadBack.{AreTypesOf};
+ghost use Rattle.mime_lookup.specs.Spelling.{SpellsGlobs};
+
+use crate::read_back::rules::unaliased_rules;
+use crate::read_back::spelled_once::spelled_once;
+use mime_base::{Counted, Meter, OutOfMemory};
+use mime_load::NameLists;
+use mime_names::{NameIndex, candidate_kinds, kept_kinds};
+use mime_view::{NameHits, Texts, Which};
+use std::alloc::Global;
+use std::marker::Model;
+
+/// The glob rules of a cache, with what is found of them once for many names. This project's own.
+///
+/// ```text
+/// let lists = read_names(alloc, &counted, &mut meter)?;
+/// let names = IndexedNames::new(alloc, counted, &lists)?;
+/// ```
+#[derive(Drop)]
+pub struct IndexedNames<'a> {
+    /// The bytes of the cache.
+    counted: Counted<'a>,
+    /// The index of its rules, each with its type after one alias step.
+    index: NameIndex<'a>,
+}
+
+impl<'a> Model for IndexedNames<'a> {
+    ghost use Rattle.std.specs.Prelude.{ℕ, List};
+    ghost use Rattle.mime_lookup.specs.ReadBack.{AreRulesOf};
+
+    ghost Value = { List ℕ };
+
+    ghost view = { λ names. names.counted };
+
+    ghost invariant = { λ names. AreRulesOf names.counted names.index };
+}
+
+impl<'a> IndexedNames<'a> {
+    /// The index over the lists of a cache. Its time and memory grow with its rules and aliases.
+    pub fn new(
+        alloc: Global,
+        counted: Counted<'a>,
+        lists: &NameLists<'a>,
+    ) -> Result<IndexedNames<'a>, OutOfMemory>
+        // The lists stand in the cache.
+        requires { AreNameLists counted lists.now }
+        // It is an index over this cache.
+        ensures { IfOk result (λ names. names ≡ counted.entry) }
+    {
+        let rules = unaliased_rules(alloc, lists)?;
+        let index = NameIndex::new(alloc, &rules)?;
+        Ok(IndexedNames { counted, index })
+    }
+
+    /// Whether most rules are general patterns, so that a walk of them is as quick.
+    pub fn is_mostly_general(&self) -> bool {
+        self.index.is_mostly_general()
+    }
+
+    /// The types of the rules of a name that are asked for, each after one alias step, and how many of these are kept.
+    pub fn types(
+        &self,
+        alloc: Global,
+        name: &[u8],
+        which: Which,
+    ) -> Result<NameHits<'a>, OutOfMemory>
+        // Where the glob rules of a database stand, they are these.
+        ensures gives { (b : PlainDatabase) → SpellsGlobs self.now b → IfOk result (AreTypesOf which b name.now) }
+        // They are texts of the cache.
+        ensures text { IfOk result (λ hits. All (IsCacheText self.now) hits.kinds) }
+        // No more of them are kept than there are.
+        ensures front { IfOk result (λ hits. hits.kept ≤ length hits.kinds) }
+    {
+        let kept = kept_kinds(alloc, &self.index, name, &mut Meter::new())?;
+        let count = kept.len();
+        spelled_once();
+        match which {
+            Which::Kept => Ok(NameHits {
+                kinds: Texts::of(kept),
+                kept: count,
+            }),
+            Which::Candidates => {
+                let all = candidate_kinds(alloc, &self.index, name, &mut Meter::new())?;
+                Ok(NameHits {
+                    kinds: Texts::of(all),
+                    kept: count,
+                })
+            }
+        }
+    }
+}

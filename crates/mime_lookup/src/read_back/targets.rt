@@ -1,0 +1,47 @@
+//! What the aliases of a cache point to.
+
+ghost use Rattle.std.specs.Prelude.{◌≡◌, ◌<◌, get_or, length, IfOk};
+ghost use Rattle.mime_load.specs.Lent.{plain_pairs};
+ghost use Rattle.mime_lookup.specs.ReadBack.{AreTargets, target_in};
+
+use indexmap::IndexMap;
+use mime_base::OutOfMemory;
+use mime_load::LentPair;
+use std::alloc::Global;
+
+/// The target of each alias, of several pairs of an alias that of the first.
+pub fn targets_of<'a>(
+    alloc: Global,
+    aliases: &[LentPair<'a>],
+) -> Result<IndexMap<&'a [u8], &'a [u8]>, OutOfMemory>
+    // Each type goes one alias step by them.
+    ensures { IfOk result (AreTargets (plain_pairs aliases.now)) }
+{
+    let mut targets = IndexMap::new(alloc);
+    let mut place = aliases.len();
+    while place > 0 {
+        place -= 1;
+        let pair = pair_at(aliases, place);
+        targets.insert(pair.name, pair.target)?;
+    }
+    Ok(targets)
+}
+
+/// The pair at a place.
+fn pair_at<'b, 'a>(aliases: &'b [LentPair<'a>], place: usize) -> &'b LentPair<'a>
+    requires { place < length aliases.now }
+    ensures { result.now ≡ get_or aliases.now place result.now }
+{
+    &aliases[place]
+}
+
+/// A type after one alias step.
+pub fn target_of<'a>(targets: &IndexMap<&'a [u8], &'a [u8]>, kind: &'a [u8]) -> &'a [u8]
+    // It is the target that there is for it, or the type itself.
+    ensures { result.now ≡ target_in targets.now kind.entry.now }
+{
+    match targets.get(kind).copied() {
+        Some(target) => target,
+        None => kind,
+    }
+}
