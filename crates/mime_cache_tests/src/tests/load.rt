@@ -4,7 +4,7 @@ mod damaged;
 mod written;
 
 use mime_base::{Counted, Meter};
-use mime_load::{Lists, LoadFault, Part, read_back};
+use mime_load::{Lists, LoadFault, Part, Unread, read_back, read_names};
 use std::alloc::Global;
 use std::test::Fail;
 
@@ -24,6 +24,20 @@ fn counts_of(lists: &Lists<'_>) -> [usize; 8] {
         lists.icons.len(),
         lists.generic_icons.len(),
     ]
+}
+
+/// How many members the lists have that give types to names: aliases, and rules of the three lists; none if they are not read back.
+fn name_counts(alloc: Global, cache: &[u8]) -> Result<Option<[usize; 4]>, Fail> {
+    match read_names(alloc, &Counted::new(cache), &mut Meter::new()) {
+        Ok(lists) => Ok(Some([
+            lists.aliases.len(),
+            lists.literals.len(),
+            lists.leaves.len(),
+            lists.globs.len(),
+        ])),
+        Err(Unread::NotSpelled) => Ok(None),
+        Err(Unread::OutOfMemory) => Err(Fail::from(Unread::OutOfMemory)),
+    }
 }
 
 /// What is read back of a cache.

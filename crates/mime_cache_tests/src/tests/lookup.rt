@@ -9,6 +9,7 @@ mod health;
 mod indexed;
 mod limits;
 mod magic;
+mod magic_index;
 mod pieces;
 mod reads;
 mod sample;

@@ -1,9 +1,6 @@
 //! Caches that are opened and asked for names, as they were made and damaged.
 
 mod hits;
-mod learnt;
-mod learnt_names;
-mod many_heads;
 mod parents;
 mod rules;
 mod sniffing;

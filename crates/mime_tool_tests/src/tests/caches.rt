@@ -3,11 +3,12 @@
 mod answers;
 mod checks;
 mod cost;
+mod explains;
 mod failing;
 mod faults;
 mod files;
-mod learnt;
 mod output;
+mod prepared;
 mod sample;
 
 use crate::Entry;

@@ -48,7 +48,7 @@ static ROWS: [Row; 8] = [
         err: "",
     },
     Row {
-        name: "every kind by a cache",
+        name: "every kind of type",
         words: &[
             "type", "-d", "/s", "--inode", "folder.a", "terminal", "disk", "pipe.a", "socket",
             "link.a",

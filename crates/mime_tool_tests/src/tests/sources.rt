@@ -1,4 +1,4 @@
-//! Commands over a cache that is made of data directories, those that are named or the user's.
+//! Commands over data directories, those that are named or the user's.
 
 use crate::tests::ran::{UNSET, alike, in_environment};
 use crate::{Entry, Shelf};
@@ -56,7 +56,7 @@ const NOT_TEXT: &str = "\
 mimelook: XDG_DATA_HOME, HOME or XDG_DATA_DIRS is not text (UTF-8)
 ";
 
-static NAMED: [Row; 9] = [
+static NAMED: [Row; 12] = [
     Row {
         name: "names of type",
         words: &["type", "-d", "/s", "--name-only", "mk", "A.GZ"],
@@ -67,6 +67,28 @@ static NAMED: [Row; 9] = [
         name: "content of type",
         words: &["type", "--data-dirs", "/s", "gzipped"],
         out: "gzipped: t/g\n",
+        ..ROW
+    },
+    Row {
+        name: "a file that is missing, and one whose type its content gives first",
+        words: &["type", "-d", "/s", "--magic-first", "missing.mk", "gzipped"],
+        status: 1,
+        out: "gzipped: t/g\n",
+        err: "mimelook: missing.mk: cannot open\n",
+        ..ROW
+    },
+    Row {
+        name: "type with its cost",
+        words: &["type", "-d", "", "--cost", "gzipped"],
+        out: "gzipped: application/octet-stream nodes=6 bytes=0 read=3\n",
+        err: "mimelook: no data directories\n",
+        ..ROW
+    },
+    Row {
+        name: "type over refused magic",
+        words: &["type", "-d", "/headless", "gzipped"],
+        status: 3,
+        err: "mimelook: /headless/mime/magic: magic no header at 0\n",
         ..ROW
     },
     Row {

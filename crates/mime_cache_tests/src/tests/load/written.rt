@@ -1,6 +1,6 @@
 //! Caches that were written are read back, with as many members as their texts have lines.
 
-use super::counts;
+use super::{counts, name_counts};
 use crate::tests::checked::alike;
 use crate::tests::sample::{SAMPLE, SAMPLE_TEXTS, write_at};
 use crate::tests::texts::{EMPTY, Texts, merged};
@@ -74,6 +74,23 @@ fn as_many_as_lines(rt: HostRuntime) -> Result<(), Fail> {
         counts(rt.alloc(), &SAMPLE)?,
         Ok([1, 1, 1, 1, 0, 1, 0, 0]),
     );
+    Ok(())
+}
+
+#[test]
+fn names_of_the_whole(rt: HostRuntime) -> Result<(), Fail> {
+    let alloc = rt.alloc();
+    for row in &ROWS {
+        let database = merged(alloc, &[row.texts])?;
+        let bytes = write_cache(alloc, &database, LARGEST_CACHE)?;
+        let [aliases, _, literals, leaves, globs, _, _, _] = row.counts;
+        alike(
+            &rt,
+            row.name,
+            name_counts(alloc, &bytes)?,
+            Some([aliases, literals, leaves, globs]),
+        );
+    }
     Ok(())
 }
 

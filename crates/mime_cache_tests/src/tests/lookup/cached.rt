@@ -1,10 +1,10 @@
 //! Lookups over the bytes of caches, also of damaged and hostile ones. Each keeps to the bounds on what it visits
 //! and compares.
 
+mod again;
 mod counts;
 mod cut;
 mod hostile;
-mod learnt;
 mod many;
 mod name_alone;
 mod names;

@@ -3,8 +3,8 @@
 
 use crate::tests::checked::alike;
 use crate::tests::texts::{EMPTY, Texts, merged};
-use mime_base::{Counted, Meter};
-use mime_store::{StoreFault, write_cache};
+use mime_base::{Counted, Database, Meter};
+use mime_store::{StoreFault, fits_in_cache, write_cache};
 use mime_view::{Budget, Cache};
 use std::alloc::Global;
 use std::process::Abort;
@@ -20,9 +20,29 @@ fn cache_of(
     let database = merged(alloc, &[texts])?;
     let refused = write_cache(alloc, &database, size.saturating_sub(1)).err();
     alike(rt, "one byte less", refused, Some(StoreFault::TooLarge));
+    fits(rt, alloc, &database, size)?;
     let bytes = write_cache(alloc, &database, size)?;
     alike(rt, "size", bytes.len(), size);
     Ok(bytes)
+}
+
+/// The database fits in that many bytes, and in more, and not in fewer.
+fn fits(rt: &impl Abort, alloc: Global, database: &Database, size: usize) -> Result<(), Fail> {
+    let short = fits_in_cache(alloc, database, size.saturating_sub(1))?;
+    alike(rt, "in one byte less", short, false);
+    alike(
+        rt,
+        "in its size",
+        fits_in_cache(alloc, database, size)?,
+        true,
+    );
+    alike(
+        rt,
+        "in any",
+        fits_in_cache(alloc, database, usize::MAX)?,
+        true,
+    );
+    Ok(())
 }
 
 /// The cache of rules alone opens and has no magic.

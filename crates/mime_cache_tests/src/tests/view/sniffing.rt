@@ -74,6 +74,18 @@ fn children_below_the_last_level(rt: HostRuntime) -> Result<(), CacheFault> {
     Ok(())
 }
 
+/// One that differs is not, though it has children: no section holds.
+#[test]
+fn last_level_that_differs(rt: HostRuntime) -> Result<(), CacheFault> {
+    let bytes = changed(chain(), 2104, 1);
+    let mut meter = Meter::new();
+    let cache = Cache::open(Counted::new(&bytes), &mut meter)?;
+    let mut budget = Budget::of(&cache);
+    let found = cache.sniff(b"x", Host::Little, &mut meter, &mut budget)?;
+    alike(&rt, "differs", found.is_none(), true);
+    Ok(())
+}
+
 /// Where four bytes of the sample are all ones, and the fault then.
 static DAMAGES: [(&str, usize, CacheFault); 6] = [
     ("the offset of the list", 24, FAR),

@@ -38,7 +38,7 @@ static ROWS: [Row; 6] = [
         words: &["type", "-c", "/c", "--content-only", "--cost", "/HELLO"],
         printed: "/HELLO: text/plain nodes=3 bytes=0 read=5\n",
     },
-    // The last of so many FILEs are looked up by what was learnt of the cache.
+    // So many FILEs would pay for what is read back, if costs weren't told.
     Row {
         words: &[
             "type",
@@ -97,11 +97,10 @@ static NAMES: [&str; 14] = [
     "m", "mx", "ax", "a", "M", "mk", "xx", "b", "axe", "MX", "AX", "c", "readme", "makefile",
 ];
 
-/// Two rules that stand in the glob list. Learning takes 64 bytes and the pattern's of each, and no more than the cache has: of
-/// these the first alone is learnt.
+/// Two rules that stand in the glob list.
 const FEW_RULES: &[u8] = b"50:t/m:m*\n60:t/x:?x*:cs\n";
 
-/// With what stands elsewhere beside them both are.
+/// Two more beside them, which stand elsewhere.
 const MORE_RULES: &[u8] = b"50:t/m:m*\n60:t/x:?x*:cs\n50:t/r:readme\n50:t/r:makefile\n";
 
 /// The cache of these rules.
@@ -111,7 +110,7 @@ fn of_rules(alloc: Global, globs2: &[u8]) -> Result<Vec<u8>, Fail> {
     Ok(write_cache(alloc, &database, usize::MAX)?)
 }
 
-/// Of many names the last are looked up by what was learnt of the cache: each has the line that it has in a run of its own.
+/// Of many names each has the line that it has in a run of its own: where costs are told nothing is read back.
 fn cost_alike(rt: &impl Abort, alloc: Global, cache: &[u8]) -> Result<(), Fail> {
     let entries = [("/c", Entry::Bytes(cache))];
     let mut files = Shelf { entries: &entries };

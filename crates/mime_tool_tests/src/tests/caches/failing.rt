@@ -271,7 +271,7 @@ fn stops_at(
     let (fault, status, why) = *stop;
     // The message on the missing file stands between its neighbours' lines.
     let said = if calls < 5 { "" } else { puts.said };
-    let at = format!(in alloc; "{} at {calls}", puts.name)?;
+    let at = format!(in alloc; "{} at {calls}: {why}", puts.name)?;
     let message = format!(in alloc; "{said}{why}")?;
     let is_flushed = calls < puts.pieces.len();
     let wanted = Taken {

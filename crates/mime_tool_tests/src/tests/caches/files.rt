@@ -26,7 +26,7 @@ static FILES: [Row; 3] = [
         err: "mimelook: /missing: cannot open\nmimelook: /c: truncated\n",
         ..ROW
     },
-    // The last of so many are looked up by what was learnt of the cache.
+    // The last of so many are looked up by what was read back of the cache.
     Row {
         name: "many files by their contents",
         words: &[

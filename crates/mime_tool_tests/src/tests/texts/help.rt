@@ -11,14 +11,15 @@ Tells the MIME types of files
 Usage: mimelook <COMMAND>
 
 Commands:
-  build  Writes a mime.cache from the text files of data directories
-  plain  Prints FILE: TYPE for each FILE, with no cache between
-  list   Prints a line WEIGHT:TYPE:PATTERN for each glob rule of a cache
-  check  Prints how much a cache has of each list, if it is sound
-  isa    Prints yes where TYPE is BASE or is derived from it, and else no
-  icon   Prints the icon and the generic icon of a type
-  type   Prints FILE: TYPE for each FILE, by a cache
-  help   Print this message or the help of the given subcommand(s)
+  build    Writes a mime.cache from the text files of data directories
+  plain    Prints FILE: TYPE for each FILE, with no cache between
+  list     Prints a line WEIGHT:TYPE:PATTERN for each glob rule of a cache
+  check    Prints how much a cache has of each list, if it is sound
+  explain  Prints FILE: TYPE for each FILE, and below it why
+  isa      Prints yes where TYPE is BASE or is derived from it, and else no
+  icon     Prints the icon and the generic icon of a type
+  type     Prints FILE: TYPE for each FILE, by a cache
+  help     Print this message or the help of the given subcommand(s)
 
 Options:
   -h, --help     Print help
@@ -31,7 +32,8 @@ XDG_DATA_DIRS, or else /usr/local/share and /usr/share.
 
 Exit status:
   0  what was asked for was done; or help or the version was printed
-  1  some file not answered, isa says no, or check finds no database
+  1  some file not answered, isa says no, or the cache that check or explain
+     reads back spells no database
   2  the command line is wrong
   3  database, cache or output refused
   4  out of memory

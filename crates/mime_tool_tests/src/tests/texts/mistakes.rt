@@ -7,7 +7,7 @@ use std::test::Fail;
 
 const NO_COMMAND: &str = "\
 error: 'mimelook' requires a subcommand but one was not provided
-  [subcommands: build, plain, list, check, isa, icon, type, help]
+  [subcommands: build, plain, list, check, explain, isa, icon, type, help]
 
 Usage: mimelook <COMMAND>
 

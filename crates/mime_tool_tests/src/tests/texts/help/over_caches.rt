@@ -71,6 +71,65 @@ Example:
   generic-icons 0
 ";
 
+const EXPLAIN_HELP: &str = "\
+Prints FILE: TYPE for each FILE, and below it why
+
+Usage: mimelook explain [-c CACHE | -d DIRS] [--name-only | --content-only]
+                        [--magic-first | --all-globs] [--escape] FILE...
+
+Arguments:
+  <FILE>...  The files to explain the types of; put -- before one that
+             begins with -
+
+Options:
+  -c, --cache <CACHE>     The cache to read, such as
+                          /usr/share/mime/mime.cache
+  -d, --data-dirs <DIRS>  Data directories, most preferred first, with colons
+                          between them, such as /usr/local/share:/usr/share;
+                          an empty part is skipped
+      --name-only         Go by the names alone: no FILE is opened
+      --content-only      Go by the contents alone: no name is looked at; not
+                          with --magic-first or --all-globs
+      --magic-first       Let content of high priority (80 or more) decide
+                          before names
+      --all-globs         Let content choose among all patterns that match,
+                          not among the preferred ones alone; not with
+                          --magic-first
+      --escape            In FILE and TYPE, write the bytes below 32, 127 and
+                          \\ as \\ and three octal digits
+  -h, --help              Print help
+  -V, --version           Print version
+
+Messages go to standard error. The cache is read back; one that spells no
+database is refused as by check. Below FILE: TYPE stand, each after two spaces,
+a line glob WEIGHT PATTERN TYPE for each glob rule that matches the name, the
+preferred first; a line magic PRIORITY TYPE for the first section of magic that
+holds for the content, or magic none TYPE for one that has its type by its bytes
+alone; and what decides. Behind a rule stand cs where it is case-sensitive, kept
+where no other is preferred to it, and -> OTHER where TYPE is an alias of OTHER.
+By name: the rules give one type. By content: the content gives it, since no
+rule matches or it is asked first. By both: of the types of the rules one is
+that of the content or derived from it. By default: neither; it is the first
+type of the rules, or the default.
+The content is read even where the name decides, but no further than magic can
+look. With -d the cache is made of DIRS, as build makes it; without -c and -d,
+of the user's data directories (see mimelook --help).
+
+Exit status:
+  0  every FILE was answered; or help or the version was printed
+  1  some FILE can't be opened or read, or its name is too long (above 4096
+     bytes); the others were answered; or the cache spells no database
+  2  the command line is wrong, or a word but a FILE is not UTF-8
+  3  the data can't be read or is refused, or the output can't be written
+  4  out of memory
+
+Example:
+  $ mimelook explain --name-only notes.txt
+  notes.txt: text/plain
+    glob 50 *.txt text/plain kept
+    by name
+";
+
 const IS_A_HELP: &str = "\
 Prints yes where TYPE is BASE or is derived from it, and else no
 
@@ -207,7 +266,7 @@ Example:
   notes.txt: text/plain
 ";
 
-static HELPS: [Row<'static>; 5] = [
+static HELPS: [Row<'static>; 6] = [
     Row {
         name: "help of list",
         words: &["list", "--help"],
@@ -218,6 +277,12 @@ static HELPS: [Row<'static>; 5] = [
         name: "help of check",
         words: &["check", "--help"],
         out: CHECK_HELP,
+        ..PRINTED
+    },
+    Row {
+        name: "help of explain",
+        words: &["explain", "--help"],
+        out: EXPLAIN_HELP,
         ..PRINTED
     },
     Row {

@@ -1,4 +1,4 @@
-//! Runs over so many FILEs that something is learnt of the cache meanwhile: each line is the one of a run over its FILE alone.
+//! Runs over so many FILEs that parts of the cache are read back meanwhile: each line is the one of a run over its FILE alone.
 
 use super::sample::SAMPLE;
 use crate::tests::ran::{alike, ran};
@@ -20,8 +20,10 @@ const GENERAL: [DirTexts<'static>; 1] = [DirTexts {
 }];
 
 /// The default order, in which a content is read where the name doesn't decide, and what else can be asked for.
-const ASKED: [&[&str]; 5] = [
+const ASKED: [&[&str]; 7] = [
     &[],
+    &["--cost"],
+    &["--content-only", "--cost"],
     &["--content-only"],
     &["--magic-first"],
     &["--all-globs"],
@@ -34,13 +36,13 @@ const MIXED: [&str; 20] = [
     "/near", "/empty", "/one", "/mk", "/x.gz", "/ax", "/MX", "/gz", "/text",
 ];
 
-/// No name decides: contents are read from the first FILE on, and the magic list is learnt after a few.
+/// No name decides: contents are read from the first FILE on, and the magic list is read back after a few.
 const READ_FROM_THE_FIRST: [&str; 18] = [
     "/text", "/gz", "/near", "/one", "/text", "/gz", "/near", "/one", "/text", "/gz", "/near",
     "/one", "/text", "/gz", "/near", "/one", "/text", "/gz",
 ];
 
-/// In the default order the contents of the ninth to the twentieth are read: the magic list is learnt among them.
+/// In the default order the contents of the ninth to the twentieth are read: the magic list is read back among them.
 const READ_FROM_THE_NINTH: [&str; 22] = [
     "/mk", "/x.gz", "/mk", "/x.gz", "/mk", "/x.gz", "/mk", "/x.gz", "/text", "/gz", "/near",
     "/one", "/text", "/gz", "/near", "/one", "/text", "/gz", "/near", "/one", "/mk", "/x.gz",
@@ -83,7 +85,7 @@ fn words_of(
     asked: &[&'static str],
     over: &[&'static str],
 ) -> Result<Vec<&'static str>, Fail> {
-    let mut words = Vec::from_slice(alloc, &["type", "-c", "/c", "--cost"])?;
+    let mut words = Vec::from_slice(alloc, &["type", "-c", "/c"])?;
     words.extend_from_slice(asked)?;
     words.extend_from_slice(over)?;
     Ok(words)
@@ -118,6 +120,15 @@ fn listed(alloc: Global, files: &[&str]) -> Result<Vec<u8>, Fail> {
     Ok(list)
 }
 
+/// FILEs three times over, for which both parts of the caches here are paid.
+fn thrice(alloc: Global, files: &[&'static str]) -> Result<Vec<&'static str>, Fail> {
+    let mut all = Vec::new(alloc);
+    for _ in 0..3 {
+        all.extend_from_slice(files)?;
+    }
+    Ok(all)
+}
+
 /// One run prints the lines of runs over each FILE alone, by words and by a list.
 fn prints_as_alone(
     rt: &impl Abort,
@@ -145,17 +156,17 @@ fn prints_as_alone_however_asked(
     cache: &[u8],
     files: &[&'static str],
 ) -> Result<(), Fail> {
+    let files = thrice(alloc, files)?;
     for asked in &ASKED {
-        prints_as_alone(rt, alloc, cache, asked, files)?;
+        prints_as_alone(rt, alloc, cache, asked, &files)?;
     }
     Ok(())
 }
 
-/// The cache of two rules that stand in its glob list, with so many bytes that both are learnt: 64 and the pattern's of each.
-fn of_general_rules(rt: &impl Abort, alloc: Global) -> Result<Vec<u8>, Fail> {
+/// The cache of rules of which two stand in its glob list.
+fn of_general_rules(alloc: Global) -> Result<Vec<u8>, Fail> {
     let database = merge(alloc, read_dirs(alloc, &GENERAL)?)?;
     let cache = write_cache(alloc, &database, usize::MAX)?;
-    alike(rt, "room", 64 + 2 + 64 + 3 <= cache.len(), true);
     Ok(cache)
 }
 
@@ -163,7 +174,7 @@ fn of_general_rules(rt: &impl Abort, alloc: Global) -> Result<Vec<u8>, Fail> {
 fn lines_of_many_files(rt: HostRuntime) -> Result<(), Fail> {
     let alloc = rt.alloc();
     prints_as_alone_however_asked(&rt, alloc, &SAMPLE, &MIXED)?;
-    let general = of_general_rules(&rt, alloc)?;
+    let general = of_general_rules(alloc)?;
     prints_as_alone_however_asked(&rt, alloc, &general, &MIXED)
 }
 
@@ -171,7 +182,7 @@ fn lines_of_many_files(rt: HostRuntime) -> Result<(), Fail> {
 fn lines_of_many_contents(rt: HostRuntime) -> Result<(), Fail> {
     let alloc = rt.alloc();
     prints_as_alone_however_asked(&rt, alloc, &SAMPLE, &READ_FROM_THE_FIRST)?;
-    let general = of_general_rules(&rt, alloc)?;
+    let general = of_general_rules(alloc)?;
     prints_as_alone_however_asked(&rt, alloc, &general, &READ_FROM_THE_FIRST)
 }
 
@@ -179,6 +190,6 @@ fn lines_of_many_contents(rt: HostRuntime) -> Result<(), Fail> {
 fn lines_of_contents_after_names(rt: HostRuntime) -> Result<(), Fail> {
     let alloc = rt.alloc();
     prints_as_alone_however_asked(&rt, alloc, &SAMPLE, &READ_FROM_THE_NINTH)?;
-    let general = of_general_rules(&rt, alloc)?;
+    let general = of_general_rules(alloc)?;
     prints_as_alone_however_asked(&rt, alloc, &general, &READ_FROM_THE_NINTH)
 }
