@@ -6,3 +6,4 @@ pub mod DirectoryLemmas
 pub mod DeskLemmas
 pub mod NameLemmas
 pub mod CheckLemmas
+pub mod ExplainLemmas

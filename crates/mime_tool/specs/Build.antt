@@ -116,12 +116,20 @@ LeavesBuilt environment dirs drop_twins file = LeavesWhere (is_output file) envi
 
 -- ---- the parts of `build`
 
--- a cache of the database, or that there can be none, unless memory ran out
+-- something is given of a database that fits in a cache, or the message that it doesn't, unless memory ran out
+abbrev pub GivesFitting : {X : Type 0} → PlainDatabase → (X → Type 0) → Result X Stop → Type 0
+GivesFitting database IsGiven (Ok x) = IsGiven x × (room database ≤ cache_limit)
+GivesFitting database IsGiven (Err (stop.Refused text)) = (string_bytes text ≡ too_large) × (cache_limit < room database)
+GivesFitting database IsGiven (Err stop.CannotWrite) = ⊥
+GivesFitting database IsGiven (Err stop.OutOfMemory) = Unit {0}
+
+-- a cache of the database is given
 abbrev pub GivesCache : PlainDatabase → Result (Vec ℕ Global) Stop → Type 0
-GivesCache database (Ok cache) = IsCacheOf database cache.items × (room database ≤ cache_limit)
-GivesCache database (Err (stop.Refused text)) = (string_bytes text ≡ too_large) × (cache_limit < room database)
-GivesCache database (Err stop.CannotWrite) = ⊥
-GivesCache database (Err stop.OutOfMemory) = Unit {0}
+GivesCache database = GivesFitting database (λ cache. IsCacheOf database cache.items)
+
+-- the database fits in a cache, and no more is given
+abbrev pub Fits : PlainDatabase → Result (Unit {0}) Stop → Type 0
+Fits database = GivesFitting database (λ _. Unit {0})
 
 -- what the run over a database leaves stored
 abbrev pub LeavesOver : List ℕ → (List ℕ → Stored) → (List ℕ → Stored) → PlainDatabase → Result ℕ Stop → Type 0

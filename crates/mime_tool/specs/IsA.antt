@@ -3,7 +3,7 @@ use Rattle.std.specs.Prelude.{◌≡◌, ◌↔◌, ℕ, Bool, true, false, IsTr
 use Rattle.mime_base.specs.Database.{PlainDatabase, pairs_of}
 use Rattle.mime_base.specs.Database.Subclass.{IsA, resolved}
 use Rattle.mime_base.specs.Format.Spells.{Spells}
-use Rattle.mime_lookup.specs.StepFaults.{IsLookUpFault}
+use Rattle.mime_lookup.specs.StepFaults.{IsSubclassFault}
 use Rattle.mime_view.specs.declared.fault.CacheFault.{CacheFault}
 use Rattle.mime_request.specs.Request.{PlainSource}
 use Rattle.mime_tool.specs.Cache.{IsAnsweredOr, IsRefused}
@@ -25,7 +25,7 @@ IsSaid cache kind base says = (b : PlainDatabase) → Spells cache b
 
 -- `isa` refuses the cache for this fault
 abbrev pub RefusesPairs : List ℕ → CacheFault → Type 0
-RefusesPairs cache = IsRefused cache (IsLookUpFault cache) (λ _. ⊤)
+RefusesPairs cache = IsRefused cache (IsSubclassFault cache) (λ _. ⊤)
 
 -- the answer is printed
 abbrev pub IsAnswerOf : List ℕ → List ℕ → List ℕ → Run → Type 0

@@ -4,12 +4,14 @@ pub mod Check
 pub mod Desk
 pub mod Directories
 pub mod Environment
+pub mod Explain
+pub mod ExplainSteps
 pub mod Files
 pub mod Finish
 pub mod Heard
 pub mod Icon
 pub mod IsA
-pub mod Learning
+pub mod Preparing
 pub mod Line
 pub mod LineSteps
 pub mod List

@@ -17,7 +17,7 @@ use Rattle.mime_tool.specs.declared.line.lookup.Cost.{Cost}
 use Rattle.mime_tool.specs.declared.line.lookup.Lookup.{Lookup}
 use Rattle.mime_tool.specs.declared.line.lookup.Data.{Data}
 use Rattle.mime_tool.specs.declared.line.lookup.Data.TheVariants as data_of
-use Rattle.mime_tool.specs.declared.learning.Learning.{Learning}
+use Rattle.mime_tool.specs.declared.preparing.Prepared.{Prepared}
 use Rattle.mime_tool.specs.declared.stop.Stop.{Stop}
 use Rattle.mime_tool.specs.declared.stop.Stop.TheVariants as stop
 
@@ -26,33 +26,40 @@ abbrev pub lookup_in : Data → Lookup → PlainLookup
 lookup_in (data_of.Database database) lookup = lookup_over lookup.name_only lookup.output lookup.order (plain_database database.now)
 lookup_in (data_of.Indexed index) lookup = lookup_over lookup.name_only lookup.output lookup.order (plain_database index.now)
 lookup_in (data_of.Cache path bytes cost) lookup = lookup_by path.now lookup.name_only cost lookup.output lookup.order bytes.now
-lookup_in (data_of.Learnt path heads cost) lookup = lookup_by path.now lookup.name_only cost lookup.output lookup.order heads.now
+lookup_in (data_of.Opened path cache cost) lookup = lookup_by path.now lookup.name_only cost lookup.output lookup.order cache.now
 
 -- what FILEs are looked up in: a database, or the path and the bytes of a cache, whose cost is told or not
 pub data Source : Type 0 where
   whole : Database → Source
   cached : List ℕ → List ℕ → Bool → Source
 
--- of data, whether something was learnt of it, or its index was made, or not
+-- of data, whether it was opened once for many FILEs, or its index was made, or not
 abbrev pub source_of : Data → Source
 source_of (data_of.Database database) = whole database.now
 source_of (data_of.Indexed index) = whole index.now
 source_of (data_of.Cache path bytes cost) = cached path.now bytes.now cost
-source_of (data_of.Learnt path heads cost) = cached path.now heads.now cost
+source_of (data_of.Opened path cache cost) = cached path.now cache.now cost
 
 -- the bytes of the cache in which FILEs are looked up
 abbrev pub bytes_in : Data → List ℕ
 bytes_in (data_of.Database database) = []
 bytes_in (data_of.Indexed index) = []
 bytes_in (data_of.Cache path bytes cost) = bytes.now
-bytes_in (data_of.Learnt path heads cost) = heads.now
+bytes_in (data_of.Opened path cache cost) = cache.now
 
--- What was learnt is of the cache in which FILEs are looked up, and the index is of the database.
-pub record IsOfSource (learning : Learning) : Type 0 where
-  pub cache : IfSome learning.heads (λ heads. heads ≡ bytes_in learning.lookup.by)
-  pub database : IfSome learning.index (λ index. whole index ≡ source_of learning.lookup.by)
+-- whether the cost of each answer is told
+abbrev pub tells_cost : Data → Bool
+tells_cost (data_of.Database database) = false
+tells_cost (data_of.Indexed index) = false
+tells_cost (data_of.Cache path bytes cost) = cost
+tells_cost (data_of.Opened path cache cost) = cost
 
--- Two lookups that are the same but for what was learnt.
+-- What was opened is the cache in which FILEs are looked up, and the index is of the database.
+pub record IsOfSource (prepared : Prepared) : Type 0 where
+  pub cache : IfSome prepared.cache (λ cache. cache ≡ bytes_in prepared.lookup.by)
+  pub database : IfSome prepared.index (λ index. whole index ≡ source_of prepared.lookup.by)
+
+-- Two lookups that are the same but for what was prepared.
 pub record LooksAlike (a b : Lookup) : Type 0 where
   pub source : source_of a.by ≡ source_of b.by
   pub name_only : a.name_only ≡ b.name_only

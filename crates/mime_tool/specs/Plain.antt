@@ -25,10 +25,12 @@ abbrev pub IsUnread : Bool → Output → PlainDatabase → Order → List ℕ �
 IsUnread true output database order file run = IsTyped output database order (Some []) file run
 IsUnread false output database order file run = run ≡ unanswered (cannot_read (written output file))
 
--- the run over a file of which nothing is known: a line with some type, or it can't be read
-abbrev pub IsGuessed : Output → List ℕ → Run → Type 0
-IsGuessed output file run = ((kind : List ℕ) × (run ≡ printed (type_line output file kind [])))
-    ⊎ (run ≡ unanswered (cannot_read (written output file)))
+-- the run over a file of which nothing is known: a line with a type that the checking order gives to its name and some content; or
+-- it can't be read, and the globs alone don't give its type
+abbrev pub IsGuessed : Output → PlainDatabase → Order → List ℕ → Run → Type 0
+IsGuessed output database order file run =
+    ((content : List ℕ) × IsTyped output database order (Some content) file run)
+    ⊎ ((globs_suffice database (name_for order file) order ≡ false) × (run ≡ unanswered (cannot_read (written output file))))
 
 -- how FILEs are looked up over this data
 abbrev pub lookup_over : Bool → Output → Order → PlainDatabase → PlainLookup
@@ -40,7 +42,7 @@ lookup_over name_only output order database = record {
   name_of = name_for order;
   IsTyped = IsTyped output database order;
   IsUnread = λ file. IsUnread (globs_suffice database (name_for order file) order) output database order file;
-  IsGuessed = IsGuessed output;
+  IsGuessed = IsGuessed output database order;
 }
 
 -- the lines of what is looked up over this data with these options, where this is stored and standard input gives this

@@ -3,10 +3,11 @@ use Rattle.std.specs.Prelude.{◌≡◌, ◌≢◌, ℕ, Bool, true, false, List
 use Rattle.clap.specs.Kinds.{IsAmong}
 use Rattle.clap.specs.declared.error.kind.ErrorKind.{ErrorKind}
 use Rattle.clap.specs.declared.error.kind.ErrorKind.TheVariants as kind
-use Rattle.mime_request.specs.Request.{PlainRequest, Meaning, asks, build, check, icon, is_a, list, plain, refused, type_of}
+use Rattle.mime_request.specs.Request.{PlainRequest, Meaning, asks, build, check, explain, icon, is_a, list, plain, refused, type_of}
 use Rattle.mime_tool.specs.Build.{IsBuild, LeavesBuilt}
 use Rattle.mime_tool.specs.Check.{IsCheck}
 use Rattle.mime_tool.specs.Desk.{Ends, State}
+use Rattle.mime_tool.specs.Explain.{IsExplain}
 use Rattle.mime_tool.specs.Files.{Stored, Writing}
 use Rattle.mime_tool.specs.Icon.{IsIcon}
 use Rattle.mime_tool.specs.IsA.{IsSubclassRun}
@@ -42,6 +43,7 @@ IsAskedRun process writes old new (build dirs drop_twins file) = IsBuild process
 IsAskedRun process writes old new (plain dirs options subjects) = IsPlain old process dirs options subjects
 IsAskedRun process writes old new (list source) = IsList old process.environment source
 IsAskedRun process writes old new (check source) = IsCheck old process.environment source
+IsAskedRun process writes old new (explain source options files) = IsExplain old process.environment source options
 IsAskedRun process writes old new (is_a source kind base) = IsSubclassRun old process.environment source kind base
 IsAskedRun process writes old new (icon source kind) = IsIcon old process.environment source kind
 IsAskedRun process writes old new (type_of source options subjects) = IsType old process source options subjects
@@ -50,12 +52,14 @@ IsAskedRun process writes old new (type_of source options subjects) = IsType old
 abbrev pub asked_names : PlainProcess → (List ℕ → Stored) → PlainRequest → List (List ℕ)
 asked_names process stored (plain _ _ subjects) = names_in subjects stored process.input
 asked_names process stored (type_of _ _ subjects) = names_in subjects stored process.input
+asked_names process stored (explain _ _ files) = files
 asked_names process stored _ = []
 
 -- the words of a request that are FILEs
 abbrev pub asked_files : PlainRequest → List (List ℕ)
 asked_files (plain _ _ subjects) = file_words subjects
 asked_files (type_of _ _ subjects) = file_words subjects
+asked_files (explain _ _ files) = files
 asked_files _ = []
 
 -- the run that the words ask for, or help, or what is wrong with them

@@ -22,19 +22,23 @@ abbrev pub path_of : PlainSource → List ℕ
 path_of (cache_of path) = path
 path_of (made_of dirs) = []
 
+-- the run over a database that has to fit in a cache: there can be no cache; or there can, and IsOver says what the run is; or
+-- memory ran out before that
+abbrev pub IsOverFitting : (List (List ℕ) → Run → Type 0) → PlainDatabase → List (List ℕ) → Run → Type 0
+IsOverFitting IsOver database files run =
+    ((cache_limit < room database) × (run ≡ stopped too_large silent))
+    ⊎ (((room database ≤ cache_limit) × IsOver files run)
+    ⊎ (run ≡ cut_short))
+
 -- the bytes are a cache such as `build` writes of the database
 pub record IsMade (database : PlainDatabase) (cache : List ℕ) : Type 0 where
   pub within : IsWithinLimits database
-  pub fits : room database ≤ cache_limit
   pub is : IsCacheOf database cache
 
--- the run over a database by a cache that is made of it: there can be no cache; or IsOver says what a run is by one; or
--- memory ran out before that
+-- the run over a database by a cache that is made of it; IsOver says what a run over files is by one
 abbrev pub IsOverMade : (List ℕ → List (List ℕ) → Run → Type 0) → PlainDatabase → List (List ℕ) → Run → Type 0
-IsOverMade IsOver database files run =
-    ((cache_limit < room database) × (run ≡ stopped too_large silent))
-    ⊎ (((cache : List ℕ) × IsMade database cache × IsOver cache files run)
-    ⊎ (run ≡ cut_short))
+IsOverMade IsOver database =
+    IsOverFitting (λ files run. (cache : List ℕ) × IsMade database cache × IsOver cache files run) database
 
 -- the run of a command over what is asked; IsOver says what a run over files is by a cache at a path
 abbrev pub IsSourceCommand : (List ℕ → Stored) → Option PlainEnvironment → PlainSource
@@ -51,7 +55,8 @@ LoadsData stored environment dirs = Loads (λ database. database) (IsDatabaseOf 
 -- a cache is made of directories; or they aren't loaded, or there can be no cache of them, or memory ran out
 abbrev pub MakesCache : (List ℕ → Stored) → Option PlainEnvironment → PlainDirectories → Sinks → Sinks → Result (Vec ℕ Global) Stop → Type 0
 MakesCache stored environment dirs old new (Ok cache) =
-    (database : PlainDatabase) × LoadsData stored environment dirs old new (Ok database) × IsMade database cache.items
+    (database : PlainDatabase) × LoadsData stored environment dirs old new (Ok database) × (room database ≤ cache_limit)
+    × IsMade database cache.items
 MakesCache stored environment dirs old new (Err s) =
     LoadsData stored environment dirs old new (Err s)
     ⊎ ((database : PlainDatabase) × LoadsData stored environment dirs old new (Ok database) × GivesCache database (Err s))

@@ -1,5 +1,5 @@
 -- What `type` prints.
-use Rattle.std.specs.Prelude.{◌≡◌, ◌⊎◌, ℕ, Bool, true, false, List, [], ◌++◌, Option, Some, codes, decimal, length, ⊤}
+use Rattle.std.specs.Prelude.{◌≡◌, ◌⊎◌, ℕ, Bool, true, false, List, [], ◌++◌, Option, None, Some, codes, decimal, length, ⊤}
 use Rattle.mime_base.specs.Database.{PlainDatabase}
 use Rattle.mime_base.specs.Database.Limits.{IsWithinLimits}
 use Rattle.mime_base.specs.Format.Spells.{Spells}
@@ -11,16 +11,18 @@ use Rattle.mime_lookup.specs.CheckingOrder.{Chooses, globs_suffice, read_of}
 use Rattle.mime_lookup.specs.StepFaults.{IsLookUpFault}
 use Rattle.mime_lookup.specs.declared.order.Order.{Order}
 use Rattle.mime_view.specs.declared.fault.CacheFault.{CacheFault}
-use Rattle.mime_request.specs.Request.{PlainSource, PlainSubjects}
+use Rattle.mime_request.specs.Request.{PlainDirectories, PlainSource, PlainSubjects, cache_of, made_of}
 use Rattle.mime_request.specs.declared.request.Options.{Options}
 use Rattle.mime_request.specs.declared.request.Output.{Output}
 use Rattle.mime_tool.specs.Cache.{IsAnsweredOr, IsRefused}
+use Rattle.mime_tool.specs.Directories.{IsCommand}
 use Rattle.mime_tool.specs.Files.{Stored}
 use Rattle.mime_tool.specs.Line.{IsTypeLine, PlainLookup, asked_order, name_for, with_inode}
 use Rattle.mime_tool.specs.Output.{type_line, written}
+use Rattle.mime_tool.specs.Plain.{AreTypeLines}
 use Rattle.mime_tool.specs.Process.{PlainProcess}
 use Rattle.mime_tool.specs.Run.{Run, cannot_read, printed, unanswered}
-use Rattle.mime_tool.specs.Sources.{IsSourceCommand}
+use Rattle.mime_tool.specs.Sources.{IsOverFitting, IsSourceCommand}
 use Rattle.mime_tool.specs.Subjects.{AreRuns}
 
 -- what `--cost` reports of an answer: the records that were visited, the bytes that were compared, and those that were read
@@ -33,9 +35,9 @@ abbrev pub cost_tail : Bool → Meter → ℕ → List ℕ
 cost_tail true meter read = cost_text meter read
 cost_tail false meter read = []
 
--- `type` refuses the cache for this fault
-abbrev pub RefusesLookup : List ℕ → CacheFault → Type 0
-RefusesLookup cache = IsRefused cache (IsLookUpFault cache) IsWithinLimits
+-- `type` refuses the cache for this fault of a lookup of a name
+abbrev pub RefusesLookup : List ℕ → List ℕ → CacheFault → Type 0
+RefusesLookup cache name = IsRefused cache (IsLookUpFault cache name ⊥) IsWithinLimits
 
 -- the line of a file: a type that the cache or the order has, and a cost within the bounds; where the cache spells a database,
 -- IsSaid holds of it, the type and the bytes that were read
@@ -73,10 +75,11 @@ lookup_by path name_only cost output order cache = record {
   free = cost_tail cost (record { nodes = 0; bytes = 0 }) 0;
   output = output;
   name_of = name_for order;
-  IsTyped = λ content file. IsAnsweredOr path (RefusesLookup cache) (IsLine cache cost output order file (IsChosen content order file));
-  IsUnread = λ file. IsAnsweredOr path (RefusesLookup cache)
+  IsTyped = λ content file. IsAnsweredOr path (RefusesLookup cache (name_for order file))
+      (IsLine cache cost output order file (IsChosen content order file));
+  IsUnread = λ file. IsAnsweredOr path (RefusesLookup cache (name_for order file))
       (λ run. IsLine cache cost output order file (IsChosenByGlobs order file) run ⊎ CannotBeRead cache output order file run);
-  IsGuessed = λ file. IsAnsweredOr path (RefusesLookup cache)
+  IsGuessed = λ file. IsAnsweredOr path (RefusesLookup cache (name_for order file))
       (λ run. IsLine cache cost output order file (λ _ _ _. ⊤) run ⊎ CannotBeRead cache output order file run);
 }
 
@@ -86,7 +89,20 @@ AreLinesBy subjects stored input options path cache =
     AreRuns subjects stored input (IsTypeLine (with_inode options.inode
     (lookup_by path options.name_only options.cost options.output (asked_order options) cache)))
 
+-- the run of `type` by a cache, which is stored or is made of directories
+abbrev pub IsTypeByCache : (List ℕ → Stored) → PlainProcess → PlainSource → Options → PlainSubjects → List (List ℕ) → Run → Type 0
+IsTypeByCache stored process source options subjects =
+    IsSourceCommand stored process.environment source (AreLinesBy subjects stored process.input options)
+
+-- the run of `type` over directories: by a cache that is made of them where costs are told, since a cost is that of a walk over
+-- one; else the lines are those of their database, which has to fit in a cache
+abbrev pub IsTypeOver : Bool → (List ℕ → Stored) → PlainProcess → PlainDirectories → Options → PlainSubjects → List (List ℕ) → Run → Type 0
+IsTypeOver true stored process dirs options subjects = IsTypeByCache stored process (made_of dirs) options subjects
+IsTypeOver false stored process dirs options subjects =
+    IsCommand stored None process.environment dirs
+    (λ database. IsOverFitting (AreTypeLines subjects stored process.input options database) database)
+
 -- the run of `type` over what is asked with these options, for what is looked up
 abbrev pub IsType : (List ℕ → Stored) → PlainProcess → PlainSource → Options → PlainSubjects → List (List ℕ) → Run → Type 0
-IsType stored process source options subjects =
-    IsSourceCommand stored process.environment source (AreLinesBy subjects stored process.input options)
+IsType stored process (cache_of path) options subjects = IsTypeByCache stored process (cache_of path) options subjects
+IsType stored process (made_of dirs) options subjects = IsTypeOver options.cost stored process dirs options subjects

@@ -2,7 +2,7 @@
 use Rattle.std.specs.Prelude.{ℕ, List, [], ◌∷◌, ◌++◌, Option, Some, None, codes, decimal, if◌then◌else◌, map}
 use Rattle.std.specs.List.{list_any}
 use Rattle.std.specs.Str.{bytes_eq}
-use Rattle.mime_request.specs.Request.{Meaning, PlainRequest, PlainSubjects, asks, meaning_of, of_files, of_input, of_list, plain, refused, type_of}
+use Rattle.mime_request.specs.Request.{Meaning, PlainRequest, PlainSubjects, asks, explain, meaning_of, of_files, of_input, of_list, plain, refused, type_of}
 use Rattle.mime_tool.specs.Program.{asked_files}
 use Rattle.mime_tool.specs.declared.words.RawWord.{RawWord}
 
@@ -30,6 +30,7 @@ named_subjects raws (of_list path) = of_list path
 abbrev pub with_names : List RawWord → PlainRequest → PlainRequest
 with_names raws (plain dirs options subjects) = plain dirs options (named_subjects raws subjects)
 with_names raws (type_of source options subjects) = type_of source options (named_subjects raws subjects)
+with_names raws (explain source options files) = explain source options (names_of raws files)
 with_names raws q = q
 
 -- the number of the first word that is no text and none of these FILEs

@@ -5,7 +5,7 @@
 ghost use Rattle.std.specs.Prelude.{◌≡◌, Bool, IfOk, None, [], false};
 ghost use Rattle.mime_base.specs.Database.{plain_database};
 ghost use Rattle.mime_request.specs.Request.{plain_directories};
-ghost use Rattle.mime_tool.specs.Build.{Builds, BuildsOver, BuildsWhere, GivesCache, IsPrintOver, IsPrinted, no_terminal};
+ghost use Rattle.mime_tool.specs.Build.{Builds, BuildsOver, BuildsWhere, Fits, GivesCache, IsPrintOver, IsPrinted, no_terminal};
 ghost use Rattle.mime_tool.specs.Build.{too_large, written_of};
 ghost use Rattle.mime_tool.specs.Desk.{Does, Ends, Works};
 ghost use Rattle.mime_tool.specs.Directories.{IsCommand};
@@ -20,7 +20,7 @@ use crate::status::ANSWERED;
 use crate::stop::Stop;
 use mime_base::{Database, LARGEST_CACHE, OutOfMemory};
 use mime_request::Directories;
-use mime_store::{StoreFault, write_cache};
+use mime_store::{StoreFault, fits_in_cache, write_cache};
 use mime_text::without_twins;
 use std::alloc::Global;
 
@@ -150,6 +150,18 @@ pub(crate) fn cache_of(alloc: Global, database: &Database) -> Result<Vec<u8>, St
         Ok(cache) => Ok(cache),
         Err(StoreFault::TooLarge) => Err(too_large(alloc)),
         Err(StoreFault::OutOfMemory) => Err(Stop::OutOfMemory),
+    }
+}
+
+/// Stops where no cache can hold a database.
+pub(crate) fn keep_fitting(alloc: Global, database: &Database) -> Result<(), Stop>
+    // The database fits in a cache; or the stop has the message that there can be none, or memory ran out.
+    ensures { Fits (plain_database database.now) result }
+{
+    if fits_in_cache(alloc, database, LARGEST_CACHE)? {
+        Ok(())
+    } else {
+        Err(too_large(alloc))
     }
 }
 

@@ -50,8 +50,8 @@ fn check_cache<D: Desk>(desk: &mut D, path: &str, cache: &[u8]) -> Result<u8, St
     tell(desk, path, &read)
 }
 
-// Whether the cache opens.
-fn open(alloc: Global, path: &str, cache: &[u8]) -> Result<(), Stop>
+/// Whether the cache opens.
+pub(crate) fn open(alloc: Global, path: &str, cache: &[u8]) -> Result<(), Stop>
     ensures { GivesOrRefuses path.now (RefusesToOpen cache.now) (λ _. ⊤) result }
 {
     let mut meter = Meter::new();
@@ -61,8 +61,8 @@ fn open(alloc: Global, path: &str, cache: &[u8]) -> Result<(), Stop>
     }
 }
 
-// The lists that the cache spells.
-fn lists_of<'a>(alloc: Global, cache: &'a [u8]) -> Result<Lists<'a>, LoadFault>
+/// The lists that the cache spells.
+pub(crate) fn lists_of<'a>(alloc: Global, cache: &'a [u8]) -> Result<Lists<'a>, LoadFault>
     ensures { IfOk result (λ lists. IsReadBack cache.entry.now (plain_lists lists)) }
 {
     let mut meter = Meter::new();
@@ -126,8 +126,8 @@ fn print_text<D: Desk>(desk: &mut D, text: &str) -> Result<(), Stop>
     desk.print(&[text.as_bytes()])
 }
 
-// Says which part is not read back.
-fn refuse<D: Desk>(desk: &mut D, path: &str, part: Part) -> Result<u8, Stop>
+/// Says which part is not read back.
+pub(crate) fn refuse<D: Desk>(desk: &mut D, path: &str, part: Part) -> Result<u8, Stop>
     ensures { Works (Ends (λ _ run. run ≡ unanswered (refusal path.now (no_database part))) [])
         (D.state desk.old) (D.state desk.new) result }
 {

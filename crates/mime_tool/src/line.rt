@@ -5,26 +5,26 @@ ghost use Rattle.clap.specs.Walk.{texts};
 ghost use Rattle.mime_tool.specs.Desk.{Does, Ends, Works};
 ghost use Rattle.mime_tool.specs.Line.{IsAskedKind, IsTypeLine, base_name, inode_name};
 ghost use Rattle.mime_tool.specs.Files.{Stored};
-ghost use Rattle.mime_tool.specs.LineSteps.{ComesTo, IsContent, LooksUp, LooksUpHere, plain_lookup, run_of, tail_of};
+ghost use Rattle.mime_tool.specs.LineSteps.{ComesTo, IsContent, IsOfSource, LooksUp, LooksUpHere, plain_lookup, run_of, tail_of};
 ghost use Rattle.mime_tool.specs.Output.{answer_end, answer_of, separator, written};
 ghost use Rattle.mime_tool.specs.Run.{IsEach, printed, refusal, unanswered};
 ghost use Rattle.mime_tool.specs.Types.{cost_text};
 ghost use Rattle.mime_tool.specs.Words.{names_of};
 
+mod again;
 mod escape;
-mod learnt;
 mod lookup;
 mod watched;
 
 use crate::desk::{Desk, Opened, report};
 use crate::files::Inode;
-use crate::learning::{Learning, Payments};
+use crate::preparing::{Payments, Prepared};
 use crate::status::{ANSWERED, NOT_ANSWERED};
 use crate::stop::Stop;
 use crate::words::{RawWord, name_of};
-use escape::escaped;
+pub(crate) use escape::escaped;
 use lookup::free;
-pub(crate) use lookup::{Cost, Data, Lookup, asked_order, find};
+pub(crate) use lookup::{Cost, Data, Lookup, asked_order, find, name_for};
 use mime_base::OutOfMemory;
 use mime_lookup::Content;
 use mime_request::Output;
@@ -51,27 +51,47 @@ pub(crate) fn print_lines<D: Desk>(
     ensures { Works (Ends (IsEach (IsTypeLine (plain_lookup lookup.entry) (D.state desk.old).stored))
         (names_of raws.now (texts files.now))) (D.state desk.old) (D.state desk.new) result }
 {
-    let mut status = ANSWERED;
-    let mut learning = Learning::new(lookup);
+    let mut prepared = Prepared::new(lookup);
     let mut paid = Payments::new(lookup);
+    print_each(desk, &mut prepared, &mut paid, files, raws)
+}
+
+// Prints the lines of the files that are left.
+fn print_each<D: Desk>(
+    desk: &mut D,
+    prepared: &mut Prepared<'_, '_>,
+    paid: &mut Payments,
+    files: &[&str],
+    raws: &[RawWord<'_>],
+) -> Result<u8, Stop>
+    requires { IsOfSource prepared.old }
+    ensures { Works (Ends (IsEach (IsTypeLine (plain_lookup prepared.old.lookup) (D.state desk.old).stored))
+        (names_of raws.now (texts files.now))) (D.state desk.old) (D.state desk.new) result }
+{
+    let mut status = ANSWERED;
     for file in files {
-        learning.learn_due(desk.alloc(), &mut paid);
-        let lookup = learning.lookup();
-        status = status.max(print_line(desk, lookup, &mut paid, name_of(raws, file))?);
+        status = status.max(print_line(desk, prepared, paid, name_of(raws, file))?);
     }
     Ok(status)
 }
 
-/// Prints the line of one file, or says why there is none, and counts what that visited.
+/// Prints the line of one file, or says why there is none, and counts what that visited. What is paid for is prepared before.
 pub(crate) fn print_line<D: Desk>(
     desk: &mut D,
-    lookup: Lookup<'_, '_>,
+    prepared: &mut Prepared<'_, '_>,
     paid: &mut Payments,
     file: &[u8],
 ) -> Result<u8, Stop>
-    ensures { Works (Ends (λ _. IsTypeLine (plain_lookup lookup.entry) (D.state desk.old).stored file.now) [])
+    requires { IsOfSource prepared.old }
+    // It is looked up as without what was prepared.
+    ensures line { Works (Ends (λ _. IsTypeLine (plain_lookup prepared.old.lookup) (D.state desk.old).stored file.now) [])
         (D.state desk.old) (D.state desk.new) result }
+    // So is the next one.
+    ensures lookup { prepared.new.lookup ≡ prepared.old.lookup }
+    ensures prepared { IsOfSource prepared.new }
 {
+    prepared.prepare_due(desk.alloc(), paid);
+    let lookup = prepared.lookup();
     let mut asked = false;
     let outcome = outcome_of(desk, lookup, file, &mut asked)?;
     paid.count(&outcome, asked);
@@ -281,15 +301,15 @@ fn print_pieces<'a, D: Desk>(
     }
 }
 
-// What stands between a FILE and its TYPE.
-fn separator<'a>(output: Output) -> &'a [u8]
+/// What stands between a FILE and its TYPE.
+pub(crate) fn separator<'a>(output: Output) -> &'a [u8]
     ensures { result.now ≡ separator output }
 {
     if output.null { b"\0" } else { b": " }
 }
 
-// What ends an answer.
-fn answer_end<'a>(output: Output) -> &'a [u8]
+/// What ends an answer.
+pub(crate) fn answer_end<'a>(output: Output) -> &'a [u8]
     ensures { result.now ≡ answer_end output }
 {
     if output.null { b"\0" } else { b"\n" }

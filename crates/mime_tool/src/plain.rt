@@ -44,8 +44,8 @@ pub(crate) fn print_types<D: Desk, I: Content + Drop>(
     print_over(desk, &database, options, subjects, raws, input)
 }
 
-// Prints the lines over a database.
-fn print_over<D: Desk, I: Content + Drop>(
+/// Prints the lines over a database, and gives the status.
+pub(crate) fn print_over<D: Desk, I: Content + Drop>(
     desk: &mut D,
     database: &Database,
     options: Options,
@@ -53,6 +53,7 @@ fn print_over<D: Desk, I: Content + Drop>(
     raws: &[RawWord<'_>],
     input: I,
 ) -> Result<u8, Stop>
+    // Each line has a type that the checking order gives over the database.
     ensures { Works (Ends (AreTypeLines (named_subjects raws.now (plain_subjects subjects.now)) (D.state desk.old).stored
         (given_by (I.remaining input) (I.health input)) options (plain_database database.now))
         (names_in (named_subjects raws.now (plain_subjects subjects.now)) (D.state desk.old).stored

@@ -19,6 +19,7 @@ ghost use Rattle.mime_tool.specs.Words.{heard, heard_in, means, not_text, with_n
 use crate::build::build;
 use crate::check::check;
 use crate::desk::{Desk, Streams};
+use crate::explain::explain;
 use crate::files::Files;
 use crate::icon::icon;
 use crate::is_a::is_a;
@@ -189,6 +190,7 @@ fn files_of<'m, 'a>(request: &'m Request<'a>) -> &'m [&'a str]
 {
     match request {
         Request::Plain { subjects, .. } | Request::Type { subjects, .. } => file_words(subjects),
+        Request::Explain { files, .. } => files.as_slice(),
         _ => &[],
     }
 }
@@ -232,6 +234,11 @@ fn answer<D: Desk, I: Content + Drop>(
         } => plain::print_types(desk, process, directories, *options, subjects, raws),
         Request::List { source } => list(desk, environment, source),
         Request::Check { source } => check(desk, environment, source),
+        Request::Explain {
+            source,
+            options,
+            files,
+        } => explain(desk, environment, source, *options, files.as_slice(), raws),
         Request::IsA { source, kind, base } => is_a(desk, environment, source, *kind, *base),
         Request::Icon { source, kind } => icon(desk, environment, source, *kind),
         Request::Type {

@@ -4,7 +4,8 @@ ghost use Rattle.std.specs.Prelude.{◌≡◌, [], ◌∷◌};
 ghost use Rattle.mime_request.specs.Request.{plain_subjects};
 ghost use Rattle.mime_tool.specs.Desk.{Ends, Works};
 ghost use Rattle.mime_tool.specs.Line.{IsTypeLine};
-ghost use Rattle.mime_tool.specs.LineSteps.{LooksUp, plain_lookup};
+ghost use Rattle.mime_tool.specs.LineSteps.{IsOfSource, LooksUp, plain_lookup};
+ghost use Rattle.mime_tool.specs.Names.{left_in};
 ghost use Rattle.mime_tool.specs.Listed.{AreListed, IsNumbered, empty_name, names_given};
 ghost use Rattle.mime_tool.specs.Process.{given_by};
 ghost use Rattle.mime_tool.specs.Run.{IsEach, unanswered};
@@ -12,9 +13,9 @@ ghost use Rattle.mime_tool.specs.Subjects.{AreRuns, list_at, names_in};
 ghost use Rattle.mime_tool.specs.Words.{named_subjects};
 
 use crate::desk::Desk;
-use crate::learning::{Learning, Payments};
 use crate::line::{Lookup, Outcome, find, print_line, print_lines, print_outcome, refuse};
 use crate::names::{Names, next_name};
+use crate::preparing::{Payments, Prepared};
 use crate::status::ANSWERED;
 use crate::stop::Stop;
 use crate::words::RawWord;
@@ -103,16 +104,30 @@ fn print_names<D: Desk, R: Content + Drop>(
         (D.state desk.old) (D.state desk.new) result }
 {
     let mut names = Names::new(desk.alloc(), reader);
-    let mut status = ANSWERED;
-    let mut learning = Learning::new(lookup);
+    let mut prepared = Prepared::new(lookup);
     let mut paid = Payments::new(lookup);
+    print_each(desk, &mut names, &mut prepared, &mut paid, list)
+}
+
+// Prints the line of each name that is left.
+fn print_each<D: Desk, R: Content + Drop>(
+    desk: &mut D,
+    names: &mut Names<R>,
+    prepared: &mut Prepared<'_, '_>,
+    paid: &mut Payments,
+    list: &str,
+) -> Result<u8, Stop>
+    requires { IsOfSource prepared.old }
+    ensures { Works (Ends (AreListed (IsTypeLine (plain_lookup prepared.old.lookup) (D.state desk.old).stored) list.now
+        (left_in R.remaining R.health names.old) 1) (names_given (left_in R.remaining R.health names.old)))
+        (D.state desk.old) (D.state desk.new) result }
+{
+    let mut status = ANSWERED;
     for number in 1..u64::MAX {
-        let Some(name) = next_name(desk, &mut names, list)? else {
+        let Some(name) = next_name(desk, names, list)? else {
             return Ok(status);
         };
-        learning.learn_due(desk.alloc(), &mut paid);
-        let lookup = learning.lookup();
-        status = status.max(print_name(desk, lookup, &mut paid, list, number, name.as_slice())?);
+        status = status.max(print_name(desk, prepared, paid, list, number, name.as_slice())?);
         names.take_back(name);
     }
     // There is no number for one more name.
@@ -122,19 +137,22 @@ fn print_names<D: Desk, R: Content + Drop>(
 // Prints the line of the name of this number, or says that it is empty.
 fn print_name<D: Desk>(
     desk: &mut D,
-    lookup: Lookup<'_, '_>,
+    prepared: &mut Prepared<'_, '_>,
     paid: &mut Payments,
     list: &str,
     number: u64,
     name: &[u8],
 ) -> Result<u8, Stop>
-    ensures { Works (Ends (λ _. IsNumbered (IsTypeLine (plain_lookup lookup.entry) (D.state desk.old).stored) list.now number name.now) [])
-        (D.state desk.old) (D.state desk.new) result }
+    requires { IsOfSource prepared.old }
+    ensures line { Works (Ends (λ _. IsNumbered (IsTypeLine (plain_lookup prepared.old.lookup) (D.state desk.old).stored)
+        list.now number name.now) []) (D.state desk.old) (D.state desk.new) result }
+    ensures lookup { prepared.new.lookup ≡ prepared.old.lookup }
+    ensures prepared { IsOfSource prepared.new }
 {
     if name.is_empty() {
         refuse_empty(desk, list, number)
     } else {
-        print_line(desk, lookup, paid, name)
+        print_line(desk, prepared, paid, name)
     }
 }
 

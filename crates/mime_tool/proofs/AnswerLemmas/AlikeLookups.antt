@@ -1,4 +1,4 @@
--- Lookups that are the same but for what was learnt.
+-- Lookups that are the same but for what was prepared.
 use Rattle.std.proofs.Common.{◌≡◌, Bool, refl, sym, ap, ◌∙◌}
 use Rattle.mime_base.specs.Database.{plain_database}
 use Rattle.mime_lookup.specs.declared.order.Order.{Order}
@@ -16,12 +16,12 @@ abbrev lookup_from : Source → Bool → Output → Order → PlainLookup
 lookup_from (whole database) name_only output order = lookup_over name_only output order (plain_database database)
 lookup_from (cached path bytes cost) name_only output order = lookup_by path name_only cost output order bytes
 
--- what was learnt of the data says nothing
+-- what was prepared of the data says nothing
 in_source : (by : Data) (lookup : Lookup) → lookup_in by lookup ≡ lookup_from (source_of by) lookup.name_only lookup.output lookup.order
 in_source (data_of.Database database) lookup = refl
 in_source (data_of.Indexed index) lookup = refl
 in_source (data_of.Cache path bytes cost) lookup = refl
-in_source (data_of.Learnt path heads cost) lookup = refl
+in_source (data_of.Opened path cache cost) lookup = refl
 
 -- so FILEs are looked up alike
 pub looked_up_alike : (a b : Lookup) → LooksAlike a b → plain_lookup a ≡ plain_lookup b

@@ -14,6 +14,7 @@ use Rattle.mime_lookup.specs.StepFaults.{IsLookUpFault}
 use Rattle.mime_lookup.specs.declared.order.Order.{Order}
 use Rattle.mime_lookup.specs.declared.stopped.Cause.TheVariants as cause
 use Rattle.mime_lookup.specs.declared.stopped.Stopped.{Stopped}
+use Rattle.mime_lookup.proofs.StopLemmas.StepStops.{fault_there}
 use Rattle.mime_view.specs.declared.fault.CacheFault.{CacheFault}
 use Rattle.mime_tool.specs.Cache.{GivesOrRefuses, IsCacheFaultStop, cache_fault_name}
 use Rattle.mime_tool.specs.Files.{Stored, bytes, closed, dangling, folder, nothing, special, unknown, unreadable}
@@ -56,10 +57,12 @@ not_too_long s t f long same is =
     let bad : cause.Cache f ≡ cause.NameTooLong = sym is ∙ (ap (λ (it : Stopped). it.cause) all ∙ long) in cc
 
 -- which fault it is
-fault_of_stop : (cache : List ℕ) (f : CacheFault) → IsStop (IsLookUpFault cache) (cause.Cache f) → IsLookUpFault cache f
-fault_of_stop cache f (inl e) = absurd (other_cause f (inl e))
-fault_of_stop cache f (inr (inl e)) = absurd (other_cause f (inr e))
-fault_of_stop cache f (inr (inr (e, is, other, fault_is))) = subst (IsLookUpFault cache) (sym (same f e is)) fault_is
+fault_of_stop : (cache name : List ℕ) {NoContent : Type 0} (f : CacheFault) → IsStop (IsLookUpFault cache name NoContent) (cause.Cache f)
+    → IsLookUpFault cache name ⊥ f
+fault_of_stop cache name f (inl e) = absurd (other_cause f (inl e))
+fault_of_stop cache name f (inr (inl e)) = absurd (other_cause f (inr e))
+fault_of_stop cache name f (inr (inr (e, is, other, fault_is))) =
+    subst (IsLookUpFault cache name ⊥) (sym (same f e is)) (fault_there e fault_is)
   where
     same : (f e : CacheFault) → cause.Cache f ≡ cause.Cache e → f ≡ e
     same f e is = cc
@@ -68,7 +71,8 @@ module _ {R : Type 0} (remaining : R → Option (List ℕ)) (health : R → Heal
     (order : Order) (file : List ℕ) where
   -- a refusal is the run over a file that was looked up
   refused_run : (f : CacheFault) (text : List ℕ) (name_only : Bool) (stored : Stored) (content : Option R) → fits (name_for order file) ≡ true
-      → RefusesLookup cache f → text ≡ refusal path (cache_fault_name f) → IsContent remaining health name_only stored content
+      → RefusesLookup cache (name_for order file) f → text ≡ refusal path (cache_fault_name f)
+      → IsContent remaining health name_only stored content
       → IsTypeLineBy name_only (lookup_by path name_only cost output order cache) stored file (stopped text silent)
   refused_run f text true stored content fit refuses is has =
       named (fits (name_for order file)) (written output file) _ _ fit (inr (f, refuses, ap (λ (t : List ℕ). stopped t silent) is))
@@ -86,7 +90,8 @@ module _ {R : Type 0} (remaining : R → Option (List ℕ)) (health : R → Heal
       inr (inr (named (fits (name_for order file)) (written output file) _ _ fit (inr (f, refuses, ap (λ (t : List ℕ). stopped t silent) is))))
 
   -- what stops for a fault of the cache
-  looked_up : (s : Stop) → GivesOrRefuses {X = Unit {0}} path (RefusesLookup cache) (λ _. ⊤) (Err s) → fits (name_for order file) ≡ true
+  looked_up : (s : Stop) → GivesOrRefuses {X = Unit {0}} path (RefusesLookup cache (name_for order file)) (λ _. ⊤) (Err s)
+      → fits (name_for order file) ≡ true
       → (stored : Stored) (name_only : Bool) (content : Option R) → IsContent remaining health name_only stored content
       → LooksUp (lookup_by path name_only cost output order cache) stored file (Err s)
   looked_up stop.OutOfMemory p fit stored name_only content has = tt
@@ -95,13 +100,14 @@ module _ {R : Type 0} (remaining : R → Option (List ℕ)) (health : R → Heal
       refused_run p.0 (string_bytes m) name_only stored content fit p.1 p.2 has
 
   -- a fault of the cache is the stop of a lookup
-  pub line_refused : (f : CacheFault) (s : Stop) (content : Option R) → IsCacheFaultStop path f s → fits (name_for order file) ≡ true
-      → IsStop (IsLookUpFault cache) (cause.Cache f)
+  pub line_refused : {NoContent : Type 0} (f : CacheFault) (s : Stop) (content : Option R) → IsCacheFaultStop path f s
+      → fits (name_for order file) ≡ true
+      → IsStop (IsLookUpFault cache (name_for order file) NoContent) (cause.Cache f)
       → ((b : PlainDatabase) → IsWithinLimits b → Spells cache b → Packed cache b
       → (cause.Cache f ≡ cause.Read) ⊎ (cause.Cache f ≡ cause.OutOfMemory))
       → (stored : Stored) (name_only : Bool) → IsContent remaining health name_only stored content
       → LooksUp (lookup_by path name_only cost output order cache) stored file (Err s)
   line_refused f s content stops fit is answers stored name_only has =
-      looked_up s (refused_for (Unit {0}) path cache (IsLookUpFault cache) IsWithinLimits (λ _. ⊤) f s stops
-      (fault_of_stop cache f is)
+      looked_up s (refused_for (Unit {0}) path cache (IsLookUpFault cache (name_for order file) ⊥) IsWithinLimits (λ _. ⊤) f s stops
+      (fault_of_stop cache (name_for order file) f is)
       (λ b limits spells packed. absurd (other_cause f (answers b limits spells packed)))) fit stored name_only content has

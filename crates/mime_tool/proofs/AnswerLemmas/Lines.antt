@@ -46,7 +46,7 @@ output_in : (by : Data) (lookup : Lookup) → (lookup_in by lookup).output ≡ l
 output_in (data_of.Database database) lookup = refl
 output_in (data_of.Indexed index) lookup = refl
 output_in (data_of.Cache path bytes cost) lookup = refl
-output_in (data_of.Learnt path heads cost) lookup = refl
+output_in (data_of.Opened path cache cost) lookup = refl
 
 -- what it came to is written
 pub comes_written : (lookup : Lookup) (stored : List ℕ → Stored) (file : List ℕ) (o : Outcome) (a b c : Sinks) (r : Result ℕ Stop)

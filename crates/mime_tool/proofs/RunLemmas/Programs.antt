@@ -5,7 +5,7 @@ use Rattle.clap.specs.declared.error.Error.{Error}
 use Rattle.clap.specs.declared.error.kind.ErrorKind.{ErrorKind}
 use Rattle.clap.specs.declared.error.kind.ErrorKind.TheVariants as kind
 use Rattle.mime_request.specs.Request.{PlainDirectories, PlainRequest, Meaning, Means, plain_request, asks, build, icon, is_a, list}
-use Rattle.mime_request.specs.Request.{check, plain, refused, type_of}
+use Rattle.mime_request.specs.Request.{check, explain, plain, refused, type_of}
 use Rattle.mime_request.specs.declared.request.Request.{Request}
 use Rattle.mime_tool.specs.Build.{Builds, LeavesWhere, is_output}
 use Rattle.mime_tool.specs.Desk.{Ends, State, Works}
@@ -68,6 +68,7 @@ leaves_same v (asks (build dirs drop_twins file)) old new same =
 leaves_same v (asks (plain dirs options subjects)) old new same = same
 leaves_same v (asks (list source)) old new same = same
 leaves_same v (asks (check source)) old new same = same
+leaves_same v (asks (explain source options files)) old new same = same
 leaves_same v (asks (is_a source kind base)) old new same = same
 leaves_same v (asks (icon source kind)) old new same = same
 leaves_same v (asks (type_of source options subjects)) old new same = same

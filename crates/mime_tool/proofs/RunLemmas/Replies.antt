@@ -4,7 +4,7 @@ use Rattle.std.proofs.lemmas.List.{map-id}
 use Rattle.clap.specs.Values.{kind_of}
 use Rattle.clap.specs.declared.error.Error.{Error}
 use Rattle.mime_request.specs.Request.{PlainRequest, PlainSubjects, Meaning, Means, asks, build, icon, is_a, list, of_files, of_input, of_list, plain}
-use Rattle.mime_request.specs.Request.{check, plain_request, refused, type_of}
+use Rattle.mime_request.specs.Request.{check, explain, plain_request, refused, type_of}
 use Rattle.mime_request.specs.declared.request.Request.{Request}
 use Rattle.mime_tool.specs.Desk.{Ends, State, Works}
 use Rattle.mime_tool.specs.Files.{Stored, Writing}
@@ -31,6 +31,7 @@ with_no_names (build dirs drop_twins file) = refl
 with_no_names (plain dirs options subjects) = ap (plain dirs options) (no_names subjects)
 with_no_names (list source) = refl
 with_no_names (check source) = refl
+with_no_names (explain source options files) = ap (explain source options) (map-id files)
 with_no_names (is_a source kind base) = refl
 with_no_names (icon source kind) = refl
 with_no_names (type_of source options subjects) = ap (type_of source options) (no_names subjects)

@@ -1,11 +1,13 @@
 -- From what is asked, read or made, and a run over it, to the run of a command.
-use Rattle.std.proofs.Common.{ℕ, List, [], inl, inr, None, Option, Result, Ok, Err, Vec, ap, refl}
+use Rattle.std.proofs.Common.{ℕ, ◌≤◌, List, [], inl, inr, None, Option, Result, Ok, Err, Vec, ap, refl}
 use Rattle.std.specs.declared.alloc.Global.{Global}
 use Rattle.mime_base.specs.Database.{PlainDatabase, plain_database}
 use Rattle.mime_base.specs.Database.Limits.{IsWithinLimits}
 use Rattle.mime_base.specs.declared.database.Database.{Database}
 use Rattle.mime_request.specs.Request.{PlainDirectories, PlainSource, cache_of, made_of}
-use Rattle.mime_tool.specs.Build.{GivesCache}
+use Rattle.mime_base.specs.Format.Room.{room}
+use Rattle.mime_base.specs.Format.Spells.{cache_limit}
+use Rattle.mime_tool.specs.Build.{GivesCache, GivesFitting, IsCacheOf}
 use Rattle.mime_tool.specs.Desk.{Ends, State, Works}
 use Rattle.mime_tool.specs.Directories.{IsDatabaseOf}
 use Rattle.mime_tool.specs.Environment.{PlainEnvironment}
@@ -13,7 +15,7 @@ use Rattle.mime_tool.specs.Files.{Stored}
 use Rattle.mime_tool.specs.Finish.{Sinks}
 use Rattle.mime_tool.specs.Loading.{Loads}
 use Rattle.mime_tool.specs.Run.{Run, cut_short, silent, stopped}
-use Rattle.mime_tool.specs.Sources.{IsOverMade, IsSourceCommand, MakesCache, ReadsSource, path_of}
+use Rattle.mime_tool.specs.Sources.{IsMade, IsOverFitting, IsOverMade, IsSourceCommand, MakesCache, ReadsSource, path_of}
 use Rattle.mime_tool.specs.declared.stop.Stop.{Stop}
 use Rattle.mime_tool.specs.declared.stop.Stop.TheVariants as stop
 use Rattle.mime_tool.proofs.CacheLemmas.Caches.{OverCache, cache_read, cache_unread}
@@ -25,17 +27,31 @@ use Rattle.mime_tool.proofs.RunLemmas.Programs.{ends_weaker}
 abbrev pub OverSource : Type 1
 OverSource = List ℕ → OverCache
 
--- memory may run out before a cache is made
-made_cut : (IsOver : OverCache) (database : PlainDatabase) → (run : Run) × IsOverMade IsOver database [] run
-made_cut IsOver database = (cut_short, inr (inr refl))
+-- a run over files
+abbrev pub OverFiles : Type 1
+OverFiles = List (List ℕ) → Run → Type 0
 
--- no cache is made of a database
-unmade : (IsOver : OverCache) (database : PlainDatabase) (files : List (List ℕ)) (a : Sinks) (s : Stop) → GivesCache database (Err s)
-    → Ends (IsOverMade IsOver database) files a a (Err s)
-unmade IsOver database files a stop.OutOfMemory p = inl (writes_nothing a)
-unmade IsOver database files a stop.CannotWrite p = absurd p
-unmade IsOver database files a (stop.Refused m) p =
+-- memory may run out before it is known whether a database fits
+pub fitting_cut : (IsOver : OverFiles) (database : PlainDatabase) → (run : Run) × IsOverFitting IsOver database [] run
+fitting_cut IsOver database = (cut_short, inr (inr refl))
+
+-- it doesn't fit, or memory ran out
+pub unfitting : (X : Type 0) (IsGiven : X → Type 0) (IsOver : OverFiles) (database : PlainDatabase) (files : List (List ℕ)) (a : Sinks)
+    (s : Stop) → GivesFitting database IsGiven (Err s) → Ends (IsOverFitting IsOver database) files a a (Err s)
+unfitting X IsGiven IsOver database files a stop.OutOfMemory p = inl (writes_nothing a)
+unfitting X IsGiven IsOver database files a stop.CannotWrite p = absurd p
+unfitting X IsGiven IsOver database files a (stop.Refused m) p =
     (silent, inl (p.1, ap (λ (t : List ℕ). stopped t silent) p.0), writes_nothing a)
+
+-- it fits, and a run over it comes to its end
+pub ends_fitting : (IsOver : OverFiles) (database : PlainDatabase) (files : List (List ℕ)) (a b : Sinks) (r : Result ℕ Stop)
+    → room database ≤ cache_limit → Ends IsOver files a b r → Ends (IsOverFitting IsOver database) files a b r
+ends_fitting IsOver database files a b r fits p =
+    ends_weaker IsOver (IsOverFitting IsOver database) files a b r (λ fs run is. inr (inl (fits, is))) p
+
+-- what a run is by a cache that is made
+abbrev by_made : OverCache → PlainDatabase → OverFiles
+by_made IsOver database files run = (cache : List ℕ) × IsMade database cache × IsOver cache files run
 
 -- what is asked isn't read or made
 pub source_unread : (stored : List ℕ → Stored) (e : Option PlainEnvironment) (source : PlainSource) (IsOver : OverSource)
@@ -43,10 +59,12 @@ pub source_unread : (stored : List ℕ → Stored) (e : Option PlainEnvironment)
     → Ends (IsSourceCommand stored e source IsOver) files a b (Err s)
 source_unread stored e (cache_of path) IsOver files a b s p = cache_unread stored path (IsOver path) files a b s p
 source_unread stored e (made_of dirs) IsOver files a b s (inl p) =
-    command_unloaded PlainDatabase (λ d. d) stored None e dirs (IsOverMade (IsOver [])) files a b s (made_cut (IsOver [])) p
+    command_unloaded PlainDatabase (λ d. d) stored None e dirs (IsOverMade (IsOver [])) files a b s
+    (λ database. fitting_cut (by_made (IsOver []) database) database) p
 source_unread stored e (made_of dirs) IsOver files a b s (inr p) =
-    command_over PlainDatabase (λ d. d) stored None e dirs (IsOverMade (IsOver [])) files p.0 a b b (Err s) (made_cut (IsOver []) p.0) p.1
-    (unmade (IsOver []) p.0 files b s p.2)
+    command_over PlainDatabase (λ d. d) stored None e dirs (IsOverMade (IsOver [])) files p.0 a b b (Err s)
+    (fitting_cut (by_made (IsOver []) p.0) p.0) p.1
+    (unfitting (Vec ℕ Global) (λ cache. IsCacheOf p.0 cache.items) (by_made (IsOver []) p.0) p.0 files b s p.2)
 
 -- it is, and a run over it comes to its end
 pub source_read : (stored : List ℕ → Stored) (e : Option PlainEnvironment) (source : PlainSource) (IsOver : OverSource)
@@ -54,8 +72,10 @@ pub source_read : (stored : List ℕ → Stored) (e : Option PlainEnvironment) (
     → Ends (IsOver (path_of source) v.items) files b c r → Ends (IsSourceCommand stored e source IsOver) files a c r
 source_read stored e (cache_of path) IsOver files v a b c r p q = cache_read stored path (IsOver path) files v a b c r p q
 source_read stored e (made_of dirs) IsOver files v a b c r p q =
-    command_over PlainDatabase (λ d. d) stored None e dirs (IsOverMade (IsOver [])) files p.0 a b c r (made_cut (IsOver []) p.0) p.1
-    (ends_weaker (IsOver [] v.items) (IsOverMade (IsOver []) p.0) files b c r (λ fs run is. inr (inl (v.items, p.2, is))) q)
+    command_over PlainDatabase (λ d. d) stored None e dirs (IsOverMade (IsOver [])) files p.0 a b c r
+    (fitting_cut (by_made (IsOver []) p.0) p.0) p.1
+    (ends_fitting (by_made (IsOver []) p.0) p.0 files b c r p.2
+    (ends_weaker (IsOver [] v.items) (by_made (IsOver []) p.0) files b c r (λ fs run is. (v.items, p.3, is)) q))
 
 -- ---- how a cache is made
 
@@ -92,5 +112,5 @@ pub make_made : (e : Option PlainEnvironment) (dirs : PlainDirectories) (a b : S
 make_made e dirs a b database v p limits g = record {
   same_files = p.same_files;
   same_setting = p.same_setting;
-  sinks = (plain_database database, p.sinks, record { within = limits; fits = g.1; is = g.0 });
+  sinks = (plain_database database, p.sinks, g.1, record { within = limits; is = g.0 });
 }

@@ -6,7 +6,7 @@ ghost use Rattle.mime_tool.specs.Output.{escaped, escaped_byte, is_escaped, octa
 use std::alloc::{AllocError, Global};
 
 /// Any bytes with each control character and each backslash as a backslash and its number in octal.
-pub(super) fn escaped(alloc: Global, bytes: &[u8]) -> Result<Vec<u8>, AllocError>
+pub(crate) fn escaped(alloc: Global, bytes: &[u8]) -> Result<Vec<u8>, AllocError>
     ensures { IfOk result (λ it. it.items ≡ escaped bytes.now) }
 {
     let mut escaped = Vec::new(alloc);

@@ -8,16 +8,15 @@ ghost use Rattle.mime_tool.specs.LineSteps.{IsContent, LooksUp, plain_lookup, ta
 ghost use Rattle.mime_tool.specs.Plain.{lookup_over};
 ghost use Rattle.mime_tool.specs.Types.{cost_tail, lookup_by};
 
-use super::learnt::find_in_learnt;
+use super::again::find_again;
 use super::{Outcome, base_name};
 use crate::cache::faulty;
 use crate::stop::Stop;
 use mime_base::{Counted, Database, Host, Meter};
 use mime_lookup::{
-    Cause, Content, IndexedDatabase, Order, look_up, look_up_indexed, look_up_plain,
+    Cause, Content, IndexedCache, IndexedDatabase, Order, look_up, look_up_indexed, look_up_plain,
 };
 use mime_request::{Options, Output};
-use mime_view::MagicHeads;
 use std::alloc::Global;
 
 /// What FILEs are looked up in.
@@ -32,10 +31,10 @@ pub(crate) enum Data<'i, 'a> {
         /// Whether the cost of each answer is told.
         cost: bool,
     },
-    /// A cache that something was learnt of.
-    Learnt {
+    /// A cache that was opened once for many FILEs.
+    Opened {
         path: &'a str,
-        heads: &'i MagicHeads<'a>,
+        cache: &'i IndexedCache<'a>,
         cost: bool,
     },
 }
@@ -100,8 +99,8 @@ pub(crate) fn find<'i, R: Content + Drop>(
         Data::Cache { path, bytes, cost } => {
             find_in_cache(alloc, path, bytes, cost, order, file, content)
         }
-        Data::Learnt { path, heads, cost } => {
-            find_in_learnt(alloc, path, heads, cost, order, file, content)
+        Data::Opened { path, cache, cost } => {
+            find_again(alloc, path, cache, cost, order, file, content)
         }
     }
 }
@@ -182,7 +181,7 @@ pub(super) fn free(lookup: Lookup<'_, '_>) -> Cost
     match lookup.by {
         Data::Database(_) | Data::Indexed(_) => cost_of(false, Meter { nodes: 0, bytes: 0 }, 0),
         Data::Cache { cost, .. } => cost_of(cost, Meter { nodes: 0, bytes: 0 }, 0),
-        Data::Learnt { cost, .. } => cost_of(cost, Meter { nodes: 0, bytes: 0 }, 0),
+        Data::Opened { cost, .. } => cost_of(cost, Meter { nodes: 0, bytes: 0 }, 0),
     }
 }
 
@@ -197,8 +196,8 @@ pub(super) fn cost_of(is_told: bool, meter: Meter, read: u64) -> Cost
     }
 }
 
-// What is looked up of a file: its name, but nothing where the content alone is asked.
-pub(super) fn name_for(order: Order, file: &[u8]) -> &[u8]
+/// What is looked up of a file: its name, but nothing where the content alone is asked.
+pub(crate) fn name_for(order: Order, file: &[u8]) -> &[u8]
     ensures { result.now ≡ name_for order file.entry.now }
 {
     match order {

@@ -1,6 +1,6 @@
 use Rattle.std.proofs.Common.{Bool}
 use Rattle.std.specs.Bool.{⊤}
-use Rattle.mime_lookup.specs.StepFaults.{IsLookUpFault}
+use Rattle.mime_lookup.specs.StepFaults.{IsSubclassFault}
 use Rattle.mime_tool.specs.IsA.{IsSaid}
 use Rattle.mime_tool.proofs.CacheLemmas.Caches.{stopped_refused}
 use Rattle.mime_tool.proofs.CacheLemmas.Spelled.{spelled_pairs}
@@ -15,6 +15,6 @@ pub returns-in-Err : goal.returns-in-Err
 returns-in-Err c =
     let cache = c.args.cache.now in
     let found = rw c.new.ensures at c.in-Err.ensures in
-    stopped_refused Bool c.args.path.now cache (IsLookUpFault cache) (λ _. ⊤) (IsSaid cache c.args.kind.now c.args.base.now)
+    stopped_refused Bool c.args.path.now cache (IsSubclassFault cache) (λ _. ⊤) (IsSaid cache c.args.kind.now c.args.base.now)
     c.in-Err.stopped.cause c.stopped_for.result c.stopped_for.ensures.fault c.stopped_for.ensures.memory found.stops.fault
     (λ b asked spells packed. found.stops.need b (spelled_pairs cache b spells, packed) spells.within)

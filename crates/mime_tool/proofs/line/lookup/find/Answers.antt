@@ -22,8 +22,8 @@ returns-in-Cache g c = λ stored has.
     rw c.in-Cache.is (same_lookup l.inode (lookup_by c.in-Cache.path.now l.name_only c.in-Cache.cost l.output l.order c.in-Cache.bytes.now)
     c.args.file.now stored _ (c.find_in_cache.ensures stored l.name_only l.output has))
 
-pub returns-in-Learnt : goal.returns-in-Learnt
-returns-in-Learnt g c = λ stored has.
+pub returns-in-Opened : goal.returns-in-Opened
+returns-in-Opened g c = λ stored has.
     let l = c.args.lookup in
-    rw c.in-Learnt.is (same_lookup l.inode (lookup_by c.in-Learnt.path.now l.name_only c.in-Learnt.cost l.output l.order c.in-Learnt.heads.now)
-    c.args.file.now stored _ (c.find_in_learnt.ensures stored l.name_only l.output has))
+    rw c.in-Opened.is (same_lookup l.inode (lookup_by c.in-Opened.path.now l.name_only c.in-Opened.cost l.output l.order c.in-Opened.cache.now)
+    c.args.file.now stored _ (c.find_again.ensures stored l.name_only l.output has))

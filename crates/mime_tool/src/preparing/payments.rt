@@ -1,0 +1,172 @@
+//! What the answers of a run pay for what is prepared.
+
+ghost use Rattle.std.specs.Prelude.{◌≡◌, ◌*◌, ◌≤◌, length};
+ghost use Rattle.mime_tool.specs.Preparing.{AreOwed, TakesDue, is_due, owed_for};
+ghost use Rattle.mime_tool.specs.LineSteps.{bytes_in, tells_cost};
+
+use crate::line::{Data, Lookup, Outcome};
+use crate::prepaid::Prepaid;
+use mime_base::{Counted, Meter};
+use mime_lookup::Order;
+use mime_view::Cache;
+
+/// What of a cache is read back at once.
+#[derive(Clone, Copy)]
+pub(crate) enum Part {
+    /// The aliases and the rules.
+    Names,
+    /// The sections of magic.
+    Magic,
+}
+
+/// What is made or read back now.
+#[derive(Clone, Copy)]
+pub(crate) enum Due {
+    /// The index of a database.
+    Index,
+    /// A part of a cache.
+    Part(Part),
+}
+
+/// What was paid for each of what is still to be made or read back.
+#[derive(Clone, Copy)]
+pub(crate) struct Payments {
+    index: Option<Prepaid>,
+    names: Option<Prepaid>,
+    magic: Option<Prepaid>,
+    /// How many records of the glob list a name visits.
+    listed: u64,
+}
+
+impl Payments {
+    /// Nothing is paid yet. Of a database there is the index, and of a cache what FILEs are asked for.
+    pub(crate) fn new(lookup: Lookup<'_, '_>) -> Payments
+        ensures { AreOwed lookup.entry result }
+    {
+        match lookup.by {
+            Data::Cache { bytes, cost, .. } => Payments::for_parts(lookup, bytes, cost),
+            Data::Database(_) => Payments {
+                index: Some(Prepaid::new(1)),
+                names: None,
+                magic: None,
+                listed: 0,
+            },
+            Data::Indexed(_) | Data::Opened { .. } => Payments {
+                index: None,
+                names: None,
+                magic: None,
+                listed: 0,
+            },
+        }
+    }
+
+    // What is owed for the parts of a cache of these bytes. Where costs are told, nothing is read back.
+    fn for_parts(lookup: Lookup<'_, '_>, bytes: &[u8], cost: bool) -> Payments
+        requires bytes { bytes.now ≡ bytes_in lookup.by }
+        requires told { cost ≡ tells_cost lookup.by }
+        ensures owed { AreOwed lookup.entry result }
+    {
+        let names = match lookup.order {
+            Order::ContentOnly => None,
+            Order::GlobsFirst | Order::MagicFirst | Order::AllGlobs => {
+                owed_for(Part::Names, bytes, cost)
+            }
+        };
+        let magic = if lookup.name_only {
+            None
+        } else {
+            owed_for(Part::Magic, bytes, cost)
+        };
+        let listed = match names {
+            Some(_) => glob_count(bytes),
+            None => 0,
+        };
+        Payments {
+            index: None,
+            names,
+            magic,
+            listed,
+        }
+    }
+
+    /// Counts what a FILE visited: that pays for what names need, and for the magic list too, less the entries of the glob list, if its
+    /// content was asked for bytes. What was compared pays for an index.
+    #[inline]
+    pub(crate) fn count(&mut self, outcome: &Outcome<'_>, asked: bool) {
+        let Outcome::Typed(_, cost) = outcome else {
+            return;
+        };
+        if let Some(index) = &mut self.index {
+            index.pay(cost.meter.bytes);
+        }
+        if let Some(names) = &mut self.names {
+            names.pay(cost.meter.nodes);
+        }
+        if asked {
+            if let Some(magic) = &mut self.magic {
+                magic.pay(cost.meter.nodes.saturating_sub(self.listed));
+            }
+        }
+    }
+
+    /// The next of what is paid, which is never due again.
+    // Always inlined: before most FILEs there is none.
+    #[inline(always)]
+    pub(super) fn take_due(&mut self) -> Option<Due>
+        ensures { TakesDue self.old self.new result }
+    {
+        if is_due(self.index) {
+            self.index = None;
+            return Some(Due::Index);
+        }
+        if is_due(self.names) {
+            self.names = None;
+            return Some(Due::Part(Part::Names));
+        }
+        if is_due(self.magic) {
+            self.magic = None;
+            return Some(Due::Part(Part::Magic));
+        }
+        None
+    }
+}
+
+/// What is paid for a part of a cache of these bytes, whatever it has, unless costs are told.
+fn owed_for(part: Part, bytes: &[u8], cost: bool) -> Option<Prepaid>
+    ensures { result ≡ owed_for part bytes.now cost }
+{
+    if cost {
+        return None;
+    }
+    let length = bytes.len() as u64;
+    let price = match part {
+        Part::Names => 5 + length / 4 + length / 8,
+        Part::Magic => 2 + length / 8,
+    };
+    Some(Prepaid::new(price))
+}
+
+/// How many entries the glob list of a cache of these bytes has, where there is one.
+fn glob_count(bytes: &[u8]) -> u64
+    ensures { 12 * result ≤ length bytes.now }
+{
+    let mut meter = Meter::new();
+    let Ok(cache) = Cache::open(Counted::new(bytes), &mut meter) else {
+        return 0;
+    };
+    match cache.glob_count(&mut meter) {
+        Some(count) => count,
+        None => 0,
+    }
+}
+
+// Always inlined, as its caller is.
+#[inline(always)]
+fn is_due(owed: Option<Prepaid>) -> bool
+    ensures { result ≡ is_due owed }
+{
+    match owed {
+        Some(prepaid) => prepaid.is_paid(),
+        None => false,
+    }
+}
