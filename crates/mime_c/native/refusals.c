@@ -138,6 +138,101 @@ static void take_none(void) {
     refused = 0;
 }
 
+/* Opens a cache with all the memory there is, whatever is refused to the call after it. */
+static mimelook_database *opened(const uint8_t *cache, size_t length) {
+    long turn = refused, count = made;
+    mimelook_database *database;
+    refused = 0;
+    CHECK(mimelook_open(cache, length, &database).status == MIMELOOK_ANSWERED);
+    made = count;
+    refused = turn;
+    return database;
+}
+
+static mimelook_report open_sample(bool *is_left) {
+    mimelook_database *database = (mimelook_database *)(uintptr_t)7;
+    mimelook_report report = mimelook_open(SAMPLE, sizeof SAMPLE, &database);
+    *is_left = database == NULL;
+    mimelook_close(database);
+    return report;
+}
+
+/* A lookup by a handle. */
+static mimelook_report database_looked_up(const char *name, const char *content, size_t length, uint32_t order, bool *is_left) {
+    mimelook_answer answer = {{before, 6}, 77, {7, 7, 7}};
+    mimelook_database *database = opened(SAMPLE, sizeof SAMPLE);
+    mimelook_report report = mimelook_database_look_up(database, bytes_of(name), strlen(name), bytes_of(content), length, order, &answer);
+    *is_left = answer.type.at == before && answer.type.length == 6 && answer.wanted == 77 && answer.spare[0] == 7;
+    mimelook_close(database);
+    return report;
+}
+
+static mimelook_report database_by_name(bool *is_left) {
+    return database_looked_up("A.GZ", NULL, 0, MIMELOOK_GLOBS_FIRST, is_left);
+}
+
+static mimelook_report database_by_content(bool *is_left) {
+    return database_looked_up("x", "\x1f\x8b\x08", 3, MIMELOOK_MAGIC_FIRST, is_left);
+}
+
+static mimelook_report database_is_a(bool *is_left) {
+    bool is = false;
+    mimelook_database *database = opened(three_parents, sizeof three_parents);
+    mimelook_report report = mimelook_database_is_a(database, bytes_of("t/h"), 3, bytes_of("t/m"), 3, &is);
+    *is_left = !is;
+    mimelook_close(database);
+    return report;
+}
+
+static mimelook_report database_icons(bool *is_left) {
+    uint8_t icon[8] = "before", generic[16] = "before";
+    mimelook_icon_lengths lengths = {77, 77};
+    mimelook_database *database = opened(SAMPLE, sizeof SAMPLE);
+    mimelook_report report = mimelook_database_icons(database, bytes_of("t/h"), 3, icon, sizeof icon, generic, sizeof generic, &lengths);
+    *is_left = icon[0] == 'b' && generic[0] == 'b' && lengths.icon == 77 && lengths.generic == 77;
+    mimelook_close(database);
+    return report;
+}
+
+static mimelook_report database_parents(bool *is_left) {
+    mimelook_text parent = {before, 6};
+    size_t count = 77;
+    mimelook_database *database = opened(three_parents, sizeof three_parents);
+    mimelook_report report = mimelook_database_parents(database, bytes_of("t/g"), 3, &parent, 1, &count);
+    *is_left = parent.at == before && parent.length == 6 && count == 77;
+    mimelook_close(database);
+    return report;
+}
+
+static mimelook_report database_hits(bool *is_left) {
+    mimelook_hit hit = {{before, 6}, 77, 7, 7, {7, 7}};
+    size_t count = 77;
+    mimelook_database *database = opened(many, many_length);
+    mimelook_report report = mimelook_database_hits(database, bytes_of("A.Q"), 3, &hit, 1, &count);
+    *is_left = hit.type.at == before && hit.type.length == 6 && hit.weight == 77 && hit.kept == 7 && count == 77;
+    mimelook_close(database);
+    return report;
+}
+
+/* Reading back is refused all memory once it is paid: contents are sniffed by a walk as before, and it isn't tried again. */
+static void refuse_reading_back(void) {
+    static mimelook_sniffed sniffed;
+    mimelook_database *database = opened(SAMPLE, sizeof SAMPLE);
+    long tried = 0;
+    are_all_after = true;
+    for (int turn = 0; turn < 200; turn++) {
+        made = 0;
+        refused = 1;
+        CHECK(mimelook_database_sniff(database, bytes_of("\x1f\x8b\x08"), 3, &sniffed).status == MIMELOOK_ANSWERED);
+        CHECK(is_text(sniffed.type, "t/g"));
+        tried += made != 0;
+    }
+    refused = 0;
+    CHECK(tried == 1);
+    mimelook_close(database);
+    CHECK(kept == 0);
+}
+
 static void refuse_in_turn(const char *what, call *ask) {
     bool is_left = false, is_kept = true;
     made = refused = 0;
@@ -166,6 +261,14 @@ int main(void) {
     refuse_in_turn("merge", merge);
     make_many();
     refuse_in_turn("hits", hits);
+    refuse_in_turn("open", open_sample);
+    refuse_in_turn("database_look_up by name", database_by_name);
+    refuse_in_turn("database_look_up by content", database_by_content);
+    refuse_in_turn("database_is_a", database_is_a);
+    refuse_in_turn("database_icons", database_icons);
+    refuse_in_turn("database_parents", database_parents);
+    refuse_in_turn("database_hits", database_hits);
+    refuse_reading_back();
     take_none();
     return told();
 }

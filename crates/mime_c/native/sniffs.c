@@ -75,7 +75,7 @@ static bool is_known(uint32_t status) {
 
 static void words(void) {
     for (uint32_t status = 0; status < 100; status++) {
-        CHECK(is_known(status) == (status <= MIMELOOK_BAD_MAGIC));
+        CHECK(is_known(status) == (status <= MIMELOOK_NOT_OPEN));
         for (uint32_t other = 0; other < status && is_known(status); other++) {
             CHECK(strcmp(mimelook_status_text(other), mimelook_status_text(status)) != 0);
         }

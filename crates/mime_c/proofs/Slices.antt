@@ -16,7 +16,7 @@ use Rattle.mime_lookup.specs.declared.stopped.Cause.{Cause}
 use Rattle.mime_lookup.specs.declared.stopped.Cause.TheVariants as cause
 use Rattle.mime_lookup.specs.declared.stopped.Stopped.{Stopped}
 use Rattle.mime_lookup.proofs.LookUpLemmas.LookUps.{decide_for}
-use Rattle.mime_lookup.proofs.OrderLemmas.ByContents.{used_for}
+use Rattle.mime_lookup.proofs.StopLemmas.StepStops.{fault_there, stop_weaker}
 
 -- a content that is given is there
 given : (content : Bor (List ℕ)) → ◌≡◌ {A = Option (Bor (List ℕ))} (Some content) None → ⊥
@@ -51,12 +51,8 @@ only_memory stop (inr read) readable = absurd (readable read.0)
 
 -- what is used up where a content may not be there is so where it is
 uses_up_there : {NoContent : Type 0} {c : List ℕ} {nodes : ℕ} → UsesUp c NoContent nodes → UsesUp c ⊥ nodes
-uses_up_there {NoContent} {c} is = record {
-  left = is.left;
-  records = is.records;
-  value_bytes = is.value_bytes;
-  used_up = used_for c is.left (λ none. absurd none) is.used_up;
-}
+uses_up_there (inl records) = inl records
+uses_up_there (inr value) = inr ((λ none. none), value.1, value.2, value.3)
 
 -- all that a lookup promises of bytes, by what it answers or why it stops
 module _ (c name : List ℕ) (content : Bor (List ℕ)) (after : Option (Bor (List ℕ))) (order : Order) where
@@ -80,7 +76,7 @@ module _ (c name : List ℕ) (content : Bor (List ℕ)) (after : Option (Bor (Li
     opened = stops.opened;
     unopened = stops.refused;
     too_long = λ long. (stops.too_long long).1;
-    fault = stops.fault;
+    fault = λ short. tt;
     answers = λ b within spells packed short. tt;
     limit = reads.reader.within;
     there = read_there content after answer.read reads.reader.advances;
@@ -101,7 +97,7 @@ module _ (c name : List ℕ) (content : Bor (List ℕ)) (after : Option (Bor (Li
         opened = tt;
         unopened = stops.refused;
         too_long = λ long. (stops.too_long long).1;
-        fault = stops.fault;
+        fault = λ short. stop_weaker stopped.cause fault_there (stops.fault short);
         answers = λ b within spells packed short.
             only_memory stopped.cause (stops.need b (inl (within, spells)) spells.within packed short) readable;
         limit = reads.reader.within;

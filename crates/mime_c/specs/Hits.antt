@@ -6,7 +6,8 @@ use Rattle.mime_base.specs.Database.{PlainDatabase}
 use Rattle.mime_base.specs.Format.Packed.{Packed}
 use Rattle.mime_base.specs.Kept.{FitsRank}
 use Rattle.mime_c.specs.Parents.{AreWritten}
-use Rattle.mime_c.specs.Reader.{IsReaderCall}
+use Rattle.mime_base.specs.declared.meter.Meter.{Meter}
+use Rattle.mime_c.specs.Reader.{IsReaderCall, IsReaderReport}
 use Rattle.mime_c.specs.Report.{IsStatusAlone}
 use Rattle.mime_c.specs.Status.{status_name_too_long}
 use Rattle.mime_c.specs.declared.hits.Hit.{Hit}
@@ -71,6 +72,15 @@ pub record HitSlots : Type 0 where
   pub hits : List Hit
   pub count : ℕ
 
+-- the array has the hits as far as there is room, and the count is of all
+abbrev pub AreGivenHits : HitSlots → HitSlots → RuleHits → Type 0
+AreGivenHits before after found =
+    AreWritten plain_given (given_hits found) before.hits after.hits × (after.count ≡ length found.rules.items)
+
+-- so they go out; where there are none to be given, both stay
+abbrev pub IsHitsReport : HitSlots → HitSlots → Result RuleHits CacheFault → Meter → Report → Type 0
+IsHitsReport before after found meter told = IsReaderReport (AreGivenHits before after) (after ≡ before) found meter told
+
 -- What C gets of a name.
 pub record IsAskedHits (c name : List ℕ) (before after : HitSlots) (told : Report) : Type 0 where
   -- A name of more than 4,096 bytes is too long, before anything else.
@@ -78,5 +88,4 @@ pub record IsAskedHits (c name : List ℕ) (before after : HitSlots) (told : Rep
   -- Else the array has the hits as far as there is room, and the count is of all; where there are none to be given, both stay.
   pub asked : length name ≤ 4096 →
       IsReaderCall c (IsHits c name) (hits_nodes (length name) (length c)) (hits_bytes (length name) (length c))
-      (λ found. AreWritten plain_given (given_hits found) before.hits after.hits × (after.count ≡ length found.rules.items))
-      (after ≡ before) told
+      (AreGivenHits before after) (after ≡ before) told

@@ -12,7 +12,7 @@ use Rattle.mime_c.specs.declared.report.Report.{Report}
 use Rattle.mime_lookup.specs.Asking.{StopsAsking}
 use Rattle.mime_lookup.specs.Bounds.{KeepsBounds}
 use Rattle.mime_lookup.specs.Spelling.{SpellsPairs}
-use Rattle.mime_lookup.specs.StepFaults.{IsLookUpFault}
+use Rattle.mime_lookup.specs.StepFaults.{IsSubclassFault}
 use Rattle.mime_lookup.specs.declared.stopped.Cause.TheVariants as cause
 use Rattle.mime_lookup.specs.declared.stopped.Stopped.{Stopped}
 use Rattle.mime_view.specs.declared.fault.CacheFault.TheVariants.{Spent}
@@ -21,7 +21,7 @@ use Rattle.mime_view.specs.declared.fault.CacheFault.TheVariants.{Spent}
 pub record IsSubclassSearch (c kind base : List ℕ) (result : Result (Bool × Meter) Stopped) : Type 0 where
   pub answer : (b : PlainDatabase) → SpellsPairs c b → IfOk result
       (λ found. IsTrue found.0 ↔ IsA (pairs_of b) (resolved b.aliases kind) (resolved b.aliases base))
-  pub stops : StopsAsking (λ stopped. stopped.cause) c (IsLookUpFault c) (λ b. SpellsPairs c b × Packed c b) result
+  pub stops : StopsAsking (λ stopped. stopped.cause) c (IsSubclassFault c) (λ b. SpellsPairs c b × Packed c b) result
   pub spent : IfErr result (λ stopped. stopped.cause ≡ cause.Cache Spent → length c / 4 < stopped.meter.nodes)
   pub read : IfErr result (λ stopped. stopped.read ≡ 0)
   pub bounds : MatchResult result (λ found. KeepsBounds 0 c 0 found.1) (λ stopped. KeepsBounds 0 c 0 stopped.meter)

@@ -14,3 +14,7 @@ pub mod Parents
 pub mod Hits
 pub mod Sniff
 pub mod Merge
+pub mod HeapValue
+pub mod Owned
+pub mod Handle
+pub mod Open

@@ -4,7 +4,8 @@ use Rattle.std.specs.Borrow.{Bor}
 use Rattle.mime_base.specs.Cache.Bytes.{Stands, field}
 use Rattle.mime_base.specs.Format.Header.{HeaderAt, Offsets}
 use Rattle.mime_base.specs.Format.Pairs.{PairsAt}
-use Rattle.mime_c.specs.Reader.{IsReaderCall}
+use Rattle.mime_base.specs.declared.meter.Meter.{Meter}
+use Rattle.mime_c.specs.Reader.{IsReaderCall, IsReaderReport}
 use Rattle.mime_c.specs.declared.look_up.Text.{Text}
 use Rattle.mime_c.specs.declared.report.Report.{Report}
 use Rattle.mime_view.specs.Lists.{IsPairsFault}
@@ -40,8 +41,16 @@ abbrev pub bytes_or_none : Option (Bor (List ℕ)) → List ℕ
 bytes_or_none None = []
 bytes_or_none (Some text) = text.now
 
+-- the texts are the two names
+abbrev pub AreGivenIcons : Text × Text → ListedNames → Type 0
+AreGivenIcons after found = (after.0.bytes.now ≡ bytes_or_none found.0) × (after.1.bytes.now ≡ bytes_or_none found.1)
+
+-- so they go out; where the lists say nothing, both stay
+abbrev pub IsListedReport : Text × Text → Text × Text → Result ListedNames CacheFault → Meter → Report → Type 0
+IsListedReport before after found meter told = IsReaderReport (AreGivenIcons after) (after ≡ before) found meter told
+
 -- the texts are the two names; where the lists say nothing, both stay
 abbrev pub IsAskedListedIcons : List ℕ → List ℕ → Text × Text → Text × Text → Report → Type 0
 IsAskedListedIcons c kind before after told =
     IsReaderCall c (IsListedIcons c kind) 59 (256 * 58)
-    (λ found. (after.0.bytes.now ≡ bytes_or_none found.0) × (after.1.bytes.now ≡ bytes_or_none found.1)) (after ≡ before) told
+    (AreGivenIcons after) (after ≡ before) told

@@ -51,7 +51,7 @@ pub record IsLookUp (c name content : List ℕ) (order : Order) (result : Result
   pub too_long : 4096 < length name →
       result ≡ Err (record { cause = cause.NameTooLong; read = 0; meter = record { nodes = 0; bytes = 0 } })
   -- For another name memory was refused, or the header or another part of the cache shows the fault.
-  pub fault : length name ≤ 4096 → IfErr result (λ stopped. IsStop (IsLookUpFault c) stopped.cause)
+  pub fault : length name ≤ 4096 → IfErr result (λ stopped. IsStop (IsLookUpFault c name ⊥) stopped.cause)
   -- Over a packed database within the limits only memory is refused.
   pub answers : (b : PlainDatabase) → IsWithinLimits b → Spells c b → Packed c b → length name ≤ 4096 →
       IfErr result (λ stopped. stopped.cause ≡ cause.OutOfMemory)
@@ -66,7 +66,7 @@ pub record IsLookUp (c name content : List ℕ) (order : Order) (result : Result
       (λ stopped. KeepsBounds (length name) c stopped.read stopped.meter)
   -- For an answer the header was visited.
   pub counted : IfOk result (λ answer. 1 ≤ answer.meter.nodes)
-  -- It is spent only where what may be taken of the cache is used up.
+  -- It is spent only where more records were visited than a quarter of the cache's length, or a line of magic has a value.
   pub spent : IfErr result (λ stopped. stopped.cause ≡ cause.Cache Spent → UsesUp c ⊥ stopped.meter.nodes)
   -- Where the glob rules stand and decide alone, they give the type, and the nodes keep to the bound by the rules near the name.
   pub near : (b : PlainDatabase) → SpellsGlobs c b → length c ≤ 268435456 → GlobsDecide b name order ⊥ →

@@ -4,7 +4,8 @@ use Rattle.mime_base.specs.Cache.Bytes.{Stands, field}
 use Rattle.mime_base.specs.Database.Subclass.{parents}
 use Rattle.mime_base.specs.Format.Header.{HeaderAt, Offsets}
 use Rattle.mime_base.specs.Format.Parents.{ParentsAt}
-use Rattle.mime_c.specs.Reader.{IsReaderCall}
+use Rattle.mime_base.specs.declared.meter.Meter.{Meter}
+use Rattle.mime_c.specs.Reader.{IsReaderCall, IsReaderReport}
 use Rattle.mime_c.specs.declared.look_up.Text.{Text}
 use Rattle.mime_c.specs.declared.report.Report.{Report}
 use Rattle.mime_view.specs.Parents.{IsParentsFault, IsRead}
@@ -46,8 +47,17 @@ pub record Slots : Type 0 where
   pub texts : List Text
   pub count : ℕ
 
+-- the array has the parents as far as there is room, and the count is of all
+abbrev pub AreGivenParents : Slots → Slots → Option Parents → Type 0
+AreGivenParents before after found =
+    AreWritten bytes_of (types_of found) before.texts after.texts × (after.count ≡ length (types_of found))
+
+-- so they go out; where there are none to be given, both stay
+abbrev pub IsParentsReport : Slots → Slots → Result (Option Parents) CacheFault → Meter → Report → Type 0
+IsParentsReport before after found meter told = IsReaderReport (AreGivenParents before after) (after ≡ before) found meter told
+
 -- the array has the parents as far as there is room, and the count is of all; where there are none to be given, both stay
 abbrev pub IsAskedParents : List ℕ → List ℕ → Slots → Slots → Report → Type 0
 IsAskedParents c kind before after told =
     IsReaderCall c (IsParents c kind) (30 + length c / 4) (256 * (27 + length c / 4))
-    (λ found. AreWritten bytes_of (types_of found) before.texts after.texts × (after.count ≡ length (types_of found))) (after ≡ before) told
+    (AreGivenParents before after) (after ≡ before) told

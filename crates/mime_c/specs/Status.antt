@@ -56,3 +56,7 @@ status_unknown_order = 12
 -- a text of magic is refused
 abbrev pub status_bad_magic : ℕ
 status_bad_magic = 13
+
+-- there is no database that is open
+abbrev pub status_not_open : ℕ
+status_not_open = 14

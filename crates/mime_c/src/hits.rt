@@ -1,7 +1,7 @@
 //! The rules that match a name.
 
 ghost use Rattle.std.specs.Prelude.{◌≡◌, ◌-◌, ◌≤◌, length};
-ghost use Rattle.mime_c.specs.Hits.{IsAskedHits, IsHits, given, given_hits, hits_bytes, hits_nodes, plain_given, one_if};
+ghost use Rattle.mime_c.specs.Hits.{IsAskedHits, IsHits, IsHitsReport, given, given_hits, hits_bytes, hits_nodes, plain_given, one_if};
 ghost use Rattle.mime_c.specs.Parents.{AreWritten};
 ghost use Rattle.mime_c.specs.Reader.{IsOfCache};
 ghost use Rattle.mime_view.specs.Spending.{Looks};
@@ -52,7 +52,22 @@ pub extern "C" fn mimelook_hits<'a>(
         return status_report(NAME_TOO_LONG, 0, Meter::new());
     }
     let mut meter = Meter::new();
-    match ask(alloc, cache, name, &mut meter) {
+    let found = ask(alloc, cache, name, &mut meter);
+    tell(found, meter, hits, count)
+}
+
+/// The hits go out, if there are any, and how many they are.
+pub(crate) fn tell<'a>(
+    found: Result<RuleHits<'a>, CacheFault>,
+    meter: Meter,
+    hits: &mut [Hit<'a>],
+    count: &mut usize,
+) -> Report
+    // They are written only with an answer.
+    ensures { IsHitsReport (record { hits = hits.old; count = count.old }) (record { hits = hits.new; count = count.new })
+        found.entry meter result }
+{
+    match found {
         Ok(found) => {
             put_hits(&found, hits);
             *count = found.rules.len();
@@ -103,15 +118,18 @@ fn ask<'a>(
     }
 }
 
-// The same over an opened cache.
-fn hits_of<'a>(
+/// The same over an opened cache.
+pub(crate) fn hits_of<'a>(
     alloc: Global,
     opened: &Cache<'a>,
     name: &[u8],
     meter: &mut Meter,
 ) -> Result<RuleHits<'a>, CacheFault>
+    // A call refuses longer names.
     requires short { length name.now ≤ 4096 }
+    // They are the rules that match.
     ensures promises { IsHits opened.now name.now result }
+    // It visits and compares no more than this.
     ensures cost { Looks (hits_nodes (length name.now) (length opened.now) - 1) (hits_bytes (length name.now) (length opened.now))
         meter.old meter.new }
 {

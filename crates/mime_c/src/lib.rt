@@ -10,10 +10,13 @@
 //! [`Report`]: a status, what is wrong with the cache and where, and what the call read, visited and compared. What it
 //! writes elsewhere is as it was unless the status is 0. No export asks anything of its arguments: nothing checks C.
 //!
-//! Read `report` first, then `look_up`.
+//! `database` has the same calls by a handle, which keeps a cache open between them.
+//!
+//! Read `report` first, then `look_up`, then `database`.
 #![tactic(auto)]
 
 mod check;
+mod database;
 mod extent;
 mod hits;
 mod icons;
@@ -31,6 +34,18 @@ mod type_names;
 mod unalias;
 
 pub use check::mimelook_check;
+pub use database::close::mimelook_close;
+pub use database::extent::mimelook_database_extent;
+pub use database::hits::mimelook_database_hits;
+pub use database::icons::mimelook_database_icons;
+pub use database::is_a::mimelook_database_is_a;
+pub use database::listed_icons::mimelook_database_listed_icons;
+pub use database::look_up::database_look_up_with;
+pub use database::open::mimelook_open;
+pub use database::parents::mimelook_database_parents;
+pub use database::sniff::mimelook_database_sniff;
+pub use database::unalias::mimelook_database_unalias;
+pub use database::{Handle, HandleReport, Kept};
 pub use extent::mimelook_extent;
 pub use hits::{Hit, mimelook_hits};
 pub use icons::{IconLengths, mimelook_icons};

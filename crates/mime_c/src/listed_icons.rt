@@ -1,7 +1,7 @@
 //! The icons that a cache lists for a type.
 
 ghost use Rattle.std.specs.Prelude.{◌≡◌, ◌*◌};
-ghost use Rattle.mime_c.specs.ListedIcons.{IsAskedListedIcons, IsListedIcons, bytes_or_none};
+ghost use Rattle.mime_c.specs.ListedIcons.{IsAskedListedIcons, IsListedIcons, IsListedReport, bytes_or_none};
 ghost use Rattle.mime_c.specs.Reader.{IsOfCache};
 ghost use Rattle.mime_view.specs.Spending.{Looks};
 
@@ -12,7 +12,7 @@ use mime_base::Meter;
 use mime_view::{Budget, Cache, CacheFault};
 
 /// The names of an icon and of a generic icon, where they are listed.
-type ListedNames<'a> = (Option<&'a [u8]>, Option<&'a [u8]>);
+pub(crate) type ListedNames<'a> = (Option<&'a [u8]>, Option<&'a [u8]>);
 
 /// The names of the icon and of the generic icon that a cache lists for just this type, without bytes where it lists none
 /// ("The mime.cache files").
@@ -29,7 +29,21 @@ pub extern "C" fn mimelook_listed_icons<'a>(
     ensures promises { IsAskedListedIcons cache.entry.now kind.now (icon.old, generic.old) (icon.new, generic.new) result }
 {
     let mut meter = Meter::new();
-    match ask(cache, kind, &mut meter) {
+    let found = ask(cache, kind, &mut meter);
+    tell(found, meter, icon, generic)
+}
+
+/// The names go out, if they can be told.
+pub(crate) fn tell<'a>(
+    found: Result<ListedNames<'a>, CacheFault>,
+    meter: Meter,
+    icon: &mut Text<'a>,
+    generic: &mut Text<'a>,
+) -> Report
+    // They are written only with an answer.
+    ensures { IsListedReport (icon.old, generic.old) (icon.new, generic.new) found.entry meter result }
+{
+    match found {
         Ok((listed, listed_generic)) => {
             icon.bytes = bytes_or_none(listed);
             generic.bytes = bytes_or_none(listed_generic);
@@ -60,13 +74,15 @@ fn ask<'a>(cache: &'a [u8], kind: &[u8], meter: &mut Meter) -> Result<ListedName
     }
 }
 
-// The same over an opened cache.
-fn listed_names<'a>(
+/// The same over an opened cache.
+pub(crate) fn listed_names<'a>(
     opened: &Cache<'a>,
     kind: &[u8],
     meter: &mut Meter,
 ) -> Result<ListedNames<'a>, CacheFault>
+    // They are the names that the cache lists.
     ensures promises { IsListedIcons opened.now kind.now result }
+    // It visits at most 29 records of each list, and compares at most a text for each.
     ensures cost { Looks 58 (256 * 58) meter.old meter.new }
 {
     let mut budget = Budget::of(opened);

@@ -2,7 +2,8 @@
 
 ghost use Rattle.std.specs.Prelude.{◌≢◌, IfErr, IfSome, Some};
 ghost use Rattle.mime_c.specs.Headline.{IsHeadline};
-ghost use Rattle.mime_c.specs.LookUp.{IsLookedUp, IsTypedByContent, IsLookUp, IsTypedByName, IsWritten, available_content};
+ghost use Rattle.mime_c.specs.LookUp.{IsLookUp, IsLookUpReport, IsLookedUp, IsNameReport};
+ghost use Rattle.mime_c.specs.LookUp.{IsTypedByContent, IsTypedByName, IsWritten, available_content};
 ghost use Rattle.mime_c.specs.Order.{order_of};
 ghost use Rattle.mime_lookup.specs.NameAlone.{IsNameLookUp};
 
@@ -78,7 +79,18 @@ fn ask_content<'a>(
 ) -> Report
     ensures { IsTypedByContent cache.now name.now content.now order answer.old answer.new result }
 {
-    match with_content(alloc, cache, name, content, order) {
+    let found = with_content(alloc, cache, name, content, order);
+    tell(found, answer)
+}
+
+/// The answer to a name and a content goes out, if there is one.
+pub(crate) fn tell<'a>(found: Result<Answer<'a>, Stopped>, answer: &mut TypeAnswer<'a>) -> Report
+    // Bytes are read, which never fail.
+    requires readable { IfErr found (λ stopped. stopped.cause ≢ Cause.Read) }
+    // It is written only with an answer.
+    ensures { IsLookUpReport found.entry answer.old answer.new result }
+{
+    match found {
         Ok(found) => {
             put(found.kind, 0, answer);
             answered(found.read, found.meter)
@@ -97,7 +109,21 @@ fn ask_name<'a>(
 ) -> Report
     ensures { IsTypedByName cache.now name.now order answer.old answer.new result }
 {
-    match without_content(alloc, cache, name, order) {
+    let found = without_content(alloc, cache, name, order);
+    tell_name(found, answer)
+}
+
+/// The answer to a name alone goes out, if there is one.
+pub(crate) fn tell_name<'a>(
+    found: Result<NameAnswer<'a>, Stopped>,
+    answer: &mut TypeAnswer<'a>,
+) -> Report
+    // Nothing is read.
+    requires readable { IfErr found (λ stopped. stopped.cause ≢ Cause.Read) }
+    // It is written only with an answer.
+    ensures { IsNameReport found.entry answer.old answer.new result }
+{
+    match found {
         Ok(found) => {
             put(found.kind, found.wanted, answer);
             answered(0, found.meter)

@@ -1,7 +1,7 @@
 //! The parents of a type.
 
 ghost use Rattle.std.specs.Prelude.{◌≡◌, ◌+◌, ◌*◌, ◌/◌, length, map};
-ghost use Rattle.mime_c.specs.Parents.{AreWritten, IsAskedParents, IsParents, bytes_of, types_of};
+ghost use Rattle.mime_c.specs.Parents.{AreWritten, IsAskedParents, IsParents, IsParentsReport, bytes_of, types_of};
 ghost use Rattle.mime_c.specs.Reader.{IsOfCache};
 ghost use Rattle.mime_view.specs.Spending.{Looks};
 
@@ -30,7 +30,22 @@ pub extern "C" fn mimelook_parents<'a>(
         (record { texts = parents.new; count = count.new }) result }
 {
     let mut meter = Meter::new();
-    match ask(alloc, cache, kind, &mut meter) {
+    let found = ask(alloc, cache, kind, &mut meter);
+    tell(found, meter, parents, count)
+}
+
+/// The parents go out, if they can be told, and how many they are.
+pub(crate) fn tell<'a>(
+    found: Result<Option<Parents<'a>>, CacheFault>,
+    meter: Meter,
+    parents: &mut [Text<'a>],
+    count: &mut usize,
+) -> Report
+    // They are written only with an answer.
+    ensures { IsParentsReport (record { texts = parents.old; count = count.old }) (record { texts = parents.new; count = count.new })
+        found.entry meter result }
+{
+    match found {
         Ok(found) => {
             *count = put_parents(&found, parents);
             answered(0, meter)
@@ -81,14 +96,16 @@ fn ask<'a>(
     }
 }
 
-// The same over an opened cache.
-fn parents_of<'a>(
+/// The same over an opened cache.
+pub(crate) fn parents_of<'a>(
     alloc: Global,
     opened: &Cache<'a>,
     kind: &[u8],
     meter: &mut Meter,
 ) -> Result<Option<Parents<'a>>, CacheFault>
+    // They are the parents that the cache lists.
     ensures promises { IsParents opened.now kind.now result }
+    // It visits and compares no more than this.
     ensures cost { let records = length opened.now / 4 in
         Looks (29 + records) (256 * (27 + records)) meter.old meter.new }
 {

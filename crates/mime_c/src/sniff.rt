@@ -1,12 +1,13 @@
 //! What a content is sniffed as.
 
+ghost use Rattle.std.specs.Prelude.{◌≢◌, IfErr};
 ghost use Rattle.mime_base.specs.declared.magic.host.Host.TheVariants.{Little};
-ghost use Rattle.mime_c.specs.Sniff.{IsAskedSniff, IsGivenSniff};
+ghost use Rattle.mime_c.specs.Sniff.{IsAskedSniff, IsGivenSniff, IsSniffReport};
 ghost use Rattle.mime_lookup.specs.ContentAlone.{IsSniffing};
 
 use crate::report::{Report, answered, stop_report};
 use mime_base::{Counted, Host};
-use mime_lookup::{SniffedContent, Stopped, sniff_alone};
+use mime_lookup::{Cause, SniffedContent, Stopped, sniff_alone};
 
 /// What a content is sniffed as.
 #[repr(C)]
@@ -35,7 +36,21 @@ pub extern "C" fn mimelook_sniff<'a>(
     // It is what the lookup gives of the content alone; the struct is written only with an answer.
     ensures promises { IsAskedSniff cache.entry.now content.now sniffed.old sniffed.new result }
 {
-    match ask(cache, content) {
+    let found = ask(cache, content);
+    tell(found, sniffed)
+}
+
+/// What was found goes out, if anything was.
+pub(crate) fn tell<'a>(
+    found: Result<SniffedContent<'a>, Stopped>,
+    sniffed: &mut Sniffed<'a>,
+) -> Report
+    // Bytes are read, which never fail.
+    requires readable { IfErr found (λ stopped. stopped.cause ≢ Cause.Read) }
+    // It is written only with an answer.
+    ensures { IsSniffReport found.entry sniffed.old sniffed.new result }
+{
+    match found {
         Ok(found) => {
             *sniffed = given_sniff(&found);
             answered(found.read, found.meter)

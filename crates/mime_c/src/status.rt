@@ -41,3 +41,6 @@ pub const UNKNOWN_ORDER: u32 = 12;
 
 /// A text of `magic` is refused.
 pub const BAD_MAGIC: u32 = 13;
+
+/// There is no database that is open: NULL was given.
+pub const NOT_OPEN: u32 = 14;

@@ -1,7 +1,7 @@
 //! The type that an alias stands for.
 
-ghost use Rattle.std.specs.Prelude.{◌*◌};
-ghost use Rattle.mime_c.specs.Reader.{IsOfCache};
+ghost use Rattle.std.specs.Prelude.{◌≡◌, ◌*◌};
+ghost use Rattle.mime_c.specs.Reader.{IsOfCache, IsReaderReport};
 ghost use Rattle.mime_c.specs.Unalias.{IsAliasStep, IsAskedAlias};
 ghost use Rattle.mime_view.specs.Spending.{Looks};
 
@@ -9,7 +9,7 @@ use crate::look_up::Text;
 use crate::opening::open;
 use crate::report::{Report, answered, fault_report};
 use mime_base::Meter;
-use mime_view::{Budget, CacheFault};
+use mime_view::{Budget, Cache, CacheFault};
 
 /// The type that an alias stands for, or the bytes themselves where the cache has no such alias ("Directory layout").
 ///
@@ -24,7 +24,20 @@ pub extern "C" fn mimelook_unalias<'a>(
     ensures promises { IsAskedAlias cache.entry.now kind.entry.now resolved.old resolved.new result }
 {
     let mut meter = Meter::new();
-    match ask(cache, kind, &mut meter) {
+    let found = ask(cache, kind, &mut meter);
+    tell(found, meter, resolved)
+}
+
+/// The name goes out, if there is one.
+pub(crate) fn tell<'a>(
+    found: Result<&'a [u8], CacheFault>,
+    meter: Meter,
+    resolved: &mut Text<'a>,
+) -> Report
+    // It is written only with an answer.
+    ensures { IsReaderReport (λ name. resolved.new.bytes.now ≡ name.now) (resolved.new ≡ resolved.old) found.entry meter result }
+{
+    match found {
         Ok(name) => {
             resolved.bytes = name;
             answered(0, meter)
@@ -39,10 +52,22 @@ fn ask<'a>(cache: &'a [u8], kind: &'a [u8], meter: &mut Meter) -> Result<&'a [u8
     ensures cost { Looks 30 (256 * 29) meter.old meter.new }
 {
     match open(cache, meter) {
-        Ok(opened) => {
-            let mut budget = Budget::of(&opened);
-            opened.unalias(kind, meter, &mut budget)
-        }
+        Ok(opened) => alias_step(&opened, kind, meter),
         Err(fault) => Err(fault),
     }
+}
+
+/// The same over an opened cache.
+pub(crate) fn alias_step<'a>(
+    opened: &Cache<'a>,
+    kind: &'a [u8],
+    meter: &mut Meter,
+) -> Result<&'a [u8], CacheFault>
+    // It is the type that the name stands for, or the name.
+    ensures promises { IsAliasStep opened.now kind.entry.now result }
+    // It visits at most 29 records, and compares at most a text for each.
+    ensures cost { Looks 29 (256 * 29) meter.old meter.new }
+{
+    let mut budget = Budget::of(opened);
+    opened.unalias(kind, meter, &mut budget)
 }

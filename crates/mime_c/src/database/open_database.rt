@@ -1,0 +1,93 @@
+//! What is open.
+
+ghost use Rattle.std.specs.Prelude.{◌≡◌, ◌+◌, ◌≤◌, MatchResult};
+ghost use Rattle.mime_view.specs.Opening.{IsOpenFault, Opens};
+
+use mime_base::{Counted, Meter};
+use mime_lookup::{IndexedCache, PaidCache};
+use mime_view::{Cache, CacheFault};
+use std::alloc::Global;
+use std::marker::Model;
+
+/// A cache that is open.
+#[derive(Drop)]
+pub struct OpenDatabase {
+    bytes: &'static [u8],
+    paid: PaidCache<'static>,
+}
+
+impl Model for OpenDatabase {
+    ghost use Rattle.std.specs.Prelude.{◌≡◌, ℕ, List};
+
+    ghost Value = { List ℕ };
+
+    ghost view = { λ it. it.bytes.now };
+
+    ghost invariant = { λ it. it.paid ≡ it.bytes.now };
+}
+
+impl OpenDatabase {
+    /// Opens the bytes of a cache.
+    pub(super) fn new(bytes: &'static [u8], meter: &mut Meter) -> Result<OpenDatabase, CacheFault>
+        // It opens the bytes that are a cache; else the first thing that is wrong with their header is the fault.
+        ensures opened { MatchResult result
+            (λ opened. (opened ≡ bytes.entry.now) × Opens bytes.entry.now) (IsOpenFault bytes.entry.now) }
+        // At most the header is visited.
+        ensures nodes { meter.new.nodes ≤ meter.old.nodes + 1 }
+        // Nothing is compared.
+        ensures bytes { meter.new.bytes ≡ meter.old.bytes }
+    {
+        let paid = PaidCache::open(Counted::new(bytes), meter)?;
+        Ok(OpenDatabase { bytes, paid })
+    }
+
+    /// The bytes.
+    pub(super) fn bytes(&self) -> &'static [u8]
+        // They are the cache's.
+        ensures { result.now ≡ self.now }
+    {
+        self.bytes
+    }
+
+    /// The cache with what was read back of it.
+    pub(super) fn indexed(&self) -> &IndexedCache<'static>
+        // It is the cache.
+        ensures { result.now ≡ self.now }
+    {
+        self.paid.indexed()
+    }
+
+    /// The cache, for what there is no index of.
+    pub(super) fn cache(&self) -> &Cache<'static>
+        // It is the cache.
+        ensures cache { result.now ≡ self.now }
+        // It did open.
+        ensures opens { Opens self.now }
+    {
+        self.indexed().cache()
+    }
+
+    /// Reads back what was paid.
+    pub(super) fn read_paid(&mut self, alloc: Global)
+        // It is the same cache.
+        ensures same { self.new ≡ self.old }
+    {
+        self.paid.read_paid(alloc);
+    }
+
+    /// Counts what the answer to a name visited, and whether its content was read.
+    pub(super) fn pay(&mut self, visited: u64, is_read: bool)
+        // It is the same cache.
+        ensures same { self.new ≡ self.old }
+    {
+        self.paid.pay(visited, is_read);
+    }
+
+    /// Counts what the answer to a content alone visited.
+    pub(super) fn pay_sniffed(&mut self, visited: u64)
+        // It is the same cache.
+        ensures same { self.new ≡ self.old }
+    {
+        self.paid.pay_sniffed(visited);
+    }
+}
