@@ -43,18 +43,33 @@ static void is_a(const struct item *item) {
 }
 
 /* The first name is the icon's, and the last is the generic one's before all of them are listed again, as those of symbolic icons. */
-static void icons(const struct item *item) {
-    void *icon = g_content_type_get_icon(chars(item->first));
+static void tell_icons(const char *type, char end) {
+    void *icon = g_content_type_get_icon(type);
     const char *const *names = g_themed_icon_get_names(icon);
     size_t count = 0;
     while (names[count] != NULL) {
         count++;
     }
     tell(names[0], ' ');
-    tell(names[count / 2 - 1], '\n');
+    tell(names[count / 2 - 1], end);
     g_object_unref(icon);
 }
 
+static void icons(const struct item *item) {
+    tell_icons(chars(item->first), '\n');
+}
+
+/* As of mimelook: a name's type, its icons, and whether an editor opens it. */
+static void whole_item(const struct item *item) {
+    int is_uncertain;
+    char *type = g_content_type_guess(chars(item->first), NULL, 0, &is_uncertain);
+    tell(type, ' ');
+    tell_icons(type, ' ');
+    tell(g_content_type_is_a(type, "text/plain") ? "yes" : "no", '\n');
+    g_free(type);
+}
+
 const struct way WAYS[] = {
-    {"name", by_name}, {"both", by_both}, {"file", by_file}, {"content", by_content}, {"is_a", is_a}, {"icons", icons}, {NULL, NULL},
+    {"name", by_name}, {"both", by_both},   {"file", by_file},    {"content", by_content},
+    {"is_a", is_a},    {"icons", icons},    {"item", whole_item}, {NULL, NULL},
 };

@@ -8,16 +8,19 @@
     'image/jpeg'
 
 A cache may be any bytes: a call answers or raises a Fault, in steps that are bounded by the lengths of the cache and the content.
-Nothing is kept between calls and each lets other threads run, so threads may ask one Cache at once. A name is that of a file alone,
-with no folder, as str or bytes. A type is a str; where a hostile cache has bytes that are no UTF-8, they are surrogates, as in the names
-of files. The library is found as any other, or where the environment has its path in MIMELOOK_LIBRARY.
+A Cache is an open database of the library, which is quicker the more it is asked. Threads may share one: a call waits for those before
+it, and lets the other threads run. It is closed by `with`, by `close`, or once nothing has it. A name is that of a file alone, with no
+folder, as str or bytes. A type is a str; where a hostile cache has bytes that are no UTF-8, they are surrogates, as in the names of
+files. The library is found as any other, or where the environment has its path in MIMELOOK_LIBRARY.
 """
 from __future__ import annotations
 
 import errno
 import os
 import stat
-from collections.abc import Callable, Sequence
+import threading
+import weakref
+from collections.abc import Callable, Iterable, Sequence
 from ctypes import CDLL, POINTER, Structure, addressof, byref, create_string_buffer, string_at
 from ctypes import c_bool, c_char_p, c_size_t, c_uint16, c_uint32, c_uint64, c_void_p
 from enum import IntEnum
@@ -51,6 +54,7 @@ class Status(IntEnum):
     TOO_DEEP = 11
     UNKNOWN_ORDER = 12
     BAD_MAGIC = 13
+    NOT_OPEN = 14
 
 
 class Fault(Exception):
@@ -102,12 +106,24 @@ class Icons(NamedTuple):
 
 
 class Cache:
-    """A cache, from its bytes."""
+    """A cache that is open, from its bytes."""
 
     def __init__(self, data: bytes) -> None:
         """Raises a Fault where the bytes can't be opened as a cache."""
-        self._data = bytes(data)
-        self._ask(_library.mimelook_check)
+        self._data, self._handle, self._turn = bytes(data), c_void_p(), threading.Lock()
+        _check(_library.mimelook_open(*_bytes(self._data), byref(self._handle)))
+        self._closing = weakref.finalize(self, _close, self._handle, self._data)
+
+    def close(self) -> None:
+        """Gives back what is kept; then each call raises a Fault."""
+        with self._turn:
+            self._closing()
+
+    def __enter__(self) -> Cache:
+        return self
+
+    def __exit__(self, *_: object) -> None:
+        self.close()
 
     @classmethod
     def open(cls, path: Path) -> Cache:
@@ -135,12 +151,16 @@ class Cache:
         """The type of a name and a content, and how much of one is wanted; None is a content that is not available."""
         found = _Answer(_Text.empty())
         given = (None, 0) if content is None else _bytes(content)
-        self._ask(_library.mimelook_look_up, *_bytes(name), *given, order, byref(found))
+        self._ask(_library.mimelook_database_look_up, *_bytes(name), *given, order, byref(found))
         return Answer(found.type.text(), found.wanted)
 
     def type_of(self, name: Name, content: Optional[bytes] = None, order: int = Order.GLOBS_FIRST) -> str:
         """The type of a name and a content; None is a content that is not available."""
         return self.look_up(name, content, order).type
+
+    def types_of(self, files: Iterable[tuple[Name, Optional[bytes]]], order: int = Order.GLOBS_FIRST) -> list[str]:
+        """The types of names, each with its content; None is one that is not available."""
+        return [self.type_of(name, content, order) for name, content in files]
 
     def type_of_file(self, path: Path, order: int = Order.GLOBS_FIRST) -> str:
         """The type of a regular file, which is opened only where its name leaves the type open; an OSError where it can't be."""
@@ -155,13 +175,13 @@ class Cache:
     def sniff(self, content: bytes) -> Sniffed:
         """The type of a content alone."""
         found = _Sniffed(_Text.empty())
-        self._ask(_library.mimelook_sniff, *_bytes(content), byref(found))
+        self._ask(_library.mimelook_database_sniff, *_bytes(content), byref(found))
         return Sniffed(found.type.text(), found.priority, bool(found.holds))
 
     def is_a(self, kind: Name, base: Name) -> bool:
         """Whether a type is another or a subclass of it, aliases resolved."""
         is_so = c_bool()
-        self._ask(_library.mimelook_is_a, *_bytes(kind), *_bytes(base), byref(is_so))
+        self._ask(_library.mimelook_database_is_a, *_bytes(kind), *_bytes(base), byref(is_so))
         return is_so.value
 
     def parents(self, kind: Name) -> list[str]:
@@ -171,26 +191,28 @@ class Cache:
     def unalias(self, kind: Name) -> str:
         """The type that a type is an alias of, else itself."""
         found, given = _Text.empty(), _bytes(kind)
-        self._ask(_library.mimelook_unalias, *given, byref(found))
+        self._ask(_library.mimelook_database_unalias, *given, byref(found))
         return found.text()
 
     def icons(self, kind: Name) -> Icons:
         """The names of a type's icons: those that the cache lists, else names that are made of the type."""
         icon, generic, lengths = create_string_buffer(_ICON_ROOM), create_string_buffer(_ICON_ROOM), _IconLengths()
-        self._ask(_library.mimelook_icons, *_bytes(kind), icon, _ICON_ROOM, generic, _ICON_ROOM, byref(lengths))
+        self._ask(_library.mimelook_database_icons, *_bytes(kind), icon, _ICON_ROOM, generic, _ICON_ROOM, byref(lengths))
         return Icons(_text(icon.raw[: lengths.icon]), _text(generic.raw[: lengths.generic]))
 
     def _array(self, item: Any, what: str, asked: Name) -> Any:
         """What a function writes into an array, which is asked for twice where there is anything."""
         count, found = c_size_t(), (item * 0)()
         while True:
-            self._ask(getattr(_library, f"mimelook_{what}"), *_bytes(asked), found, len(found), byref(count))
+            self._ask(getattr(_library, f"mimelook_database_{what}"), *_bytes(asked), found, len(found), byref(count))
             if count.value <= len(found):
                 return found[: count.value]
             found = (item * count.value)(*[item.empty()] * count.value)
 
     def _ask(self, function: Callable[..., _Report], *words: Any) -> None:
-        _check(function(*_bytes(self._data), *words))
+        with self._turn:
+            report = function(self._handle, *words)
+        _check(report)
 
 
 def is_type_name(name: Name) -> bool:
@@ -272,7 +294,6 @@ _NOTHING = create_string_buffer(1)
 _ICON_ROOM = 265
 _BYTES = (c_char_p, c_size_t)
 _CALLS = {
-    "check": (),
     "look_up": (*_BYTES, *_BYTES, c_uint32, POINTER(_Answer)),
     "hits": (*_BYTES, POINTER(_Hit), c_size_t, POINTER(c_size_t)),
     "sniff": (*_BYTES, POINTER(_Sniffed)),
@@ -287,8 +308,10 @@ def _loaded() -> CDLL:
     """The library with the types of its functions."""
     library = CDLL(os.environ.get("MIMELOOK_LIBRARY") or "libmimelook.so.1")
     for name, words in _CALLS.items():
-        function = getattr(library, f"mimelook_{name}")
-        function.argtypes, function.restype = (*_BYTES, *words), _Report
+        function = getattr(library, f"mimelook_database_{name}")
+        function.argtypes, function.restype = (c_void_p, *words), _Report
+    library.mimelook_open.argtypes, library.mimelook_open.restype = (*_BYTES, POINTER(c_void_p)), _Report
+    library.mimelook_close.argtypes, library.mimelook_close.restype = (c_void_p,), None
     library.mimelook_merge.argtypes = (POINTER(_Directory), c_size_t, c_char_p, c_size_t, POINTER(c_size_t))
     library.mimelook_merge.restype = _MergeReport
     library.mimelook_is_type_name.argtypes, library.mimelook_is_type_name.restype = _BYTES, c_bool
@@ -305,6 +328,12 @@ def _bytes(given: Name) -> tuple[bytes, int]:
 
 def _text(found: bytes) -> str:
     return found.decode("utf-8", "surrogateescape")
+
+
+def _close(handle: c_void_p, _data: bytes) -> None:
+    """Closes a database, whose bytes are kept until then."""
+    _library.mimelook_close(handle)
+    handle.value = None
 
 
 def _check(report: _Report) -> None:

@@ -46,6 +46,9 @@ class Answers(unittest.TestCase):
         self.assertEqual(self.cache.type_of("x", b"%PDF-1.4"), "application/pdf")
         self.assertEqual(self.cache.type_of("x", b""), "application/x-zerosize")
         self.assertEqual(self.cache.type_of("x", bytearray(b"hi")), "text/plain")
+        files = [("a.ogg", THEORA), ("a.ogg", None), (b"x", b"")]
+        self.assertEqual(self.cache.types_of(files), ["video/ogg", "audio/ogg", "application/x-zerosize"])
+        self.assertEqual(self.cache.types_of([]), [])
 
     def test_orders(self):
         self.assertEqual(self.cache.type_of("a.md", VORBIS), "text/markdown")
@@ -156,6 +159,32 @@ class Caches(unittest.TestCase):
         del data
         gc.collect()
         self.assertEqual(cache.type_of("a.md"), "text/markdown")
+
+    def test_closed(self):
+        data = Cache.merged([SHARE])._data
+        with Cache(data) as cache, Cache(data) as other:
+            cache.close()
+            self.assertEqual(other.type_of("a.md"), "text/markdown")
+        for closed in (cache, other):
+            for call, *words in ((closed.type_of, "a.md"), (closed.sniff, b"hi"), (closed.hits, "x"), (closed.parents, "text/html")):
+                with self.assertRaises(Fault) as raised:
+                    call(*words)
+                self.assertEqual(raised.exception.status, Status.NOT_OPEN)
+            closed.close()
+
+    def test_many_are_opened(self):
+        data = Cache.merged([SHARE])._data
+        for _ in range(10_000):
+            Cache(data).type_of("a.md")
+
+    def test_questions_of_many(self):
+        """The answers are the same, however many were asked before."""
+        cache = Cache.merged([SHARE])
+        for _ in range(500):
+            for name, kind in BY_NAME.items():
+                self.assertEqual(cache.type_of(name), kind, name)
+            self.assertEqual(cache.type_of("x", b"%PDF-1.4"), "application/pdf")
+            self.assertEqual(cache.type_of("a.ogg", THEORA), "video/ogg")
 
     def test_directories(self):
         with tempfile.TemporaryDirectory() as folder:

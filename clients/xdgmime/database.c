@@ -41,6 +41,7 @@ static size_t folder_count;
 static bool are_folders_set;
 static uint8_t *cache;
 static size_t cache_length;
+static mimelook_database *handle;
 static bool is_read;
 static time_t last_look;
 
@@ -198,6 +199,8 @@ static mimelook_directory texts_of(const struct folder *folder, size_t *room) {
 }
 
 static void drop_cache(void) {
+    mimelook_close(handle);
+    handle = NULL;
     free(cache);
     cache = NULL;
     cache_length = 0;
@@ -217,7 +220,7 @@ static mimelook_merge_report merged(const mimelook_directory *directories, size_
     return report;
 }
 
-/* Makes the cache of what was read; there is none where memory is refused or the data are too large. */
+/* Makes the cache of what was read, and opens it; there is none where memory is refused or the data are too large. */
 static void make_cache(mimelook_directory *directories) {
     size_t room = 4096;
     for (size_t i = 0; i < folder_count; i++) {
@@ -230,7 +233,7 @@ static void make_cache(mimelook_directory *directories) {
         }
         report = merged(directories, &room);
     }
-    if (report.status != MIMELOOK_ANSWERED) {
+    if (report.status != MIMELOOK_ANSWERED || mimelook_open(cache, cache_length, &handle).status != MIMELOOK_ANSWERED) {
         drop_cache();
     }
 }
@@ -278,7 +281,7 @@ struct database xdg_mime_database(void) {
         last_look = now.tv_sec;
         read_all();
     }
-    return (struct database){cache, cache_length};
+    return (struct database){handle, cache, cache_length};
 }
 
 void xdg_mime_set_dirs(const char *const *paths) {

@@ -3,6 +3,7 @@
 #define MIMELOOK_DATABASE_H
 
 #include "xdgmime.h"
+#include <mimelook.h>
 #include <stdbool.h>
 #include <stdint.h>
 
@@ -12,8 +13,9 @@
 #define xdg_mime_read_front XDG_ENTRY(read_front)
 #endif
 
-/* The bytes of a cache; none where memory is refused or the data are too large, which each call answers by a status. */
+/* A cache that is open, and its bytes; none where memory is refused or the data are too large, which each call answers by a status. */
 struct database {
+    mimelook_database *handle;
     const uint8_t *cache;
     size_t length;
 };

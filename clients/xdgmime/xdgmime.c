@@ -56,7 +56,7 @@ static const char *type_of(struct database data, mimelook_text type) {
 const char *xdg_mime_get_mime_type_for_data(const void *content, size_t length, int *priority) {
     struct database data = xdg_mime_database();
     mimelook_sniffed sniffed = {.type = MIMELOOK_NO_TEXT};
-    mimelook_sniff(data.cache, data.length, length != 0 ? content : NULL, length, &sniffed);
+    mimelook_database_sniff(data.handle, length != 0 ? content : NULL, length, &sniffed);
     if (priority != NULL) {
         *priority = length != 0 ? (int)sniffed.priority : EMPTY_PRIORITY;
     }
@@ -66,7 +66,7 @@ const char *xdg_mime_get_mime_type_for_data(const void *content, size_t length, 
 /* A lookup of a name, with a content unless that is NULL. */
 static mimelook_answer looked_up(struct database data, const char *name, const uint8_t *content, size_t length) {
     mimelook_answer answer = {.type = MIMELOOK_NO_TEXT};
-    mimelook_look_up(data.cache, data.length, bytes_of(name), strlen(name), content, length, ORDER, &answer);
+    mimelook_database_look_up(data.handle, bytes_of(name), strlen(name), content, length, ORDER, &answer);
     return answer;
 }
 
@@ -111,11 +111,11 @@ const char *xdg_mime_get_mime_type_from_file_name(const char *name) {
 /* The globs that match a name, best first, in an array that the caller frees; none where memory is refused. */
 static mimelook_hit *hits_of(struct database data, const char *name, size_t *count) {
     *count = 0;
-    mimelook_hits(data.cache, data.length, bytes_of(name), strlen(name), NULL, 0, count);
+    mimelook_database_hits(data.handle, bytes_of(name), strlen(name), NULL, 0, count);
     mimelook_hit *hits = calloc(*count + 1, sizeof *hits);
     size_t room = hits != NULL ? *count : 0;
     *count = 0;
-    mimelook_hits(data.cache, data.length, bytes_of(name), strlen(name), hits, room, count);
+    mimelook_database_hits(data.handle, bytes_of(name), strlen(name), hits, room, count);
     *count = *count < room ? *count : room;
     return hits;
 }
@@ -136,7 +136,7 @@ int xdg_mime_get_mime_types_from_file_name(const char *name, const char *types[]
     int listed = 0;
     for (size_t i = 0; i < count && listed < room; i++) {
         mimelook_text resolved = hits[i].type;
-        mimelook_unalias(data.cache, data.length, hits[i].type.at, hits[i].type.length, &resolved);
+        mimelook_database_unalias(data.handle, hits[i].type.at, hits[i].type.length, &resolved);
         types[listed] = type_of(data, resolved);
         listed += !is_listed(types, listed, types[listed]);
     }
@@ -150,7 +150,7 @@ int xdg_mime_is_valid_mime_type(const char *type) {
 
 static const char *unaliased(struct database data, const char *type) {
     mimelook_text text = MIMELOOK_NO_TEXT;
-    mimelook_unalias(data.cache, data.length, bytes_of(type), strlen(type), &text);
+    mimelook_database_unalias(data.handle, bytes_of(type), strlen(type), &text);
     const char *found = text_in(data, text);
     return found != NULL ? found : type;
 }
@@ -183,7 +183,7 @@ int xdg_mime_mime_type_subclass(const char *type, const char *base) {
     /* of what is the name of no type it is known only that it has bytes */
     const char *asked = xdg_mime_is_valid_mime_type(type) ? type : xdg_mime_type_unknown;
     bool is = strcmp(type, base) == 0;
-    mimelook_is_a(data.cache, data.length, bytes_of(asked), strlen(asked), bytes_of(base), strlen(base), &is);
+    mimelook_database_is_a(data.handle, bytes_of(asked), strlen(asked), bytes_of(base), strlen(base), &is);
     return is;
 }
 
@@ -192,7 +192,7 @@ static const char **parents_of(const char *type) {
     struct database data = xdg_mime_database();
     const char *asked = unaliased(data, type);
     size_t count = 0, kept = 0;
-    mimelook_parents(data.cache, data.length, bytes_of(asked), strlen(asked), NULL, 0, &count);
+    mimelook_database_parents(data.handle, bytes_of(asked), strlen(asked), NULL, 0, &count);
     mimelook_text *texts = calloc(count + 1, sizeof *texts);
     const char **parents = calloc(count + 1, sizeof *parents);
     if (texts == NULL || parents == NULL) {
@@ -201,7 +201,7 @@ static const char **parents_of(const char *type) {
         return NULL;
     }
     size_t room = count;
-    mimelook_parents(data.cache, data.length, bytes_of(asked), strlen(asked), texts, room, &count);
+    mimelook_database_parents(data.handle, bytes_of(asked), strlen(asked), texts, room, &count);
     for (size_t i = 0; i < room; i++) {
         const char *parent = text_in(data, texts[i]);
         parents[kept] = parent;
@@ -225,7 +225,7 @@ const char **xdg_mime_get_mime_parents(const char *type) {
 static void listed_icons(const char *type, const char **icon, const char **generic) {
     struct database data = xdg_mime_database();
     mimelook_text listed = MIMELOOK_NO_TEXT, listed_generic = MIMELOOK_NO_TEXT;
-    mimelook_listed_icons(data.cache, data.length, bytes_of(type), strlen(type), &listed, &listed_generic);
+    mimelook_database_listed_icons(data.handle, bytes_of(type), strlen(type), &listed, &listed_generic);
     *icon = text_in(data, listed);
     *generic = text_in(data, listed_generic);
 }
@@ -245,7 +245,7 @@ const char *xdg_mime_get_generic_icon(const char *type) {
 int xdg_mime_get_max_buffer_extents(void) {
     struct database data = xdg_mime_database();
     uint64_t extent = 0;
-    mimelook_extent(data.cache, data.length, &extent);
+    mimelook_database_extent(data.handle, &extent);
     return extent < INT_MAX ? (int)extent : INT_MAX;
 }
 
