@@ -566,50 +566,6 @@
 3:
 	.size	"mime_base::matching::elements::begins_otherwise", 3b-"mime_base::matching::elements::begins_otherwise"
 
-	.text
-	.p2align	4
-	.type	"mime_base::matching::folding::common_compared",@function
-"mime_base::matching::folding::common_compared":
-	xorl	%eax, %eax
-	testq	%rdx, %rdx
-	je	4f
-	testb	%dil, %dil
-	je	2f
-	.p2align	4
-1:
-	movzbl	(%rsi,%rax), %edi
-	cmpb	(%rcx,%rax), %dil
-	jne	4f
-	incq	%rax
-	cmpq	%rax, %rdx
-	jne	1b
-	jmp	3f
-	.p2align	4
-2:
-	movzbl	(%rsi,%rax), %edi
-	leal	-65(%rdi), %r8d
-	leal	32(%rdi), %r9d
-	cmpb	$26, %r8b
-	movzbl	%r9b, %r8d
-	cmovael	%edi, %r8d
-	movzbl	(%rcx,%rax), %edi
-	leal	-65(%rdi), %r9d
-	leal	32(%rdi), %r10d
-	cmpb	$26, %r9b
-	movzbl	%r10b, %r9d
-	cmovael	%edi, %r9d
-	cmpb	%r9b, %r8b
-	jne	4f
-	incq	%rax
-	cmpq	%rax, %rdx
-	jne	2b
-3:
-	movq	%rdx, %rax
-4:
-	retq
-5:
-	.size	"mime_base::matching::folding::common_compared", 5b-"mime_base::matching::folding::common_compared"
-
 	.section	.rodata.cst16,"aM",@progbits,16
 	.p2align	4, 0x0
 1:

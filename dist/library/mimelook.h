@@ -1,12 +1,13 @@
 /* mimelook: the MIME type of a file by its name and its content, from the bytes of a mime.cache that nobody vouches for.
  *
- * Every function is total: any bytes and any lengths give a report. None keeps anything between calls, so threads may ask
- * the same cache at once. A pointer with length 0 may be NULL; any other has to point to that many bytes that nothing writes
- * while the call runs, and what a call writes to must not overlap anything else that it is given.
+ * Every function is total: any bytes and any lengths give a report. None keeps anything between calls, but in a database that
+ * was opened (mimelook_open), so threads may ask the same cache at once. A pointer with length 0 may be NULL; any other has to
+ * point to that many bytes that nothing writes while the call runs, and what a call writes to must not overlap anything else
+ * that it is given.
  *
  * What is written through a pointer is as it was unless the report's status is MIMELOOK_ANSWERED. Memory is taken by
- * malloc and realloc and given back before the call returns. Not for signal handlers, nor for the child of a fork in a
- * process with threads.
+ * malloc and realloc and given back before the call returns, what a database keeps when it is closed. Not for signal handlers,
+ * nor for the child of a fork in a process with threads.
  *
  * A file's type takes one call, or two. The first gives the name alone, with NULL for the content: it says the type, and how
  * much of a content could give another (`wanted`). Where that is 0 the type is final, and the file need not be opened. Else
@@ -57,7 +58,8 @@ enum mimelook_status {
     MIMELOOK_SPENT = 10,         /* records of the cache lead to one another too often */
     MIMELOOK_TOO_DEEP = 11,      /* records of the cache lie too deep */
     MIMELOOK_UNKNOWN_ORDER = 12, /* the number of the checking order is of none */
-    MIMELOOK_BAD_MAGIC = 13      /* a text of magic that was to be merged is refused */
+    MIMELOOK_BAD_MAGIC = 13,     /* a text of magic that was to be merged is refused */
+    MIMELOOK_NOT_OPEN = 14       /* NULL was given for a database that is open */
 };
 
 /* Which of the name's globs and the content's magic is asked first. */
@@ -267,6 +269,63 @@ mimelook_report mimelook_sniff(const uint8_t *cache, size_t cache_length, const 
  * Memory of several times the length of the texts may be taken. */
 mimelook_merge_report mimelook_merge(const mimelook_directory *directories, size_t count, uint8_t *cache, size_t room,
     size_t *length);
+
+/* A database that is open, for many questions.
+ *
+ * A program that asks one cache often opens it once. Each call by the handle gives what the call of that name over the bytes
+ * gives: the same answers, statuses and structs, and leaves what it was given as it was where that does; but `nodes` and `bytes`
+ * say what this call did. For NULL the status is MIMELOOK_NOT_OPEN, and nothing is written.
+ *
+ * The cache's bytes stay the caller's: nothing may write to them or let go of them until the database is closed. A text of an
+ * answer lies in them, or in the library, or is the caller's own type (mimelook_database_unalias): it is there as long as these
+ * are, and closing takes none away.
+ *
+ * One call at a time serves a handle, which may go to another thread between two calls; many threads open one each over the same
+ * bytes, or ask by the calls over the bytes. Nothing can check that a handle is what mimelook_open gave, that it is closed once,
+ * and that it is not asked once it is closed: all three are the caller's, as they are with free. */
+typedef struct mimelook_database mimelook_database;
+
+/* Opens a cache. *database is NULL unless the status is MIMELOOK_ANSWERED; it is written whatever it was. The status is
+ * MIMELOOK_OUT_OF_MEMORY, or what mimelook_check says of the cache. A cache of which only the header is sound is opened too. */
+mimelook_report mimelook_open(const uint8_t *cache, size_t cache_length, mimelook_database **database);
+
+/* Closes a database, and gives its memory back. Of NULL nothing is done. */
+void mimelook_close(mimelook_database *database);
+
+/* mimelook_look_up by a database that is open. */
+mimelook_report mimelook_database_look_up(mimelook_database *database, const uint8_t *name, size_t name_length,
+    const uint8_t *content, size_t content_length, uint32_t order, mimelook_answer *answer);
+
+/* mimelook_hits by a database that is open. */
+mimelook_report mimelook_database_hits(mimelook_database *database, const uint8_t *name, size_t name_length,
+    mimelook_hit *hits, size_t room, size_t *count);
+
+/* mimelook_is_a by a database that is open. */
+mimelook_report mimelook_database_is_a(mimelook_database *database, const uint8_t *type, size_t type_length,
+    const uint8_t *base, size_t base_length, bool *is);
+
+/* mimelook_icons by a database that is open. */
+mimelook_report mimelook_database_icons(mimelook_database *database, const uint8_t *type, size_t type_length,
+    uint8_t *icon, size_t icon_room, uint8_t *generic, size_t generic_room, mimelook_icon_lengths *lengths);
+
+/* mimelook_unalias by a database that is open. */
+mimelook_report mimelook_database_unalias(mimelook_database *database, const uint8_t *type, size_t type_length,
+    mimelook_text *resolved);
+
+/* mimelook_parents by a database that is open. */
+mimelook_report mimelook_database_parents(mimelook_database *database, const uint8_t *type, size_t type_length,
+    mimelook_text *parents, size_t room, size_t *count);
+
+/* mimelook_listed_icons by a database that is open. */
+mimelook_report mimelook_database_listed_icons(mimelook_database *database, const uint8_t *type, size_t type_length,
+    mimelook_text *icon, mimelook_text *generic);
+
+/* mimelook_extent by a database that is open. */
+mimelook_report mimelook_database_extent(mimelook_database *database, uint64_t *extent);
+
+/* mimelook_sniff by a database that is open. */
+mimelook_report mimelook_database_sniff(mimelook_database *database, const uint8_t *content, size_t content_length,
+    mimelook_sniffed *sniffed);
 
 /* Whether bytes are a type's name: 3 to 255 of them, each above the space and no colon, with a slash that is neither the first
  * nor the last. */

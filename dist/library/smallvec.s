@@ -725,6 +725,615 @@
 
 	.section	.text.unlikely,"ax",@progbits
 	.p2align	4
+	.type	"smallvec::small_vec::SmallVec::reserve_one::<#0389f7cd2dc58f19>",@function
+"smallvec::small_vec::SmallVec::reserve_one::<#0389f7cd2dc58f19>":
+	movzbl	(%rdi), %edx
+	xorl	%eax, %eax
+	testb	%dl, %dl
+	sete	%al
+	movq	16(%rdi,%rax,8), %rsi
+	je	1f
+	movq	24(%rdi), %rax
+	jmp	2f
+1:
+	movl	$16, %eax
+2:
+	pushq	%r15
+	pushq	%r14
+	pushq	%r12
+	pushq	%rbx
+	subq	$72, %rsp
+	cmpq	%rsi, %rax
+	jne	11f
+	movb	$1, %al
+	testq	%rsi, %rsi
+	js	12f
+	je	3f
+	bsrq	%rsi, %r8
+	xorq	$63, %r8
+	movl	%r8d, %ecx
+	negb	%cl
+	movl	$1, %ebx
+	shlq	%cl, %rbx
+	movq	%rbx, %r15
+	subq	%rsi, %r15
+	jb	11f
+	cmpq	$15, %rsi
+	ja	4f
+3:
+	cmpb	$1, %dl
+	jne	11f
+	movq	8(%rdi), %rax
+	movq	16(%rdi), %r8
+	movq	24(%rdi), %rcx
+	leaq	15(%rsp), %rdx
+	movq	%rdx, 8(%rdi)
+	xorps	%xmm0, %xmm0
+	movups	%xmm0, 16(%rdi)
+	movaps	%xmm0, 16(%rsp)
+	movq	$0, 32(%rsp)
+	testq	%r8, %r8
+	je	9f
+	movl	%r8d, %edx
+	andl	$3, %edx
+	cmpq	$4, %r8
+	jae	5f
+	xorl	%esi, %esi
+	jmp	7f
+4:
+	leaq	8(%rdi), %r14
+	testb	%dl, %dl
+	je	13f
+	movq	24(%rdi), %rcx
+	cmpq	%rcx, %rbx
+	jae	21f
+	movq	16(%rdi), %rsi
+	cmpq	%rbx, %rsi
+	cmovaq	%rsi, %rbx
+	cmpq	%rcx, %rsi
+	jae	11f
+	movq	%rdi, %r15
+	movq	(%r14), %rdi
+	movl	$1, %ecx
+	movq	%rbx, %rdx
+	callq	rattle_realloc@PLT
+	testb	$1, %al
+	je	11f
+	movq	%rdx, 8(%r15)
+	movq	%rbx, 24(%r15)
+	jmp	11f
+5:
+	andq	$-4, %r8
+	negq	%r8
+	movl	$2, %esi
+	.p2align	4
+6:
+	leaq	-1(%rsi), %r9
+	movzbl	-2(%rax,%rsi), %r10d
+	movb	%r10b, 14(%rsp,%rsi)
+	movq	%r9, 32(%rsp)
+	movzbl	-1(%rax,%rsi), %r9d
+	movb	%r9b, 15(%rsp,%rsi)
+	movq	%rsi, 32(%rsp)
+	leaq	1(%rsi), %r9
+	movzbl	(%rax,%rsi), %r10d
+	movb	%r10b, 16(%rsp,%rsi)
+	movq	%r9, 32(%rsp)
+	leaq	2(%rsi), %r9
+	movzbl	1(%rax,%rsi), %r10d
+	movb	%r10b, 17(%rsp,%rsi)
+	movq	%r9, 32(%rsp)
+	leaq	(%r8,%rsi), %r9
+	addq	$4, %r9
+	addq	$4, %rsi
+	cmpq	$2, %r9
+	jne	6b
+	testq	%rdx, %rdx
+	je	9f
+	addq	$-2, %rsi
+7:
+	incq	%rsi
+	.p2align	4
+8:
+	movzbl	-1(%rax,%rsi), %r8d
+	movb	%r8b, 15(%rsp,%rsi)
+	movq	%rsi, 32(%rsp)
+	incq	%rsi
+	decq	%rdx
+	jne	8b
+9:
+	leaq	8(%rdi), %rbx
+	testq	%rcx, %rcx
+	je	10f
+	movq	%rdi, %r14
+	movq	%rax, %rdi
+	callq	rattle_dealloc@PLT
+	movq	8(%r14), %rdi
+	movq	24(%r14), %rax
+	cmpb	$0, (%r14)
+	movq	32(%rsp), %rcx
+	movq	%rcx, 64(%rsp)
+	movaps	16(%rsp), %xmm0
+	movaps	%xmm0, 48(%rsp)
+	movq	$0, (%r14)
+	movq	64(%rsp), %rcx
+	movq	%rcx, 16(%rbx)
+	movaps	48(%rsp), %xmm0
+	movups	%xmm0, (%rbx)
+	je	11f
+	testq	%rax, %rax
+	je	11f
+	callq	rattle_dealloc@PLT
+	jmp	11f
+10:
+	movq	32(%rsp), %rax
+	movq	%rax, 64(%rsp)
+	movaps	16(%rsp), %xmm0
+	movaps	%xmm0, 48(%rsp)
+	movq	$0, (%rdi)
+	movq	64(%rsp), %rax
+	movq	%rax, 16(%rbx)
+	movaps	48(%rsp), %xmm0
+	movups	%xmm0, (%rbx)
+11:
+	xorl	%eax, %eax
+12:
+	addq	$72, %rsp
+	popq	%rbx
+	popq	%r12
+	popq	%r14
+	popq	%r15
+	retq
+13:
+	cmpl	$1, %r8d
+	je	12b
+	movq	%rdi, %r15
+	movl	$1, %esi
+	movq	%rbx, %rdi
+	callq	rattle_alloc@PLT
+	movq	%rax, %rcx
+	movb	$1, %al
+	testb	$1, %cl
+	je	12b
+	movq	%r15, %rcx
+	movq	24(%r15), %r12
+	testq	%r12, %r12
+	je	20f
+	cmpq	$8, %r12
+	jb	14f
+	leaq	(%rcx,%r12), %rax
+	addq	$8, %rax
+	leaq	(%rdx,%r12), %rsi
+	cmpq	%rsi, %r14
+	setb	%sil
+	cmpq	%rdx, %rax
+	seta	%al
+	testb	%al, %sil
+	je	24f
+14:
+	xorl	%eax, %eax
+15:
+	movq	%r12, %rdi
+	movq	%rax, %rsi
+	andq	$3, %rdi
+	je	17f
+	movq	%rax, %rsi
+16:
+	movzbl	(%r14,%rsi), %r8d
+	movb	$0, (%r14,%rsi)
+	movb	%r8b, (%rdx,%rsi)
+	incq	%rsi
+	decq	%rdi
+	jne	16b
+17:
+	subq	%r12, %rax
+	cmpq	$-4, %rax
+	ja	19f
+18:
+	movzbl	8(%rcx,%rsi), %eax
+	movb	$0, 8(%rcx,%rsi)
+	movb	%al, (%rdx,%rsi)
+	movzbl	9(%rcx,%rsi), %eax
+	movb	$0, 9(%rcx,%rsi)
+	movb	%al, 1(%rdx,%rsi)
+	movzbl	10(%rcx,%rsi), %eax
+	movb	$0, 10(%rcx,%rsi)
+	movb	%al, 2(%rdx,%rsi)
+	movzbl	11(%rcx,%rsi), %eax
+	movb	$0, 11(%rcx,%rsi)
+	movb	%al, 3(%rdx,%rsi)
+	addq	$4, %rsi
+	cmpq	%rsi, %r12
+	jne	18b
+19:
+	movq	24(%rcx), %rax
+	testq	%rax, %rax
+	je	20f
+	movq	%r14, %rdi
+	xorl	%esi, %esi
+	movq	%rdx, %r14
+	movq	%rax, %rdx
+	callq	memset@PLT
+	movq	%r14, %rdx
+	movq	%r15, %rcx
+20:
+	movq	$1, (%rcx)
+	movq	%rdx, 8(%rcx)
+	movq	%r12, 16(%rcx)
+	movq	%rbx, 24(%rcx)
+	jmp	11b
+21:
+	movq	16(%rdi), %rsi
+	movq	%rcx, %rdx
+	subq	%rsi, %rdx
+	cmpq	%rdx, %r15
+	jbe	11b
+	addq	%rsi, %r15
+	jb	12b
+	js	12b
+	movq	%rdi, %rbx
+	testq	%rcx, %rcx
+	je	22f
+	movq	(%r14), %rdi
+	movl	$1, %ecx
+	movq	%r15, %rdx
+	callq	rattle_realloc@PLT
+	jmp	23f
+22:
+	movl	$1, %esi
+	movq	%r15, %rdi
+	callq	rattle_alloc@PLT
+23:
+	testb	$1, %al
+	movb	$1, %al
+	je	12b
+	movq	%rdx, 8(%rbx)
+	movq	%r15, 24(%rbx)
+	jmp	11b
+24:
+	cmpq	$32, %r12
+	jae	25f
+	xorl	%eax, %eax
+	jmp	27f
+25:
+	movq	%r12, %rax
+	andq	$-32, %rax
+	xorl	%esi, %esi
+26:
+	movups	8(%rcx,%rsi), %xmm0
+	movups	24(%rcx,%rsi), %xmm1
+	xorps	%xmm2, %xmm2
+	movups	%xmm2, 8(%rcx,%rsi)
+	movups	%xmm2, 24(%rcx,%rsi)
+	movups	%xmm0, (%rdx,%rsi)
+	movups	%xmm1, 16(%rdx,%rsi)
+	addq	$32, %rsi
+	cmpq	%rsi, %rax
+	jne	26b
+	cmpq	%rax, %r12
+	je	19b
+	testb	$24, %r12b
+	je	15b
+27:
+	movq	%rax, %rsi
+	movq	%r12, %rax
+	andq	$-8, %rax
+28:
+	movq	(%r14,%rsi), %rdi
+	movq	$0, (%r14,%rsi)
+	movq	%rdi, (%rdx,%rsi)
+	addq	$8, %rsi
+	cmpq	%rsi, %rax
+	jne	28b
+	cmpq	%rax, %r12
+	je	19b
+	jmp	15b
+29:
+	.size	"smallvec::small_vec::SmallVec::reserve_one::<#0389f7cd2dc58f19>", 29b-"smallvec::small_vec::SmallVec::reserve_one::<#0389f7cd2dc58f19>"
+
+	.section	.text.unlikely,"ax",@progbits
+	.p2align	4
+	.type	"smallvec::small_vec::SmallVec::reserve_one::<#1d7ca747d7f7d6e4>",@function
+"smallvec::small_vec::SmallVec::reserve_one::<#1d7ca747d7f7d6e4>":
+	movzbl	(%rdi), %edx
+	leaq	16(%rdi), %rax
+	leaq	72(%rdi), %rcx
+	testb	%dl, %dl
+	cmoveq	%rcx, %rax
+	movq	(%rax), %rsi
+	je	1f
+	movq	24(%rdi), %rax
+	jmp	2f
+1:
+	movl	$8, %eax
+2:
+	pushq	%r15
+	pushq	%r14
+	pushq	%r12
+	pushq	%rbx
+	subq	$168, %rsp
+	cmpq	%rsi, %rax
+	jne	11f
+	movb	$1, %al
+	testq	%rsi, %rsi
+	js	12f
+	je	3f
+	bsrq	%rsi, %rcx
+	incq	%rcx
+	movl	$1, %r14d
+	shlq	%cl, %r14
+	movq	%r14, %r15
+	subq	%rsi, %r15
+	jb	11f
+	cmpq	$7, %rsi
+	ja	4f
+3:
+	cmpb	$1, %dl
+	jne	11f
+	movq	8(%rdi), %rax
+	movq	16(%rdi), %rdx
+	movq	24(%rdi), %rcx
+	leaq	8(%rsp), %rsi
+	movq	%rsi, 8(%rdi)
+	xorps	%xmm0, %xmm0
+	movups	%xmm0, 16(%rdi)
+	movaps	%xmm0, 64(%rsp)
+	movaps	%xmm0, 48(%rsp)
+	movaps	%xmm0, 32(%rsp)
+	movaps	%xmm0, 16(%rsp)
+	movq	$0, 80(%rsp)
+	testq	%rdx, %rdx
+	je	8f
+	cmpq	$1, %rdx
+	jne	5f
+	xorl	%esi, %esi
+	jmp	7f
+4:
+	leaq	8(%rdi), %rbx
+	testb	%dl, %dl
+	je	13f
+	movq	24(%rdi), %rcx
+	cmpq	%rcx, %r14
+	jae	18f
+	movq	16(%rdi), %rsi
+	cmpq	%r14, %rsi
+	cmovaq	%rsi, %r14
+	cmpq	%rcx, %rsi
+	jae	11f
+	movq	%rdi, %r15
+	movq	(%rbx), %rdi
+	shlq	$3, %rsi
+	leaq	(,%r14,8), %rdx
+	movl	$8, %ecx
+	callq	rattle_realloc@PLT
+	testb	$1, %al
+	je	11f
+	movq	%rdx, 8(%r15)
+	movq	%r14, 24(%r15)
+	jmp	11f
+5:
+	movq	%rdx, %r8
+	andq	$-2, %r8
+	xorl	%esi, %esi
+	.p2align	4
+6:
+	leaq	1(%rsi), %r9
+	movq	(%rax,%rsi,8), %r10
+	movq	%r10, 16(%rsp,%rsi,8)
+	movq	%r9, 80(%rsp)
+	movq	8(%rax,%rsi,8), %r9
+	movq	%r9, 24(%rsp,%rsi,8)
+	addq	$2, %rsi
+	movq	%rsi, 80(%rsp)
+	cmpq	%rsi, %r8
+	jne	6b
+	testb	$1, %dl
+	je	8f
+7:
+	leaq	1(%rsi), %rdx
+	movq	(%rax,%rsi,8), %r8
+	movq	%r8, 16(%rsp,%rsi,8)
+	movq	%rdx, 80(%rsp)
+8:
+	leaq	8(%rdi), %rbx
+	testq	%rcx, %rcx
+	je	10f
+	movq	%rdi, %r14
+	movq	%rax, %rdi
+	callq	rattle_dealloc@PLT
+	movq	8(%r14), %rdi
+	movq	24(%r14), %rax
+	cmpb	$0, (%r14)
+	movq	80(%rsp), %rcx
+	movq	%rcx, 160(%rsp)
+	movaps	16(%rsp), %xmm0
+	movaps	32(%rsp), %xmm1
+	movaps	48(%rsp), %xmm2
+	movaps	64(%rsp), %xmm3
+	movaps	%xmm3, 144(%rsp)
+	movaps	%xmm2, 128(%rsp)
+	movaps	%xmm1, 112(%rsp)
+	movaps	%xmm0, 96(%rsp)
+	movq	$0, (%r14)
+	movq	160(%rsp), %rcx
+	movq	%rcx, 64(%rbx)
+	movaps	96(%rsp), %xmm0
+	movaps	112(%rsp), %xmm1
+	movaps	128(%rsp), %xmm2
+	movaps	144(%rsp), %xmm3
+	movups	%xmm3, 48(%rbx)
+	movups	%xmm2, 32(%rbx)
+	movups	%xmm1, 16(%rbx)
+	movups	%xmm0, (%rbx)
+	je	11f
+	testq	%rax, %rax
+	je	11f
+9:
+	callq	rattle_dealloc@PLT
+	jmp	11f
+10:
+	movq	80(%rsp), %rax
+	movq	%rax, 160(%rsp)
+	movaps	16(%rsp), %xmm0
+	movaps	32(%rsp), %xmm1
+	movaps	48(%rsp), %xmm2
+	movaps	64(%rsp), %xmm3
+	movaps	%xmm3, 144(%rsp)
+	movaps	%xmm2, 128(%rsp)
+	movaps	%xmm1, 112(%rsp)
+	movaps	%xmm0, 96(%rsp)
+	movq	$0, (%rdi)
+	movq	160(%rsp), %rax
+	movq	%rax, 64(%rbx)
+	movaps	96(%rsp), %xmm0
+	movaps	112(%rsp), %xmm1
+	movaps	128(%rsp), %xmm2
+	movaps	144(%rsp), %xmm3
+	movups	%xmm3, 48(%rbx)
+	movups	%xmm2, 32(%rbx)
+	movups	%xmm1, 16(%rbx)
+	movups	%xmm0, (%rbx)
+11:
+	xorl	%eax, %eax
+12:
+	addq	$168, %rsp
+	popq	%rbx
+	popq	%r12
+	popq	%r14
+	popq	%r15
+	retq
+13:
+	shrq	$59, %rsi
+	jne	12b
+	movq	%rdi, %r15
+	movl	$8, %edi
+	shlq	%cl, %rdi
+	movl	$8, %esi
+	callq	rattle_alloc@PLT
+	movq	%rax, %rcx
+	movb	$1, %al
+	testb	$1, %cl
+	je	12b
+	movq	%r15, %rcx
+	movq	72(%r15), %r12
+	testq	%r12, %r12
+	je	22f
+	cmpq	$10, %r12
+	jb	14f
+	leaq	(%rdx,%r12,8), %rax
+	cmpq	%rax, %rbx
+	jae	19f
+	leaq	(%rcx,%r12,8), %rax
+	addq	$8, %rax
+	cmpq	%rdx, %rax
+	jbe	19f
+14:
+	xorl	%eax, %eax
+15:
+	movq	%rax, %rsi
+	orq	$1, %rsi
+	testb	$1, %r12b
+	je	16f
+	movq	(%rbx,%rax,8), %rdi
+	movq	$0, (%rbx,%rax,8)
+	movq	%rdi, (%rdx,%rax,8)
+	movq	%rsi, %rax
+16:
+	cmpq	%rsi, %r12
+	je	21f
+17:
+	movq	8(%rcx,%rax,8), %rsi
+	movq	$0, 8(%rcx,%rax,8)
+	movq	%rsi, (%rdx,%rax,8)
+	movq	16(%rcx,%rax,8), %rsi
+	movq	$0, 16(%rcx,%rax,8)
+	movq	%rsi, 8(%rdx,%rax,8)
+	addq	$2, %rax
+	cmpq	%rax, %r12
+	jne	17b
+	jmp	21f
+18:
+	movq	16(%rdi), %rsi
+	movq	%rcx, %rdx
+	subq	%rsi, %rdx
+	cmpq	%rdx, %r15
+	jbe	11b
+	addq	%rsi, %r15
+	jb	12b
+	movq	%r15, %rdx
+	shrq	$60, %rdx
+	jne	12b
+	movq	%rdi, %r14
+	testq	%rcx, %rcx
+	je	23f
+	movq	(%rbx), %rdi
+	shlq	$3, %rsi
+	leaq	(,%r15,8), %rdx
+	movl	$8, %ecx
+	callq	rattle_realloc@PLT
+	jmp	24f
+19:
+	movq	%r12, %rax
+	andq	$-4, %rax
+	xorl	%esi, %esi
+20:
+	movups	8(%rcx,%rsi,8), %xmm0
+	movups	24(%rcx,%rsi,8), %xmm1
+	xorps	%xmm2, %xmm2
+	movups	%xmm2, 8(%rcx,%rsi,8)
+	movups	%xmm2, 24(%rcx,%rsi,8)
+	movups	%xmm0, (%rdx,%rsi,8)
+	movups	%xmm1, 16(%rdx,%rsi,8)
+	addq	$4, %rsi
+	cmpq	%rsi, %rax
+	jne	20b
+	cmpq	%rax, %r12
+	jne	15b
+21:
+	movq	72(%rcx), %rax
+	testq	%rax, %rax
+	je	22f
+	shlq	$3, %rax
+	movq	%rbx, %rdi
+	xorl	%esi, %esi
+	movq	%rdx, %rbx
+	movq	%rax, %rdx
+	callq	memset@PLT
+	movq	%rbx, %rdx
+	movq	%r15, %rcx
+22:
+	movq	8(%rcx), %rdi
+	movq	24(%rcx), %rsi
+	xorl	%eax, %eax
+	cmpb	$0, (%rcx)
+	movq	$1, (%rcx)
+	movq	%rdx, 8(%rcx)
+	movq	%r12, 16(%rcx)
+	movq	%r14, 24(%rcx)
+	xorps	%xmm0, %xmm0
+	movups	%xmm0, 32(%rcx)
+	movups	%xmm0, 48(%rcx)
+	movups	%xmm0, 64(%rcx)
+	je	12b
+	testq	%rsi, %rsi
+	jne	9b
+	jmp	12b
+23:
+	leaq	(,%r15,8), %rdi
+	movl	$8, %esi
+	callq	rattle_alloc@PLT
+24:
+	testb	$1, %al
+	movb	$1, %al
+	je	12b
+	movq	%rdx, 8(%r14)
+	movq	%r15, 24(%r14)
+	jmp	11b
+25:
+	.size	"smallvec::small_vec::SmallVec::reserve_one::<#1d7ca747d7f7d6e4>", 25b-"smallvec::small_vec::SmallVec::reserve_one::<#1d7ca747d7f7d6e4>"
+
+	.section	.text.unlikely,"ax",@progbits
+	.p2align	4
 	.type	"smallvec::small_vec::SmallVec::reserve_one::<#bc37e6e66b18402c>",@function
 "smallvec::small_vec::SmallVec::reserve_one::<#bc37e6e66b18402c>":
 	movzbl	(%rdi), %edx

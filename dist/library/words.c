@@ -31,6 +31,8 @@ const char *mimelook_status_text(uint32_t status) {
         return "unknown order";
     case MIMELOOK_BAD_MAGIC:
         return "magic refused";
+    case MIMELOOK_NOT_OPEN:
+        return "database not open";
     }
     return "unknown status";
 }

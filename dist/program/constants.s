@@ -84,6 +84,12 @@
 	.ascii	"magic"
 	.size	.L08f2e589dacb, 5
 
+	.type	.L098174e864e3,@object
+	.section	.rodata,"a",@progbits
+.L098174e864e3:
+	.ascii	"Messages go to standard error. The cache is read back; one that spells no\ndatabase is refused as by check. Below FILE: TYPE stand, each after two spaces,\na line glob WEIGHT PATTERN TYPE for each glob rule that matches the name, the\npreferred first; a line magic PRIORITY TYPE for the first section of magic that\nholds for the content, or magic none TYPE for one that has its type by its bytes\nalone; and what decides. Behind a rule stand cs where it is case-sensitive, kept\nwhere no other is preferred to it, and -> OTHER where TYPE is an alias of OTHER.\nBy name: the rules give one type. By content: the content gives it, since no\nrule matches or it is asked first. By both: of the types of the rules one is\nthat of the content or derived from it. By default: neither; it is the first\ntype of the rules, or the default.\nThe content is read even where the name decides, but no further than magic can\nlook. With -d the cache is made of DIRS, as build makes it; without -c and -d,\nof the user's data directories (see mimelook --help).\n\nExit status:\n  0  every FILE was answered; or help or the version was printed\n  1  some FILE can't be opened or read, or its name is too long (above 4096\n     bytes); the others were answered; or the cache spells no database\n  2  the command line is wrong, or a word but a FILE is not UTF-8\n  3  the data can't be read or is refused, or the output can't be written\n  4  out of memory\n\nExample:\n  $ mimelook explain --name-only notes.txt\n  notes.txt: text/plain\n    glob 50 *.txt text/plain kept\n    by name"
+	.size	.L098174e864e3, 1540
+
 	.type	.L0a6ea6bc3df4,@object
 	.section	.rodata,"a",@progbits
 .L0a6ea6bc3df4:
@@ -198,6 +204,12 @@
 	.ascii	"/mime/globs2"
 	.size	.L1aa1dd9a1423, 12
 
+	.type	.L1aa50446f32c,@object
+	.section	.rodata,"a",@progbits
+.L1aa50446f32c:
+	.ascii	"  magic none "
+	.size	.L1aa50446f32c, 13
+
 	.type	.L1b44da35fd51,@object
 	.section	.rodata,"a",@progbits
 .L1b44da35fd51:
@@ -240,6 +252,12 @@
 .L1fba8e2a4222:
 	.ascii	"inode/fifo"
 	.size	.L1fba8e2a4222, 10
+
+	.type	.L1fd369fd7617,@object
+	.section	.rodata,"a",@progbits
+.L1fd369fd7617:
+	.ascii	"  by default\n"
+	.size	.L1fd369fd7617, 13
 
 	.type	.L200fec9a0c52,@object
 	.section	.rodata,"a",@progbits
@@ -397,6 +415,12 @@
 	.ascii	"[-- "
 	.size	.L36cca807a933, 4
 
+	.type	.L374fab0a52ad,@object
+	.section	.rodata,"a",@progbits
+.L374fab0a52ad:
+	.ascii	"explain"
+	.size	.L374fab0a52ad, 7
+
 	.type	.L38ad3f25f51f,@object
 	.section	.rodata,"a",@progbits
 .L38ad3f25f51f:
@@ -408,6 +432,12 @@
 .L38e6aa7b7826:
 	.ascii	"give a BASE"
 	.size	.L38e6aa7b7826, 11
+
+	.type	.L39011da91f15,@object
+	.section	.rodata.cst4,"aM",@progbits,4
+.L39011da91f15:
+	.ascii	" -> "
+	.size	.L39011da91f15, 4
 
 	.type	.L399de51ae489,@object
 	.section	.rodata,"a",@progbits
@@ -636,6 +666,12 @@
 	.ascii	"The files to tell the types of; put -- before one that begins\nwith -"
 	.size	.L579358eabf37, 68
 
+	.type	.L5830d5e096db,@object
+	.section	.rodata,"a",@progbits
+.L5830d5e096db:
+	.ascii	"  by name\n"
+	.size	.L5830d5e096db, 10
+
 	.type	.L5860946f919d,@object
 	.section	.rodata,"a",@progbits
 .L5860946f919d:
@@ -659,6 +695,12 @@
 .L5b8add496c03:
 	.ascii	"bad section"
 	.size	.L5b8add496c03, 11
+
+	.type	.L5cb27ebbff29,@object
+	.section	.rodata,"a",@progbits
+.L5cb27ebbff29:
+	.ascii	" kept"
+	.size	.L5cb27ebbff29, 5
 
 	.type	.L5ced0f1dcfaa,@object
 	.section	.rodata,"a",@progbits
@@ -702,6 +744,12 @@
 	.ascii	"application/octet-stream"
 	.size	.L67248b46a1a0, 24
 
+	.type	.L6771e55d57d5,@object
+	.section	.rodata,"a",@progbits
+.L6771e55d57d5:
+	.ascii	"  by both\n"
+	.size	.L6771e55d57d5, 10
+
 	.type	.L6816ec0e2931,@object
 	.section	.rodata,"a",@progbits
 .L6816ec0e2931:
@@ -725,6 +773,12 @@
 .L697ad99c4710:
 	.ascii	"[possible values: "
 	.size	.L697ad99c4710, 18
+
+	.type	.L69d9f1dd2e31,@object
+	.section	.rodata,"a",@progbits
+.L69d9f1dd2e31:
+	.ascii	"Messages go to standard error. The --help of a command says more of its exit\nstatuses. Without -c CACHE and -d DIRS, each command asks the user's data\ndirectories: XDG_DATA_HOME, or else .local/share below HOME, and then those of\nXDG_DATA_DIRS, or else /usr/local/share and /usr/share.\n\nExit status:\n  0  what was asked for was done; or help or the version was printed\n  1  some file not answered, isa says no, or the cache that check or explain\n     reads back spells no database\n  2  the command line is wrong\n  3  database, cache or output refused\n  4  out of memory\n\nExamples:\n  $ mimelook type notes.txt\n  notes.txt: text/plain\n  $ mimelook type -c /usr/share/mime/mime.cache notes.txt\n  notes.txt: text/plain\n  $ mimelook build -d /usr/local/share:/usr/share -o mime.cache"
+	.size	.L69d9f1dd2e31, 778
 
 	.type	.L6a32fb5c392b,@object
 .L6a32fb5c392b:
@@ -797,6 +851,12 @@
 	.byte	39
 	.size	.L72431cffa757, 1
 
+	.type	.L726cb91ce17f,@object
+	.section	.rodata,"a",@progbits
+.L726cb91ce17f:
+	.ascii	"give a FILE"
+	.size	.L726cb91ce17f, 11
+
 	.type	.L726dde07b5f3,@object
 	.section	.rodata,"a",@progbits
 .L726dde07b5f3:
@@ -808,6 +868,12 @@
 .L72a2fe0f915b:
 	.byte	48
 	.size	.L72a2fe0f915b, 1
+
+	.type	.L741e9e856c49,@object
+	.section	.rodata,"a",@progbits
+.L741e9e856c49:
+	.ascii	"  glob "
+	.size	.L741e9e856c49, 7
 
 	.type	.L74bbd0aeee0d,@object
 	.section	.rodata,"a",@progbits
@@ -847,6 +913,12 @@
 	.ascii	"\000\003\000\000\000\000\000\000000001002003004005006007008009010011012013014015016017018019020021022023024025026027028029030031032033034035036037038039040041042043044045046047048049050051052053054055056057058059060061062063064065066067068069070071072073074075076077078079080081082083084085086087088089090091092093094095096097098099100101102103104105106107108109110111112113114115116117118119120121122123124125126127128129130131132133134135136137138139140141142143144145146147148149150151152153154155156157158159160161162163164165166167168169170171172173174175176177178179180181182183184185186187188189190191192193194195196197198199200201202203204205206207208209210211212213214215216217218219220221222223224225226227228229230231232233234235236237238239240241242243244245246247248249250251252253254255"
 	.size	.L78868f2a1a13, 784
 
+	.type	.L78f7cac7802d,@object
+	.section	.rodata,"a",@progbits
+.L78f7cac7802d:
+	.ascii	"The files to explain the types of; put -- before one that\nbegins with -"
+	.size	.L78f7cac7802d, 71
+
 	.type	.L797f014df943,@object
 	.section	.rodata,"a",@progbits
 .L797f014df943:
@@ -876,6 +948,12 @@
 .L7ae2a5bad0f0:
 	.ascii	"too large"
 	.size	.L7ae2a5bad0f0, 9
+
+	.type	.L7b0baf189013,@object
+	.section	.rodata,"a",@progbits
+.L7b0baf189013:
+	.ascii	"Prints FILE: TYPE for each FILE, and below it why"
+	.size	.L7b0baf189013, 49
 
 	.type	.L7de201737f33,@object
 	.section	.rodata,"a",@progbits
@@ -1266,12 +1344,6 @@
 	.ascii	"give --magic-first or --all-globs, not both"
 	.size	.Lb4e2c38a2c91, 43
 
-	.type	.Lb66bf336b47e,@object
-	.section	.rodata,"a",@progbits
-.Lb66bf336b47e:
-	.ascii	"Messages go to standard error. The --help of a command says more of its exit\nstatuses. Without -c CACHE and -d DIRS, each command asks the user's data\ndirectories: XDG_DATA_HOME, or else .local/share below HOME, and then those of\nXDG_DATA_DIRS, or else /usr/local/share and /usr/share.\n\nExit status:\n  0  what was asked for was done; or help or the version was printed\n  1  some file not answered, isa says no, or check finds no database\n  2  the command line is wrong\n  3  database, cache or output refused\n  4  out of memory\n\nExamples:\n  $ mimelook type notes.txt\n  notes.txt: text/plain\n  $ mimelook type -c /usr/share/mime/mime.cache notes.txt\n  notes.txt: text/plain\n  $ mimelook build -d /usr/local/share:/usr/share -o mime.cache"
-	.size	.Lb66bf336b47e, 735
-
 	.type	.Lb6d94fa03dd2,@object
 	.section	.rodata,"a",@progbits
 .Lb6d94fa03dd2:
@@ -1325,6 +1397,12 @@
 .Lbf28a0ac4edc:
 	.ascii	"inode/blockdevice"
 	.size	.Lbf28a0ac4edc, 17
+
+	.type	.Lbf390fbfa02b,@object
+	.section	.rodata,"a",@progbits
+.Lbf390fbfa02b:
+	.ascii	"  by content\n"
+	.size	.Lbf390fbfa02b, 13
 
 	.type	.Lbf4f69522365,@object
 	.section	.rodata,"a",@progbits
@@ -1460,6 +1538,12 @@
 	.ascii	"error: "
 	.size	.Lc9c10f50e645, 7
 
+	.type	.Lca59f735d667,@object
+	.section	.rodata,"a",@progbits
+.Lca59f735d667:
+	.ascii	"mimelook explain [-c CACHE | -d DIRS] [--name-only | --content-only]\n                        [--magic-first | --all-globs] [--escape] FILE..."
+	.size	.Lca59f735d667, 141
+
 	.type	.Lca64d732d5f8,@object
 	.section	.rodata,"a",@progbits
 .Lca64d732d5f8:
@@ -1489,6 +1573,12 @@
 .Lccd068a4cc1e:
 	.ascii	"cannot read"
 	.size	.Lccd068a4cc1e, 11
+
+	.type	.Lcd262ffbb50e,@object
+	.section	.rodata,"a",@progbits
+.Lcd262ffbb50e:
+	.ascii	" cs"
+	.size	.Lcd262ffbb50e, 3
 
 	.type	.Lce1aeece1a5a,@object
 	.section	.rodata,"a",@progbits
@@ -1900,12 +1990,12 @@
 	.quad	0,0,2,2,5,0,0,0,0
 	.size	".Lswitch.table.clap::builder::command::building::build_levels", 72
 
-	.type	".Lswitch.table.clap::builder::command::building::build_levels.2480",@object
+	.type	".Lswitch.table.clap::builder::command::building::build_levels.2576",@object
 	.section	.rodata,"a",@progbits
 	.p2align	3, 0x0
-".Lswitch.table.clap::builder::command::building::build_levels.2480":
+".Lswitch.table.clap::builder::command::building::build_levels.2576":
 	.quad	0,0,0,0,255,0,0,0,0
-	.size	".Lswitch.table.clap::builder::command::building::build_levels.2480", 72
+	.size	".Lswitch.table.clap::builder::command::building::build_levels.2576", 72
 
 	.type	".Lswitch.table.clap::parser::parse::Parser::check_value",@object
 	.section	.rodata.cst32,"aM",@progbits,32
@@ -1914,15 +2004,15 @@
 	.quad	38,29,38,38
 	.size	".Lswitch.table.clap::parser::parse::Parser::check_value", 32
 
-	.type	".Lswitch.table.clap::parser::parse::Parser::check_value.2481",@object
+	.type	".Lswitch.table.clap::parser::parse::Parser::check_value.2577",@object
 	.section	.data.rel.ro,"aw",@progbits
 	.p2align	3, 0x0
-".Lswitch.table.clap::parser::parse::Parser::check_value.2481":
+".Lswitch.table.clap::parser::parse::Parser::check_value.2577":
 	.quad	.Lc1b67e27bb9f
 	.quad	.Laa68302af712
 	.quad	.L6e2fce03fc0a
 	.quad	.L2cc55e3b3d11
-	.size	".Lswitch.table.clap::parser::parse::Parser::check_value.2481", 32
+	.size	".Lswitch.table.clap::parser::parse::Parser::check_value.2577", 32
 
 	.type	".Lswitch.table.mime_tool::desk::StreamsDesk::exists::<#6c31bac265adaac4>",@object
 	.section	.rodata,"a",@progbits
@@ -1930,11 +2020,50 @@
 	.asciz	"\000\000\000\000\000\000\000\000\000\000\000\000\000\000\000\000\000\000\000\000\000\000\000\000\000\000\000\000\000\000\000\000\000\000\000\000\000\000\001\000\000"
 	.size	".Lswitch.table.mime_tool::desk::StreamsDesk::exists::<#6c31bac265adaac4>", 42
 
-	.type	".Lswitch.table.mime_tool::desk::StreamsDesk::exists::<#6c31bac265adaac4>.2483",@object
+	.type	".Lswitch.table.mime_tool::desk::StreamsDesk::exists::<#6c31bac265adaac4>.2579",@object
 	.section	.rodata,"a",@progbits
-".Lswitch.table.mime_tool::desk::StreamsDesk::exists::<#6c31bac265adaac4>.2483":
+".Lswitch.table.mime_tool::desk::StreamsDesk::exists::<#6c31bac265adaac4>.2579":
 	.ascii	"\000\001\001\001\001\001\001\001\001\001\001\001\001\001\001\001\001\001\001\001\001\001\001\001\001\001\001\001\001\001\001\001\001\001\001\001\001\001\000\001\001\001"
-	.size	".Lswitch.table.mime_tool::desk::StreamsDesk::exists::<#6c31bac265adaac4>.2483", 42
+	.size	".Lswitch.table.mime_tool::desk::StreamsDesk::exists::<#6c31bac265adaac4>.2579", 42
+
+	.type	".Lswitch.table.mime_tool::explain::explain_by::<#2e1b2a3647f851f7>",@object
+	.section	.rodata.cst32,"aM",@progbits,32
+	.p2align	3, 0x0
+".Lswitch.table.mime_tool::explain::explain_by::<#2e1b2a3647f851f7>":
+	.quad	10,13,10,13
+	.size	".Lswitch.table.mime_tool::explain::explain_by::<#2e1b2a3647f851f7>", 32
+
+	.type	".Lswitch.table.mime_tool::explain::explain_by::<#2e1b2a3647f851f7>.2582",@object
+	.section	.data.rel.ro,"aw",@progbits
+	.p2align	3, 0x0
+".Lswitch.table.mime_tool::explain::explain_by::<#2e1b2a3647f851f7>.2582":
+	.quad	.L5830d5e096db
+	.quad	.Lbf390fbfa02b
+	.quad	.L6771e55d57d5
+	.quad	.L1fd369fd7617
+	.size	".Lswitch.table.mime_tool::explain::explain_by::<#2e1b2a3647f851f7>.2582", 32
+
+	.type	".Lswitch.table.mime_tool::explain::explain_by::<#2e1b2a3647f851f7>.2583",@object
+	.section	.rodata,"a",@progbits
+	.p2align	3, 0x0
+".Lswitch.table.mime_tool::explain::explain_by::<#2e1b2a3647f851f7>.2583":
+	.quad	19,20,23,21,21,18,18,18,26
+	.size	".Lswitch.table.mime_tool::explain::explain_by::<#2e1b2a3647f851f7>.2583", 72
+
+	.type	".Lswitch.table.mime_tool::explain::explain_by::<#2e1b2a3647f851f7>.2584",@object
+	.section	.data.rel.ro,"aw",@progbits
+	.p2align	3, 0x0
+".Lswitch.table.mime_tool::explain::explain_by::<#2e1b2a3647f851f7>.2584":
+	.quad	.L578e4c20615e
+	.quad	.L62256f76d65b
+	.quad	.Lb4d0460a73df
+	.quad	.L6916822dd05f
+	.quad	.L3f2a817f0bb3
+	.quad	.L32cfbbe30233
+	.quad	.L28bf7eaf625e
+	.quad	.La3c42d80fcd3
+	.quad	.Lf638752c7fdf
+	.size	".Lswitch.table.mime_tool::explain::explain_by::<#2e1b2a3647f851f7>.2584", 72
 
 	.type	".Lswitch.table.mime_tool::line::print_line::<#2e1b2a3647f851f7>",@object
 	.section	.rodata,"a",@progbits
@@ -1947,42 +2076,20 @@
 	.quad	17
 	.size	".Lswitch.table.mime_tool::line::print_line::<#2e1b2a3647f851f7>", 48
 
-	.type	".Lswitch.table.mime_tool::line::print_line::<#2e1b2a3647f851f7>.2485",@object
+	.type	".Lswitch.table.mime_tool::line::print_line::<#2e1b2a3647f851f7>.2581",@object
 	.section	.data.rel.ro,"aw",@progbits
 	.p2align	3, 0x0
-".Lswitch.table.mime_tool::line::print_line::<#2e1b2a3647f851f7>.2485":
+".Lswitch.table.mime_tool::line::print_line::<#2e1b2a3647f851f7>.2581":
 	.quad	.L1fba8e2a4222
 	.quad	.L1f2087385df6
 	.zero	8
 	.quad	.L2e403fc0c1a9
 	.zero	8
 	.quad	.Lbf28a0ac4edc
-	.size	".Lswitch.table.mime_tool::line::print_line::<#2e1b2a3647f851f7>.2485", 48
+	.size	".Lswitch.table.mime_tool::line::print_line::<#2e1b2a3647f851f7>.2581", 48
 
-	.type	".Lswitch.table.mime_tool::program::answer::<#2d382ade8d012bfb>",@object
+	.type	".Lswitch.table.mime_tool::system::SystemFilesFiles::whole::<#a1ba6ce099ef6b20>.2580",@object
 	.section	.rodata,"a",@progbits
-	.p2align	3, 0x0
-".Lswitch.table.mime_tool::program::answer::<#2d382ade8d012bfb>":
-	.quad	19,20,23,21,21,18,18,18,26
-	.size	".Lswitch.table.mime_tool::program::answer::<#2d382ade8d012bfb>", 72
-
-	.type	".Lswitch.table.mime_tool::program::answer::<#2d382ade8d012bfb>.2482.rel",@object
-	.section	.rodata,"a",@progbits
-	.p2align	2, 0x0
-".Lswitch.table.mime_tool::program::answer::<#2d382ade8d012bfb>.2482.rel":
-	.long	.L578e4c20615e-".Lswitch.table.mime_tool::program::answer::<#2d382ade8d012bfb>.2482.rel"
-	.long	.L62256f76d65b-".Lswitch.table.mime_tool::program::answer::<#2d382ade8d012bfb>.2482.rel"
-	.long	.Lb4d0460a73df-".Lswitch.table.mime_tool::program::answer::<#2d382ade8d012bfb>.2482.rel"
-	.long	.L6916822dd05f-".Lswitch.table.mime_tool::program::answer::<#2d382ade8d012bfb>.2482.rel"
-	.long	.L3f2a817f0bb3-".Lswitch.table.mime_tool::program::answer::<#2d382ade8d012bfb>.2482.rel"
-	.long	.L32cfbbe30233-".Lswitch.table.mime_tool::program::answer::<#2d382ade8d012bfb>.2482.rel"
-	.long	.L28bf7eaf625e-".Lswitch.table.mime_tool::program::answer::<#2d382ade8d012bfb>.2482.rel"
-	.long	.La3c42d80fcd3-".Lswitch.table.mime_tool::program::answer::<#2d382ade8d012bfb>.2482.rel"
-	.long	.Lf638752c7fdf-".Lswitch.table.mime_tool::program::answer::<#2d382ade8d012bfb>.2482.rel"
-	.size	".Lswitch.table.mime_tool::program::answer::<#2d382ade8d012bfb>.2482.rel", 36
-
-	.type	".Lswitch.table.mime_tool::system::SystemFilesFiles::whole::<#a1ba6ce099ef6b20>.2484",@object
-	.section	.rodata,"a",@progbits
-".Lswitch.table.mime_tool::system::SystemFilesFiles::whole::<#a1ba6ce099ef6b20>.2484":
+".Lswitch.table.mime_tool::system::SystemFilesFiles::whole::<#a1ba6ce099ef6b20>.2580":
 	.ascii	"\001\001\001\001\001\001\001\001\001\001\001\001\001\001\001\000\001\001\001\001\001\001\001\001\001\001\001\001\001\001\001\001\001\001\001\001\001\001\002\001\001\001"
-	.size	".Lswitch.table.mime_tool::system::SystemFilesFiles::whole::<#a1ba6ce099ef6b20>.2484", 42
+	.size	".Lswitch.table.mime_tool::system::SystemFilesFiles::whole::<#a1ba6ce099ef6b20>.2580", 42

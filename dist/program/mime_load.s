@@ -47,6 +47,471 @@
 
 	.text
 	.p2align	4
+	.type	"mime_load::holding::lent_line_matches",@function
+"mime_load::holding::lent_line_matches":
+	pushq	%rbp
+	pushq	%r15
+	pushq	%r14
+	pushq	%r13
+	pushq	%r12
+	pushq	%rbx
+	subq	$88, %rsp
+	movq	%r8, 40(%rsp)
+	movq	%rdx, %rbx
+	movq	%rsi, 32(%rsp)
+	movq	24(%rdi), %rbp
+	xorl	%eax, %eax
+	cmpb	$1, 32(%rdi)
+	leaq	.L22d5119de29e(%rip), %rsi
+	cmoveq	40(%rdi), %rsi
+	movq	%rsi, 64(%rsp)
+	movq	48(%rdi), %r15
+	cmovneq	%rax, %r15
+	movq	%rdx, 80(%rsp)
+	subq	%rbp, %rbx
+	jb	8f
+	movq	%rdi, %r12
+	movl	(%rdi), %r14d
+	cmpq	%r14, %rbx
+	jb	7f
+	movq	16(%r12), %rax
+	movq	%rax, 48(%rsp)
+	movl	8(%r12), %r8d
+	movl	4(%r12), %eax
+	movq	%rax, %rdx
+	xorq	$1, %rdx
+	orq	%r15, %rdx
+	jne	1f
+	testq	%rbp, %rbp
+	sete	%dl
+	cmpl	$1, %r8d
+	setne	%sil
+	orb	%dl, %sil
+	jne	1f
+	movq	32(%rsp), %rdx
+	movzbl	(%rdx,%r14), %edx
+	movq	48(%rsp), %rsi
+	cmpb	(%rsi), %dl
+	jne	6f
+1:
+	addq	%r14, %rax
+	incq	%rbx
+	cmpq	%rax, %rbx
+	cmovaeq	%rax, %rbx
+	movq	%rbx, %r13
+	subq	%r14, %r13
+	jbe	7f
+	cmpl	$2, %r8d
+	sete	%dl
+	testb	$1, %bpl
+	sete	%r9b
+	cmpl	$4, %r8d
+	sete	%sil
+	testb	$3, %bpl
+	sete	%al
+	movzbl	%cl, %edi
+	movl	%edi, 60(%rsp)
+	testq	%rbp, %rbp
+	je	4f
+	testq	%r15, %r15
+	jne	4f
+	movl	%r9d, %r15d
+	andb	%dl, %r15b
+	andb	%sil, %al
+	cmpq	$1, %rbp
+	jne	9f
+	testb	%cl, %cl
+	je	23f
+	movl	%r8d, %ebp
+2:
+	movq	%rbx, %r15
+	subq	%r14, %r15
+	cmpq	$2, %r15
+	jb	3f
+	movq	32(%rsp), %rax
+	leaq	(%rax,%r14), %rsi
+	movq	48(%rsp), %rax
+	movzbl	(%rax), %edi
+	movq	%r15, %rdx
+	callq	"memchr::bytes::memchr"
+	testb	$1, %al
+	cmoveq	%r15, %rdx
+	movq	40(%rsp), %rsi
+	movq	8(%rsi), %rax
+	addq	%rdx, %rax
+	movq	$-1, %rcx
+	cmovaeq	%rax, %rcx
+	movq	%rcx, 8(%rsi)
+	addq	%rdx, %r14
+3:
+	cmpq	%rbx, %r14
+	je	7f
+	movq	32(%rsp), %rax
+	addq	%r14, %rax
+	movq	40(%rsp), %rcx
+	movq	%rcx, 16(%rsp)
+	movq	%rax, (%rsp)
+	movq	$1, 8(%rsp)
+	movl	$1, %esi
+	movq	48(%rsp), %rdi
+	movq	64(%rsp), %rdx
+	xorl	%ecx, %ecx
+	movl	%ebp, %r8d
+	movl	60(%rsp), %r9d
+	callq	"mime_base::magic::ranges::value_is"
+	testb	%al, %al
+	jne	30f
+	incq	%r14
+	xorl	%eax, %eax
+	cmpq	%rbx, %r14
+	jb	2b
+	jmp	8f
+4:
+	subq	%r14, %rbx
+	addq	32(%rsp), %r14
+	movl	%r8d, %r13d
+	.p2align	4
+5:
+	movq	40(%rsp), %rax
+	movq	%rax, 16(%rsp)
+	movq	%rbp, 8(%rsp)
+	movq	%r14, (%rsp)
+	movq	48(%rsp), %rdi
+	movq	%rbp, %rsi
+	movq	64(%rsp), %rdx
+	movq	%r15, %rcx
+	movl	%r13d, %r8d
+	movl	60(%rsp), %r9d
+	callq	"mime_base::magic::ranges::value_is"
+	testb	%al, %al
+	jne	30f
+	incq	%r14
+	xorl	%eax, %eax
+	decq	%rbx
+	jne	5b
+	jmp	8f
+6:
+	movq	40(%rsp), %rdx
+	movq	8(%rdx), %rax
+	incq	%rax
+	movq	$-1, %rcx
+	cmovneq	%rax, %rcx
+	movq	%rcx, 8(%rdx)
+7:
+	xorl	%eax, %eax
+8:
+	addq	$88, %rsp
+	popq	%rbx
+	popq	%r12
+	popq	%r13
+	popq	%r14
+	popq	%r15
+	popq	%rbp
+	retq
+9:
+	testb	%cl, %cl
+	sete	%cl
+	orb	%al, %r15b
+	andb	%cl, %r15b
+	movq	32(%rsp), %rax
+	incq	%rax
+	movq	%rax, 72(%rsp)
+	movl	%r8d, %r13d
+	.p2align	4
+10:
+	movq	%rbx, %rsi
+	subq	%r14, %rsi
+	cmpq	$2, %rsi
+	setb	%al
+	orb	%r15b, %al
+	jne	22f
+	movq	48(%rsp), %rax
+	movzbl	(%rax), %r8d
+	movzbl	1(%rax), %edi
+	cmpq	$32, %rsi
+	jb	14f
+	movzbl	%r8b, %eax
+	movd	%eax, %xmm0
+	pxor	%xmm2, %xmm2
+	pshufb	%xmm2, %xmm0
+	movzbl	%dil, %eax
+	movd	%eax, %xmm1
+	pshufb	%xmm2, %xmm1
+	movq	72(%rsp), %rax
+	leaq	(%rax,%r14), %rcx
+	xorl	%eax, %eax
+	movq	%rsi, %r9
+	xorl	%edx, %edx
+	jmp	13f
+	.p2align	4
+11:
+	xorl	%r10d, %r10d
+12:
+	addq	$32, %rax
+	addq	%r10, %rdx
+	addq	$-32, %r9
+	cmpq	$31, %r9
+	jbe	15f
+13:
+	movdqu	-1(%rcx,%rax), %xmm2
+	movdqu	15(%rcx,%rax), %xmm3
+	pcmpeqb	%xmm0, %xmm2
+	pmovmskb	%xmm2, %r11d
+	pcmpeqb	%xmm0, %xmm3
+	pmovmskb	%xmm3, %r10d
+	shll	$16, %r10d
+	orl	%r11d, %r10d
+	je	11b
+	movdqu	(%rcx,%rax), %xmm4
+	movdqu	16(%rcx,%rax), %xmm5
+	pcmpeqb	%xmm1, %xmm4
+	pcmpeqb	%xmm1, %xmm5
+	pand	%xmm3, %xmm5
+	pand	%xmm2, %xmm4
+	por	%xmm5, %xmm4
+	pmovmskb	%xmm4, %r11d
+	testl	%r11d, %r11d
+	jne	15f
+	popcntl	%r10d, %r10d
+	jmp	12b
+14:
+	xorl	%edx, %edx
+	xorl	%eax, %eax
+15:
+	leaq	(%r14,%rax), %r10
+	movq	80(%rsp), %rcx
+	subq	%r10, %rcx
+	subq	%rax, %rsi
+	cmpq	$33, %rcx
+	jb	16f
+	cmpq	$3, %rsi
+	jbe	16f
+	movq	32(%rsp), %rcx
+	addq	%r14, %rcx
+	movzbl	%r8b, %r8d
+	movd	%r8d, %xmm0
+	pxor	%xmm1, %xmm1
+	pshufb	%xmm1, %xmm0
+	movdqu	(%rcx,%rax), %xmm2
+	movdqu	1(%rcx,%rax), %xmm3
+	movdqu	16(%rcx,%rax), %xmm4
+	movdqu	17(%rcx,%rax), %xmm5
+	pcmpeqb	%xmm0, %xmm2
+	pmovmskb	%xmm2, %ecx
+	pcmpeqb	%xmm0, %xmm4
+	pmovmskb	%xmm4, %r8d
+	shll	$16, %r8d
+	orl	%ecx, %r8d
+	movzbl	%dil, %ecx
+	movd	%ecx, %xmm0
+	pshufb	%xmm1, %xmm0
+	pcmpeqb	%xmm0, %xmm3
+	pcmpeqb	%xmm5, %xmm0
+	pand	%xmm4, %xmm0
+	pand	%xmm2, %xmm3
+	pmovmskb	%xmm3, %ecx
+	pmovmskb	%xmm0, %edi
+	shll	$16, %edi
+	orl	%ecx, %edi
+	movl	$64, %r9d
+	rep		bsfq	%rdi, %r9
+	cmpq	%r9, %rsi
+	cmovbq	%rsi, %r9
+	cmpq	$32, %r9
+	movl	$32, %ecx
+	cmovbq	%r9, %rcx
+	movq	$-1, %rsi
+	shlq	%cl, %rsi
+	notl	%esi
+	andl	%r8d, %esi
+	xorl	%r9d, %r9d
+	popcntl	%esi, %r9d
+	jmp	21f
+16:
+	testq	%rsi, %rsi
+	je	20f
+	movq	%rbx, %r11
+	subq	%rax, %r11
+	subq	%r14, %r11
+	addq	72(%rsp), %r10
+	xorl	%r9d, %r9d
+	xorl	%ecx, %ecx
+	jmp	18f
+	.p2align	4
+17:
+	incq	%rcx
+	cmpq	%rcx, %r11
+	je	19f
+18:
+	cmpb	%r8b, -1(%r10,%rcx)
+	jne	17b
+	cmpb	%dil, (%r10,%rcx)
+	je	21f
+	incq	%r9
+	jmp	17b
+19:
+	movq	%rsi, %rcx
+	jmp	21f
+20:
+	xorl	%ecx, %ecx
+	xorl	%r9d, %r9d
+21:
+	addq	%rdx, %r9
+	addq	%rax, %rcx
+	movq	40(%rsp), %rsi
+	movq	8(%rsi), %rax
+	addq	%rcx, %rax
+	movq	$-1, %rdx
+	cmovbq	%rdx, %rax
+	addq	%r9, %rax
+	cmovbq	%rdx, %rax
+	movq	%rax, 8(%rsi)
+	addq	%rcx, %r14
+22:
+	cmpq	%rbx, %r14
+	je	7b
+	movq	32(%rsp), %rax
+	addq	%r14, %rax
+	movq	40(%rsp), %rcx
+	movq	%rcx, 16(%rsp)
+	movq	%rbp, 8(%rsp)
+	movq	%rax, (%rsp)
+	movq	48(%rsp), %rdi
+	movq	%rbp, %rsi
+	movq	64(%rsp), %rdx
+	xorl	%ecx, %ecx
+	movl	%r13d, %r8d
+	movl	60(%rsp), %r9d
+	callq	"mime_base::magic::ranges::value_is"
+	testb	%al, %al
+	jne	30f
+	incq	%r14
+	xorl	%eax, %eax
+	cmpq	%rbx, %r14
+	jb	10b
+	jmp	8b
+23:
+	testb	%r15b, %r15b
+	je	25f
+	subq	%r14, %rbx
+	addq	32(%rsp), %r14
+24:
+	movq	40(%rsp), %rax
+	movq	%rax, 16(%rsp)
+	movq	%r14, (%rsp)
+	movq	$1, 8(%rsp)
+	movl	$1, %esi
+	movq	48(%rsp), %rdi
+	movq	64(%rsp), %rdx
+	xorl	%ecx, %ecx
+	movl	$2, %r8d
+	xorl	%r9d, %r9d
+	callq	"mime_base::magic::ranges::value_is"
+	testb	%al, %al
+	jne	30f
+	incq	%r14
+	xorl	%eax, %eax
+	decq	%rbx
+	jne	24b
+	jmp	8b
+25:
+	testb	%al, %al
+	je	27f
+	addq	32(%rsp), %r14
+26:
+	movq	40(%rsp), %rax
+	movq	%rax, 16(%rsp)
+	movq	%r14, (%rsp)
+	movq	$1, 8(%rsp)
+	movl	$1, %esi
+	movq	48(%rsp), %rdi
+	movq	64(%rsp), %rdx
+	xorl	%ecx, %ecx
+	movl	$4, %r8d
+	xorl	%r9d, %r9d
+	callq	"mime_base::magic::ranges::value_is"
+	testb	%al, %al
+	jne	30f
+	incq	%r14
+	xorl	%eax, %eax
+	decq	%r13
+	jne	26b
+	jmp	8b
+27:
+	movl	%r8d, %ebp
+28:
+	movq	%rbx, %r15
+	subq	%r14, %r15
+	cmpq	$2, %r15
+	jb	29f
+	movq	32(%rsp), %rax
+	leaq	(%rax,%r14), %rsi
+	movq	48(%rsp), %rax
+	movzbl	(%rax), %edi
+	movq	%r15, %rdx
+	callq	"memchr::bytes::memchr"
+	testb	$1, %al
+	cmoveq	%r15, %rdx
+	movq	40(%rsp), %rsi
+	movq	8(%rsi), %rax
+	addq	%rdx, %rax
+	movq	$-1, %rcx
+	cmovaeq	%rax, %rcx
+	movq	%rcx, 8(%rsi)
+	addq	%rdx, %r14
+29:
+	cmpq	%rbx, %r14
+	je	7b
+	movq	32(%rsp), %rax
+	addq	%r14, %rax
+	movq	40(%rsp), %rcx
+	movq	%rcx, 16(%rsp)
+	movq	%rax, (%rsp)
+	movq	$1, 8(%rsp)
+	movl	$1, %esi
+	movq	48(%rsp), %rdi
+	movq	64(%rsp), %rdx
+	xorl	%ecx, %ecx
+	movl	%ebp, %r8d
+	xorl	%r9d, %r9d
+	callq	"mime_base::magic::ranges::value_is"
+	testb	%al, %al
+	jne	30f
+	incq	%r14
+	xorl	%eax, %eax
+	cmpq	%rbx, %r14
+	jb	28b
+	jmp	8b
+30:
+	movq	64(%r12), %rbx
+	testq	%rbx, %rbx
+	je	32f
+	movq	56(%r12), %r15
+	decq	%rbx
+	.p2align	4
+31:
+	movq	%r15, %rdi
+	movq	32(%rsp), %rsi
+	movq	80(%rsp), %rdx
+	movl	60(%rsp), %ecx
+	movq	40(%rsp), %r8
+	callq	"mime_load::holding::lent_line_matches"
+	subq	$1, %rbx
+	setb	%cl
+	testb	%al, %al
+	jne	8b
+	addq	$80, %r15
+	testb	%cl, %cl
+	je	31b
+	jmp	8b
+32:
+	movb	$1, %al
+	jmp	8b
+33:
+	.size	"mime_load::holding::lent_line_matches", 33b-"mime_load::holding::lent_line_matches"
+
+	.text
+	.p2align	4
 	.type	"mime_load::lines::lines_at",@function
 "mime_load::lines::lines_at":
 	pushq	%rbp
@@ -1081,7 +1546,7 @@
 17:
 	movaps	%xmm3, 48(%rsp)
 	leaq	16(%rsp), %rdi
-	callq	"std_alloc::vec::Vec::grow_amortized::<#3e658dacc48f66d6>"
+	callq	"std_alloc::vec::Vec::grow_amortized::<#56d67e81838936ab>"
 	testb	%al, %al
 	je	26f
 	movq	16(%rsp), %rdx
@@ -1144,6 +1609,286 @@
 	jmp	6b
 28:
 	.size	"mime_load::rules::globs_at", 28b-"mime_load::rules::globs_at"
+
+	.section	.rodata.cst16,"aM",@progbits,16
+	.p2align	4, 0x0
+1:
+	.byte	42,42,42,42,42,42,42,42
+	.zero	1
+	.zero	1
+	.zero	1
+	.zero	1
+	.zero	1
+	.zero	1
+	.zero	1
+	.zero	1
+2:
+	.byte	63,63,63,63,63,63,63,63
+	.zero	1
+	.zero	1
+	.zero	1
+	.zero	1
+	.zero	1
+	.zero	1
+	.zero	1
+	.zero	1
+3:
+	.byte	92,92,92,92,92,92,92,92
+	.zero	1
+	.zero	1
+	.zero	1
+	.zero	1
+	.zero	1
+	.zero	1
+	.zero	1
+	.zero	1
+4:
+	.byte	91,91,91,91,91,91,91,91
+	.zero	1
+	.zero	1
+	.zero	1
+	.zero	1
+	.zero	1
+	.zero	1
+	.zero	1
+	.zero	1
+	.text
+	.p2align	4
+	.type	"mime_load::rules::literals_at",@function
+"mime_load::rules::literals_at":
+	pushq	%rbp
+	pushq	%r15
+	pushq	%r14
+	pushq	%r13
+	pushq	%r12
+	pushq	%rbx
+	subq	$168, %rsp
+	pxor	%xmm0, %xmm0
+	movdqu	%xmm0, 94(%rsp)
+	movdqa	%xmm0, 80(%rsp)
+	movdqa	%xmm0, 16(%rsp)
+	movq	$0, 32(%rsp)
+	movdqa	%xmm0, 112(%rsp)
+	movdqa	%xmm0, 128(%rsp)
+	movdqa	%xmm0, 144(%rsp)
+	movq	$0, 160(%rsp)
+	movl	%edx, %r15d
+	movq	(%rcx), %rax
+	incq	%rax
+	movq	$-1, %rdx
+	cmovneq	%rax, %rdx
+	movq	(%rsi), %rax
+	movq	%rdx, (%rcx)
+	movq	8(%rax), %rdx
+	subq	%r15, %rdx
+	setb	%r8b
+	cmpq	$4, %rdx
+	setb	%dl
+	orb	%r8b, %dl
+	jne	5f
+	movq	(%rax), %rax
+	movl	(%rax,%r15), %eax
+	movl	%eax, %r13d
+	bswapl	%r13d
+	movq	(%rsi), %rdx
+	leaq	(,%r13,2), %r8
+	addq	%r13, %r8
+	leaq	(%r15,%r8,4), %r8
+	addq	$4, %r8
+	cmpq	%r8, 8(%rdx)
+	jae	7f
+5:
+	movw	$1, (%rdi)
+	movdqu	%xmm0, 8(%rdi)
+	movq	$0, 24(%rdi)
+6:
+	addq	$168, %rsp
+	popq	%rbx
+	popq	%r12
+	popq	%r13
+	popq	%r14
+	popq	%r15
+	popq	%rbp
+	retq
+7:
+	testl	%eax, %eax
+	je	15f
+	movq	%rsi, 48(%rsp)
+	movq	%rcx, 56(%rsp)
+	movq	%rdi, (%rsp)
+	movq	%r13, %rax
+	shlq	$4, %rax
+	leaq	(%rax,%rax,2), %rdi
+	movl	$8, %esi
+	callq	rattle_alloc@PLT
+	testb	$1, %al
+	je	22f
+	movq	%rdx, %rbx
+	addq	$4, %r15
+	movq	%rdx, 16(%rsp)
+	movq	$0, 24(%rsp)
+	movq	%r13, 32(%rsp)
+	xorl	%r12d, %r12d
+	xorl	%ebp, %ebp
+	movq	56(%rsp), %rcx
+	movq	48(%rsp), %r8
+8:
+	leaq	(,%rbp,2), %rax
+	addq	%rbp, %rax
+	leaq	(%r15,%rax,4), %rdx
+	leaq	112(%rsp), %rdi
+	movq	%r8, %rsi
+	callq	"mime_load::rules::read_rule"
+	cmpb	$0, 112(%rsp)
+	jne	19f
+	movq	144(%rsp), %r14
+	movq	152(%rsp), %rsi
+	movups	152(%rsp), %xmm3
+	testq	%rsi, %rsi
+	movq	(%rsp), %rdi
+	movq	56(%rsp), %rcx
+	movq	48(%rsp), %r8
+	je	9f
+	cmpb	$42, (%r14)
+	je	17f
+	cmpq	$8, %rsi
+	jb	9f
+	movq	(%r14), %xmm0
+	movdqa	1b(%rip), %xmm1
+	pcmpeqb	%xmm0, %xmm1
+	movdqa	2b(%rip), %xmm2
+	pcmpeqb	%xmm0, %xmm2
+	por	%xmm1, %xmm2
+	movdqa	3b(%rip), %xmm1
+	pcmpeqb	%xmm0, %xmm1
+	pcmpeqb	4b(%rip), %xmm0
+	por	%xmm1, %xmm0
+	por	%xmm2, %xmm0
+	pmovmskb	%xmm0, %eax
+	testb	%al, %al
+	jne	17f
+9:
+	xorl	%eax, %eax
+	.p2align	4
+10:
+	cmpq	%rax, %rsi
+	je	11f
+	movzbl	(%r14,%rax), %edx
+	incq	%rax
+	addl	$-42, %edx
+	cmpl	$50, %edx
+	ja	10b
+	movabsq	$1688849862361089, %r9
+	btq	%rdx, %r9
+	jae	10b
+	jmp	17f
+11:
+	testq	%r12, %r12
+	je	12f
+	leaq	(%r12,%r12,2), %rax
+	shlq	$4, %rax
+	movq	-24(%rbx,%rax), %rdx
+	movq	-16(%rbx,%rax), %rcx
+	movq	%r14, %rdi
+	movaps	%xmm3, 64(%rsp)
+	callq	"core::cmp::slices::RefSliceOrd::cmp::<#914af4d8504a0b72>"
+	movaps	64(%rsp), %xmm3
+	movq	48(%rsp), %r8
+	movq	56(%rsp), %rcx
+	movq	(%rsp), %rdi
+	testb	%al, %al
+	je	17f
+12:
+	cmpq	%r12, 32(%rsp)
+	je	14f
+13:
+	leaq	(%r12,%r12,2), %rax
+	shlq	$4, %rax
+	leaq	120(%rsp), %rdx
+	movdqu	(%rdx), %xmm0
+	movq	16(%rdx), %rdx
+	movq	%rdx, 16(%rbx,%rax)
+	movdqu	%xmm0, (%rbx,%rax)
+	movq	%r14, 24(%rbx,%rax)
+	movups	%xmm3, 32(%rbx,%rax)
+	incq	%r12
+	movq	%r12, 24(%rsp)
+	incq	%rbp
+	cmpq	%r13, %rbp
+	jne	8b
+	jmp	16f
+14:
+	movaps	%xmm3, 64(%rsp)
+	leaq	16(%rsp), %rdi
+	callq	"std_alloc::vec::Vec::grow_amortized::<#56d67e81838936ab>"
+	testb	%al, %al
+	je	21f
+	movq	16(%rsp), %rbx
+	movq	24(%rsp), %r12
+	movq	(%rsp), %rdi
+	movq	56(%rsp), %rcx
+	movq	48(%rsp), %r8
+	movaps	64(%rsp), %xmm3
+	jmp	13b
+15:
+	leaq	8(%rsp), %rax
+	movq	%rax, 16(%rsp)
+	movq	%r13, 32(%rsp)
+16:
+	movw	$0, (%rdi)
+	movq	16(%rsp), %rax
+	movq	%rax, 8(%rdi)
+	movq	24(%rsp), %rax
+	movq	%rax, 16(%rdi)
+	movq	32(%rsp), %rax
+	movq	%rax, 24(%rdi)
+	jmp	6b
+17:
+	cmpq	$0, 32(%rsp)
+	je	18f
+	movq	%rbx, %rdi
+	callq	rattle_dealloc@PLT
+	movq	(%rsp), %rdi
+18:
+	movw	$1, (%rdi)
+	movups	86(%rsp), %xmm0
+	movups	%xmm0, 8(%rdi)
+	movq	102(%rsp), %rax
+	movq	%rax, 24(%rdi)
+	jmp	6b
+19:
+	movzbl	113(%rsp), %ebp
+	leaq	86(%rsp), %r14
+	pxor	%xmm0, %xmm0
+	movdqu	%xmm0, 86(%rsp)
+	movq	$0, 102(%rsp)
+	cmpq	$0, 32(%rsp)
+	je	20f
+	movq	%rbx, %rdi
+	callq	rattle_dealloc@PLT
+20:
+	movq	(%rsp), %rax
+	movb	$1, (%rax)
+	movb	%bpl, 1(%rax)
+	movups	(%r14), %xmm0
+	movups	%xmm0, 8(%rax)
+	movq	16(%r14), %rcx
+	movq	%rcx, 24(%rax)
+	jmp	6b
+21:
+	cmpq	$0, 32(%rsp)
+	je	22f
+	movq	16(%rsp), %rdi
+	callq	rattle_dealloc@PLT
+22:
+	movq	(%rsp), %rax
+	movw	$257, (%rax)
+	pxor	%xmm0, %xmm0
+	movdqu	%xmm0, 8(%rax)
+	movq	$0, 24(%rax)
+	jmp	6b
+23:
+	.size	"mime_load::rules::literals_at", 23b-"mime_load::rules::literals_at"
 
 	.text
 	.p2align	4
@@ -1544,7 +2289,7 @@
 	jmp	14f
 8:
 	leaq	32(%rsp), %rdi
-	callq	"std_alloc::vec::Vec::grow_amortized::<#3e658dacc48f66d6>"
+	callq	"std_alloc::vec::Vec::grow_amortized::<#56d67e81838936ab>"
 	testb	%al, %al
 	je	36f
 	movq	32(%rsp), %rax

@@ -1033,6 +1033,307 @@
 
 	.section	.text.unlikely,"ax",@progbits
 	.p2align	4
+	.type	"smallvec::small_vec::SmallVec::reserve_one::<#1d7ca747d7f7d6e4>",@function
+"smallvec::small_vec::SmallVec::reserve_one::<#1d7ca747d7f7d6e4>":
+	movzbl	(%rdi), %edx
+	leaq	16(%rdi), %rax
+	leaq	72(%rdi), %rcx
+	testb	%dl, %dl
+	cmoveq	%rcx, %rax
+	movq	(%rax), %rsi
+	je	1f
+	movq	24(%rdi), %rax
+	jmp	2f
+1:
+	movl	$8, %eax
+2:
+	pushq	%r15
+	pushq	%r14
+	pushq	%r12
+	pushq	%rbx
+	subq	$168, %rsp
+	cmpq	%rsi, %rax
+	jne	11f
+	movb	$1, %al
+	testq	%rsi, %rsi
+	js	12f
+	je	3f
+	bsrq	%rsi, %rcx
+	incq	%rcx
+	movl	$1, %r14d
+	shlq	%cl, %r14
+	movq	%r14, %r15
+	subq	%rsi, %r15
+	jb	11f
+	cmpq	$7, %rsi
+	ja	4f
+3:
+	cmpb	$1, %dl
+	jne	11f
+	movq	8(%rdi), %rax
+	movq	16(%rdi), %rdx
+	movq	24(%rdi), %rcx
+	leaq	8(%rsp), %rsi
+	movq	%rsi, 8(%rdi)
+	xorps	%xmm0, %xmm0
+	movups	%xmm0, 16(%rdi)
+	movaps	%xmm0, 64(%rsp)
+	movaps	%xmm0, 48(%rsp)
+	movaps	%xmm0, 32(%rsp)
+	movaps	%xmm0, 16(%rsp)
+	movq	$0, 80(%rsp)
+	testq	%rdx, %rdx
+	je	8f
+	cmpq	$1, %rdx
+	jne	5f
+	xorl	%esi, %esi
+	jmp	7f
+4:
+	leaq	8(%rdi), %rbx
+	testb	%dl, %dl
+	je	13f
+	movq	24(%rdi), %rcx
+	cmpq	%rcx, %r14
+	jae	18f
+	movq	16(%rdi), %rsi
+	cmpq	%r14, %rsi
+	cmovaq	%rsi, %r14
+	cmpq	%rcx, %rsi
+	jae	11f
+	movq	%rdi, %r15
+	movq	(%rbx), %rdi
+	shlq	$3, %rsi
+	leaq	(,%r14,8), %rdx
+	movl	$8, %ecx
+	callq	rattle_realloc@PLT
+	testb	$1, %al
+	je	11f
+	movq	%rdx, 8(%r15)
+	movq	%r14, 24(%r15)
+	jmp	11f
+5:
+	movq	%rdx, %r8
+	andq	$-2, %r8
+	xorl	%esi, %esi
+	.p2align	4
+6:
+	leaq	1(%rsi), %r9
+	movq	(%rax,%rsi,8), %r10
+	movq	%r10, 16(%rsp,%rsi,8)
+	movq	%r9, 80(%rsp)
+	movq	8(%rax,%rsi,8), %r9
+	movq	%r9, 24(%rsp,%rsi,8)
+	addq	$2, %rsi
+	movq	%rsi, 80(%rsp)
+	cmpq	%rsi, %r8
+	jne	6b
+	testb	$1, %dl
+	je	8f
+7:
+	leaq	1(%rsi), %rdx
+	movq	(%rax,%rsi,8), %r8
+	movq	%r8, 16(%rsp,%rsi,8)
+	movq	%rdx, 80(%rsp)
+8:
+	leaq	8(%rdi), %rbx
+	testq	%rcx, %rcx
+	je	10f
+	movq	%rdi, %r14
+	movq	%rax, %rdi
+	callq	rattle_dealloc@PLT
+	movq	8(%r14), %rdi
+	movq	24(%r14), %rax
+	cmpb	$0, (%r14)
+	movq	80(%rsp), %rcx
+	movq	%rcx, 160(%rsp)
+	movaps	16(%rsp), %xmm0
+	movaps	32(%rsp), %xmm1
+	movaps	48(%rsp), %xmm2
+	movaps	64(%rsp), %xmm3
+	movaps	%xmm3, 144(%rsp)
+	movaps	%xmm2, 128(%rsp)
+	movaps	%xmm1, 112(%rsp)
+	movaps	%xmm0, 96(%rsp)
+	movq	$0, (%r14)
+	movq	160(%rsp), %rcx
+	movq	%rcx, 64(%rbx)
+	movaps	96(%rsp), %xmm0
+	movaps	112(%rsp), %xmm1
+	movaps	128(%rsp), %xmm2
+	movaps	144(%rsp), %xmm3
+	movups	%xmm3, 48(%rbx)
+	movups	%xmm2, 32(%rbx)
+	movups	%xmm1, 16(%rbx)
+	movups	%xmm0, (%rbx)
+	je	11f
+	testq	%rax, %rax
+	je	11f
+9:
+	callq	rattle_dealloc@PLT
+	jmp	11f
+10:
+	movq	80(%rsp), %rax
+	movq	%rax, 160(%rsp)
+	movaps	16(%rsp), %xmm0
+	movaps	32(%rsp), %xmm1
+	movaps	48(%rsp), %xmm2
+	movaps	64(%rsp), %xmm3
+	movaps	%xmm3, 144(%rsp)
+	movaps	%xmm2, 128(%rsp)
+	movaps	%xmm1, 112(%rsp)
+	movaps	%xmm0, 96(%rsp)
+	movq	$0, (%rdi)
+	movq	160(%rsp), %rax
+	movq	%rax, 64(%rbx)
+	movaps	96(%rsp), %xmm0
+	movaps	112(%rsp), %xmm1
+	movaps	128(%rsp), %xmm2
+	movaps	144(%rsp), %xmm3
+	movups	%xmm3, 48(%rbx)
+	movups	%xmm2, 32(%rbx)
+	movups	%xmm1, 16(%rbx)
+	movups	%xmm0, (%rbx)
+11:
+	xorl	%eax, %eax
+12:
+	addq	$168, %rsp
+	popq	%rbx
+	popq	%r12
+	popq	%r14
+	popq	%r15
+	retq
+13:
+	shrq	$59, %rsi
+	jne	12b
+	movq	%rdi, %r15
+	movl	$8, %edi
+	shlq	%cl, %rdi
+	movl	$8, %esi
+	callq	rattle_alloc@PLT
+	movq	%rax, %rcx
+	movb	$1, %al
+	testb	$1, %cl
+	je	12b
+	movq	%r15, %rcx
+	movq	72(%r15), %r12
+	testq	%r12, %r12
+	je	22f
+	cmpq	$10, %r12
+	jb	14f
+	leaq	(%rdx,%r12,8), %rax
+	cmpq	%rax, %rbx
+	jae	19f
+	leaq	(%rcx,%r12,8), %rax
+	addq	$8, %rax
+	cmpq	%rdx, %rax
+	jbe	19f
+14:
+	xorl	%eax, %eax
+15:
+	movq	%rax, %rsi
+	orq	$1, %rsi
+	testb	$1, %r12b
+	je	16f
+	movq	(%rbx,%rax,8), %rdi
+	movq	$0, (%rbx,%rax,8)
+	movq	%rdi, (%rdx,%rax,8)
+	movq	%rsi, %rax
+16:
+	cmpq	%rsi, %r12
+	je	21f
+17:
+	movq	8(%rcx,%rax,8), %rsi
+	movq	$0, 8(%rcx,%rax,8)
+	movq	%rsi, (%rdx,%rax,8)
+	movq	16(%rcx,%rax,8), %rsi
+	movq	$0, 16(%rcx,%rax,8)
+	movq	%rsi, 8(%rdx,%rax,8)
+	addq	$2, %rax
+	cmpq	%rax, %r12
+	jne	17b
+	jmp	21f
+18:
+	movq	16(%rdi), %rsi
+	movq	%rcx, %rdx
+	subq	%rsi, %rdx
+	cmpq	%rdx, %r15
+	jbe	11b
+	addq	%rsi, %r15
+	jb	12b
+	movq	%r15, %rdx
+	shrq	$60, %rdx
+	jne	12b
+	movq	%rdi, %r14
+	testq	%rcx, %rcx
+	je	23f
+	movq	(%rbx), %rdi
+	shlq	$3, %rsi
+	leaq	(,%r15,8), %rdx
+	movl	$8, %ecx
+	callq	rattle_realloc@PLT
+	jmp	24f
+19:
+	movq	%r12, %rax
+	andq	$-4, %rax
+	xorl	%esi, %esi
+20:
+	movups	8(%rcx,%rsi,8), %xmm0
+	movups	24(%rcx,%rsi,8), %xmm1
+	xorps	%xmm2, %xmm2
+	movups	%xmm2, 8(%rcx,%rsi,8)
+	movups	%xmm2, 24(%rcx,%rsi,8)
+	movups	%xmm0, (%rdx,%rsi,8)
+	movups	%xmm1, 16(%rdx,%rsi,8)
+	addq	$4, %rsi
+	cmpq	%rsi, %rax
+	jne	20b
+	cmpq	%rax, %r12
+	jne	15b
+21:
+	movq	72(%rcx), %rax
+	testq	%rax, %rax
+	je	22f
+	shlq	$3, %rax
+	movq	%rbx, %rdi
+	xorl	%esi, %esi
+	movq	%rdx, %rbx
+	movq	%rax, %rdx
+	callq	memset@PLT
+	movq	%rbx, %rdx
+	movq	%r15, %rcx
+22:
+	movq	8(%rcx), %rdi
+	movq	24(%rcx), %rsi
+	xorl	%eax, %eax
+	cmpb	$0, (%rcx)
+	movq	$1, (%rcx)
+	movq	%rdx, 8(%rcx)
+	movq	%r12, 16(%rcx)
+	movq	%r14, 24(%rcx)
+	xorps	%xmm0, %xmm0
+	movups	%xmm0, 32(%rcx)
+	movups	%xmm0, 48(%rcx)
+	movups	%xmm0, 64(%rcx)
+	je	12b
+	testq	%rsi, %rsi
+	jne	9b
+	jmp	12b
+23:
+	leaq	(,%r15,8), %rdi
+	movl	$8, %esi
+	callq	rattle_alloc@PLT
+24:
+	testb	$1, %al
+	movb	$1, %al
+	je	12b
+	movq	%rdx, 8(%r14)
+	movq	%r15, 24(%r14)
+	jmp	11b
+25:
+	.size	"smallvec::small_vec::SmallVec::reserve_one::<#1d7ca747d7f7d6e4>", 25b-"smallvec::small_vec::SmallVec::reserve_one::<#1d7ca747d7f7d6e4>"
+
+	.section	.text.unlikely,"ax",@progbits
+	.p2align	4
 	.type	"smallvec::small_vec::SmallVec::reserve_one::<#bc37e6e66b18402c>",@function
 "smallvec::small_vec::SmallVec::reserve_one::<#bc37e6e66b18402c>":
 	movzbl	(%rdi), %edx

@@ -1634,7 +1634,7 @@
 32:
 	movq	%rsi, %rdi
 	movq	%r14, %rsi
-	callq	"std_alloc::vec::Vec::grow_amortized::<#08c20eee1fa81b59>"
+	callq	"std_alloc::vec::Vec::grow_amortized::<#1d775b5957dec42c>"
 	testb	%al, %al
 	je	33f
 	movq	%r13, %rsi

@@ -2781,10 +2781,11 @@
 	addq	%rdi, %rsi
 	movq	%r15, %rdx
 	callq	"core::slice::edits::mirror::<24'(,)::<#ee13f2425f1aee9b>>"
-	leaq	(%r14,%r13,8), %rsi
+	leaq	(%r14,%r13,8), %rdx
 	movq	%r14, %rdi
-	movq	%r15, %rdx
-	callq	"core::slice::edits::mirror::<*>"
+	xorl	%esi, %esi
+	movq	%r15, %rcx
+	callq	"core::slice::edits::mirror::<i64>"
 	jmp	45f
 27:
 	cmpw	$2, %r12w
