@@ -15,11 +15,12 @@ _mimelook() {
         plain) options='-d --data-dirs --name-only --content-only --magic-first --all-globs --inode -0 --null -b --brief --escape --files0-from --stdin -h --help -V --version' ;;
         list) options='-c --cache -d --data-dirs -h --help -V --version' ;;
         check) options='-c --cache -d --data-dirs -h --help -V --version' ;;
+        explain) options='-c --cache -d --data-dirs --name-only --content-only --magic-first --all-globs --escape -h --help -V --version' ;;
         isa) options='-c --cache -d --data-dirs -h --help -V --version' ;;
         icon) options='-c --cache -d --data-dirs -h --help -V --version' ;;
         type) options='-c --cache -d --data-dirs --name-only --content-only --magic-first --all-globs --inode --cost -0 --null -b --brief --escape --files0-from --stdin -h --help -V --version' ;;
-        help) options='build plain list check isa icon type' ;;
-        *) options='build plain list check isa icon type help -h --help -V --version' ;;
+        help) options='build plain list check explain isa icon type' ;;
+        *) options='build plain list check explain isa icon type help -h --help -V --version' ;;
     esac
     if [[ $word == -* || $COMP_CWORD -eq 1 || ${COMP_WORDS[1]} == help ]]; then
         mapfile -t COMPREPLY < <(compgen -W "$options" -- "$word")
