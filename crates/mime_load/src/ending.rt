@@ -26,6 +26,7 @@ impl Model for NameEnding {
 impl NameEnding {
     /// The ending of no bytes. It never allocates.
     pub fn none(alloc: Global) -> NameEnding
+        // It has no byte.
         ensures { result ≡ [] }
     {
         NameEnding {
@@ -35,6 +36,7 @@ impl NameEnding {
 
     /// How many bytes it has.
     pub fn length(&self) -> usize
+        // It is the number of its bytes.
         ensures { result ≡ length self.now }
     {
         self.path.len()
@@ -42,7 +44,9 @@ impl NameEnding {
 
     /// Puts a byte before it.
     pub fn grow(&mut self, byte: u8) -> Result<(), Unread>
+        // The byte stands before the others.
         ensures grown { OnOk result (self.new ≡ byte ∷ self.old) }
+        // Only memory is refused.
         ensures need { IfErr result (λ e. e ≡ Unread.OutOfMemory) }
     {
         self.path.push(byte)?;
@@ -51,6 +55,7 @@ impl NameEnding {
 
     /// Takes its first byte away.
     pub fn shrink(&mut self)
+        // The others stay.
         ensures { self.new ≡ drop 1 self.old }
     {
         let _ = self.path.pop();
@@ -58,7 +63,9 @@ impl NameEnding {
 
     /// The pattern of the names that end so: a `*`, and the ending.
     pub fn pattern(&self, alloc: Global) -> Result<LeafPattern, Unread>
+        // It is a `*` and the ending.
         ensures pattern { IfOk result (λ pattern. pattern.items ≡ 42 ∷ self.now) }
+        // Only memory is refused.
         ensures need { IfErr result (λ e. e ≡ Unread.OutOfMemory) }
     {
         let mut pattern = SmallVec::from_slice(alloc, &self.path)?;

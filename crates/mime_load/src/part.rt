@@ -42,6 +42,7 @@ pub enum LoadFault {
 
 /// The fault of a part.
 pub fn fault_of(part: Part, fault: Unread) -> LoadFault
+    // Memory is no fault of a part; any other fault names it.
     ensures { result ≡ fault_of part fault }
 {
     match fault {

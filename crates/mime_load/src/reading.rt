@@ -15,6 +15,7 @@ pub fn read_numbers<const N: usize>(
     at: u64,
     taking: &mut Taking,
 ) -> Result<[u32; N], Unread>
+    // No record has more than ten.
     requires most { N ≤ 10 }
     // The numbers stand there.
     ensures stand { IfOk result (λ numbers. CardsAt (Stands source.now.counted.now) at numbers) }

@@ -156,6 +156,7 @@ fn read_rule<'a>(
 
 /// Whether a text is what is compared of it: folded, unless it is case-sensitive.
 pub fn is_as_compared(cased: bool, text: &[u8]) -> bool
+    // It is so where each byte is the byte that is compared for it.
     ensures test { result ≡ list_all (λ b. compared_byte cased b == b) text.now }
 {
     text.iter().all(|byte| as_compared(cased, *byte) == *byte)
@@ -163,5 +164,6 @@ pub fn is_as_compared(cased: bool, text: &[u8]) -> bool
 
 /// The law of bytes: each is below 256.
 pub fn are_bytes(text: &[u8])
+    // They are bytes.
     ensures { All (λ b. b < 256) text.now }
 {}

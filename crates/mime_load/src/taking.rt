@@ -45,8 +45,11 @@ pub fn take_records(bytes: u64, taking: &mut Taking) -> Result<(), Unread>
     ensures taken { OnOk result (taking.new.records + bytes ≡ taking.old.records) }
     // Or too little is left.
     ensures fault { OnErr result (taking.old.records < bytes) }
+    // No value byte is taken.
     ensures value_bytes { taking.new.value_bytes ≡ taking.old.value_bytes }
+    // Nothing is looked at.
     ensures meter { taking.new.meter ≡ taking.old.meter }
+    // What is left never rises.
     ensures fall { taking.new.records ≤ taking.old.records }
 {
     if taking.records < bytes {
@@ -63,7 +66,9 @@ pub fn take_numbers<const N: usize>(
     bytes: u64,
     taking: &mut Taking,
 ) -> Result<[u32; N], Unread>
+    // No record has more than ten.
     requires most { N ≤ 10 }
+    // A record takes four bytes or more.
     requires some { 4 ≤ bytes }
     // The numbers that are given stand there.
     ensures stand { IfOk result (λ numbers. CardsAt (Stands source.now.counted.now) at numbers) }
@@ -73,6 +78,7 @@ pub fn take_numbers<const N: usize>(
     ensures taken { OnOk result (taking.new.records + bytes ≡ taking.old.records) }
     // Too little is left, or it does not lie in the cache.
     ensures fault { OnErr result ((taking.old.records < bytes) ⊎ (length source.now.counted.now < at + 4 * N)) }
+    // No value byte is taken.
     ensures value_bytes { taking.new.value_bytes ≡ taking.old.value_bytes }
     // No byte is counted.
     ensures no_bytes { taking.new.meter.bytes ≡ taking.old.meter.bytes }
@@ -95,8 +101,11 @@ pub fn take_value_bytes(size: u32, taking: &mut Taking) -> Result<(), Unread>
     ensures taken { OnOk result (taking.new.value_bytes + size ≡ taking.old.value_bytes) }
     // Too little is left.
     ensures fault { OnErr result (taking.old.value_bytes < size) }
+    // No record is taken.
     ensures records { taking.new.records ≡ taking.old.records }
+    // Nothing is looked at.
     ensures meter { taking.new.meter ≡ taking.old.meter }
+    // What is left never rises.
     ensures fall { taking.new.value_bytes ≤ taking.old.value_bytes }
 {
     let size = u64::from(size);

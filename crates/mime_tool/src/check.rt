@@ -34,6 +34,7 @@ pub(crate) fn check<D: Desk>(
     environment: Option<Environment<'_>>,
     source: &Source<'_>,
 ) -> Result<u8, Stop>
+    // It prints how much the stored cache has, or says what is wrong with it.
     ensures { Works (Ends (IsCheck (D.state desk.old).stored (known_environment environment.entry) (plain_source source.now)) [])
         (D.state desk.old) (D.state desk.new) result }
 {
@@ -52,6 +53,7 @@ fn check_cache<D: Desk>(desk: &mut D, path: &str, cache: &[u8]) -> Result<u8, St
 
 /// Whether the cache opens.
 pub(crate) fn open(alloc: Global, path: &str, cache: &[u8]) -> Result<(), Stop>
+    // It opens, or the fault of the cache is told with its path.
     ensures { GivesOrRefuses path.now (RefusesToOpen cache.now) (λ _. ⊤) result }
 {
     let mut meter = Meter::new();
@@ -63,6 +65,7 @@ pub(crate) fn open(alloc: Global, path: &str, cache: &[u8]) -> Result<(), Stop>
 
 /// The lists that the cache spells.
 pub(crate) fn lists_of<'a>(alloc: Global, cache: &'a [u8]) -> Result<Lists<'a>, LoadFault>
+    // They are the lists of a database that the cache spells.
     ensures { IfOk result (λ lists. IsReadBack cache.entry.now (plain_lists lists)) }
 {
     let mut meter = Meter::new();
@@ -128,6 +131,7 @@ fn print_text<D: Desk>(desk: &mut D, text: &str) -> Result<(), Stop>
 
 /// Says which part is not read back.
 pub(crate) fn refuse<D: Desk>(desk: &mut D, path: &str, part: Part) -> Result<u8, Stop>
+    // The message names the part, and the file counts as one that wasn't answered.
     ensures { Works (Ends (λ _ run. run ≡ unanswered (refusal path.now (no_database part))) [])
         (D.state desk.old) (D.state desk.new) result }
 {

@@ -74,6 +74,7 @@ pub(crate) fn explain<D: Desk>(
     files: &[&str],
     raws: &[RawWord<'_>],
 ) -> Result<u8, Stop>
+    // Each file has its lines in order, or a message that says why it has none.
     ensures { Works (Ends (IsExplain (D.state desk.old).stored (known_environment environment.entry) (plain_source source.now) options)
         (names_of raws.now (texts files.now))) (D.state desk.old) (D.state desk.new) result }
 {

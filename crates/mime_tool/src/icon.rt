@@ -31,6 +31,7 @@ pub(crate) fn icon<D: Desk>(
     source: &Source<'_>,
     kind: &str,
 ) -> Result<u8, Stop>
+    // It prints the icon and the generic icon of the type, or says what is wrong with the word or the cache.
     ensures { Works (Ends (IsIcon (D.state desk.old).stored (known_environment environment.entry) (plain_source source.now) kind.now) [])
         (D.state desk.old) (D.state desk.new) result }
 {

@@ -31,6 +31,7 @@ pub(crate) fn is_a<D: Desk>(
     kind: &str,
     base: &str,
 ) -> Result<u8, Stop>
+    // It prints whether the one is a subclass of the other, or says what is wrong with a word or the cache.
     ensures { Works (Ends (IsSubclassRun (D.state desk.old).stored (known_environment environment.entry) (plain_source source.now)
         kind.now base.now) []) (D.state desk.old) (D.state desk.new) result }
 {

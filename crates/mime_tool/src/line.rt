@@ -48,6 +48,7 @@ pub(crate) fn print_lines<D: Desk>(
     files: &[&str],
     raws: &[RawWord<'_>],
 ) -> Result<u8, Stop>
+    // Each file has its line in order, or a message that says why it has none.
     ensures { Works (Ends (IsEach (IsTypeLine (plain_lookup lookup.entry) (D.state desk.old).stored))
         (names_of raws.now (texts files.now))) (D.state desk.old) (D.state desk.new) result }
 {
@@ -82,12 +83,14 @@ pub(crate) fn print_line<D: Desk>(
     paid: &mut Payments,
     file: &[u8],
 ) -> Result<u8, Stop>
+    // What was prepared is of the cache or the database that is looked up in.
     requires { IsOfSource prepared.old }
     // It is looked up as without what was prepared.
     ensures line { Works (Ends (λ _. IsTypeLine (plain_lookup prepared.old.lookup) (D.state desk.old).stored file.now) [])
         (D.state desk.old) (D.state desk.new) result }
     // So is the next one.
     ensures lookup { prepared.new.lookup ≡ prepared.old.lookup }
+    // What is prepared then is of it too.
     ensures prepared { IsOfSource prepared.new }
 {
     prepared.prepare_due(desk.alloc(), paid);
@@ -183,6 +186,7 @@ pub(crate) fn print_outcome<D: Desk>(
     file: &[u8],
     outcome: Outcome<'_>,
 ) -> Result<u8, Stop>
+    // It prints the line of an answer, and the message of a fault.
     ensures { Works (Ends (λ _ run. run ≡ run_of output (written output file.now) outcome.entry) [])
         (D.state desk.old) (D.state desk.new) result }
 {
@@ -303,6 +307,7 @@ fn print_pieces<'a, D: Desk>(
 
 /// What stands between a FILE and its TYPE.
 pub(crate) fn separator<'a>(output: Output) -> &'a [u8]
+    // It follows from how the output is asked for.
     ensures { result.now ≡ separator output }
 {
     if output.null { b"\0" } else { b": " }
@@ -310,6 +315,7 @@ pub(crate) fn separator<'a>(output: Output) -> &'a [u8]
 
 /// What ends an answer.
 pub(crate) fn answer_end<'a>(output: Output) -> &'a [u8]
+    // It follows from how the output is asked for.
     ensures { result.now ≡ answer_end output }
 {
     if output.null { b"\0" } else { b"\n" }
@@ -317,6 +323,7 @@ pub(crate) fn answer_end<'a>(output: Output) -> &'a [u8]
 
 /// Says why a file has no line.
 pub(crate) fn refuse<D: Desk>(desk: &mut D, file: &[u8], why: &str) -> Result<u8, Stop>
+    // The message names the file and why, and the file counts as one that wasn't answered.
     ensures { Works (Ends (λ _ run. run ≡ unanswered (refusal file.now why.now)) [])
         (D.state desk.old) (D.state desk.new) result }
 {

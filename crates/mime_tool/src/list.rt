@@ -34,6 +34,7 @@ pub(crate) fn list<D: Desk>(
     environment: Option<Environment<'_>>,
     source: &Source<'_>,
 ) -> Result<u8, Stop>
+    // It prints the rules of the stored cache in its order, or says what is wrong with it.
     ensures { Works (Ends (IsList (D.state desk.old).stored (known_environment environment.entry) (plain_source source.now)) [])
         (D.state desk.old) (D.state desk.new) result }
 {

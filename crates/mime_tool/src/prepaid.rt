@@ -16,6 +16,7 @@ pub(crate) struct Prepaid {
 impl Prepaid {
     /// Nothing is paid yet.
     pub(crate) fn new(cost: u64) -> Prepaid
+        // Nothing is paid, and it costs what is given.
         ensures { result ≡ record { paid = 0; cost = cost } }
     {
         Prepaid { paid: 0, cost }
@@ -23,6 +24,7 @@ impl Prepaid {
 
     /// What it costs.
     pub(crate) fn cost(self) -> u64
+        // It is what was given.
         ensures { result ≡ self.cost }
     {
         self.cost

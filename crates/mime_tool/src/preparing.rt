@@ -35,6 +35,7 @@ impl<'i, 'a> Prepared<'i, 'a> {
     pub(crate) fn new(lookup: Lookup<'i, 'a>) -> Prepared<'i, 'a>
         // FILEs are looked up so.
         ensures lookup { result.lookup ≡ lookup.entry }
+        // Of nothing there is no index of another cache.
         ensures prepared { IsOfSource result }
     {
         Prepared {
@@ -48,9 +49,11 @@ impl<'i, 'a> Prepared<'i, 'a> {
     // Always inlined: before most FILEs nothing is.
     #[inline(always)]
     pub(crate) fn prepare_due(&mut self, alloc: Global, payments: &mut Payments)
+        // What was prepared is of the cache or the database that is looked up in.
         requires { IsOfSource self.old }
         // FILEs are looked up as before.
         ensures lookup { self.new.lookup ≡ self.old.lookup }
+        // What is prepared then is of it too.
         ensures prepared { IsOfSource self.new }
         // Nothing is prepared that isn't paid.
         ensures unpaid { IsUnpaid payments.old → (self.new.cache ≡ self.old.cache) × (self.new.index ≡ self.old.index) }
@@ -95,6 +98,7 @@ impl<'i, 'a> Prepared<'i, 'a> {
 
     /// How a FILE is looked up.
     pub(crate) fn lookup(&self) -> Lookup<'_, 'a>
+        // What was prepared is of the cache or the database that is looked up in.
         requires { IsOfSource self.now }
         // As without what was prepared.
         ensures { LooksAlike result self.now.lookup }

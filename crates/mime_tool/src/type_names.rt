@@ -15,6 +15,7 @@ use std::alloc::Global;
 
 /// The word as a type name, where it is one.
 pub(crate) fn type_name(alloc: Global, word: &str) -> Result<Option<TypeName>, OutOfMemory>
+    // There is one where the word has the form of a type name, and it is the word.
     ensures { IfOk result (λ name. MatchOption name (is_type_name word.now ≡ false)
         (λ kind. (is_type_name word.now ≡ true) × (kind ≡ word.now))) }
 {
@@ -27,6 +28,7 @@ pub(crate) fn type_name(alloc: Global, word: &str) -> Result<Option<TypeName>, O
 
 /// Says that the word is no type name, and gives the status.
 pub(crate) fn refuse<D: Desk>(desk: &mut D, word: &str) -> Result<u8, Stop>
+    // The message names the word, and the status is that of a mistake.
     ensures { Works (Ends (λ _ run. run ≡ mistaken (not_a_type word.now)) [])
         (D.state desk.old) (D.state desk.new) result }
 {

@@ -36,6 +36,7 @@ pub(crate) fn print_types<D: Desk, I: Content + Drop>(
     subjects: &Subjects<'_>,
     raws: &[RawWord<'_>],
 ) -> Result<u8, Stop>
+    // Each name has its line in order, or a message that says why it has none; names are those that were given, or are read of a list.
     ensures { Works (Ends (IsType (D.state desk.old).stored (known_process I.remaining I.health process.entry) (plain_source source.now)
         options (named_subjects raws.now (plain_subjects subjects.now))) (names_in (named_subjects raws.now (plain_subjects subjects.now))
         (D.state desk.old).stored (given_by (I.remaining process.entry.input) (I.health process.entry.input))))

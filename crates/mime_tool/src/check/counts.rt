@@ -31,7 +31,9 @@ pub(crate) struct Counts {
 
 /// How many there are of each list.
 pub(crate) fn counts_of(lists: &Lists<'_>) -> Counts
+    // There are fewer of each than a number holds.
     requires few { IsFew (plain_lists lists.now) }
+    // They are the lengths of the lists.
     ensures { result ≡ counts_of (plain_lists lists.now) }
 {
     Counts {

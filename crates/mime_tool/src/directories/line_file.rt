@@ -52,6 +52,7 @@ pub(super) fn read_lines<D: Desk, T: LineFile>(
     directory: &str,
     name: &str,
 ) -> Result<T, Stop>
+    // They are the lines of the stored file, none where there is no file.
     ensures { Works (Loads T.plain (AreLinesAt T.Spells T.is_malformed (D.state desk.old).stored
         (path_of directory.now name.now))) (D.state desk.old) (D.state desk.new) result }
 {

@@ -16,6 +16,7 @@ use std::alloc::Global;
 
 /// Reads the file `magic` of a directory.
 pub(super) fn read_magic_in<D: Desk>(desk: &mut D, directory: &str) -> Result<MagicFile, Stop>
+    // It is the magic of the stored file, none where there is no file.
     ensures { Works (Loads plain_magic (IsMagicAt (D.state desk.old).stored
         (path_of directory.now (codes "magic")))) (D.state desk.old) (D.state desk.new) result }
 {

@@ -42,6 +42,7 @@ pub(super) fn section_of<'b>(
     explaining: Explaining<'_, '_, 'b>,
     front: Option<&[u8]>,
 ) -> Option<(&'b [u8], u32)>
+    // The lists were read back of the bytes.
     requires ready { IsReady explaining }
     // It is that of the database, if there is a content and one holds.
     ensures section { plain_found result ≡ section_in (database_of explaining.entry) (bytes_of front.entry) }
@@ -74,8 +75,11 @@ pub(super) fn sniffed_as<'b>(
     section: Option<(&'b [u8], u32)>,
     front: Option<&[u8]>,
 ) -> &'b [u8]
+    // The lists were read back of the bytes.
     requires ready { IsReady explaining }
+    // The section is the first that holds for the front.
     requires section { plain_found section ≡ section_in (database_of explaining) (bytes_of front) }
+    // Its type is a text of the cache.
     requires text { IfSome section (λ it. IsCacheText explaining.bytes.now it.0.now) }
     // It is so over the database.
     ensures sniffed { result.now ≡ sniffed (database_of explaining.entry) (bytes_of front.entry) Little }
@@ -106,6 +110,7 @@ fn unalias<'b>(explaining: Explaining<'_, '_, 'b>, kind: &'b [u8]) -> &'b [u8]
 
 /// The cache of which these lists were read back.
 pub(super) fn opened<'b>(bytes: &'b [u8], lists: &Lists<'_>) -> Cache<'b>
+    // The bytes are a cache: lists were read back of them.
     requires back { IsReadBack bytes.now (plain_lists lists.now) }
     // It has these bytes.
     ensures { result ≡ bytes.entry.now }

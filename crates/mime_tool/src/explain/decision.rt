@@ -57,7 +57,9 @@ pub(super) fn decide<'a>(
     explaining: Explaining<'_, 'a, '_>,
     seen: Seen<'_, 'a>,
 ) -> Result<Decision<'a>, OutOfMemory>
+    // The lists were read back of the bytes.
     requires ready { IsReady explaining }
+    // The type of the content is no longer than a text of a cache.
     requires short { length seen.sniffed.now ≤ 255 }
     // It is that of the name and the content of which this is seen.
     ensures { (name : List ℕ) (content : Option (List ℕ)) → IsSeen (database_of explaining.entry) name content seen.entry

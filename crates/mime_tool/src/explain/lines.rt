@@ -31,6 +31,7 @@ pub(super) fn explanation(
     file: &[u8],
     front: Option<&[u8]>,
 ) -> Result<Vec<u8>, OutOfMemory>
+    // The lists were read back of the bytes.
     requires ready { IsReady explaining }
     // They are those over the database that was read back, for the front as the whole content.
     ensures { IfOk result (λ lines. IsExplained (database_of explaining.entry) explaining.entry.output explaining.entry.order

@@ -79,6 +79,7 @@ pub(super) fn matches_of<'l>(
     explaining: Explaining<'_, 'l, '_>,
     name: &[u8],
 ) -> Result<Matches<'l>, OutOfMemory>
+    // The lists were read back of the bytes.
     requires ready { IsReady explaining }
     // They are those of the database that was read back.
     ensures { IfOk result (AreMatches (database_of explaining.entry) name.now) }

@@ -24,6 +24,7 @@ pub(super) fn find_again<'a, R: Content + Drop>(
     file: &[u8],
     content: &mut Option<R>,
 ) -> Result<Outcome<'a>, Stop>
+    // It is what a lookup of the stored file by a walk of the cache comes to.
     ensures { (stored : Stored) (name_only : Bool) (output : Output) → IsContent R.remaining R.health name_only stored content.old
         → LooksUp (lookup_by path.now name_only cost output order cache.now) stored file.now result }
 {

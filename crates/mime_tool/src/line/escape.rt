@@ -7,6 +7,7 @@ use std::alloc::{AllocError, Global};
 
 /// Any bytes with each control character and each backslash as a backslash and its number in octal.
 pub(crate) fn escaped(alloc: Global, bytes: &[u8]) -> Result<Vec<u8>, AllocError>
+    // Each byte is as the table of escaped bytes has it.
     ensures { IfOk result (λ it. it.items ≡ escaped bytes.now) }
 {
     let mut escaped = Vec::new(alloc);

@@ -63,6 +63,7 @@ pub(crate) struct Cost {
 
 /// The order that `--content-only` asks for, else `--magic-first`, else `--all-globs`, or the absence of all.
 pub(crate) fn asked_order(options: Options) -> Order
+    // The options give it.
     ensures { result ≡ asked_order options }
 {
     if options.content_only {
@@ -83,6 +84,7 @@ pub(crate) fn find<'i, R: Content + Drop>(
     file: &[u8],
     content: &mut Option<R>,
 ) -> Result<Outcome<'i>, Stop>
+    // It is what the lookup of the stored file comes to.
     ensures { (stored : Stored) → IsContent R.remaining R.health lookup.entry.name_only stored content.old
         → LooksUp (plain_lookup lookup.entry) stored file.now result }
 {
@@ -176,6 +178,7 @@ fn find_in_cache<'a, R: Content + Drop>(
 
 /// What an answer cost for which nothing was looked at.
 pub(super) fn free(lookup: Lookup<'_, '_>) -> Cost
+    // Its text is that of no node, no byte compared and no byte read, if costs are told.
     ensures { tail_of result ≡ (plain_lookup lookup.entry).free }
 {
     match lookup.by {
@@ -187,6 +190,7 @@ pub(super) fn free(lookup: Lookup<'_, '_>) -> Cost
 
 // What an answer cost, and whether that is told.
 pub(super) fn cost_of(is_told: bool, meter: Meter, read: u64) -> Cost
+    // Its text has these numbers, if costs are told.
     ensures { tail_of result ≡ cost_tail is_told meter read }
 {
     Cost {
@@ -198,6 +202,7 @@ pub(super) fn cost_of(is_told: bool, meter: Meter, read: u64) -> Cost
 
 /// What is looked up of a file: its name, but nothing where the content alone is asked.
 pub(crate) fn name_for(order: Order, file: &[u8]) -> &[u8]
+    // The order says whether the name is looked up.
     ensures { result.now ≡ name_for order file.entry.now }
 {
     match order {

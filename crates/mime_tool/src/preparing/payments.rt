@@ -41,6 +41,7 @@ pub(crate) struct Payments {
 impl Payments {
     /// Nothing is paid yet. Of a database there is the index, and of a cache what FILEs are asked for.
     pub(crate) fn new(lookup: Lookup<'_, '_>) -> Payments
+        // What is owed follows from what is looked up in, and how.
         ensures { AreOwed lookup.entry result }
     {
         match lookup.by {
@@ -113,6 +114,7 @@ impl Payments {
     // Always inlined: before most FILEs there is none.
     #[inline(always)]
     pub(super) fn take_due(&mut self) -> Option<Due>
+        // What is paid is given once, and nothing only where nothing is paid.
         ensures { TakesDue self.old self.new result }
     {
         if is_due(self.index) {
