@@ -12,6 +12,7 @@ pub mod ParentEntries
 pub mod ParentSums
 pub mod ParentTypes
 pub mod ParentsRead
+pub mod PartsRead
 pub mod RecordLemmas
 pub mod RoomLeft
 pub mod RuleEntries
@@ -29,4 +30,5 @@ pub mod TakingLemmas
 pub mod TreeFronts
 pub mod TreeLists
 pub mod TreeWalks
+pub mod UnreadLemmas
 pub mod WholeLemmas

@@ -18,29 +18,11 @@ use Rattle.mime_load.proofs.RuleEntries.{same_globs_count, same_literals_count}
 use Rattle.mime_load.proofs.SiblingCounts.{same_tree_size}
 
 module _ (c : List ℕ) (at old new : ℕ) where
-  -- after parents
-  pub parents_left : (items : List LentPair) (pairs : List (List ℕ × List ℕ)) → ParentsAt (Stands c) at (plain_pairs items)
-      → ParentsAt (Stands c) at pairs → new + 4 * length items ≡ old → new + 4 * length pairs ≡ old
-  parents_left items pairs read stand taken =
-      omega (arith, taken, length-map items plain_pair, same_parents_count c at (plain_pairs items) pairs read stand)
-
-  -- after icons
-  pub icons_left : (items : List LentPair) (pairs : List (List ℕ × List ℕ)) → PairsAt (Stands c) at (plain_pairs items)
-      → PairsAt (Stands c) at pairs → new + 8 * length items ≡ old → new + 8 * length pairs ≡ old
-  icons_left items pairs read stand taken =
-      omega (arith, taken, length-map items plain_pair, same_pairs_count c at (plain_pairs items) pairs read stand)
-
   -- after literals
   pub literals_left : (items : List LentRule) (rules : List GlobRule) → IsLiteralList c at (plain_rules items) → IsLiteralList c at rules
       → new + 12 * length items ≡ old → new + 12 * length rules ≡ old
   literals_left items rules read stand taken =
       omega (arith, taken, length-map items plain_rule, same_literals_count c at (plain_rules items) rules read stand)
-
-  -- after globs
-  pub globs_left : (items : List LentRule) (rules : List GlobRule) → IsGlobList c at (plain_rules items) → IsGlobList c at rules
-      → new + 12 * length items ≡ old → new + 12 * length rules ≡ old
-  globs_left items rules read stand taken =
-      omega (arith, taken, length-map items plain_rule, same_globs_count c at (plain_rules items) rules read stand)
 
   -- after a tree
   pub leaves_left : (items : List LeafRule) (rules : List GlobRule) → IsTreeList c at (plain_leaves items) → IsTreeList c at rules

@@ -1,4 +1,5 @@
 pub mod Faults
+pub mod FirstUnread
 pub mod Lent
 pub mod MagicStanding
 pub mod NameLists

@@ -4,9 +4,10 @@ ghost use Rattle.std.specs.Prelude.{◌≡◌, ◌≤◌, ◌+◌, ◌*◌, ◌/
 ghost use Rattle.mime_base.specs.Cache.Bytes.{Stands};
 ghost use Rattle.mime_base.specs.Database.{PlainDatabase};
 ghost use Rattle.mime_base.specs.Database.Limits.{IsWithinLimits};
-ghost use Rattle.mime_base.specs.Format.Packed.{Packed, record_bytes, value_length};
+ghost use Rattle.mime_base.specs.Format.Packed.{Packed};
 ghost use Rattle.mime_base.specs.Format.Header.{HeaderAt, Offsets};
 ghost use Rattle.mime_base.specs.Format.Spells.{Spells, cache_limit};
+ghost use Rattle.mime_load.specs.FirstUnread.{IsFirstUnread};
 ghost use Rattle.mime_load.specs.Lent.{plain_lists};
 ghost use Rattle.mime_load.specs.Taking.{Pays};
 ghost use Rattle.mime_load.specs.Whole.{AreLists, IsHeader};
@@ -44,6 +45,8 @@ pub fn read_back<'a>(
     ensures packed { IfOk result (λ lists. Packed counted.now (plain_lists lists)) }
     // Each rule and each line is one that the text files can spell.
     ensures limits { IfOk result (λ lists. IsWithinLimits (plain_lists lists)) }
+    // The part that is named is the first that stands nowhere in the room that those before it leave.
+    ensures first { IfErr result (λ e. (part : Part) → e ≡ LoadFault.NoDatabase part → IsFirstUnread counted.now part) }
     // A cache that was written is read back, unless memory is refused.
     ensures written { (b : PlainDatabase) → IsWithinLimits b → Spells counted.now b → Packed counted.now b →
         IfErr result (λ e. e ≡ LoadFault.OutOfMemory) }
@@ -61,9 +64,10 @@ pub fn read_back<'a>(
 
 /// The lists of a cache, and what they took.
 fn lists_of<'a>(source: &Source<'_, 'a>, taking: &mut Taking) -> Result<Lists<'a>, LoadFault>
-    // Of a database that the cache spells, and with room for it, only memory can be short.
-    ensures need { (b : PlainDatabase) → IsWithinLimits b → Spells source.now.counted.now b → record_bytes b ≤ taking.old.records →
-        value_length b.sections ≤ taking.old.value_bytes → IfErr result (λ e. e ≡ LoadFault.OutOfMemory) }
+    // The room is the cache's length.
+    requires room { (taking.old.records ≡ length source.now.counted.now) × (taking.old.value_bytes ≡ length source.now.counted.now) }
+    // The part that is named is the first that isn't read back.
+    ensures first { IfErr result (λ e. (part : Part) → e ≡ LoadFault.NoDatabase part → IsFirstUnread source.now.counted.now part) }
     // The lists stand, and took their room.
     ensures lists { IfOk result (λ lists. AreLists source.now.counted.now taking.old taking.new lists) }
     // What was looked at was taken, but for the heads of lists, aliases, types with parents and icons.
@@ -93,7 +97,9 @@ fn lists_of<'a>(source: &Source<'_, 'a>, taking: &mut Taking) -> Result<Lists<'a
 /// What was read of a part, or its fault.
 fn of_part<T: Drop>(part: Part, read: Result<T, Unread>) -> Result<T, LoadFault>
     ensures read { IfOk result (λ value. read ≡ Ok value) }
-    ensures need { IfErr read (λ e. e ≡ Unread.OutOfMemory) → IfErr result (λ e. e ≡ LoadFault.OutOfMemory) }
+    // A fault that names a part names this one, which isn't short of memory.
+    ensures named { IfErr result (λ e. (named : Part) → e ≡ LoadFault.NoDatabase named →
+        (part ≡ named) × (IfErr read (λ why. why ≡ Unread.OutOfMemory) → ⊥)) }
 {
     match read {
         Ok(value) => Ok(value),

@@ -1,19 +1,17 @@
-use Rattle.std.proofs.Common.{◌≡◌, List, arith, slice_index, subst}
+use Rattle.std.proofs.Common.{◌≡◌, List, arith, length, refl, slice_index, subst}
 use Rattle.std.proofs.lemmas.Result.{err_from_is_err_and}
-use Rattle.mime_base.specs.Format.Stored.{glob_rules, literal_rules, tree_rules}
-use Rattle.mime_base.specs.Magic.{PlainSection}
 use Rattle.mime_base.specs.Cache.Bytes.{Stands}
 use Rattle.mime_base.specs.Format.Pairs.{PairsAt}
 use Rattle.mime_base.specs.Format.Parents.{ParentsAt}
+use Rattle.mime_load.specs.FirstUnread.{IsFirstUnread}
 use Rattle.mime_load.specs.Lent.{plain_leaves, plain_pairs, plain_rules, plain_sections}
 use Rattle.mime_load.specs.MagicStanding.{MagicStands}
 use Rattle.mime_load.specs.Parts.{IsGlobList, IsLiteralList, IsTreeList}
 use Rattle.mime_load.specs.Taking.{TakesSections}
 use Rattle.mime_load.specs.Whole.{IsHeader}
 use Rattle.mime_load.specs.declared.lists.Lists.{Lists}
-use Rattle.mime_load.proofs.RoomLeft.{globs_left, icons_left, leaves_left, literals_left, parents_left}
-use Rattle.mime_load.proofs.Spelled.{limited, sized, spelled}
-use Rattle.mime_load.proofs.SpelledParts.{database_read}
+use Rattle.mime_load.proofs.PartsRead.{read_aliases, read_globs, read_icons, read_leaves, read_literals, read_parents, read_sections}
+use Rattle.mime_load.proofs.Spelled.{header_at, limited, offsets_of, sized, spelled}
 use Rattle.mime_load.proofs.reading_back.lists_of.Goals as goal
 
 pub returns-clause-lists : goal.returns-clause-lists
@@ -141,156 +139,215 @@ returns-in_err-generic_icons-clause-pays c = record {
       );
 }
 
-pub returns-in_err-header-clause-need : goal.returns-in_err-header-clause-need
-returns-in_err-header-clause-need c = λ b limits spelled room values.
+pub returns-in_err-header-clause-first : goal.returns-in_err-header-clause-first
+returns-in_err-header-clause-first c =
+    let cache = c.args.source.now.counted.now in
     let p = err_from_is_err_and c.from_residual.result c.from_residual.ensures.1 in
-    rw (p.1, p.2) (c.in_err-header.ensures.need (c.read_header.ensures.need spelled.offsets spelled.header spelled.within))
+    rw (p.1, p.2) (λ part e.
+    let f = c.in_err-header.ensures.named part e in
+    subst (IsFirstUnread cache) f.0 (λ numbers header.
+    f.1 (c.read_header.ensures.need (offsets_of numbers) (header_at cache numbers header) header.within)))
 
-pub returns-in_err-aliases-clause-need : goal.returns-in_err-aliases-clause-need
-returns-in_err-aliases-clause-need c = λ b limits spelled room values.
+pub returns-in_err-aliases-clause-first : goal.returns-in_err-aliases-clause-first
+returns-in_err-aliases-clause-first c =
     let cache = c.args.source.now.counted.now in
-    let read = database_read cache c.in_ok-header.header b (rw c.in_ok-header.ensures.read at c.read_header.ensures.header) limits
-    spelled in
+    let numbers = c.in_ok-header.header in
     let p = err_from_is_err_and c.from_residual-in_err-aliases.result c.from_residual-in_err-aliases.ensures.1 in
-    rw (p.1, p.2) (c.in_err-aliases.ensures.need (c.aliases_at.ensures.need b.aliases read.names.aliases))
+    rw (p.1, p.2) (λ part e.
+    let f = c.in_err-aliases.ensures.named part e in
+    subst (IsFirstUnread cache) f.0 (record {
+      numbers = numbers;
+      header = rw c.in_ok-header.ensures.read at c.read_header.ensures.header;
+      left = c.read_header.new.taking.records;
+      stand = omega (arith, c.requires.room.0, c.read_header.ensures.records);
+      none = λ new stands. f.1 (c.aliases_at.ensures.need stands.0 stands.1);
+    }))
 
-pub returns-in_err-parents-clause-need : goal.returns-in_err-parents-clause-need
-returns-in_err-parents-clause-need c = λ b limits spelled room values.
+pub returns-in_err-parents-clause-first : goal.returns-in_err-parents-clause-first
+returns-in_err-parents-clause-first c =
     let cache = c.args.source.now.counted.now in
-    let read = database_read cache c.in_ok-header.header b (rw c.in_ok-header.ensures.read at c.read_header.ensures.header) limits
-    spelled in
+    let numbers = c.in_ok-header.header in
     let p = err_from_is_err_and c.from_residual-in_err-parents.result c.from_residual-in_err-parents.ensures.1 in
-    rw (p.1, p.2) (c.in_err-parents.ensures.need (c.parents_at.ensures.need b.parents read.parents
-    (omega (arith, room, c.read_header.ensures.records, c.aliases_at.ensures.taken))))
+    rw (p.1, p.2) (λ part e.
+    let f = c.in_err-parents.ensures.named part e in
+    let aliases = read_aliases cache numbers (length cache) c.aliases_at.new.taking.records c.in_ok-aliases.aliases.items
+    (rw c.in_ok-aliases.ensures.read at c.aliases_at.ensures.stand)
+    (omega (arith, c.requires.room.0, c.read_header.ensures.records, c.aliases_at.ensures.taken)) in
+    subst (IsFirstUnread cache) f.0 (record {
+      numbers = numbers;
+      header = rw c.in_ok-header.ensures.read at c.read_header.ensures.header;
+      left = c.aliases_at.new.taking.records;
+      stand = (c.aliases_at.new.taking.records, aliases, refl);
+      none = λ new stands. f.1 (c.parents_at.ensures.need stands.0 stands.1 (omega (arith, stands.2)));
+    }))
 
-pub returns-in_err-literals-clause-need : goal.returns-in_err-literals-clause-need
-returns-in_err-literals-clause-need c = λ b limits spelled room values.
+pub returns-in_err-literals-clause-first : goal.returns-in_err-literals-clause-first
+returns-in_err-literals-clause-first c =
     let cache = c.args.source.now.counted.now in
-    let read = database_read cache c.in_ok-header.header b (rw c.in_ok-header.ensures.read at c.read_header.ensures.header) limits
-    spelled in
-    let parents = parents_left cache (slice_index c.in_ok-header.header 2) c.aliases_at.new.taking.records c.parents_at.new.taking.records
-    c.in_ok-parents.parents.items b.parents (rw c.in_ok-parents.ensures.read at c.parents_at.ensures.stand) read.parents
-    (rw c.in_ok-parents.ensures.read at c.parents_at.ensures.taken) in
+    let numbers = c.in_ok-header.header in
     let p = err_from_is_err_and c.from_residual-in_err-literals.result c.from_residual-in_err-literals.ensures.1 in
-    rw (p.1, p.2) (c.in_err-literals.ensures.need (c.literals_at.ensures.need (literal_rules b.rules) read.names.literals
-    (omega (arith, room, c.read_header.ensures.records, c.aliases_at.ensures.taken, parents))))
+    rw (p.1, p.2) (λ part e.
+    let f = c.in_err-literals.ensures.named part e in
+    let aliases = read_aliases cache numbers (length cache) c.aliases_at.new.taking.records c.in_ok-aliases.aliases.items
+    (rw c.in_ok-aliases.ensures.read at c.aliases_at.ensures.stand)
+    (omega (arith, c.requires.room.0, c.read_header.ensures.records, c.aliases_at.ensures.taken)) in
+    let parents = read_parents cache numbers c.aliases_at.new.taking.records c.parents_at.new.taking.records c.in_ok-parents.parents.items
+    (rw c.in_ok-parents.ensures.read at c.parents_at.ensures.stand) (rw c.in_ok-parents.ensures.read at c.parents_at.ensures.taken) in
+    subst (IsFirstUnread cache) f.0 (record {
+      numbers = numbers;
+      header = rw c.in_ok-header.ensures.read at c.read_header.ensures.header;
+      left = c.parents_at.new.taking.records;
+      stand = (c.aliases_at.new.taking.records, aliases, (c.parents_at.new.taking.records, parents, refl));
+      none = λ new stands. f.1 (c.literals_at.ensures.need stands.0 stands.1 (omega (arith, stands.2)));
+    }))
 
-pub returns-in_err-leaves-clause-need : goal.returns-in_err-leaves-clause-need
-returns-in_err-leaves-clause-need c = λ b limits spelled room values.
+pub returns-in_err-leaves-clause-first : goal.returns-in_err-leaves-clause-first
+returns-in_err-leaves-clause-first c =
     let cache = c.args.source.now.counted.now in
-    let read = database_read cache c.in_ok-header.header b (rw c.in_ok-header.ensures.read at c.read_header.ensures.header) limits
-    spelled in
-    let parents = parents_left cache (slice_index c.in_ok-header.header 2) c.aliases_at.new.taking.records c.parents_at.new.taking.records
-    c.in_ok-parents.parents.items b.parents (rw c.in_ok-parents.ensures.read at c.parents_at.ensures.stand) read.parents
-    (rw c.in_ok-parents.ensures.read at c.parents_at.ensures.taken) in
-    let literals = literals_left cache (slice_index c.in_ok-header.header 3) c.parents_at.new.taking.records c.literals_at.new.taking.records
-    c.in_ok-literals.literals.items (literal_rules b.rules) (rw c.in_ok-literals.ensures.read at c.literals_at.ensures.stand) read.names.literals
-    (rw c.in_ok-literals.ensures.read at c.literals_at.ensures.taken) in
+    let numbers = c.in_ok-header.header in
     let p = err_from_is_err_and c.from_residual-in_err-leaves.result c.from_residual-in_err-leaves.ensures.1 in
-    rw (p.1, p.2) (c.in_err-leaves.ensures.need (c.leaves_at.ensures.need (tree_rules b.rules) read.names.leaves
-    (omega (arith, room, read.names.size, c.read_header.ensures.records, c.aliases_at.ensures.taken, parents, literals))))
+    rw (p.1, p.2) (λ part e.
+    let f = c.in_err-leaves.ensures.named part e in
+    let aliases = read_aliases cache numbers (length cache) c.aliases_at.new.taking.records c.in_ok-aliases.aliases.items
+    (rw c.in_ok-aliases.ensures.read at c.aliases_at.ensures.stand)
+    (omega (arith, c.requires.room.0, c.read_header.ensures.records, c.aliases_at.ensures.taken)) in
+    let parents = read_parents cache numbers c.aliases_at.new.taking.records c.parents_at.new.taking.records c.in_ok-parents.parents.items
+    (rw c.in_ok-parents.ensures.read at c.parents_at.ensures.stand) (rw c.in_ok-parents.ensures.read at c.parents_at.ensures.taken) in
+    let literals = read_literals cache numbers c.parents_at.new.taking.records c.literals_at.new.taking.records c.in_ok-literals.literals.items
+    (rw c.in_ok-literals.ensures.read at c.literals_at.ensures.stand) (rw c.in_ok-literals.ensures.read at c.literals_at.ensures.taken) in
+    subst (IsFirstUnread cache) f.0 (record {
+      numbers = numbers;
+      header = rw c.in_ok-header.ensures.read at c.read_header.ensures.header;
+      left = c.literals_at.new.taking.records;
+      stand = (c.aliases_at.new.taking.records, aliases, (c.parents_at.new.taking.records, parents,
+      (c.literals_at.new.taking.records, literals, refl)));
+      none = λ new stands. f.1 (c.leaves_at.ensures.need stands.0 stands.1 (omega (arith, stands.2)));
+    }))
 
-pub returns-in_err-globs-clause-need : goal.returns-in_err-globs-clause-need
-returns-in_err-globs-clause-need c = λ b limits spelled room values.
+pub returns-in_err-globs-clause-first : goal.returns-in_err-globs-clause-first
+returns-in_err-globs-clause-first c =
     let cache = c.args.source.now.counted.now in
-    let read = database_read cache c.in_ok-header.header b (rw c.in_ok-header.ensures.read at c.read_header.ensures.header) limits
-    spelled in
-    let parents = parents_left cache (slice_index c.in_ok-header.header 2) c.aliases_at.new.taking.records c.parents_at.new.taking.records
-    c.in_ok-parents.parents.items b.parents (rw c.in_ok-parents.ensures.read at c.parents_at.ensures.stand) read.parents
-    (rw c.in_ok-parents.ensures.read at c.parents_at.ensures.taken) in
-    let literals = literals_left cache (slice_index c.in_ok-header.header 3) c.parents_at.new.taking.records c.literals_at.new.taking.records
-    c.in_ok-literals.literals.items (literal_rules b.rules) (rw c.in_ok-literals.ensures.read at c.literals_at.ensures.stand) read.names.literals
-    (rw c.in_ok-literals.ensures.read at c.literals_at.ensures.taken) in
-    let leaves = leaves_left cache (slice_index c.in_ok-header.header 4) c.literals_at.new.taking.records c.leaves_at.new.taking.records
-    c.in_ok-leaves.leaves.items (tree_rules b.rules) (rw c.in_ok-leaves.ensures.read at c.leaves_at.ensures.stand) read.names.leaves
-    (rw c.in_ok-leaves.ensures.read at c.leaves_at.ensures.taken) in
+    let numbers = c.in_ok-header.header in
     let p = err_from_is_err_and c.from_residual-in_err-globs.result c.from_residual-in_err-globs.ensures.1 in
-    rw (p.1, p.2) (c.in_err-globs.ensures.need (c.globs_at.ensures.need (glob_rules b.rules) read.names.globs
-    (omega (arith, room, read.names.size, c.read_header.ensures.records, c.aliases_at.ensures.taken, parents, literals, leaves))))
+    rw (p.1, p.2) (λ part e.
+    let f = c.in_err-globs.ensures.named part e in
+    let aliases = read_aliases cache numbers (length cache) c.aliases_at.new.taking.records c.in_ok-aliases.aliases.items
+    (rw c.in_ok-aliases.ensures.read at c.aliases_at.ensures.stand)
+    (omega (arith, c.requires.room.0, c.read_header.ensures.records, c.aliases_at.ensures.taken)) in
+    let parents = read_parents cache numbers c.aliases_at.new.taking.records c.parents_at.new.taking.records c.in_ok-parents.parents.items
+    (rw c.in_ok-parents.ensures.read at c.parents_at.ensures.stand) (rw c.in_ok-parents.ensures.read at c.parents_at.ensures.taken) in
+    let literals = read_literals cache numbers c.parents_at.new.taking.records c.literals_at.new.taking.records c.in_ok-literals.literals.items
+    (rw c.in_ok-literals.ensures.read at c.literals_at.ensures.stand) (rw c.in_ok-literals.ensures.read at c.literals_at.ensures.taken) in
+    let leaves = read_leaves cache numbers c.literals_at.new.taking.records c.leaves_at.new.taking.records c.in_ok-leaves.leaves.items
+    (rw c.in_ok-leaves.ensures.read at c.leaves_at.ensures.stand) (rw c.in_ok-leaves.ensures.read at c.leaves_at.ensures.taken) in
+    subst (IsFirstUnread cache) f.0 (record {
+      numbers = numbers;
+      header = rw c.in_ok-header.ensures.read at c.read_header.ensures.header;
+      left = c.leaves_at.new.taking.records;
+      stand = (c.aliases_at.new.taking.records, aliases, (c.parents_at.new.taking.records, parents,
+      (c.literals_at.new.taking.records, literals, (c.leaves_at.new.taking.records, leaves, refl))));
+      none = λ new stands. f.1 (c.globs_at.ensures.need stands.0 stands.1 (omega (arith, stands.2)));
+    }))
 
-pub returns-in_err-sections-clause-need : goal.returns-in_err-sections-clause-need
-returns-in_err-sections-clause-need c = λ b limits spelled room values.
+pub returns-in_err-sections-clause-first : goal.returns-in_err-sections-clause-first
+returns-in_err-sections-clause-first c =
     let cache = c.args.source.now.counted.now in
-    let read = database_read cache c.in_ok-header.header b (rw c.in_ok-header.ensures.read at c.read_header.ensures.header) limits
-    spelled in
-    let parents = parents_left cache (slice_index c.in_ok-header.header 2) c.aliases_at.new.taking.records c.parents_at.new.taking.records
-    c.in_ok-parents.parents.items b.parents (rw c.in_ok-parents.ensures.read at c.parents_at.ensures.stand) read.parents
-    (rw c.in_ok-parents.ensures.read at c.parents_at.ensures.taken) in
-    let literals = literals_left cache (slice_index c.in_ok-header.header 3) c.parents_at.new.taking.records c.literals_at.new.taking.records
-    c.in_ok-literals.literals.items (literal_rules b.rules) (rw c.in_ok-literals.ensures.read at c.literals_at.ensures.stand) read.names.literals
-    (rw c.in_ok-literals.ensures.read at c.literals_at.ensures.taken) in
-    let leaves = leaves_left cache (slice_index c.in_ok-header.header 4) c.literals_at.new.taking.records c.leaves_at.new.taking.records
-    c.in_ok-leaves.leaves.items (tree_rules b.rules) (rw c.in_ok-leaves.ensures.read at c.leaves_at.ensures.stand) read.names.leaves
-    (rw c.in_ok-leaves.ensures.read at c.leaves_at.ensures.taken) in
-    let globs = globs_left cache (slice_index c.in_ok-header.header 5) c.leaves_at.new.taking.records c.globs_at.new.taking.records
-    c.in_ok-globs.globs.items (glob_rules b.rules) (rw c.in_ok-globs.ensures.read at c.globs_at.ensures.stand) read.names.globs
-    (rw c.in_ok-globs.ensures.read at c.globs_at.ensures.taken) in
+    let numbers = c.in_ok-header.header in
     let p = err_from_is_err_and c.from_residual-in_err-sections.result c.from_residual-in_err-sections.ensures.1 in
-    rw (p.1, p.2) (c.in_err-sections.ensures.need (c.sections_at.ensures.need b.sections read.magic (record {
-      records = omega (arith, room, read.names.size, c.read_header.ensures.records, c.aliases_at.ensures.taken, parents, literals, leaves, globs);
-      value_bytes = omega (
-        arith,
-        values,
-        c.read_header.ensures.value_bytes,
-        c.aliases_at.ensures.value_bytes,
-        c.parents_at.ensures.value_bytes,
-        c.literals_at.ensures.value_bytes,
-        c.leaves_at.ensures.value_bytes,
-        c.globs_at.ensures.value_bytes,
-      );
-    })))
+    rw (p.1, p.2) (λ part e.
+    let f = c.in_err-sections.ensures.named part e in
+    let aliases = read_aliases cache numbers (length cache) c.aliases_at.new.taking.records c.in_ok-aliases.aliases.items
+    (rw c.in_ok-aliases.ensures.read at c.aliases_at.ensures.stand)
+    (omega (arith, c.requires.room.0, c.read_header.ensures.records, c.aliases_at.ensures.taken)) in
+    let parents = read_parents cache numbers c.aliases_at.new.taking.records c.parents_at.new.taking.records c.in_ok-parents.parents.items
+    (rw c.in_ok-parents.ensures.read at c.parents_at.ensures.stand) (rw c.in_ok-parents.ensures.read at c.parents_at.ensures.taken) in
+    let literals = read_literals cache numbers c.parents_at.new.taking.records c.literals_at.new.taking.records c.in_ok-literals.literals.items
+    (rw c.in_ok-literals.ensures.read at c.literals_at.ensures.stand) (rw c.in_ok-literals.ensures.read at c.literals_at.ensures.taken) in
+    let leaves = read_leaves cache numbers c.literals_at.new.taking.records c.leaves_at.new.taking.records c.in_ok-leaves.leaves.items
+    (rw c.in_ok-leaves.ensures.read at c.leaves_at.ensures.stand) (rw c.in_ok-leaves.ensures.read at c.leaves_at.ensures.taken) in
+    let globs = read_globs cache numbers c.leaves_at.new.taking.records c.globs_at.new.taking.records c.in_ok-globs.globs.items
+    (rw c.in_ok-globs.ensures.read at c.globs_at.ensures.stand) (rw c.in_ok-globs.ensures.read at c.globs_at.ensures.taken) in
+    subst (IsFirstUnread cache) f.0 (record {
+      numbers = numbers;
+      header = rw c.in_ok-header.ensures.read at c.read_header.ensures.header;
+      left = c.globs_at.new.taking.records;
+      stand = (c.aliases_at.new.taking.records, aliases, (c.parents_at.new.taking.records, parents,
+      (c.literals_at.new.taking.records, literals, (c.leaves_at.new.taking.records, leaves, (c.globs_at.new.taking.records, globs, refl)))));
+      none = λ new stands. f.1 (c.sections_at.ensures.need stands.0 stands.1 (record {
+        records = omega (arith, stands.3);
+        value_bytes = omega (arith, stands.2, c.requires.room.1, c.read_header.ensures.value_bytes, c.aliases_at.ensures.value_bytes,
+        c.parents_at.ensures.value_bytes, c.literals_at.ensures.value_bytes, c.leaves_at.ensures.value_bytes, c.globs_at.ensures.value_bytes);
+      }));
+    }))
 
-pub returns-in_err-icons-clause-need : goal.returns-in_err-icons-clause-need
-returns-in_err-icons-clause-need c = λ b limits spelled room values.
+pub returns-in_err-icons-clause-first : goal.returns-in_err-icons-clause-first
+returns-in_err-icons-clause-first c =
     let cache = c.args.source.now.counted.now in
-    let read = database_read cache c.in_ok-header.header b (rw c.in_ok-header.ensures.read at c.read_header.ensures.header) limits
-    spelled in
-    let parents = parents_left cache (slice_index c.in_ok-header.header 2) c.aliases_at.new.taking.records c.parents_at.new.taking.records
-    c.in_ok-parents.parents.items b.parents (rw c.in_ok-parents.ensures.read at c.parents_at.ensures.stand) read.parents
-    (rw c.in_ok-parents.ensures.read at c.parents_at.ensures.taken) in
-    let literals = literals_left cache (slice_index c.in_ok-header.header 3) c.parents_at.new.taking.records c.literals_at.new.taking.records
-    c.in_ok-literals.literals.items (literal_rules b.rules) (rw c.in_ok-literals.ensures.read at c.literals_at.ensures.stand) read.names.literals
-    (rw c.in_ok-literals.ensures.read at c.literals_at.ensures.taken) in
-    let leaves = leaves_left cache (slice_index c.in_ok-header.header 4) c.literals_at.new.taking.records c.leaves_at.new.taking.records
-    c.in_ok-leaves.leaves.items (tree_rules b.rules) (rw c.in_ok-leaves.ensures.read at c.leaves_at.ensures.stand) read.names.leaves
-    (rw c.in_ok-leaves.ensures.read at c.leaves_at.ensures.taken) in
-    let globs = globs_left cache (slice_index c.in_ok-header.header 5) c.leaves_at.new.taking.records c.globs_at.new.taking.records
-    c.in_ok-globs.globs.items (glob_rules b.rules) (rw c.in_ok-globs.ensures.read at c.globs_at.ensures.stand) read.names.globs
-    (rw c.in_ok-globs.ensures.read at c.globs_at.ensures.taken) in
-    let same : plain_sections c.in_ok-sections.sections.items ≡ b.sections =
-    rw c.in_ok-sections.ensures.read at (c.sections_at.ensures.whole b.sections read.magic) in
-    let took : TakesSections c.globs_at.new.taking c.sections_at.new.taking b.sections =
-    subst (λ (ss : List PlainSection). TakesSections c.globs_at.new.taking c.sections_at.new.taking ss) same
-    (rw c.in_ok-sections.ensures.read at c.sections_at.ensures.taken) in
+    let numbers = c.in_ok-header.header in
     let p = err_from_is_err_and c.from_residual-in_err-icons.result c.from_residual-in_err-icons.ensures.1 in
-    rw (p.1, p.2) (c.in_err-icons.ensures.need (c.icons_at.ensures.need b.icons read.icons
-    (omega (arith, room, read.names.size, c.read_header.ensures.records, c.aliases_at.ensures.taken, parents, literals, leaves, globs, took.records))))
+    rw (p.1, p.2) (λ part e.
+    let f = c.in_err-icons.ensures.named part e in
+    let aliases = read_aliases cache numbers (length cache) c.aliases_at.new.taking.records c.in_ok-aliases.aliases.items
+    (rw c.in_ok-aliases.ensures.read at c.aliases_at.ensures.stand)
+    (omega (arith, c.requires.room.0, c.read_header.ensures.records, c.aliases_at.ensures.taken)) in
+    let parents = read_parents cache numbers c.aliases_at.new.taking.records c.parents_at.new.taking.records c.in_ok-parents.parents.items
+    (rw c.in_ok-parents.ensures.read at c.parents_at.ensures.stand) (rw c.in_ok-parents.ensures.read at c.parents_at.ensures.taken) in
+    let literals = read_literals cache numbers c.parents_at.new.taking.records c.literals_at.new.taking.records c.in_ok-literals.literals.items
+    (rw c.in_ok-literals.ensures.read at c.literals_at.ensures.stand) (rw c.in_ok-literals.ensures.read at c.literals_at.ensures.taken) in
+    let leaves = read_leaves cache numbers c.literals_at.new.taking.records c.leaves_at.new.taking.records c.in_ok-leaves.leaves.items
+    (rw c.in_ok-leaves.ensures.read at c.leaves_at.ensures.stand) (rw c.in_ok-leaves.ensures.read at c.leaves_at.ensures.taken) in
+    let globs = read_globs cache numbers c.leaves_at.new.taking.records c.globs_at.new.taking.records c.in_ok-globs.globs.items
+    (rw c.in_ok-globs.ensures.read at c.globs_at.ensures.stand) (rw c.in_ok-globs.ensures.read at c.globs_at.ensures.taken) in
+    let took : TakesSections c.globs_at.new.taking c.sections_at.new.taking (plain_sections c.in_ok-sections.sections.items) =
+    rw c.in_ok-sections.ensures.read at c.sections_at.ensures.taken in
+    let sections = read_sections cache numbers c.globs_at.new.taking.records c.sections_at.new.taking.records c.in_ok-sections.sections.items
+    (rw c.in_ok-sections.ensures.read at c.sections_at.ensures.stand)
+    (omega (arith, took.value_bytes, c.requires.room.1, c.read_header.ensures.value_bytes, c.aliases_at.ensures.value_bytes,
+    c.parents_at.ensures.value_bytes, c.literals_at.ensures.value_bytes, c.leaves_at.ensures.value_bytes, c.globs_at.ensures.value_bytes))
+    took.records in
+    subst (IsFirstUnread cache) f.0 (record {
+      numbers = numbers;
+      header = rw c.in_ok-header.ensures.read at c.read_header.ensures.header;
+      left = c.sections_at.new.taking.records;
+      stand = (c.aliases_at.new.taking.records, aliases, (c.parents_at.new.taking.records, parents,
+      (c.literals_at.new.taking.records, literals, (c.leaves_at.new.taking.records, leaves, (c.globs_at.new.taking.records, globs,
+      (c.sections_at.new.taking.records, sections, refl))))));
+      none = λ new stands. f.1 (c.icons_at.ensures.need stands.0 stands.1 (omega (arith, stands.2)));
+    }))
 
-pub returns-in_err-generic_icons-clause-need : goal.returns-in_err-generic_icons-clause-need
-returns-in_err-generic_icons-clause-need c = λ b limits spelled room values.
+pub returns-in_err-generic_icons-clause-first : goal.returns-in_err-generic_icons-clause-first
+returns-in_err-generic_icons-clause-first c =
     let cache = c.args.source.now.counted.now in
-    let read = database_read cache c.in_ok-header.header b (rw c.in_ok-header.ensures.read at c.read_header.ensures.header) limits
-    spelled in
-    let parents = parents_left cache (slice_index c.in_ok-header.header 2) c.aliases_at.new.taking.records c.parents_at.new.taking.records
-    c.in_ok-parents.parents.items b.parents (rw c.in_ok-parents.ensures.read at c.parents_at.ensures.stand) read.parents
-    (rw c.in_ok-parents.ensures.read at c.parents_at.ensures.taken) in
-    let literals = literals_left cache (slice_index c.in_ok-header.header 3) c.parents_at.new.taking.records c.literals_at.new.taking.records
-    c.in_ok-literals.literals.items (literal_rules b.rules) (rw c.in_ok-literals.ensures.read at c.literals_at.ensures.stand) read.names.literals
-    (rw c.in_ok-literals.ensures.read at c.literals_at.ensures.taken) in
-    let leaves = leaves_left cache (slice_index c.in_ok-header.header 4) c.literals_at.new.taking.records c.leaves_at.new.taking.records
-    c.in_ok-leaves.leaves.items (tree_rules b.rules) (rw c.in_ok-leaves.ensures.read at c.leaves_at.ensures.stand) read.names.leaves
-    (rw c.in_ok-leaves.ensures.read at c.leaves_at.ensures.taken) in
-    let globs = globs_left cache (slice_index c.in_ok-header.header 5) c.leaves_at.new.taking.records c.globs_at.new.taking.records
-    c.in_ok-globs.globs.items (glob_rules b.rules) (rw c.in_ok-globs.ensures.read at c.globs_at.ensures.stand) read.names.globs
-    (rw c.in_ok-globs.ensures.read at c.globs_at.ensures.taken) in
-    let same : plain_sections c.in_ok-sections.sections.items ≡ b.sections =
-    rw c.in_ok-sections.ensures.read at (c.sections_at.ensures.whole b.sections read.magic) in
-    let took : TakesSections c.globs_at.new.taking c.sections_at.new.taking b.sections =
-    subst (λ (ss : List PlainSection). TakesSections c.globs_at.new.taking c.sections_at.new.taking ss) same
-    (rw c.in_ok-sections.ensures.read at c.sections_at.ensures.taken) in
-    let icons = icons_left cache (slice_index c.in_ok-header.header 8) c.sections_at.new.taking.records c.icons_at.new.taking.records
-    c.in_ok-icons.icons.items b.icons (rw c.in_ok-icons.ensures.read at c.icons_at.ensures.stand) read.icons
-    (rw c.in_ok-icons.ensures.read at c.icons_at.ensures.taken) in
+    let numbers = c.in_ok-header.header in
     let p = err_from_is_err_and c.from_residual-in_err-generic_icons.result c.from_residual-in_err-generic_icons.ensures.1 in
-    rw (p.1, p.2) (c.in_err-generic_icons.ensures.need (c.icons_at-2.ensures.need b.generic_icons read.generic_icons
-    (omega (arith, room, read.names.size, c.read_header.ensures.records, c.aliases_at.ensures.taken, parents, literals, leaves, globs, took.records, icons))))
+    rw (p.1, p.2) (λ part e.
+    let f = c.in_err-generic_icons.ensures.named part e in
+    let aliases = read_aliases cache numbers (length cache) c.aliases_at.new.taking.records c.in_ok-aliases.aliases.items
+    (rw c.in_ok-aliases.ensures.read at c.aliases_at.ensures.stand)
+    (omega (arith, c.requires.room.0, c.read_header.ensures.records, c.aliases_at.ensures.taken)) in
+    let parents = read_parents cache numbers c.aliases_at.new.taking.records c.parents_at.new.taking.records c.in_ok-parents.parents.items
+    (rw c.in_ok-parents.ensures.read at c.parents_at.ensures.stand) (rw c.in_ok-parents.ensures.read at c.parents_at.ensures.taken) in
+    let literals = read_literals cache numbers c.parents_at.new.taking.records c.literals_at.new.taking.records c.in_ok-literals.literals.items
+    (rw c.in_ok-literals.ensures.read at c.literals_at.ensures.stand) (rw c.in_ok-literals.ensures.read at c.literals_at.ensures.taken) in
+    let leaves = read_leaves cache numbers c.literals_at.new.taking.records c.leaves_at.new.taking.records c.in_ok-leaves.leaves.items
+    (rw c.in_ok-leaves.ensures.read at c.leaves_at.ensures.stand) (rw c.in_ok-leaves.ensures.read at c.leaves_at.ensures.taken) in
+    let globs = read_globs cache numbers c.leaves_at.new.taking.records c.globs_at.new.taking.records c.in_ok-globs.globs.items
+    (rw c.in_ok-globs.ensures.read at c.globs_at.ensures.stand) (rw c.in_ok-globs.ensures.read at c.globs_at.ensures.taken) in
+    let took : TakesSections c.globs_at.new.taking c.sections_at.new.taking (plain_sections c.in_ok-sections.sections.items) =
+    rw c.in_ok-sections.ensures.read at c.sections_at.ensures.taken in
+    let sections = read_sections cache numbers c.globs_at.new.taking.records c.sections_at.new.taking.records c.in_ok-sections.sections.items
+    (rw c.in_ok-sections.ensures.read at c.sections_at.ensures.stand)
+    (omega (arith, took.value_bytes, c.requires.room.1, c.read_header.ensures.value_bytes, c.aliases_at.ensures.value_bytes,
+    c.parents_at.ensures.value_bytes, c.literals_at.ensures.value_bytes, c.leaves_at.ensures.value_bytes, c.globs_at.ensures.value_bytes))
+    took.records in
+    let icons = read_icons cache numbers c.sections_at.new.taking.records c.icons_at.new.taking.records c.in_ok-icons.icons.items
+    (rw c.in_ok-icons.ensures.read at c.icons_at.ensures.stand) (rw c.in_ok-icons.ensures.read at c.icons_at.ensures.taken) in
+    subst (IsFirstUnread cache) f.0 (record {
+      numbers = numbers;
+      header = rw c.in_ok-header.ensures.read at c.read_header.ensures.header;
+      left = c.icons_at.new.taking.records;
+      stand = (c.aliases_at.new.taking.records, aliases, (c.parents_at.new.taking.records, parents,
+      (c.literals_at.new.taking.records, literals, (c.leaves_at.new.taking.records, leaves, (c.globs_at.new.taking.records, globs,
+      (c.sections_at.new.taking.records, sections, (c.icons_at.new.taking.records, icons, refl)))))));
+      none = λ new stands. f.1 (c.icons_at-2.ensures.need stands.0 stands.1 (omega (arith, stands.2)));
+    }))

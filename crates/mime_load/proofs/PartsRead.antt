@@ -1,0 +1,55 @@
+-- What was read of a part stands, and took its room.
+use Rattle.std.proofs.Common.{◌≡◌, ◌≤◌, ℕ, ◌+◌, ◌*◌, List, length, slice_index, arith}
+use Rattle.std.proofs.lemmas.List.{length-map}
+use Rattle.mime_base.specs.Cache.Bytes.{Stands}
+use Rattle.mime_base.specs.Database.Lent.{plain_rule}
+use Rattle.mime_base.specs.Format.Packed.{matchlet_count, value_length}
+use Rattle.mime_base.specs.Format.Pairs.{PairsAt}
+use Rattle.mime_base.specs.Format.Parents.{ParentsAt}
+use Rattle.mime_base.specs.Format.SuffixTree.{tree_size}
+use Rattle.mime_base.specs.declared.database.lent.LentRule.{LentRule}
+use Rattle.mime_load.specs.FirstUnread.{PartStands}
+use Rattle.mime_load.specs.Lent.{plain_leaves, plain_pair, plain_pairs, plain_rules, plain_sections}
+use Rattle.mime_load.specs.MagicStanding.{MagicStands}
+use Rattle.mime_load.specs.Parts.{IsGlobList, IsLiteralList, IsTreeList}
+use Rattle.mime_load.specs.declared.leaf.LeafRule.{LeafRule}
+use Rattle.mime_load.specs.declared.pair.LentPair.{LentPair}
+use Rattle.mime_load.specs.declared.part.Part.TheVariants.{Aliases, Subclasses, Literals, Suffixes, Globs, Magic, Icons}
+use Rattle.mime_load.specs.declared.section.LentSection.{LentSection}
+
+module _ (c numbers : List ℕ) (old new : ℕ) where
+  -- aliases, which take none
+  pub read_aliases : (items : List LentPair) → PairsAt (Stands c) (slice_index numbers 1) (plain_pairs items) → new ≡ old
+      → PartStands c numbers Aliases old new
+  read_aliases items stand taken = (plain_pairs items, stand, taken)
+
+  -- parents
+  pub read_parents : (items : List LentPair) → ParentsAt (Stands c) (slice_index numbers 2) (plain_pairs items)
+      → new + 4 * length items ≡ old → PartStands c numbers Subclasses old new
+  read_parents items stand taken = (plain_pairs items, stand, omega (arith, taken, length-map items plain_pair))
+
+  -- literals
+  pub read_literals : (items : List LentRule) → IsLiteralList c (slice_index numbers 3) (plain_rules items)
+      → new + 12 * length items ≡ old → PartStands c numbers Literals old new
+  read_literals items stand taken = (plain_rules items, stand, omega (arith, taken, length-map items plain_rule))
+
+  -- a tree
+  pub read_leaves : (items : List LeafRule) → IsTreeList c (slice_index numbers 4) (plain_leaves items)
+      → new + 12 * tree_size (plain_leaves items) ≡ old → PartStands c numbers Suffixes old new
+  read_leaves items stand taken = (plain_leaves items, stand, taken)
+
+  -- globs
+  pub read_globs : (items : List LentRule) → IsGlobList c (slice_index numbers 5) (plain_rules items)
+      → new + 12 * length items ≡ old → PartStands c numbers Globs old new
+  read_globs items stand taken = (plain_rules items, stand, omega (arith, taken, length-map items plain_rule))
+
+  -- sections
+  pub read_sections : (items : List LentSection) → MagicStands c (slice_index numbers 6) (plain_sections items)
+      → value_length (plain_sections items) ≤ length c
+      → new + (16 * length (plain_sections items) + 32 * matchlet_count (plain_sections items)) ≡ old → PartStands c numbers Magic old new
+  read_sections items stand values taken = (plain_sections items, stand, values, taken)
+
+  -- icons
+  pub read_icons : (items : List LentPair) → PairsAt (Stands c) (slice_index numbers 8) (plain_pairs items)
+      → new + 8 * length items ≡ old → PartStands c numbers Icons old new
+  read_icons items stand taken = (plain_pairs items, stand, omega (arith, taken, length-map items plain_pair))
