@@ -4,6 +4,7 @@ use Rattle.mime_base.specs.Database.{PlainDatabase}
 use Rattle.mime_base.specs.Database.Limits.{IsWithinLimits}
 use Rattle.mime_base.specs.Format.Packed.{Packed, matchlet_count}
 use Rattle.mime_base.specs.Format.Spells.{Spells, cache_limit}
+use Rattle.mime_load.specs.FirstUnread.{IsFirstUnread}
 use Rattle.mime_load.specs.Lent.{plain_lists}
 use Rattle.mime_load.specs.declared.lists.Lists.{Lists}
 use Rattle.mime_load.specs.declared.part.LoadFault.{LoadFault}
@@ -66,6 +67,19 @@ pub record IsReadBack (cache : List ℕ) (b : PlainDatabase) : Type 0 where
   pub packed : Packed cache b
   pub limits : IsWithinLimits b
 
+-- A part of a cache isn't read back, and the cache spells no database.
+pub record IsNoDatabase (cache : List ℕ) (part : Part) : Type 0 where
+  -- The parts before it stand, and it stands nowhere in the room that they leave.
+  pub first : IsFirstUnread cache part
+  -- So no database is one that the cache spells, that has room and that the text files can spell.
+  pub none : (b : PlainDatabase) → IsReadBack cache b → ⊥
+
+-- what reading a cache back comes to: the lists that it spells, or the first part that isn't read back, or a want of memory
+abbrev pub ReadsBack : List ℕ → Result Lists LoadFault → Type 0
+ReadsBack cache (Ok lists) = IsReadBack cache (plain_lists lists)
+ReadsBack cache (Err (fault.NoDatabase part)) = IsNoDatabase cache part
+ReadsBack cache (Err fault.OutOfMemory) = ⊤
+
 -- a database with no more rules and lines than a cache can have bytes
 pub record IsFew (b : PlainDatabase) : Type 0 where
   pub rules : length b.rules ≤ cache_limit
@@ -81,12 +95,12 @@ IsTold path (Ok lists) run = run ≡ printed (count_lines (counts_of (plain_list
 IsTold path (Err (fault.NoDatabase part)) run = run ≡ unanswered (refusal path (no_database part))
 IsTold path (Err fault.OutOfMemory) run = ⊥
 
--- the run over a cache that opens: it is read back, and the lines are those of the database that it spells; or, with status 1,
--- some part of it is not read back
+-- the run over a cache that opens: it is read back, and the lines are those of the database that it spells; or, with status 1, it
+-- spells none, and the first part that is not read back is named
 abbrev pub IsChecked : List ℕ → List ℕ → Run → Type 0
 IsChecked path cache run =
     ((b : PlainDatabase) × IsReadBack cache b × (run ≡ printed (count_lines (counts_of b))))
-    ⊎ ((part : Part) × (run ≡ unanswered (refusal path (no_database part))))
+    ⊎ ((part : Part) × IsNoDatabase cache part × (run ≡ unanswered (refusal path (no_database part))))
 
 -- the run of `check` over a cache that lies at this path
 abbrev pub IsCheckOver : List ℕ → List ℕ → List (List ℕ) → Run → Type 0

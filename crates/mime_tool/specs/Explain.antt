@@ -18,7 +18,7 @@ use Rattle.mime_request.specs.Request.{PlainSource}
 use Rattle.mime_request.specs.declared.request.Options.{Options}
 use Rattle.mime_request.specs.declared.request.Output.{Output}
 use Rattle.mime_tool.specs.Cache.{IsAnsweredOr}
-use Rattle.mime_tool.specs.Check.{IsReadBack, RefusesToOpen, no_database}
+use Rattle.mime_tool.specs.Check.{IsNoDatabase, IsReadBack, RefusesToOpen, no_database}
 use Rattle.mime_tool.specs.Environment.{PlainEnvironment}
 use Rattle.mime_tool.specs.Files.{Stored}
 use Rattle.mime_tool.specs.Line.{IsTypeLine, PlainLookup, asked_order, name_for}
@@ -144,12 +144,12 @@ abbrev pub IsExplainedBack : (List ℕ → Stored) → Options → PlainDatabase
 IsExplainedBack stored options b =
     IsEach (IsTypeLine (explained_by b options.name_only options.output (asked_order options)) stored)
 
--- the run over a cache that opens: it is read back, and the lines are those over the database that it spells; or, with status 1,
--- some part of it is not read back
+-- the run over a cache that opens: it is read back, and the lines are those over the database that it spells; or, with status 1, it
+-- spells none, and the first part that is not read back is named
 abbrev pub IsExplainedOrNot : (List ℕ → Stored) → Options → List ℕ → List ℕ → List (List ℕ) → Run → Type 0
 IsExplainedOrNot stored options path cache files run =
     ((b : PlainDatabase) × IsReadBack cache b × IsExplainedBack stored options b files run)
-    ⊎ ((part : Part) × (run ≡ unanswered (refusal path (no_database part))))
+    ⊎ ((part : Part) × IsNoDatabase cache part × (run ≡ unanswered (refusal path (no_database part))))
 
 -- the run of `explain` over a cache that lies at this path
 abbrev pub IsExplainOver : (List ℕ → Stored) → Options → List ℕ → List ℕ → List (List ℕ) → Run → Type 0

@@ -6,7 +6,7 @@ ghost use Rattle.std.specs.Prelude.{◌≡◌, IfOk, [], string_bytes, ⊤};
 ghost use Rattle.mime_load.specs.Lent.{plain_lists};
 ghost use Rattle.mime_request.specs.Request.{plain_source};
 ghost use Rattle.mime_tool.specs.Cache.{GivesOrRefuses};
-ghost use Rattle.mime_tool.specs.Check.{IsCheck, IsCheckOver, IsFew, IsReadBack, IsTold, RefusesToOpen, count_lines, first_lines, no_database};
+ghost use Rattle.mime_tool.specs.Check.{IsCheck, IsCheckOver, IsFew, IsTold, ReadsBack, RefusesToOpen, count_lines, first_lines, no_database};
 ghost use Rattle.mime_tool.specs.Desk.{Does, Ends, Works};
 ghost use Rattle.mime_tool.specs.Environment.{known_environment};
 ghost use Rattle.mime_tool.specs.Run.{printed, refusal, unanswered};
@@ -65,8 +65,8 @@ pub(crate) fn open(alloc: Global, path: &str, cache: &[u8]) -> Result<(), Stop>
 
 /// The lists that the cache spells.
 pub(crate) fn lists_of<'a>(alloc: Global, cache: &'a [u8]) -> Result<Lists<'a>, LoadFault>
-    // They are the lists of a database that the cache spells.
-    ensures { IfOk result (λ lists. IsReadBack cache.entry.now (plain_lists lists)) }
+    // They are the lists of a database that the cache spells; or it spells none, and the first part that isn't read back is named.
+    ensures { ReadsBack cache.entry.now result }
 {
     let mut meter = Meter::new();
     read_back(alloc, &Counted::new(cache), &mut meter)

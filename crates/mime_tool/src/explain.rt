@@ -6,7 +6,7 @@ ghost use Rattle.std.specs.Prelude.{◌≡◌, [], IfOk, map};
 ghost use Rattle.clap.specs.Walk.{texts};
 ghost use Rattle.mime_load.specs.Lent.{plain_lists};
 ghost use Rattle.mime_request.specs.Request.{plain_source};
-ghost use Rattle.mime_tool.specs.Check.{IsReadBack};
+ghost use Rattle.mime_tool.specs.Check.{IsReadBack, ReadsBack};
 ghost use Rattle.mime_tool.specs.Desk.{Does, Ends, Works};
 ghost use Rattle.mime_tool.specs.Environment.{known_environment};
 ghost use Rattle.mime_tool.specs.Explain.{IsExplain, IsExplainOver, IsExplainedBack, IsExplainedOrNot, explained_by};
@@ -116,7 +116,7 @@ fn explain_read<'l, 'b: 'l, D: Desk>(
     files: &[&str],
     raws: &[RawWord<'_>],
 ) -> Result<u8, Stop>
-    requires back { IfOk read.now (λ lists. IsReadBack bytes.now (plain_lists lists)) }
+    requires back { ReadsBack bytes.now read.now }
     ensures { Works (Ends (IsExplainedOrNot (D.state desk.old).stored options path.now bytes.now)
         (names_of raws.now (texts files.now))) (D.state desk.old) (D.state desk.new) result }
 {

@@ -32,6 +32,6 @@ returns-in-Err-NoDatabase g c =
       same_files = told.same_files;
       same_setting = told.same_setting;
       sinks = ends_weaker (λ _ run. run ≡ unanswered (refusal path (no_database part)))
-          (IsExplainedOrNot stored c.args.options path c.args.bytes.now) names _ _ _ (λ fs run is. inr (part, is))
+          (IsExplainedOrNot stored c.args.options path c.args.bytes.now) names _ _ _ (λ fs run is. inr (part, rw c.in-Err-NoDatabase.is at c.requires.back, is))
           (ends_files (λ run. run ≡ unanswered (refusal path (no_database part))) names _ _ _ told.sinks);
     }
