@@ -50,6 +50,7 @@ pub fn first_at<'a>(
     base: &[u8],
     meter: &mut Meter,
 ) -> Result<&'a [u8], OutOfMemory>
+    // The places are those of all pairs.
     requires placed { ArePlaced both.now }
     // No record of a cache is visited.
     ensures nodes { meter.new.nodes ≡ meter.old.nodes }

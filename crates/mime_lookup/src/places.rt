@@ -64,6 +64,7 @@ pub fn places_of<'a>(alloc: Global, pairs: &'a [Pair]) -> Result<Places<'a>, Out
 
 /// A type after one alias step.
 pub fn unalias_at<'a>(aliases: &Places<'a>, kind: &'a [u8]) -> &'a [u8]
+    // The places are those of all pairs.
     requires indexed { IsPlaced aliases.now }
     // It is the type after one alias step.
     ensures { result.now ≡ resolved (plain_pairs aliases.now.pairs.now) kind.entry.now }
@@ -107,6 +108,7 @@ pub fn push_parents<'a>(
     kind: &[u8],
     queue: &mut Queue<'a>,
 ) -> Result<(), OutOfMemory>
+    // The places are those of all pairs.
     requires placed { ArePlaced both.now }
     // The parents that the pairs name come to the end of the queue, each after one alias step.
     ensures queue { OnOk result (queue.new ≡ queue.old ++ above.above (placed both.now) kind.now) }

@@ -43,6 +43,7 @@ pub fn indexed_rules<'p, 'a>(
     alloc: Global,
     named: &[NamedRule<'p, 'a>],
 ) -> Result<IndexedRules<'a>, OutOfMemory>
+    // Each rule has a weight and a pattern that a rank can hold.
     requires limits { All FitsRank (map plain_named named.now) }
     // Each has its own pattern, class and rank.
     ensures own { IfOk result (λ all. All (IsIndexedRule all.patterns.items) all.rules.items) }
@@ -119,6 +120,7 @@ pub fn pattern_of<'b>(patterns: &'b [u8], rule: &IndexedRule<'_>) -> &'b [u8]
 /// Whether a rule matches a name.
 #[inline]
 pub fn is_match(patterns: &[u8], rule: &IndexedRule<'_>, name: &[u8], meter: &mut Meter) -> bool
+    // The rule's pattern is one of these.
     requires own { IsIndexedRule patterns.now rule.now }
     // It is true exactly where the pattern matches.
     ensures exact { result ≡ is_match patterns.now name.now rule.now }

@@ -37,6 +37,7 @@ pub fn by_content<'a>(
     front: Option<&[u8]>,
     spending: &mut Spending,
 ) -> Result<&'a [u8], CacheFault>
+    // The types are texts of the cache.
     requires texts { AreTexts indexed.now candidates }
     // Where enough of a database stands that leaves these candidates, the order gives this type to the name and the front.
     ensures chosen { (b : PlainDatabase)

@@ -191,11 +191,17 @@ pub(super) fn front_limit(
     indexed: &IndexedCache<'_>,
     spending: &mut Spending,
 ) -> Result<u64, CacheFault>
+    // On any bytes it is what the magic list states, and at least 128.
     ensures stated { IfOk result (λ size. size ≡ max 128 (stated_extent indexed.now)) }
+    // Where magic stands, it is what a lookup of the database may read.
     ensures spelled { (b : PlainDatabase) → SpellsMagic indexed.now b → IfOk result (λ size. size ≡ read_limit b) }
+    // Then it is given.
     ensures need { (b : PlainDatabase) → SpellsMagic indexed.now b → IfErr result (λ _. ⊥) }
+    // For an answer the head of the list lies in the cache.
     ensures inside { OnOk result (LiesHead indexed.now (field indexed.now 0 6) 12) }
+    // The only fault is that it doesn't.
     ensures fault { IfErr result (IsMagicHeadFault indexed.now) }
+    // One record is visited.
     ensures cost { LooksAt 1 spending.old spending.new }
 {
     let extent = indexed.extent(&mut spending.meter, &mut spending.budget)?;

@@ -35,6 +35,7 @@ pub fn types_of<'a>(
     which: Which,
     spending: &mut Spending,
 ) -> Result<NameTypes<'a>, CacheFault>
+    // A lookup refuses longer names.
     requires short { length name.now ≤ 4096 }
     // Where the glob rules stand, these are the types of the name, and no more is taken than the rules have.
     ensures gives { (b : PlainDatabase) → SpellsGlobs cache.now b →
@@ -97,10 +98,15 @@ fn resolved_hits<'a>(
 
 /// How many of the first types are asked where no magic holds: those that are kept, or one where these are one type.
 pub fn count_asked(types: &[&[u8]], kept: usize, meter: &mut Meter) -> usize
+    // The kept types come first.
     requires front { kept ≤ length types.now }
+    // They are not all one type.
     requires conflict { are_one_type (kinds_of types.now) ≡ false }
+    // It is how many of the kept types are asked.
     ensures count { result ≡ asked_count (take kept (kinds_of types.now)) }
+    // There are as many types.
     ensures within { result ≤ length types.now }
+    // It compares at most 256 bytes of each type, and visits no record.
     ensures compares { ComparesTypes types.now meter.old meter.new }
 {
     if kept == types.len() {
@@ -114,7 +120,9 @@ pub fn count_asked(types: &[&[u8]], kept: usize, meter: &mut Meter) -> usize
 
 /// Whether there are types, and all are one type.
 pub fn are_one_type(kinds: &[&[u8]], meter: &mut Meter) -> bool
+    // It is so by the definition.
     ensures answer { result ≡ are_one_type (kinds_of kinds.now) }
+    // It compares at most 256 bytes of each type, and visits no record.
     ensures compares { ComparesTypes kinds.now meter.old meter.new }
 {
     let Some((first, more)) = kinds.split_first() else {

@@ -48,6 +48,7 @@ pub fn unalias<'a>(
     finding: Finding<'a>,
     spending: &mut Spending,
 ) -> Result<&'a [u8], CacheFault>
+    // It was found in the cache.
     requires finding { IsFinding indexed.now finding }
     // Where the aliases stand, there is an answer: the type after one alias step.
     ensures answer { (b : PlainDatabase) (offsets : Offsets) → HeaderAt (Stands indexed.now) offsets →

@@ -17,6 +17,7 @@ pub fn lent_rules<'a>(
     rules: &'a [GlobRule],
     aliases: &Places<'a>,
 ) -> Result<Vec<NamedRule<'a, 'a>>, OutOfMemory>
+    // The places are those of all pairs.
     requires placed { IsPlaced aliases.now }
     // They are these rules, but each type went one alias step.
     ensures { IfOk result (λ lent. map plain_named lent.items ≡ map (unaliased_rule (plain_pairs aliases.now.pairs.now)) rules.entry.now) }

@@ -29,6 +29,7 @@ pub fn types_of<'a>(
     which: Which,
     spending: &mut Spending,
 ) -> Result<NameTypes<'a>, CacheFault>
+    // A lookup refuses longer names.
     requires short { length name.now ≤ 4096 }
     // The rules are those of the cache.
     requires same { names.now ≡ cache.now }
