@@ -1,4 +1,5 @@
 -- Lemmas on lines and sections of magic.
+pub mod ComparedBytes
 pub mod LineFaults
 pub mod LineParts
 pub mod LineRows

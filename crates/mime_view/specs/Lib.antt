@@ -8,6 +8,7 @@ pub mod Lists
 pub mod Texts
 pub mod Pairs
 pub mod Parents
+pub mod Compared
 pub mod Magic
 pub mod MagicRows
 pub mod Globs

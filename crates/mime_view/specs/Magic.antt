@@ -1,6 +1,6 @@
 -- The magic list as it is read, what sniffing answers of it, what it takes, and why it gives no answer.
 use Rattle.std.specs.Prelude.{◌≡◌, ◌⊎◌, ℕ, zero, suc, ◌+◌, ◌-◌, ◌*◌, ◌<◌, ◌≤◌, Bool, true, false, if◌then◌else◌, List, [], ◌∷◌}
-use Rattle.std.specs.Prelude.{length, Result, Ok, IfErr, IfOk, IsOk, Option, None, Some, IfSome}
+use Rattle.std.specs.Prelude.{length, Result, Ok, IfErr, IfOk, IsOk, OnOk, Option, None, Some, IfSome}
 use Rattle.std.specs.Borrow.{Bor}
 use Rattle.mime_base.specs.Cache.Bytes.{both_lie, field, lies, optional_mask, value_at}
 use Rattle.mime_base.specs.Cache.Texts.{text_at}
@@ -10,6 +10,7 @@ use Rattle.mime_base.specs.Magic.{Forest, PlainLine, PlainSection, are_allowed, 
 use Rattle.mime_base.specs.Magic.Holds.{bytes_of_mask, equals_from, first_magic, some_holds}
 use Rattle.mime_base.specs.Magic.Ranges.{stated_line}
 use Rattle.mime_base.specs.declared.magic.host.Host.{Host}
+use Rattle.mime_view.specs.Compared.{counted_on, line_compared, lines_compared, sections_compared}
 use Rattle.mime_view.specs.Lists.{IsHeadFault, IsNoText, LiesHead}
 use Rattle.mime_view.specs.Spending.{Price, Spends}
 use Rattle.mime_view.specs.declared.budget.Budget.{Budget}
@@ -72,8 +73,8 @@ pub record Takes (records value_bytes : ℕ) (old new : Budget) : Type 0 where
   pub most_records : old.records ≤ new.records + records
   pub most_value_bytes : old.value_bytes ≤ new.value_bytes + value_bytes
 
--- What is answered of lines or sections that stand, and have that many records and that many value bytes.
-pub record Answers {X : Type 0} (Is : X → Type 0) (allowed : Type 0) (records value_bytes : ℕ) (old new : Spending)
+-- What is answered of lines or sections that stand, have that many records and that many value bytes, and compare that many bytes.
+pub record Answers {X : Type 0} (Is : X → Type 0) (allowed : Type 0) (records value_bytes compared : ℕ) (old new : Spending)
     (result : Result X CacheFault) : Type 0 where
   -- An answer is the right one.
   pub answer : IfOk result Is
@@ -81,18 +82,20 @@ pub record Answers {X : Type 0} (Is : X → Type 0) (allowed : Type 0) (records 
   pub need : allowed → records ≤ old.budget.records → value_bytes ≤ old.budget.value_bytes → IsOk result
   -- No more is taken, with an answer or without.
   pub takes : Takes records value_bytes old.budget new.budget
+  -- With an answer just the bytes that are compared are counted, until the sum stops.
+  pub counted : OnOk result (new.meter.bytes ≡ counted_on old.meter.bytes compared)
 
 -- of a line by itself: whether it equals its value at an offset of its range
 abbrev pub AnswersLine : MagicQuery → PlainLine → Spending → Spending → Result Seen CacheFault → Type 0
 AnswersLine query own old new result =
     Answers (λ seen. seen.equals ≡ equals_from own query.host query.content own.start own.range) (Unit {0})
-    1 (length own.value) old new result
+    1 (length own.value) (line_compared own query.content query.host) old new result
 
 -- of lines with their children, of which that many levels are allowed: whether one holds
 abbrev pub AnswersLines : MagicQuery → ℕ → Forest → Spending → Spending → Result Bool CacheFault → Type 0
 AnswersLines query levels lines old new result =
     Answers (λ holds. holds ≡ some_holds lines query.content query.host) (are_allowed levels lines ≡ true)
-    (line_count lines) (forest_value_length lines) old new result
+    (line_count lines) (forest_value_length lines) (lines_compared lines query.content query.host) old new result
 
 -- a type and a priority that were found, as plain values
 abbrev pub plain_found : Option (Bor (List ℕ) × ℕ) → Option (List ℕ × ℕ)
@@ -104,7 +107,7 @@ abbrev pub AnswersMagic : List ℕ → Host → Type 0 → List PlainSection →
     → Result (Option (Bor (List ℕ) × ℕ)) CacheFault → Type 0
 AnswersMagic content host allowed sections old new result =
     Answers (λ found. plain_found found ≡ first_magic sections content host) allowed
-    (length sections + matchlet_count sections) (value_length sections) old new result
+    (length sections + matchlet_count sections) (value_length sections) (sections_compared sections content host) old new result
 
 -- the same of a query, where the sections are allowed
 abbrev pub AnswersSections : MagicQuery → List PlainSection → Spending → Spending

@@ -366,8 +366,8 @@ impl<'a> Cache<'a> {
         meter: &mut Meter,
         budget: &mut Budget,
     ) -> Result<Option<(&'a [u8], u32)>, CacheFault>
-        // Where magic stands, it gives the type and the priority of the first section that holds, if one does, and takes no more
-        // than a record for each section and line, and the bytes of their values.
+        // Where magic stands, it gives the type and the priority of the first section that holds, if one does, takes no more than
+        // a record for each section and line, and the bytes of their values, and counts just the bytes that it compared.
         ensures answers { (offsets : Offsets) (sections : List PlainSection) → HeaderAt (Stands self.now) offsets →
             are_allowed_sections sections ≡ true → MagicAt (Stands self.now) offsets.magic sections →
             AnswersMagic content.now host ⊤ sections (spending_of meter.old budget.old) (spending_of meter.new budget.new) result }

@@ -1,18 +1,20 @@
 -- What a line answers with its children, from what it answers by itself.
 use Rattle.std.proofs.Common.{◌≡◌, ℕ, suc, ◌<◌, Bool, true, false, true≢false}
-use Rattle.std.proofs.Common.{List, refl, sym, subst, ◌∙◌, arith}
+use Rattle.std.proofs.Common.{List, refl, sym, ap, subst, ◌∙◌, arith}
 use Rattle.std.specs.Prelude.{Result, Ok, Err, IfOk}
 use Rattle.std.proofs.Math.Bool.{or-false}
 use Rattle.mime_base.specs.Format.Magic.{width}
 use Rattle.mime_base.specs.Magic.{Forest, PlainLine, are_allowed, bare, is_allowed, line}
 use Rattle.mime_base.specs.Magic.Holds.{equals_from, some_holds}
 use Rattle.mime_base.specs.declared.magic.host.Host.{Host}
+use Rattle.mime_view.specs.Compared.{counted_on}
 use Rattle.mime_view.specs.Magic.{AnswersLine, AnswersLines}
 use Rattle.mime_view.specs.declared.fault.CacheFault.{CacheFault}
 use Rattle.mime_view.specs.declared.magic.MagicQuery.{MagicQuery}
 use Rattle.mime_view.specs.declared.magic.Seen.{Seen}
 use Rattle.mime_view.specs.declared.spending.Spending.{Spending}
 use Rattle.mime_view.proofs.HitsLemmas.AllOf.{second}
+use Rattle.mime_view.proofs.MagicLemmas.ComparedBytes.{counted_then, lines_compared-differs, lines_compared-equals, lines_compared-none}
 
 -- a line that does not equal its value does not hold
 differs : (own : PlainLine) (children : Forest) (content : List ℕ) (host : Host)
@@ -61,6 +63,8 @@ module _ (query : MagicQuery) (levels : ℕ) (own : PlainLine) (children : Fores
       most_records = omega (arith, here.takes.most_records);
       most_value_bytes = omega (arith, here.takes.most_value_bytes);
     };
+    counted = let same = lines_compared-differs own children query.content query.host (sym here.answer ∙ other) in
+        here.counted ∙ ap (counted_on old.meter.bytes) (sym same);
   }
 
   -- and so does one that equals it and has no children
@@ -73,6 +77,9 @@ module _ (query : MagicQuery) (levels : ℕ) (own : PlainLine) (children : Fores
       most_records = omega (arith, here.takes.most_records);
       most_value_bytes = omega (arith, here.takes.most_value_bytes);
     };
+    counted = let sum = lines_compared-equals own children query.content query.host (sym here.answer ∙ equal) in
+        let nothing = lines_compared-none children query.content query.host none in
+        here.counted ∙ ap (counted_on old.meter.bytes) (omega (arith, sum, nothing));
   }
 
   -- any other answers what its children do
@@ -89,6 +96,8 @@ module _ (query : MagicQuery) (levels : ℕ) (own : PlainLine) (children : Fores
       most_records = omega (arith, here.takes.most_records, lower.takes.most_records);
       most_value_bytes = omega (arith, here.takes.most_value_bytes, lower.takes.most_value_bytes);
     };
+    counted = counted_then result old.meter.bytes mid.meter.bytes new.meter.bytes _ _ _ here.counted
+        (lines_compared-equals own children query.content query.host (sym here.answer ∙ equal)) lower.counted;
   }
 
   -- one that is not allowed may stop
@@ -102,4 +111,5 @@ module _ (query : MagicQuery) (levels : ℕ) (own : PlainLine) (children : Fores
       most_records = omega (arith, here.takes.most_records);
       most_value_bytes = omega (arith, here.takes.most_value_bytes);
     };
+    counted = tt;
   }

@@ -7,11 +7,13 @@ use Rattle.std.proofs.lemmas.Bool.{or_left}
 use Rattle.mime_base.specs.Magic.{Forest, PlainLine, are_allowed, bare, is_allowed, line}
 use Rattle.mime_base.specs.Magic.Holds.{equals_from, is_bare, some_holds}
 use Rattle.mime_base.specs.declared.magic.host.Host.{Host}
+use Rattle.mime_view.specs.Compared.{counted_on}
 use Rattle.mime_view.specs.Magic.{AnswersLines}
 use Rattle.mime_view.specs.declared.fault.CacheFault.{CacheFault}
 use Rattle.mime_view.specs.declared.magic.MagicQuery.{MagicQuery}
 use Rattle.mime_view.specs.declared.spending.Spending.{Spending}
 use Rattle.mime_view.proofs.HitsLemmas.AllOf.{first_of, second, third}
+use Rattle.mime_view.proofs.MagicLemmas.ComparedBytes.{counted_then, lines_compared-holds, lines_compared-passed}
 
 -- a line with its children alone, and those after it
 some_holds-split : (own : PlainLine) (children rest : Forest) (content : List ℕ) (host : Host)
@@ -60,6 +62,8 @@ lines_then query levels own children rest old mid new result first later =
         most_records = omega (arith, first.takes.most_records, later.takes.most_records);
         most_value_bytes = omega (arith, first.takes.most_value_bytes, later.takes.most_value_bytes);
       };
+      counted = counted_then result old.meter.bytes mid.meter.bytes new.meter.bytes _ _ _ first.counted
+          (lines_compared-passed own children query.content query.host rest (sym first.answer)) later.counted;
     }
 
 -- one that holds answers for all
@@ -73,6 +77,8 @@ lines_holds_here query levels own children rest old new first = record {
     most_records = omega (arith, first.takes.most_records);
     most_value_bytes = omega (arith, first.takes.most_value_bytes);
   };
+  counted = let same = lines_compared-holds own children query.content query.host rest (sym first.answer) in
+      first.counted ∙ ap (counted_on old.meter.bytes) (sym same);
 }
 
 -- and so does one that stops
@@ -87,4 +93,5 @@ lines_stops_here query levels own children rest old new e first = record {
     most_records = omega (arith, first.takes.most_records);
     most_value_bytes = omega (arith, first.takes.most_value_bytes);
   };
+  counted = tt;
 }

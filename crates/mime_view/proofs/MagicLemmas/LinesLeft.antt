@@ -9,6 +9,7 @@ use Rattle.mime_view.specs.Magic.{AnswersLines, ReadsLines}
 use Rattle.mime_view.specs.declared.fault.CacheFault.{CacheFault}
 use Rattle.mime_view.specs.declared.magic.MagicQuery.{MagicQuery}
 use Rattle.mime_view.specs.declared.spending.Spending.{Spending}
+use Rattle.mime_view.proofs.MagicLemmas.ComparedBytes.{lines_compared-none}
 use Rattle.mime_view.proofs.MagicLemmas.LineRows.{lines_holds_here, lines_stops_here, lines_then, some_holds-bare}
 
 -- What is left of the lines from the i-th on: whatever these answer from now on, all answer from the start.
@@ -68,5 +69,6 @@ module _ {query : MagicQuery} {levels first count : ℕ} {lines : Forest} {old :
         answer = sym (some_holds-bare query.content query.host);
         need = λ allowed records bytes. refl;
         takes = record { most_records = omega arith; most_value_bytes = omega arith };
+        counted = let nothing = lines_compared-none bare query.content query.host refl in omega (arith, nothing);
       }
       by_left (line own children rest) size whole = absurd (omega arith)

@@ -1,6 +1,6 @@
 -- What a section answers with those after it.
 use Rattle.std.proofs.Common.{◌≡◌, ℕ, ◌+◌, Bool, true, false, cond, List, [], ◌∷◌}
-use Rattle.std.proofs.Common.{Option, None, Some, refl, sym, subst, arith}
+use Rattle.std.proofs.Common.{Option, None, Some, refl, sym, ap, subst, ◌∙◌, arith}
 use Rattle.std.specs.Prelude.{Result, Ok, Err, IfOk}
 use Rattle.std.specs.Borrow.{Bor}
 use Rattle.std.proofs.lemmas.List.Sums.{sum_by-cons}
@@ -9,11 +9,13 @@ use Rattle.mime_base.specs.Format.Packed.{forest_value_length, matchlet_count, v
 use Rattle.mime_base.specs.Magic.{PlainSection, are_allowed, are_allowed_sections}
 use Rattle.mime_base.specs.Magic.Holds.{first_magic, some_holds}
 use Rattle.mime_base.specs.declared.magic.host.Host.{Host}
+use Rattle.mime_view.specs.Compared.{counted_on}
 use Rattle.mime_view.specs.Magic.{AnswersSections, plain_found}
 use Rattle.mime_view.specs.declared.fault.CacheFault.{CacheFault}
 use Rattle.mime_view.specs.declared.magic.MagicQuery.{MagicQuery}
 use Rattle.mime_view.specs.declared.spending.Spending.{Spending}
 use Rattle.mime_view.proofs.HitsLemmas.AllOf.{both_left, both_right}
+use Rattle.mime_view.proofs.MagicLemmas.ComparedBytes.{counted_then, sections_compared-found, sections_compared-passed}
 
 -- a type and a priority that are found, or none
 abbrev pub Found : Type 0
@@ -69,6 +71,8 @@ module _ (query : MagicQuery) (section : PlainSection) (rest : List PlainSection
           most_records = omega (arith, lines, first.takes.most_records, later.takes.most_records);
           most_value_bytes = omega (arith, values, first.takes.most_value_bytes, later.takes.most_value_bytes);
         };
+        counted = counted_then result old.meter.bytes mid.meter.bytes new.meter.bytes _ _ _ first.counted
+            (sections_compared-passed section query.content query.host rest first.answer) later.counted;
       }
 
   -- one that gives something answers for all
@@ -81,6 +85,8 @@ module _ (query : MagicQuery) (section : PlainSection) (rest : List PlainSection
       most_records = omega (arith, lines, first.takes.most_records);
       most_value_bytes = omega (arith, values, first.takes.most_value_bytes);
     };
+    counted = let same = sections_compared-found section query.content query.host rest (pair.0.now, pair.1) first.answer in
+        first.counted ∙ ap (counted_on old.meter.bytes) (sym same);
   }
 
   -- and so does one that stops
@@ -95,4 +101,5 @@ module _ (query : MagicQuery) (section : PlainSection) (rest : List PlainSection
       most_records = omega (arith, lines, first.takes.most_records);
       most_value_bytes = omega (arith, values, first.takes.most_value_bytes);
     };
+    counted = tt;
   }

@@ -9,6 +9,7 @@ use Rattle.mime_view.specs.Magic.{AnswersSections, ReadsSection, ReadsSections}
 use Rattle.mime_view.specs.declared.fault.CacheFault.{CacheFault}
 use Rattle.mime_view.specs.declared.magic.MagicQuery.{MagicQuery}
 use Rattle.mime_view.specs.declared.spending.Spending.{Spending}
+use Rattle.mime_view.proofs.MagicLemmas.ComparedBytes.{sections_compared-none}
 use Rattle.mime_view.proofs.MagicLemmas.SectionRows.{Found, first_magic-none, sections_found_here, sections_stops_here, sections_then}
 
 -- What is left of the sections from the i-th on: whatever these answer from now on, all answer from the start.
@@ -66,5 +67,6 @@ module _ {query : MagicQuery} {first count : ℕ} {sections : List PlainSection}
         answer = sym (first_magic-none query.content query.host);
         need = λ allowed records bytes. refl;
         takes = record { most_records = omega arith; most_value_bytes = omega arith };
+        counted = let nothing = sections_compared-none query.content query.host in omega (arith, nothing);
       }
       by_left (section ∷ rest) size whole = absurd (omega arith)

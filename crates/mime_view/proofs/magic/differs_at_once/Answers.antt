@@ -1,5 +1,5 @@
 use Rattle.std.proofs.Common.{◌≡◌, ℕ, ◌+◌, ◌*◌, List, false, length, get_or, refl, arith, ap, ◌∙◌}
-use Rattle.mime_view.proofs.MagicLemmas.LineValues.{line_stated}
+use Rattle.mime_view.proofs.MagicLemmas.LineValues.{line_counted, line_stated}
 use Rattle.mime_view.proofs.magic.differs_at_once.Goals as goal
 
 pub returns-then-differs-clause-line : goal.returns-then-differs-clause-line
@@ -8,13 +8,18 @@ returns-then-differs-clause-line c = λ yes own reads.
     ap (λ (ns : List ℕ). get_or ns 3 0) c.cards_within.ensures.numbers ∙ reads.size in
     record {
       answer = line_stated c.args.query.now.counted.now c.args.at own c.cards_within.result c.args.query.now.host
-          c.args.query.now.content false c.cards_within.ensures.numbers reads
+          c.args.query.now.content c.cards_within.ensures.numbers reads false
           (λ lie. c.differs_at_once-differs.ensures.differs yes c.args.query.now.host);
       need = λ allowed records bytes. refl;
       takes = record {
         most_records = omega (arith, c.in-Ok.ensures.taken);
         most_value_bytes = omega (arith, c.in-Ok-take_value_bytes.ensures.taken);
       };
+      counted =
+          let here = line_counted c.args.query.now.counted.now c.args.at own c.cards_within.result c.args.query.now.host
+          c.args.query.now.content c.cards_within.ensures.numbers reads c.args.spending.now.meter.bytes
+          c.differs_at_once-differs.new.meter.bytes (λ lie. omega (arith, c.differs_at_once-differs.ensures.bytes yes c.args.query.now.host)) in
+          omega (arith, here);
     }
 
 pub returns-then-differs-clause-cost : goal.returns-then-differs-clause-cost

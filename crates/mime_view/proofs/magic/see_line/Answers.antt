@@ -1,5 +1,5 @@
 use Rattle.std.proofs.Common.{◌≡◌, ℕ, ◌+◌, ◌*◌, List, length, get_or, refl, sym, arith, ap, ◌∙◌}
-use Rattle.mime_view.proofs.MagicLemmas.LineValues.{lies_where, line_equals, line_stated}
+use Rattle.mime_view.proofs.MagicLemmas.LineValues.{lies_where, line_counted, line_equals, line_stated}
 use Rattle.mime_view.proofs.magic.see_line.Goals as goal
 
 pub returns-clause-line : goal.returns-clause-line
@@ -8,12 +8,17 @@ returns-clause-line c = λ own reads.
     ap (λ (ns : List ℕ). get_or ns 3 0) c.cards_within.ensures.numbers ∙ reads.size in
     record {
       answer = rw (sym c.bytes.ensures.same) (line_stated c.args.query.now.counted.now c.args.at own c.cards_within.result
-          c.args.query.now.host c.bytes.result.now c.in_ok-equals.equals c.cards_within.ensures.numbers reads c.in_ok-equals.ensures.equal);
+          c.args.query.now.host c.bytes.result.now c.cards_within.ensures.numbers reads c.in_ok-equals.equals c.in_ok-equals.ensures.equal);
       need = λ allowed records bytes. refl;
       takes = record {
         most_records = omega (arith, c.in_ok-take_record.ensures.taken);
         most_value_bytes = omega (arith, c.in_ok-take_value_bytes.ensures.taken);
       };
+      counted =
+          let here = line_counted c.args.query.now.counted.now c.args.at own c.cards_within.result c.args.query.now.host
+          c.bytes.result.now c.cards_within.ensures.numbers reads c.args.spending.now.meter.bytes
+          c.value_in_range.new.meter.bytes (λ lie. omega (arith, c.value_in_range.ensures.bytes lie)) in
+          rw (sym c.bytes.ensures.same) (omega (arith, here));
     }
 
 pub returns-clause-equals : goal.returns-clause-equals

@@ -1,7 +1,9 @@
-use Rattle.std.proofs.Common.{◌≡◌, ℕ, List, get_or, ap, inl, inr, rules, subst, sym, ◌∙◌}
+use Rattle.std.proofs.Common.{◌≡◌, ℕ, ◌+◌, List, length, get_or, ap, arith, inl, inr, rules, subst, sym, ◌∙◌}
 use Rattle.std.proofs.lemmas.Result.{err_from_is_err_and}
 use Rattle.mime_base.specs.Cache.Bytes.{field, fields}
 use Rattle.mime_base.specs.Cache.Texts.{text_at}
+use Rattle.mime_base.proofs.CacheLemmas.TextsStand.{text_at-read}
+use Rattle.mime_view.specs.Compared.{counted_on}
 use Rattle.mime_view.specs.Magic.{IsLinesFault, ReadsLines}
 use Rattle.mime_view.specs.declared.spending.Spending.{Spending}
 use Rattle.mime_view.proofs.MagicLemmas.SectionParts.{section_holds, section_passes}
@@ -16,7 +18,7 @@ returns-then-not-branch-clause-section c = λ section reads.
     let step = c.in_ok-some_line_holds.ensures.lines section.lines (sym (number 2 ∙ reads.count)) lines in
     let mid : Spending = record { meter = c.cards_within.new.meter; budget = c.take_record.new.self } in
     section_passes c.args.query.now section c.args.spending.now mid c.some_line_holds.new.spending
-    (record { record_taken = c.in_ok-take_record.ensures.taken; value_bytes = c.take_record.ensures.value_bytes })
+    (record { record_taken = c.in_ok-take_record.ensures.taken; value_bytes = c.take_record.ensures.value_bytes; bytes = c.cards_within.ensures.bytes })
     (rw c.if-not-branch.true at step)
 
 pub returns-clause-section : goal.returns-clause-section
@@ -29,11 +31,14 @@ returns-clause-section c = λ section reads.
     let step = c.in_ok-some_line_holds.ensures.lines section.lines (sym (number 2 ∙ reads.count)) lines in
     let mid : Spending = record { meter = c.cards_within.new.meter; budget = c.take_record.new.self } in
     let kind : c.in_ok-text.text.now ≡ section.kind = cc (name, reads.kind, c.in_ok-text.ensures.text) in
+    let read = text_at-read c.args.query.now.counted.now _ c.in_ok-text.text.now c.in_ok-text.ensures.text in
+    let named : c.text_at-found.new.meter.bytes ≡ counted_on c.some_line_holds.new.spending.meter.bytes (length section.kind + 1) =
+    omega (arith, read.2, ap length kind, c.text_at-found.ensures.bytes) in
     let found =
     section_holds c.args.query.now section c.args.spending.now mid c.some_line_holds.new.spending
-    (record { record_taken = c.in_ok-take_record.ensures.taken; value_bytes = c.take_record.ensures.value_bytes })
-    (c.in_ok-text.text, get_or c.cards_within.result 0 0) kind (number 0 ∙ reads.priority) (rw c.if-not-branch.false at step) in
-    record { answer = found.answer; need = found.need; takes = found.takes }
+    (record { record_taken = c.in_ok-take_record.ensures.taken; value_bytes = c.take_record.ensures.value_bytes; bytes = c.cards_within.ensures.bytes })
+    c.text_at-found.new.meter (c.in_ok-text.text, get_or c.cards_within.result 0 0) named kind (number 0 ∙ reads.priority) (rw c.if-not-branch.false at step) in
+    record { answer = found.answer; need = found.need; takes = found.takes; counted = found.counted }
 
 pub returns-in_err-some_line_holds-clause-ends : goal.returns-in_err-some_line_holds-clause-ends
 returns-in_err-some_line_holds-clause-ends c =
