@@ -42,7 +42,7 @@ const HEADER_LENGTH: usize = 40;
 /// ```
 ///
 /// It is refused as [`StoreFault::TooLarge`] where the database, its texts not shared, takes more than
-/// `limit` bytes, or than the 268,435,456 that a cache may have. The same database gives the same bytes.
+/// `limit` bytes, or than the 268,435,456 that a cache may have.
 pub fn write_cache(alloc: Global, database: &Database, limit: usize) -> Result<Vec<u8>, StoreFault>
     // The bytes spell the database: each part, read by the format's own definition, says just what the database does.
     ensures spells { IfOk result (λ cache. Spells cache.items (plain_database database.now)) }
