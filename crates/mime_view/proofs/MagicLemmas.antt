@@ -10,3 +10,4 @@ pub mod SectionRows
 pub mod SectionsLeft
 pub mod StandingValues
 pub mod MagicLists
+pub mod WalkedLines

@@ -11,6 +11,7 @@ pub mod Parents
 pub mod Compared
 pub mod Magic
 pub mod MagicRows
+pub mod Walked
 pub mod Globs
 pub mod Literals
 pub mod SuffixTree

@@ -22,6 +22,7 @@ ghost use Rattle.mime_view.specs.Pairs.{GivesSecondName, GivesUnaliased, LooksUp
 ghost use Rattle.mime_view.specs.Parents.{GivesParents, TakesOrStops};
 ghost use Rattle.mime_view.specs.Spending.{Gives, Looks, Pays, SpendsOnName, per_record, spending_of};
 ghost use Rattle.mime_view.specs.Opening.{IsOpenFault, Opens};
+ghost use Rattle.mime_view.specs.Walked.{WalksMagic};
 ghost use Rattle.mime_view.specs.Listing.{IsListed, IsListing, listing_records, plain_listed};
 ghost use Rattle.mime_view.specs.Listing.Faults.{IsListingFault};
 
@@ -375,6 +376,8 @@ impl<'a> Cache<'a> {
         ensures inside { OnOk result (LiesMagic self.now (field self.now 0 6)) }
         // Its type is a text of the cache.
         ensures text { IfOk result (NamesText self.now) }
+        // On any bytes it answers by the records: of the first section that holds, and each before it fails. What it walked lies in the cache.
+        ensures walked { IfOk result (WalksMagic self.now content.now host (field self.now 0 6)) }
         // A fault is one of the list, of a section or a line, or the budget is spent.
         ensures fault { IfErr result (IsMagicFault self.now (field self.now 0 6) content.now host budget.new) }
         // A record costs one node and one text, a value byte one comparison for each place of the content; one node comes besides.

@@ -12,12 +12,13 @@
 //! one piece of code that skips them, with the meter and the budget in registers; a line that may equal its value is
 //! looked at by a call of its own, with a copy of both.
 
-ghost use Rattle.std.specs.Prelude.{◌≡◌, ℕ, ◌+◌, ◌*◌, ◌^◌, ◌<◌, ◌≤◌, List, [], ◌∷◌, length, true, false, Ok, IfErr, IfOk, OnOk};
+ghost use Rattle.std.specs.Prelude.{◌≡◌, ℕ, ◌+◌, ◌-◌, ◌*◌, ◌^◌, ◌<◌, ◌≤◌, List, [], ◌∷◌, length, true, false, Ok, IfErr, IfOk, OnOk};
 ghost use Rattle.mime_base.specs.Magic.{PlainLine, PlainSection};
 ghost use Rattle.mime_view.specs.Magic.{AnswersLine, AnswersLineAt, AnswersLinesAt, AnswersMagicAt, AnswersSections, Ends, EqualsAt};
 ghost use Rattle.mime_view.specs.Magic.{IsBlockFault, IsLineFault, IsLinesFault, IsMagicFault, IsSectionFault, IsSeenFault};
 ghost use Rattle.mime_view.specs.Magic.{LiesBlock, LiesMagic, NamesChildren, NamesText, ReadsLine, ReadsSection, line_price, magic_price};
 ghost use Rattle.mime_view.specs.Spending.{Spends};
+ghost use Rattle.mime_view.specs.Walked.{DiffersAt, WalksLine, WalksLines, WalksMagic, WalksOne};
 
 use crate::fault::CacheFault;
 use crate::spending::Spending;
@@ -51,6 +52,8 @@ pub fn sniff<'a>(
     ensures inside { OnOk result (LiesMagic query.now.counted.now at) }
     // A type that is given is a text of the cache.
     ensures text { IfOk result (NamesText query.now.counted.now) }
+    // On any bytes it answers by the records: of the first section that holds, and none before it does.
+    ensures walked { IfOk result (WalksMagic query.now.counted.now query.now.content query.now.host at) }
     // On any bytes: why there is no answer, and what the call costs.
     ensures ends { Ends (IsMagicFault query.now.counted.now at query.now.content query.now.host)
         (magic_price (length query.now.content)) 1 spending.old spending.new result }
@@ -74,6 +77,8 @@ fn sniff_sections<'a>(
     ensures inside { OnOk result (LiesMagic query.now.counted.now at) }
     // A type that is given is a text of the cache.
     ensures text { IfOk result (NamesText query.now.counted.now) }
+    // On any bytes it answers by the records: of the first section that holds, and none before it does.
+    ensures walked { IfOk result (WalksMagic query.now.counted.now query.now.content query.now.host at) }
     // On any bytes: why there is no answer, and what the call costs.
     ensures ends { Ends (IsMagicFault query.now.counted.now at query.now.content query.now.host)
         (magic_price (length query.now.content)) 1 spending.old spending.new result }
@@ -106,6 +111,8 @@ fn take_section<'a>(
         AnswersSections query.now (section ∷ []) spending.old spending.new result }
     // A type that is given is a text of the cache.
     ensures text { IfOk result (NamesText query.now.counted.now) }
+    // On any bytes it answers by the records of its lines.
+    ensures walked { IfOk result (WalksOne query.now.counted.now query.now.content query.now.host at) }
     // On any bytes: why there is no answer, and what the step costs.
     ensures ends { Ends (IsSectionFault query.now.counted.now at query.now.content query.now.host)
         (magic_price (length query.now.content)) 0 spending.old spending.new result }
@@ -133,8 +140,11 @@ pub fn check_block(
     size: u64,
     count: u64,
 ) -> Result<(), CacheFault>
+    // The first record's offset is a number of 32 bits.
     requires first { first < 2 ^ 32 }
+    // So is how many there are.
     requires count { count < 2 ^ 32 }
+    // Each has at most 32 bytes, so that no sum overflows.
     requires size { size ≤ 32 }
     // What passes lies in the cache.
     ensures lies { OnOk result (LiesBlock counted.now first size count) }
@@ -162,6 +172,8 @@ fn some_line_holds(
     requires block { LiesBlock query.now.counted.now first 32 count }
     // Lines that stand answer whether one holds.
     ensures lines { AnswersLinesAt query.now first count level spending.old spending.new result }
+    // On any bytes one holds where its records say so.
+    ensures walked { IfOk result (WalksLines (63 - level) query.now.counted.now query.now.content query.now.host first count) }
     // On any bytes: why there is no answer, and what the step costs.
     ensures ends { Ends (IsLinesFault query.now.counted.now first count level query.now.content query.now.host)
         (line_price query.now) 0 spending.old spending.new result }
@@ -189,6 +201,8 @@ fn line_holds(
     requires inside { at + 32 ≤ length query.now.counted.now }
     // A line that stands with its children answers as a forest of it alone does.
     ensures line { AnswersLineAt query.now at level spending.old spending.new result }
+    // On any bytes it holds where its records say so.
+    ensures walked { IfOk result (WalksLine (63 - level) query.now.counted.now query.now.content query.now.host at) }
     // On any bytes: why there is no answer, and what the step costs.
     ensures ends { Ends (IsLineFault query.now.counted.now at level query.now.content query.now.host)
         (line_price query.now) 0 spending.old spending.new result }
@@ -207,6 +221,8 @@ fn differs_at_once(query: &MagicQuery<'_, '_>, at: u64, spending: &mut Spending)
     // A line that differs is taken, and doesn't hold.
     ensures line { result ≡ true → (own : PlainLine) → ReadsLine query.now.counted.now at own →
         AnswersLine query.now own spending.old spending.new (Ok (record { equals = false; count = 0; first = 0 })) }
+    // On any bytes a line that is said to differ does.
+    ensures differs { result ≡ true → DiffersAt query.now.counted.now query.now.content query.now.host at }
     // On any bytes: what it costs.
     ensures cost { result ≡ true → Spends (line_price query.now) 0 0 spending.old spending.new }
     // Of any other line nothing is taken.
@@ -254,6 +270,8 @@ fn holds_apart(
     requires inside { at + 32 ≤ length query.now.counted.now }
     // A line that stands with its children answers as a forest of it alone does.
     ensures line { AnswersLineAt query.now at level spending.old spending.new result }
+    // On any bytes it holds where its records say so.
+    ensures walked { IfOk result (WalksLine (63 - level) query.now.counted.now query.now.content query.now.host at) }
     // On any bytes: why there is no answer, and what the step costs.
     ensures ends { Ends (IsLineFault query.now.counted.now at level query.now.content query.now.host)
         (line_price query.now) 0 spending.old spending.new result }
@@ -277,6 +295,8 @@ fn whole_line_holds(
     requires inside { at + 32 ≤ length query.now.counted.now }
     // A line that stands with its children answers as a forest of it alone does.
     ensures line { AnswersLineAt query.now at level spending.old spending.new result }
+    // On any bytes it holds where its records say so.
+    ensures walked { IfOk result (WalksLine (63 - level) query.now.counted.now query.now.content query.now.host at) }
     // On any bytes: why there is no answer, and what the step costs.
     ensures ends { Ends (IsLineFault query.now.counted.now at level query.now.content query.now.host)
         (line_price query.now) 0 spending.old spending.new result }
@@ -320,6 +340,9 @@ fn see_line(
     // On any bytes a line that is said to hold by itself does.
     ensures equals { IfOk result (λ seen. seen.equals ≡ true
         → EqualsAt query.now.counted.now at query.now.content query.now.host) }
+    // One that is said to differ differs.
+    ensures differs { IfOk result (λ seen. seen.equals ≡ false
+        → DiffersAt query.now.counted.now query.now.content query.now.host at) }
     // A line that stands answers whether it holds by itself.
     ensures line { (own : PlainLine) → ReadsLine query.now.counted.now at own →
         AnswersLine query.now own spending.old spending.new result }
@@ -369,6 +392,8 @@ fn some_child_holds(
     requires block { LiesBlock query.now.counted.now first 32 count }
     // Children that stand answer whether one holds.
     ensures lines { AnswersLinesAt query.now first count level spending.old spending.new result }
+    // On any bytes one holds where its records say so.
+    ensures walked { IfOk result (WalksLines (63 - level) query.now.counted.now query.now.content query.now.host first count) }
     // On any bytes: why there is no answer, and what the step costs.
     ensures ends { Ends (IsLinesFault query.now.counted.now first count level query.now.content query.now.host)
         (line_price query.now) 0 spending.old spending.new result }

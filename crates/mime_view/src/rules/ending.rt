@@ -24,6 +24,7 @@ impl Model for NameEnding {
 impl NameEnding {
     /// The ending of no bytes. It never allocates.
     pub fn none(alloc: Global) -> NameEnding
+        // It has no bytes.
         ensures { result ≡ [] }
     {
         NameEnding {
@@ -33,6 +34,7 @@ impl NameEnding {
 
     /// How many bytes it has.
     pub fn length(&self) -> usize
+        // It is exactly how many there are.
         ensures { result ≡ length self.now }
     {
         self.path.len()
@@ -40,7 +42,9 @@ impl NameEnding {
 
     /// Puts a byte before it.
     pub fn grow(&mut self, byte: u8) -> Result<(), CacheFault>
+        // The byte is its first, and the others follow.
         ensures grown { OnOk result (self.new ≡ byte ∷ self.old) }
+        // Only memory can be short.
         ensures fault { IfErr result (λ e. e ≡ CacheFault.OutOfMemory) }
     {
         self.path.push(byte)?;
@@ -49,6 +53,7 @@ impl NameEnding {
 
     /// Takes its first byte away.
     pub fn shrink(&mut self)
+        // The others stay.
         ensures { self.new ≡ drop 1 self.old }
     {
         let _ = self.path.pop();
@@ -56,7 +61,9 @@ impl NameEnding {
 
     /// The pattern of the names that end so: a `*`, and the ending.
     pub fn pattern(&self, alloc: Global) -> Result<Vec<u8>, CacheFault>
+        // The byte 42 is `*`; those of the ending follow.
         ensures pattern { IfOk result (λ pattern. pattern.items ≡ 42 ∷ self.now) }
+        // Only memory can be short.
         ensures fault { IfErr result (λ e. e ≡ CacheFault.OutOfMemory) }
     {
         let mut pattern = Vec::from_slice(alloc, &self.path)?;

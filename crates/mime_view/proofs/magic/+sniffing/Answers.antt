@@ -1,12 +1,14 @@
-use Rattle.std.proofs.Common.{◌≡◌, ◌+◌, ◌*◌, ◌-◌, ◌<◌, ℕ, suc, true, arith, inl, inr, refl, rules, sym, subst}
-use Rattle.std.proofs.lemmas.Result.{IfErr-weaker, err_from_is_err_and}
+use Rattle.std.proofs.Common.{◌≡◌, ◌+◌, ◌*◌, ◌-◌, ◌<◌, ℕ, suc, true, arith, below_more, inl, inr, refl, rules, sym, subst}
+use Rattle.std.proofs.lemmas.Result.{IfErr-weaker, IfOk-weaker, err_from_is_err_and}
 use Rattle.mime_base.specs.Cache.Bytes.{field}
 use Rattle.mime_base.specs.Magic.{are_allowed, bare, line}
+use Rattle.mime_view.specs.Walked.{FailsAt}
 use Rattle.mime_view.specs.Magic.{AnswersLines, IsLineFault, ReadsLines, line_price}
 use Rattle.mime_view.proofs.CostLemmas.Costs.{spends_then}
 use Rattle.mime_view.proofs.MagicLemmas.LineFaults.{fault_below, own_fault}
 use Rattle.mime_view.proofs.MagicLemmas.LineParts.{last_level, line_alone, line_differs, line_parent, line_refused}
 use Rattle.mime_view.proofs.MagicLemmas.LinesLeft.{ended, next}
+use Rattle.mime_view.proofs.MagicLemmas.WalkedLines.{fails_alone, holds_alone, walks_parent}
 use Rattle.mime_view.proofs.magic.+sniffing.Goals as goal
 
 pub whole_line_holds-returns-then-not-equals-clause-line : goal.whole_line_holds-returns-then-not-equals-clause-line
@@ -63,6 +65,10 @@ some_line_holds-loop-i-preserved t c = record {
   left = λ lines size reads.
       let n = next (c.loop-i.invariant.left lines size reads) (omega (arith, c.loop-i-test.true)) in
       n.later c.line_holds.new.spending (rw c.if-branch.false at (c.in_ok-line_holds.ensures.line n.own n.children n.reads));
+  fails = below_more
+      (λ (k : ℕ). FailsAt (63 - c.args.level) c.args.query.now.counted.now c.args.query.now.content c.args.query.now.host
+      (c.from-start.result + 32 * k)) c.loop-i.i c.loop-i.invariant.fails
+      (rw c.if-branch.false at c.in_ok-line_holds.ensures.walked);
   cost = spends_then (line_price c.args.query.now) 0 0 0 0 c.args.spending.now c.loop-i.spending c.line_holds.new.spending
       c.loop-i.invariant.cost c.in_ok-line_holds.ensures.ends.cost;
 }
@@ -122,3 +128,26 @@ some_line_holds-returns-in_err-line_holds-clause-ends t c =
       cost = spends_then (line_price c.args.query.now) 0 0 0 0 c.args.spending.now c.loop-i.spending c.line_holds.new.spending
           c.loop-i.invariant.cost c.in_err-line_holds.ensures.ends.cost;
     })
+
+pub whole_line_holds-returns-clause-walked : goal.whole_line_holds-returns-clause-walked
+whole_line_holds-returns-clause-walked t c =
+    let deeper : 63 - c.args.level ≡ suc (63 - (c.args.level + 1)) = omega arith in
+    rw deeper (IfOk-weaker c.some_child_holds.result _ _
+    (λ holds. walks_parent (63 - (c.args.level + 1)) c.args.query.now.counted.now c.args.query.now.content c.args.query.now.host
+    c.args.at _ _ holds c.in_ok-equals.ensures.children.count c.in_ok-equals.ensures.children.first
+    (c.in_ok-equals.ensures.equals c.if-not-equals.false) (omega arith) (search rules)) c.some_child_holds.ensures.walked)
+
+pub whole_line_holds-returns-then-not-equals-clause-walked : goal.whole_line_holds-returns-then-not-equals-clause-walked
+whole_line_holds-returns-then-not-equals-clause-walked t c =
+    fails_alone (63 - c.args.level) c.args.query.now.counted.now c.args.query.now.content c.args.query.now.host c.args.at
+    (c.in_ok-equals.ensures.differs c.if-not-equals.true)
+
+pub whole_line_holds-returns-then-count-eq0-clause-walked : goal.whole_line_holds-returns-then-count-eq0-clause-walked
+whole_line_holds-returns-then-count-eq0-clause-walked t c =
+    holds_alone (63 - c.args.level) c.args.query.now.counted.now c.args.query.now.content c.args.query.now.host c.args.at
+    (c.in_ok-equals.ensures.equals c.if-not-equals.false) (omega (arith, c.in_ok-equals.ensures.children.count))
+
+pub line_holds-returns-then-differs_at_once-clause-walked : goal.line_holds-returns-then-differs_at_once-clause-walked
+line_holds-returns-then-differs_at_once-clause-walked t c =
+    fails_alone (63 - c.args.level) c.args.query.now.counted.now c.args.query.now.content c.args.query.now.host c.args.at
+    (c.differs_at_once.ensures.differs c.if-differs_at_once.true)

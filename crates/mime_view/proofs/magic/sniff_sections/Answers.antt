@@ -1,6 +1,7 @@
-use Rattle.std.proofs.Common.{◌≡◌, ◌∙◌, ◌+◌, ◌*◌, ℕ, List, ap, arith, get_or, inr, length, subst}
+use Rattle.std.proofs.Common.{◌≡◌, ◌∙◌, ◌+◌, ◌*◌, ℕ, List, ap, arith, below_more, false, get_or, inr, length, subst}
 use Rattle.std.proofs.lemmas.Result.{err_from_is_err_and}
 use Rattle.mime_base.specs.Cache.Bytes.{field}
+use Rattle.mime_view.specs.Walked.{WalksSection}
 use Rattle.mime_view.specs.Magic.{IsSectionFault, magic_price}
 use Rattle.mime_view.proofs.CostLemmas.Costs.{spends_then}
 use Rattle.mime_view.proofs.MagicLemmas.SectionsLeft.{ended, next}
@@ -22,6 +23,9 @@ loop-i-preserved c = record {
   left = λ sections reads.
       let n = next (c.loop-i.invariant.left sections reads) c.loop-i-test.true in
       n.later c.take_section.new.spending (rw c.in-None.is at (c.in_ok-found.ensures.section n.section n.reads));
+  fails = below_more
+      (λ (k : ℕ). WalksSection c.args.query.now.counted.now c.args.query.now.content c.args.query.now.host false (c.from-first.result + 16 * k))
+      c.loop-i.i c.loop-i.invariant.fails (rw c.in-None.is at c.in_ok-found.ensures.walked);
   cost = spends_then (magic_price (length c.args.query.now.content)) 1 0 0 0 c.args.spending.now c.loop-i.spending c.take_section.new.spending
       c.loop-i.invariant.cost c.in_ok-found.ensures.ends.cost;
 }
@@ -72,3 +76,33 @@ returns-clause-inside c =
       head = omega (arith, c.in_ok-count.ensures.numbers.0, c.from.ensures);
       sections = rw (c.from-first.ensures ∙ first, c.from-count.ensures ∙ count) at c.in_ok-check_block.ensures.lies;
     }
+
+pub returns-in-Some-clause-walked : goal.returns-in-Some-clause-walked
+returns-in-Some-clause-walked c =
+    let count : get_or c.in_ok-count.field-0 0 0 ≡ field c.args.query.now.counted.now c.args.at 0 =
+    ap (λ (ns : List ℕ). get_or ns 0 0) c.in_ok-count.ensures.numbers.1
+    ∙ ap (λ (n : ℕ). field c.args.query.now.counted.now n 0) c.from.ensures in
+    let first : get_or c.in_ok-count.field-0 2 0 ≡ field c.args.query.now.counted.now c.args.at 2 =
+    ap (λ (ns : List ℕ). get_or ns 2 0) c.in_ok-count.ensures.numbers.1
+    ∙ ap (λ (n : ℕ). field c.args.query.now.counted.now n 2) c.from.ensures in
+    let here = rw (c.in-Some.is, c.from-first.ensures ∙ first) at c.in_ok-found.ensures.walked in
+    record {
+      section = record {
+        place = c.loop-i.i;
+        within = omega (arith, c.loop-i-test.true, c.from-count.ensures, count);
+        holds = here.0;
+        before = rw (c.from-first.ensures ∙ first) at c.loop-i.invariant.fails;
+      };
+      named = here.1;
+    }
+
+pub returns-clause-walked : goal.returns-clause-walked
+returns-clause-walked c =
+    let count : get_or c.in_ok-count.field-0 0 0 ≡ field c.args.query.now.counted.now c.args.at 0 =
+    ap (λ (ns : List ℕ). get_or ns 0 0) c.in_ok-count.ensures.numbers.1
+    ∙ ap (λ (n : ℕ). field c.args.query.now.counted.now n 0) c.from.ensures in
+    let first : get_or c.in_ok-count.field-0 2 0 ≡ field c.args.query.now.counted.now c.args.at 2 =
+    ap (λ (ns : List ℕ). get_or ns 2 0) c.in_ok-count.ensures.numbers.1
+    ∙ ap (λ (n : ℕ). field c.args.query.now.counted.now n 2) c.from.ensures in
+    let fails = rw (c.from-first.ensures ∙ first) at c.loop-i.invariant.fails in
+    λ k within. fails k (omega (arith, c.loop-i-test.false, c.from-count.ensures, count, within))

@@ -64,3 +64,26 @@ returns-in_err-text-clause-ends c =
       })));
       cost = search rules;
     })
+
+pub returns-then-not-branch-clause-walked : goal.returns-then-not-branch-clause-walked
+returns-then-not-branch-clause-walked c =
+    let number : (i : ℕ) → get_or c.cards_within.result i 0 ≡ get_or (fields c.args.query.now.counted.now c.args.at 4) i 0 =
+    λ i. ap (λ (ns : List ℕ). get_or ns i 0) c.cards_within.ensures.numbers in
+    record {
+      lies = rw (c.from.ensures ∙ number 3, c.from-2.ensures ∙ number 2) at c.in_ok-check_block.ensures.lies;
+      lines = rw (c.if-not-branch.true, number 3, number 2) at c.in_ok-some_line_holds.ensures.walked;
+    }
+
+pub returns-clause-walked : goal.returns-clause-walked
+returns-clause-walked c =
+    let number : (i : ℕ) → get_or c.cards_within.result i 0 ≡ get_or (fields c.args.query.now.counted.now c.args.at 4) i 0 =
+    λ i. ap (λ (ns : List ℕ). get_or ns i 0) c.cards_within.ensures.numbers in (
+      record {
+        lies = rw (c.from.ensures ∙ number 3, c.from-2.ensures ∙ number 2) at c.in_ok-check_block.ensures.lies;
+        lines = rw (c.if-not-branch.false, number 3, number 2) at c.in_ok-some_line_holds.ensures.walked;
+      },
+      record {
+        kind = ap (text_at c.args.query.now.counted.now) (sym (c.from-3.ensures ∙ number 1)) ∙ c.in_ok-text.ensures.text;
+        priority = number 0;
+      },
+    )
