@@ -1,6 +1,7 @@
 -- All glob rules of a cache as a program lists them, and what listing them costs.
 pub mod Reads
 pub mod Faults
+pub mod Sources
 use Rattle.std.specs.Prelude.{◌≡◌, ℕ, ◌+◌, ◌*◌, ◌/◌, ◌%◌, ◌<◌, ◌≤◌, ◌==◌, All, Bool, List, ◌++◌, length, map, Result, Ok, IfErr}
 use Rattle.mime_base.specs.Cache.Bytes.{field}
 use Rattle.mime_base.specs.Cache.Texts.{text_at}

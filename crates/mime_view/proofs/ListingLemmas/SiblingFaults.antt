@@ -12,9 +12,9 @@ here c at above left e is =
     record { i = 0; within = omega arith; steps = 0; r = at; leads = same; fault = rw none is }
 
 -- what is below a node
-pub below : (c : List ℕ) (at above first count deeper left : ℕ) (e : CacheFault) → first ≡ field c at 2 → count ≡ field c at 1
+pub below : {c : List ℕ} {at above first count deeper left : ℕ} {e : CacheFault} → first ≡ field c at 2 → count ≡ field c at 1
     → deeper ≡ suc above → IsNode c at → IsSiblingsFault c first count deeper left e → IsSiblingsFault c at 1 above left e
-below c at above first count deeper left e is2 is1 more node deep =
+below {c = c} {at = at} {above = above} {deeper = deeper} {left = left} {e = e} is2 is1 more node deep =
     let same : at ≡ at + 12 * 0 = omega arith in
     let size : deeper + deep.steps ≡ above + suc deep.steps = omega (arith, more) in
     let leads : Leads c deep.steps (field c at 2 + 12 * deep.i) deep.r =
@@ -30,9 +30,9 @@ below c at above first count deeper left e is2 is1 more node deep =
     }
 
 -- one of some siblings
-pub among : (c : List ℕ) (first count i above now left : ℕ) (e : CacheFault) → i < count → now ≡ above
+pub among : {c : List ℕ} {first count above now left : ℕ} {e : CacheFault} (i : ℕ) → i < count → now ≡ above
     → IsSiblingsFault c (first + 12 * i) 1 now left e → IsSiblingsFault c first count above left e
-among c first count i above now left e l alike deep =
+among {c = c} {first = first} {left = left} {e = e} i l alike deep =
     let within = deep.within in
     let same : first + 12 * i + 12 * deep.i ≡ first + 12 * i = omega arith in
     record {

@@ -5,7 +5,7 @@ use Rattle.mime_base.specs.declared.magic.host.Host.{Host}
 use Rattle.mime_view.specs.Magic.{EqualsAt, LiesBlock}
 use Rattle.mime_view.specs.Walked.{DiffersAt, FailsAt, HoldsAt, IsParent, WalksLine, WalksLines}
 
-module _ (levels : ℕ) (c content : List ℕ) (host : Host) (r : ℕ) where
+module _ (levels : ℕ) {c content : List ℕ} {host : Host} {r : ℕ} where
   -- a line that differs does not hold
   pub fails_alone : DiffersAt c content host r → FailsAt levels c content host r
   unfolding FailsAt

@@ -1,10 +1,11 @@
 //! The rules of the literal list and of the glob list ("The mime.cache files").
 
-ghost use Rattle.std.specs.Prelude.{◌+◌, ◌*◌, ◌^◌, ◌<◌, ◌≤◌, List, [], ◌∷◌, length};
+ghost use Rattle.std.specs.Prelude.{◌+◌, ◌*◌, ◌^◌, ◌<◌, ◌≤◌, List, [], ◌∷◌, length, OnOk};
 ghost use Rattle.mime_base.specs.declared.database.rule.GlobRule.{GlobRule};
 ghost use Rattle.mime_view.specs.Listing.{Adds, AddsRules};
 ghost use Rattle.mime_view.specs.Listing.Faults.{IsRuleFault, IsRulesFault};
 ghost use Rattle.mime_view.specs.Listing.Reads.{ReadsEntry, ReadsListedRules};
+ghost use Rattle.mime_view.specs.Listing.Sources.{AddsSome, IsEntryRule, IsListRule};
 
 use crate::fault::CacheFault;
 use crate::list::count_at;
@@ -25,6 +26,8 @@ pub fn add_entries<'a>(
     // It adds the rules of a list that stands, which take a record each.
     ensures answer { (rules : List GlobRule) → ReadsListedRules source.now.counted.now at rules →
         AddsRules rules (length rules) listing.old listing.new spending.old spending.new result }
+    // On any bytes each rule that it adds is that of an entry.
+    ensures sources { OnOk result (AddsSome (IsListRule source.now.counted.now at) listing.old listing.new) }
     // On any bytes it adds such rules, and looks at the list's count besides.
     ensures adds { Adds source.now.counted.now (IsRulesFault source.now.counted.now at) 1
         listing.old listing.new spending.old spending.new result }
@@ -49,6 +52,8 @@ fn add_entry<'a>(
     // It adds the rule of an entry that stands, which takes a record.
     ensures answer { (rule : GlobRule) → ReadsEntry source.now.counted.now at rule →
         AddsRules (rule ∷ []) 1 listing.old listing.new spending.old spending.new result }
+    // On any bytes the rule that it adds is that of the entry.
+    ensures sources { OnOk result (AddsSome (IsEntryRule source.now.counted.now at) listing.old listing.new) }
     // On any bytes it takes at most a record.
     ensures most { spending.old.budget.records ≤ spending.new.budget.records + 1 }
     // On any bytes it adds such a rule.

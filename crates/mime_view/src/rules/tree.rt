@@ -10,6 +10,7 @@ ghost use Rattle.mime_base.specs.declared.database.rule.GlobRule.{GlobRule};
 ghost use Rattle.mime_view.specs.Listing.{Adds, AddsRules, IsListed, listed_rule};
 ghost use Rattle.mime_view.specs.Listing.Faults.{IsSiblingsFault, IsListedTreeFault};
 ghost use Rattle.mime_view.specs.Listing.Reads.{ReadsListedLeaf, ReadsSuffixTree, ReadsListedTree, rules_in};
+ghost use Rattle.mime_view.specs.Listing.Sources.{AddsSome, IsLeafRule, IsSiblingsRule, IsTreeRule};
 ghost use Rattle.mime_view.specs.Lists.{IsNoText};
 ghost use Rattle.mime_view.specs.Magic.{LiesBlock};
 ghost use Rattle.mime_view.specs.Spending.{Looks};
@@ -38,6 +39,8 @@ pub fn add_tree<'a>(
     // It adds the rules of a tree that stands, of which each node takes a record.
     ensures answer { (tree : Tree) → ReadsSuffixTree source.now.counted.now at tree →
         AddsRules (rules_in tree) (node_count tree) listing.old listing.new spending.old spending.new result }
+    // On any bytes each rule that it adds is that of a leaf to which characters lead from a root.
+    ensures sources { OnOk result (AddsSome (IsTreeRule source.now.counted.now at) listing.old listing.new) }
     // On any bytes it adds such rules, and looks at the tree's head besides.
     ensures adds { Adds source.now.counted.now (IsListedTreeFault source.now.counted.now at) 1
         listing.old listing.new spending.old spending.new result }
@@ -70,6 +73,8 @@ fn add_siblings<'a>(
         AddsRules (rules_in tree) (node_count tree) listing.old listing.new spending.old spending.new result }
     // The ending is then as it was.
     ensures ending_stays { OnOk result (ending.new ≡ ending.old) }
+    // On any bytes each rule that it adds is that of a leaf to which characters lead from one of them.
+    ensures sources { OnOk result (AddsSome (IsSiblingsRule source.now.counted.now first count ending.old) listing.old listing.new) }
     // On any bytes it adds such rules.
     ensures adds { Adds source.now.counted.now (IsSiblingsFault source.now.counted.now first count (length ending.old)) 0
         listing.old listing.new spending.old spending.new result }
@@ -82,7 +87,7 @@ fn add_siblings<'a>(
 
 /// Adds the rule of the leaf at `at`, or the rules below the node there.
 #[cycle(siblings)]
-#[tactic(auto, using(crate::proofs::SuffixTreeLemmas::SiblingNodes::some_node))]
+#[tactic(auto, using(crate::proofs::SuffixTreeLemmas::SiblingNodes::some_node, crate::proofs::ListingLemmas::RuleSources::adds_nothing))]
 fn add_sibling<'a>(
     source: &ListingSource<'_, 'a>,
     at: u64,
@@ -99,6 +104,8 @@ fn add_sibling<'a>(
         AddsRules (rules_in tree) (node_count tree) listing.old listing.new spending.old spending.new result }
     // The ending is then as it was.
     ensures ending_stays { OnOk result (ending.new ≡ ending.old) }
+    // On any bytes each rule that it adds is that of a leaf to which characters lead from it.
+    ensures sources { OnOk result (AddsSome (IsSiblingsRule source.now.counted.now at 1 ending.old) listing.old listing.new) }
     // On any bytes it adds such rules.
     ensures adds { Adds source.now.counted.now (IsSiblingsFault source.now.counted.now at 1 (length ending.old)) 0
         listing.old listing.new spending.old spending.new result }
@@ -138,6 +145,10 @@ fn add_leaf<'a>(
         ReadsListedLeaf source.now.counted.now at ending.now rule →
         MatchResult result (λ _. row.third ≡ field source.now.counted.now at 2 → listing.new ≡ listing.old ++ listed_rule rule ∷ [])
         (λ e. e ≡ CacheFault.OutOfMemory) }
+    // On any bytes the rule that it adds is that of the leaf, which is none of the roots.
+    ensures sources { (at : ℕ) → field source.now.counted.now at 0 ≡ 0 → row.second ≡ field source.now.counted.now at 1 →
+        row.third ≡ field source.now.counted.now at 2 →
+        OnOk result (AddsSome (IsLeafRule source.now.counted.now at ending.now) listing.old listing.new) }
     // On any bytes it adds a rule with a text of the cache as its type, and a short pattern.
     ensures texts { All (IsListed source.now.counted.now) listing.old → All (IsListed source.now.counted.now) listing.new }
     // It stops where the type is no text, or out of memory.

@@ -133,21 +133,17 @@ pub whole_line_holds-returns-clause-walked : goal.whole_line_holds-returns-claus
 whole_line_holds-returns-clause-walked t c =
     let deeper : 63 - c.args.level ≡ suc (63 - (c.args.level + 1)) = omega arith in
     rw deeper (IfOk-weaker c.some_child_holds.result _ _
-    (λ holds. walks_parent (63 - (c.args.level + 1)) c.args.query.now.counted.now c.args.query.now.content c.args.query.now.host
-    c.args.at _ _ holds c.in_ok-equals.ensures.children.count c.in_ok-equals.ensures.children.first
+    (λ holds. walks_parent (63 - (c.args.level + 1)) _ _ holds c.in_ok-equals.ensures.children.count c.in_ok-equals.ensures.children.first
     (c.in_ok-equals.ensures.equals c.if-not-equals.false) (omega arith) (search rules)) c.some_child_holds.ensures.walked)
 
 pub whole_line_holds-returns-then-not-equals-clause-walked : goal.whole_line_holds-returns-then-not-equals-clause-walked
 whole_line_holds-returns-then-not-equals-clause-walked t c =
-    fails_alone (63 - c.args.level) c.args.query.now.counted.now c.args.query.now.content c.args.query.now.host c.args.at
-    (c.in_ok-equals.ensures.differs c.if-not-equals.true)
+    fails_alone (63 - c.args.level) (c.in_ok-equals.ensures.differs c.if-not-equals.true)
 
 pub whole_line_holds-returns-then-count-eq0-clause-walked : goal.whole_line_holds-returns-then-count-eq0-clause-walked
 whole_line_holds-returns-then-count-eq0-clause-walked t c =
-    holds_alone (63 - c.args.level) c.args.query.now.counted.now c.args.query.now.content c.args.query.now.host c.args.at
-    (c.in_ok-equals.ensures.equals c.if-not-equals.false) (omega (arith, c.in_ok-equals.ensures.children.count))
+    holds_alone (63 - c.args.level) (c.in_ok-equals.ensures.equals c.if-not-equals.false) (omega (arith, c.in_ok-equals.ensures.children.count))
 
 pub line_holds-returns-then-differs_at_once-clause-walked : goal.line_holds-returns-then-differs_at_once-clause-walked
 line_holds-returns-then-differs_at_once-clause-walked t c =
-    fails_alone (63 - c.args.level) c.args.query.now.counted.now c.args.query.now.content c.args.query.now.host c.args.at
-    (c.differs_at_once.ensures.differs c.if-differs_at_once.true)
+    fails_alone (63 - c.args.level) (c.differs_at_once.ensures.differs c.if-differs_at_once.true)

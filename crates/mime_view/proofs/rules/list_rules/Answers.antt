@@ -1,7 +1,20 @@
+use Rattle.std.proofs.Common.{inr}
+use Rattle.std.proofs.lemmas.Result.{err_from_is_err_and}
 use Rattle.mime_view.proofs.ListingLemmas.ListedTexts.{all_listed}
+use Rattle.mime_view.proofs.ListingLemmas.RuleSources.{all_from}
 use Rattle.mime_view.proofs.rules.list_rules.Goals as goal
 
 pub returns-clause-listed : goal.returns-clause-listed
 returns-clause-listed c =
     all_listed c.args.source.now.counted.now _ _ _ _ _ c.none-listing.ensures c.add_entries.ensures.adds.texts
     c.add_tree.ensures.adds.texts c.add_entries-2.ensures.adds.texts c.into_vec.ensures
+
+pub returns-clause-sources : goal.returns-clause-sources
+returns-clause-sources c =
+    all_from c.args.source.now.counted.now c.args.literals c.args.tree c.args.globs _ _ _ _ _ c.none-listing.ensures
+    c.in_ok-add_entries.ensures.sources c.in_ok-add_tree.ensures.sources c.in_ok-add_entries-2.ensures.sources c.into_vec.ensures
+
+pub returns-in_err-add_entries-2-clause-listed : goal.returns-in_err-add_entries-2-clause-listed
+returns-in_err-add_entries-2-clause-listed c =
+    let p = err_from_is_err_and c.from_residual-in_err-add_entries-2.result c.from_residual-in_err-add_entries-2.ensures.1 in
+    rw (p.1, p.2) (inr (inr c.in_err-add_entries-2.ensures.adds.fault))

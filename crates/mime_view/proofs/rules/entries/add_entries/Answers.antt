@@ -3,6 +3,7 @@ use Rattle.std.proofs.lemmas.Result.{err_from_is_err_and}
 use Rattle.mime_view.specs.Spending.{per_record}
 use Rattle.mime_view.proofs.CostLemmas.Costs.{spends_then}
 use Rattle.mime_view.proofs.LiteralLemmas.EntryRows.{next}
+use Rattle.mime_view.proofs.ListingLemmas.RuleSources.{adds_also, adds_both, adds_nothing}
 use Rattle.mime_view.proofs.rules.entries.add_entries.Goals as goal
 
 pub returns-in_err-add_entry-clause-answer : goal.returns-in_err-add_entry-clause-answer
@@ -37,6 +38,8 @@ loop-i-preserved c =
           (c.loop-i.invariant.left rules reads) in
           n.later _ (entry.answer n.rule n.reads).answer;
       most = omega (arith, c.loop-i.invariant.most, entry.most);
+      sources = adds_both c.loop-i.invariant.sources
+          (adds_also (λ rule one. (c.loop-i.i, omega (arith, c.loop-i-test.true, c.in_ok-count.ensures.count.0), one)) entry.sources);
       adds = record {
         texts = λ all. entry.adds.texts (c.loop-i.invariant.adds.texts all);
         fault = tt;

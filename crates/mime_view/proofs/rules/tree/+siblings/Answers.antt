@@ -1,4 +1,4 @@
-use Rattle.std.proofs.Common.{◌≡◌, ℕ, List, length, ◌++◌, map, arith, inl, inr, refl, rules, sym, ap, ◌∙◌, ⊎_elim}
+use Rattle.std.proofs.Common.{◌≡◌, ℕ, List, ◌∷◌, length, ◌++◌, map, arith, inl, inr, refl, rules, sym, ap, ◌∙◌, ⊎_elim}
 use Rattle.mime_base.specs.Cache.Bytes.{field}
 use Rattle.mime_base.specs.declared.database.rule.GlobRule.{GlobRule}
 use Rattle.mime_view.specs.Listing.{listed_rule}
@@ -9,13 +9,13 @@ use Rattle.mime_view.proofs.ListingLemmas.SiblingFaults.{among, below}
 use Rattle.mime_view.proofs.SuffixTreeLemmas.SiblingNodes.{below_read, leaf_read, node_read, some_node}
 use Rattle.mime_view.proofs.SuffixTreeLemmas.SiblingRows.{next}
 use Rattle.mime_view.proofs.SuffixTreeLemmas.SiblingSteps.{all_given, next_stops, node_gives, node_stops, stops_there}
+use Rattle.mime_view.proofs.ListingLemmas.RuleSources.{adds_also, adds_both, rule_among, rule_below, rule_here}
 use Rattle.mime_view.proofs.rules.tree.+siblings.Goals as goal
 
 pub add_sibling-returns-in_err-row-clause-answer : goal.add_sibling-returns-in_err-row-clause-answer
 add_sibling-returns-in_err-row-clause-answer t c = λ tree alone reads.
-    let none = c.in_err-row.ensures.row in
-    stops_there tree _ _ c.from_residual.result c.from_residual.ensures.1 alone (omega (arith, none.1))
-    (λ enough. absurd (omega (arith, some_node tree alone, none.1, enough)))
+    stops_there tree _ _ c.from_residual.result c.from_residual.ensures.1 alone (omega (arith, c.in_err-row.ensures.row.1))
+    (λ enough. absurd (omega (arith, some_node tree alone, c.in_err-row.ensures.row.1, enough)))
 
 pub add_sibling-returns-in_err-add_leaf-clause-answer : goal.add_sibling-returns-in_err-add_leaf-clause-answer
 add_sibling-returns-in_err-add_leaf-clause-answer t c = λ tree alone reads.
@@ -53,9 +53,8 @@ add_sibling-returns-in_err-check_block-clause-answer t c = λ tree alone reads.
 
 pub add_sibling-returns-in_err-grow-clause-answer : goal.add_sibling-returns-in_err-grow-clause-answer
 add_sibling-returns-in_err-grow-clause-answer t c = λ tree alone reads.
-    let row = c.in_ok-row.ensures.row in
-    stops_there tree _ _ c.from_residual-in_err-grow.result c.from_residual-in_err-grow.ensures.1 alone (omega (arith, row.taken))
-    (λ enough. c.in_err-grow.ensures.fault)
+    stops_there tree _ _ c.from_residual-in_err-grow.result c.from_residual-in_err-grow.ensures.1 alone
+    (omega (arith, c.in_ok-row.ensures.row.taken)) (λ enough. c.in_err-grow.ensures.fault)
 
 pub add_sibling-returns-in_err-add_siblings-clause-answer : goal.add_sibling-returns-in_err-add_siblings-clause-answer
 add_sibling-returns-in_err-add_siblings-clause-answer t c = λ tree alone reads.
@@ -85,6 +84,8 @@ add_siblings-loop-i-preserved t c = record {
       let given = c.in_ok-add_sibling.ensures.answer n.one n.alone (rw c.loop-i.invariant.ending n.reads) in
       n.later _ _ given.answer given.most;
   ending = c.in_ok-add_sibling.ensures.ending_stays ∙ c.loop-i.invariant.ending;
+  sources = adds_both c.loop-i.invariant.sources
+      (adds_also (λ rule. rule_among c.loop-i.i c.loop-i-test.true c.loop-i.invariant.ending) c.in_ok-add_sibling.ensures.sources);
   adds = adds_then c.loop-i.invariant.adds c.in_ok-add_sibling.ensures.adds;
 }
 
@@ -94,15 +95,13 @@ add_siblings-returns-clause-answer t c = λ tree sibling_count reads.
 
 pub add_sibling-returns-in_err-row-clause-adds : goal.add_sibling-returns-in_err-row-clause-adds
 add_sibling-returns-in_err-row-clause-adds t c =
-    let none = c.in_err-row.ensures.row in
     adds_here c.from_residual.result c.from_residual.ensures.1 (λ all. all) (inr (inr (inr (inl (search rules))))) (search rules)
 
 pub add_sibling-returns-in_err-add_leaf-clause-adds : goal.add_sibling-returns-in_err-add_leaf-clause-adds
 add_sibling-returns-in_err-add_leaf-clause-adds t c =
-    let row = c.in_ok-row.ensures.row in
     adds_here c.from_residual-in_err-add_leaf.result c.from_residual-in_err-add_leaf.ensures.1 c.in_err-add_leaf.ensures.texts
-    (⊎_elim (λ kind. inr (inr (inl (sym row.first ∙ c.if-row-eq0.true, rw row.second at kind)))) (λ memory. inr (inr (inr (inr memory))))
-    c.in_err-add_leaf.ensures.fault) (search rules)
+    (⊎_elim (λ kind. inr (inr (inl (sym c.in_ok-row.ensures.row.first ∙ c.if-row-eq0.true, rw c.in_ok-row.ensures.row.second at kind))))
+    (λ memory. inr (inr (inr (inr memory)))) c.in_err-add_leaf.ensures.fault) (search rules)
 
 pub add_sibling-returns-then-length-eq-DEEPEST-clause-adds : goal.add_sibling-returns-then-length-eq-DEEPEST-clause-adds
 add_sibling-returns-then-length-eq-DEEPEST-clause-adds t c =
@@ -113,9 +112,7 @@ add_sibling-returns-then-length-eq-DEEPEST-clause-adds t c =
 pub add_sibling-returns-in_err-check_block-clause-adds : goal.add_sibling-returns-in_err-check_block-clause-adds
 add_sibling-returns-in_err-check_block-clause-adds t c =
     let row = c.in_ok-row.ensures.row in
-    let count : c.from-count.result ≡ field c.args.source.now.counted.now c.args.at 1 = c.from-count.ensures ∙ row.second in
-    let first : c.from-first.result ≡ field c.args.source.now.counted.now c.args.at 2 = c.from-first.ensures ∙ row.third in
-    let block = rw (first, count) at c.in_err-check_block.ensures.fault in
+    let block = rw (c.from-first.ensures ∙ row.third, c.from-count.ensures ∙ row.second) at c.in_err-check_block.ensures.fault in
     adds_here c.from_residual-in_err-check_block.result c.from_residual-in_err-check_block.ensures.1 (λ all. all)
     (inl (record { some = omega (arith, row.first); byte = omega (arith, row.first) }, block)) (search rules)
 
@@ -129,15 +126,24 @@ add_sibling-returns-in_err-add_siblings-clause-adds t c =
     let adds = c.in_err-add_siblings.ensures.adds in
     let row = c.in_ok-row.ensures.row in
     adds_stop _ c.from_residual-in_err-add_siblings.result c.from_residual-in_err-add_siblings.ensures.1 adds.texts
-    (below c.args.source.now.counted.now c.args.at (length c.args.ending.now) c.from-first.result c.from-count.result (length c.grow.new.self)
-    c.add_siblings.new.spending.budget.records _ (c.from-first.ensures ∙ row.third) (c.from-count.ensures ∙ row.second)
-    (ap (λ (e : List ℕ). length e) c.in_ok-grow.ensures.grown)
+    (below (c.from-first.ensures ∙ row.third) (c.from-count.ensures ∙ row.second) (ap (λ (e : List ℕ). length e) c.in_ok-grow.ensures.grown)
     (record { some = omega (arith, row.first); byte = omega (arith, row.first) }) adds.fault) (search rules)
 
 pub add_siblings-returns-in_err-add_sibling-clause-adds : goal.add_siblings-returns-in_err-add_sibling-clause-adds
 add_siblings-returns-in_err-add_sibling-clause-adds t c =
     let adds = c.in_err-add_sibling.ensures.adds in
     adds_stop _ c.from_residual.result c.from_residual.ensures.1 (λ all. adds.texts (c.loop-i.invariant.adds.texts all))
-    (among c.args.source.now.counted.now c.args.first c.args.count c.loop-i.i (length c.args.ending.now) (length c.loop-i.ending)
-    c.add_sibling.new.spending.budget.records _ c.loop-i-test.true (ap (λ (e : List ℕ). length e) c.loop-i.invariant.ending) adds.fault)
+    (among c.loop-i.i c.loop-i-test.true (ap (λ (e : List ℕ). length e) c.loop-i.invariant.ending) adds.fault)
     (spends_then (per_record 512) 0 0 0 0 _ _ _ c.loop-i.invariant.adds.cost adds.cost)
+
+pub add_sibling-returns-then-row-eq0-clause-sources : goal.add_sibling-returns-then-row-eq0-clause-sources
+add_sibling-returns-then-row-eq0-clause-sources t c =
+    let row = c.in_ok-row.ensures.row in
+    adds_also (λ rule. rule_here) (c.in_ok-add_leaf.ensures.sources c.args.at (sym row.first ∙ c.if-row-eq0.true) row.second row.third)
+
+pub add_sibling-returns-clause-sources : goal.add_sibling-returns-clause-sources
+add_sibling-returns-clause-sources t c =
+    let row = c.in_ok-row.ensures.row in
+    adds_also (λ rule. rule_below (c.from-first.ensures ∙ row.third) (c.from-count.ensures ∙ row.second)
+    (c.in_ok-grow.ensures.grown ∙ ap (λ (n : ℕ). n ∷ c.args.ending.now) row.first)
+    (record { some = omega (arith, row.first); byte = omega (arith, row.first) })) c.in_ok-add_siblings.ensures.sources
