@@ -121,36 +121,59 @@ abbrev pub first_byte : List ℕ → ℕ
 first_byte [] = 0
 first_byte (x ∷ xs) = x
 
--- siblings stand there whose leaves are those of the entries
+-- Siblings stand there whose leaves are those of the entries.
 pub record IsBlock (S : Standing) (count first : ℕ) (es : List PathRule) : Type 0 where
+  -- The siblings, with what is below them.
   pub tree : Tree
+  -- There are that many.
   pub counted : sibling_count tree ≡ count
+  -- They stand there.
   pub stand : TreeAt S first tree
+  -- At each path they have the rules that the entries have for it, in their order.
   pub leaves : (path : List ℕ) → leaves_at path tree ≡ pick path es
+  -- There are as many nodes as the entries need.
   pub size : node_count tree ≡ nodes [] es
+  -- And a leaf for each entry.
   pub counts : leaf_count tree ≡ length es
+  -- Where the paths rise, so do the siblings.
   pub ordered : Rises [] es → InOrder 0 tree
 
--- after a path that the entries do not go on from, the sibling is in order, and some such path stands before the rest
+-- After a path that the entries do not go on from, the sibling is in order, and some such path stands before the rest.
 pub record GoesBehind (before : List ℕ) (sibling : Sibling) (rest : List PathRule) : Type 0 where
+  -- The path that stands before the rest.
   pub after : List ℕ
+  -- The sibling is in order after the path before it.
   pub here : InOrder (first_byte before) (as_tree (sibling ∷ []))
+  -- The next sibling's byte is above that of the path before the rest.
   pub now : next_byte (first_byte before) sibling ≡ first_byte after
+  -- The rest rises from that path.
   pub rises : Rises after rest
+  -- And does not go on from it.
   pub fresh : Fresh after rest
 
--- the first n entries make one sibling, and what belongs to it was written
+-- The first n entries make one sibling, and what belongs to it was written.
 pub record WritesSibling (old new row : List ℕ) (n : ℕ) (es : List PathRule) : Type 0 where
+  -- The sibling, with what is below it.
   pub sibling : Sibling
+  -- How many bytes were written.
   pub by : ℕ
+  -- They are after the others.
   pub grew : Grew old new by
+  -- The row is the sibling's record, over what was written.
   pub is : IsSibling (Written new) sibling row
+  -- It takes the nodes that the entries need more than those after the first n.
   pub size : sibling_nodes sibling + nodes [] (drop n es) ≡ nodes [] es
+  -- So it does of the bytes, with the 12 of its record.
   pub room : by + 12 + entries_room (drop n es) ≡ entries_room es
+  -- At each path its leaves are the first of the rules that the entries have for it.
   pub leaves : (path : List ℕ) → leaves_of path sibling ++ pick path (drop n es) ≡ pick path es
+  -- It has as many leaves as entries that it is made of.
   pub counts : sibling_leaves sibling + length (drop n es) ≡ length es
+  -- Where the entries rise from a path and do not go on from it, it is in order, and so are those after it.
   pub goes : (before : List ℕ) → Rises before es → Fresh before es → GoesBehind before sibling (drop n es)
+  -- It is made of an entry at least.
   pub some : 0 < n
+  -- And of no more than there are.
   pub within : n ≤ length es
 
 -- all of them begin with b

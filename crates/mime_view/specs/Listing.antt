@@ -15,11 +15,15 @@ use Rattle.mime_view.specs.declared.rules.listing.Listed.{Listed}
 use Rattle.mime_view.specs.declared.rules.row.Row.{Row}
 use Rattle.mime_view.specs.declared.spending.Spending.{Spending}
 
--- a rule as it is listed, with its pattern as it is stored
+-- A rule as it is listed.
 pub record PlainListed : Type 0 where
+  -- Its weight.
   pub weight : ℕ
+  -- The type that it gives.
   pub kind : List ℕ
+  -- Its pattern as it is stored.
   pub pattern : List ℕ
+  -- Whether it is case-sensitive.
   pub cased : Bool
 
 -- the plain value of a listed rule
@@ -49,12 +53,17 @@ listed_rule rule = record {
   cased = rule.cased;
 }
 
--- the literal rules and those of the tree, each by their texts, and then those of the glob list, in merged order
+-- The literal rules and those of the tree, each by their texts, and then those of the glob list, in merged order.
 pub record IsListing (rules : List GlobRule) (listed : List PlainListed) : Type 0 where
+  -- The literal rules in the order in which they are listed.
   pub literals : List GlobRule
+  -- Those of the tree.
   pub leaves : List GlobRule
+  -- The literal rules are by rising stored texts, and those of one text in merged order.
   pub sorted_literals : IsSortedByText stored_text (literal_rules rules) literals
+  -- Those of the tree are by rising endings, read from their ends, likewise.
   pub sorted_leaves : IsSortedByText reversed_ending (tree_rules rules) leaves
+  -- Each is listed, and no other.
   pub is : listed ≡ map listed_rule (literals ++ (leaves ++ glob_rules rules))
 
 -- a type that is a text of the cache, and a pattern of at most 255 bytes

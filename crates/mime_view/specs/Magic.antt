@@ -20,18 +20,26 @@ use Rattle.mime_view.specs.declared.magic.MagicQuery.{MagicQuery}
 use Rattle.mime_view.specs.declared.magic.Seen.{Seen}
 use Rattle.mime_view.specs.declared.spending.Spending.{Spending}
 
--- that many records of a size lie in the cache; no records lie anywhere
+-- That many records of a size lie in the cache; no records lie anywhere.
 pub record LiesBlock (c : List ℕ) (first size count : ℕ) : Type 0 where
+  -- Where there are some, the cache does not end before they do.
   pub inside : 0 < count → first + size * count ≤ length c
 
--- the record at `at` is that of a line without its children
+-- The record at `at` is that of a line without its children.
 pub record ReadsLine (c : List ℕ) (at : ℕ) (own : PlainLine) : Type 0 where
+  -- Its first number is where the range begins.
   pub start : field c at 0 ≡ own.start
+  -- Its second is how many offsets that has.
   pub range : field c at 1 ≡ own.range
+  -- Its third is the word.
   pub word : field c at 2 ≡ own.word
+  -- Its fourth is the length of the value.
   pub size : field c at 3 ≡ length own.value
+  -- The value lies in the cache where the fifth says, and the mask, if there is one, where the sixth does.
   pub lies : both_lie c (field c at 4) (field c at 5) (length own.value) ≡ true
+  -- The value stands there.
   pub value : value_at c (field c at 4) (length own.value) ≡ own.value
+  -- So does the mask.
   pub mask : optional_mask c (field c at 5) (length own.value) ≡ bytes_of_mask own.mask
 
 -- lines are read one after another, and the children of each
@@ -41,12 +49,17 @@ ReadsLines c at (line own children rest) =
     ReadsLine c at own × (field c at 6 ≡ width children) × LiesBlock c (field c at 7) 32 (width children)
     × ReadsLines c (field c at 7) children × ReadsLines c (at + 32) rest
 
--- a section with its lines
+-- The record at `at` is that of a section, and its lines are read.
 pub record ReadsSection (c : List ℕ) (at : ℕ) (section : PlainSection) : Type 0 where
+  -- Its first number is the priority.
   pub priority : field c at 0 ≡ section.priority
+  -- Its second names the type.
   pub kind : text_at c (field c at 1) ≡ Ok section.kind
+  -- Its third is how many lines it has, those below others not counted.
   pub count : field c at 2 ≡ width section.lines
+  -- They lie in the cache where its fourth says.
   pub block : LiesBlock c (field c at 3) 32 (width section.lines)
+  -- They are read there, one after another.
   pub lines : ReadsLines c (field c at 3) section.lines
 
 -- sections are read one after another
@@ -54,11 +67,15 @@ abbrev pub ReadsSections : List ℕ → ℕ → List PlainSection → Type 0
 ReadsSections c at [] = Unit {0}
 ReadsSections c at (section ∷ sections) = ReadsSection c at section × ReadsSections c (at + 16) sections
 
--- the magic list at `at` is of these sections
+-- The magic list at `at` is of these sections.
 pub record ReadsMagic (c : List ℕ) (at : ℕ) (sections : List PlainSection) : Type 0 where
+  -- Its head lies in the cache.
   pub head : at + 12 ≤ length c
+  -- The head's first number is how many sections there are.
   pub count : field c at 0 ≡ length sections
+  -- They lie in the cache where its third says.
   pub block : LiesBlock c (field c at 2) 16 (length sections)
+  -- They are read there, one after another.
   pub sections_read : ReadsSections c (field c at 2) sections
 
 -- The head of the magic list at `at` and its sections lie in the cache.
@@ -68,9 +85,11 @@ pub record LiesMagic (c : List ℕ) (at : ℕ) : Type 0 where
   -- The sections.
   pub sections : LiesBlock c (field c at 2) 16 (field c at 0)
 
--- at most that many records and value bytes are taken
+-- At most that many records and value bytes are taken.
 pub record Takes (records value_bytes : ℕ) (old new : Budget) : Type 0 where
+  -- No more records.
   pub most_records : old.records ≤ new.records + records
+  -- No more value bytes.
   pub most_value_bytes : old.value_bytes ≤ new.value_bytes + value_bytes
 
 -- What is answered of lines or sections that stand, have that many records and that many value bytes, and compare that many bytes.
@@ -159,15 +178,20 @@ pub record NamesChildren (c : List ℕ) (at : ℕ) (seen : Seen) : Type 0 where
 abbrev pub NamesText : List ℕ → Option (Bor (List ℕ) × ℕ) → Type 0
 NamesText c found = IfSome found (λ pair. (at : ℕ) × (text_at c at ≡ Ok pair.0.now))
 
--- the records that a record names do not lie in the cache
+-- The records that a record names do not lie in the cache.
 pub record IsBlockFault (c : List ℕ) (first size count : ℕ) (e : CacheFault) : Type 0 where
+  -- There is one.
   pub some : 0 < count
+  -- The cache ends before the last does.
   pub outside : length c < first + size * count
+  -- The fault names the offset of the first.
   pub is : e ≡ OutOfRange first
 
--- the value of a line, or its mask, does not lie in the cache
+-- The value of a line, or its mask, does not lie in the cache.
 pub record IsValueFault (c : List ℕ) (r : ℕ) (e : CacheFault) : Type 0 where
+  -- One of them does not.
   pub outside : both_lie c (field c r 4) (field c r 5) (field c r 3) ≡ false
+  -- The fault names the offset of the value where that does not, else that of the mask.
   pub is : e ≡ OutOfRange (if lies c (field c r 4) (field c r 3) then field c r 5 else field c r 4)
 
 -- no record is left, or fewer value bytes than a line states

@@ -13,16 +13,27 @@ use Rattle.mime_base.specs.Format.SuffixTree.{SuffixTreeAt}
 abbrev pub cache_limit : ℕ
 cache_limit = 268435456
 
--- within the limit, a header stands, and at its offsets each part of the database
+-- The bytes spell a database: a header stands, and at its offsets each part.
 pub record Spells (c : List ℕ) (b : PlainDatabase) : Type 0 where
+  -- There are no more bytes than a cache may have.
   pub within : length c ≤ cache_limit
+  -- Where the parts begin.
   pub offsets : Offsets
+  -- The header says so.
   pub header : HeaderAt (Stands c) offsets
+  -- The aliases, each with the type that it stands for.
   pub aliases : PairsAt (Stands c) offsets.aliases b.aliases
+  -- The types that have a parent, each with all its parents.
   pub parents : ParentsAt (Stands c) offsets.parents b.parents
+  -- The literal rules.
   pub literals : LiteralsAt (Stands c) offsets.literals b.rules
+  -- The suffix rules.
   pub tree : SuffixTreeAt (Stands c) offsets.tree b.rules
+  -- The other rules.
   pub globs : GlobsAt (Stands c) offsets.globs b.rules
+  -- The sections of magic, with their lines.
   pub magic : MagicAt (Stands c) offsets.magic b.sections
+  -- The icons, each with its type.
   pub icons : PairsAt (Stands c) offsets.icons b.icons
+  -- The generic icons, likewise.
   pub generic_icons : PairsAt (Stands c) offsets.generic_icons b.generic_icons
