@@ -2,6 +2,7 @@
 pub mod Reads
 pub mod Faults
 pub mod Sources
+pub mod Walks
 use Rattle.std.specs.Prelude.{◌≡◌, ℕ, ◌+◌, ◌*◌, ◌/◌, ◌%◌, ◌<◌, ◌≤◌, ◌==◌, All, Bool, List, ◌++◌, length, map, Result, Ok, IfErr}
 use Rattle.mime_base.specs.Cache.Bytes.{field}
 use Rattle.mime_base.specs.Cache.Texts.{text_at}

@@ -1,6 +1,6 @@
 -- The reverse suffix tree as it is read along a name, and why a walk gives no answer.
-use Rattle.std.specs.Prelude.{◌≡◌, ◌⊎◌, ℕ, zero, suc, ◌+◌, ◌-◌, ◌*◌, ◌<◌, ◌≤◌, ◌==◌, if◌then◌else◌}
-use Rattle.std.specs.Prelude.{List, [], get_or, length, reverse, filter, All, Result, Ok, Option, None, Some, IfSome}
+use Rattle.std.specs.Prelude.{◌≡◌, ◌≢◌, ◌⊎◌, ℕ, zero, suc, ◌+◌, ◌-◌, ◌*◌, ◌<◌, ◌≤◌, ◌==◌, if◌then◌else◌}
+use Rattle.std.specs.Prelude.{List, [], get_or, length, reverse, filter, All, Result, Ok, Option, None, Some, IfNone, IfSome}
 use Rattle.mime_base.specs.Cache.Bytes.{field}
 use Rattle.mime_base.specs.Cache.Texts.{text_at}
 use Rattle.mime_base.specs.Format.Stored.{weight_and_flags}
@@ -95,12 +95,23 @@ pub record IsNamedBlock (c : List ℕ) (Among : ℕ → Type 0) (character : ℕ
   -- And how many there are.
   pub count : block.count ≡ field c node 1
 
+-- Where a halving ends among the siblings of a block, none is the node of the character.
+pub record IsAbsent (c : List ℕ) (block : Siblings) (character : ℕ) : Type 0 where
+  -- Where it ends.
+  pub place : ℕ
+  -- The character of the sibling before is less, and that at it is not.
+  pub found : IsCharacterPlace c block character place
+  -- Nor is it the character.
+  pub other : 0 < character → place < block.count → field c (block.first + 12 * place) 0 ≢ character
+
 -- The block below a character of another, if there is one.
 pub record IsBlockBelow (c : List ℕ) (block : Siblings) (character : ℕ) (below : Option Siblings) : Type 0 where
   -- It lies in the cache.
   pub lies : IfSome below (λ lower. LiesBlock c lower.first 12 lower.count)
   -- It is what one of the siblings names.
   pub named : IfSome below (IsNamedBlock c (IsSibling c block) character)
+  -- There is none only where no sibling is found that has the character, wherever its children are.
+  pub none : IfNone below (IsAbsent c block character)
   -- It is of the siblings below the character, wherever those of the block stand.
   pub reads : (tree : Tree) → ReadsBlock c block tree → IsBelow c (below_character character tree) below
 

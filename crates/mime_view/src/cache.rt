@@ -26,6 +26,7 @@ ghost use Rattle.mime_view.specs.Walked.{WalksMagic};
 ghost use Rattle.mime_view.specs.Listing.{IsListed, IsListing, listing_records, plain_listed};
 ghost use Rattle.mime_view.specs.Listing.Faults.{IsListingFault};
 ghost use Rattle.mime_view.specs.Listing.Sources.{IsRuleOf};
+ghost use Rattle.mime_view.specs.Listing.Walks.{LieRules};
 
 use crate::budget::Budget;
 use crate::fault::CacheFault;
@@ -448,6 +449,8 @@ impl<'a> Cache<'a> {
             (spending_of meter.old budget.old) (spending_of meter.new budget.new) result }
         // On any bytes each rule stands in one of the two lists, or at a leaf to which characters of one byte lead from a root.
         ensures sources { IfOk result (λ listed. All (IsRuleOf self.now) (map plain_listed listed.items)) }
+        // For an answer both lists lie in the cache, and so does the tree with all of its nodes.
+        ensures inside { OnOk result (LieRules self.now (field self.now 0 3) (field self.now 0 4) (field self.now 0 5)) }
         // On any bytes each type is a text of the cache, and each pattern is short.
         ensures text { IfOk result (λ listed. All (IsListed self.now) (map plain_listed listed.items)) }
         // A fault is one of the lists, of the tree or of a text, or the budget is spent, or memory is short.

@@ -17,7 +17,7 @@ ghost use Rattle.mime_base.specs.declared.database.rule.GlobRule.{GlobRule};
 ghost use Rattle.mime_view.specs.Listing.{IsListed, listed_rule, plain_listed};
 ghost use Rattle.mime_view.specs.Listing.Faults.{IsListsFault};
 ghost use Rattle.mime_view.specs.Listing.Reads.{ReadsListedRules, ReadsSuffixTree, rules_in};
-ghost use Rattle.mime_view.specs.Listing.Sources.{IsRuleAt};
+ghost use Rattle.mime_view.specs.Listing.Walks.{ListsRules};
 ghost use Rattle.mime_view.specs.Spending.{Gives, Spends, per_record};
 
 use crate::fault::CacheFault;
@@ -48,9 +48,8 @@ pub fn list_rules<'a>(
         Gives (λ rules. map plain_listed rules.items
         ≡ map listed_rule first ++ (map listed_rule (rules_in roots) ++ map listed_rule last))
         (length first + node_count roots + length last) spending.old spending.new result }
-    // On any bytes each rule is one that an entry of the two lists or a leaf of the tree states.
-    ensures sources { IfOk result
-        (λ rules. All (IsRuleAt source.now.counted.now literals tree globs) (map plain_listed rules.items)) }
+    // On any bytes each rule is one that an entry of the two lists or a leaf of the tree states, and all three lie in the cache.
+    ensures lists { IfOk result (λ rules. ListsRules source.now.counted.now literals tree globs (map plain_listed rules.items)) }
     // On any bytes each rule has a text of the cache as its type and a short pattern, or one of the lists stops it.
     ensures listed { MatchResult result (λ rules. All (IsListed source.now.counted.now) (map plain_listed rules.items))
         (IsListsFault source.now.counted.now literals tree globs spending.new.budget.records) }

@@ -5,7 +5,8 @@ ghost use Rattle.mime_base.specs.declared.database.rule.GlobRule.{GlobRule};
 ghost use Rattle.mime_view.specs.Listing.{Adds, AddsRules};
 ghost use Rattle.mime_view.specs.Listing.Faults.{IsRuleFault, IsRulesFault};
 ghost use Rattle.mime_view.specs.Listing.Reads.{ReadsEntry, ReadsListedRules};
-ghost use Rattle.mime_view.specs.Listing.Sources.{AddsSome, IsEntryRule, IsListRule};
+ghost use Rattle.mime_view.specs.Listing.Sources.{AddsSome, IsEntryRule};
+ghost use Rattle.mime_view.specs.Listing.Walks.{ListsEntries};
 
 use crate::fault::CacheFault;
 use crate::list::count_at;
@@ -26,8 +27,8 @@ pub fn add_entries<'a>(
     // It adds the rules of a list that stands, which take a record each.
     ensures answer { (rules : List GlobRule) → ReadsListedRules source.now.counted.now at rules →
         AddsRules rules (length rules) listing.old listing.new spending.old spending.new result }
-    // On any bytes each rule that it adds is that of an entry.
-    ensures sources { OnOk result (AddsSome (IsListRule source.now.counted.now at) listing.old listing.new) }
+    // On any bytes each rule that it adds is that of an entry, and all entries lie in the cache.
+    ensures lists { OnOk result (ListsEntries source.now.counted.now at listing.old listing.new) }
     // On any bytes it adds such rules, and looks at the list's count besides.
     ensures adds { Adds source.now.counted.now (IsRulesFault source.now.counted.now at) 1
         listing.old listing.new spending.old spending.new result }

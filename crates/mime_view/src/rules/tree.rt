@@ -10,7 +10,8 @@ ghost use Rattle.mime_base.specs.declared.database.rule.GlobRule.{GlobRule};
 ghost use Rattle.mime_view.specs.Listing.{Adds, AddsRules, IsListed, listed_rule};
 ghost use Rattle.mime_view.specs.Listing.Faults.{IsSiblingsFault, IsListedTreeFault};
 ghost use Rattle.mime_view.specs.Listing.Reads.{ReadsListedLeaf, ReadsSuffixTree, ReadsListedTree, rules_in};
-ghost use Rattle.mime_view.specs.Listing.Sources.{AddsSome, IsLeafRule, IsSiblingsRule, IsTreeRule};
+ghost use Rattle.mime_view.specs.Listing.Sources.{AddsSome, IsLeafRule};
+ghost use Rattle.mime_view.specs.Listing.Walks.{ListsSiblings, ListsTree};
 ghost use Rattle.mime_view.specs.Lists.{IsNoText};
 ghost use Rattle.mime_view.specs.Magic.{LiesBlock};
 ghost use Rattle.mime_view.specs.Spending.{Looks};
@@ -39,8 +40,8 @@ pub fn add_tree<'a>(
     // It adds the rules of a tree that stands, of which each node takes a record.
     ensures answer { (tree : Tree) → ReadsSuffixTree source.now.counted.now at tree →
         AddsRules (rules_in tree) (node_count tree) listing.old listing.new spending.old spending.new result }
-    // On any bytes each rule that it adds is that of a leaf to which characters lead from a root.
-    ensures sources { OnOk result (AddsSome (IsTreeRule source.now.counted.now at) listing.old listing.new) }
+    // On any bytes each rule that it adds is that of a leaf to which characters lead from a root, and the whole tree lies in the cache.
+    ensures lists { OnOk result (ListsTree source.now.counted.now at listing.old listing.new) }
     // On any bytes it adds such rules, and looks at the tree's head besides.
     ensures adds { Adds source.now.counted.now (IsListedTreeFault source.now.counted.now at) 1
         listing.old listing.new spending.old spending.new result }
@@ -73,8 +74,8 @@ fn add_siblings<'a>(
         AddsRules (rules_in tree) (node_count tree) listing.old listing.new spending.old spending.new result }
     // The ending is then as it was.
     ensures ending_stays { OnOk result (ending.new ≡ ending.old) }
-    // On any bytes each rule that it adds is that of a leaf to which characters lead from one of them.
-    ensures sources { OnOk result (AddsSome (IsSiblingsRule source.now.counted.now first count ending.old) listing.old listing.new) }
+    // On any bytes it adds rules of leaves to which characters lead from one of them, and what is below them lies in the cache.
+    ensures lists { OnOk result (ListsSiblings source.now.counted.now first count ending.old listing.old listing.new) }
     // On any bytes it adds such rules.
     ensures adds { Adds source.now.counted.now (IsSiblingsFault source.now.counted.now first count (length ending.old)) 0
         listing.old listing.new spending.old spending.new result }
@@ -87,7 +88,7 @@ fn add_siblings<'a>(
 
 /// Adds the rule of the leaf at `at`, or the rules below the node there.
 #[cycle(siblings)]
-#[tactic(auto, using(crate::proofs::SuffixTreeLemmas::SiblingNodes::some_node, crate::proofs::ListingLemmas::RuleSources::adds_nothing))]
+#[tactic(auto, using(crate::proofs::SuffixTreeLemmas::SiblingNodes::some_node))]
 fn add_sibling<'a>(
     source: &ListingSource<'_, 'a>,
     at: u64,
@@ -104,8 +105,8 @@ fn add_sibling<'a>(
         AddsRules (rules_in tree) (node_count tree) listing.old listing.new spending.old spending.new result }
     // The ending is then as it was.
     ensures ending_stays { OnOk result (ending.new ≡ ending.old) }
-    // On any bytes each rule that it adds is that of a leaf to which characters lead from it.
-    ensures sources { OnOk result (AddsSome (IsSiblingsRule source.now.counted.now at 1 ending.old) listing.old listing.new) }
+    // On any bytes it adds rules of leaves to which characters lead from it, and what is below it lies in the cache.
+    ensures lists { OnOk result (ListsSiblings source.now.counted.now at 1 ending.old listing.old listing.new) }
     // On any bytes it adds such rules.
     ensures adds { Adds source.now.counted.now (IsSiblingsFault source.now.counted.now at 1 (length ending.old)) 0
         listing.old listing.new spending.old spending.new result }

@@ -9,10 +9,16 @@ returns-clause-listed c =
     all_listed c.args.source.now.counted.now _ _ _ _ _ c.none-listing.ensures c.add_entries.ensures.adds.texts
     c.add_tree.ensures.adds.texts c.add_entries-2.ensures.adds.texts c.into_vec.ensures
 
-pub returns-clause-sources : goal.returns-clause-sources
-returns-clause-sources c =
-    all_from c.args.source.now.counted.now c.args.literals c.args.tree c.args.globs _ _ _ _ _ c.none-listing.ensures
-    c.in_ok-add_entries.ensures.sources c.in_ok-add_tree.ensures.sources c.in_ok-add_entries-2.ensures.sources c.into_vec.ensures
+pub returns-clause-lists : goal.returns-clause-lists
+returns-clause-lists c =
+    let first = c.in_ok-add_entries.ensures.lists in
+    let tree = c.in_ok-add_tree.ensures.lists in
+    let last = c.in_ok-add_entries-2.ensures.lists in
+    record {
+      rules = all_from c.args.source.now.counted.now c.args.literals c.args.tree c.args.globs _ _ _ _ _ c.none-listing.ensures
+          first.rules tree.rules last.rules c.into_vec.ensures;
+      lie = record { literal_list = first.lies; whole_tree = tree.lies; glob_list = last.lies };
+    }
 
 pub returns-in_err-add_entries-2-clause-listed : goal.returns-in_err-add_entries-2-clause-listed
 returns-in_err-add_entries-2-clause-listed c =

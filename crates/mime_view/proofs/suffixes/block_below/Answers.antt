@@ -9,6 +9,11 @@ pub returns-then-byte-eq0-clause-below : goal.returns-then-byte-eq0-clause-below
 returns-then-byte-eq0-clause-below c = record {
   lies = tt;
   named = tt;
+  none = record {
+    place = 0;
+    found = record { within = omega arith; before = λ i next. absurd (omega arith); after = λ within. omega (arith, c.if-byte-eq0.true) };
+    other = λ some. absurd (omega (arith, c.if-byte-eq0.true));
+  };
   reads = λ tree reads.
       below_character-past c.args.byte 0 tree (omega (arith, c.if-byte-eq0.true)) reads.ordered;
 }
@@ -17,6 +22,11 @@ pub returns-then-place-block-clause-below : goal.returns-then-place-block-clause
 returns-then-place-block-clause-below c = record {
   lies = tt;
   named = tt;
+  none = record {
+    place = c.first_not_below-place.result;
+    found = c.first_not_below-place.ensures.place;
+    other = λ some within. absurd (omega (arith, c.if-place-block.true));
+  };
   reads = λ tree reads.
       none_below c.args.query.now.counted.now c.args.block c.args.byte c.first_not_below-place.result tree (omega (arith, c.if-byte-eq0.false)) reads
       c.first_not_below-place.ensures.place (λ within is. omega (arith, c.if-place-block.true));
@@ -26,6 +36,13 @@ pub returns-then-character-from-clause-below : goal.returns-then-character-from-
 returns-then-character-from-clause-below c = record {
   lies = tt;
   named = tt;
+  none = record {
+    place = c.first_not_below-place.result;
+    found = c.first_not_below-place.ensures.place;
+    other = λ some within is.
+        let read = ap (λ xs. get_or xs 0 0) c.cards_within.ensures.numbers in
+        c.if-character-from.true (read ∙ is ∙ sym c.from.ensures);
+  };
   reads = λ tree reads.
       let read = ap (λ xs. get_or xs 0 0) c.cards_within.ensures.numbers in
       none_below c.args.query.now.counted.now c.args.block c.args.byte c.first_not_below-place.result tree (omega (arith, c.if-byte-eq0.false)) reads
@@ -45,6 +62,7 @@ returns-in_err-block_of-clause-finds c = λ tree reads.
 pub returns-clause-below : goal.returns-clause-below
 returns-clause-below c = record {
   lies = c.in_ok-block_of.ensures.lies;
+  none = tt;
   named =
       let same = sym (ap (λ xs. get_or xs 0 0) c.cards_within.ensures.numbers) ∙ c.if-character-from.false ∙ c.from.ensures in
       record {

@@ -5,6 +5,7 @@ use Rattle.mime_base.specs.Cache.Bytes.{field}
 use Rattle.mime_base.specs.Format.Stored.{glob_rules}
 use Rattle.mime_view.specs.Listing.{IsListed, plain_listed}
 use Rattle.mime_view.specs.Listing.Sources.{IsRuleOf}
+use Rattle.mime_view.specs.Listing.Walks.{LieRules}
 use Rattle.mime_view.proofs.ListingLemmas.RuleLists.{all_read, are_listed, listing_fault}
 use Rattle.mime_view.proofs.cache.Cache.rules.Goals as goal
 
@@ -55,4 +56,16 @@ returns-clause-sources c =
     c.from-globs.ensures ∙ ap (λ (ns : List ℕ). get_or ns 5 0) c.self.invariant.0 in
     IfOk-weaker c.list_rules-rules.result _ _
     (λ listed all. subst (λ (bytes : List ℕ). All (IsRuleOf bytes) (map plain_listed listed.items)) c.self.view_is
-    (rw (is3, is4, is5) at all)) c.list_rules-rules.ensures.sources
+    (rw (is3, is4, is5) at all.rules)) c.list_rules-rules.ensures.lists
+
+pub returns-clause-inside : goal.returns-clause-inside
+returns-clause-inside c =
+    let is3 : c.from-literals.result ≡ field c.self.inside.counted 0 3 =
+    c.from-literals.ensures ∙ ap (λ (ns : List ℕ). get_or ns 3 0) c.self.invariant.0 in
+    let is4 : c.from-tree.result ≡ field c.self.inside.counted 0 4 =
+    c.from-tree.ensures ∙ ap (λ (ns : List ℕ). get_or ns 4 0) c.self.invariant.0 in
+    let is5 : c.from-globs.result ≡ field c.self.inside.counted 0 5 =
+    c.from-globs.ensures ∙ ap (λ (ns : List ℕ). get_or ns 5 0) c.self.invariant.0 in
+    IfOk-weaker c.list_rules-rules.result _ _
+    (λ listed all. subst (λ (bytes : List ℕ). LieRules bytes (field bytes 0 3) (field bytes 0 4) (field bytes 0 5)) c.self.view_is
+    (rw (is3, is4, is5) at all.lie)) c.list_rules-rules.ensures.lists

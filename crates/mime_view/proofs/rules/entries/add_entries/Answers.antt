@@ -3,7 +3,7 @@ use Rattle.std.proofs.lemmas.Result.{err_from_is_err_and}
 use Rattle.mime_view.specs.Spending.{per_record}
 use Rattle.mime_view.proofs.CostLemmas.Costs.{spends_then}
 use Rattle.mime_view.proofs.LiteralLemmas.EntryRows.{next}
-use Rattle.mime_view.proofs.ListingLemmas.RuleSources.{adds_also, adds_both, adds_nothing}
+use Rattle.mime_view.proofs.ListingLemmas.RuleSources.{adds_also, adds_both}
 use Rattle.mime_view.proofs.rules.entries.add_entries.Goals as goal
 
 pub returns-in_err-add_entry-clause-answer : goal.returns-in_err-add_entry-clause-answer
@@ -46,3 +46,9 @@ loop-i-preserved c =
         cost = spends_then (per_record 512) 1 0 0 0 _ _ _ c.loop-i.invariant.adds.cost entry.adds.cost;
       };
     }
+
+pub returns-clause-lists : goal.returns-clause-lists
+returns-clause-lists c = record {
+  rules = c.loop-i.invariant.sources;
+  lies = omega (arith, c.in_ok-count.ensures.count.0, c.in_ok-count.ensures.count.1);
+}

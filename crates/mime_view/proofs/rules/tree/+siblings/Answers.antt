@@ -1,4 +1,4 @@
-use Rattle.std.proofs.Common.{◌≡◌, ℕ, List, ◌∷◌, length, ◌++◌, map, arith, inl, inr, refl, rules, sym, ap, ◌∙◌, ⊎_elim}
+use Rattle.std.proofs.Common.{◌≡◌, ℕ, List, length, ◌++◌, map, arith, inl, inr, refl, rules, sym, ap, ◌∙◌, ⊎_elim}
 use Rattle.mime_base.specs.Cache.Bytes.{field}
 use Rattle.mime_base.specs.declared.database.rule.GlobRule.{GlobRule}
 use Rattle.mime_view.specs.Listing.{listed_rule}
@@ -9,7 +9,7 @@ use Rattle.mime_view.proofs.ListingLemmas.SiblingFaults.{among, below}
 use Rattle.mime_view.proofs.SuffixTreeLemmas.SiblingNodes.{below_read, leaf_read, node_read, some_node}
 use Rattle.mime_view.proofs.SuffixTreeLemmas.SiblingRows.{next}
 use Rattle.mime_view.proofs.SuffixTreeLemmas.SiblingSteps.{all_given, next_stops, node_gives, node_stops, stops_there}
-use Rattle.mime_view.proofs.ListingLemmas.RuleSources.{adds_also, adds_both, rule_among, rule_below, rule_here}
+use Rattle.mime_view.proofs.ListingLemmas.ListedSiblings.{lists_all, lists_leaf, lists_more, lists_node, lists_wide}
 use Rattle.mime_view.proofs.rules.tree.+siblings.Goals as goal
 
 pub add_sibling-returns-in_err-row-clause-answer : goal.add_sibling-returns-in_err-row-clause-answer
@@ -84,8 +84,7 @@ add_siblings-loop-i-preserved t c = record {
       let given = c.in_ok-add_sibling.ensures.answer n.one n.alone (rw c.loop-i.invariant.ending n.reads) in
       n.later _ _ given.answer given.most;
   ending = c.in_ok-add_sibling.ensures.ending_stays ∙ c.loop-i.invariant.ending;
-  sources = adds_both c.loop-i.invariant.sources
-      (adds_also (λ rule. rule_among c.loop-i.i c.loop-i-test.true c.loop-i.invariant.ending) c.in_ok-add_sibling.ensures.sources);
+  lists = lists_more c.loop-i.i c.loop-i.invariant.ending c.loop-i.invariant.lists c.in_ok-add_sibling.ensures.lists;
   adds = adds_then c.loop-i.invariant.adds c.in_ok-add_sibling.ensures.adds;
 }
 
@@ -136,14 +135,17 @@ add_siblings-returns-in_err-add_sibling-clause-adds t c =
     (among c.loop-i.i c.loop-i-test.true (ap (λ (e : List ℕ). length e) c.loop-i.invariant.ending) adds.fault)
     (spends_then (per_record 512) 0 0 0 0 _ _ _ c.loop-i.invariant.adds.cost adds.cost)
 
-pub add_sibling-returns-then-row-eq0-clause-sources : goal.add_sibling-returns-then-row-eq0-clause-sources
-add_sibling-returns-then-row-eq0-clause-sources t c =
-    let row = c.in_ok-row.ensures.row in
-    adds_also (λ rule. rule_here) (c.in_ok-add_leaf.ensures.sources c.args.at (sym row.first ∙ c.if-row-eq0.true) row.second row.third)
+pub add_sibling-returns-then-row-eq0-clause-lists : goal.add_sibling-returns-then-row-eq0-clause-lists
+add_sibling-returns-then-row-eq0-clause-lists t c =
+    lists_leaf c.in_ok-row.ensures.row c.if-row-eq0.true (c.in_ok-add_leaf.ensures.sources c.args.at)
 
-pub add_sibling-returns-clause-sources : goal.add_sibling-returns-clause-sources
-add_sibling-returns-clause-sources t c =
-    let row = c.in_ok-row.ensures.row in
-    adds_also (λ rule. rule_below (c.from-first.ensures ∙ row.third) (c.from-count.ensures ∙ row.second)
-    (c.in_ok-grow.ensures.grown ∙ ap (λ (n : ℕ). n ∷ c.args.ending.now) row.first)
-    (record { some = omega (arith, row.first); byte = omega (arith, row.first) })) c.in_ok-add_siblings.ensures.sources
+pub add_sibling-returns-then-row-gt255-clause-lists : goal.add_sibling-returns-then-row-gt255-clause-lists
+add_sibling-returns-then-row-gt255-clause-lists t c = lists_wide c.in_ok-row.ensures.row c.if-row-gt255.true
+
+pub add_sibling-returns-clause-lists : goal.add_sibling-returns-clause-lists
+add_sibling-returns-clause-lists t c =
+    lists_node c.in_ok-row.ensures.row (omega arith) (omega arith) c.in_ok-check_block.ensures.lies (omega arith) c.from-first.ensures
+    c.from-count.ensures c.in_ok-grow.ensures.grown c.in_ok-add_siblings.ensures.lists
+
+pub add_siblings-returns-clause-lists : goal.add_siblings-returns-clause-lists
+add_siblings-returns-clause-lists t c = lists_all (omega (arith, c.loop-i-test.false, c.loop-i.auto)) c.loop-i.invariant.lists
