@@ -3,7 +3,7 @@ use Rattle.std.specs.Prelude.{◌≡◌, ℕ, ◌+◌, ◌*◌, Bool, true, fals
 use Rattle.mime_base.specs.Kept.{class_of}
 use Rattle.mime_base.specs.Matching.Elements.{elements}
 use Rattle.mime_base.specs.Matching.Matches.{matches, rule_matches}
-use Rattle.mime_base.specs.Format.Tree.{Tree, bare, leaf, node}
+use Rattle.mime_base.specs.Format.Tree.{bare, leaf, node}
 use Rattle.mime_base.specs.declared.database.rule.GlobRule.{GlobRule}
 use Rattle.mime_view.specs.Hits.{ending_rules, glob_list_hits, hit_visits, literal_visits, near, tree_visits}
 use Rattle.mime_view.specs.Lists.{is_less, place_of}

@@ -95,7 +95,7 @@ pub record IsNamedBlock (c : List ℕ) (Among : ℕ → Type 0) (character : ℕ
   -- And how many there are.
   pub count : block.count ≡ field c node 1
 
--- Where a halving ends among the siblings of a block, none is the node of the character.
+-- The halving among the siblings of a block finds none that has the character.
 pub record IsAbsent (c : List ℕ) (block : Siblings) (character : ℕ) : Type 0 where
   -- Where it ends.
   pub place : ℕ

@@ -1,5 +1,5 @@
 -- Whether lines and sections hold by their records, from what they say themselves and what those below them say.
-use Rattle.std.proofs.Common.{◌≡◌, ℕ, zero, suc, ◌+◌, ◌*◌, ◌<◌, Bool, true, false, List, arith, inl, inr}
+use Rattle.std.proofs.Common.{◌≡◌, ℕ, zero, suc, ◌<◌, Bool, true, false, List, arith, inl, inr}
 use Rattle.mime_base.specs.Cache.Bytes.{field}
 use Rattle.mime_base.specs.declared.magic.host.Host.{Host}
 use Rattle.mime_view.specs.Magic.{EqualsAt, LiesBlock}

@@ -1,5 +1,5 @@
 -- What a listing of the rules of a cache says of its records, whatever the bytes are.
-use Rattle.std.specs.Prelude.{◌≡◌, ℕ, ◌+◌, ◌*◌, ◌<◌, All, List, length}
+use Rattle.std.specs.Prelude.{ℕ, ◌+◌, ◌*◌, ◌<◌, All, List, length}
 use Rattle.mime_base.specs.Cache.Bytes.{field}
 use Rattle.mime_view.specs.Listing.{PlainListed}
 use Rattle.mime_view.specs.Listing.Faults.{IsNode}

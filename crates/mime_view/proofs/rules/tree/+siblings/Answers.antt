@@ -1,5 +1,4 @@
-use Rattle.std.proofs.Common.{◌≡◌, ℕ, List, length, ◌++◌, map, arith, inl, inr, refl, rules, sym, ap, ◌∙◌, ⊎_elim}
-use Rattle.mime_base.specs.Cache.Bytes.{field}
+use Rattle.std.proofs.Common.{ℕ, List, length, ◌++◌, map, arith, inl, inr, refl, rules, sym, ap, ◌∙◌, ⊎_elim}
 use Rattle.mime_base.specs.declared.database.rule.GlobRule.{GlobRule}
 use Rattle.mime_view.specs.Listing.{listed_rule}
 use Rattle.mime_view.specs.Spending.{per_record}
