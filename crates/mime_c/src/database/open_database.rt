@@ -23,7 +23,7 @@ impl Model for OpenDatabase {
 
     ghost view = { λ it. it.bytes.now };
 
-    ghost invariant = { λ it. it.paid ≡ it.bytes.now };
+    ghost invariant = { λ it. it.paid.cache ≡ it.bytes.now };
 }
 
 impl OpenDatabase {
@@ -72,7 +72,7 @@ impl OpenDatabase {
         // It is the same cache.
         ensures same { self.new ≡ self.old }
     {
-        self.paid.read_paid(alloc);
+        self.paid.read_paid(alloc, &mut Meter::new());
     }
 
     /// Counts what the answer to a name visited, and whether its content was read.

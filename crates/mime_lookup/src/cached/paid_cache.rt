@@ -6,9 +6,9 @@
 //! take, whatever the cache is, and few questions read nothing back. Each part is read back once at most: where memory is refused, or the
 //! cache spells no such list, the walk goes on.
 
-ghost use Rattle.std.specs.Prelude.{◌≡◌, ◌+◌, ◌≤◌, length, MatchResult, OnOk};
+ghost use Rattle.std.specs.Prelude.{◌≡◌, ◌+◌, ◌≤◌, None, false, length, true, IfOk, MatchResult, OnOk};
 ghost use Rattle.mime_base.specs.Meter.{raised};
-ghost use Rattle.mime_lookup.specs.Paid.{magic_price, names_price};
+ghost use Rattle.mime_lookup.specs.Paid.{OwesAll, is_due, less, magic_price, names_price, paid_by_content, paid_by_name};
 ghost use Rattle.mime_view.specs.Opening.{IsOpenFault, Opens};
 
 use crate::cached::indexed_cache::IndexedCache;
@@ -30,11 +30,11 @@ pub struct PaidCache<'a> {
 }
 
 impl<'a> Model for PaidCache<'a> {
-    ghost use Rattle.std.specs.Prelude.{ℕ, List};
+    ghost use Rattle.mime_lookup.specs.Paid.{PlainPaidCache};
 
-    ghost Value = { List ℕ };
+    ghost Value = { PlainPaidCache };
 
-    ghost view = { λ paid. paid.indexed };
+    ghost view = { λ paid. record { cache = paid.indexed; listed = paid.listed; names = paid.names; magic = paid.magic } };
 }
 
 impl<'a> PaidCache<'a> {
@@ -42,7 +42,9 @@ impl<'a> PaidCache<'a> {
     pub fn open(counted: Counted<'a>, meter: &mut Meter) -> Result<PaidCache<'a>, CacheFault>
         // It opens a cache of version 1.2 that is neither too short nor too long; else the first thing that is wrong is the fault.
         ensures opened { MatchResult result
-            (λ paid. (paid ≡ counted.entry) × Opens counted.entry) (IsOpenFault counted.entry) }
+            (λ paid. (paid.cache ≡ counted.entry) × Opens counted.entry) (IsOpenFault counted.entry) }
+        // Nothing is paid of what it owes.
+        ensures owes { IfOk result OwesAll }
         // For an answer the header is counted as one record.
         ensures counted { OnOk result (meter.new.nodes ≡ raised meter.old.nodes 1) }
         // Before a fault it is counted at most once.
@@ -64,31 +66,43 @@ impl<'a> PaidCache<'a> {
     /// The cache, with what was read back of it.
     pub fn indexed(&self) -> &IndexedCache<'a>
         // It is the cache.
-        ensures { result.now ≡ self.now }
+        ensures { result.now ≡ self.now.cache }
     {
         &self.indexed
     }
 
-    /// Reads back what is paid.
+    /// Reads back what is paid: what names need, else the magic list.
     #[inline]
-    pub fn read_paid(&mut self, alloc: Global)
-        // The cache is the same.
-        ensures same { self.new ≡ self.old }
+    pub fn read_paid(&mut self, alloc: Global, meter: &mut Meter)
+        // What is still owed is not read back: all stays, and nothing is visited.
+        ensures unpaid { is_due self.old.names ≡ false → is_due self.old.magic ≡ false
+            → (self.new ≡ self.old) × (meter.new ≡ meter.old) }
+        // Names that owe nothing are tried, and are then none.
+        ensures names { is_due self.old.names ≡ true → self.new ≡ record self.old { names = None } }
+        // That visits no more records than were paid for it.
+        ensures names_cost { is_due self.old.names ≡ true
+            → meter.new.nodes ≤ meter.old.nodes + names_price (length self.old.cache) }
+        // So it is with the magic list, where names are still owed or were tried.
+        ensures magic { is_due self.old.names ≡ false → is_due self.old.magic ≡ true
+            → self.new ≡ record self.old { magic = None } }
+        // That visits no more than was paid for it either.
+        ensures magic_cost { is_due self.old.names ≡ false → is_due self.old.magic ≡ true
+            → meter.new.nodes ≤ meter.old.nodes + magic_price (length self.old.cache) }
     {
-        if is_paid(self.names) {
+        if is_due(self.names) {
             self.names = None;
-            self.read_names(alloc, &mut Meter::new());
-        } else if is_paid(self.magic) {
+            self.read_names(alloc, meter);
+        } else if is_due(self.magic) {
             self.magic = None;
-            self.read_magic(alloc, &mut Meter::new());
+            self.read_magic(alloc, meter);
         }
     }
 
     /// Counts what the answer to a name visited, and whether its content was read.
     #[inline]
     pub fn pay(&mut self, visited: u64, is_read: bool)
-        // The cache is the same.
-        ensures same { self.new ≡ self.old }
+        // Less is owed for names; for the magic list too, if the content was read, but for the entries of the glob list.
+        ensures { self.new ≡ paid_by_name visited is_read self.old }
     {
         self.names = less(self.names, visited);
         if is_read {
@@ -99,8 +113,8 @@ impl<'a> PaidCache<'a> {
     /// Counts what the answer to a content alone visited.
     #[inline]
     pub fn pay_sniffed(&mut self, visited: u64)
-        // The cache is the same.
-        ensures same { self.new ≡ self.old }
+        // Less is owed for the magic list.
+        ensures { self.new ≡ paid_by_content visited self.old }
     {
         self.magic = less(self.magic, visited);
     }
@@ -110,7 +124,7 @@ impl<'a> PaidCache<'a> {
     fn read_names(&mut self, alloc: Global, meter: &mut Meter)
         ensures same { self.new ≡ self.old }
         // It visits no more records than were paid for it.
-        ensures cost { meter.new.nodes ≤ meter.old.nodes + names_price (length self.old) }
+        ensures cost { meter.new.nodes ≤ meter.old.nodes + names_price (length self.old.cache) }
     {
         // Where nothing was read back, the walk goes on.
         let _ = self.indexed.read_names(alloc, meter);
@@ -121,7 +135,7 @@ impl<'a> PaidCache<'a> {
     fn read_magic(&mut self, alloc: Global, meter: &mut Meter)
         ensures same { self.new ≡ self.old }
         // It visits no more records than were paid for it.
-        ensures cost { meter.new.nodes ≤ meter.old.nodes + magic_price (length self.old) }
+        ensures cost { meter.new.nodes ≤ meter.old.nodes + magic_price (length self.old.cache) }
     {
         // Where nothing was read back, the walk goes on.
         let _ = self.indexed.read_magic(alloc, meter);
@@ -144,17 +158,22 @@ fn magic_price(length: u64) -> u64
     2 + length / 8
 }
 
-/// What is owed after that much was paid.
+/// What is owed after that many records were visited.
 #[inline]
-fn less(owed: Option<u64>, paid: u64) -> Option<u64> {
+fn less(owed: Option<u64>, visited: u64) -> Option<u64>
+    ensures { result ≡ less owed visited }
+{
     match owed {
-        Some(owed) => Some(owed.saturating_sub(paid)),
+        Some(owed) => Some(owed.saturating_sub(visited)),
         None => None,
     }
 }
 
+/// Whether something wasn't tried yet, and owes nothing.
 #[inline]
-fn is_paid(owed: Option<u64>) -> bool {
+fn is_due(owed: Option<u64>) -> bool
+    ensures { result ≡ is_due owed }
+{
     match owed {
         Some(owed) => owed == 0,
         None => false,
