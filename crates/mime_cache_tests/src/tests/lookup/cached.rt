@@ -9,6 +9,7 @@ mod many;
 mod name_alone;
 mod names;
 mod orders;
+mod paid;
 mod readers;
 
 use super::{Outcome, outcome_of};

@@ -2,8 +2,10 @@
 
 use crate::tests::checked::alike;
 use crate::tests::sample::{SAMPLE, changed};
-use mime_base::Counted;
-use mime_lookup::{Cause, Order, look_up_name};
+use mime_base::{Counted, Meter};
+use mime_lookup::{
+    Cause, IndexedCache, NameAnswer, Order, Stopped, look_up_name, look_up_name_again,
+};
 use mime_view::CacheFault;
 use std::alloc::Global;
 use std::process::Abort;
@@ -104,9 +106,34 @@ fn wanted_before_the_globs(rt: HostRuntime) {
     }
 }
 
+/// By a cache that is opened once the rows are the same, before the names are read back and after that.
+#[test]
+fn rows_again(rt: HostRuntime) -> Result<(), Fail> {
+    let alloc = rt.alloc();
+    let mut indexed = IndexedCache::open(Counted::new(&SAMPLE), &mut Meter::new())?;
+    are_found_again(&rt, alloc, &indexed);
+    indexed.read_names(alloc, &mut Meter::new())?;
+    are_found_again(&rt, alloc, &indexed);
+    Ok(())
+}
+
+/// Each row is answered by the sample, opened once.
+fn are_found_again(rt: &impl Abort, alloc: Global, indexed: &IndexedCache<'_>) {
+    for row in &ROWS {
+        let found = look_up_name_again(alloc, indexed, row.file, row.order);
+        is_answer(rt, row, found, row.of_sample);
+    }
+}
+
 /// This is answered of a row's name, by these bytes.
 fn is_found(rt: &impl Abort, alloc: Global, row: &Row, cache: &[u8], expected: Found) {
-    let found = match look_up_name(alloc, Counted::new(cache), row.file, row.order) {
+    let found = look_up_name(alloc, Counted::new(cache), row.file, row.order);
+    is_answer(rt, row, found, expected);
+}
+
+/// This is what was found of a row's name.
+fn is_answer(rt: &impl Abort, row: &Row, found: Result<NameAnswer<'_>, Stopped>, expected: Found) {
+    let found = match found {
         Ok(answer) => Ok((answer.kind, answer.wanted)),
         Err(stopped) => Err(stopped.cause),
     };
