@@ -119,6 +119,8 @@ fn ask<'a>(
 }
 
 /// The same over an opened cache.
+// Part of each of its two callers.
+#[inline(always)]
 pub(crate) fn hits_of<'a>(
     alloc: Global,
     opened: &Cache<'a>,

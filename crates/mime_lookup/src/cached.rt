@@ -133,6 +133,8 @@ fn open_and_find<'a, R: Content>(
 }
 
 /// The same over an opened cache, whose header was counted.
+// Part of each of its two callers.
+#[inline(always)]
 fn find_opened<'a, R: Content>(
     alloc: Global,
     indexed: &IndexedCache<'a>,

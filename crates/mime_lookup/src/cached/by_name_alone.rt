@@ -134,6 +134,8 @@ fn open_and_ask<'a>(
 }
 
 /// The same over an opened cache, whose header was counted.
+// Part of each of its two callers.
+#[inline(always)]
 fn ask_opened<'a>(
     alloc: Global,
     indexed: &IndexedCache<'a>,

@@ -122,6 +122,8 @@ fn open_and_sniff<'a>(
 }
 
 /// The same over an opened cache, whose header was counted.
+// Part of each of its two callers.
+#[inline(always)]
 fn sniff_metered<'a>(
     indexed: &IndexedCache<'a>,
     content: &[u8],

@@ -44,7 +44,7 @@ use std::marker::Model;
 /// An opened cache, with an index of each part that was read back of it. This project's own.
 ///
 /// Nothing is read back of it at first, and it is looked up in by a walk of its bytes. Whatever is read back, a lookup answers what it
-/// answers by a walk.
+/// answers by a walk. An index lies on the heap, so that a lookup that has none doesn't make room for it.
 #[derive(Drop)]
 pub struct IndexedCache<'a> {
     /// The bytes of the cache.
@@ -52,9 +52,9 @@ pub struct IndexedCache<'a> {
     /// The cache.
     cache: Cache<'a>,
     /// The glob rules, where they were read back, each with its type after one alias step.
-    names: Option<IndexedNames<'a>>,
+    names: Option<Box<IndexedNames<'a>>>,
     /// The lines of magic, where they were read back.
-    magic: Option<MagicIndex<'a>>,
+    magic: Option<Box<MagicIndex<'a>>>,
 }
 
 impl<'a> Model for IndexedCache<'a> {
@@ -67,7 +67,8 @@ impl<'a> Model for IndexedCache<'a> {
     ghost view = { λ indexed. indexed.cache };
 
     ghost invariant = { λ indexed. Opens indexed.cache × (indexed.counted ≡ indexed.cache)
-        × IfSome indexed.names (λ names. names ≡ indexed.cache) × IfSome indexed.magic (IsMagicOf indexed.cache) };
+        × IfSome indexed.names (λ names. names.value ≡ indexed.cache)
+        × IfSome indexed.magic (λ magic. IsMagicOf indexed.cache magic.value) };
 }
 
 impl<'a> IndexedCache<'a> {
@@ -108,7 +109,7 @@ impl<'a> IndexedCache<'a> {
         let lists = read_names(alloc, &self.counted, meter)?;
         let index = IndexedNames::new(alloc, self.counted.again(), &lists)?;
         if !index.is_mostly_general() {
-            self.names = Some(index);
+            self.names = Some(Box::new(alloc, index)?);
         }
         Ok(())
     }
@@ -126,7 +127,7 @@ impl<'a> IndexedCache<'a> {
         ensures nodes { meter.new.nodes ≤ meter.old.nodes + length self.old / 16 + 2 }
     {
         let index = read_magic(alloc, &self.counted, meter)?;
-        self.magic = Some(index);
+        self.magic = Some(Box::new(alloc, index)?);
         Ok(())
     }
 
