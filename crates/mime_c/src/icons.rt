@@ -63,13 +63,16 @@ fn ask(
     }
 }
 
-// The names where there is room for both.
-fn put_icons(
+/// The names where there is room for both.
+// Part of each of its two callers.
+#[inline(always)]
+pub(crate) fn put_icons(
     icons: &Icons,
     icon: &mut [u8],
     generic: &mut [u8],
     lengths: &mut IconLengths,
 ) -> Report
+    // They go out where there is room for both.
     ensures { IsIconsReport (Ok icons.now)
         (record { icon = icon.old; generic = generic.old; lengths = lengths.old })
         (record { icon = icon.new; generic = generic.new; lengths = lengths.new }) result }

@@ -47,13 +47,13 @@ pub use again::look_up_again;
 pub use below::is_below;
 pub use by_name_alone::{look_up_name, look_up_name_again};
 pub use content_alone::{SniffedContent, sniff_again, sniff_alone};
-pub use icons::{Icons, icon_of};
+pub use icons::{Icons, icon_again, icon_of};
 pub use indexed_cache::IndexedCache;
 use mime_base::{Counted, Host, Meter, TEXTUAL_FRONT};
 use mime_view::Spending;
 pub use paid_cache::PaidCache;
 use std::alloc::Global;
-pub use subclass::is_a;
+pub use subclass::{is_a, is_a_again};
 
 /// The type that the checking order gives to a name and a content, by a cache ("Recommended checking order").
 ///

@@ -2,11 +2,16 @@
 
 ghost use Rattle.std.specs.Prelude.{◌≡◌};
 ghost use Rattle.mime_c.specs.Handle.{IsByHandle, StaysOpen};
-ghost use Rattle.mime_c.specs.Icons.{IsAskedIcons};
+ghost use Rattle.mime_c.specs.Icons.{IsAskedIcons, IsFoundIcons};
 
 use crate::database::handle::Handle;
 use crate::database::kept::HandleReport;
-use crate::icons::{IconLengths, mimelook_icons};
+use crate::database::open_database::OpenDatabase;
+use crate::icons::{IconLengths, put_icons};
+use crate::report::{Report, status_report, stop_report};
+use crate::status::NOT_A_TYPE;
+use mime_base::{Meter, is_type_name};
+use mime_lookup::icon_again;
 use std::alloc::Global;
 
 /// What `mimelook_icons` gives, over what is open.
@@ -29,16 +34,48 @@ pub extern "C" fn mimelook_database_icons(
 {
     match database.into_value() {
         Some(mut opened) => {
-            let report = mimelook_icons(
-                alloc,
-                opened.as_mut().bytes(),
-                kind,
-                icon,
-                generic,
-                lengths,
-            );
+            let report = ask(alloc, opened.as_mut(), kind, icon, generic, lengths);
             HandleReport::of(report, opened)
         }
         None => HandleReport::not_open(alloc),
+    }
+}
+
+// The same of what is open.
+fn ask(
+    alloc: Global,
+    opened: &OpenDatabase,
+    kind: &[u8],
+    icon: &mut [u8],
+    generic: &mut [u8],
+    lengths: &mut IconLengths,
+) -> Report
+    ensures { IsAskedIcons opened.now kind.now
+        (record { icon = icon.old; generic = generic.old; lengths = lengths.old })
+        (record { icon = icon.new; generic = generic.new; lengths = lengths.new }) result }
+{
+    if is_type_name(kind) {
+        find(alloc, opened, kind, icon, generic, lengths)
+    } else {
+        status_report(NOT_A_TYPE, 0, Meter::new())
+    }
+}
+
+// The same of a type name.
+fn find(
+    alloc: Global,
+    opened: &OpenDatabase,
+    kind: &[u8],
+    icon: &mut [u8],
+    generic: &mut [u8],
+    lengths: &mut IconLengths,
+) -> Report
+    ensures { IsFoundIcons opened.now kind.now
+        (record { icon = icon.old; generic = generic.old; lengths = lengths.old })
+        (record { icon = icon.new; generic = generic.new; lengths = lengths.new }) result }
+{
+    match icon_again(alloc, opened.cache(), kind) {
+        Ok(icons) => put_icons(&icons, icon, generic, lengths),
+        Err(stopped) => stop_report(stopped),
     }
 }

@@ -12,18 +12,15 @@ use std::marker::Model;
 /// A cache that is open.
 #[derive(Drop)]
 pub struct OpenDatabase {
-    bytes: &'static [u8],
     paid: PaidCache<'static>,
 }
 
 impl Model for OpenDatabase {
-    ghost use Rattle.std.specs.Prelude.{◌≡◌, ℕ, List};
+    ghost use Rattle.std.specs.Prelude.{ℕ, List};
 
     ghost Value = { List ℕ };
 
-    ghost view = { λ it. it.bytes.now };
-
-    ghost invariant = { λ it. it.paid.cache ≡ it.bytes.now };
+    ghost view = { λ it. it.paid.cache };
 }
 
 impl OpenDatabase {
@@ -38,15 +35,7 @@ impl OpenDatabase {
         ensures bytes { meter.new.bytes ≡ meter.old.bytes }
     {
         let paid = PaidCache::open(Counted::new(bytes), meter)?;
-        Ok(OpenDatabase { bytes, paid })
-    }
-
-    /// The bytes.
-    pub(super) fn bytes(&self) -> &'static [u8]
-        // They are the cache's.
-        ensures { result.now ≡ self.now }
-    {
-        self.bytes
+        Ok(OpenDatabase { paid })
     }
 
     /// The cache with what was read back of it.

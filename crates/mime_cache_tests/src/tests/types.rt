@@ -6,10 +6,12 @@
 use crate::tests::checked::alike;
 use crate::tests::sample::{SAMPLE, SAMPLE_TEXTS, changed, damaged, write_at};
 use crate::tests::texts::{EMPTY, Texts, merged};
-use mime_base::{Counted, TypeName};
-use mime_lookup::{Cause, Icons, IndexedDatabase, icon_of, is_a, is_a_indexed};
+use mime_base::{Counted, Meter, TypeName};
+use mime_lookup::{
+    Cause, Icons, IndexedDatabase, icon_again, icon_of, is_a, is_a_again, is_a_indexed,
+};
 use mime_store::write_cache;
-use mime_view::CacheFault;
+use mime_view::{Cache, CacheFault};
 use std::alloc::Global;
 use std::test::Fail;
 
@@ -263,13 +265,25 @@ fn counts_of(
     Ok(((searched.nodes, searched.bytes), (found.nodes, found.bytes)))
 }
 
+/// The same by the sample, opened once: what is answered too.
+fn told_again(alloc: Global) -> Result<(bool, bool, ((u64, u64), (u64, u64))), Fail> {
+    let cache = Cache::open(Counted::new(&SAMPLE), &mut Meter::new())?;
+    let (is, searched) = is_a_again(alloc, &cache, b"t/h", b"t/m")?;
+    let icons = icon_again(alloc, &cache, b"t/h")?;
+    let found = icons.meter;
+    let counted = ((searched.nodes, searched.bytes), (found.nodes, found.bytes));
+    Ok((is, are_icons(&icons, &OF_THE_SAMPLE[0]), counted))
+}
+
 /// They are counted by hand, as those of whole lookups.
 #[test]
 fn counts_of_the_sample(rt: HostRuntime) -> Result<(), Fail> {
     let kind = TypeName::new(rt.alloc(), b"t/h")?;
     let base = TypeName::new(rt.alloc(), b"t/m")?;
-    let counted = counts_of(rt.alloc(), &kind, &base)?;
-    alike(&rt, "counted", counted, ((13, 30), (6, 8)));
+    let (wanted, alloc) = (((13, 30), (6, 8)), rt.alloc());
+    alike(&rt, "counted", counts_of(alloc, &kind, &base)?, wanted);
+    let again = told_again(alloc)?;
+    alike(&rt, "again", again, (true, true, wanted));
     Ok(())
 }
 

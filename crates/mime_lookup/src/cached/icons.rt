@@ -8,6 +8,7 @@ ghost use Rattle.mime_lookup.specs.Icons.{AnswersIcons, HasIconLists, plain_icon
 ghost use Rattle.mime_lookup.specs.Icons.{before_slash, generic_of_media, hyphen_for_slash, name_or, with_hyphens};
 ghost use Rattle.mime_lookup.specs.Spelling.{SpellsIcons};
 ghost use Rattle.mime_lookup.specs.StepFaults.{IsIconFault};
+ghost use Rattle.mime_view.specs.Opening.{Opens};
 ghost use Rattle.mime_view.specs.Spending.{Looks};
 
 use crate::stopped::{Cause, Stopped};
@@ -45,7 +46,38 @@ pub fn icon_of<'a>(alloc: Global, cache: Counted<'a>, kind: &'a TypeName) -> Res
     ensures bounds { KeepsAsking (λ icons. icons.meter) cache.entry result }
 {
     let mut meter = Meter::new();
-    match find_icons(alloc, cache, kind.bytes(), &mut meter) {
+    match open_and_find(alloc, cache, kind.bytes(), &mut meter) {
+        Ok((icon, generic)) => Ok(Icons {
+            icon,
+            generic,
+            meter,
+        }),
+        Err(fault) => Err(Stopped {
+            cause: Cause::from(fault),
+            read: 0,
+            meter,
+        }),
+    }
+}
+
+/// [`icon_of`] over a cache that was opened once, for many types, given as their bytes.
+pub fn icon_again<'a>(alloc: Global, cache: &Cache<'a>, kind: &'a [u8]) -> Result<Icons, Stopped>
+    // The cache did open.
+    requires opens { Opens cache.now }
+    // Where the aliases and both lists of icons stand, these are the icons of the type.
+    ensures answer { AnswersIcons plain_icons_of cache.now kind.entry.now result }
+    // For an answer all three lists lie in the cache.
+    ensures lists { OnOk result (HasIconLists cache.now) }
+    // Why it stops: where the aliases and both lists of icons of a database stand, only for memory.
+    ensures stops { StopsAsking (λ stopped. stopped.cause) cache.now (IsIconFault cache.now) (SpellsIcons cache.now) result }
+    // No content is read.
+    ensures read { IfErr result (λ stopped. stopped.read ≡ 0) }
+    // Whatever the bytes are, the nodes and the bytes keep to the bounds of an empty name without content.
+    ensures bounds { KeepsAsking (λ icons. icons.meter) cache.now result }
+{
+    let mut meter = Meter::new();
+    meter.add_node();
+    match find_icons(alloc, cache, kind, &mut meter) {
         Ok((icon, generic)) => Ok(Icons {
             icon,
             generic,
@@ -61,7 +93,7 @@ pub fn icon_of<'a>(alloc: Global, cache: Counted<'a>, kind: &'a TypeName) -> Res
 
 /// The names of the icon and of the generic icon of a type.
 #[tactic(auto, using(crate::proofs::StopLemmas::OpenFaults::opens_without_fault))]
-fn find_icons<'a>(
+fn open_and_find<'a>(
     alloc: Global,
     cache: Counted<'a>,
     kind: &'a [u8],
@@ -78,7 +110,31 @@ fn find_icons<'a>(
     ensures cost { Looks 88 (256 * 87) meter.old meter.new }
 {
     let cache = Cache::open(cache, meter)?;
-    let mut budget = Budget::of(&cache);
+    find_icons(alloc, &cache, kind, meter)
+}
+
+/// The same over an opened cache.
+// Part of each of its two callers.
+#[inline(always)]
+fn find_icons<'a>(
+    alloc: Global,
+    cache: &Cache<'a>,
+    kind: &'a [u8],
+    meter: &mut Meter,
+) -> Result<(Vec<u8>, Vec<u8>), CacheFault>
+    // The cache did open.
+    requires opens { Opens cache.now }
+    // Where the aliases and both lists of icons stand, these are the icons of the type.
+    ensures answer { AnswersIcons (λ icons. record { icon = icons.0.items; generic = icons.1.items })
+        cache.now kind.entry.now result }
+    // For an answer all three lists lie in the cache.
+    ensures lists { OnOk result (HasIconLists cache.now) }
+    // Why it stops: where the aliases and both lists of icons of a database stand, only for memory.
+    ensures stops { StopsAsking cause_of cache.now (IsIconFault cache.now) (SpellsIcons cache.now) result }
+    // It visits at most 29 records of each list, with a text for each.
+    ensures cost { Looks 87 (256 * 87) meter.old meter.new }
+{
+    let mut budget = Budget::of(cache);
     let kind = cache.unalias(kind, meter, &mut budget)?;
     let icon = cache.icon(kind, meter, &mut budget)?;
     let generic = cache.generic_icon(kind, meter, &mut budget)?;

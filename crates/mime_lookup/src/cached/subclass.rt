@@ -6,6 +6,7 @@ ghost use Rattle.mime_lookup.specs.Cached.{cause_of};
 ghost use Rattle.mime_lookup.specs.Costs.{Costs};
 ghost use Rattle.mime_lookup.specs.Searching.{NeedsParents, search_cost};
 ghost use Rattle.mime_lookup.specs.StepFaults.{IsSearchFault};
+ghost use Rattle.mime_view.specs.Opening.{Opens};
 ghost use Rattle.mime_view.specs.Spending.{Looks};
 
 use crate::cached::ancestry::leads_to;
@@ -48,6 +49,41 @@ pub fn is_a<'a>(
     }
 }
 
+/// [`is_a`] over a cache that was opened once, for many types, given as their bytes.
+pub fn is_a_again<'a>(
+    alloc: Global,
+    cache: &Cache<'a>,
+    kind: &'a [u8],
+    base: &'a [u8],
+) -> Result<(bool, Meter), Stopped>
+    // Any type name is this short.
+    requires base { length base.now ≤ 255 }
+    // The cache did open.
+    requires opens { Opens cache.now }
+    // Where the aliases and the parents stand, it says whether the one type is the other or a subclass of it, each resolved.
+    ensures answer { SaysIsA (λ found. found.0) cache.now kind.entry.now base.entry.now result }
+    // Why it stops: where the aliases and the parents of a packed database stand, only for memory.
+    ensures stops { StopsIsA (λ stopped. stopped.cause) cache.now result }
+    // It is spent only where more records were visited than a quarter of the cache's length.
+    ensures spent { IfErr result (λ stopped. stopped.cause ≡ Cause.Cache CacheFault.Spent
+        → length cache.now / 4 < stopped.meter.nodes) }
+    // No content is read.
+    ensures read { IfErr result (λ stopped. stopped.read ≡ 0) }
+    // Whatever the bytes are, the nodes and the bytes keep to the bounds of an empty name without content.
+    ensures bounds { KeepsAsking (λ found. found.1) cache.now result }
+{
+    let mut meter = Meter::new();
+    meter.add_node();
+    match search_opened(alloc, cache, kind, base, &mut meter) {
+        Ok(found) => Ok((found, meter)),
+        Err(fault) => Err(Stopped {
+            cause: Cause::from(fault),
+            read: 0,
+            meter,
+        }),
+    }
+}
+
 /// The same, with its fault alone.
 fn open_and_search<'a>(
     alloc: Global,
@@ -58,6 +94,8 @@ fn open_and_search<'a>(
 ) -> Result<bool, CacheFault>
     // It is a type's name.
     requires base { length base.now ≤ 255 }
+    // Nothing was visited before.
+    requires fresh { meter.old ≡ record { nodes = 0; bytes = 0 } }
     // Where the aliases and the parents stand, it says whether the one type is the other or a subclass of it, each resolved.
     ensures answer { SaysIsA (λ is. is) cache.entry kind.entry.now base.entry.now result }
     // Why it stops: where the aliases and the parents of a packed database stand, only for memory.
@@ -68,16 +106,44 @@ fn open_and_search<'a>(
     ensures cost { Looks (88 + 59 * (length cache.entry / 4)) (256 * (88 + 59 * (length cache.entry / 4))) meter.old meter.new }
 {
     let cache = Cache::open(cache, meter)?;
+    search_opened(alloc, &cache, kind, base, meter)
+}
+
+/// The same over an opened cache, whose header was counted.
+// Part of each of its two callers.
+#[inline(always)]
+fn search_opened<'a>(
+    alloc: Global,
+    cache: &Cache<'a>,
+    kind: &'a [u8],
+    base: &'a [u8],
+    meter: &mut Meter,
+) -> Result<bool, CacheFault>
+    // It is a type's name.
+    requires base { length base.now ≤ 255 }
+    // The cache did open.
+    requires opens { Opens cache.now }
+    // Its header was counted.
+    requires header { meter.old ≡ record { nodes = 1; bytes = 0 } }
+    // Where the aliases and the parents stand, it says whether the one type is the other or a subclass of it, each resolved.
+    ensures answer { SaysIsA (λ is. is) cache.now kind.entry.now base.entry.now result }
+    // Why it stops: where the aliases and the parents of a packed database stand, only for memory.
+    ensures stops { StopsIsA cause_of cache.now result }
+    // It is spent only where more records were visited than a quarter of the cache's length.
+    ensures spent { IfErr result (λ e. e ≡ CacheFault.Spent → length cache.now / 4 < meter.new.nodes) }
+    // It visits 87 records, and 59 for each that the budget has.
+    ensures cost { Looks (87 + 59 * (length cache.now / 4)) (256 * (87 + 59 * (length cache.now / 4))) meter.old meter.new }
+{
     let mut spending = Spending {
         meter: *meter,
-        budget: Budget::of(&cache),
+        budget: Budget::of(cache),
     };
-    let found = search(alloc, &cache, kind, base, &mut spending);
+    let found = search(alloc, cache, kind, base, &mut spending);
     *meter = spending.meter;
     found
 }
 
-/// The same over an opened cache.
+/// The same within a budget.
 fn search<'a>(
     alloc: Global,
     cache: &Cache<'a>,

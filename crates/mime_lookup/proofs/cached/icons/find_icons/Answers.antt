@@ -1,57 +1,40 @@
 use Rattle.std.proofs.Common.{ℕ, List, Err, ap, ap₂, inl, inr, ◌∙◌}
 use Rattle.std.proofs.lemmas.Result.{err_from_is_err_and}
 use Rattle.mime_lookup.specs.Icons.{PlainIcons, generic_of_media, icons_by, name_or, with_hyphens}
-use Rattle.mime_lookup.specs.Spelling.{SpellsIcons}
 use Rattle.mime_lookup.specs.StepFaults.{IsIconFault}
-use Rattle.mime_lookup.proofs.LookUpLemmas.Askings.{opened_stops, unopened}
+use Rattle.mime_lookup.proofs.LookUpLemmas.Askings.{opened_stops}
 use Rattle.mime_lookup.proofs.StopLemmas.Cause.{caused}
 use Rattle.mime_lookup.proofs.cached.icons.find_icons.Goals as goal
 
-pub returns-in_err-cache-clause-stops : goal.returns-in_err-cache-clause-stops
-returns-in_err-cache-clause-stops c =
-    let p = err_from_is_err_and c.from_residual.result c.from_residual.ensures.1 in
-    let fault = c.in_err-cache.ensures.opened in
-    rw (p.1, p.2) (unopened c.args.cache _ _ _ fault (inl fault) (λ b spelled. (spelled.offsets, spelled.header)))
-
 pub returns-in_err-kind-clause-stops : goal.returns-in_err-kind-clause-stops
 returns-in_err-kind-clause-stops c =
-    let p = err_from_is_err_and c.from_residual-in_err-kind.result c.from_residual-in_err-kind.ensures.1 in
-    let same = c.in_ok-cache.ensures.opened.0 in
+    let p = err_from_is_err_and c.from_residual.result c.from_residual.ensures.1 in
+    let cache = c.args.cache.now in
     let e = c.in_err-kind.field-0.0 in
-    let is : IsIconFault c.in_ok-cache.cache e = inr (inl c.in_err-kind.ensures.given) in
-    rw (p.1, p.2) (opened_stops c.args.cache (IsIconFault c.args.cache) (IsIconFault c.in_ok-cache.cache) _ (Err e)
-    c.in_ok-cache.ensures.opened.1 is (λ x fault. caused (IsIconFault c.args.cache) x (rw (← same) fault))
-    (λ b spelled small.
-    let s : SpellsIcons c.in_ok-cache.cache b = rw same spelled in
-    absurd (c.in_err-kind.ensures.answer s.offsets b.aliases s.header s.aliases)))
+    let is : IsIconFault cache e = inr (inl c.in_err-kind.ensures.given) in
+    rw (p.1, p.2) (opened_stops cache (IsIconFault cache) (IsIconFault cache) _ (Err e) c.requires.opens is
+    (caused (IsIconFault cache)) (λ b s small. absurd (c.in_err-kind.ensures.answer s.offsets b.aliases s.header s.aliases)))
 
 pub returns-in_err-icon-clause-stops : goal.returns-in_err-icon-clause-stops
 returns-in_err-icon-clause-stops c =
     let p = err_from_is_err_and c.from_residual-in_err-icon.result c.from_residual-in_err-icon.ensures.1 in
-    let same = c.in_ok-cache.ensures.opened.0 in
+    let cache = c.args.cache.now in
     let e = c.in_err-icon.field-0.0 in
-    let is : IsIconFault c.in_ok-cache.cache e = inr (inr (inl c.in_err-icon.ensures.given)) in
-    rw (p.1, p.2) (opened_stops c.args.cache (IsIconFault c.args.cache) (IsIconFault c.in_ok-cache.cache) _ (Err e)
-    c.in_ok-cache.ensures.opened.1 is (λ x fault. caused (IsIconFault c.args.cache) x (rw (← same) fault))
-    (λ b spelled small.
-    let s : SpellsIcons c.in_ok-cache.cache b = rw same spelled in
-    absurd (c.in_err-icon.ensures.answer s.offsets b.icons s.header s.icons)))
+    let is : IsIconFault cache e = inr (inr (inl c.in_err-icon.ensures.given)) in
+    rw (p.1, p.2) (opened_stops cache (IsIconFault cache) (IsIconFault cache) _ (Err e) c.requires.opens is
+    (caused (IsIconFault cache)) (λ b s small. absurd (c.in_err-icon.ensures.answer s.offsets b.icons s.header s.icons)))
 
 pub returns-in_err-generic-clause-stops : goal.returns-in_err-generic-clause-stops
 returns-in_err-generic-clause-stops c =
     let p = err_from_is_err_and c.from_residual-in_err-generic.result c.from_residual-in_err-generic.ensures.1 in
-    let same = c.in_ok-cache.ensures.opened.0 in
+    let cache = c.args.cache.now in
     let e = c.in_err-generic.field-0.0 in
-    let is : IsIconFault c.in_ok-cache.cache e = inr (inr (inr c.in_err-generic.ensures.given)) in
-    rw (p.1, p.2) (opened_stops c.args.cache (IsIconFault c.args.cache) (IsIconFault c.in_ok-cache.cache) _ (Err e)
-    c.in_ok-cache.ensures.opened.1 is (λ x fault. caused (IsIconFault c.args.cache) x (rw (← same) fault))
-    (λ b spelled small.
-    let s : SpellsIcons c.in_ok-cache.cache b = rw same spelled in
-    absurd (c.in_err-generic.ensures.answer s.offsets b.generic_icons s.header s.generic_icons)))
+    let is : IsIconFault cache e = inr (inr (inr c.in_err-generic.ensures.given)) in
+    rw (p.1, p.2) (opened_stops cache (IsIconFault cache) (IsIconFault cache) _ (Err e) c.requires.opens is
+    (caused (IsIconFault cache)) (λ b s small. absurd (c.in_err-generic.ensures.answer s.offsets b.generic_icons s.header s.generic_icons)))
 
 pub returns-clause-answer : goal.returns-clause-answer
-returns-clause-answer c = λ b spelled.
-    let s : SpellsIcons c.in_ok-cache.cache b = rw c.in_ok-cache.ensures.opened.0 spelled in
+returns-clause-answer c = λ b s.
     let kind = c.in_ok-kind.kind.now in
     let icon = ap (λ name. name_or name (with_hyphens kind)) (c.in_ok-icon.ensures.answer s.offsets b.icons s.header s.icons) in
     let generic = ap (λ name. name_or name (generic_of_media kind))

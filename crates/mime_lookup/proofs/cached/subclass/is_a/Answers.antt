@@ -5,8 +5,8 @@ use Rattle.mime_lookup.proofs.StopLemmas.Cause.{says_fault}
 use Rattle.mime_lookup.proofs.CostLemmas.ShortTexts.{is_type_name-short}
 use Rattle.mime_lookup.proofs.cached.subclass.is_a.Goals as goal
 
-pub open_and_search-requires : goal.open_and_search-requires
-open_and_search-requires c = record { base = rw c.bytes-2.ensures.text (is_type_name-short c.args.base.now c.bytes-2.ensures.limits) }
+pub open_and_search-requires-clause-base : goal.open_and_search-requires-clause-base
+open_and_search-requires-clause-base c = rw c.bytes-2.ensures.text (is_type_name-short c.args.base.now c.bytes-2.ensures.limits)
 
 pub returns-in-Ok-clause-answer : goal.returns-in-Ok-clause-answer
 returns-in-Ok-clause-answer c = λ b spells. rw (c.bytes.ensures.text, c.bytes-2.ensures.text) at (c.in-Ok.ensures.answer b spells)
