@@ -119,8 +119,6 @@ fn ask<'a>(
 }
 
 /// The same over an opened cache.
-// Part of each of its two callers.
-#[inline(always)]
 pub(crate) fn hits_of<'a>(
     alloc: Global,
     opened: &Cache<'a>,

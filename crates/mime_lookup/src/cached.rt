@@ -164,6 +164,8 @@ fn find_opened<'a, R: Content>(
 }
 
 /// The lookup over an opened cache: the name, and where that leaves a choice the front of the content.
+// Part of its caller, as that is.
+#[inline(always)]
 fn find<'a, R: Content>(
     alloc: Global,
     indexed: &IndexedCache<'a>,

@@ -163,6 +163,8 @@ fn ask_opened<'a>(
 }
 
 /// The type, and how much is wanted, within a budget.
+// Part of its caller, as that is.
+#[inline(always)]
 fn ask<'a>(
     alloc: Global,
     indexed: &IndexedCache<'a>,

@@ -144,6 +144,8 @@ fn search_opened<'a>(
 }
 
 /// The same within a budget.
+// Part of its caller, as that is.
+#[inline(always)]
 fn search<'a>(
     alloc: Global,
     cache: &Cache<'a>,
