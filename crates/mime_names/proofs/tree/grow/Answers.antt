@@ -1,7 +1,7 @@
 use Rattle.std.proofs.Common.{◌+◌, ◌-◌, ◌≡◌, subst, arith, drop}
 use Rattle.mime_names.specs.Tree.{Adds, spelled}
 use Rattle.mime_names.proofs.TreeLemmas.{adds-more}
-use Rattle.mime_names.proofs.tree.add_text.Goals as goal
+use Rattle.mime_names.proofs.tree.grow.Goals as goal
 
 pub returns-then-left-text : goal.returns-then-left-text
 returns-then-left-text c =

@@ -1,6 +1,6 @@
 use Rattle.std.proofs.Common.{◌≤◌, length, drop}
 use Rattle.mime_names.specs.Tree.{Adds, spelled}
-use Rattle.mime_names.proofs.tree.add_text.Given as goal
+use Rattle.mime_names.proofs.tree.grow.Given as goal
 
 abbrev pub invariant-loop-left : goal.invariant-loop-left
 invariant-loop-left l = record {
