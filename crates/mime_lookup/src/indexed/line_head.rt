@@ -50,6 +50,8 @@ const UNKNOWN: LineHead = LineHead {
 };
 
 /// The head of a line of these parts.
+// Always inlined, with what most lines have, so that their parts are not moved.
+#[inline(always)]
 pub fn head_of(start: u32, range: u32, word: u32, value: &[u8], mask: Option<&[u8]>) -> LineHead
     // A content that it refuses has no window that equals the value.
     ensures { IsHead result (line_from start range word value.now (lent_mask mask.entry)) }
@@ -62,6 +64,7 @@ pub fn head_of(start: u32, range: u32, word: u32, value: &[u8], mask: Option<&[u
 }
 
 /// Where the later pair of a line's value begins: under a mask with its first byte.
+#[inline(always)]
 fn later_pair(range: u32, value: &[u8], mask: Option<&[u8]>) -> u8 {
     if mask.is_some() || value.len() < 4 {
         return 0;
@@ -75,15 +78,18 @@ fn later_pair(range: u32, value: &[u8], mask: Option<&[u8]>) -> u8 {
 /// The last pair of a value, from its third byte on and near its front, that has the fewest common bytes.
 fn rarest_pair(value: &[u8]) -> u8 {
     let (mut rarest, mut least) = (0, 2);
+    let mut here = is_common(byte_at(value, 2));
     for place in 2..NEAR {
-        let at = usize::from(place);
-        if at + 1 >= value.len() {
+        let next = usize::from(place) + 1;
+        if next >= value.len() {
             return rarest;
         }
-        let common = u8::from(is_common(value[at])) + u8::from(is_common(value[at + 1]));
+        let after = is_common(value[next]);
+        let common = u8::from(here) + u8::from(after);
         if common <= least {
             (rarest, least) = (place, common);
         }
+        here = after;
     }
     rarest
 }
