@@ -3,6 +3,7 @@ pub mod Sniffing
 pub mod CheckingOrder
 pub mod Content
 pub mod Ancestry
+pub mod Marks
 pub mod Places
 pub mod Script
 pub mod Reads

@@ -5,6 +5,7 @@ use Rattle.std.specs.Borrow.{Bor}
 use Rattle.mime_base.specs.Database.PlainPairs.{plain_pairs}
 use Rattle.mime_base.specs.Database.Subclass.{Pairs, parents}
 use Rattle.mime_base.specs.declared.database.pair.Pair.{Pair}
+use Rattle.mime_lookup.specs.Marks.{AreMarked}
 use Rattle.mime_lookup.specs.declared.places.Above.{Above}
 use Rattle.mime_lookup.specs.declared.places.Above.TheVariants.{Nothing, One, Several}
 use Rattle.mime_lookup.specs.declared.places.PlacedPairs.{PlacedPairs}
@@ -34,9 +35,10 @@ pub record IsIndexed (pairs : List Pair) (low : ℕ) (first : List ℕ → Optio
       (place k : ℕ) (pair : Pair) → low ≤ place → k + (place + 1) ≡ length pairs → pair ≡ get_or pairs place pair →
       IsNext pairs pair.name (place + 1) (get_or next k None)
 
--- what is kept of some pairs is the places of all of them
-abbrev pub IsPlaced : Places → Type 0
-IsPlaced places = IsIndexed places.pairs.now 0 (place_in places.first) places.next.items
+-- What is kept of some pairs is the places of all of them, and the marks of their names.
+pub record IsPlaced (places : Places) : Type 0 where
+  pub indexed : IsIndexed places.pairs.now 0 (place_in places.first) places.next.items
+  pub marked : AreMarked places.pairs.now 0 places.marks.items
 
 -- What is kept of both lists of pairs is the places of all of them.
 pub record ArePlaced (both : PlacedPairs) : Type 0 where

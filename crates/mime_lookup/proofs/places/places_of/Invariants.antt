@@ -1,10 +1,12 @@
 use Rattle.std.proofs.Common.{◌≤◌, length}
+use Rattle.mime_lookup.specs.Marks.{AreMarked}
 use Rattle.mime_lookup.specs.Places.{IsIndexed, place_in}
 use Rattle.mime_lookup.proofs.places.places_of.Given as goal
 
 abbrev pub invariant-loop-place : goal.invariant-loop-place
 invariant-loop-place l = record {
   within : l.place ≤ length l.pairs;
+  marked : AreMarked l.pairs l.place l.marks.items;
   so_far : IsIndexed l.pairs l.place (place_in l.first) l.next.items;
 }
 

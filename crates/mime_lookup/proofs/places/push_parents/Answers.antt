@@ -9,9 +9,9 @@ use Rattle.mime_lookup.proofs.places.push_parents.Goals as goal
 pub loop-place-init : goal.loop-place-init
 loop-place-init c =
     walked-first c.args.both.now.parents.pairs.now (resolved (plain_pairs c.args.both.now.aliases.pairs.now)) c.args.kind.now
-    c.args.queue.now c.copied-place.result
-    (subst (IsNext c.args.both.now.parents.pairs.now c.args.kind.now 0) (sym (c.copied-place.ensures ∙ c.get.ensures.value))
-    (c.requires.placed.parents.firsts c.args.kind.now))
+    c.args.queue.now c.first_of-place.result
+    (subst (IsNext c.args.both.now.parents.pairs.now c.args.kind.now 0) (sym c.first_of-place.ensures)
+    (c.requires.placed.parents.indexed.firsts c.args.kind.now))
 
 pub bounds-pairs-here : goal.bounds-pairs-here
 bounds-pairs-here c = let at = rw c.in-Some.is at c.loop-place.invariant in at.next.1
@@ -25,7 +25,7 @@ overflow_sub-pairs-in-Some c = let at = rw c.in-Some.is at c.loop-place.invarian
 pub index-place-requires : goal.index-place-requires
 index-place-requires c =
     let at = rw c.in-Some.is at c.loop-place.invariant in
-    omega (arith, at.next.1, c.requires.placed.parents.size, c.args.both.now.parents.next.ok.0)
+    omega (arith, at.next.1, c.requires.placed.parents.indexed.size, c.args.both.now.parents.next.ok.0)
 
 pub loop-place-smaller : goal.loop-place-smaller
 loop-place-smaller c =
@@ -34,11 +34,11 @@ loop-place-smaller c =
     let here = c.in-Some.here in
     let k = length pairs - 1 - here in
     let at = rw c.in-Some.is at c.loop-place.invariant in
-    let inside : k < length next = omega (arith, at.next.1, c.requires.placed.parents.size) in
+    let inside : k < length next = omega (arith, at.next.1, c.requires.placed.parents.indexed.size) in
     let size : k + (here + 1) ≡ length pairs = omega (arith, at.next.1) in
     rw (c.in-Some.is, c.index-place.ensures, get_or_default next k c.index-place.result.now None inside)
     (places_left-falls pairs c.index-pairs-here.result.name here (get_or next k None) at.next.1
-    (c.requires.placed.parents.nexts here k c.index-pairs-here.result (omega arith) size c.index-pairs-here.is))
+    (c.requires.placed.parents.indexed.nexts here k c.index-pairs-here.result (omega arith) size c.index-pairs-here.is))
 
 pub loop-place-preserved : goal.loop-place-preserved
 loop-place-preserved c =
@@ -48,7 +48,7 @@ loop-place-preserved c =
     let here = c.in-Some.here in
     let k = length pairs - 1 - here in
     let at = rw c.in-Some.is at c.loop-place.invariant in
-    let inside : k < length next = omega (arith, at.next.1, c.requires.placed.parents.size) in
+    let inside : k < length next = omega (arith, at.next.1, c.requires.placed.parents.indexed.size) in
     let size : k + (here + 1) ≡ length pairs = omega (arith, at.next.1) in
     let value : c.index-place.result.now ≡ get_or next k None =
     c.index-place.ensures ∙ get_or_default next k c.index-place.result.now None inside in
@@ -56,7 +56,7 @@ loop-place-preserved c =
     (subst (λ place. Walked pairs step c.args.kind.now place (c.loop-place.queue ++ c.unalias_at.result.now ∷ []) c.args.queue.now)
     (sym value)
     (walked-more pairs step c.args.kind.now c.args.queue.now here c.index-pairs-here.result c.index-pairs-here.is c.loop-place.queue
-    c.unalias_at.result.now (place_in c.args.both.now.parents.first) next k at c.requires.placed.parents size
+    c.unalias_at.result.now (place_in c.args.both.now.parents.first) next k at c.requires.placed.parents.indexed size
     (c.unalias_at.ensures ∙ ap step c.bytes.ensures.text)))
 
 pub returns-clause-queue : goal.returns-clause-queue
