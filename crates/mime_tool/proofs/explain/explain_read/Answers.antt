@@ -1,7 +1,7 @@
-use Rattle.std.proofs.Common.{◌≡◌, inl, inr}
+use Rattle.std.proofs.Common.{◌≡◌, Err, inl, inr, subst}
 use Rattle.clap.specs.Walk.{texts}
 use Rattle.mime_load.specs.Lent.{plain_lists}
-use Rattle.mime_tool.specs.Check.{no_database}
+use Rattle.mime_tool.specs.Check.{IsNoDatabase, ReadsBack, no_database}
 use Rattle.mime_tool.specs.Explain.{IsExplainedBack, IsExplainedOrNot}
 use Rattle.mime_tool.specs.Run.{refusal, unanswered}
 use Rattle.mime_tool.specs.Words.{names_of}
@@ -28,10 +28,13 @@ returns-in-Err-NoDatabase g c =
     let path = c.args.path.now in
     let part = c.in-Err-NoDatabase.part in
     let names = names_of c.args.raws.now (texts c.args.files.now) in
+    let no : IsNoDatabase c.args.bytes.now part =
+    subst (λ f. ReadsBack c.args.bytes.now (Err f)) (rw c.in-Err-NoDatabase.is at c.in-Err-NoDatabase.field-0-is)
+    (rw c.in-Err-NoDatabase.is at c.requires.back) in
     record {
       same_files = told.same_files;
       same_setting = told.same_setting;
       sinks = ends_weaker (λ _ run. run ≡ unanswered (refusal path (no_database part)))
-          (IsExplainedOrNot stored c.args.options path c.args.bytes.now) names _ _ _ (λ fs run is. inr (part, rw c.in-Err-NoDatabase.is at c.requires.back, is))
+          (IsExplainedOrNot stored c.args.options path c.args.bytes.now) names _ _ _ (λ fs run is. inr (part, no, is))
           (ends_files (λ run. run ≡ unanswered (refusal path (no_database part))) names _ _ _ told.sinks);
     }
