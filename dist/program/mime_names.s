@@ -2500,7 +2500,7 @@
 	pushq	%r13
 	pushq	%r12
 	pushq	%rbx
-	subq	$328, %rsp
+	subq	$312, %rsp
 	movq	%rcx, %r15
 	movq	%rdx, %r12
 	movq	%rsi, %rbp
@@ -2509,22 +2509,22 @@
 	movaps	%xmm0, 144(%rsp)
 	movaps	%xmm0, 128(%rsp)
 	movaps	%xmm0, 112(%rsp)
+	movaps	%xmm0, 256(%rsp)
 	movaps	%xmm0, 272(%rsp)
 	movaps	%xmm0, 288(%rsp)
-	movaps	%xmm0, 304(%rsp)
-	movq	$0, 319(%rsp)
-	movaps	%xmm0, 240(%rsp)
-	movq	$0, 256(%rsp)
+	movq	$0, 303(%rsp)
+	movaps	%xmm0, 224(%rsp)
+	movq	$0, 240(%rsp)
 	leaq	8(%rsp), %r14
-	movq	%r14, 192(%rsp)
-	movups	%xmm0, 200(%rsp)
-	leaq	192(%rsp), %rdi
+	movq	%r14, 184(%rsp)
+	movups	%xmm0, 192(%rsp)
+	leaq	184(%rsp), %rdi
 	callq	"std_alloc::vec::Vec::grow_amortized::<#383af2bc39eacab1>"
 	testb	%al, %al
 	jne	4f
-	cmpq	$0, 208(%rsp)
+	cmpq	$0, 200(%rsp)
 	je	2f
-	movq	192(%rsp), %rdi
+	movq	184(%rsp), %rdi
 1:
 	callq	rattle_dealloc@PLT
 2:
@@ -2539,7 +2539,7 @@
 	movups	%xmm0, 104(%rbx)
 	movq	$0, 120(%rbx)
 3:
-	addq	$328, %rsp
+	addq	$312, %rsp
 	popq	%rbx
 	popq	%r12
 	popq	%r13
@@ -2549,22 +2549,21 @@
 	retq
 4:
 	movq	%r15, 32(%rsp)
-	movq	192(%rsp), %r13
-	movq	200(%rsp), %rax
+	movq	184(%rsp), %r13
+	movq	192(%rsp), %rax
 	movq	$0, (%r13,%rax,8)
 	incq	%rax
-	movq	%rax, 200(%rsp)
-	movq	%r14, 168(%rsp)
+	movq	%rax, 192(%rsp)
+	movq	%r14, 160(%rsp)
 	xorps	%xmm0, %xmm0
-	movups	%xmm0, 176(%rsp)
-	leaq	168(%rsp), %rdi
+	movups	%xmm0, 168(%rsp)
+	leaq	160(%rsp), %rdi
 	callq	"std_alloc::vec::Vec::grow_amortized::<#9e03e38e8c3bbb30>"
 	testb	%al, %al
-	je	18f
-	movq	%rbp, 232(%rsp)
-	movabsq	$1152921504606846976, %rbp
-	movq	168(%rsp), %rax
-	movq	176(%rsp), %rcx
+	je	19f
+	movabsq	$1152921504606846976, %rsi
+	movq	160(%rsp), %rax
+	movq	168(%rsp), %rcx
 	leaq	64(%rcx), %rdx
 	xorps	%xmm0, %xmm0
 	movups	%xmm0, 240(%rax,%rcx,4)
@@ -2583,292 +2582,307 @@
 	movups	%xmm0, 32(%rax,%rcx,4)
 	movups	%xmm0, 16(%rax,%rcx,4)
 	movups	%xmm0, (%rax,%rcx,4)
-	movq	%rdx, 176(%rsp)
-	movq	208(%rsp), %rax
+	movq	%rdx, 168(%rsp)
+	movq	200(%rsp), %rax
 	movq	%rax, 64(%rsp)
-	movups	192(%rsp), %xmm0
-	movq	168(%rsp), %rax
+	movups	184(%rsp), %xmm0
+	movq	160(%rsp), %rax
 	movq	%rax, 72(%rsp)
-	movq	176(%rsp), %rax
+	movq	168(%rsp), %rax
 	movq	%rax, 80(%rsp)
-	movq	184(%rsp), %rax
+	movq	176(%rsp), %rax
 	movq	%rax, 88(%rsp)
-	movups	%xmm0, 279(%rsp)
+	movups	%xmm0, 263(%rsp)
 	movaps	64(%rsp), %xmm1
-	movups	%xmm1, 295(%rsp)
+	movups	%xmm1, 279(%rsp)
 	movaps	80(%rsp), %xmm2
-	movups	%xmm2, 311(%rsp)
+	movups	%xmm2, 295(%rsp)
 	movaps	%xmm2, 144(%rsp)
 	movaps	%xmm1, 128(%rsp)
 	movaps	%xmm0, 112(%rsp)
 	movq	32(%rsp), %r15
 	testq	%r15, %r15
-	je	20f
-	cmpq	%rbp, %r15
-	jae	32f
+	je	21f
+	cmpq	%rsi, %r15
+	jae	33f
 	leaq	(,%r15,8), %rdi
 	movl	$8, %esi
 	callq	rattle_alloc@PLT
 	testb	$1, %al
-	je	32f
+	je	33f
 	movq	%rdx, 48(%rsp)
 	movq	$0, 56(%rsp)
 	movq	%r15, 64(%rsp)
-	movq	232(%rsp), %rax
-	decq	%rax
-	movq	%rax, 224(%rsp)
+	leaq	-1(%rbp), %rax
+	movq	%rax, 216(%rsp)
 	xorl	%r13d, %r13d
-	xorl	%eax, %eax
-	movq	%r12, 216(%rsp)
+	xorl	%ecx, %ecx
+	movq	%r12, 208(%rsp)
+	movq	%rbp, 248(%rsp)
 5:
-	movq	%rax, 40(%rsp)
-	leaq	(%rax,%rax,4), %rax
-	movq	16(%r12,%rax,8), %rcx
-	movq	%rcx, 24(%rsp)
-	movq	24(%r12,%rax,8), %rcx
-	movq	%rcx, 16(%rsp)
+	leaq	(%rcx,%rcx,4), %rax
+	movq	16(%r12,%rax,8), %r9
+	movq	24(%r12,%rax,8), %rsi
+	movq	%rsi, 16(%rsp)
+	leaq	(%r9,%rbp), %r15
 	movzbl	38(%r12,%rax,8), %eax
 	cmpl	$2, %eax
-	je	7f
+	movq	%rcx, 40(%rsp)
+	je	8f
 	cmpl	$1, %eax
-	movq	%r13, 96(%rsp)
-	movq	%rdx, 104(%rsp)
-	jne	9f
-	xorl	%eax, %eax
-	movq	16(%rsp), %r13
-	testq	%r13, %r13
-	setne	%al
-	subq	%rax, %r13
-	movq	24(%rsp), %rcx
-	addq	224(%rsp), %rcx
-	addq	%rax, %rcx
-	movq	%rcx, 24(%rsp)
-	xorl	%esi, %esi
-	movq	%r13, 16(%rsp)
+	movq	%r13, 104(%rsp)
+	movq	%rdx, 24(%rsp)
+	jne	10f
+	xorl	%edx, %edx
+	movq	16(%rsp), %rdi
+	testq	%rdi, %rdi
+	setne	%dl
+	subq	%rdx, %rdi
+	addq	%rdx, %r15
+	movq	112(%rsp), %rax
+	movq	136(%rsp), %rcx
+	addq	216(%rsp), %r9
+	addq	%rdx, %r9
+	leaq	1(%rdi), %rsi
+	xorl	%r8d, %r8d
+	movq	%rdi, %r12
+	movq	%rdi, %rdx
 6:
-	movq	%r13, %r12
-	subq	$1, %r12
-	jb	14f
-	movq	120(%rsp), %rbp
-	movq	24(%rsp), %rax
-	movzbl	(%rax,%r13), %edx
+	movq	%r8, %rbp
+	movq	%rsi, %r13
+	subq	$1, %rdx
+	jb	7f
+	movzbl	(%r9,%rdi), %esi
+	movl	%esi, %edi
+	andl	$31, %edi
+	shrl	%esi
+	andl	$32, %esi
+	orl	%edi, %esi
+	addq	(%rax,%rbp,8), %rsi
+	movl	(%rcx,%rsi,4), %r8d
+	leaq	-1(%r13), %rsi
+	movq	%rdx, %rdi
+	testq	%r8, %r8
+	jne	6b
+7:
+	cmpq	$1, %r13
+	je	15f
+	movzbl	-2(%r15,%r13), %edx
 	movl	%edx, %eax
 	andl	$31, %eax
 	shrl	%edx
 	andl	$32, %edx
 	orl	%eax, %edx
 	leaq	112(%rsp), %rdi
-	movq	%rsi, %r15
+	movq	%rbp, %rsi
 	callq	"mime_names::tree::next_node"
 	testb	%al, %al
-	jne	23f
+	jne	24f
 	testq	%rdx, %rdx
-	movq	%r15, %rsi
-	je	14f
-	movq	%rdx, %rsi
-	cmpq	16(%rsp), %r13
-	movq	%r12, %r13
-	jae	6b
-	movq	%r12, %r13
-	movq	%rdx, %rsi
-	cmpq	%rdx, %rbp
-	ja	6b
-	jmp	14f
-7:
-	movl	$256, %esi
-	cmpq	$0, 16(%rsp)
 	je	15f
-	movq	232(%rsp), %rax
-	movq	24(%rsp), %rcx
-	movzbl	(%rax,%rcx), %eax
+	decq	%r13
+	movq	%rdx, %rbp
+	cmpq	%r12, %r13
+	jae	7b
+	jmp	15f
+8:
+	movl	$256, %ebp
+	cmpq	$0, 16(%rsp)
+	je	16f
+	movzbl	(%r15), %eax
 	leal	-42(%rax), %ecx
 	cmpl	$50, %ecx
-	ja	8f
-	movq	%rdx, %rdi
-	movabsq	$1688849862361089, %rdx
-	btq	%rcx, %rdx
-	movq	%rdi, %rdx
-	jb	15f
-8:
+	ja	9f
+	movabsq	$1688849862361089, %rsi
+	btq	%rcx, %rsi
+	jb	16f
+9:
 	leal	-65(%rax), %ecx
-	movq	%rdx, %rsi
-	leal	32(%rax), %edx
+	leal	32(%rax), %esi
 	cmpb	$26, %cl
 	movzbl	%al, %eax
-	movzbl	%dl, %ecx
-	movq	%rsi, %rdx
+	movzbl	%sil, %ecx
 	cmovael	%eax, %ecx
-	movzbl	%cl, %esi
-	jmp	15f
-9:
-	movq	24(%rsp), %rax
-	addq	224(%rsp), %rax
-	movq	%rax, 24(%rsp)
-	xorl	%esi, %esi
-	movq	16(%rsp), %r13
+	movzbl	%cl, %ebp
+	jmp	16f
 10:
-	testq	%r13, %r13
-	je	11f
-	movq	120(%rsp), %r12
-	movq	24(%rsp), %rax
-	movzbl	(%rax,%r13), %edx
+	movq	112(%rsp), %rax
+	movq	136(%rsp), %rcx
+	addq	216(%rsp), %r9
+	xorl	%esi, %esi
+	movq	16(%rsp), %rdx
+11:
+	movq	%rsi, %rbp
+	movq	%rdx, %r12
+	subq	$1, %rdx
+	jb	12f
+	movzbl	(%r9,%r12), %esi
+	movl	%esi, %edi
+	andl	$31, %edi
+	shrl	%esi
+	andl	$32, %esi
+	orl	%edi, %esi
+	addq	(%rax,%rbp,8), %rsi
+	movl	(%rcx,%rsi,4), %esi
+	testq	%rsi, %rsi
+	jne	11b
+12:
+	testq	%r12, %r12
+	je	13f
+	movq	%r9, %r15
+	movzbl	(%r9,%r12), %edx
 	movl	%edx, %eax
 	andl	$31, %eax
 	shrl	%edx
 	andl	$32, %edx
 	orl	%eax, %edx
 	leaq	112(%rsp), %rdi
-	movq	%rsi, %r15
+	movq	%rbp, %rsi
 	callq	"mime_names::tree::next_node"
 	testb	%al, %al
-	jne	23f
-	movq	%rdx, %rbp
+	jne	24f
+	movq	%rdx, %r13
 	testq	%rdx, %rdx
-	je	13f
-	leaq	-1(%r13), %rax
-	incq	%r13
-	movq	%rbp, %rsi
-	cmpq	16(%rsp), %r13
-	movq	%rax, %r13
-	ja	10b
-	movq	%rax, %r13
-	movq	%rbp, %rsi
-	cmpq	%rbp, %r12
-	ja	10b
-	movq	%rbp, %r15
+	je	15f
+	leaq	-1(%r12), %rax
+	incq	%r12
+	movq	%r13, %rbp
+	cmpq	16(%rsp), %r12
+	movq	%rax, %r12
+	movq	%r15, %r9
+	ja	12b
+	movq	%r13, %rbp
 	testq	%rax, %rax
-	jne	13f
-	jmp	12f
-11:
-	movq	%rsi, %rbp
-12:
+	jne	15f
+	jmp	14f
+13:
+	movq	%rbp, %r13
+14:
 	leaq	112(%rsp), %rdi
-	movq	%rbp, %rsi
+	movq	%r13, %rsi
 	xorl	%edx, %edx
 	callq	"mime_names::tree::next_node"
 	testb	%al, %al
-	jne	23f
+	jne	24f
 	testq	%rdx, %rdx
-	cmovneq	%rdx, %rbp
-	movq	%rbp, %r15
-13:
-	movq	%r15, %rsi
-14:
-	addq	$257, %rsi
-	movq	96(%rsp), %r13
-	movabsq	$1152921504606846976, %rbp
-	movq	216(%rsp), %r12
-	movq	104(%rsp), %rdx
+	cmovneq	%rdx, %r13
+	movq	%r13, %rbp
 15:
-	cmpq	%r13, 64(%rsp)
-	je	17f
+	addq	$257, %rbp
+	movq	104(%rsp), %r13
+	movq	208(%rsp), %r12
+	movq	24(%rsp), %rdx
 16:
-	movq	%rsi, (%rdx,%r13,8)
+	cmpq	%r13, 64(%rsp)
+	je	18f
+17:
+	movq	%rbp, (%rdx,%r13,8)
 	incq	%r13
 	movq	%r13, 56(%rsp)
-	movq	40(%rsp), %rax
-	incq	%rax
-	cmpq	32(%rsp), %rax
+	movq	40(%rsp), %rcx
+	incq	%rcx
+	cmpq	32(%rsp), %rcx
+	movq	248(%rsp), %rbp
 	jne	5b
-	jmp	36f
-17:
-	movq	%rsi, %r15
+	jmp	37f
+18:
 	leaq	48(%rsp), %rdi
 	callq	"std_alloc::vec::Vec::grow_amortized::<#383af2bc39eacab1>"
 	testb	%al, %al
-	je	39f
+	je	40f
 	movq	48(%rsp), %rdx
 	movq	56(%rsp), %r13
-	movq	%r15, %rsi
-	jmp	16b
-18:
-	cmpq	$0, 184(%rsp)
-	je	19f
-	movq	168(%rsp), %rdi
-	callq	rattle_dealloc@PLT
+	jmp	17b
 19:
-	cmpq	$0, 208(%rsp)
+	cmpq	$0, 176(%rsp)
+	je	20f
+	movq	160(%rsp), %rdi
+	callq	rattle_dealloc@PLT
+20:
+	cmpq	$0, 200(%rsp)
 	je	2b
 	movq	%r13, %rdi
 	jmp	1b
-20:
+21:
 	xorl	%r15d, %r15d
 	xorl	%r13d, %r13d
 	movq	%r14, %rdi
-21:
+22:
 	movq	120(%rsp), %rax
 	movq	%rax, %rsi
 	xorps	%xmm0, %xmm0
 	movaps	%xmm0, 48(%rsp)
 	movq	$0, 64(%rsp)
 	addq	$257, %rsi
-	je	22f
-	movq	%rax, 24(%rsp)
-	cmpq	%rbp, %rsi
-	jae	30f
+	je	23f
+	movq	%rax, 32(%rsp)
+	movabsq	$1152921504606846976, %rax
+	cmpq	%rax, %rsi
+	jae	31f
 	leaq	(,%rsi,8), %r12
-	movq	%rsi, 32(%rsp)
+	movq	%rsi, 16(%rsp)
 	movl	$8, %esi
-	movq	%rdi, 16(%rsp)
+	movq	%rdi, %rbp
 	movq	%r12, %rdi
 	callq	rattle_alloc@PLT
-	movq	32(%rsp), %rsi
-	movq	16(%rsp), %rdi
+	movq	16(%rsp), %rsi
+	movq	%rbp, %rdi
 	testb	$1, %al
-	je	30f
+	je	31f
 	movq	%rdx, %r14
 	cmpq	$1, %rsi
-	jne	24f
-	xorl	%r12d, %r12d
-	jmp	25f
-22:
-	movq	%r15, 40(%rsp)
+	jne	25f
 	xorl	%r12d, %r12d
 	jmp	26f
 23:
-	cmpq	$0, 64(%rsp)
-	movq	104(%rsp), %rdi
-	jne	31f
-	jmp	32f
+	movq	%r15, 40(%rsp)
+	xorl	%r12d, %r12d
+	jmp	27f
 24:
+	cmpq	$0, 64(%rsp)
+	movq	24(%rsp), %rdi
+	jne	32f
+	jmp	33f
+25:
 	addq	$-8, %r12
 	movq	%r14, %rdi
 	xorl	%esi, %esi
 	movq	%r12, %rdx
 	callq	memset@PLT
-	movq	32(%rsp), %rsi
-	movq	16(%rsp), %rdi
-	movq	24(%rsp), %r12
+	movq	16(%rsp), %rsi
+	movq	%rbp, %rdi
+	movq	32(%rsp), %r12
 	addq	$256, %r12
-25:
+26:
 	movq	%r15, 40(%rsp)
 	movq	$0, (%r14,%r12,8)
 	incq	%r12
-26:
+27:
 	testq	%r13, %r13
-	je	34f
-	cmpq	%rbp, %r13
-	jae	29f
-	movq	%rdi, 16(%rsp)
+	je	35f
+	movabsq	$1152921504606846976, %rax
+	cmpq	%rax, %r13
+	jae	30f
+	movq	%rdi, 24(%rsp)
 	leaq	(,%r13,8), %rdi
-	movq	%rsi, 32(%rsp)
+	movq	%rsi, 16(%rsp)
 	movl	$8, %esi
 	callq	rattle_alloc@PLT
-	movq	32(%rsp), %rsi
-	movq	16(%rsp), %rdi
+	movq	16(%rsp), %rsi
+	movq	24(%rsp), %rdi
 	testb	$1, %al
-	je	29f
-	movq	%r12, 24(%rsp)
+	je	30f
+	movq	%r12, 32(%rsp)
 	movq	%rdx, 48(%rsp)
 	movq	$0, 56(%rsp)
 	movq	%r13, 64(%rsp)
-	movq	%r13, 96(%rsp)
+	movq	%r13, 104(%rsp)
 	movq	%r13, %r12
 	negq	%r12
 	movl	$1, %r13d
 	xorl	%eax, %eax
-	jmp	28f
-27:
+	jmp	29f
+28:
 	movq	%rbp, (%rdx,%rax,8)
 	incq	%rax
 	movq	%rax, 56(%rsp)
@@ -2877,58 +2891,58 @@
 	incq	%rcx
 	incq	%r13
 	cmpq	$1, %rcx
-	je	35f
-28:
+	je	36f
+29:
 	movq	-8(%rdi,%r13,8), %r15
 	movq	(%r14,%r15,8), %rbp
 	cmpq	%rax, 64(%rsp)
-	jne	27b
+	jne	28b
 	leaq	48(%rsp), %rdi
 	callq	"std_alloc::vec::Vec::grow_amortized::<#383af2bc39eacab1>"
 	testb	%al, %al
-	je	37f
+	je	38f
 	movq	48(%rsp), %rdx
 	movq	56(%rsp), %rax
-	movq	16(%rsp), %rdi
-	movq	32(%rsp), %rsi
-	jmp	27b
-29:
+	movq	24(%rsp), %rdi
+	movq	16(%rsp), %rsi
+	jmp	28b
+30:
 	testq	%rsi, %rsi
 	movq	40(%rsp), %r15
-	je	30f
+	je	31f
 	movq	%rdi, %r12
 	movq	%r14, %rdi
 	callq	rattle_dealloc@PLT
 	movq	%r12, %rdi
-30:
-	testq	%r15, %r15
-	je	32f
 31:
-	callq	rattle_dealloc@PLT
-32:
-	cmpq	$0, 128(%rsp)
+	testq	%r15, %r15
 	je	33f
-	movq	112(%rsp), %rdi
+32:
 	callq	rattle_dealloc@PLT
 33:
+	cmpq	$0, 128(%rsp)
+	je	34f
+	movq	112(%rsp), %rdi
+	callq	rattle_dealloc@PLT
+34:
 	cmpq	$0, 152(%rsp)
 	je	2b
 	movq	136(%rsp), %rdi
 	jmp	1b
-34:
-	movq	%r12, 24(%rsp)
-	movq	%r13, 96(%rsp)
+35:
+	movq	%r12, 32(%rsp)
+	movq	%r13, 104(%rsp)
 	leaq	8(%rsp), %rax
 	movq	%rax, 48(%rsp)
 	xorps	%xmm0, %xmm0
 	movups	%xmm0, 56(%rsp)
-35:
+36:
 	movq	64(%rsp), %rax
-	movq	%rax, 256(%rsp)
-	movq	48(%rsp), %rax
 	movq	%rax, 240(%rsp)
+	movq	48(%rsp), %rax
+	movq	%rax, 224(%rsp)
 	movq	56(%rsp), %rax
-	movq	%rax, 248(%rsp)
+	movq	%rax, 232(%rsp)
 	movb	$0, (%rbx)
 	movaps	112(%rsp), %xmm0
 	movaps	128(%rsp), %xmm1
@@ -2937,46 +2951,46 @@
 	movups	%xmm1, 24(%rbx)
 	movups	%xmm2, 40(%rbx)
 	movq	%rdi, 56(%rbx)
-	movq	96(%rsp), %rax
+	movq	104(%rsp), %rax
 	movq	%rax, 64(%rbx)
 	movq	40(%rsp), %rax
 	movq	%rax, 72(%rbx)
 	movq	%r14, 80(%rbx)
-	movq	24(%rsp), %rax
+	movq	32(%rsp), %rax
 	movq	%rax, 88(%rbx)
 	movq	%rsi, 96(%rbx)
-	movq	240(%rsp), %rax
+	movq	224(%rsp), %rax
 	movq	%rax, 104(%rbx)
-	movq	248(%rsp), %rax
+	movq	232(%rsp), %rax
 	movq	%rax, 112(%rbx)
-	movq	256(%rsp), %rax
+	movq	240(%rsp), %rax
 	movq	%rax, 120(%rbx)
 	jmp	3b
-36:
+37:
 	movq	48(%rsp), %rdi
 	movq	64(%rsp), %r15
-	jmp	21b
-37:
+	jmp	22b
+38:
 	cmpq	$0, 64(%rsp)
-	je	38f
+	je	39f
 	movq	48(%rsp), %rdi
 	callq	rattle_dealloc@PLT
-38:
-	cmpq	$0, 32(%rsp)
+39:
+	cmpq	$0, 16(%rsp)
 	movq	40(%rsp), %r15
-	movq	16(%rsp), %rdi
-	je	30b
+	movq	24(%rsp), %rdi
+	je	31b
 	movq	%r14, %rdi
 	callq	rattle_dealloc@PLT
-	movq	16(%rsp), %rdi
-	jmp	30b
-39:
-	cmpq	$0, 64(%rsp)
-	je	32b
-	movq	48(%rsp), %rdi
+	movq	24(%rsp), %rdi
 	jmp	31b
 40:
-	.size	"mime_names::keys::key_table", 40b-"mime_names::keys::key_table"
+	cmpq	$0, 64(%rsp)
+	je	33b
+	movq	48(%rsp), %rdi
+	jmp	32b
+41:
+	.size	"mime_names::keys::key_table", 41b-"mime_names::keys::key_table"
 
 	.text
 	.p2align	4

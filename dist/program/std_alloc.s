@@ -2,6 +2,30 @@
 
 	.text
 	.p2align	4
+	.type	"std_alloc::boxed::Box::drop::<#11c05536263c65f8>",@function
+"std_alloc::boxed::Box::drop::<#11c05536263c65f8>":
+	pushq	%r14
+	pushq	%rbx
+	subq	$200, %rsp
+	movq	%rdi, %rbx
+	leaq	8(%rsp), %r14
+	movl	$192, %edx
+	movq	%r14, %rdi
+	movq	%rbx, %rsi
+	callq	memcpy@PLT
+	movq	%rbx, %rdi
+	callq	rattle_dealloc@PLT
+	movq	%r14, %rdi
+	callq	"mime_lookup::mime_lookup++read_back++names++IndexedNames+Destruct::drop"
+	addq	$200, %rsp
+	popq	%rbx
+	popq	%r14
+	retq
+1:
+	.size	"std_alloc::boxed::Box::drop::<#11c05536263c65f8>", 1b-"std_alloc::boxed::Box::drop::<#11c05536263c65f8>"
+
+	.text
+	.p2align	4
 	.type	"std_alloc::boxed::Box::drop::<#d2a52521aa2f4aea>",@function
 "std_alloc::boxed::Box::drop::<#d2a52521aa2f4aea>":
 	pushq	%rbp
@@ -69,6 +93,217 @@
 	jmp	"clap::core++option++Option+Destruct::drop::<#6d0680e8511e5366>"
 7:
 	.size	"std_alloc::boxed::Box::drop::<#d2a52521aa2f4aea>", 7b-"std_alloc::boxed::Box::drop::<#d2a52521aa2f4aea>"
+
+	.text
+	.p2align	4
+	.type	"std_alloc::boxed::Box::drop::<#e973df45dd2be47d>",@function
+"std_alloc::boxed::Box::drop::<#e973df45dd2be47d>":
+	pushq	%rbp
+	pushq	%r15
+	pushq	%r14
+	pushq	%r13
+	pushq	%r12
+	pushq	%rbx
+	subq	$168, %rsp
+	movq	(%rdi), %rbp
+	movq	24(%rdi), %r13
+	movq	32(%rdi), %rax
+	movq	%rax, (%rsp)
+	movq	40(%rdi), %rax
+	movq	%rax, 40(%rsp)
+	movq	48(%rdi), %rax
+	movq	%rax, 8(%rsp)
+	movq	64(%rdi), %rax
+	movq	%rax, 48(%rsp)
+	movq	72(%rdi), %rax
+	movq	%rax, 16(%rsp)
+	movq	88(%rdi), %rax
+	movq	%rax, 56(%rsp)
+	movq	96(%rdi), %rax
+	movq	%rax, 24(%rsp)
+	movq	112(%rdi), %rax
+	movq	%rax, 64(%rsp)
+	movq	120(%rdi), %rax
+	movq	%rax, 32(%rsp)
+	movq	136(%rdi), %rax
+	movq	%rax, 72(%rsp)
+	movq	16(%rdi), %rbx
+	callq	rattle_dealloc@PLT
+	testq	%rbx, %rbx
+	je	1f
+	movq	%rbp, %rdi
+	callq	rattle_dealloc@PLT
+1:
+	cmpq	$0, (%rsp)
+	je	6f
+	xorl	%r15d, %r15d
+	jmp	3f
+	.p2align	4
+2:
+	incq	%r15
+	cmpq	(%rsp), %r15
+	je	6f
+3:
+	imulq	$104, %r15, %rax
+	movq	80(%r13,%rax), %r14
+	movq	88(%r13,%rax), %rbx
+	movq	96(%r13,%rax), %r12
+	testq	%rbx, %rbx
+	je	5f
+	movq	%r14, %rbp
+	.p2align	4
+4:
+	movups	64(%rbp), %xmm0
+	movaps	%xmm0, 144(%rsp)
+	movups	(%rbp), %xmm0
+	movups	16(%rbp), %xmm1
+	movups	32(%rbp), %xmm2
+	movups	48(%rbp), %xmm3
+	movaps	%xmm3, 128(%rsp)
+	movaps	%xmm2, 112(%rsp)
+	movaps	%xmm1, 96(%rsp)
+	movaps	%xmm0, 80(%rsp)
+	leaq	80(%rsp), %rdi
+	callq	"core::mem::drop::<#8edfd0e00d20d875>"
+	addq	$80, %rbp
+	decq	%rbx
+	jne	4b
+5:
+	testq	%r12, %r12
+	je	2b
+	movq	%r14, %rdi
+	callq	rattle_dealloc@PLT
+	jmp	2b
+6:
+	cmpq	$0, 40(%rsp)
+	je	7f
+	movq	%r13, %rdi
+	callq	rattle_dealloc@PLT
+7:
+	cmpq	$0, 48(%rsp)
+	je	8f
+	movq	8(%rsp), %rdi
+	callq	rattle_dealloc@PLT
+8:
+	cmpq	$0, 56(%rsp)
+	je	9f
+	movq	16(%rsp), %rdi
+	callq	rattle_dealloc@PLT
+9:
+	cmpq	$0, 64(%rsp)
+	je	10f
+	movq	24(%rsp), %rdi
+	callq	rattle_dealloc@PLT
+10:
+	cmpq	$0, 72(%rsp)
+	je	11f
+	movq	32(%rsp), %rdi
+	addq	$168, %rsp
+	popq	%rbx
+	popq	%r12
+	popq	%r13
+	popq	%r14
+	popq	%r15
+	popq	%rbp
+	jmp	rattle_dealloc@PLT
+11:
+	addq	$168, %rsp
+	popq	%rbx
+	popq	%r12
+	popq	%r13
+	popq	%r14
+	popq	%r15
+	popq	%rbp
+	retq
+12:
+	.size	"std_alloc::boxed::Box::drop::<#e973df45dd2be47d>", 12b-"std_alloc::boxed::Box::drop::<#e973df45dd2be47d>"
+
+	.text
+	.p2align	4
+	.type	"std_alloc::boxed::Box::drop::<#fbe121e601c74963>",@function
+"std_alloc::boxed::Box::drop::<#fbe121e601c74963>":
+	pushq	%rbp
+	pushq	%r15
+	pushq	%r14
+	pushq	%r13
+	pushq	%r12
+	pushq	%rbx
+	subq	$72, %rsp
+	movq	16(%rdi), %rbx
+	movq	40(%rdi), %rbp
+	movq	56(%rdi), %r13
+	movq	64(%rdi), %rax
+	movq	%rax, 8(%rsp)
+	movq	80(%rdi), %r15
+	movq	88(%rdi), %rax
+	movq	%rax, 16(%rsp)
+	movq	104(%rdi), %r14
+	movq	112(%rdi), %rax
+	movq	%rax, 24(%rsp)
+	movq	128(%rdi), %rax
+	movq	%rax, 48(%rsp)
+	movq	136(%rdi), %rax
+	movq	%rax, 32(%rsp)
+	movq	152(%rdi), %rax
+	movq	%rax, 56(%rsp)
+	movq	160(%rdi), %rax
+	movq	%rax, 40(%rsp)
+	movq	176(%rdi), %rax
+	movq	%rax, 64(%rsp)
+	movq	32(%rdi), %r12
+	callq	rattle_dealloc@PLT
+	testq	%r12, %r12
+	je	1f
+	movq	%rbx, %rdi
+	callq	rattle_dealloc@PLT
+1:
+	testq	%r13, %r13
+	je	2f
+	movq	%rbp, %rdi
+	callq	rattle_dealloc@PLT
+2:
+	testq	%r15, %r15
+	je	3f
+	movq	8(%rsp), %rdi
+	callq	rattle_dealloc@PLT
+3:
+	testq	%r14, %r14
+	je	4f
+	movq	16(%rsp), %rdi
+	callq	rattle_dealloc@PLT
+4:
+	cmpq	$0, 48(%rsp)
+	je	5f
+	movq	24(%rsp), %rdi
+	callq	rattle_dealloc@PLT
+5:
+	cmpq	$0, 56(%rsp)
+	je	6f
+	movq	32(%rsp), %rdi
+	callq	rattle_dealloc@PLT
+6:
+	cmpq	$0, 64(%rsp)
+	je	7f
+	movq	40(%rsp), %rdi
+	addq	$72, %rsp
+	popq	%rbx
+	popq	%r12
+	popq	%r13
+	popq	%r14
+	popq	%r15
+	popq	%rbp
+	jmp	rattle_dealloc@PLT
+7:
+	addq	$72, %rsp
+	popq	%rbx
+	popq	%r12
+	popq	%r13
+	popq	%r14
+	popq	%r15
+	popq	%rbp
+	retq
+8:
+	.size	"std_alloc::boxed::Box::drop::<#fbe121e601c74963>", 8b-"std_alloc::boxed::Box::drop::<#fbe121e601c74963>"
 
 	.text
 	.p2align	4
