@@ -59,8 +59,12 @@ module _ (c numbers : List ℕ) (b : PlainDatabase) (read : ReadsDatabase c numb
   part_taken Literals old new stands =
       omega (arith, stands.2, same_literals_count c (slice_index numbers 3) stands.0 (literal_rules b.rules) stands.1 read.names.literals)
   part_taken Suffixes old new stands =
-      omega (arith, stands.2, read.names.size,
-      same_tree_size c (slice_index numbers 4) stands.0 (tree_rules b.rules) stands.1.stand read.names.leaves.stand)
+      omega (
+        arith,
+        stands.2,
+        read.names.size,
+        same_tree_size c (slice_index numbers 4) stands.0 (tree_rules b.rules) stands.1.stand read.names.leaves.stand,
+      )
   part_taken Globs old new stands =
       omega (arith, stands.2, same_globs_count c (slice_index numbers 5) stands.0 (glob_rules b.rules) stands.1 read.names.globs)
   part_taken Magic old new stands =

@@ -10,6 +10,7 @@ use Rattle.mime_load.specs.Parts.{IsGlobList, IsLiteralList, IsTreeList}
 use Rattle.mime_load.specs.Taking.{TakesSections}
 use Rattle.mime_load.specs.Whole.{IsHeader}
 use Rattle.mime_load.specs.declared.lists.Lists.{Lists}
+use Rattle.mime_load.proofs.PartsRead.{before_generic_icons, before_globs, before_icons, before_literals, before_magic, before_suffixes}
 use Rattle.mime_load.proofs.PartsRead.{read_aliases, read_globs, read_icons, read_leaves, read_literals, read_parents, read_sections}
 use Rattle.mime_load.proofs.Spelled.{header_at, limited, offsets_of, sized, spelled}
 use Rattle.mime_load.proofs.reading_back.lists_of.Goals as goal
@@ -197,7 +198,8 @@ returns-in_err-literals-clause-first c =
       numbers = numbers;
       header = rw c.in_ok-header.ensures.read at c.read_header.ensures.header;
       left = c.parents_at.new.taking.records;
-      stand = (c.aliases_at.new.taking.records, aliases, (c.parents_at.new.taking.records, parents, refl));
+      stand = before_literals cache numbers (length cache) c.aliases_at.new.taking.records c.parents_at.new.taking.records
+          aliases parents;
       none = λ new stands. f.1 (c.literals_at.ensures.need stands.0 stands.1 (omega (arith, stands.2)));
     }))
 
@@ -219,8 +221,8 @@ returns-in_err-leaves-clause-first c =
       numbers = numbers;
       header = rw c.in_ok-header.ensures.read at c.read_header.ensures.header;
       left = c.literals_at.new.taking.records;
-      stand = (c.aliases_at.new.taking.records, aliases, (c.parents_at.new.taking.records, parents,
-      (c.literals_at.new.taking.records, literals, refl)));
+      stand = before_suffixes cache numbers (length cache) c.aliases_at.new.taking.records c.parents_at.new.taking.records
+          c.literals_at.new.taking.records aliases parents literals;
       none = λ new stands. f.1 (c.leaves_at.ensures.need stands.0 stands.1 (omega (arith, stands.2)));
     }))
 
@@ -244,8 +246,8 @@ returns-in_err-globs-clause-first c =
       numbers = numbers;
       header = rw c.in_ok-header.ensures.read at c.read_header.ensures.header;
       left = c.leaves_at.new.taking.records;
-      stand = (c.aliases_at.new.taking.records, aliases, (c.parents_at.new.taking.records, parents,
-      (c.literals_at.new.taking.records, literals, (c.leaves_at.new.taking.records, leaves, refl))));
+      stand = before_globs cache numbers (length cache) c.aliases_at.new.taking.records c.parents_at.new.taking.records
+          c.literals_at.new.taking.records c.leaves_at.new.taking.records aliases parents literals leaves;
       none = λ new stands. f.1 (c.globs_at.ensures.need stands.0 stands.1 (omega (arith, stands.2)));
     }))
 
@@ -271,12 +273,22 @@ returns-in_err-sections-clause-first c =
       numbers = numbers;
       header = rw c.in_ok-header.ensures.read at c.read_header.ensures.header;
       left = c.globs_at.new.taking.records;
-      stand = (c.aliases_at.new.taking.records, aliases, (c.parents_at.new.taking.records, parents,
-      (c.literals_at.new.taking.records, literals, (c.leaves_at.new.taking.records, leaves, (c.globs_at.new.taking.records, globs, refl)))));
+      stand = before_magic cache numbers (length cache) c.aliases_at.new.taking.records c.parents_at.new.taking.records
+          c.literals_at.new.taking.records c.leaves_at.new.taking.records c.globs_at.new.taking.records
+          aliases parents literals leaves globs;
       none = λ new stands. f.1 (c.sections_at.ensures.need stands.0 stands.1 (record {
         records = omega (arith, stands.3);
-        value_bytes = omega (arith, stands.2, c.requires.room.1, c.read_header.ensures.value_bytes, c.aliases_at.ensures.value_bytes,
-        c.parents_at.ensures.value_bytes, c.literals_at.ensures.value_bytes, c.leaves_at.ensures.value_bytes, c.globs_at.ensures.value_bytes);
+        value_bytes = omega (
+          arith,
+          stands.2,
+          c.requires.room.1,
+          c.read_header.ensures.value_bytes,
+          c.aliases_at.ensures.value_bytes,
+          c.parents_at.ensures.value_bytes,
+          c.literals_at.ensures.value_bytes,
+          c.leaves_at.ensures.value_bytes,
+          c.globs_at.ensures.value_bytes,
+        );
       }));
     }))
 
@@ -302,16 +314,25 @@ returns-in_err-icons-clause-first c =
     rw c.in_ok-sections.ensures.read at c.sections_at.ensures.taken in
     let sections = read_sections cache numbers c.globs_at.new.taking.records c.sections_at.new.taking.records c.in_ok-sections.sections.items
     (rw c.in_ok-sections.ensures.read at c.sections_at.ensures.stand)
-    (omega (arith, took.value_bytes, c.requires.room.1, c.read_header.ensures.value_bytes, c.aliases_at.ensures.value_bytes,
-    c.parents_at.ensures.value_bytes, c.literals_at.ensures.value_bytes, c.leaves_at.ensures.value_bytes, c.globs_at.ensures.value_bytes))
+    (omega (
+      arith,
+      took.value_bytes,
+      c.requires.room.1,
+      c.read_header.ensures.value_bytes,
+      c.aliases_at.ensures.value_bytes,
+      c.parents_at.ensures.value_bytes,
+      c.literals_at.ensures.value_bytes,
+      c.leaves_at.ensures.value_bytes,
+      c.globs_at.ensures.value_bytes,
+    ))
     took.records in
     subst (IsFirstUnread cache) f.0 (record {
       numbers = numbers;
       header = rw c.in_ok-header.ensures.read at c.read_header.ensures.header;
       left = c.sections_at.new.taking.records;
-      stand = (c.aliases_at.new.taking.records, aliases, (c.parents_at.new.taking.records, parents,
-      (c.literals_at.new.taking.records, literals, (c.leaves_at.new.taking.records, leaves, (c.globs_at.new.taking.records, globs,
-      (c.sections_at.new.taking.records, sections, refl))))));
+      stand = before_icons cache numbers (length cache) c.aliases_at.new.taking.records c.parents_at.new.taking.records
+          c.literals_at.new.taking.records c.leaves_at.new.taking.records c.globs_at.new.taking.records c.sections_at.new.taking.records
+          aliases parents literals leaves globs sections;
       none = λ new stands. f.1 (c.icons_at.ensures.need stands.0 stands.1 (omega (arith, stands.2)));
     }))
 
@@ -337,8 +358,17 @@ returns-in_err-generic_icons-clause-first c =
     rw c.in_ok-sections.ensures.read at c.sections_at.ensures.taken in
     let sections = read_sections cache numbers c.globs_at.new.taking.records c.sections_at.new.taking.records c.in_ok-sections.sections.items
     (rw c.in_ok-sections.ensures.read at c.sections_at.ensures.stand)
-    (omega (arith, took.value_bytes, c.requires.room.1, c.read_header.ensures.value_bytes, c.aliases_at.ensures.value_bytes,
-    c.parents_at.ensures.value_bytes, c.literals_at.ensures.value_bytes, c.leaves_at.ensures.value_bytes, c.globs_at.ensures.value_bytes))
+    (omega (
+      arith,
+      took.value_bytes,
+      c.requires.room.1,
+      c.read_header.ensures.value_bytes,
+      c.aliases_at.ensures.value_bytes,
+      c.parents_at.ensures.value_bytes,
+      c.literals_at.ensures.value_bytes,
+      c.leaves_at.ensures.value_bytes,
+      c.globs_at.ensures.value_bytes,
+    ))
     took.records in
     let icons = read_icons cache numbers c.sections_at.new.taking.records c.icons_at.new.taking.records c.in_ok-icons.icons.items
     (rw c.in_ok-icons.ensures.read at c.icons_at.ensures.stand) (rw c.in_ok-icons.ensures.read at c.icons_at.ensures.taken) in
@@ -346,8 +376,8 @@ returns-in_err-generic_icons-clause-first c =
       numbers = numbers;
       header = rw c.in_ok-header.ensures.read at c.read_header.ensures.header;
       left = c.icons_at.new.taking.records;
-      stand = (c.aliases_at.new.taking.records, aliases, (c.parents_at.new.taking.records, parents,
-      (c.literals_at.new.taking.records, literals, (c.leaves_at.new.taking.records, leaves, (c.globs_at.new.taking.records, globs,
-      (c.sections_at.new.taking.records, sections, (c.icons_at.new.taking.records, icons, refl)))))));
+      stand = before_generic_icons cache numbers (length cache) c.aliases_at.new.taking.records c.parents_at.new.taking.records
+          c.literals_at.new.taking.records c.leaves_at.new.taking.records c.globs_at.new.taking.records c.sections_at.new.taking.records
+          c.icons_at.new.taking.records aliases parents literals leaves globs sections icons;
       none = λ new stands. f.1 (c.icons_at-2.ensures.need stands.0 stands.1 (omega (arith, stands.2)));
     }))
