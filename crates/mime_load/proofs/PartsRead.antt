@@ -56,33 +56,39 @@ module _ (c numbers : List ℕ) (old new : ℕ) where
 
 -- the parts before each one stand, one after the other
 module _ (c numbers : List ℕ) where
+  -- two before literals
   pub before_literals : (a b d : ℕ) → PartStands c numbers Aliases a b → PartStands c numbers Subclasses b d
       → PartsStand c numbers (before Literals) a d
   before_literals a b d first second =
       (b, first, (d, second, refl))
 
+  -- three before the tree
   pub before_suffixes : (a b d e : ℕ) → PartStands c numbers Aliases a b → PartStands c numbers Subclasses b d
       → PartStands c numbers Literals d e → PartsStand c numbers (before Suffixes) a e
   before_suffixes a b d e first second third =
       (b, first, (d, second, (e, third, refl)))
 
+  -- four before globs
   pub before_globs : (a b d e f : ℕ) → PartStands c numbers Aliases a b → PartStands c numbers Subclasses b d
       → PartStands c numbers Literals d e → PartStands c numbers Suffixes e f → PartsStand c numbers (before Globs) a f
   before_globs a b d e f first second third fourth =
       (b, first, (d, second, (e, third, (f, fourth, refl))))
 
+  -- five before magic
   pub before_magic : (a b d e f g : ℕ) → PartStands c numbers Aliases a b → PartStands c numbers Subclasses b d
       → PartStands c numbers Literals d e → PartStands c numbers Suffixes e f → PartStands c numbers Globs f g
       → PartsStand c numbers (before Magic) a g
   before_magic a b d e f g first second third fourth fifth =
       (b, first, (d, second, (e, third, (f, fourth, (g, fifth, refl)))))
 
+  -- six before icons
   pub before_icons : (a b d e f g h : ℕ) → PartStands c numbers Aliases a b → PartStands c numbers Subclasses b d
       → PartStands c numbers Literals d e → PartStands c numbers Suffixes e f → PartStands c numbers Globs f g
       → PartStands c numbers Magic g h → PartsStand c numbers (before Icons) a h
   before_icons a b d e f g h first second third fourth fifth sixth =
       (b, first, (d, second, (e, third, (f, fourth, (g, fifth, (h, sixth, refl))))))
 
+  -- seven before generic icons
   pub before_generic_icons : (a b d e f g h i : ℕ) → PartStands c numbers Aliases a b → PartStands c numbers Subclasses b d
       → PartStands c numbers Literals d e → PartStands c numbers Suffixes e f → PartStands c numbers Globs f g
       → PartStands c numbers Magic g h → PartStands c numbers Icons h i → PartsStand c numbers (before GenericIcons) a i
